@@ -1,0 +1,19 @@
+-- Where reading stands: the place of the next byte, and the bytes from there on.
+use Rattle.std.specs.Prelude.{◌≡◌, ℕ, ◌+◌, ◌-◌, ◌≤◌, List, [], length, drop, nat_lt, if◌then◌else◌}
+
+pub record At : Type 0 where
+  pub place : ℕ
+  pub rest : List ℕ
+
+-- where the bytes end
+abbrev pub end_of : At → ℕ
+end_of s = s.place + length s.rest
+
+-- reading at a place of bytes whose first byte stands at base; outside them nothing is left
+abbrev pub standing_at : ℕ → ℕ → List ℕ → At
+standing_at base place bytes = record { place = place; rest = if nat_lt place base then [] else drop (place - base) bytes }
+
+-- reading went on, or stands still, in the same bytes
+pub record GoesOn (old new : At) : Type 0 where
+  pub forward : old.place ≤ new.place
+  pub same_end : end_of new ≡ end_of old

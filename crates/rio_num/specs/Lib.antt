@@ -1,0 +1,6 @@
+pub mod At
+pub mod Printed
+pub mod Reading
+pub mod Room
+pub mod Text
+pub mod formers

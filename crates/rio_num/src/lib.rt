@@ -1,0 +1,30 @@
+//! Numbers, texts, names and bytes: what every other crate reads, holds and writes.
+#![tactic(auto)]
+
+mod boxed;
+mod bytes;
+mod cursor;
+mod items;
+mod name;
+mod no_memory;
+mod printed;
+
+pub use boxed::Boxed;
+pub use bytes::{Bytes, patch_u32};
+pub use cursor::{Cursor, Short};
+pub use items::Items;
+pub use name::Name;
+pub use no_memory::NoMemory;
+pub use printed::{printed_name, printed_string};
+
+/// A list of names, as the words of a command line.
+pub type Words = Items<Name>;
+
+/// A list of places in a file, counted in bytes from its beginning.
+pub type Places = Items<u64>;
+
+/// A list of lengths in bytes.
+pub type Lengths = Items<u64>;
+
+/// A list of numbers.
+pub type Numbers = Items<u64>;

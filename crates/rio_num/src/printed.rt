@@ -1,0 +1,83 @@
+ghost use Rattle.std.specs.Prelude.{◌≡◌, [], ◌∷◌, ◌++◌, ◌<◌, IfOk, OnOk};
+ghost use Rattle.std.specs.List.{list_all};
+ghost use Rattle.rio_num.specs.Printed.{escaped, hex_digit, is_bare, is_bare_name, name_text, string_text};
+
+use crate::{Name, NoMemory};
+use std::alloc::Global;
+
+fn hex_digit_of(n: u8) -> u8
+    requires { n < 16 }
+    ensures { result ≡ hex_digit n }
+{
+    if n < 10 { 48 + n } else { 87 + n }
+}
+
+// Puts a byte of a string at the end, escaped where it has to be.
+fn push_escaped(text: &mut Name, byte: u8) -> Result<(), NoMemory>
+    ensures { OnOk result (text.new ≡ text.old ++ escaped byte) }
+{
+    match byte {
+        b'"' => push_pair(text, b'\\', b'"'),
+        b'\\' => push_pair(text, b'\\', b'\\'),
+        b'\n' => push_pair(text, b'\\', b'n'),
+        b'\t' => push_pair(text, b'\\', b't'),
+        0x20..=0x7e => text.push(byte),
+        _ => {
+            push_pair(text, b'\\', b'x')?;
+            push_pair(text, hex_digit_of(byte / 16), hex_digit_of(byte % 16))
+        }
+    }
+}
+
+fn push_pair(text: &mut Name, one: u8, other: u8) -> Result<(), NoMemory>
+    ensures { OnOk result (text.new ≡ text.old ++ one ∷ other ∷ []) }
+{
+    text.push(one)?;
+    text.push(other)
+}
+
+/// A text as it is printed in double quotes: `"`, `\`, a line feed and a tab as `\"`, `\\`, `\n` and
+/// `\t`, and every other byte outside 0x20 to 0x7E as `\xHH`.
+#[tactic(auto, unfolding(crate::specs::Printed::string_text))]
+pub fn printed_string(alloc: Global, text: &[u8]) -> Result<Name, NoMemory>
+    ensures { IfOk result (λ printed. printed ≡ string_text text.now) }
+{
+    let mut printed = Name::new(alloc);
+    printed.push(b'"')?;
+    for byte in text {
+        push_escaped(&mut printed, *byte)?;
+    }
+    printed.push(b'"')?;
+    Ok(printed)
+}
+
+fn is_bare_byte(byte: u8) -> bool
+    ensures { result ≡ is_bare byte }
+{
+    (0x21..=0x7e).contains(&byte) && byte != b'"' && byte != b';'
+}
+
+fn are_bare_bytes(name: &[u8]) -> bool
+    ensures { result ≡ list_all is_bare name.now }
+{
+    name.iter().all(|byte| is_bare_byte(*byte))
+}
+
+fn is_bare_text(name: &[u8]) -> bool
+    ensures { result ≡ is_bare_name name.now }
+{
+    !name.is_empty() && are_bare_bytes(name)
+}
+
+/// A name of a file as it is printed: as it is where it isn't empty and all its bytes are 0x21 to 0x7E
+/// other than `"` and `;`, and else as a string.
+#[tactic(auto, unfolding(crate::specs::Printed::name_text))]
+pub fn printed_name(alloc: Global, name: &[u8]) -> Result<Name, NoMemory>
+    ensures { IfOk result (λ printed. printed ≡ name_text name.now) }
+{
+    if is_bare_text(name) {
+        Name::from_slice(alloc, name)
+    } else {
+        printed_string(alloc, name)
+    }
+}
