@@ -3,14 +3,19 @@
 
 mod call;
 mod count;
+mod file_host;
 mod host;
+mod late_file;
 mod memory;
 mod recording;
 mod rest;
 mod source;
 mod sources;
+mod std_source;
 
+pub use file_host::FileHost;
 pub use host::{Failed, Host};
 pub use memory::MemHost;
 pub use source::Source;
 pub use sources::{MemSource, SureSource};
+pub use std_source::StdSource;

@@ -238,3 +238,29 @@ impl Host for MemHost {
         }
     }
 }
+
+#[cfg(test)]
+mod tests {
+    use super::*;
+    use std::test::Fail;
+
+    #[test]
+    fn fails_at_its_numbers(rt: HostRuntime) -> Result<(), Fail> {
+        let image = Bytes::from_slice(rt.alloc(), b"abcdefgh")?;
+        let failing = Numbers::from_slice(rt.alloc(), &[1, 4, 7])?;
+        let mut host = MemHost::new(rt.alloc(), image, failing);
+        assert_eq!(rt; host.length()?, 8);
+        assert!(rt; host.write(0, b"no").is_err());
+        host.write(6, b"xyz")?;
+        host.write_word(4, 0x3031_3233)?;
+        assert!(rt; host.sync().is_err());
+        host.sync()?;
+        host.say(b"one ")?;
+        assert!(rt; host.say(b"more").is_err());
+        assert_eq!(rt; host.image().as_slice(), b"abcd0123z".as_slice());
+        assert_eq!(rt; host.said().as_slice(), b"one mo".as_slice());
+        assert_eq!(rt; host.made, 8);
+        assert_eq!(rt; host.shortages, 0);
+        Ok(())
+    }
+}

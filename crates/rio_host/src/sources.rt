@@ -89,3 +89,25 @@ impl Source for SureSource {
         Ok(self.rest.give(into))
     }
 }
+
+#[cfg(test)]
+mod tests {
+    use super::*;
+    use std::test::Fail;
+
+    #[test]
+    fn gives_all_and_fails_at_its_numbers(rt: HostRuntime) -> Result<(), Fail> {
+        let bytes = Bytes::from_slice(rt.alloc(), b"abcde")?;
+        let failing = Numbers::from_slice(rt.alloc(), &[1])?;
+        let mut sure = SureSource::new(bytes.copy()?);
+        let mut source = MemSource::new(bytes, failing);
+        let mut into = [0; 3];
+        assert_eq!(rt; source.read(&mut into)?, 3);
+        assert!(rt; source.read(&mut into).is_err());
+        assert_eq!(rt; source.read(&mut into)?, 2);
+        assert_eq!(rt; into.as_slice(), b"dec".as_slice());
+        assert_eq!(rt; source.read(&mut into)?, 0);
+        assert_eq!(rt; sure.read(&mut into)?, 3);
+        Ok(())
+    }
+}
