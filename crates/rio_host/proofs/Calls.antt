@@ -3,11 +3,11 @@ use Rattle.std.proofs.Common.{◌≡◌, inl, inr, ℕ, ◌+◌, ◌≤◌, Opti
 use Rattle.std.proofs.lemmas.Bool.{cases_lt}
 use Rattle.std.proofs.lemmas.List.{take_all, take-append-le, take-take, append-nil, append_cancel_left}
 use Rattle.std.proofs.lemmas.Option.{same_Some}
-use Rattle.rio_host.specs.Image.{Torn, Put, PutOrNot, Same}
-use Rattle.rio_host.specs.Host.{View, Leaves, Elapses, After, OnDisk, Speaking, IsQuiet, Becomes, LongerByPart}
+use Rattle.rio_host.specs.Image.{Same}
+use Rattle.rio_host.specs.Host.{View, Elapses, After, OnDisk, Speaking, IsQuiet}
 use Rattle.rio_host.specs.Flight.{Flies, SaysInParts}
 use Rattle.rio_host.specs.declared.call.Call.{Call}
-use Rattle.rio_host.specs.declared.call.Call.TheVariants.{Write, Word, FailedWrite, FailedWord, Sync, Saying, Said}
+use Rattle.rio_host.specs.declared.call.Call.TheVariants.{Sync, Saying, Said}
 use Rattle.rio_host.specs.Replay.{Change, Makes, Flown, Disk, at_first, step, replay, MayLeave, Memory, and_then, disk_of, IsStill}
 use Rattle.rio_host.specs.ReplayLaws.{flown_push, flown_back, sound, left_now, now_left}
 use Rattle.rio_host.specs.Memory.{mem_view, text_now}
@@ -120,13 +120,18 @@ module _ (m m' : Memory) (bytes : List ℕ) (is : m' ≡ and_then (and_then m (S
   pub say_time : (d s r d' s' r' : ℕ) → Elapses (mem_view m d s r) (mem_view m' d' s' r') (Speaking bytes (mem_view m d s r))
   say_time d s r d' s' r' = elapses_join (Speaking bytes (mem_view m d s r))
       (elapses_call m (Saying bytes) saying d s r d s r (Speaking bytes (mem_view m d s r)) refl (λ image said left.
-          ((disk_of m).text, now_left m image (disk_of m).text (left.0, (0, sym (append-nil (disk_of m).text))), left.1)))
+      ((disk_of m).text, now_left m image (disk_of m).text (left.0, (0, sym (append-nil (disk_of m).text))), left.1)))
       (elapses_call saying Said m' d s r d' s' r' (Speaking bytes (mem_view m d s r)) is (λ image said left.
-          let left' : MayLeave (step (step (disk_of m) (Saying bytes)) Said) image said = subst (λ (x : Disk). MayLeave (step x Said) image said) begun left in
-          let none : take left'.1.0 [] ≡ [] = take_all left'.1.0 [] (omega arith) in
-          ((disk_of m).text, now_left m image (disk_of m).text (left'.0, (0, sym (append-nil (disk_of m).text))),
-            (length bytes, left'.1.1 ∙ ap (λ (l : List ℕ). ((disk_of m).text ++ bytes) ++ l) none ∙ append-nil ((disk_of m).text ++ bytes)
-              ∙ ap (λ (l : List ℕ). (disk_of m).text ++ l) (sym (take_all (length bytes) bytes (omega arith)))))))
+      let left' : MayLeave (step (step (disk_of m) (Saying bytes)) Said) image said = subst (λ (x : Disk). MayLeave (step x Said) image said) begun left in
+      let none : take left'.1.0 [] ≡ [] = take_all left'.1.0 [] (omega arith) in (
+        (disk_of m).text,
+        now_left m image (disk_of m).text (left'.0, (0, sym (append-nil (disk_of m).text))),
+        (
+          length bytes,
+          left'.1.1 ∙ ap (λ (l : List ℕ). ((disk_of m).text ++ bytes) ++ l) none ∙ append-nil ((disk_of m).text ++ bytes)
+              ∙ ap (λ (l : List ℕ). (disk_of m).text ++ l) (sym (take_all (length bytes) bytes (omega arith))),
+        ),
+      )))
       (λ image said q. q)
 
   pub says_in_parts : IsStill m → (d s r d' s' r' : ℕ) → SaysInParts (mem_view m d s r) (mem_view m' d' s' r')
@@ -134,15 +139,16 @@ module _ (m m' : Memory) (bytes : List ℕ) (is : m' ≡ and_then (and_then m (S
       let text : before ≡ (disk_of m).text = text_now m image before still left in
       let all : (disk_of m).text ++ bytes ≡ (disk_of m).text ++ more = sym say_text ∙ same_Some (disk_of m').text (before ++ more) told ∙ ap (λ (l : List ℕ). l ++ more) text in
       let same : bytes ≡ more = append_cancel_left (disk_of m).text bytes more all in
-      let flown = (left_now m image before left).0 in
-      (λ k.
-          let parts : before ++ take k more ≡ (disk_of m).text ++ take k bytes = ap (λ (l : List ℕ). l ++ take k more) text ∙ ap (λ (l : List ℕ). (disk_of m).text ++ take k l) (sym same) in
-          let here : MayLeave (disk_of saying) image (before ++ take k more) = subst (λ (x : Disk). MayLeave x image (before ++ take k more)) (sym begun) (flown, (k, parts)) in
-          let on = elapses_call saying Said m' d s r d' s' r' (λ i t. Unit {0}) is (λ i t left. tt) in
-          on.keeps (length m.calls) image (before ++ take k more) (omega (arith, length-append m.calls (Saying bytes ∷ [])))
+      let flown = (left_now m image before left).0 in (
+        λ k.
+            let parts : before ++ take k more ≡ (disk_of m).text ++ take k bytes = ap (λ (l : List ℕ). l ++ take k more) text ∙ ap (λ (l : List ℕ). (disk_of m).text ++ take k l) (sym same) in
+            let here : MayLeave (disk_of saying) image (before ++ take k more) = subst (λ (x : Disk). MayLeave x image (before ++ take k more)) (sym begun) (flown, (k, parts)) in
+            let on = elapses_call saying Said m' d s r d' s' r' (λ i t. Unit {0}) is (λ i t left. tt) in
+            on.keeps (length m.calls) image (before ++ take k more) (omega (arith, length-append m.calls (Saying bytes ∷ [])))
             (let l = now_left saying image (before ++ take k more) here in (l.0, omega (arith, l.1, length-append m.calls (Saying bytes ∷ [])), l.2, l.3)),
         now_left m' image (before ++ more) (subst (λ (x : Disk). MayLeave x image (before ++ more)) (sym ended)
-          (flown, (0, ap (λ (l : List ℕ). l ++ more) text ∙ ap (λ (l : List ℕ). (disk_of m).text ++ l) (sym same) ∙ sym (append-nil ((disk_of m).text ++ bytes))))))
+            (flown, (0, ap (λ (l : List ℕ). l ++ more) text ∙ ap (λ (l : List ℕ). (disk_of m).text ++ l) (sym same) ∙ sym (append-nil ((disk_of m).text ++ bytes))))),
+      )
 
 -- what is said of a front of some bytes is said of them
 take-take_min : (k n : ℕ) (bytes : List ℕ) → take k (take n bytes) ≡ take (min k n) bytes

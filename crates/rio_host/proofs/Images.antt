@@ -3,7 +3,7 @@ use Rattle.std.proofs.Common.{◌≡◌, ◌⊎◌, inl, inr, ℕ, zero, suc, �
 use Rattle.std.proofs.lemmas.Option.{slice_get_within, slice_get-get_or, none-some, same_Some}
 use Rattle.std.specs.List.{slice_get}
 use Rattle.rio_host.specs.ImageLaws.{slice_get-append_left, slice_get-append_right}
-use Rattle.rio_host.specs.Image.{Has, Torn, Put, PutOrNot, Same}
+use Rattle.rio_host.specs.Image.{Has, Torn, Put, Same}
 use Rattle.rio_host.specs.Host.{Becomes}
 
 -- ---- bytes at places

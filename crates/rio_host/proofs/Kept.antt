@@ -42,7 +42,7 @@ module _ (first : List ℕ) (calls : List Call) (held text : List ℕ) (kept : I
       let saying : Memory = and_then before (Saying bytes) in
       let first_step : disk_of saying ≡ step (disk_of before) (Saying bytes) = disk_of-and_then before (Saying bytes) in
       let now : disk_of after ≡ step (step (disk_of before) (Saying bytes)) Said =
-        ap (λ (l : List Call). replay (at_first first) l) is ∙ disk_of-and_then saying Said ∙ ap (λ (d : Disk). step d Said) first_step in
+      ap (λ (l : List Call). replay (at_first first) l) is ∙ disk_of-and_then saying Said ∙ ap (λ (d : Disk). step d Said) first_step in
       record {
         contents = kept.contents ∙ ap (λ (d : Disk). d.contents) (sym now);
         said = more ∙ ap (λ (l : List ℕ). l ++ bytes) kept.said ∙ ap (λ (d : Disk). d.text) (sym now);

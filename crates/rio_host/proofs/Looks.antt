@@ -1,5 +1,5 @@
 -- Calls that only look, after each other, and says after them.
-use Rattle.std.proofs.Common.{◌≡◌, ◌⊎◌, inl, inr, ⊎_elim, ℕ, ◌+◌, ◌<◌, ◌≤◌, List, [], ◌++◌, length, take, Some, subst, sym, refl, ap, ◌∙◌, append_assoc, arith}
+use Rattle.std.proofs.Common.{◌≡◌, inl, inr, ⊎_elim, ℕ, ◌<◌, ◌≤◌, List, subst, sym, refl, ◌∙◌, arith}
 use Rattle.std.proofs.lemmas.Bool.{cases_lt}
 use Rattle.std.proofs.lemmas.List.{append-nil}
 use Rattle.rio_host.specs.Image.{Same}
@@ -44,7 +44,6 @@ same_quiet law call quiet i s file left told = quiet i s file (same_back law cal
 
 -- ---- calls that write nothing
 
-
 pub same_unwritten : {old new : View} → OnDisk Same old new → Unwritten old new
 same_unwritten {old} call = elapses_as (λ i s. (before : List ℕ) × Leaves old i before) (After Same old) call.time (λ i s after. (s, same_image old i s after))
 
@@ -78,16 +77,19 @@ same_says {a} {b} bytes law call time = elapses_join (Speaking bytes a)
 pub says_same : {a b c : View} (bytes : List ℕ) → IsLawful b → Elapses a b (Speaking bytes a) → OnDisk Same b c → Elapses a c (Speaking bytes a)
 says_same {a} {b} bytes law time call = elapses_join (Speaking bytes a) time
     (elapses_as (Speaking bytes a) (After Same b) call.time
-      (λ i s after. ⊎_elim (λ was. (s, was, (0, sym (append-nil s)))) (λ speaks. speaks) (leaves_back law time i s (same_image b i s after))))
+    (λ i s after. ⊎_elim (λ was. (s, was, (0, sym (append-nil s)))) (λ speaks. speaks) (leaves_back law time i s (same_image b i s after))))
     (λ i s speaks. speaks)
 
 -- ---- counts
 
 pub rose_later : (a b c : ℕ) → Rose a b → b ≤ c → Rose a c
-rose_later a b c rose le = (omega (arith, rose.0, le), ⊎_elim
-    (λ (lt : a < b). inl (omega (arith, lt, le)))
-    (λ (most : b ≡ 18446744073709551615). elim (cases_lt a c) [ | inl lt ↦ inl lt | inr ge ↦ inr (omega (arith, rose.0, le, most, ge)) ])
-    rose.1)
+rose_later a b c rose le = (
+  omega (arith, rose.0, le),
+  ⊎_elim
+      (λ (lt : a < b). inl (omega (arith, lt, le)))
+      (λ (most : b ≡ 18446744073709551615). elim (cases_lt a c) [ inl lt ↦ inl lt | inr ge ↦ inr (omega (arith, rose.0, le, most, ge)) ])
+      rose.1,
+)
 
 pub rose_earlier : (a b c : ℕ) → a ≤ b → Rose b c → Rose a c
 rose_earlier a b c le rose = (omega (arith, rose.0, le), ⊎_elim (λ (lt : b < c). inl (omega (arith, lt, le))) (λ most. inr most) rose.1)

@@ -1,6 +1,5 @@
 -- What a host is to its callers, what a stop may leave of its disk, and what a call may do to both.
 use Rattle.std.specs.Prelude.{◌≡◌, ◌⊎◌, ℕ, ◌<◌, ◌≤◌, List, ◌++◌, length, take, Option, Some, None}
-use Rattle.rio_host.specs.Image.{Same}
 
 pub record View : Type 1 where
   -- the bytes that reads give, where told

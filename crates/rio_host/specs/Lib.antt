@@ -3,6 +3,7 @@ pub mod Flight
 pub mod Host
 pub mod Image
 pub mod ImageLaws
+pub mod Left
 pub mod MemHost
 pub mod Memory
 pub mod Replay

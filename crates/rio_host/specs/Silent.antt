@@ -21,4 +21,3 @@ silent_lawful d s r = record {
   text = λ image said all left told. absurd (none-some all told);
   as_read = λ image all a b. tt;
 }
-

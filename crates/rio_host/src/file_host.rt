@@ -127,7 +127,10 @@ mod tests {
         let mut into = [0; 6];
         host.read(2, &mut into)?;
         assert_eq!(rt; into.as_slice(), [b'o', b't', 1, 2, 3, 4].as_slice());
-        assert!(rt; host.read(4, &mut into).is_err(), "a read past the end fails");
+        assert!(rt;
+            host.read(4, &mut into).is_err(),
+            "a read past the end fails"
+        );
         host.say(b"said\n")?;
 
         assert_eq!(rt; reader.length()?, 9);

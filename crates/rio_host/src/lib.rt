@@ -6,6 +6,7 @@ mod count;
 mod file_host;
 mod host;
 mod late_file;
+mod left;
 mod memory;
 mod recording;
 mod rest;
@@ -15,6 +16,7 @@ mod std_source;
 
 pub use file_host::FileHost;
 pub use host::{Failed, Host};
+pub use left::{leaves_says_cut_short, leaves_torn_writes, leaves_words_whole};
 pub use memory::MemHost;
 pub use source::Source;
 pub use sources::{MemSource, SureSource};

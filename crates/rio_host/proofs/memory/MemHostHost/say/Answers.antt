@@ -1,4 +1,4 @@
-use Rattle.std.proofs.Common.{◌≡◌, ℕ, List, Option, Some, ◌/◌, ◌++◌, length, take, inl, refl, ap, rules}
+use Rattle.std.proofs.Common.{ℕ, List, Option, Some, ◌/◌, length, take, inl, refl, ap, rules}
 use Rattle.rio_host.specs.Host.{Speaking}
 use Rattle.rio_host.specs.MemHost.{view_of}
 use Rattle.rio_host.proofs.Moments.{elapses_as}
@@ -17,7 +17,7 @@ returns-in-Ok-clause-failed c = (_, refl, (length c.args.bytes.now / 2, say_text
 pub returns-in-Ok-clause-time : goal.returns-in-Ok-clause-time
 returns-in-Ok-clause-time c =
     elapses_as (Speaking c.args.bytes.now (view_of c.args.self.now)) (Speaking (take (length c.args.bytes.now / 2) c.args.bytes.now) (view_of c.args.self.now)) (say_time c.args.self.now.recording c.say.new.self _ c.in-Ok.ensures.ok c.args.self.now.disk_faults c.args.self.now.say_faults c.args.self.now.reads _ _ _)
-        (λ image said speaks. speaking_front (length c.args.bytes.now / 2) c.args.bytes.now (view_of c.args.self.now) image said speaks)
+    (λ image said speaks. speaking_front (length c.args.bytes.now / 2) c.args.bytes.now (view_of c.args.self.now) image said speaks)
 
 pub returns-in-Ok-clause-holds : goal.returns-in-Ok-clause-holds
 returns-in-Ok-clause-holds c = ap (λ (l : List ℕ). some l) (say_holds c.args.self.now.recording c.say.new.self _ c.in-Ok.ensures.ok)

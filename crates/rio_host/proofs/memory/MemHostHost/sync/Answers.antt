@@ -1,4 +1,4 @@
-use Rattle.std.proofs.Common.{◌≡◌, ℕ, List, Option, Some, ap, rules}
+use Rattle.std.proofs.Common.{ℕ, List, Option, Some, ap, rules}
 use Rattle.rio_host.proofs.Calls.{sync_still, sync_holds, sync_disk, sync_quiet}
 use Rattle.rio_host.proofs.memory.MemHostHost.sync.Goals as goal
 

@@ -1,10 +1,9 @@
-use Rattle.std.proofs.Common.{◌≡◌, ℕ, List, Option, Some, inl, refl, sym, ap, subst, arith, length, rules}
-use Rattle.byteorder.specs.Endian.{big_bytes}
-use Rattle.rio_host.specs.declared.call.Call.TheVariants.{Write, Word, FailedWrite, FailedWord}
+use Rattle.std.proofs.Common.{ℕ, List, Option, Some, inl, refl, sym, ap, subst, length, rules}
+use Rattle.rio_host.specs.declared.call.Call.TheVariants.{Write, FailedWrite}
 use Rattle.rio_host.specs.Host.{Becomes}
 use Rattle.rio_host.specs.Image.{Put}
-use Rattle.rio_host.specs.Replay.{Range, Whole, Memory, disk_of, put_at}
-use Rattle.rio_host.specs.ReplayLaws.{makes_same, put_at_put, put_at_torn, put_at_whole}
+use Rattle.rio_host.specs.Replay.{Range, disk_of, put_at}
+use Rattle.rio_host.specs.ReplayLaws.{makes_same, put_at_put, put_at_torn}
 use Rattle.rio_host.proofs.Calls.{change_still, change_holds, change_disk, change_flies}
 use Rattle.rio_host.proofs.memory.MemHostHost.write.Goals as goal
 
