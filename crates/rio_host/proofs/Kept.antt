@@ -1,0 +1,49 @@
+-- One call more joins those that are recorded, and what is kept is again that of the disk.
+use Rattle.std.proofs.Common.{◌≡◌, ℕ, List, [], ◌∷◌, ◌++◌, sym, ◌∙◌, ap}
+use Rattle.byteorder.specs.Endian.{big_bytes}
+use Rattle.rio_host.specs.declared.call.Call.{Call}
+use Rattle.rio_host.specs.declared.call.Call.TheVariants.{Write, Word, FailedWrite, FailedWord, Sync, Saying, Said}
+use Rattle.rio_host.specs.Replay.{put_at, Disk, at_first, step, replay, Memory, and_then, disk_of}
+use Rattle.rio_host.specs.ReplayLaws.{replay_push}
+use Rattle.rio_host.specs.Memory.{IsKept}
+
+pub disk_of-and_then : (m : Memory) (call : Call) → disk_of (and_then m call) ≡ step (disk_of m) call
+disk_of-and_then m call = replay_push (at_first m.first) m.calls call
+
+module _ (first : List ℕ) (calls : List Call) (held text : List ℕ) (kept : IsKept (record { first = first; calls = calls }) held text) (calls' : List Call) where
+  abbrev pub before : Memory
+  before = record { first = first; calls = calls }
+
+  abbrev pub after : Memory
+  after = record { first = first; calls = calls' }
+
+  kept_call : (call : Call) (held' text' : List ℕ) → calls' ≡ calls ++ call ∷ [] → held' ≡ (step (disk_of before) call).contents → text' ≡ (step (disk_of before) call).text → IsKept after held' text'
+  kept_call call held' text' is contents said =
+      let now : disk_of after ≡ step (disk_of before) call = ap (λ (l : List Call). replay (at_first first) l) is ∙ disk_of-and_then before call in
+      record { contents = contents ∙ ap (λ (d : Disk). d.contents) (sym now); said = said ∙ ap (λ (d : Disk). d.text) (sym now) }
+
+  pub kept_write : (place : ℕ) (bytes held' : List ℕ) → calls' ≡ calls ++ Write place bytes ∷ [] → held' ≡ put_at (disk_of before).contents place bytes → IsKept after held' text
+  kept_write place bytes held' is put = kept_call (Write place bytes) held' text is put kept.said
+
+  pub kept_word : (place word : ℕ) (held' : List ℕ) → calls' ≡ calls ++ Word place word ∷ [] → held' ≡ put_at (disk_of before).contents place (big_bytes 4 word) → IsKept after held' text
+  kept_word place word held' is put = kept_call (Word place word) held' text is put kept.said
+
+  pub kept_failed_write : (place n : ℕ) → calls' ≡ calls ++ FailedWrite place n ∷ [] → IsKept after held text
+  kept_failed_write place n is = kept_call (FailedWrite place n) held text is kept.contents kept.said
+
+  pub kept_failed_word : (place word : ℕ) → calls' ≡ calls ++ FailedWord place word ∷ [] → IsKept after held text
+  kept_failed_word place word is = kept_call (FailedWord place word) held text is kept.contents kept.said
+
+  pub kept_sync : calls' ≡ calls ++ Sync ∷ [] → IsKept after held text
+  kept_sync is = kept_call Sync held text is kept.contents kept.said
+
+  pub kept_say : (bytes text' : List ℕ) → calls' ≡ (calls ++ Saying bytes ∷ []) ++ Said ∷ [] → text' ≡ text ++ bytes → IsKept after held text'
+  kept_say bytes text' is more =
+      let saying : Memory = and_then before (Saying bytes) in
+      let first_step : disk_of saying ≡ step (disk_of before) (Saying bytes) = disk_of-and_then before (Saying bytes) in
+      let now : disk_of after ≡ step (step (disk_of before) (Saying bytes)) Said =
+      ap (λ (l : List Call). replay (at_first first) l) is ∙ disk_of-and_then saying Said ∙ ap (λ (d : Disk). step d Said) first_step in
+      record {
+        contents = kept.contents ∙ ap (λ (d : Disk). d.contents) (sym now);
+        said = more ∙ ap (λ (l : List ℕ). l ++ bytes) kept.said ∙ ap (λ (d : Disk). d.text) (sym now);
+      }

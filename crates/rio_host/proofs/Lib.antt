@@ -1,0 +1,5 @@
+pub mod Calls
+pub mod Images
+pub mod Kept
+pub mod Looks
+pub mod Moments

@@ -1,0 +1,29 @@
+-- What a stop leaves of a small file in memory.
+use Rattle.std.specs.Prelude.{List, [], ◌∷◌}
+use Rattle.rio_host.specs.Host.{View}
+use Rattle.rio_host.specs.Memory.{mem_view}
+use Rattle.rio_host.specs.declared.call.Call.{Call}
+use Rattle.rio_host.specs.declared.call.Call.TheVariants.{Write, Word, FailedWrite, Sync, Saying, Said}
+
+-- a host in memory with four zero bytes, after these calls
+abbrev pub zeros_after : List Call → View
+zeros_after calls = mem_view (record { first = 0 ∷ 0 ∷ 0 ∷ 0 ∷ []; calls = calls }) 0 0 0
+
+-- a write of 1, 2, 3 at place 3
+abbrev pub written : List Call
+written = Write 3 (1 ∷ 2 ∷ 3 ∷ []) ∷ []
+
+-- the same, but it failed
+abbrev pub failed : List Call
+failed = FailedWrite 3 3 ∷ []
+
+-- the word 01020304 at place 0
+abbrev pub worded : List Call
+worded = Word 0 16909060 ∷ []
+
+-- the text 7, 8
+abbrev pub said : List Call
+said = Saying (7 ∷ 8 ∷ []) ∷ Said ∷ []
+
+abbrev pub synced : List Call
+synced = Write 3 (1 ∷ 2 ∷ 3 ∷ []) ∷ Sync ∷ []

@@ -1,0 +1,14 @@
+pub mod Failing
+pub mod Flight
+pub mod Host
+pub mod Image
+pub mod ImageLaws
+pub mod Left
+pub mod MemHost
+pub mod Memory
+pub mod Replay
+pub mod ReplayLaws
+pub mod Silent
+pub mod Source
+pub mod SourceTold
+pub mod Sources

@@ -1,0 +1,79 @@
+-- The calls of a host in memory, done again: what the disk holds, and what a stop may leave of it.
+use Rattle.std.specs.Prelude.{◌≡◌, ℕ, ◌+◌, ◌≤◌, nat_le, if◌then◌else◌, List, [], ◌∷◌, ◌++◌, length, take, drop}
+use Rattle.byteorder.specs.Endian.{big_bytes}
+use Rattle.rio_host.specs.Image.{Torn, PutOrNot}
+use Rattle.rio_host.specs.declared.call.Call.{Call}
+use Rattle.rio_host.specs.declared.call.Call.TheVariants.{Write, Word, FailedWrite, FailedWord, Sync, Saying, Said}
+
+-- a write in flight: any bytes in a range, or a word
+pub data Change : Type 0 where
+  Range : (place n : ℕ) → Change
+  Whole : (place : ℕ) (bytes : List ℕ) → Change
+
+abbrev pub Makes : Change → List ℕ → List ℕ → Type 0
+Makes (Range place n) = Torn place n
+Makes (Whole place bytes) = PutOrNot place bytes
+
+-- an image that these changes may make of the base, the first of them first
+abbrev pub Flown : List ℕ → List Change → List ℕ → Type 0
+Flown base [] image = image ≡ base
+Flown base (change ∷ changes) image = (next : List ℕ) × Makes change base next × Flown next changes image
+
+-- the file with these bytes at this place, which is within it or at its end
+abbrev pub put_at : List ℕ → ℕ → List ℕ → List ℕ
+put_at file place bytes = if nat_le place (length file) then take place file ++ (bytes ++ drop (place + length bytes) file) else file
+
+pub record Disk : Type 0 where
+  -- the file as the last sync left it
+  pub base : List ℕ
+  -- the writes in flight since then, the first of them first
+  pub flight : List Change
+  -- what reads give
+  pub contents : List ℕ
+  -- the text that was said
+  pub text : List ℕ
+  -- the bytes that are being said
+  pub speaking : List ℕ
+
+abbrev pub at_first : List ℕ → Disk
+at_first first = record { base = first; flight = []; contents = first; text = []; speaking = [] }
+
+abbrev pub step : Disk → Call → Disk
+step d (Write place bytes) = record d { flight = d.flight ++ Range place (length bytes) ∷ []; contents = put_at d.contents place bytes }
+step d (Word place word) = record d { flight = d.flight ++ Whole place (big_bytes 4 word) ∷ []; contents = put_at d.contents place (big_bytes 4 word) }
+step d (FailedWrite place n) = record d { flight = d.flight ++ Range place n ∷ [] }
+step d (FailedWord place word) = record d { flight = d.flight ++ Whole place (big_bytes 4 word) ∷ [] }
+step d Sync = record d { base = d.contents; flight = [] }
+step d (Saying bytes) = record d { speaking = bytes }
+step d Said = record d { text = d.text ++ d.speaking; speaking = [] }
+
+abbrev pub replay : Disk → List Call → Disk
+replay d [] = d
+replay d (call ∷ calls) = replay (step d call) calls
+
+-- what a stop leaves of a disk: its writes in flight done anyhow, and a front of what is being said
+abbrev pub MayLeave : Disk → List ℕ → List ℕ → Type 0
+MayLeave d image said = Flown d.base d.flight image × ((k : ℕ) × (said ≡ d.text ++ take k d.speaking))
+
+-- what a host in memory remembers: the first image, and the calls since then
+pub record Memory : Type 0 where
+  pub first : List ℕ
+  pub calls : List Call
+
+abbrev pub and_then : Memory → Call → Memory
+and_then m call = record m { calls = m.calls ++ call ∷ [] }
+
+abbrev pub disk_of : Memory → Disk
+disk_of m = replay (at_first m.first) m.calls
+
+-- the disk after the first k calls
+abbrev pub disk_after : ℕ → Memory → Disk
+disk_after k m = replay (at_first m.first) (take k m.calls)
+
+-- a stop after k calls, at least t of them, may leave this
+abbrev pub LeftSince : Memory → ℕ → List ℕ → List ℕ → Type 0
+LeftSince m t image said = (k : ℕ) × (t ≤ k) × (k ≤ length m.calls) × MayLeave (disk_after k m) image said
+
+-- nothing is being said
+abbrev pub IsStill : Memory → Type 0
+IsStill m = (disk_of m).speaking ≡ []

@@ -1,0 +1,266 @@
+ghost use Rattle.std.specs.Prelude.{◌≡◌, ◌≤◌, ◌<◌, ◌+◌, ◌%◌, ◌^◌, ◌↔◌, ℕ, List, [], Some, length, IfOk, OnOk, OnErr, IsErr, IsTrue, Contains};
+ghost use Rattle.byteorder.specs.Endian.{big_bytes};
+ghost use Rattle.rio_host.specs.Failing.{next_count, FailsByNumber, FailsOrRunsShort};
+ghost use Rattle.rio_host.specs.Flight.{Flies, SaysInParts};
+ghost use Rattle.rio_host.specs.Host.{OnDisk, Elapses, Speaking, Becomes, Rose, Longer, LongerByPart, IsWithin, IsLength, IsQuiet};
+ghost use Rattle.rio_host.specs.Image.{Has, Torn, Put, PutOrNot, Same};
+ghost use Rattle.rio_host.specs.Memory.{mem_view, mem_lawful};
+ghost use Rattle.rio_host.specs.Replay.{IsStill};
+
+use crate::count::{is_next_failing, raised};
+use crate::recording::Recording;
+use crate::{Failed, Host};
+use rio_num::{Bytes, NoMemory, Numbers};
+use std::alloc::Global;
+
+/// A file and a text in memory. It remembers all calls that changed it, and answers for every moment.
+///
+/// A call that finds no memory for what it has to keep fails, and is as if it had not been made.
+#[derive(Drop)]
+pub struct MemHost {
+    recording: Recording,
+    failing: Numbers,
+    made: u64,
+    shortages: u64,
+    disk_faults: u64,
+    say_faults: u64,
+    reads: u64,
+    ghost still: { IsStill recording },
+}
+
+impl MemHost {
+    ghost use Rattle.std.specs.Prelude.{◌≡◌, [], Some};
+    ghost use Rattle.rio_host.specs.Failing.{Tally};
+    ghost use Rattle.rio_host.specs.Host.{IsQuiet};
+    ghost use Rattle.rio_host.specs.MemHost.{view_of, tally_of};
+
+    /// A file with this image, all of it on the disk, and no text. The numbers are those of the calls
+    /// that fail, counted from 0.
+    pub fn new(alloc: Global, image: Bytes, failing: Numbers) -> MemHost
+        ensures holds { (view_of result).holds ≡ Some image.bytes }
+        ensures said { (view_of result).said ≡ Some [] }
+        ensures quiet { IsQuiet (view_of result) }
+        ensures disk_faults { (view_of result).disk_faults ≡ 0 }
+        ensures say_faults { (view_of result).say_faults ≡ 0 }
+        ensures reads { (view_of result).reads ≡ 0 }
+        ensures counts { tally_of result ≡ record { made = 0; failing = failing; shortages = 0 } }
+    {
+        MemHost {
+            recording: Recording::new(alloc, image),
+            failing,
+            made: 0,
+            shortages: 0,
+            disk_faults: 0,
+            say_faults: 0,
+            reads: 0,
+        }
+    }
+
+    /// What reads give.
+    pub fn image(&self) -> &Bytes
+        ensures { (view_of self.now).holds ≡ Some result.now.bytes }
+    {
+        self.recording.image()
+    }
+
+    /// The text that was said.
+    pub fn said(&self) -> &Bytes
+        ensures { (view_of self.now).said ≡ Some result.now.bytes }
+    {
+        self.recording.text()
+    }
+}
+
+impl Host for MemHost {
+    ghost use Rattle.rio_host.specs.MemHost.{view_of, tally_of};
+
+    ghost view = { λ h. mem_view h.recording h.disk_faults h.say_faults h.reads };
+
+    ghost lawful = { λ h. mem_lawful h.recording h.disk_faults h.say_faults h.reads h.still };
+
+    fn length(&mut self) -> Result<u64, Failed>
+        ensures length { IfOk result (IsLength (view_of self.old)) }
+        ensures disk { OnDisk Same (view_of self.old) (view_of self.new) }
+        ensures holds { (view_of self.new).holds ≡ (view_of self.old).holds }
+        ensures reads { Rose (view_of self.old).reads (view_of self.new).reads }
+        ensures cause { IsErr result → Rose (view_of self.old).disk_faults (view_of self.new).disk_faults }
+
+        ensures fails { FailsByNumber (tally_of self.old) (tally_of self.new) result }
+        ensures flies { Flies Same (view_of self.old) (view_of self.new) }
+    {
+        self.reads = raised(self.reads);
+        if is_next_failing(&mut self.made, self.failing.as_slice()) {
+            self.disk_faults = raised(self.disk_faults);
+            return Err(Failed);
+        }
+        Ok(self.recording.image().len() as u64)
+    }
+
+    fn read(&mut self, place: u64, into: &mut [u8]) -> Result<(), Failed>
+        requires { IsWithin (view_of self.old) (place + length into.old) }
+        ensures bytes { OnOk result ((bytes : List ℕ) → (view_of self.old).holds ≡ Some bytes → Has bytes place into.new) }
+        ensures disk { OnDisk Same (view_of self.old) (view_of self.new) }
+        ensures holds { (view_of self.new).holds ≡ (view_of self.old).holds }
+        ensures reads { Rose (view_of self.old).reads (view_of self.new).reads }
+        ensures cause { IsErr result → Rose (view_of self.old).disk_faults (view_of self.new).disk_faults }
+
+        ensures fails { FailsByNumber (tally_of self.old) (tally_of self.new) result }
+        ensures flies { Flies Same (view_of self.old) (view_of self.new) }
+    {
+        self.reads = raised(self.reads);
+        if is_next_failing(&mut self.made, self.failing.as_slice()) {
+            self.disk_faults = raised(self.disk_faults);
+            return Err(Failed);
+        }
+        let image = self.recording.image().as_slice();
+        let from = place as usize;
+        into.copy_from_slice(&image[from..from + into.len()]);
+        Ok(())
+    }
+
+    fn write(&mut self, place: u64, bytes: &[u8]) -> Result<(), Failed>
+        requires within { IsWithin (view_of self.old) place }
+        requires fits { place + length bytes.now < 2 ^ 64 }
+        ensures written { OnOk result (Becomes (Put place bytes.now) (view_of self.old).holds (view_of self.new).holds) }
+        ensures disk { OnDisk (Torn place (length bytes.now)) (view_of self.old) (view_of self.new) }
+        ensures reads { (view_of self.new).reads ≡ (view_of self.old).reads }
+        ensures cause { IsErr result → Rose (view_of self.old).disk_faults (view_of self.new).disk_faults }
+
+        ensures failed { OnErr result ((view_of self.new).holds ≡ (view_of self.old).holds) }
+        ensures fails { FailsOrRunsShort (Flies (Torn place (length bytes.now)) (view_of self.old) (view_of self.new)) (tally_of self.old) (tally_of self.new) result }
+    {
+        if is_next_failing(&mut self.made, self.failing.as_slice()) {
+            self.disk_faults = raised(self.disk_faults);
+            return match self.recording.fail_write(place, bytes.len() as u64) {
+                Ok(()) => Err(Failed),
+                Err(NoMemory) => {
+                    self.shortages = raised(self.shortages);
+                    Err(Failed)
+                }
+            };
+        }
+        match self.recording.write(place, bytes) {
+            Ok(()) => Ok(()),
+            Err(NoMemory) => {
+                self.shortages = raised(self.shortages);
+                self.disk_faults = raised(self.disk_faults);
+                Err(Failed)
+            }
+        }
+    }
+
+    fn write_word(&mut self, place: u64, word: u32) -> Result<(), Failed>
+        requires within { IsWithin (view_of self.old) place }
+        requires aligned { place % 4 ≡ 0 }
+        requires fits { place + 4 < 2 ^ 64 }
+        ensures written { OnOk result (Becomes (Put place (big_bytes 4 word)) (view_of self.old).holds (view_of self.new).holds) }
+        ensures disk { OnDisk (PutOrNot place (big_bytes 4 word)) (view_of self.old) (view_of self.new) }
+        ensures reads { (view_of self.new).reads ≡ (view_of self.old).reads }
+        ensures cause { IsErr result → Rose (view_of self.old).disk_faults (view_of self.new).disk_faults }
+
+        ensures failed { OnErr result ((view_of self.new).holds ≡ (view_of self.old).holds) }
+        ensures fails { FailsOrRunsShort (Flies (PutOrNot place (big_bytes 4 word)) (view_of self.old) (view_of self.new)) (tally_of self.old) (tally_of self.new) result }
+    {
+        if is_next_failing(&mut self.made, self.failing.as_slice()) {
+            self.disk_faults = raised(self.disk_faults);
+            return match self.recording.fail_word(place, word) {
+                Ok(()) => Err(Failed),
+                Err(NoMemory) => {
+                    self.shortages = raised(self.shortages);
+                    Err(Failed)
+                }
+            };
+        }
+        match self.recording.write_word(place, word) {
+            Ok(()) => Ok(()),
+            Err(NoMemory) => {
+                self.shortages = raised(self.shortages);
+                self.disk_faults = raised(self.disk_faults);
+                Err(Failed)
+            }
+        }
+    }
+
+    fn sync(&mut self) -> Result<(), Failed>
+        ensures quiet { OnOk result (IsQuiet (view_of self.new)) }
+        ensures disk { OnDisk Same (view_of self.old) (view_of self.new) }
+        ensures holds { (view_of self.new).holds ≡ (view_of self.old).holds }
+        ensures reads { (view_of self.new).reads ≡ (view_of self.old).reads }
+        ensures cause { IsErr result → Rose (view_of self.old).disk_faults (view_of self.new).disk_faults }
+
+        ensures failed { OnErr result (Flies Same (view_of self.old) (view_of self.new)) }
+        ensures fails { FailsOrRunsShort (Unit {0}) (tally_of self.old) (tally_of self.new) result }
+    {
+        if is_next_failing(&mut self.made, self.failing.as_slice()) {
+            self.disk_faults = raised(self.disk_faults);
+            return Err(Failed);
+        }
+        match self.recording.sync() {
+            Ok(()) => Ok(()),
+            Err(NoMemory) => {
+                self.shortages = raised(self.shortages);
+                self.disk_faults = raised(self.disk_faults);
+                Err(Failed)
+            }
+        }
+    }
+
+    /// A say that fails says the half.
+    fn say(&mut self, bytes: &[u8]) -> Result<(), Failed>
+        ensures said { OnOk result (Becomes (Longer bytes.now) (view_of self.old).said (view_of self.new).said) }
+        ensures failed { OnErr result (Becomes (LongerByPart bytes.now) (view_of self.old).said (view_of self.new).said) }
+        ensures time { Elapses (view_of self.old) (view_of self.new) (Speaking bytes.now (view_of self.old)) }
+        ensures holds { (view_of self.new).holds ≡ (view_of self.old).holds }
+        ensures reads { (view_of self.new).reads ≡ (view_of self.old).reads }
+        ensures disk_faults { (view_of self.new).disk_faults ≡ (view_of self.old).disk_faults }
+        ensures say_faults { (view_of self.old).say_faults ≤ (view_of self.new).say_faults }
+        ensures cause { IsErr result → Rose (view_of self.old).say_faults (view_of self.new).say_faults }
+
+        ensures fails { FailsOrRunsShort (SaysInParts (view_of self.old) (view_of self.new)) (tally_of self.old) (tally_of self.new) result }
+    {
+        if is_next_failing(&mut self.made, self.failing.as_slice()) {
+            self.say_faults = raised(self.say_faults);
+            return match self.recording.say(&bytes[..bytes.len() / 2]) {
+                Ok(()) => Err(Failed),
+                Err(NoMemory) => {
+                    self.shortages = raised(self.shortages);
+                    Err(Failed)
+                }
+            };
+        }
+        match self.recording.say(bytes) {
+            Ok(()) => Ok(()),
+            Err(NoMemory) => {
+                self.shortages = raised(self.shortages);
+                self.say_faults = raised(self.say_faults);
+                Err(Failed)
+            }
+        }
+    }
+}
+
+#[cfg(test)]
+mod tests {
+    use super::*;
+    use std::test::Fail;
+
+    #[test]
+    fn fails_at_its_numbers(rt: HostRuntime) -> Result<(), Fail> {
+        let image = Bytes::from_slice(rt.alloc(), b"abcdefgh")?;
+        let failing = Numbers::from_slice(rt.alloc(), &[1, 4, 7])?;
+        let mut host = MemHost::new(rt.alloc(), image, failing);
+        assert_eq!(rt; host.length()?, 8);
+        assert!(rt; host.write(0, b"no").is_err());
+        host.write(6, b"xyz")?;
+        host.write_word(4, 0x3031_3233)?;
+        assert!(rt; host.sync().is_err());
+        host.sync()?;
+        host.say(b"one ")?;
+        assert!(rt; host.say(b"more").is_err());
+        assert_eq!(rt; host.image().as_slice(), b"abcd0123z".as_slice());
+        assert_eq!(rt; host.said().as_slice(), b"one mo".as_slice());
+        assert_eq!(rt; host.made, 8);
+        assert_eq!(rt; host.shortages, 0);
+        Ok(())
+    }
+}

@@ -1,0 +1,113 @@
+ghost use Rattle.std.specs.Prelude.{◌≡◌, ◌≤◌, ◌<◌, min, Some, length, IfOk, IsOk, OnErr, IsErr};
+ghost use Rattle.rio_host.specs.Failing.{FailsByNumber};
+ghost use Rattle.rio_host.specs.Host.{Becomes, Rose};
+ghost use Rattle.rio_host.specs.Source.{Gives};
+ghost use Rattle.rio_host.specs.SourceTold.{told_input};
+
+use crate::count::{is_next_failing, raised};
+use crate::rest::Rest;
+use crate::{Failed, Source};
+use rio_num::{Bytes, Numbers};
+
+/// Bytes as an input, of which some reads fail.
+#[derive(Debug, Drop)]
+pub struct MemSource {
+    rest: Rest,
+    failing: Numbers,
+    made: u64,
+    faults: u64,
+}
+
+impl MemSource {
+    ghost use Rattle.rio_host.specs.Sources.{input_of, tally_of};
+
+    /// An input of these bytes. The numbers are those of the reads that fail, counted from 0.
+    pub fn new(bytes: Bytes, failing: Numbers) -> MemSource
+        ensures input { input_of result ≡ record { remaining = Some bytes.bytes; faults = 0 } }
+        ensures counts { tally_of result ≡ record { made = 0; failing = failing; shortages = 0 } }
+    {
+        MemSource {
+            rest: Rest::new(bytes),
+            failing,
+            made: 0,
+            faults: 0,
+        }
+    }
+}
+
+impl Source for MemSource {
+    ghost use Rattle.rio_host.specs.Sources.{input_of, tally_of};
+
+    ghost view = { λ s. told_input s.rest s.faults };
+
+    fn read(&mut self, into: &mut [u8]) -> Result<usize, Failed>
+        ensures length { IfOk result (λ n. n ≤ length into.old) }
+        ensures gives { IfOk result (λ n. Becomes (Gives n into.new) (input_of self.old).remaining (input_of self.new).remaining) }
+        ensures failed { OnErr result ((input_of self.new).remaining ≡ (input_of self.old).remaining) }
+        ensures faults { (input_of self.old).faults ≤ (input_of self.new).faults }
+        ensures cause { IsErr result → Rose (input_of self.old).faults (input_of self.new).faults }
+
+        ensures fails { FailsByNumber (tally_of self.old) (tally_of self.new) result }
+    {
+        if is_next_failing(&mut self.made, self.failing.as_slice()) {
+            self.faults = raised(self.faults);
+            return Err(Failed);
+        }
+        Ok(self.rest.give(into))
+    }
+}
+
+/// Bytes as an input that never fails.
+#[derive(Debug, Drop)]
+pub struct SureSource {
+    rest: Rest,
+}
+
+impl SureSource {
+    ghost use Rattle.rio_host.specs.Sources.{sure_input_of};
+
+    /// An input of these bytes.
+    pub fn new(bytes: Bytes) -> SureSource
+        ensures { sure_input_of result ≡ record { remaining = Some bytes.bytes; faults = 0 } }
+    {
+        SureSource {
+            rest: Rest::new(bytes),
+        }
+    }
+}
+
+impl Source for SureSource {
+    ghost use Rattle.rio_host.specs.Sources.{sure_input_of};
+
+    ghost view = { λ s. told_input s.rest 0 };
+
+    fn read(&mut self, into: &mut [u8]) -> Result<usize, Failed>
+        ensures length { IfOk result (λ n. n ≤ length into.old) }
+        ensures gives { IfOk result (λ n. Becomes (Gives n into.new) (sure_input_of self.old).remaining (sure_input_of self.new).remaining) }
+        ensures sure { IsOk result }
+    {
+        Ok(self.rest.give(into))
+    }
+}
+
+#[cfg(test)]
+mod tests {
+    use super::*;
+    use std::test::Fail;
+
+    #[test]
+    fn gives_all_and_fails_at_its_numbers(rt: HostRuntime) -> Result<(), Fail> {
+        let bytes = Bytes::from_slice(rt.alloc(), b"abcde")?;
+        let failing = Numbers::from_slice(rt.alloc(), &[1])?;
+        let mut sure = SureSource::new(bytes.copy()?);
+        let mut source = MemSource::new(bytes, failing);
+        let mut into = [0; 3];
+        assert_eq!(rt; source.read(&mut into)?, 3);
+        assert!(rt; source.read(&mut into).is_err());
+        assert_eq!(rt; source.read(&mut into)?, 2);
+        assert_eq!(rt; into.as_slice(), b"dec".as_slice());
+        assert_eq!(rt; source.read(&mut into)?, 0);
+        assert_eq!(rt; sure.read(&mut into)?, 3);
+        Ok(())
+    }
+}
