@@ -1,0 +1,10 @@
+pub mod Front
+pub mod Heads
+pub mod KeyAgain
+pub mod KeyFound
+pub mod KeyFront
+pub mod KeyLaws
+pub mod KeyListLaws
+pub mod KeyRead
+pub mod Signed
+pub mod Steps

@@ -1,0 +1,5 @@
+use Rattle.rio_key.proofs.KeyLaws.{one_key_lem}
+use Rattle.rio_key.proofs.laws.one_key.Goals as goal
+
+pub returns : goal.returns
+returns c = one_key_lem

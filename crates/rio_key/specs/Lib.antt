@@ -1,0 +1,4 @@
+pub mod Key
+pub mod KeyList
+pub mod Laws
+pub mod Spelling

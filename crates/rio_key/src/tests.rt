@@ -1,0 +1,46 @@
+use crate::{Heads, read_heads, read_key};
+use std::alloc::Global;
+use std::test::Fail;
+
+// The heads of the first record and of the free record of an empty file `a.root`.
+const FIRST: &[u8] =
+    b"\0\0\0\x6c\0\x04\0\0\0\x44\0\0\0\x01\0\x28\0\x01\0\0\0\x64\0\0\0\0\x05TFile\x06a.root\0";
+
+const FREE: &[u8] =
+    b"\0\0\0\x34\0\x04\0\0\0\x0c\0\0\0\x01\0\x28\0\x01\0\0\0\xfc\0\0\0\x64\x05TFile\x06a.root\0";
+
+#[test]
+fn reads_the_key_of_a_record(rt: HostRuntime) -> Result<(), Fail> {
+    let key = read_key(rt.alloc(), FREE, 252, 252)?;
+    assert_eq!(rt; key.nbytes, 52);
+    assert_eq!(rt; key.objlen, 12);
+    assert_eq!(rt; key.keylen, 40);
+    assert_eq!(rt; key.seek, 252);
+    assert_eq!(rt; key.pdir, 100);
+    assert_eq!(rt; key.class.as_slice(), b"TFile".as_slice());
+    assert_eq!(rt; key.name.as_slice(), b"a.root".as_slice());
+    assert!(rt; key.title.is_empty());
+    assert!(rt; !key.is_compressed());
+    assert_eq!(rt; key.copy()?.name.as_slice(), b"a.root".as_slice());
+    Ok(())
+}
+
+fn heads_of(alloc: Global, parts: &[&[u8]]) -> Result<Heads, Fail> {
+    let mut bytes = Vec::new(alloc);
+    for part in parts {
+        bytes.extend_from_slice(part)?;
+    }
+    if bytes.len() > 1000 {
+        return Ok(Heads::new(alloc));
+    }
+    Ok(read_heads(alloc, &bytes, 0)?)
+}
+
+#[test]
+fn reads_a_list_of_heads(rt: HostRuntime) -> Result<(), Fail> {
+    let heads = heads_of(rt.alloc(), &[b"\0\0\0\x02", FIRST, FREE, b"more"])?;
+    assert_eq!(rt; heads.len(), 2);
+    let seeks = [heads.as_slice()[0].seek, heads.as_slice()[1].seek];
+    assert_eq!(rt; seeks, [100, 252]);
+    Ok(())
+}
