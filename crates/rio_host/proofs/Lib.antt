@@ -3,3 +3,5 @@ pub mod Images
 pub mod Kept
 pub mod Looks
 pub mod Moments
+pub mod RangeLaws
+pub mod ReadsLaws

@@ -6,6 +6,7 @@ pub mod ImageLaws
 pub mod Left
 pub mod MemHost
 pub mod Memory
+pub mod OnlyReads
 pub mod Replay
 pub mod ReplayLaws
 pub mod Silent

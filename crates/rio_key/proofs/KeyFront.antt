@@ -48,12 +48,12 @@ fields_front s head s' read =
 
 -- ---- the two rules
 
-record IsKept (s : At) (x y : KeyHead × At) : Type 0 where
-  key_held : int_lt x.0.nbytes (pos x.0.keylen) ≡ false
-  title_held : x.1.place - s.place ≤ x.0.keylen
-  same : x ≡ y
+pub record IsKept (s : At) (x y : KeyHead × At) : Type 0 where
+  pub key_held : int_lt x.0.nbytes (pos x.0.keylen) ≡ false
+  pub title_held : x.1.place - s.place ≤ x.0.keylen
+  pub same : x ≡ y
 
-kept : (s : At) (x y : KeyHead × At) (b c : Bool) → int_lt x.0.nbytes (pos x.0.keylen) ≡ b → nat_lt x.0.keylen (x.1.place - s.place) ≡ c
+pub kept : (s : At) (x y : KeyHead × At) (b c : Bool) → int_lt x.0.nbytes (pos x.0.keylen) ≡ b → nat_lt x.0.keylen (x.1.place - s.place) ≡ c
     → cond b (Err (BadLength s.place)) (cond c (Err (BadKeyLen s.place)) (Ok x)) ≡ Ok y → IsKept s x y
 kept s x y true c t u e = absurd cc
 kept s x y false true t u e = absurd cc
@@ -83,7 +83,7 @@ key_front s h s' e =
     } in
     subst (λ (z : KeyHead × At). KeyFront s z.0 z.1) k.same made
 
-value_ok : (r : Read) (h : KeyHead) → value_of r ≡ Ok h → (t : At) × (r ≡ Ok (h, t))
+pub value_ok : (r : Read) (h : KeyHead) → value_of r ≡ Ok h → (t : At) × (r ≡ Ok (h, t))
 value_ok (Ok x) h e = (x.1, ap (λ (z : KeyHead). let r : Read = Ok (z, x.1) in r) (ok_is {E = KeyFault} x.0 h e))
 value_ok (Err d) h e = absurd cc
 

@@ -8,3 +8,4 @@ pub mod KeyListLaws
 pub mod KeyRead
 pub mod Signed
 pub mod Steps
+pub mod KeyRecord

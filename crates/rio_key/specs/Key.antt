@@ -1,5 +1,5 @@
 -- A key, read from left to right, with the first fault and its place.
-use Rattle.std.specs.Prelude.{◌≡◌, ◌≢◌, ℕ, ◌-◌, pos, Result, Ok, Err, nat_lt, if◌then◌else◌, int_lt}
+use Rattle.std.specs.Prelude.{◌≡◌, ◌≢◌, ℕ, ◌-◌, pos, Result, Ok, Err, nat_lt, if◌then◌else◌, int_lt, ◌-ℤ◌, Bool}
 use Rattle.std.specs.Int.{w32, cast_signed}
 use Rattle.rio_num.specs.At.{At}
 use Rattle.rio_num.specs.Reading.{◌>>=◌, number_at, text_at}
@@ -67,3 +67,7 @@ GivesAt (Err e) read new = Fails e read
 abbrev pub IsReadAs : {X : Type 0} → Result X KeyFault → X → Type 0
 IsReadAs (Ok y) x = y ≡ x
 IsReadAs (Err e) x = e ≡ NoMemory
+
+-- the data are compressed: they would be longer than what the record has behind its key
+abbrev pub is_compressed : KeyHead → Bool
+is_compressed h = int_lt (h.nbytes -ℤ pos h.keylen) (pos h.objlen)

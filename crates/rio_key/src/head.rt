@@ -1,4 +1,5 @@
-ghost use Rattle.std.specs.Prelude.{◌≡◌, ◌↔◌, ◌-ℤ◌, ◌<ℤ◌, pos, IsTrue, IfOk};
+ghost use Rattle.std.specs.Prelude.{◌≡◌, IfOk};
+ghost use Rattle.rio_key.specs.Key.{is_compressed};
 
 use rio_num::{Name, NoMemory};
 
@@ -27,7 +28,7 @@ pub struct KeyHead {
 impl KeyHead {
     /// Whether the record has fewer bytes of data than the data are long.
     pub fn is_compressed(&self) -> bool
-        ensures { IsTrue result ↔ ((self.now.nbytes -ℤ pos self.now.keylen) <ℤ pos self.now.objlen) }
+        ensures { result ≡ is_compressed self.now }
     {
         i64::from(self.objlen) > i64::from(self.nbytes) - i64::from(self.keylen)
     }

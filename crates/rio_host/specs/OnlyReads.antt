@@ -1,0 +1,23 @@
+-- Calls that look at a host's file and say a text, and write nothing.
+use Rattle.std.specs.Prelude.{◌≡◌, ℕ, ◌≤◌, List, Some}
+use Rattle.rio_host.specs.Host.{View, Becomes, Elapses, Leaves, LongerByPart, Speaking, Unwritten}
+
+-- The file and the text are as before, and a stop leaves what it might have left before.
+pub record OnlyReads (old new : View) : Type 0 where
+  pub time : Elapses old new (Leaves old)
+  pub holds : new.holds ≡ old.holds
+  pub said : new.said ≡ old.said
+  pub reads : old.reads ≤ new.reads
+  pub disk_faults : old.disk_faults ≤ new.disk_faults
+  pub say_faults : new.say_faults ≡ old.say_faults
+
+-- The file is as before. At most a front of the text that belongs to it was said, and a stop leaves an image that it might
+-- have left before, with such a front.
+pub record OnlySays (text_of : List ℕ → List ℕ) (old new : View) : Type 0 where
+  pub holds : new.holds ≡ old.holds
+  pub images : Unwritten old new
+  pub part : (file : List ℕ) → old.holds ≡ Some file → Becomes (LongerByPart (text_of file)) old.said new.said
+  pub time : (file : List ℕ) → old.holds ≡ Some file → Elapses old new (Speaking (text_of file) old)
+  pub reads : old.reads ≤ new.reads
+  pub disk_faults : old.disk_faults ≤ new.disk_faults
+  pub say_faults : old.say_faults ≤ new.say_faults

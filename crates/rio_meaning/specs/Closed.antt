@@ -1,0 +1,84 @@
+-- A file by its header, directory record and key list, or its first fault.
+use Rattle.std.specs.Prelude.{ℕ, ◌+◌, ◌==◌, List, [], length, take, drop, Option, Some, None, Result, Ok, Err, nat_lt, if◌then◌else◌}
+use Rattle.std.specs.Option.{unwrap_or}
+use Rattle.std.specs.Int.{w32, cast_unsigned}
+use Rattle.rio_num.specs.At.{At}
+use Rattle.rio_num.specs.Reading.{◌>>=◌}
+use Rattle.rio_num.specs.declared.cursor.Short.{Short}
+use Rattle.rio_key.specs.declared.head.KeyHead.{KeyHead}
+use Rattle.rio_key.specs.declared.fault.KeyFault.{KeyFault}
+use Rattle.rio_key.specs.declared.fault.ListFault.{ListFault}
+use Rattle.rio_key.specs.Key.{key_at}
+use Rattle.rio_key.specs.KeyList.{key_list_at}
+use Rattle.rio_head.specs.declared.head.FileHead.{FileHead}
+use Rattle.rio_head.specs.declared.dir.DirRecord.{DirRecord}
+use Rattle.rio_head.specs.declared.fault.FileFault.{FileFault}
+use Rattle.rio_head.specs.declared.fault.FileFault.TheVariants.{NotClosed, BadDir, BadKeyList}
+use Rattle.rio_head.specs.declared.fault.HeadFault.{HeadFault}
+use Rattle.rio_head.specs.Head.{head_at}
+use Rattle.rio_head.specs.Dir.{dir_at}
+use Rattle.rio_meaning.specs.declared.closed.Closed.{Closed}
+
+abbrev pub fault : ℕ → FileFault → HeadFault
+fault place kind = record { place = place; kind = kind }
+
+-- reading at a place of a file
+abbrev pub file_at : List ℕ → ℕ → At
+file_at file place = record { place = place; rest = drop place file }
+
+-- the place of the directory record: behind the first record's key, name and title
+abbrev pub dir_place : FileHead → ℕ
+dir_place head = 100 + head.nbytes_name
+
+-- the header, whose END is within the file
+unfoldable pub closed_head : List ℕ → Result FileHead HeadFault
+closed_head file = do
+  head ← head_at file
+  if nat_lt (length file) head.end then Err (fault 12 NotClosed) else Ok head
+
+abbrev pub or_bad_dir : ℕ → Result DirRecord Short → Result DirRecord HeadFault
+or_bad_dir place (Ok dir) = Ok dir
+or_bad_dir place (Err e) = Err (fault place BadDir)
+
+-- the directory record, whole in the file
+abbrev pub closed_dir : List ℕ → ℕ → Result DirRecord HeadFault
+closed_dir file place = or_bad_dir place (dir_at (file_at file place))
+
+-- The data of the record at a place: from KeyLen on, and up to Nbytes or the end of the file.
+abbrev pub data_at : List ℕ → ℕ → KeyHead → At
+data_at file place key = record { place = place + key.keylen; rest = drop key.keylen (take (cast_unsigned w32 key.nbytes) (drop place file)) }
+
+-- a list that is unreadable: at its head's place, and at the place of the list's key for the count
+abbrev pub or_bad_list : {A : Type 0} → ℕ → Result (List KeyHead × A) ListFault → Result (List KeyHead) HeadFault
+or_bad_list place (Ok x) = Ok x.0
+or_bad_list place (Err e) = Err (fault (unwrap_or e.head place) BadKeyList)
+
+abbrev pub or_bad_key : ℕ → Result KeyHead KeyFault → Result KeyHead HeadFault
+or_bad_key place (Ok key) = Ok key
+or_bad_key place (Err e) = Err (fault place BadKeyList)
+
+-- the heads of the key list whose key stands at a place
+unfoldable pub listed_at : List ℕ → ℕ → Result (List KeyHead) HeadFault
+listed_at file place = do
+  key ← or_bad_key place (key_at (file_at file place))
+  or_bad_list place (key_list_at (data_at file place key))
+
+-- place 0 stands for no key list
+abbrev pub closed_keys : List ℕ → ℕ → Result (List KeyHead) HeadFault
+closed_keys file place = if place == 0 then Ok [] else listed_at file place
+
+-- the file, or the first rule that it breaks and the place where
+unfoldable pub closed_of : List ℕ → Result Closed HeadFault
+closed_of file = do
+  head ← closed_head file
+  dir ← closed_dir file (dir_place head)
+  keys ← closed_keys file dir.seek_keys
+  Ok (record { head = head; dir = dir; keys = keys })
+
+-- the first fault of the rules that a verb tests which reads neither classes nor values
+abbrev pub fault_of : {A : Type 0} → Result A HeadFault → Option HeadFault
+fault_of (Ok x) = None
+fault_of (Err e) = Some e
+
+abbrev pub first_fault : List ℕ → Option HeadFault
+first_fault file = fault_of (closed_of file)

@@ -1,0 +1,7 @@
+//! What the bytes of a file mean to those who read it: what it is when it is closed, its first fault,
+//! and what a listing says of it. Mostly definitions, in `specs/`.
+#![tactic(auto)]
+
+mod closed;
+
+pub use closed::Closed;

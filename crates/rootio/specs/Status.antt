@@ -1,0 +1,22 @@
+-- The exit status and the text of each way in which a run ends.
+use Rattle.std.specs.Prelude.{ℕ, List, [], ◌++◌, codes}
+use Rattle.std.specs.Fmt.{decimal}
+use Rattle.rio_head.specs.Fault.{name_of}
+use Rattle.rootio.specs.declared.status.Status.{Status}
+use Rattle.rootio.specs.declared.status.Status.TheVariants.{Done, Usage, BadFile, DiskFault, NoMemory, SayFault}
+
+abbrev pub status_code : Status → ℕ
+status_code Done = 0
+status_code Usage = 1
+status_code (BadFile place kind) = 2
+status_code DiskFault = 3
+status_code NoMemory = 5
+status_code SayFault = 8
+
+abbrev pub status_text : Status → List ℕ
+status_text Done = []
+status_text Usage = codes "rootio: usage: rootio VERB FILE ARG..."
+status_text (BadFile place kind) = codes "rootio: bad file at " ++ decimal place ++ codes ": " ++ name_of kind
+status_text DiskFault = codes "rootio: disk fault"
+status_text NoMemory = codes "rootio: no memory"
+status_text SayFault = codes "rootio: output fault"

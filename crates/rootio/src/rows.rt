@@ -1,0 +1,3 @@
+//! Worked rows: what the program answers for files whose bytes and listings come from the format's rules.
+mod images;
+mod ls;

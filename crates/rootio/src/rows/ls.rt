@@ -1,0 +1,466 @@
+//! Rows of `ls`.
+use super::images::{COMPRESSED, EMPTY, LARGE, ODD_NAMES, ONE, TWO};
+use crate::status::{Status, code, fault_text};
+use crate::top::run;
+use rio_head::FileFault;
+use rio_host::{MemHost, SureSource};
+use rio_num::{Bytes, Name, NoMemory, Numbers, Words};
+use std::alloc::Global;
+use std::test::Fail;
+
+// Bytes in hexadecimal.
+fn decode(alloc: Global, lines: &[&str]) -> Result<Bytes, NoMemory> {
+    let mut bytes = Bytes::new(alloc);
+    for line in lines {
+        for pair in line.as_bytes().chunks_exact(2) {
+            bytes.push(nibble(pair[0]).wrapping_mul(16) | nibble(pair[1]))?;
+        }
+    }
+    Ok(bytes)
+}
+
+fn nibble(digit: u8) -> u8 {
+    match digit {
+        b'0'..=b'9' => digit - b'0',
+        b'A'..=b'F' => digit - b'A' + 10,
+        _ => 0,
+    }
+}
+
+// The front of the bytes, with some words written over.
+fn changed(alloc: Global, bytes: &[u8], length: usize, words: &[(usize, u32)]) -> Result<Bytes, NoMemory> {
+    let mut image = Bytes::from_slice(alloc, &bytes[..length.min(bytes.len())])?;
+    for (place, word) in words {
+        if *place < image.len() && 4 <= image.len() - *place {
+            image.patch_u32(*place, *word);
+        }
+    }
+    Ok(image)
+}
+
+fn words_of(alloc: Global, words: &[&str]) -> Result<Words, NoMemory> {
+    let mut all = Words::new(alloc);
+    for word in words {
+        all.push(Name::from_slice(alloc, word.as_bytes())?)?;
+    }
+    Ok(all)
+}
+
+// What a run over a file answers and says, where these calls of its host fail.
+fn ran(alloc: Global, words: &[&str], image: Bytes, failing: &[u64]) -> Result<(Status, Name), NoMemory> {
+    let words = words_of(alloc, words)?;
+    let mut host = MemHost::new(alloc, image, Numbers::from_slice(alloc, failing)?);
+    let mut input = SureSource::new(Bytes::new(alloc));
+    let status = run(alloc, &words, &mut host, &mut input);
+    Ok((status, Name::from_slice(alloc, host.said().as_slice())?))
+}
+
+static WORDS: [&str; 2] = ["ls", "a.root"];
+
+// A file of these records, cut to a length, with some words written over: what `ls` answers and says.
+struct Row {
+    name: &'static str,
+    file: &'static [&'static str],
+    length: usize,
+    words: &'static [(usize, u32)],
+    status: Status,
+    said: &'static str,
+}
+
+const WHOLE: usize = usize::MAX;
+
+static ROWS: [Row; 29] = [
+    Row {
+        name: "one object",
+        file: &ONE,
+        length: WHOLE,
+        words: &[],
+        status: Status::Done,
+        said: "s;1 TObjString\n",
+    },
+    Row {
+        name: "two objects",
+        file: &TWO,
+        length: WHOLE,
+        words: &[],
+        status: Status::Done,
+        said: "s;2 TObjString\ns;1 TObjString\n",
+    },
+    Row {
+        name: "no objects",
+        file: &EMPTY,
+        length: WHOLE,
+        words: &[],
+        status: Status::Done,
+        said: "",
+    },
+    Row {
+        name: "no bytes",
+        file: &EMPTY,
+        length: 0,
+        words: &[],
+        status: Status::BadFile {
+            place: 0,
+            kind: FileFault::Short,
+        },
+        said: "",
+    },
+    Row {
+        name: "three bytes",
+        file: &EMPTY,
+        length: 3,
+        words: &[],
+        status: Status::BadFile {
+            place: 0,
+            kind: FileFault::Short,
+        },
+        said: "",
+    },
+    Row {
+        name: "the fourth byte is T",
+        file: &EMPTY,
+        length: WHOLE,
+        words: &[(0, 0x726F6F54)],
+        status: Status::BadFile {
+            place: 0,
+            kind: FileFault::NotRoot,
+        },
+        said: "",
+    },
+    Row {
+        name: "four bytes alone",
+        file: &EMPTY,
+        length: 4,
+        words: &[],
+        status: Status::BadFile {
+            place: 4,
+            kind: FileFault::Short,
+        },
+        said: "",
+    },
+    Row {
+        name: "a begin elsewhere",
+        file: &EMPTY,
+        length: WHOLE,
+        words: &[(8, 0x00000065)],
+        status: Status::BadFile {
+            place: 8,
+            kind: FileFault::BadBegin,
+        },
+        said: "",
+    },
+    Row {
+        name: "a bad begin before a short field",
+        file: &EMPTY,
+        length: 14,
+        words: &[(8, 0x00000065)],
+        status: Status::BadFile {
+            place: 8,
+            kind: FileFault::BadBegin,
+        },
+        said: "",
+    },
+    Row {
+        name: "units of eight in the small form",
+        file: &EMPTY,
+        length: WHOLE,
+        words: &[(32, 0x08000000)],
+        status: Status::BadFile {
+            place: 32,
+            kind: FileFault::BadUnits,
+        },
+        said: "",
+    },
+    Row {
+        name: "bad units before a short field",
+        file: &EMPTY,
+        length: 36,
+        words: &[(32, 0x08000000)],
+        status: Status::BadFile {
+            place: 32,
+            kind: FileFault::BadUnits,
+        },
+        said: "",
+    },
+    Row {
+        name: "the UUID is not whole",
+        file: &EMPTY,
+        length: 62,
+        words: &[],
+        status: Status::BadFile {
+            place: 45,
+            kind: FileFault::Short,
+        },
+        said: "",
+    },
+    Row {
+        name: "the large form, whose units stand at 40",
+        file: &EMPTY,
+        length: WHOLE,
+        words: &[(4, 0x000F4240)],
+        status: Status::BadFile {
+            place: 40,
+            kind: FileFault::BadUnits,
+        },
+        said: "",
+    },
+    Row {
+        name: "the greatest version of the small form",
+        file: &ONE,
+        length: WHOLE,
+        words: &[(4, 0x000F423F)],
+        status: Status::Done,
+        said: "s;1 TObjString\n",
+    },
+    Row {
+        name: "END at the end of the file",
+        file: &EMPTY,
+        length: 304,
+        words: &[],
+        status: Status::Done,
+        said: "",
+    },
+    Row {
+        name: "END past the end of the file",
+        file: &EMPTY,
+        length: WHOLE,
+        words: &[(12, 0x77359400)],
+        status: Status::BadFile {
+            place: 12,
+            kind: FileFault::NotClosed,
+        },
+        said: "",
+    },
+    Row {
+        name: "a directory record past the end",
+        file: &ONE,
+        length: WHOLE,
+        words: &[(28, 0x00000190)],
+        status: Status::BadFile {
+            place: 500,
+            kind: FileFault::BadDir,
+        },
+        said: "",
+    },
+    Row {
+        name: "a name that leads into other records",
+        file: &ONE,
+        length: WHOLE,
+        words: &[(28, 0x00000154)],
+        status: Status::BadFile {
+            place: 440,
+            kind: FileFault::BadDir,
+        },
+        said: "",
+    },
+    Row {
+        name: "no key list",
+        file: &ONE,
+        length: WHOLE,
+        words: &[(174, 0x00000000)],
+        status: Status::Done,
+        said: "",
+    },
+    Row {
+        name: "a key list past the end",
+        file: &EMPTY,
+        length: WHOLE,
+        words: &[(174, 0x00001000)],
+        status: Status::BadFile {
+            place: 4096,
+            kind: FileFault::BadKeyList,
+        },
+        said: "",
+    },
+    Row {
+        name: "a key list at the object, whose data give a count",
+        file: &ONE,
+        length: WHOLE,
+        words: &[(174, 0x000000D0)],
+        status: Status::BadFile {
+            place: 252,
+            kind: FileFault::BadKeyList,
+        },
+        said: "",
+    },
+    Row {
+        name: "a count that is too large",
+        file: &EMPTY,
+        length: WHOLE,
+        words: &[(248, 0x7FFFFFFF)],
+        status: Status::BadFile {
+            place: 252,
+            kind: FileFault::BadKeyList,
+        },
+        said: "",
+    },
+    Row {
+        name: "a key list shorter than its key",
+        file: &ONE,
+        length: WHOLE,
+        words: &[(268, 0x00000014)],
+        status: Status::BadFile {
+            place: 268,
+            kind: FileFault::BadKeyList,
+        },
+        said: "",
+    },
+    Row {
+        name: "a key list without its count",
+        file: &ONE,
+        length: WHOLE,
+        words: &[(268, 0x00000029)],
+        status: Status::BadFile {
+            place: 268,
+            kind: FileFault::BadKeyList,
+        },
+        said: "",
+    },
+    Row {
+        name: "a key list of negative length",
+        file: &ONE,
+        length: WHOLE,
+        words: &[(268, 0xFFFFFFAC)],
+        status: Status::BadFile {
+            place: 268,
+            kind: FileFault::BadKeyList,
+        },
+        said: "",
+    },
+    Row {
+        name: "one head of two",
+        file: &TWO,
+        length: WHOLE,
+        words: &[(328, 0x00000054)],
+        status: Status::BadFile {
+            place: 412,
+            kind: FileFault::BadKeyList,
+        },
+        said: "",
+    },
+    Row {
+        name: "a compressed key",
+        file: &COMPRESSED,
+        length: WHOLE,
+        words: &[],
+        status: Status::Done,
+        said: "c;1 TObjString compressed\nd;1 TObjString\n",
+    },
+    Row {
+        name: "the large form",
+        file: &LARGE,
+        length: WHOLE,
+        words: &[],
+        status: Status::Done,
+        said: "s;1 TObjString\n",
+    },
+    Row {
+        name: "names that are quoted",
+        file: &ODD_NAMES,
+        length: WHOLE,
+        words: &[],
+        status: Status::Done,
+        said: "\"\";1 TObjString\n\"a\\\"b\";1 TObjString\n\"a\\\\b\";1 TObjString\n\"a\\nb\";1 TObjString\n\"a\\tb\";1 TObjString\n\"a b\";1 TObjString\n\"a;b\";1 TObjString\n\"a\\x7fb\";1 TObjString\n\"\\xe9\";1 TObjString\na+b;1 TObjString\nv;2 \"a<b c>\"\n",
+    },
+];
+
+#[test]
+fn rows(rt: HostRuntime) -> Result<(), Fail> {
+    let alloc = rt.alloc();
+    for row in &ROWS {
+        let whole = decode(alloc, row.file).ok().ok_or("an image")?;
+        let image = changed(alloc, whole.as_slice(), row.length, row.words).ok().ok_or("an image")?;
+        let (status, said) = ran(alloc, &WORDS, image, &[]).ok().ok_or("a run")?;
+        assert_eq!(rt; status, row.status, "{}", row.name);
+        assert_eq!(rt; said.as_slice(), row.said.as_bytes(), "{}", row.name);
+    }
+    Ok(())
+}
+
+// A file that was cut before its END is refused by its header alone.
+#[test]
+fn cuts(rt: HostRuntime) -> Result<(), Fail> {
+    let alloc = rt.alloc();
+    let whole = decode(alloc, &TWO).ok().ok_or("an image")?;
+    for length in 63..504 {
+        let image = changed(alloc, whole.as_slice(), length, &[]).ok().ok_or("an image")?;
+        let (status, said) = ran(alloc, &WORDS, image, &[]).ok().ok_or("a run")?;
+        let closed = Status::BadFile {
+            place: 12,
+            kind: FileFault::NotClosed,
+        };
+        assert_eq!(rt; status, closed, "at {length}");
+        assert!(rt; said.is_empty(), "at {length}");
+    }
+    Ok(())
+}
+
+// Words of no form, over a host that fails at its first call.
+static NO_FORMS: [&[&str]; 8] = [
+    &[],
+    &["ls"],
+    &["ls", "-x"],
+    &["ls", ""],
+    &["ls", "a\tb"],
+    &["ls", "a.root", "b"],
+    &["LS", "a.root"],
+    &["-ls", "a.root"],
+];
+
+#[test]
+fn usage(rt: HostRuntime) -> Result<(), Fail> {
+    let alloc = rt.alloc();
+    for words in &NO_FORMS {
+        let image = decode(alloc, &ONE).ok().ok_or("an image")?;
+        let (status, said) = ran(alloc, words, image, &[0]).ok().ok_or("a run")?;
+        assert_eq!(rt; status, Status::Usage, "{words:?}");
+        assert!(rt; said.is_empty(), "{words:?}");
+    }
+    Ok(())
+}
+
+// Each call of the host failing in turn: the last one says the text.
+#[test]
+fn failing_calls(rt: HostRuntime) -> Result<(), Fail> {
+    let alloc = rt.alloc();
+    for call in 0..7 {
+        let image = decode(alloc, &ONE).ok().ok_or("an image")?;
+        let (status, said) = ran(alloc, &WORDS, image, &[call]).ok().ok_or("a run")?;
+        let wanted = match call {
+            0..=4 => Status::DiskFault,
+            5 => Status::SayFault,
+            _ => Status::Done,
+        };
+        assert_eq!(rt; status, wanted, "call {call}");
+        assert!(rt; b"s;1 TObjString\n".starts_with(said.as_slice()), "call {call}");
+    }
+    Ok(())
+}
+
+static STATUSES: [(Status, u8, &str); 6] = [
+    (Status::Done, 0, ""),
+    (Status::Usage, 1, "rootio: usage: rootio VERB FILE ARG..."),
+    (
+        Status::BadFile {
+            place: 4096,
+            kind: FileFault::BadKeyList,
+        },
+        2,
+        "rootio: bad file at 4096: BadKeyList",
+    ),
+    (Status::DiskFault, 3, "rootio: disk fault"),
+    (Status::NoMemory, 5, "rootio: no memory"),
+    (Status::SayFault, 8, "rootio: output fault"),
+];
+
+#[test]
+fn statuses(rt: HostRuntime) -> Result<(), Fail> {
+    let alloc = rt.alloc();
+    for (status, number, text) in &STATUSES {
+        let mut said = Bytes::new(alloc);
+        fault_text(alloc, status, &mut said).ok().ok_or("a text")?;
+        assert_eq!(rt; code(status), *number);
+        assert_eq!(rt; said.as_slice(), text.as_bytes());
+    }
+    Ok(())
+}

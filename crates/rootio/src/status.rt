@@ -1,0 +1,67 @@
+//! How a run of the program ended.
+ghost use Rattle.std.specs.Prelude.{◌≡◌, OnOk, OnErr, IfOk, [], codes};
+ghost use Rattle.rio_num.specs.Room.{with_more, room_of};
+ghost use Rattle.rootio.specs.Status.{status_code, status_text};
+
+use rio_head::FileFault;
+use rio_num::{Bytes, NoMemory};
+use std::alloc::Global;
+
+/// How a run of the program ended.
+#[derive(Clone, Copy, Debug, PartialEq, Eq)]
+pub enum Status {
+    /// All was done.
+    Done,
+    /// The words have no form.
+    Usage,
+    /// The file breaks the rule of this kind at this place, in bytes from its beginning.
+    BadFile { place: u64, kind: FileFault },
+    /// A call on the file failed.
+    DiskFault,
+    /// There was no memory.
+    NoMemory,
+    /// What was to be said could not be said.
+    SayFault,
+}
+
+/// The process's exit status.
+pub fn code(status: &Status) -> u8
+    ensures { result ≡ status_code status.now }
+{
+    match status {
+        Status::Done => 0,
+        Status::Usage => 1,
+        Status::BadFile { .. } => 2,
+        Status::DiskFault => 3,
+        Status::NoMemory => 5,
+        Status::SayFault => 8,
+    }
+}
+
+fn bad_file(alloc: Global, place: u64, kind: FileFault) -> Result<Bytes, NoMemory>
+    ensures { IfOk result (λ text. text.bytes ≡ status_text (Status.BadFile place kind)) }
+{
+    let mut text = Bytes::from_slice(alloc, b"rootio: bad file at ")?;
+    text.put_decimal(place)?;
+    text.put(b": ")?;
+    text.put(kind.name().as_bytes())?;
+    Ok(text)
+}
+
+/// Puts what is told of the status on standard error at the end, without a line feed: nothing for Done.
+pub fn fault_text(alloc: Global, status: &Status, into: &mut Bytes) -> Result<(), NoMemory>
+    ensures ok { OnOk result (into.new ≡ with_more into.old (status_text status.now)) }
+    ensures err { OnErr result (into.new ≡ into.old) }
+{
+    match status {
+        Status::Done => Ok(()),
+        Status::Usage => into.put(b"rootio: usage: rootio VERB FILE ARG..."),
+        Status::BadFile { place, kind } => {
+            let text = bad_file(alloc, *place, *kind)?;
+            into.put(text.as_slice())
+        }
+        Status::DiskFault => into.put(b"rootio: disk fault"),
+        Status::NoMemory => into.put(b"rootio: no memory"),
+        Status::SayFault => into.put(b"rootio: output fault"),
+    }
+}
