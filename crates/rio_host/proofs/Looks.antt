@@ -1,7 +1,8 @@
 -- Calls that only look, after each other, and says after them.
-use Rattle.std.proofs.Common.{◌≡◌, inl, inr, ⊎_elim, ℕ, ◌<◌, ◌≤◌, List, subst, sym, refl, ◌∙◌, arith}
+use Rattle.std.proofs.Common.{◌≡◌, inl, inr, ⊎_elim, ℕ, ◌+◌, ◌<◌, ◌≤◌, min, List, ◌++◌, length, take, Some, ap, subst, sym, refl, ◌∙◌, append_assoc, arith}
 use Rattle.std.proofs.lemmas.Bool.{cases_lt}
-use Rattle.std.proofs.lemmas.List.{append-nil}
+use Rattle.std.proofs.lemmas.List.{append-nil, take-append-le, take_min}
+use Rattle.std.proofs.Math.Seq.{take-append-add}
 use Rattle.rio_host.specs.Image.{Same}
 use Rattle.rio_host.specs.Host.{View, Leaves, Elapses, After, OnDisk, IsLawful, IsQuiet, Speaking, Unwritten, Rose}
 use Rattle.rio_host.proofs.Images.{becomes_join, becomes_same, same_becomes}
@@ -78,6 +79,30 @@ pub says_same : {a b c : View} (bytes : List ℕ) → IsLawful b → Elapses a b
 says_same {a} {b} bytes law time call = elapses_join (Speaking bytes a) time
     (elapses_as (Speaking bytes a) (After Same b) call.time
     (λ i s after. ⊎_elim (λ was. (s, was, (0, sym (append-nil s)))) (λ speaks. speaks) (leaves_back law time i s (same_image b i s after))))
+    (λ i s speaks. speaks)
+
+-- a front of the first part is one of both
+take-append_front : (k : ℕ) (x y : List ℕ) → take (min k (length x)) (x ++ y) ≡ take k x
+take-append_front k x y = take-append-le (min k (length x)) x y (omega arith) ∙ take_min k x
+
+-- two says after each other, of which the first said all
+pub says_join : {a b c : View} (x y all : List ℕ) → IsLawful a → IsLawful b → a.said ≡ Some all → b.said ≡ Some (all ++ x) → Elapses a b (Speaking x a) → Elapses b c (Speaking y b) → Elapses a c (Speaking (x ++ y) a)
+says_join {a} {b} {c} x y all law law' told told' one two = elapses_join (Speaking (x ++ y) a)
+    (elapses_as (Speaking (x ++ y) a) (Speaking x a) one
+    (λ i s speaks. (speaks.0, speaks.1, (min speaks.2.0 (length x), speaks.2.1 ∙ ap (λ (l : List ℕ). speaks.0 ++ l) (sym (take-append_front speaks.2.0 x y))))))
+    (elapses_as (Speaking (x ++ y) a) (Speaking y b) two (λ i s speaks.
+    let text : speaks.0 ≡ all ++ x = law'.text i speaks.0 (all ++ x) speaks.1 told' in
+    let image : Leaves a i all = ⊎_elim
+    (λ was. subst (λ (l : List ℕ). Leaves a i l) (law.text i speaks.0 all was told) was)
+    (λ spoke. subst (λ (l : List ℕ). Leaves a i l) (law.text i spoke.0 all spoke.1 told) spoke.1)
+    (leaves_back law' one i speaks.0 speaks.1) in (
+      all,
+      image,
+      (
+        length x + speaks.2.0,
+        speaks.2.1 ∙ ap (λ (l : List ℕ). l ++ take speaks.2.0 y) text ∙ append_assoc all x (take speaks.2.0 y) ∙ ap (λ (l : List ℕ). all ++ l) (sym (take-append-add x y speaks.2.0)),
+      ),
+    )))
     (λ i s speaks. speaks)
 
 -- ---- counts

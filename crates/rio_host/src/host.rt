@@ -28,7 +28,8 @@ pub trait Host {
     /// Fills `into` with the file's bytes from `place` on.
     fn read(&mut self, place: u64, into: &mut [u8]) -> Result<(), Failed>
         requires { IsWithin (view self.old) (place + length into.old) }
-        ensures bytes { OnOk result ((bytes : List ℕ) → (view self.old).holds ≡ Some bytes → Has bytes place into.new) }
+        ensures bytes { OnOk result
+            ((bytes : List ℕ) → (view self.old).holds ≡ Some bytes → Has bytes place into.new) }
         ensures disk { OnDisk Same (view self.old) (view self.new) }
         ensures holds { (view self.new).holds ≡ (view self.old).holds }
         ensures reads { Rose (view self.old).reads (view self.new).reads }
@@ -48,7 +49,8 @@ pub trait Host {
         requires within { IsWithin (view self.old) place }
         requires aligned { place % 4 ≡ 0 }
         requires fits { place + 4 < 2 ^ 64 }
-        ensures written { OnOk result (Becomes (Put place (big_bytes 4 word)) (view self.old).holds (view self.new).holds) }
+        ensures written { OnOk result
+            (Becomes (Put place (big_bytes 4 word)) (view self.old).holds (view self.new).holds) }
         ensures disk { OnDisk (PutOrNot place (big_bytes 4 word)) (view self.old) (view self.new) }
         ensures reads { (view self.new).reads ≡ (view self.old).reads }
         ensures cause { IsErr result → Rose (view self.old).disk_faults (view self.new).disk_faults };

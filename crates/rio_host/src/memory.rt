@@ -15,7 +15,7 @@ use std::alloc::Global;
 
 /// A file and a text in memory. It remembers all calls that changed it, and answers for every moment.
 ///
-/// A call that finds no memory for what it has to keep fails, and is as if it had not been made.
+/// A call that finds no memory for what it has to keep fails, and leaves file and text as they were.
 #[derive(Drop)]
 pub struct MemHost {
     recording: Recording,
@@ -98,7 +98,8 @@ impl Host for MemHost {
 
     fn read(&mut self, place: u64, into: &mut [u8]) -> Result<(), Failed>
         requires { IsWithin (view_of self.old) (place + length into.old) }
-        ensures bytes { OnOk result ((bytes : List ℕ) → (view_of self.old).holds ≡ Some bytes → Has bytes place into.new) }
+        ensures bytes { OnOk result
+            ((bytes : List ℕ) → (view_of self.old).holds ≡ Some bytes → Has bytes place into.new) }
         ensures disk { OnDisk Same (view_of self.old) (view_of self.new) }
         ensures holds { (view_of self.new).holds ≡ (view_of self.old).holds }
         ensures reads { Rose (view_of self.old).reads (view_of self.new).reads }
@@ -121,13 +122,16 @@ impl Host for MemHost {
     fn write(&mut self, place: u64, bytes: &[u8]) -> Result<(), Failed>
         requires within { IsWithin (view_of self.old) place }
         requires fits { place + length bytes.now < 2 ^ 64 }
-        ensures written { OnOk result (Becomes (Put place bytes.now) (view_of self.old).holds (view_of self.new).holds) }
+        ensures written { OnOk result
+            (Becomes (Put place bytes.now) (view_of self.old).holds (view_of self.new).holds) }
         ensures disk { OnDisk (Torn place (length bytes.now)) (view_of self.old) (view_of self.new) }
         ensures reads { (view_of self.new).reads ≡ (view_of self.old).reads }
         ensures cause { IsErr result → Rose (view_of self.old).disk_faults (view_of self.new).disk_faults }
 
         ensures failed { OnErr result ((view_of self.new).holds ≡ (view_of self.old).holds) }
-        ensures fails { FailsOrRunsShort (Flies (Torn place (length bytes.now)) (view_of self.old) (view_of self.new)) (tally_of self.old) (tally_of self.new) result }
+        ensures fails { FailsOrRunsShort
+            (Flies (Torn place (length bytes.now)) (view_of self.old) (view_of self.new))
+            (tally_of self.old) (tally_of self.new) result }
     {
         if is_next_failing(&mut self.made, self.failing.as_slice()) {
             self.disk_faults = raised(self.disk_faults);
@@ -153,13 +157,16 @@ impl Host for MemHost {
         requires within { IsWithin (view_of self.old) place }
         requires aligned { place % 4 ≡ 0 }
         requires fits { place + 4 < 2 ^ 64 }
-        ensures written { OnOk result (Becomes (Put place (big_bytes 4 word)) (view_of self.old).holds (view_of self.new).holds) }
+        ensures written { OnOk result
+            (Becomes (Put place (big_bytes 4 word)) (view_of self.old).holds (view_of self.new).holds) }
         ensures disk { OnDisk (PutOrNot place (big_bytes 4 word)) (view_of self.old) (view_of self.new) }
         ensures reads { (view_of self.new).reads ≡ (view_of self.old).reads }
         ensures cause { IsErr result → Rose (view_of self.old).disk_faults (view_of self.new).disk_faults }
 
         ensures failed { OnErr result ((view_of self.new).holds ≡ (view_of self.old).holds) }
-        ensures fails { FailsOrRunsShort (Flies (PutOrNot place (big_bytes 4 word)) (view_of self.old) (view_of self.new)) (tally_of self.old) (tally_of self.new) result }
+        ensures fails { FailsOrRunsShort
+            (Flies (PutOrNot place (big_bytes 4 word)) (view_of self.old) (view_of self.new))
+            (tally_of self.old) (tally_of self.new) result }
     {
         if is_next_failing(&mut self.made, self.failing.as_slice()) {
             self.disk_faults = raised(self.disk_faults);
@@ -208,7 +215,8 @@ impl Host for MemHost {
     /// A say that fails says the half.
     fn say(&mut self, bytes: &[u8]) -> Result<(), Failed>
         ensures said { OnOk result (Becomes (Longer bytes.now) (view_of self.old).said (view_of self.new).said) }
-        ensures failed { OnErr result (Becomes (LongerByPart bytes.now) (view_of self.old).said (view_of self.new).said) }
+        ensures failed { OnErr result
+            (Becomes (LongerByPart bytes.now) (view_of self.old).said (view_of self.new).said) }
         ensures time { Elapses (view_of self.old) (view_of self.new) (Speaking bytes.now (view_of self.old)) }
         ensures holds { (view_of self.new).holds ≡ (view_of self.old).holds }
         ensures reads { (view_of self.new).reads ≡ (view_of self.old).reads }
@@ -216,7 +224,8 @@ impl Host for MemHost {
         ensures say_faults { (view_of self.old).say_faults ≤ (view_of self.new).say_faults }
         ensures cause { IsErr result → Rose (view_of self.old).say_faults (view_of self.new).say_faults }
 
-        ensures fails { FailsOrRunsShort (SaysInParts (view_of self.old) (view_of self.new)) (tally_of self.old) (tally_of self.new) result }
+        ensures fails { FailsOrRunsShort (SaysInParts (view_of self.old) (view_of self.new))
+            (tally_of self.old) (tally_of self.new) result }
     {
         if is_next_failing(&mut self.made, self.failing.as_slice()) {
             self.say_faults = raised(self.say_faults);

@@ -12,7 +12,8 @@ pub trait Source {
     /// is the end.
     fn read(&mut self, into: &mut [u8]) -> Result<usize, Failed>
         ensures length { IfOk result (λ n. n ≤ length into.old) }
-        ensures gives { IfOk result (λ n. Becomes (Gives n into.new) (view self.old).remaining (view self.new).remaining) }
+        ensures gives { IfOk result
+            (λ n. Becomes (Gives n into.new) (view self.old).remaining (view self.new).remaining) }
         ensures failed { OnErr result ((view self.new).remaining ≡ (view self.old).remaining) }
         ensures faults { (view self.old).faults ≤ (view self.new).faults }
         ensures cause { IsErr result → Rose (view self.old).faults (view self.new).faults };

@@ -42,7 +42,8 @@ impl Source for MemSource {
 
     fn read(&mut self, into: &mut [u8]) -> Result<usize, Failed>
         ensures length { IfOk result (λ n. n ≤ length into.old) }
-        ensures gives { IfOk result (λ n. Becomes (Gives n into.new) (input_of self.old).remaining (input_of self.new).remaining) }
+        ensures gives { IfOk result
+            (λ n. Becomes (Gives n into.new) (input_of self.old).remaining (input_of self.new).remaining) }
         ensures failed { OnErr result ((input_of self.new).remaining ≡ (input_of self.old).remaining) }
         ensures faults { (input_of self.old).faults ≤ (input_of self.new).faults }
         ensures cause { IsErr result → Rose (input_of self.old).faults (input_of self.new).faults }
@@ -83,7 +84,8 @@ impl Source for SureSource {
 
     fn read(&mut self, into: &mut [u8]) -> Result<usize, Failed>
         ensures length { IfOk result (λ n. n ≤ length into.old) }
-        ensures gives { IfOk result (λ n. Becomes (Gives n into.new) (sure_input_of self.old).remaining (sure_input_of self.new).remaining) }
+        ensures gives { IfOk result
+            (λ n. Becomes (Gives n into.new) (sure_input_of self.old).remaining (sure_input_of self.new).remaining) }
         ensures sure { IsOk result }
     {
         Ok(self.rest.give(into))
