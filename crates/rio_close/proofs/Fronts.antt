@@ -8,17 +8,17 @@ use Rattle.rio_head.specs.declared.head.FileHead.{FileHead}
 use Rattle.rio_head.specs.declared.dir.DirRecord.{DirRecord}
 use Rattle.rio_head.specs.declared.fault.FileFault.TheVariants.{NotClosed}
 use Rattle.rio_head.specs.declared.fault.HeadFault.{HeadFault}
-use Rattle.rio_head.specs.Head.{head_at}
+use Rattle.rio_head.specs.Head.{fault_at, head_at}
 use Rattle.rio_head.specs.Dir.{dir_at}
 use Rattle.rio_head.proofs.HeadCut.{head_in_front}
 use Rattle.rio_head.proofs.DirCut.{dir_in_front_lem}
-use Rattle.rio_meaning.specs.Closed.{fault, closed_head, closed_dir, or_bad_dir}
+use Rattle.rio_meaning.specs.Closed.{closed_head, closed_dir, or_bad_dir}
 
 abbrev Headed : Type 0
 Headed = Result FileHead HeadFault
 
 abbrev tested : List ℕ → Headed → Headed
-tested file read = read >>= λ head. cond (ltb (length file) head.end) (Err (fault 12 NotClosed)) (Ok head)
+tested file read = read >>= λ head. cond (ltb (length file) head.end) (Err (fault_at 12 NotClosed)) (Ok head)
 
 module _ (file front : List ℕ) (is : front ≡ take 100 file) where
   whole_head : (read : Headed) → read ≡ head_at front → head_at file ≡ read
@@ -28,7 +28,7 @@ module _ (file front : List ℕ) (is : front ≡ take 100 file) where
   unfolding closed_head
   head_fails e read = ap (tested file) (whole_head (Err e) read)
 
-  pub head_late : (h : FileHead) → Ok h ≡ head_at front → length file < h.end → closed_head file ≡ Err (fault 12 NotClosed)
+  pub head_late : (h : FileHead) → Ok h ≡ head_at front → length file < h.end → closed_head file ≡ Err (fault_at 12 NotClosed)
   unfolding closed_head
   head_late h read lt = let late : ltb (length file) h.end ≡ true = lt-ltb _ _ lt in ap (tested file) (whole_head (Ok h) read) ∙ rw late refl
 

@@ -13,7 +13,8 @@ use Rattle.rio_key.proofs.KeyFront.{key_in_front_lem, key_from_front_lem}
 use Rattle.rio_key.proofs.KeyRecord.{key_record, key_whole}
 use Rattle.rio_head.specs.declared.fault.FileFault.TheVariants.{BadKeyList}
 use Rattle.rio_head.specs.declared.fault.HeadFault.{HeadFault}
-use Rattle.rio_meaning.specs.Closed.{fault, or_bad_key, or_bad_list, data_at, file_at, listed_at}
+use Rattle.rio_head.specs.Head.{fault_at}
+use Rattle.rio_meaning.specs.Closed.{or_bad_key, or_bad_list, data_at, file_at, listed_at}
 use Rattle.rio_close.specs.Opens.{IsRecordAt, Opens, listed_in}
 use Rattle.rio_close.specs.declared.fault.ReportFault.{ReportFault}
 
@@ -59,25 +60,25 @@ listed_same file place lt =
 abbrev NoRecord : List ℕ → Type 0
 NoRecord bytes = (length bytes < 4) ⊎ ((2 ^ 31 ≤ big_number 4 bytes) × (big_number 4 bytes < 2 ^ 32))
 
-no_key : (place : ℕ) (bytes : List ℕ) (read : Keyed) → NoRecord bytes → key_at (at place bytes) ≡ read → or_bad_key place read ≡ Err (fault place BadKeyList)
+no_key : (place : ℕ) (bytes : List ℕ) (read : Keyed) → NoRecord bytes → key_at (at place bytes) ≡ read → or_bad_key place read ≡ Err (fault_at place BadKeyList)
 no_key place bytes (Err e) none is = refl
 no_key place bytes (Ok h) none is =
     absurd (⊎_elim (λ few. omega (arith, key_whole place bytes h is, few)) (λ much. omega (arith, (key_record place bytes h much.1 is).small, much.0)) none)
 
-pub listed_none : (file : List ℕ) (place : ℕ) → (length (drop place file) < 4) ⊎ ((2 ^ 31 ≤ big_number 4 (drop place file)) × (big_number 4 (drop place file) < 2 ^ 32)) → listed_at file place ≡ Err (fault place BadKeyList)
+pub listed_none : (file : List ℕ) (place : ℕ) → (length (drop place file) < 4) ⊎ ((2 ^ 31 ≤ big_number 4 (drop place file)) × (big_number 4 (drop place file) < 2 ^ 32)) → listed_at file place ≡ Err (fault_at place BadKeyList)
 unfolding listed_at
 listed_none file place none =
     ap (λ (k : Result KeyHead HeadFault). k >>= λ key. or_bad_list place (key_list_at (data_at file place key)))
     (no_key place (drop place file) (key_at (file_at file place)) none refl)
 
 -- a key that ends behind the bytes leaves no count
-pub no_count : (place keylen : ℕ) (bytes : List ℕ) → length bytes < keylen → or_bad_list place (key_list_at (at (place + keylen) (drop keylen bytes))) ≡ Err (fault place BadKeyList)
+pub no_count : (place keylen : ℕ) (bytes : List ℕ) → length bytes < keylen → or_bad_list place (key_list_at (at (place + keylen) (drop keylen bytes))) ≡ Err (fault_at place BadKeyList)
 unfolding key_list_at
 no_count place keylen bytes lt =
     let none : drop keylen bytes ≡ [] = drop_all keylen bytes (omega (arith, lt)) in
     ap (λ (b : List ℕ). or_bad_list place (key_list_at (at (place + keylen) b))) none ∙ refl
 
-pub listed_past : (place : ℕ) (bytes : List ℕ) (h : KeyHead) → key_at (at place bytes) ≡ Ok h → length bytes < h.keylen → listed_in place bytes ≡ Err (fault place BadKeyList)
+pub listed_past : (place : ℕ) (bytes : List ℕ) (h : KeyHead) → key_at (at place bytes) ≡ Ok h → length bytes < h.keylen → listed_in place bytes ≡ Err (fault_at place BadKeyList)
 unfolding listed_in
 listed_past place bytes h is lt =
     ap (λ (k : Keyed). or_bad_key place k >>= λ key. or_bad_list place (key_list_at (at (place + key.keylen) (drop key.keylen bytes)))) is ∙ no_count place h.keylen bytes lt

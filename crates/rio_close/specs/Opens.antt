@@ -6,7 +6,8 @@ use Rattle.rio_key.specs.declared.head.KeyHead.{KeyHead}
 use Rattle.rio_key.specs.Key.{key_at}
 use Rattle.rio_key.specs.KeyList.{key_list_at}
 use Rattle.rio_head.specs.declared.fault.HeadFault.{HeadFault}
-use Rattle.rio_meaning.specs.Closed.{fault, or_bad_key, or_bad_list}
+use Rattle.rio_head.specs.Head.{fault_at}
+use Rattle.rio_meaning.specs.Closed.{or_bad_key, or_bad_list}
 use Rattle.rio_host.specs.Host.{View}
 use Rattle.rio_close.specs.declared.fault.ReportFault.{ReportFault}
 use Rattle.rio_close.specs.declared.fault.ReportFault.TheVariants.{BadFile, NoMemory, HostFault, SayFault}
@@ -14,7 +15,7 @@ use Rattle.rio_close.specs.declared.fault.ReportFault.TheVariants.{BadFile, NoMe
 -- the answer is what the bytes give, unless memory ran out or the host failed
 abbrev pub Opens : {X : Type 0} → Result X ReportFault → Result X HeadFault → Type 0
 Opens (Ok x) read = read ≡ Ok x
-Opens (Err (BadFile place kind)) read = read ≡ Err (fault place kind)
+Opens (Err (BadFile place kind)) read = read ≡ Err (fault_at place kind)
 Opens (Err NoMemory) read = Unit {0}
 Opens (Err HostFault) read = Unit {0}
 Opens (Err SayFault) read = Unit {0}

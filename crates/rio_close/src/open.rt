@@ -1,6 +1,6 @@
 ghost use Rattle.std.specs.Prelude.{◌≡◌};
 ghost use Rattle.rio_host.specs.OnlyReads.{OnlyReads};
-ghost use Rattle.rio_meaning.specs.Closed.{closed_of};
+ghost use Rattle.rio_meaning.specs.Closed.{closed_file};
 ghost use Rattle.rio_close.specs.Causes.{IsHostCause};
 ghost use Rattle.rio_close.specs.Opens.{OpensTold};
 
@@ -13,9 +13,9 @@ use std::alloc::Global;
 /// The file as its header, its directory record and its key list tell it, with nothing else of the file
 /// read. BadFile is the first rule that these break, with its place. HostFault comes only where a call
 /// on the file failed, and SayFault never.
-#[tactic(auto, unfolding(rio_meaning::specs::Closed::closed_of))]
+#[tactic(auto, unfolding(rio_meaning::specs::Closed::closed_file))]
 pub fn open_closed<H: Host>(alloc: Global, host: &mut H) -> Result<Closed, ReportFault>
-    ensures exact { OpensTold (H.view host.old) result closed_of }
+    ensures exact { OpensTold (H.view host.old) result closed_file }
     ensures calls { OnlyReads (H.view host.old) (H.view host.new) }
     ensures cause { IsHostCause (H.view host.old) (H.view host.new) result }
 {

@@ -8,10 +8,22 @@ use Rattle.rio_head.specs.Form.{place_len, is_large_head}
 use Rattle.rio_head.specs.declared.head.FileHead.{FileHead}
 use Rattle.rio_head.specs.declared.fault.HeadFault.{HeadFault}
 use Rattle.rio_head.specs.declared.fault.FileFault.{FileFault}
-use Rattle.rio_head.specs.declared.fault.FileFault.TheVariants.{NotRoot, Short, BadBegin, BadUnits}
+use Rattle.rio_head.specs.declared.fault.FileFault.TheVariants.{NotRoot, Short, BadBegin, BadUnits, NotClosed, BadDir, BadKeyList, Compressed, BadInfo}
 
 abbrev pub fault_at : ℕ → FileFault → HeadFault
 fault_at place kind = record { place = place; kind = kind }
+
+-- the kinds of fault that a header can have
+abbrev pub IsHeaderKind : FileFault → Type 0
+IsHeaderKind NotRoot = Unit {0}
+IsHeaderKind Short = Unit {0}
+IsHeaderKind BadBegin = Unit {0}
+IsHeaderKind BadUnits = Unit {0}
+IsHeaderKind NotClosed = ⊥
+IsHeaderKind BadDir = ⊥
+IsHeaderKind BadKeyList = ⊥
+IsHeaderKind Compressed = ⊥
+IsHeaderKind BadInfo = ⊥
 
 -- a field that isn't whole is a fault of the header
 abbrev pub whole : {A : Type 0} → Result A Shortage → Result A HeadFault

@@ -1,6 +1,6 @@
-ghost use Rattle.std.specs.Prelude.{◌≡◌, IfOk};
+ghost use Rattle.std.specs.Prelude.{◌≡◌, IfErr, IfOk};
 ghost use Rattle.rio_head.specs.Form.{place_len};
-ghost use Rattle.rio_head.specs.Head.{BeginsAsHead, behind_at, head_at, header_at, units_place_of};
+ghost use Rattle.rio_head.specs.Head.{BeginsAsHead, IsHeaderKind, behind_at, head_at, header_at, units_place_of};
 ghost use Rattle.rio_head.specs.declared.head.FileHead.{FileHead as Header};
 
 use crate::take::{take_place, take_uuid};
@@ -51,7 +51,8 @@ fn units_of(is_large: bool) -> u8
 // The fields behind the place of the first record.
 #[tactic(auto, unfolding(crate::specs::Head::behind_at))]
 fn take_behind(cursor: &mut Cursor, version: u32) -> Result<FileHead, HeadFault>
-    ensures { result ≡ behind_at version cursor.old }
+    ensures exact { result ≡ behind_at version cursor.old }
+    ensures kinds { IfErr result (λ fault. IsHeaderKind fault.kind) }
 {
     let is_large = version >= 1_000_000;
     let end = take_place(cursor, is_large)?;
@@ -85,7 +86,8 @@ fn take_behind(cursor: &mut Cursor, version: u32) -> Result<FileHead, HeadFault>
 // The header, from its first field on.
 #[tactic(auto, unfolding(crate::specs::Head::header_at))]
 fn take_head(cursor: &mut Cursor) -> Result<FileHead, HeadFault>
-    ensures { result ≡ header_at cursor.old }
+    ensures exact { result ≡ header_at cursor.old }
+    ensures kinds { IfErr result (λ fault. IsHeaderKind fault.kind) }
 {
     if cursor.take_u32()? != 0x726F_6F74 {
         return Err(HeadFault {
@@ -109,6 +111,7 @@ fn take_head(cursor: &mut Cursor) -> Result<FileHead, HeadFault>
 /// BadUnits at 32, or at 40 in the large form, where the places have another length than this form's.
 pub fn read_head(bytes: &[u8]) -> Result<FileHead, HeadFault>
     ensures exact { result ≡ head_at bytes.now }
+    ensures kinds { IfErr result (λ fault. IsHeaderKind fault.kind) }
     ensures found { IfOk result (λ head. BeginsAsHead head bytes.now) }
     ensures only { (head : Header) → BeginsAsHead head bytes.now → result ≡ Ok head }
 {

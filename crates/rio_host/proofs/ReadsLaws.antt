@@ -1,9 +1,9 @@
 -- Calls that only look at the file, one after the other, and a say behind them.
-use Rattle.std.proofs.Common.{◌≡◌, ◌++◌, length, ap, None, inl, inr, ⊎_elim, ℕ, ◌≤◌, List, Option, Some, subst, sym, refl, ◌∙◌, arith}
+use Rattle.std.proofs.Common.{◌≡◌, ◌++◌, [], take, length, ap, None, inl, inr, ⊎_elim, ℕ, ◌≤◌, List, Option, Some, subst, sym, refl, ◌∙◌, arith}
 use Rattle.std.proofs.lemmas.List.{append-nil, take_all}
 use Rattle.rio_host.specs.Image.{Same}
 use Rattle.rio_host.specs.Host.{View, Leaves, Elapses, OnDisk, IsLawful, Rose, Speaking, Unwritten, Becomes, Longer, LongerByPart}
-use Rattle.rio_host.specs.OnlyReads.{OnlyReads, OnlySays}
+use Rattle.rio_host.specs.OnlyReads.{Grown, OnlyReads, OnlySays}
 
 pub reads_none : (v : View) → OnlyReads v v
 reads_none v = record {
@@ -89,11 +89,17 @@ pub said_all : (text : List ℕ) (old new : Option (List ℕ)) → Becomes (Long
 said_all text (Some s) new becomes = (becomes.0, becomes.1, (length text, becomes.2 ∙ ap (λ (t : List ℕ). s ++ t) (sym (take_all (length text) text (omega arith)))))
 said_all text None new becomes = becomes
 
+-- a front of a text is some text
+pub said_grows : (text : List ℕ) (old new : Option (List ℕ)) → Becomes (LongerByPart text) old new → Becomes Grown old new
+said_grows text (Some s) new becomes = (becomes.0, becomes.1, (take becomes.2.0 text, becomes.2.1))
+said_grows text None new becomes = becomes
+
 -- only looking says nothing, whatever text belongs to the file
 pub reads_says : {old new : View} (text_of : List ℕ → List ℕ) → OnlyReads old new → OnlySays text_of old new
 reads_says {old} {new} text_of calls = record {
   holds = calls.holds;
   images = reads_unwritten calls;
+  text = said_grows [] old.said new.said (said_nothing [] old.said new.said calls.said);
   part = λ file told. said_nothing (text_of file) old.said new.said calls.said;
   time = λ file told. record {
     later = calls.time.later;
@@ -113,6 +119,7 @@ reads_then_says {a} {b} {c} text_of text law calls is part time holds reads disk
     record {
       holds = holds ∙ calls.holds;
       images = speaks_unwritten text whole;
+      text = subst (λ (o : Option (List ℕ)). Becomes Grown o c.said) calls.said (said_grows text b.said c.said part);
       part = λ file told. subst (λ (t : List ℕ). Becomes (LongerByPart t) a.said c.said) (is file told) (subst (λ (o : Option (List ℕ)). Becomes (LongerByPart text) o c.said) calls.said part);
       time = λ file told. subst (λ (t : List ℕ). Elapses a c (Speaking t a)) (is file told) whole;
       reads = omega (arith, calls.reads, reads);

@@ -52,7 +52,7 @@ pub record IsLawful (v : View) : Type 0 where
   -- a stop leaves the text that was said
   pub text : (image said all : List ℕ) → Leaves v image said → v.said ≡ Some all → said ≡ all
   -- the disk as it reads is one of its images
-  pub as_read : (image all : List ℕ) → v.holds ≡ Some image → v.said ≡ Some all → Leaves v image all
+  pub as_read : (image : List ℕ) → v.holds ≡ Some image → (said : List ℕ) × Leaves v image said
 
 -- ---- what is told
 

@@ -40,9 +40,9 @@ pub mem_lawful : (m : Memory) (d s r : ℕ) → IsStill m → IsLawful (mem_view
 mem_lawful m d s r still = record {
   earlier = λ t u image said le left. (left.0, omega (arith, left.1, le), left.2, left.3);
   text = λ image said all left told. text_now m image said still left ∙ same_Some (disk_of m).text all told;
-  as_read = λ image all holds says.
+  as_read = λ image holds.
       let disk = disk_of m in
       let is : image ≡ disk.contents = sym (same_Some disk.contents image holds) in
-      let said : all ≡ disk.text ++ take 0 disk.speaking = sym (same_Some disk.text all says) ∙ sym (append-nil disk.text) in
-      now_left m image all (subst (λ (l : List ℕ). Flown disk.base disk.flight l) (sym is) (sound (at_first m.first) m.calls refl), (0, said));
+      let flown = subst (λ (l : List ℕ). Flown disk.base disk.flight l) (sym is) (sound (at_first m.first) m.calls refl) in
+      (disk.text, now_left m image disk.text (flown, (0, sym (append-nil disk.text))));
 }

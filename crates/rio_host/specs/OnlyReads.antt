@@ -1,5 +1,5 @@
 -- Calls that look at a host's file and say a text, and write nothing.
-use Rattle.std.specs.Prelude.{◌≡◌, ℕ, ◌≤◌, List, Some}
+use Rattle.std.specs.Prelude.{◌≡◌, ℕ, ◌≤◌, List, ◌++◌, Some}
 use Rattle.rio_host.specs.Host.{View, Becomes, Elapses, Leaves, LongerByPart, Speaking, Unwritten}
 
 -- The file and the text are as before, and a stop leaves what it might have left before.
@@ -11,11 +11,16 @@ pub record OnlyReads (old new : View) : Type 0 where
   pub disk_faults : old.disk_faults ≤ new.disk_faults
   pub say_faults : new.say_faults ≡ old.say_faults
 
+-- more may stand behind it
+abbrev pub Grown : List ℕ → List ℕ → Type 0
+Grown old new = (more : List ℕ) × (new ≡ old ++ more)
+
 -- The file is as before. At most a front of the text that belongs to it was said, and a stop leaves an image that it might
 -- have left before, with such a front.
 pub record OnlySays (text_of : List ℕ → List ℕ) (old new : View) : Type 0 where
   pub holds : new.holds ≡ old.holds
   pub images : Unwritten old new
+  pub text : Becomes Grown old.said new.said
   pub part : (file : List ℕ) → old.holds ≡ Some file → Becomes (LongerByPart (text_of file)) old.said new.said
   pub time : (file : List ℕ) → old.holds ≡ Some file → Elapses old new (Speaking (text_of file) old)
   pub reads : old.reads ≤ new.reads

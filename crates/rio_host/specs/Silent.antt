@@ -19,5 +19,5 @@ pub silent_lawful : (disk_faults say_faults reads : ℕ) → IsLawful (silent_vi
 silent_lawful d s r = record {
   earlier = λ t u image said le left. tt;
   text = λ image said all left told. absurd (none-some all told);
-  as_read = λ image all a b. tt;
+  as_read = λ image told. absurd (none-some image told);
 }

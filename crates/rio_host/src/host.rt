@@ -1,4 +1,4 @@
-ghost use Rattle.std.specs.Prelude.{◌≡◌, ◌≤◌, ◌<◌, ◌^◌, ◌+◌, ◌%◌, ℕ, List, Some, length, IfOk, OnOk, IsErr, OnErr};
+ghost use Rattle.std.specs.Prelude.{◌≡◌, ◌≤◌, ◌<◌, ◌^◌, ◌+◌, ◌%◌, ℕ, List, Some, length, IfOk, OnOk, IsOk, IsErr, OnErr};
 ghost use Rattle.byteorder.specs.Endian.{big_bytes};
 ghost use Rattle.rio_host.specs.Image.{Has, Torn, Put, PutOrNot, Same};
 ghost use Rattle.rio_host.specs.Host.{View, OnDisk, Elapses, Speaking, Becomes, Rose, Longer, LongerByPart, IsWithin, IsLength, IsQuiet, IsLawful};
@@ -23,6 +23,7 @@ pub trait Host {
         ensures disk { OnDisk Same (view self.old) (view self.new) }
         ensures holds { (view self.new).holds ≡ (view self.old).holds }
         ensures reads { Rose (view self.old).reads (view self.new).reads }
+        ensures counted { IsOk result → (view self.new).disk_faults ≡ (view self.old).disk_faults }
         ensures cause { IsErr result → Rose (view self.old).disk_faults (view self.new).disk_faults };
 
     /// Fills `into` with the file's bytes from `place` on.
@@ -33,6 +34,7 @@ pub trait Host {
         ensures disk { OnDisk Same (view self.old) (view self.new) }
         ensures holds { (view self.new).holds ≡ (view self.old).holds }
         ensures reads { Rose (view self.old).reads (view self.new).reads }
+        ensures counted { IsOk result → (view self.new).disk_faults ≡ (view self.old).disk_faults }
         ensures cause { IsErr result → Rose (view self.old).disk_faults (view self.new).disk_faults };
 
     /// Puts these bytes at `place`, which makes the file longer where they pass its end.
@@ -42,17 +44,18 @@ pub trait Host {
         ensures written { OnOk result (Becomes (Put place bytes.now) (view self.old).holds (view self.new).holds) }
         ensures disk { OnDisk (Torn place (length bytes.now)) (view self.old) (view self.new) }
         ensures reads { (view self.new).reads ≡ (view self.old).reads }
+        ensures counted { IsOk result → (view self.new).disk_faults ≡ (view self.old).disk_faults }
         ensures cause { IsErr result → Rose (view self.old).disk_faults (view self.new).disk_faults };
 
     /// Puts a word at `place`, its highest byte first. A stop leaves all of it or nothing.
     fn write_word(&mut self, place: u64, word: u32) -> Result<(), Failed>
         requires within { IsWithin (view self.old) place }
         requires aligned { place % 4 ≡ 0 }
-        requires fits { place + 4 < 2 ^ 64 }
         ensures written { OnOk result
             (Becomes (Put place (big_bytes 4 word)) (view self.old).holds (view self.new).holds) }
         ensures disk { OnDisk (PutOrNot place (big_bytes 4 word)) (view self.old) (view self.new) }
         ensures reads { (view self.new).reads ≡ (view self.old).reads }
+        ensures counted { IsOk result → (view self.new).disk_faults ≡ (view self.old).disk_faults }
         ensures cause { IsErr result → Rose (view self.old).disk_faults (view self.new).disk_faults };
 
     /// Brings all writes to the disk. After one that succeeds, a stop leaves what reads give.
@@ -61,6 +64,7 @@ pub trait Host {
         ensures disk { OnDisk Same (view self.old) (view self.new) }
         ensures holds { (view self.new).holds ≡ (view self.old).holds }
         ensures reads { (view self.new).reads ≡ (view self.old).reads }
+        ensures counted { IsOk result → (view self.new).disk_faults ≡ (view self.old).disk_faults }
         ensures cause { IsErr result → Rose (view self.old).disk_faults (view self.new).disk_faults };
 
     /// Puts these bytes at the end of the text that was said, or a front of them where it fails.
@@ -72,6 +76,7 @@ pub trait Host {
         ensures reads { (view self.new).reads ≡ (view self.old).reads }
         ensures disk_faults { (view self.new).disk_faults ≡ (view self.old).disk_faults }
         ensures say_faults { (view self.old).say_faults ≤ (view self.new).say_faults }
+        ensures counted { IsOk result → (view self.new).say_faults ≡ (view self.old).say_faults }
         ensures cause { IsErr result → Rose (view self.old).say_faults (view self.new).say_faults };
 
     ghost lawful: { (host : Self) → IsLawful (view host) };

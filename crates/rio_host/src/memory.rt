@@ -1,4 +1,4 @@
-ghost use Rattle.std.specs.Prelude.{◌≡◌, ◌≤◌, ◌<◌, ◌+◌, ◌%◌, ◌^◌, ◌↔◌, ℕ, List, [], Some, length, IfOk, OnOk, OnErr, IsErr, IsTrue, Contains};
+ghost use Rattle.std.specs.Prelude.{◌≡◌, ◌≤◌, ◌<◌, ◌+◌, ◌%◌, ◌^◌, ◌↔◌, ℕ, List, [], Some, length, IfOk, OnOk, OnErr, IsErr, IsOk, IsTrue, Contains};
 ghost use Rattle.byteorder.specs.Endian.{big_bytes};
 ghost use Rattle.rio_host.specs.Failing.{next_count, FailsByNumber, FailsOrRunsShort};
 ghost use Rattle.rio_host.specs.Flight.{Flies, SaysInParts};
@@ -83,6 +83,7 @@ impl Host for MemHost {
         ensures disk { OnDisk Same (view_of self.old) (view_of self.new) }
         ensures holds { (view_of self.new).holds ≡ (view_of self.old).holds }
         ensures reads { Rose (view_of self.old).reads (view_of self.new).reads }
+        ensures counted { IsOk result → (view_of self.new).disk_faults ≡ (view_of self.old).disk_faults }
         ensures cause { IsErr result → Rose (view_of self.old).disk_faults (view_of self.new).disk_faults }
 
         ensures fails { FailsByNumber (tally_of self.old) (tally_of self.new) result }
@@ -103,6 +104,7 @@ impl Host for MemHost {
         ensures disk { OnDisk Same (view_of self.old) (view_of self.new) }
         ensures holds { (view_of self.new).holds ≡ (view_of self.old).holds }
         ensures reads { Rose (view_of self.old).reads (view_of self.new).reads }
+        ensures counted { IsOk result → (view_of self.new).disk_faults ≡ (view_of self.old).disk_faults }
         ensures cause { IsErr result → Rose (view_of self.old).disk_faults (view_of self.new).disk_faults }
 
         ensures fails { FailsByNumber (tally_of self.old) (tally_of self.new) result }
@@ -126,6 +128,7 @@ impl Host for MemHost {
             (Becomes (Put place bytes.now) (view_of self.old).holds (view_of self.new).holds) }
         ensures disk { OnDisk (Torn place (length bytes.now)) (view_of self.old) (view_of self.new) }
         ensures reads { (view_of self.new).reads ≡ (view_of self.old).reads }
+        ensures counted { IsOk result → (view_of self.new).disk_faults ≡ (view_of self.old).disk_faults }
         ensures cause { IsErr result → Rose (view_of self.old).disk_faults (view_of self.new).disk_faults }
 
         ensures failed { OnErr result ((view_of self.new).holds ≡ (view_of self.old).holds) }
@@ -156,11 +159,11 @@ impl Host for MemHost {
     fn write_word(&mut self, place: u64, word: u32) -> Result<(), Failed>
         requires within { IsWithin (view_of self.old) place }
         requires aligned { place % 4 ≡ 0 }
-        requires fits { place + 4 < 2 ^ 64 }
         ensures written { OnOk result
             (Becomes (Put place (big_bytes 4 word)) (view_of self.old).holds (view_of self.new).holds) }
         ensures disk { OnDisk (PutOrNot place (big_bytes 4 word)) (view_of self.old) (view_of self.new) }
         ensures reads { (view_of self.new).reads ≡ (view_of self.old).reads }
+        ensures counted { IsOk result → (view_of self.new).disk_faults ≡ (view_of self.old).disk_faults }
         ensures cause { IsErr result → Rose (view_of self.old).disk_faults (view_of self.new).disk_faults }
 
         ensures failed { OnErr result ((view_of self.new).holds ≡ (view_of self.old).holds) }
@@ -193,6 +196,7 @@ impl Host for MemHost {
         ensures disk { OnDisk Same (view_of self.old) (view_of self.new) }
         ensures holds { (view_of self.new).holds ≡ (view_of self.old).holds }
         ensures reads { (view_of self.new).reads ≡ (view_of self.old).reads }
+        ensures counted { IsOk result → (view_of self.new).disk_faults ≡ (view_of self.old).disk_faults }
         ensures cause { IsErr result → Rose (view_of self.old).disk_faults (view_of self.new).disk_faults }
 
         ensures failed { OnErr result (Flies Same (view_of self.old) (view_of self.new)) }
@@ -222,6 +226,7 @@ impl Host for MemHost {
         ensures reads { (view_of self.new).reads ≡ (view_of self.old).reads }
         ensures disk_faults { (view_of self.new).disk_faults ≡ (view_of self.old).disk_faults }
         ensures say_faults { (view_of self.old).say_faults ≤ (view_of self.new).say_faults }
+        ensures counted { IsOk result → (view_of self.new).say_faults ≡ (view_of self.old).say_faults }
         ensures cause { IsErr result → Rose (view_of self.old).say_faults (view_of self.new).say_faults }
 
         ensures fails { FailsOrRunsShort (SaysInParts (view_of self.old) (view_of self.new))

@@ -1,4 +1,4 @@
-ghost use Rattle.std.specs.Prelude.{◌≡◌, ◌≤◌, ◌<◌, ◌+◌, ◌^◌, length, IfOk};
+ghost use Rattle.std.specs.Prelude.{◌≡◌, ◌≤◌, length, IfOk};
 ghost use Rattle.rio_host.specs.Replay.{put_at};
 
 use crate::call::Call;
@@ -29,8 +29,7 @@ impl Model for Recording {
 
 // The file with these bytes at this place.
 fn spliced(alloc: Global, file: &[u8], place: usize, bytes: &[u8]) -> Result<Bytes, NoMemory>
-    requires within { place ≤ length file.now }
-    requires fits { place + length bytes.now < 2 ^ 64 }
+    requires { place ≤ length file.now }
     ensures { IfOk result (λ next. next.bytes ≡ put_at file.now place bytes.now) }
 {
     let mut next = Bytes::from_slice(alloc, &file[..place])?;
@@ -42,7 +41,7 @@ fn spliced(alloc: Global, file: &[u8], place: usize, bytes: &[u8]) -> Result<Byt
 }
 
 impl Recording {
-    ghost use Rattle.std.specs.Prelude.{◌≡◌, ◌≤◌, ◌<◌, ◌+◌, ◌^◌, [], length, OnOk, OnErr};
+    ghost use Rattle.std.specs.Prelude.{◌≡◌, ◌≤◌, [], length, OnOk, OnErr};
     ghost use Rattle.rio_host.specs.Replay.{Memory, and_then, disk_of};
 
     /// A file with this image, all of it on the disk, and no text.
@@ -77,8 +76,7 @@ impl Recording {
 
     /// A write that reads give.
     pub fn write(&mut self, place: u64, bytes: &[u8]) -> Result<(), NoMemory>
-        requires within { place ≤ length (disk_of self.old).contents }
-        requires fits { place + length bytes.now < 2 ^ 64 }
+        requires { place ≤ length (disk_of self.old).contents }
         ensures ok { OnOk result (self.new ≡ and_then self.old (Call.Write place bytes.now)) }
         ensures err { OnErr result (self.new ≡ self.old) }
     {
@@ -91,8 +89,7 @@ impl Recording {
 
     /// A word that reads give.
     pub fn write_word(&mut self, place: u64, word: u32) -> Result<(), NoMemory>
-        requires within { place ≤ length (disk_of self.old).contents }
-        requires fits { place + 4 < 2 ^ 64 }
+        requires { place ≤ length (disk_of self.old).contents }
         ensures ok { OnOk result (self.new ≡ and_then self.old (Call.Word place word)) }
         ensures err { OnErr result (self.new ≡ self.old) }
     {

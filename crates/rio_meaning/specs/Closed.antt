@@ -12,15 +12,11 @@ use Rattle.rio_key.specs.Key.{key_at}
 use Rattle.rio_key.specs.KeyList.{key_list_at}
 use Rattle.rio_head.specs.declared.head.FileHead.{FileHead}
 use Rattle.rio_head.specs.declared.dir.DirRecord.{DirRecord}
-use Rattle.rio_head.specs.declared.fault.FileFault.{FileFault}
 use Rattle.rio_head.specs.declared.fault.FileFault.TheVariants.{NotClosed, BadDir, BadKeyList}
 use Rattle.rio_head.specs.declared.fault.HeadFault.{HeadFault}
-use Rattle.rio_head.specs.Head.{head_at}
+use Rattle.rio_head.specs.Head.{fault_at, head_at}
 use Rattle.rio_head.specs.Dir.{dir_at}
 use Rattle.rio_meaning.specs.declared.closed.Closed.{Closed}
-
-abbrev pub fault : ℕ → FileFault → HeadFault
-fault place kind = record { place = place; kind = kind }
 
 -- reading at a place of a file
 abbrev pub file_at : List ℕ → ℕ → At
@@ -34,11 +30,11 @@ dir_place head = 100 + head.nbytes_name
 unfoldable pub closed_head : List ℕ → Result FileHead HeadFault
 closed_head file = do
   head ← head_at file
-  if nat_lt (length file) head.end then Err (fault 12 NotClosed) else Ok head
+  if nat_lt (length file) head.end then Err (fault_at 12 NotClosed) else Ok head
 
 abbrev pub or_bad_dir : ℕ → Result DirRecord Short → Result DirRecord HeadFault
 or_bad_dir place (Ok dir) = Ok dir
-or_bad_dir place (Err e) = Err (fault place BadDir)
+or_bad_dir place (Err e) = Err (fault_at place BadDir)
 
 -- the directory record, whole in the file
 abbrev pub closed_dir : List ℕ → ℕ → Result DirRecord HeadFault
@@ -51,11 +47,11 @@ data_at file place key = record { place = place + key.keylen; rest = drop key.ke
 -- a list that is unreadable: at its head's place, and at the place of the list's key for the count
 abbrev pub or_bad_list : {A : Type 0} → ℕ → Result (List KeyHead × A) ListFault → Result (List KeyHead) HeadFault
 or_bad_list place (Ok x) = Ok x.0
-or_bad_list place (Err e) = Err (fault (unwrap_or e.head place) BadKeyList)
+or_bad_list place (Err e) = Err (fault_at (unwrap_or e.head place) BadKeyList)
 
 abbrev pub or_bad_key : ℕ → Result KeyHead KeyFault → Result KeyHead HeadFault
 or_bad_key place (Ok key) = Ok key
-or_bad_key place (Err e) = Err (fault place BadKeyList)
+or_bad_key place (Err e) = Err (fault_at place BadKeyList)
 
 -- the heads of the key list whose key stands at a place
 unfoldable pub listed_at : List ℕ → ℕ → Result (List KeyHead) HeadFault
@@ -68,17 +64,18 @@ abbrev pub closed_keys : List ℕ → ℕ → Result (List KeyHead) HeadFault
 closed_keys file place = if place == 0 then Ok [] else listed_at file place
 
 -- the file, or the first rule that it breaks and the place where
-unfoldable pub closed_of : List ℕ → Result Closed HeadFault
-closed_of file = do
+unfoldable pub closed_file : List ℕ → Result Closed HeadFault
+closed_file file = do
   head ← closed_head file
   dir ← closed_dir file (dir_place head)
   keys ← closed_keys file dir.seek_keys
   Ok (record { head = head; dir = dir; keys = keys })
 
--- the first fault of the rules that a verb tests which reads neither classes nor values
+-- the fault, if there is one
 abbrev pub fault_of : {A : Type 0} → Result A HeadFault → Option HeadFault
 fault_of (Ok x) = None
 fault_of (Err e) = Some e
 
+-- the first fault of the rules that a verb tests which reads neither classes nor values
 abbrev pub first_fault : List ℕ → Option HeadFault
-first_fault file = fault_of (closed_of file)
+first_fault file = fault_of (closed_file file)

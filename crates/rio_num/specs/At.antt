@@ -6,8 +6,8 @@ pub record At : Type 0 where
   pub rest : List ℕ
 
 -- where the bytes end
-abbrev pub end_of : At → ℕ
-end_of s = s.place + length s.rest
+abbrev pub end_place : At → ℕ
+end_place s = s.place + length s.rest
 
 -- reading at a place of bytes whose first byte stands at base; outside them nothing is left
 abbrev pub standing_at : ℕ → ℕ → List ℕ → At
@@ -16,4 +16,4 @@ standing_at base place bytes = record { place = place; rest = if nat_lt place ba
 -- reading went on, or stands still, in the same bytes
 pub record GoesOn (old new : At) : Type 0 where
   pub forward : old.place ≤ new.place
-  pub same_end : end_of new ≡ end_of old
+  pub same_end : end_place new ≡ end_place old

@@ -3,8 +3,8 @@ use Rattle.std.proofs.Common.{◌≡◌, ℕ, List, ◌++◌, Result, Ok, refl, 
 use Rattle.rio_num.specs.Room.{Room, with_more}
 use Rattle.rio_head.specs.declared.fault.HeadFault.{HeadFault}
 use Rattle.rio_meaning.specs.declared.closed.Closed.{Closed}
-use Rattle.rio_meaning.specs.Closed.{closed_of}
-use Rattle.rio_meaning.specs.Listing.{listing_of, listing_text, text_of}
+use Rattle.rio_meaning.specs.Closed.{closed_file}
+use Rattle.rio_meaning.specs.Listing.{key_lines, ls_listing, lines_of}
 
 -- one piece more
 then_more : (old mid new : Room) (so_far more piece : List ℕ) → mid.bytes ≡ old.bytes ++ so_far → new ≡ with_more mid more → more ≡ piece → new.bytes ≡ old.bytes ++ (so_far ++ piece)
@@ -27,5 +27,5 @@ abbrev read_as : Closed → Result Closed HeadFault
 read_as closed = Ok closed
 
 -- the text of a file that is read
-pub listed_text : (file : List ℕ) (closed : Closed) → closed_of file ≡ Ok closed → listing_of closed.keys ≡ listing_text file
-listed_text file closed is = sym (ap text_of is)
+pub listed_text : (file : List ℕ) (closed : Closed) → closed_file file ≡ Ok closed → key_lines closed.keys ≡ ls_listing file
+listed_text file closed is = sym (ap lines_of is)

@@ -1,8 +1,10 @@
 ghost use Rattle.std.specs.Prelude.{◌≡◌, ◌≢◌, ◌++◌, ℕ, List, Some, Ok, Err, IfOk, OnOk, IsOkAnd};
-ghost use Rattle.rio_host.specs.Host.{Becomes, Longer, Rose};
+ghost use Rattle.rio_close.specs.Causes.{IsSayCause};
+ghost use Rattle.rio_host.specs.Host.{Becomes, Longer};
 ghost use Rattle.rio_host.specs.OnlyReads.{OnlySays};
-ghost use Rattle.rio_meaning.specs.Closed.{closed_of, fault};
-ghost use Rattle.rio_meaning.specs.Listing.{key_line, listing_of, listing_text, mark_of};
+ghost use Rattle.rio_head.specs.Head.{fault_at};
+ghost use Rattle.rio_meaning.specs.Closed.{closed_file};
+ghost use Rattle.rio_meaning.specs.Listing.{key_line, key_lines, ls_listing, mark_of};
 
 use rio_close::{ReportFault, open_closed};
 use rio_host::Host;
@@ -37,9 +39,9 @@ fn put_line(alloc: Global, text: &mut Bytes, key: &KeyHead) -> Result<(), NoMemo
 }
 
 // A line for each key, in order.
-#[tactic(auto, unfolding(rio_meaning::specs::Listing::listing_of))]
+#[tactic(auto, unfolding(rio_meaning::specs::Listing::key_lines))]
 fn listing(alloc: Global, keys: &[KeyHead]) -> Result<Bytes, NoMemory>
-    ensures { IfOk result (λ text. text.bytes ≡ listing_of keys.now) }
+    ensures { IfOk result (λ text. text.bytes ≡ key_lines keys.now) }
 {
     let mut text = Bytes::new(alloc);
     for key in keys {
@@ -54,13 +56,12 @@ fn listing(alloc: Global, keys: &[KeyHead]) -> Result<Bytes, NoMemory>
 /// said at once, after the last test; only a fault of the host can leave a front of them said.
 pub fn say_ls<H: Host>(alloc: Global, host: &mut H) -> Result<(), ReportFault>
     ensures done { OnOk result ((file : List ℕ) → (H.view host.old).holds ≡ Some file
-        → IsOkAnd (closed_of file) (λ c. Becomes (Longer (listing_of c.keys)) (H.view host.old).said (H.view host.new).said)) }
-    ensures bad_file { (place : ℕ) (kind : _) → result ≡ Err (ReportFault.BadFile place kind) → (file : List ℕ) → (H.view host.old).holds ≡ Some file → closed_of file ≡ Err (fault place kind) }
+        → IsOkAnd (closed_file file) (λ c. Becomes (Longer (key_lines c.keys)) (H.view host.old).said (H.view host.new).said)) }
+    ensures bad_file { (place : ℕ) (kind : _) → result ≡ Err (ReportFault.BadFile place kind) → (file : List ℕ) → (H.view host.old).holds ≡ Some file → closed_file file ≡ Err (fault_at place kind) }
     // Whatever the answer: nothing is written, and at most a front of the listing was said.
-    ensures calls { OnlySays listing_text (H.view host.old) (H.view host.new) }
+    ensures calls { OnlySays ls_listing (H.view host.old) (H.view host.new) }
     ensures nothing_said { result ≢ Ok tt → result ≢ Err ReportFault.SayFault → (H.view host.new).said ≡ (H.view host.old).said }
-    ensures host_fault { result ≡ Err ReportFault.HostFault → Rose (H.view host.old).disk_faults (H.view host.new).disk_faults }
-    ensures say_fault { result ≡ Err ReportFault.SayFault → Rose (H.view host.old).say_faults (H.view host.new).say_faults }
+    ensures cause { IsSayCause (H.view host.old) (H.view host.new) result }
 {
     let closed = open_closed(alloc, host)?;
     let text = listing(alloc, closed.keys.as_slice())?;

@@ -9,20 +9,21 @@ mod words;
 
 use rio_host::{FileHost, StdSource};
 use rio_num::{Bytes, Name, NoMemory, Words};
+use status::{Status, code, fault_text};
 use std::alloc::Global;
 use std::env;
-use std::io::Write;
+use std::io::{ErrorKind, Write};
 use std::process::ExitCode;
-
-use status::{Status, code, fault_text};
 use top::run;
 
-// The words behind the program's name.
+// The words behind the program's name: none where one of them is no text.
 fn words_of(rt: &HostRuntime) -> Result<Words, NoMemory> {
     let alloc = rt.alloc();
     let mut words = Words::new(alloc);
-    let Ok(all) = env::args(rt) else {
-        return Err(NoMemory);
+    let all = match env::args(rt) {
+        Ok(all) => all,
+        Err(error) if error.kind() == ErrorKind::OutOfMemory => return Err(NoMemory),
+        Err(_) => return Ok(words),
     };
     for word in all.skip(1) {
         words.push(Name::from_slice(alloc, word.as_bytes())?)?;

@@ -1,9 +1,11 @@
 //! The top call.
 ghost use Rattle.std.specs.Prelude.{◌≡◌, ◌≢◌, ◌↔◌, ℕ, List, Some, None, Err, IsOkAnd};
-ghost use Rattle.rio_host.specs.Host.{Becomes, Longer, Rose};
+ghost use Rattle.rio_host.specs.Host.{Becomes, Longer};
 ghost use Rattle.rio_host.specs.OnlyReads.{OnlySays};
-ghost use Rattle.rio_meaning.specs.Closed.{closed_of, fault};
-ghost use Rattle.rio_meaning.specs.Listing.{listing_of, listing_text};
+ghost use Rattle.rio_head.specs.Head.{fault_at};
+ghost use Rattle.rio_meaning.specs.Closed.{closed_file};
+ghost use Rattle.rio_meaning.specs.Listing.{key_lines, ls_listing};
+ghost use Rattle.rootio.specs.Status.{IsCause};
 ghost use Rattle.rootio.specs.Words.{form_of};
 
 use crate::status::Status;
@@ -24,13 +26,12 @@ pub fn run<H: Host, S: Source>(alloc: Global, words: &Words, host: &mut H, input
     ensures usage_alone { result ≡ Status.Usage → host.new ≡ host.old }
     ensures input { input.new ≡ input.old }
     ensures done { result ≡ Status.Done → (file : List ℕ) → (H.view host.old).holds ≡ Some file
-        → IsOkAnd (closed_of file) (λ c. Becomes (Longer (listing_of c.keys)) (H.view host.old).said (H.view host.new).said) }
-    ensures bad_file { (place : ℕ) (kind : _) → result ≡ Status.BadFile place kind → (file : List ℕ) → (H.view host.old).holds ≡ Some file → closed_of file ≡ Err (fault place kind) }
+        → IsOkAnd (closed_file file) (λ c. Becomes (Longer (key_lines c.keys)) (H.view host.old).said (H.view host.new).said) }
+    ensures bad_file { (place : ℕ) (kind : _) → result ≡ Status.BadFile place kind → (file : List ℕ) → (H.view host.old).holds ≡ Some file → closed_file file ≡ Err (fault_at place kind) }
     // Whatever the answer: nothing is written, and at most a front of the listing was said.
-    ensures calls { OnlySays listing_text (H.view host.old) (H.view host.new) }
+    ensures calls { OnlySays ls_listing (H.view host.old) (H.view host.new) }
     ensures nothing_said { result ≢ Status.Done → result ≢ Status.SayFault → (H.view host.new).said ≡ (H.view host.old).said }
-    ensures disk_fault { result ≡ Status.DiskFault → Rose (H.view host.old).disk_faults (H.view host.new).disk_faults }
-    ensures say_fault { result ≡ Status.SayFault → Rose (H.view host.old).say_faults (H.view host.new).say_faults }
+    ensures cause { IsCause (H.view host.old) (H.view host.new) result }
 {
     match form_of_words(words) {
         None => Status::Usage,
@@ -42,12 +43,11 @@ pub fn run<H: Host, S: Source>(alloc: Global, words: &Words, host: &mut H, input
 fn ls<H: Host>(alloc: Global, host: &mut H) -> Status
     ensures usage { result ≢ Status.Usage }
     ensures done { result ≡ Status.Done → (file : List ℕ) → (H.view host.old).holds ≡ Some file
-        → IsOkAnd (closed_of file) (λ c. Becomes (Longer (listing_of c.keys)) (H.view host.old).said (H.view host.new).said) }
-    ensures bad_file { (place : ℕ) (kind : _) → result ≡ Status.BadFile place kind → (file : List ℕ) → (H.view host.old).holds ≡ Some file → closed_of file ≡ Err (fault place kind) }
-    ensures calls { OnlySays listing_text (H.view host.old) (H.view host.new) }
+        → IsOkAnd (closed_file file) (λ c. Becomes (Longer (key_lines c.keys)) (H.view host.old).said (H.view host.new).said) }
+    ensures bad_file { (place : ℕ) (kind : _) → result ≡ Status.BadFile place kind → (file : List ℕ) → (H.view host.old).holds ≡ Some file → closed_file file ≡ Err (fault_at place kind) }
+    ensures calls { OnlySays ls_listing (H.view host.old) (H.view host.new) }
     ensures nothing_said { result ≢ Status.Done → result ≢ Status.SayFault → (H.view host.new).said ≡ (H.view host.old).said }
-    ensures disk_fault { result ≡ Status.DiskFault → Rose (H.view host.old).disk_faults (H.view host.new).disk_faults }
-    ensures say_fault { result ≡ Status.SayFault → Rose (H.view host.old).say_faults (H.view host.new).say_faults }
+    ensures cause { IsCause (H.view host.old) (H.view host.new) result }
 {
     match say_ls(alloc, host) {
         Ok(()) => Status::Done,

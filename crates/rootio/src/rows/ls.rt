@@ -28,7 +28,12 @@ fn nibble(digit: u8) -> u8 {
 }
 
 // The front of the bytes, with some words written over.
-fn changed(alloc: Global, bytes: &[u8], length: usize, words: &[(usize, u32)]) -> Result<Bytes, NoMemory> {
+fn changed(
+    alloc: Global,
+    bytes: &[u8],
+    length: usize,
+    words: &[(usize, u32)],
+) -> Result<Bytes, NoMemory> {
     let mut image = Bytes::from_slice(alloc, &bytes[..length.min(bytes.len())])?;
     for (place, word) in words {
         if *place < image.len() && 4 <= image.len() - *place {
@@ -47,20 +52,56 @@ fn words_of(alloc: Global, words: &[&str]) -> Result<Words, NoMemory> {
 }
 
 // What a run over a file answers and says, where these calls of its host fail.
-fn ran(alloc: Global, words: &[&str], image: Bytes, failing: &[u64]) -> Result<(Status, Name), NoMemory> {
-    let words = words_of(alloc, words)?;
+fn ran(
+    alloc: Global,
+    words: &[&str],
+    image: Bytes,
+    failing: &[u64],
+) -> Result<(Status, Name), NoMemory> {
+    ran_with(alloc, &words_of(alloc, words)?, image, failing)
+}
+
+fn ran_with(
+    alloc: Global,
+    words: &Words,
+    image: Bytes,
+    failing: &[u64],
+) -> Result<(Status, Name), NoMemory> {
     let mut host = MemHost::new(alloc, image, Numbers::from_slice(alloc, failing)?);
     let mut input = SureSource::new(Bytes::new(alloc));
-    let status = run(alloc, &words, &mut host, &mut input);
+    let status = run(alloc, words, &mut host, &mut input);
     Ok((status, Name::from_slice(alloc, host.said().as_slice())?))
 }
 
 static WORDS: [&str; 2] = ["ls", "a.root"];
 
-// A file of these records, cut to a length, with some words written over: what `ls` answers and says.
+#[derive(Clone, Copy)]
+enum File {
+    Empty,
+    One,
+    Two,
+    OddNames,
+    Compressed,
+    Large,
+}
+
+impl File {
+    fn lines(self) -> &'static [&'static str] {
+        match self {
+            File::Empty => &EMPTY,
+            File::One => &ONE,
+            File::Two => &TWO,
+            File::OddNames => &ODD_NAMES,
+            File::Compressed => &COMPRESSED,
+            File::Large => &LARGE,
+        }
+    }
+}
+
+// One of the files, cut to a length, with some words written over: what `ls` answers and says.
 struct Row {
     name: &'static str,
-    file: &'static [&'static str],
+    file: File,
     length: usize,
     words: &'static [(usize, u32)],
     status: Status,
@@ -69,10 +110,10 @@ struct Row {
 
 const WHOLE: usize = usize::MAX;
 
-static ROWS: [Row; 29] = [
+static ROWS: [Row; 30] = [
     Row {
         name: "one object",
-        file: &ONE,
+        file: File::One,
         length: WHOLE,
         words: &[],
         status: Status::Done,
@@ -80,7 +121,7 @@ static ROWS: [Row; 29] = [
     },
     Row {
         name: "two objects",
-        file: &TWO,
+        file: File::Two,
         length: WHOLE,
         words: &[],
         status: Status::Done,
@@ -88,7 +129,7 @@ static ROWS: [Row; 29] = [
     },
     Row {
         name: "no objects",
-        file: &EMPTY,
+        file: File::Empty,
         length: WHOLE,
         words: &[],
         status: Status::Done,
@@ -96,7 +137,7 @@ static ROWS: [Row; 29] = [
     },
     Row {
         name: "no bytes",
-        file: &EMPTY,
+        file: File::Empty,
         length: 0,
         words: &[],
         status: Status::BadFile {
@@ -107,7 +148,7 @@ static ROWS: [Row; 29] = [
     },
     Row {
         name: "three bytes",
-        file: &EMPTY,
+        file: File::Empty,
         length: 3,
         words: &[],
         status: Status::BadFile {
@@ -118,7 +159,7 @@ static ROWS: [Row; 29] = [
     },
     Row {
         name: "the fourth byte is T",
-        file: &EMPTY,
+        file: File::Empty,
         length: WHOLE,
         words: &[(0, 0x726F6F54)],
         status: Status::BadFile {
@@ -129,7 +170,7 @@ static ROWS: [Row; 29] = [
     },
     Row {
         name: "four bytes alone",
-        file: &EMPTY,
+        file: File::Empty,
         length: 4,
         words: &[],
         status: Status::BadFile {
@@ -140,7 +181,7 @@ static ROWS: [Row; 29] = [
     },
     Row {
         name: "a begin elsewhere",
-        file: &EMPTY,
+        file: File::Empty,
         length: WHOLE,
         words: &[(8, 0x00000065)],
         status: Status::BadFile {
@@ -151,7 +192,7 @@ static ROWS: [Row; 29] = [
     },
     Row {
         name: "a bad begin before a short field",
-        file: &EMPTY,
+        file: File::Empty,
         length: 14,
         words: &[(8, 0x00000065)],
         status: Status::BadFile {
@@ -162,7 +203,7 @@ static ROWS: [Row; 29] = [
     },
     Row {
         name: "units of eight in the small form",
-        file: &EMPTY,
+        file: File::Empty,
         length: WHOLE,
         words: &[(32, 0x08000000)],
         status: Status::BadFile {
@@ -173,7 +214,7 @@ static ROWS: [Row; 29] = [
     },
     Row {
         name: "bad units before a short field",
-        file: &EMPTY,
+        file: File::Empty,
         length: 36,
         words: &[(32, 0x08000000)],
         status: Status::BadFile {
@@ -184,7 +225,7 @@ static ROWS: [Row; 29] = [
     },
     Row {
         name: "the UUID is not whole",
-        file: &EMPTY,
+        file: File::Empty,
         length: 62,
         words: &[],
         status: Status::BadFile {
@@ -195,7 +236,7 @@ static ROWS: [Row; 29] = [
     },
     Row {
         name: "the large form, whose units stand at 40",
-        file: &EMPTY,
+        file: File::Empty,
         length: WHOLE,
         words: &[(4, 0x000F4240)],
         status: Status::BadFile {
@@ -206,7 +247,7 @@ static ROWS: [Row; 29] = [
     },
     Row {
         name: "the greatest version of the small form",
-        file: &ONE,
+        file: File::One,
         length: WHOLE,
         words: &[(4, 0x000F423F)],
         status: Status::Done,
@@ -214,7 +255,7 @@ static ROWS: [Row; 29] = [
     },
     Row {
         name: "END at the end of the file",
-        file: &EMPTY,
+        file: File::Empty,
         length: 304,
         words: &[],
         status: Status::Done,
@@ -222,7 +263,7 @@ static ROWS: [Row; 29] = [
     },
     Row {
         name: "END past the end of the file",
-        file: &EMPTY,
+        file: File::Empty,
         length: WHOLE,
         words: &[(12, 0x77359400)],
         status: Status::BadFile {
@@ -233,7 +274,7 @@ static ROWS: [Row; 29] = [
     },
     Row {
         name: "a directory record past the end",
-        file: &ONE,
+        file: File::One,
         length: WHOLE,
         words: &[(28, 0x00000190)],
         status: Status::BadFile {
@@ -243,19 +284,30 @@ static ROWS: [Row; 29] = [
         said: "",
     },
     Row {
-        name: "a name that leads into other records",
-        file: &ONE,
-        length: WHOLE,
-        words: &[(28, 0x00000154)],
+        name: "a directory record that is not whole",
+        file: File::One,
+        length: 404,
+        words: &[(28, 0x00000109)],
         status: Status::BadFile {
-            place: 440,
+            place: 365,
             kind: FileFault::BadDir,
         },
         said: "",
     },
     Row {
+        name: "a name that leads into other records",
+        file: File::One,
+        length: WHOLE,
+        words: &[(28, 0x00000068)],
+        status: Status::BadFile {
+            place: 144,
+            kind: FileFault::BadKeyList,
+        },
+        said: "",
+    },
+    Row {
         name: "no key list",
-        file: &ONE,
+        file: File::One,
         length: WHOLE,
         words: &[(174, 0x00000000)],
         status: Status::Done,
@@ -263,7 +315,7 @@ static ROWS: [Row; 29] = [
     },
     Row {
         name: "a key list past the end",
-        file: &EMPTY,
+        file: File::Empty,
         length: WHOLE,
         words: &[(174, 0x00001000)],
         status: Status::BadFile {
@@ -274,7 +326,7 @@ static ROWS: [Row; 29] = [
     },
     Row {
         name: "a key list at the object, whose data give a count",
-        file: &ONE,
+        file: File::One,
         length: WHOLE,
         words: &[(174, 0x000000D0)],
         status: Status::BadFile {
@@ -285,7 +337,7 @@ static ROWS: [Row; 29] = [
     },
     Row {
         name: "a count that is too large",
-        file: &EMPTY,
+        file: File::Empty,
         length: WHOLE,
         words: &[(248, 0x7FFFFFFF)],
         status: Status::BadFile {
@@ -296,7 +348,7 @@ static ROWS: [Row; 29] = [
     },
     Row {
         name: "a key list shorter than its key",
-        file: &ONE,
+        file: File::One,
         length: WHOLE,
         words: &[(268, 0x00000014)],
         status: Status::BadFile {
@@ -307,7 +359,7 @@ static ROWS: [Row; 29] = [
     },
     Row {
         name: "a key list without its count",
-        file: &ONE,
+        file: File::One,
         length: WHOLE,
         words: &[(268, 0x00000029)],
         status: Status::BadFile {
@@ -318,7 +370,7 @@ static ROWS: [Row; 29] = [
     },
     Row {
         name: "a key list of negative length",
-        file: &ONE,
+        file: File::One,
         length: WHOLE,
         words: &[(268, 0xFFFFFFAC)],
         status: Status::BadFile {
@@ -329,7 +381,7 @@ static ROWS: [Row; 29] = [
     },
     Row {
         name: "one head of two",
-        file: &TWO,
+        file: File::Two,
         length: WHOLE,
         words: &[(328, 0x00000054)],
         status: Status::BadFile {
@@ -340,7 +392,7 @@ static ROWS: [Row; 29] = [
     },
     Row {
         name: "a compressed key",
-        file: &COMPRESSED,
+        file: File::Compressed,
         length: WHOLE,
         words: &[],
         status: Status::Done,
@@ -348,7 +400,7 @@ static ROWS: [Row; 29] = [
     },
     Row {
         name: "the large form",
-        file: &LARGE,
+        file: File::Large,
         length: WHOLE,
         words: &[],
         status: Status::Done,
@@ -356,11 +408,11 @@ static ROWS: [Row; 29] = [
     },
     Row {
         name: "names that are quoted",
-        file: &ODD_NAMES,
+        file: File::OddNames,
         length: WHOLE,
         words: &[],
         status: Status::Done,
-        said: "\"\";1 TObjString\n\"a\\\"b\";1 TObjString\n\"a\\\\b\";1 TObjString\n\"a\\nb\";1 TObjString\n\"a\\tb\";1 TObjString\n\"a b\";1 TObjString\n\"a;b\";1 TObjString\n\"a\\x7fb\";1 TObjString\n\"\\xe9\";1 TObjString\na+b;1 TObjString\nv;2 \"a<b c>\"\n",
+        said: "\"\";1 TObjString\n\"a\\\"b\";1 TObjString\n\"a\\\\ b\";1 TObjString\na\\b;1 TObjString\n\"a\\nb\";1 TObjString\n\"a\\tb\";1 TObjString\n\"a b\";1 TObjString\n\"a;b\";1 TObjString\n\"a\\x7fb\";1 TObjString\n\"\\xe9\";1 TObjString\na+b;1 TObjString\nv;2 \"a<b c>\"\n",
     },
 ];
 
@@ -368,8 +420,10 @@ static ROWS: [Row; 29] = [
 fn rows(rt: HostRuntime) -> Result<(), Fail> {
     let alloc = rt.alloc();
     for row in &ROWS {
-        let whole = decode(alloc, row.file).ok().ok_or("an image")?;
-        let image = changed(alloc, whole.as_slice(), row.length, row.words).ok().ok_or("an image")?;
+        let whole = decode(alloc, row.file.lines()).ok().ok_or("an image")?;
+        let image = changed(alloc, whole.as_slice(), row.length, row.words)
+            .ok()
+            .ok_or("an image")?;
         let (status, said) = ran(alloc, &WORDS, image, &[]).ok().ok_or("a run")?;
         assert_eq!(rt; status, row.status, "{}", row.name);
         assert_eq!(rt; said.as_slice(), row.said.as_bytes(), "{}", row.name);
@@ -383,7 +437,9 @@ fn cuts(rt: HostRuntime) -> Result<(), Fail> {
     let alloc = rt.alloc();
     let whole = decode(alloc, &TWO).ok().ok_or("an image")?;
     for length in 63..504 {
-        let image = changed(alloc, whole.as_slice(), length, &[]).ok().ok_or("an image")?;
+        let image = changed(alloc, whole.as_slice(), length, &[])
+            .ok()
+            .ok_or("an image")?;
         let (status, said) = ran(alloc, &WORDS, image, &[]).ok().ok_or("a run")?;
         let closed = Status::BadFile {
             place: 12,
@@ -396,12 +452,14 @@ fn cuts(rt: HostRuntime) -> Result<(), Fail> {
 }
 
 // Words of no form, over a host that fails at its first call.
-static NO_FORMS: [&[&str]; 8] = [
+static NO_FORMS: [&[&str]; 10] = [
     &[],
     &["ls"],
     &["ls", "-x"],
     &["ls", ""],
     &["ls", "a\tb"],
+    &["ls", "-"],
+    &["gen", "a.root", "0"],
     &["ls", "a.root", "b"],
     &["LS", "a.root"],
     &["-ls", "a.root"],
@@ -419,6 +477,23 @@ fn usage(rt: HostRuntime) -> Result<(), Fail> {
     Ok(())
 }
 
+// A file's name has at most 200 bytes.
+#[test]
+fn long_names(rt: HostRuntime) -> Result<(), Fail> {
+    let alloc = rt.alloc();
+    for (length, wanted) in [(200, Status::Done), (201, Status::Usage)] {
+        let mut words = words_of(alloc, &["ls"]).ok().ok_or("words")?;
+        let name = Name::from_slice(alloc, &[b'a'; 201][..length])
+            .ok()
+            .ok_or("a name")?;
+        words.push(name).ok().ok_or("words")?;
+        let image = decode(alloc, &ONE).ok().ok_or("an image")?;
+        let (status, _said) = ran_with(alloc, &words, image, &[]).ok().ok_or("a run")?;
+        assert_eq!(rt; status, wanted, "{length}");
+    }
+    Ok(())
+}
+
 // Each call of the host failing in turn: the last one says the text.
 #[test]
 fn failing_calls(rt: HostRuntime) -> Result<(), Fail> {
@@ -432,7 +507,10 @@ fn failing_calls(rt: HostRuntime) -> Result<(), Fail> {
             _ => Status::Done,
         };
         assert_eq!(rt; status, wanted, "call {call}");
-        assert!(rt; b"s;1 TObjString\n".starts_with(said.as_slice()), "call {call}");
+        assert!(rt;
+            b"s;1 TObjString\n".starts_with(said.as_slice()),
+            "call {call}"
+        );
     }
     Ok(())
 }

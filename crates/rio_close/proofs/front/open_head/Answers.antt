@@ -1,5 +1,6 @@
 use Rattle.std.proofs.Common.{◌≡◌, length, arith}
 use Rattle.std.proofs.lemmas.Result.{err_from_is_err_and}
+use Rattle.rio_close.proofs.Answering.{header_tested}
 use Rattle.rio_close.proofs.Fronts.{head_fails, head_late, head_whole}
 use Rattle.rio_close.proofs.front.open_head.Goals as goal
 
@@ -17,3 +18,8 @@ pub returns-clause-exact : goal.returns-clause-exact
 returns-clause-exact g c file told =
     let all : c.args.file_length ≡ length file = c.requires file told in
     head_whole file _ (c.in_ok-n.ensures.bytes file told) c.in_ok-head.head c.in_ok-head.ensures.exact (omega (arith, c.if-file_length-head.false))
+
+pub returns-in_err-head-clause-cause : goal.returns-in_err-head-clause-cause
+returns-in_err-head-clause-cause g c =
+    let p = err_from_is_err_and c.from_residual-in_err-head.result c.from_residual-in_err-head.ensures.1 in
+    rw (p.1, p.2) (header_tested c.in_err-head.field-0.0.kind c.in_err-head.ensures.kinds, c.in_ok-n.ensures.cause)

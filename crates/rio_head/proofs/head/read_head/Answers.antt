@@ -5,7 +5,7 @@ use Rattle.rio_head.proofs.HeadRead.{head_is_found}
 use Rattle.rio_head.proofs.head.read_head.Goals as goal
 
 pub returns-clause-found : goal.returns-clause-found
-returns-clause-found c = head_is_found c.args.bytes.now c.take_head.result (λ i. omega (arith, c.type_inv.bytes i)) (c.take_head.ensures ∙ ap header_at c.new.ensures)
+returns-clause-found c = head_is_found c.args.bytes.now c.take_head.result (λ i. omega (arith, c.type_inv.bytes i)) (c.take_head.ensures.exact ∙ ap header_at c.new.ensures)
 
 pub returns-clause-only : goal.returns-clause-only
-returns-clause-only c = λ head begins. c.take_head.ensures ∙ ap header_at c.new.ensures ∙ head_only head 0 c.args.bytes.now begins
+returns-clause-only c = λ head begins. c.take_head.ensures.exact ∙ ap header_at c.new.ensures ∙ head_only head 0 c.args.bytes.now begins
