@@ -8,9 +8,10 @@ ghost use Rattle.rio_close.specs.Opens.{IsRecordAt, Opens, OpensTold, listed_in}
 
 use crate::ReportFault;
 use crate::range::{read_front, read_range};
+use rio_dir::{Heads, read_heads};
 use rio_head::FileFault;
 use rio_host::Host;
-use rio_key::{Heads, KeyFault, read_heads, read_key};
+use rio_key::{KeyFault, read_key};
 use rio_num::Cursor;
 use std::alloc::Global;
 

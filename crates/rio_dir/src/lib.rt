@@ -7,7 +7,8 @@ ghost use Rattle.rio_key.specs.KeyList.{key_list_at};
 ghost use Rattle.rio_key.specs.Spelling.{IsSpelledIn, SpellsKeyList};
 ghost use Rattle.rio_dir.specs.KeyList.{heads_in};
 
-use rio_key::{Heads, KeyFault, read_heads};
+use rio_key::KeyFault;
+pub use rio_key::{Heads, ListFault, read_heads};
 use std::alloc::Global;
 
 /// The key heads of a key list: its data are their count and so many heads, each ending with its

@@ -17,7 +17,12 @@ fn reads_a_header(rt: HostRuntime) -> Result<(), Fail> {
     let head = read_head(HEAD)?;
     assert_eq!(rt; head.version, 60000);
     assert_eq!(rt;
-        [head.begin, head.end, head.seek_free, head.seek_info],
+        [
+            u64::from(head.begin),
+            head.end,
+            head.seek_free,
+            head.seek_info
+        ],
         [100, 304, 252, 0]
     );
     assert_eq!(rt;
@@ -39,7 +44,12 @@ fn reads_a_header_of_the_large_form(rt: HostRuntime) -> Result<(), Fail> {
     let head = read_head(LARGE)?;
     assert_eq!(rt; head.version, 1_000_000);
     assert_eq!(rt;
-        [head.begin, head.end, head.seek_free, head.seek_info],
+        [
+            u64::from(head.begin),
+            head.end,
+            head.seek_free,
+            head.seek_info
+        ],
         [100, 1 << 32, 256, 0]
     );
     assert_eq!(rt; head.units, 8);

@@ -1,2 +1,3 @@
 pub mod Closed
+pub mod Grammar
 pub mod Listing

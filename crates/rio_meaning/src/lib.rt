@@ -3,5 +3,7 @@
 #![tactic(auto)]
 
 mod closed;
+mod laws;
 
 pub use closed::Closed;
+pub use laws::{closed_file_is_spelled, one_listing};
