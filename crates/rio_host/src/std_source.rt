@@ -82,4 +82,18 @@ mod tests {
         assert_eq!(rt; source.read(&mut into)?, 0);
         Ok(())
     }
+
+    // The process's own input, of which a test is given what it is given.
+    #[test]
+    fn reads_the_real_input_to_its_end(rt: HostRuntime) -> Result<(), Fail> {
+        let mut source = StdSource::new(&rt);
+        let mut into = [0; 64];
+        for _ in 0..u64::MAX {
+            if source.read(&mut into)? == 0 {
+                break;
+            }
+        }
+        assert_eq!(rt; source.faults, 0);
+        Ok(())
+    }
 }
