@@ -1,10 +1,9 @@
 -- Which values fit a class. Labels are counted in one walk through the value.
-use Rattle.std.specs.Prelude.{ℕ, ◌+◌, ◌-◌, ◌^◌, ℤ, pos, neg_ℤ, List, [], ◌∷◌, ◌++◌, length, slice_get, bit_and, Bool, true, false, ◌==◌, ◌&&◌, not, nat_lt, int_le, int_lt, Option, Some, None, is_some, IsTrue, option_and_then, if◌then◌else◌}
+use Rattle.std.specs.Prelude.{ℕ, ◌-◌, ◌^◌, ℤ, pos, neg_ℤ, List, [], ◌∷◌, ◌++◌, length, slice_get, bit_and, Bool, true, false, ◌==◌, ◌&&◌, nat_lt, int_le, int_lt, Option, Some, None, is_some, IsTrue, option_and_then, if◌then◌else◌}
 use Rattle.std.specs.Map.{lookup}
 use Rattle.std.specs.Str.{bytes_eq}
 use Rattle.std.specs.Ordering.{int_eq}
 use Rattle.rio_types.specs.declared.class.ClassDef.{ClassDef}
-use Rattle.rio_types.specs.declared.kind.Kind.{Kind}
 use Rattle.rio_types.specs.declared.kind.Kind.TheVariants.{Plain, Counter, Fixed, Counted, Text as Texted, Inline, Pointer, Other}
 use Rattle.rio_types.specs.declared.kind.Prim.{Prim}
 use Rattle.rio_types.specs.declared.kind.Prim.TheVariants.{I8, I16, I32, I64, U8, U16, U32, U64, Bool as Boolean, F32, F64}

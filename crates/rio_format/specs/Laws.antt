@@ -1,5 +1,5 @@
 -- How reading, spelling and writing of objects belong together.
-use Rattle.std.specs.Prelude.{◌≡◌, ◌≤◌, ◌<◌, ℕ, ◌+◌, ◌-◌, ◌^◌, ℤ, pos, int_le, Bool, true, ◌&&◌, List, ◌++◌, length, slice_index, Ok, Err, IsTrue}
+use Rattle.std.specs.Prelude.{◌≡◌, ◌≤◌, ◌<◌, ℕ, ◌+◌, ◌-◌, ◌^◌, pos, int_le, Bool, true, ◌&&◌, List, ◌++◌, length, slice_index, Ok, Err, IsTrue}
 use Rattle.std.specs.List.{list_all}
 use Rattle.rio_types.specs.declared.class.ClassDef.{ClassDef}
 use Rattle.rio_value.specs.Depth.{depth_of}

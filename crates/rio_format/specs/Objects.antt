@@ -1,6 +1,5 @@
 -- Objects, read from left to right: the value, or the first fault.
-use Rattle.std.specs.Prelude.{◌≡◌, ◌≢◌, ◌==◌, ◌||◌, ◌&&◌, not, ℕ, zero, suc, ◌+◌, ◌-◌, ◌*◌, ◌/◌, ◌^◌, ℤ, pos, negsuc, List, [], ◌∷◌, ◌++◌, length, take, replicate, codes, Option, Some, None, Result, Ok, Err, nat_eq, nat_lt, nat_le, bit_and, Bool, if◌then◌else◌, position}
-use Rattle.std.specs.Int.{w32, cast_signed}
+use Rattle.std.specs.Prelude.{◌≡◌, ◌≢◌, ◌==◌, ◌||◌, ◌&&◌, not, ℕ, zero, suc, ◌+◌, ◌-◌, ◌*◌, ◌/◌, ◌^◌, ℤ, pos, negsuc, List, [], ◌∷◌, length, take, replicate, codes, Option, Some, None, Result, Ok, Err, nat_eq, nat_lt, nat_le, bit_and, Bool, if◌then◌else◌, position}
 use Rattle.std.specs.Map.{lookup}
 use Rattle.rio_num.specs.At.{At}
 use Rattle.rio_num.specs.Reading.{◌>>=◌, number_at, text_at, skip}
@@ -291,8 +290,8 @@ whole_at class version h parts s = do
 abbrev pub opaque_at : List ℕ → Header → State → Step Value
 opaque_at class h s =
     if nat_lt h.end s.at.place
-        then Err (CountMismatch h.place (h.end - h.place - 4) (s.at.place - h.place - 4))
-        else Ok (Opaque class (h.end - h.place - 4), record s { at = skip (h.end - s.at.place) s.at })
+    then Err (CountMismatch h.place (h.end - h.place - 4) (s.at.place - h.place - 4))
+    else Ok (Opaque class (h.end - h.place - 4), record s { at = skip (h.end - s.at.place) s.at })
 
 unfoldable pub body_at : Reader → List ℕ → Header → Body → State → Step Value
 body_at object class h (described c) s = whole_at class c.version h (parts_at object (slots_of c)) s

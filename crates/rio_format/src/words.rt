@@ -23,5 +23,7 @@ pub enum PointerWord {
         class: Name,
     },
     /// The earlier object of this label.
-    Back { label: u32 },
+    Back {
+        label: u32,
+    },
 }

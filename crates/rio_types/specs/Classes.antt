@@ -1,5 +1,5 @@
 -- Looking classes up in a list of them.
-use Rattle.std.specs.Prelude.{ℕ, ℤ, List, [], ◌∷◌, Bool, Option, Some, None, ◌==◌, ◌&&◌, int_le, find, if◌then◌else◌}
+use Rattle.std.specs.Prelude.{ℕ, ℤ, List, [], ◌∷◌, Option, Some, None, ◌==◌, ◌&&◌, int_le, find, if◌then◌else◌}
 use Rattle.std.specs.Str.{bytes_eq}
 use Rattle.std.specs.Ordering.{int_eq}
 use Rattle.rio_types.specs.declared.class.ClassDef.{ClassDef}

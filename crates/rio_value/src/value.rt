@@ -151,3 +151,40 @@ fn copy_parts(alloc: Global, parts: &[Part]) -> Result<Parts, NoMemory>
     }
     Ok(copies)
 }
+
+#[cfg(test)]
+mod tests {
+    use super::*;
+    use std::test::Fail;
+
+    fn nested(alloc: Global) -> Result<Value, NoMemory> {
+        let mut parts = Parts::new(alloc);
+        parts.push(Part {
+            name: Name::from_slice(alloc, b"text")?,
+            value: Value::Text(Name::from_slice(alloc, b"hi")?),
+        })?;
+        let object = Value::Object {
+            class: Name::from_slice(alloc, b"Node")?,
+            version: 1,
+            parts,
+        };
+        let mut items = Values::new(alloc);
+        items.push(Value::Pointed {
+            label: 0,
+            object: Boxed::new(alloc, object)?,
+        })?;
+        items.push(Value::Opaque {
+            class: Name::from_slice(alloc, b"Odd")?,
+            length: 12,
+        })?;
+        Ok(Value::List(items))
+    }
+
+    #[test]
+    fn copies(rt: HostRuntime) -> Result<(), Fail> {
+        let value = nested(rt.alloc()).ok().ok_or("a value")?;
+        let again = copy(rt.alloc(), &value).ok().ok_or("a copy")?;
+        assert_eq!(rt; depth(&again), 1);
+        Ok(())
+    }
+}
