@@ -56,6 +56,11 @@ impl<T> Items<T> {
     {
         self.items.as_slice()
     }
+
+    /// Where the list takes its memory from.
+    pub fn allocator(&self) -> Global {
+        *self.items.allocator()
+    }
 }
 
 impl<T: Drop> Items<T> {

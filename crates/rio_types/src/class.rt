@@ -2,7 +2,6 @@ ghost use Rattle.std.specs.Prelude.{◌≡◌, IfOk};
 
 use crate::Kind;
 use rio_num::{Items, Name, NoMemory};
-use std::alloc::Global;
 
 /// A member of a class.
 #[derive(Debug, Drop)]
@@ -62,34 +61,34 @@ impl Base {
 
 impl ClassDef {
     /// An equal class.
-    pub fn copy(&self, alloc: Global) -> Result<ClassDef, NoMemory>
+    pub fn copy(&self) -> Result<ClassDef, NoMemory>
         ensures { IfOk result (λ class. class ≡ self.now) }
     {
         Ok(ClassDef {
             name: self.name.copy()?,
             version: self.version,
             sum: self.sum,
-            bases: copy_bases(alloc, self.bases.as_slice())?,
-            members: copy_members(alloc, self.members.as_slice())?,
+            bases: copy_bases(&self.bases)?,
+            members: copy_members(&self.members)?,
         })
     }
 }
 
-fn copy_bases(alloc: Global, bases: &[Base]) -> Result<Bases, NoMemory>
+fn copy_bases(bases: &Bases) -> Result<Bases, NoMemory>
     ensures { IfOk result (λ copies. copies ≡ bases.now) }
 {
-    let mut copies = Bases::new(alloc);
-    for base in bases {
+    let mut copies = Bases::new(bases.allocator());
+    for base in bases.as_slice() {
         copies.push(base.copy()?)?;
     }
     Ok(copies)
 }
 
-fn copy_members(alloc: Global, members: &[Member]) -> Result<Members, NoMemory>
+fn copy_members(members: &Members) -> Result<Members, NoMemory>
     ensures { IfOk result (λ copies. copies ≡ members.now) }
 {
-    let mut copies = Members::new(alloc);
-    for member in members {
+    let mut copies = Members::new(members.allocator());
+    for member in members.as_slice() {
         copies.push(member.copy()?)?;
     }
     Ok(copies)

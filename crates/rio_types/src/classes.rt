@@ -169,7 +169,7 @@ mod tests {
         let mut classes = Classes::new(alloc);
         classes.push(class_in(alloc, 1, 10)?)?;
         classes.push(class_in(alloc, 3, 30)?)?;
-        classes.push(class_in(alloc, 3, 31)?.copy(alloc)?)?;
+        classes.push(class_in(alloc, 3, 31)?.copy()?)?;
         Ok(classes)
     }
 
