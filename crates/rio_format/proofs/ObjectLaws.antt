@@ -3,14 +3,18 @@ use Rattle.std.proofs.Common.{◌≡◌, ℕ, List, ◌++◌, Result, Ok, Err, s
 use Rattle.std.proofs.lemmas.List.{append_cancel_right}
 use Rattle.rio_num.proofs.ReadLaws.{ok_is}
 use Rattle.rio_value.specs.declared.value.Value.{Value}
-use Rattle.rio_format.specs.Laws.{SpelledIsRead, IsSpelledOnce, FaultIsNotSpelled}
+use Rattle.rio_format.specs.Laws.{SpelledIsRead, IsSpelledOnce, FaultIsNotSpelled, ReadIsSpelled}
 use Rattle.rio_format.specs.Objects.{first_at}
 use Rattle.rio_format.specs.State.{State}
 use Rattle.rio_format.specs.declared.fault.ObjFault.{ObjFault}
 use Rattle.rio_format.proofs.AgainObjects.{first_again}
+use Rattle.rio_format.proofs.FoundObjects.{first_found}
 
 pub spelled_is_read : SpelledIsRead
 spelled_is_read = first_again
+
+pub read_is_spelled : ReadIsSpelled
+read_is_spelled classes class start bytes v s fits e = first_found classes class start bytes v s fits e
 
 pub is_spelled_once : IsSpelledOnce
 is_spelled_once classes class start v w front more other rest e first second =
