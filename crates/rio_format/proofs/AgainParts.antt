@@ -41,20 +41,20 @@ times_room n width spells some long p t ys bytes t' more c =
     let same : n * width ≤ length bytes = rw length-replicate at all in
     (le-div_iff_mul-le some).1 (omega (arith, same, length-append bytes more))
 
-number_long : (of : Prim) → IsLong (width_of of) (SpellsNumber of)
+pub number_long : (of : Prim) → IsLong (width_of of) (SpellsNumber of)
 number_long of p t v bytes t' c = omega (arith, ap length c.spelled, length-bytes_high_first (width_of of) c.n)
 
-pointer_long : (spells : Spellings) → IsLong 4 (SpellsPointer spells)
+pub pointer_long : (spells : Spellings) → IsLong 4 (SpellsPointer spells)
 pointer_long spells p t v bytes t' (inl c) = omega (arith, ap length c.spelled)
 pointer_long spells p t v bytes t' (inr (inl c)) = omega (arith, ap length c.spelled)
 pointer_long spells p t v bytes t' (inr (inr c)) = omega (arith, ap length c.spelled)
 
-link_long : (spells : Spellings) → IsLong 4 (λ p t v bytes t'. IsLink spells p t v bytes t')
+pub link_long : (spells : Spellings) → IsLong 4 (λ p t v bytes t'. IsLink spells p t v bytes t')
 link_long spells p t v bytes t' c =
     let first : 4 ≤ length c.pointer_bytes = pointer_long spells p t c.pointer c.pointer_bytes t' c.first in
     omega (arith, first, ap length c.spelled, length-append c.pointer_bytes c.option_bytes)
 
-width_some : (of : Prim) → 0 < width_of of
+pub width_some : (of : Prim) → 0 < width_of of
 width_some I8 = omega arith
 width_some I16 = omega arith
 width_some I32 = omega arith

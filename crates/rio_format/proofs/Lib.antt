@@ -1,3 +1,14 @@
+pub mod ValueCases
+pub mod WrittenNumbers
+pub mod WrittenPlaces
+pub mod WrittenWays
+pub mod WrittenLists
+pub mod WrittenFields
+pub mod WrittenBodies
+pub mod WrittenArrays
+pub mod WrittenObjects
+pub mod WrittenPointers
+pub mod WrittenValues
 pub mod AgainNumbers
 pub mod AgainPointers
 pub mod AgainParts

@@ -1,4 +1,4 @@
-ghost use Rattle.rio_format.specs.Laws.{FaultIsNotSpelled, IsSpelledOnce, ReadIsSpelled, SpelledIsRead};
+ghost use Rattle.rio_format.specs.Laws.{FaultIsNotSpelled, IsSpelledOnce, ReadIsSpelled, SpelledIsRead, WrittenIsSpelled};
 
 /// What spells an object is read as it, whatever follows, and reading stands behind it.
 pub fn spelled_is_read()
@@ -18,4 +18,10 @@ pub fn is_spelled_once()
 /// Where reading gives a fault, no front of the bytes spells an object of the class.
 pub fn fault_is_not_spelled()
     ensures { FaultIsNotSpelled }
+{}
+
+/// What is written for a value that fits its class spells it, if the value isn't too deep, its versions
+/// can be written and its places are below 2^30 - 2.
+pub fn written_is_spelled()
+    ensures { WrittenIsSpelled }
 {}

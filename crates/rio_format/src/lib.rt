@@ -6,5 +6,7 @@ mod laws;
 mod words;
 
 pub use fault::ObjFault;
-pub use laws::{fault_is_not_spelled, is_spelled_once, read_is_spelled, spelled_is_read};
+pub use laws::{
+    fault_is_not_spelled, is_spelled_once, read_is_spelled, spelled_is_read, written_is_spelled,
+};
 pub use words::{Header, PointerWord};
