@@ -1,5 +1,5 @@
 -- What is read as a class word or a pointer spells it.
-use Rattle.std.proofs.Common.{◌≡◌, ◌≢◌, ◌==◌, inl, inr, ℕ, ◌+◌, ◌-◌, ◌^◌, ◌<◌, ◌≤◌, Bool, true, false, cond, ◌&&◌, ltb, leb, eqb, List, [], ◌∷◌, ◌++◌, length, take, drop, Option, Some, None, nat_eq, position, Result, Ok, Err, refl, sym, ap, subst, ◌∙◌, add-one, one-add, arith}
+use Rattle.std.proofs.Common.{◌≡◌, ◌≢◌, ◌==◌, inl, inr, ℕ, ◌+◌, ◌-◌, ◌^◌, ◌<◌, ◌≤◌, Bool, true, false, cond, ltb, leb, eqb, List, [], ◌∷◌, ◌++◌, length, take, drop, Option, Some, None, nat_eq, position, Result, Ok, Err, refl, sym, ap, subst, ◌∙◌, add-one, one-add, arith}
 use Rattle.std.proofs.lemmas.Bool.{ltb-false, ltb-true, leb-true, eqb-true, eqb-false}
 use Rattle.std.proofs.lemmas.List.{length-append, length-take}
 use Rattle.std.specs.List.{position_or_len}
@@ -15,13 +15,10 @@ use Rattle.rio_format.specs.declared.words.PointerWord.{PointerWord}
 use Rattle.rio_format.specs.declared.words.PointerWord.TheVariants.{Null, New, Back}
 use Rattle.rio_format.specs.declared.fault.ObjFault.{ObjFault}
 use Rattle.rio_format.specs.declared.fault.ObjFault.TheVariants.{BadCount, CountMismatch, UnknownClassWord, UnknownRef}
+use Rattle.rio_format.proofs.Tests.{both_true}
 use Rattle.rio_format.proofs.FoundNumbers.{Found, IsFound, IsWord, word4, given, moved, read_so}
 
 -- ---- byte counts
-
-both : (a b : Bool) → (a && b) ≡ true → (a ≡ true) × (b ≡ true)
-both true b e = (refl, e)
-both false b e = absurd cc
 
 -- a count word, as what it counts
 pub record Counts (w : ℕ) : Type 0 where
@@ -31,7 +28,7 @@ pub record Counts (w : ℕ) : Type 0 where
 
 pub count_found : (w : ℕ) → is_count w ≡ true → Counts w
 count_found w e =
-    let b = both (leb (2 ^ 30) w) (ltb w (2 ^ 31)) e in
+    let b = both_true (leb (2 ^ 30) w) (ltb w (2 ^ 31)) e in
     let low : 2 ^ 30 ≤ w = leb-true _ _ b.0 in
     let high : w < 2 ^ 31 = ltb-true _ _ b.1 in
     record { n = w - 2 ^ 30; low = omega arith; word = omega arith }

@@ -1,8 +1,7 @@
 -- What is written for the bodies of built-in classes that fit spells them.
-use Rattle.std.proofs.Common.{◌≡◌, ℕ, ◌+◌, ◌/◌, ◌<◌, ◌≤◌, pos, Bool, true, false, cond, List, [], ◌∷◌, ◌++◌, length, map, codes, Option, Some, None, refl, sym, ap, subst, ◌∙◌, arith}
+use Rattle.std.proofs.Common.{◌≡◌, ℕ, ◌+◌, ◌/◌, ◌<◌, ◌≤◌, pos, Bool, false, cond, List, [], ◌∷◌, ◌++◌, length, codes, Some, None, refl, sym, ap, subst, ◌∙◌, arith}
 use Rattle.std.proofs.lemmas.List.{length-append, length-map, append-nil}
 use Rattle.std.proofs.lemmas.Option.{option_and_then_some}
-use Rattle.std.proofs.lemmas.Slice.Eq.{bytes_eq-Decides}
 use Rattle.std.proofs.Math.Nat.{div-le_self}
 use Rattle.std.specs.Option.{option_and_then}
 use Rattle.std.specs.Str.{bytes_eq}
@@ -14,17 +13,18 @@ use Rattle.rio_types.specs.declared.kind.Prim.TheVariants.{U32}
 use Rattle.rio_value.specs.declared.value.Value.{Value, List as Items, Object}
 use Rattle.rio_value.specs.declared.value.Part.{Part}
 use Rattle.rio_format.specs.Bodies.{part}
-use Rattle.rio_format.specs.Fits.{Labels, Fitting, fields_fit, fitting_of}
+use Rattle.rio_format.specs.Fits.{Labels, fields_fit, fitting_of}
 use Rattle.rio_format.specs.Prims.{width_of}
 use Rattle.rio_format.specs.Slots.{Slot, kinded, flags, many, Field, field}
 use Rattle.rio_format.specs.Spelling.{Spelling, Spellings, SpellsTimes, SpellsNumber, SpellsPid, IsBare, IsArray}
 use Rattle.rio_format.specs.State.{Words}
 use Rattle.rio_format.specs.Written.{Writing, bare_bytes, array_bytes, writing_step, writing_of}
+use Rattle.rio_format.proofs.Tests.{named_as}
 use Rattle.rio_format.proofs.AgainParts.{IsLong, times_room, number_long, width_some}
-use Rattle.rio_format.proofs.ValueCases.{Each, fold_List}
+use Rattle.rio_format.proofs.ValueCases.{fold_List}
 use Rattle.rio_format.proofs.WrittenPlaces.{Stands, stands_more}
 use Rattle.rio_format.proofs.WrittenWays.{in_slot, last_place}
-use Rattle.rio_format.proofs.WrittenLists.{IsWrittenAnywhere, stands_at, some_is}
+use Rattle.rio_format.proofs.WrittenLists.{AreKnown, fittings, writings, stands_at, some_is}
 
 -- how many there are is no more than how many bytes they have
 pub times_low : (n width : ℕ) (spells : Spelling Value) → 0 < width → IsLong width spells → (p : ℕ) (t : Words) (ys : List Value) (bytes : List ℕ) (t' : Words) → SpellsTimes n spells p t ys bytes t' → n ≤ length bytes
@@ -36,45 +36,29 @@ times_low n width spells some long p t ys bytes t' c =
 pub count_of_list : (classes : List ClassDef) (v : Value) (items : List Value) → v ≡ Items items → (writing_of classes v).count ≡ length items
 count_of_list classes v items is = ap (λ (x : Value). (writing_of classes x).count) is ∙ ap (λ (w : Writing). w.count) (fold_List (writing_step classes) (λ p. p.value) items) ∙ length-map items (writing_of classes)
 
-abbrev pub part_fitting : List ClassDef → Part → List ℕ × Fitting
-part_fitting classes y = (y.name, fitting_of classes y.value)
-
 -- the first part fits in the first slot, and the others fit
 pub record FirstFits (classes : List ClassDef) (f : Field) (fs : List Field) (y : Part) (ys : List Part) (before after : Labels) : Type 0 where
   pub part_is : y ≡ part f.name y.value
   pub mid : Labels
   pub first : (fitting_of classes y.value).fits f.slot before ≡ Some mid
-  pub rest : fields_fit fs (map (part_fitting classes) ys) [] mid ≡ Some after
-
-named_as : (name own : List ℕ) (after : Labels) (b : Bool) (o : Option Labels) → bytes_eq own name ≡ b → cond b o None ≡ Some after → (own ≡ name) × (o ≡ Some after)
-named_as name own after true o t e = ((bytes_eq-Decides own name).0 t, e)
-named_as name own after false o t e = absurd cc
+  pub rest : fields_fit fs (fittings classes ys) [] mid ≡ Some after
 
 -- where the slot is no counted member's
 pub first_fits : (classes : List ClassDef) (name : List ℕ) (slot : Slot) (fs : List Field) (y : Part) (ys : List Part) (before after : Labels)
-    → cond (bytes_eq y.name name) (option_and_then (fields_fit fs (map (part_fitting classes) ys) []) ((fitting_of classes y.value).fits slot before)) None ≡ Some after → FirstFits classes (field name slot) fs y ys before after
+    → cond (bytes_eq y.name name) (option_and_then (fields_fit fs (fittings classes ys) []) ((fitting_of classes y.value).fits slot before)) None ≡ Some after → FirstFits classes (field name slot) fs y ys before after
 first_fits classes name slot fs y ys before after e =
     let n = named_as name y.name after (bytes_eq y.name name) _ refl e in
-    option_and_then_some (fields_fit fs (map (part_fitting classes) ys) []) ((fitting_of classes y.value).fits slot before) after n.1 (λ mid first rest.
+    option_and_then_some (fields_fit fs (fittings classes ys) []) ((fitting_of classes y.value).fits slot before) after n.1 (λ mid first rest.
     record { part_is = ap (λ (x : List ℕ). part x y.value) n.0; mid = mid; first = first; rest = rest })
 
 abbrev pub bare_fields : List Field
 bare_fields = field (codes "fUniqueID") (kinded (Plain U32)) ∷ field (codes "fBits") flags ∷ []
 
 module _ (object : Spellings) (classes : List ClassDef) where
-  abbrev AreKnown : List Part → Type 0
-  AreKnown parts = Each (λ y. IsWrittenAnywhere object classes y.value) parts
-
-  abbrev fittings : List Part → List (List ℕ × Fitting)
-  fittings parts = map (part_fitting classes) parts
-
-  abbrev writings : List Part → List Writing
-  writings parts = map (λ y. writing_of classes y.value) parts
-
   -- ---- TObject
 
-  pub bare_written : (parts : List Part) → AreKnown parts → (before after : Labels) (p : ℕ) (t : Words) → fields_fit bare_fields (fittings parts) [] before ≡ Some after → Stands before p t → p + length (bare_bytes (writings parts) p t).0 ≤ last_place
-      → IsBare t (Object (codes "TObject") (pos 1) parts) (bare_bytes (writings parts) p t).0 (bare_bytes (writings parts) p t).1 × Stands after (p + length (bare_bytes (writings parts) p t).0) (bare_bytes (writings parts) p t).1
+  pub bare_written : (parts : List Part) → AreKnown object classes parts → (before after : Labels) (p : ℕ) (t : Words) → fields_fit bare_fields (fittings classes parts) [] before ≡ Some after → Stands before p t → p + length (bare_bytes (writings classes parts) p t).0 ≤ last_place
+      → IsBare t (Object (codes "TObject") (pos 1) parts) (bare_bytes (writings classes parts) p t).0 (bare_bytes (writings classes parts) p t).1 × Stands after (p + length (bare_bytes (writings classes parts) p t).0) (bare_bytes (writings classes parts) p t).1
   bare_written [] ih before after p t e s room = absurd cc
   bare_written (y ∷ []) ih before after p t e s room =
       let f = first_fits classes (codes "fUniqueID") (kinded (Plain U32)) (field (codes "fBits") flags ∷ []) y [] before after e in
@@ -107,9 +91,9 @@ module _ (object : Spellings) (classes : List ClassDef) where
 
   -- ---- arrays of numbers
 
-  pub array_written : (class : List ℕ) (of : Prim) (parts : List Part) → AreKnown parts → (before after : Labels) (p : ℕ) (t : Words) → fields_fit (field (codes "items") (many (kinded (Plain of))) ∷ []) (fittings parts) [] before ≡ Some after → Stands before p t
-      → p + length (array_bytes of (writings parts) p t).0 ≤ last_place
-      → IsArray class of p t (Object class (pos 1) parts) (array_bytes of (writings parts) p t).0 (array_bytes of (writings parts) p t).1 × Stands after (p + length (array_bytes of (writings parts) p t).0) (array_bytes of (writings parts) p t).1
+  pub array_written : (class : List ℕ) (of : Prim) (parts : List Part) → AreKnown object classes parts → (before after : Labels) (p : ℕ) (t : Words) → fields_fit (field (codes "items") (many (kinded (Plain of))) ∷ []) (fittings classes parts) [] before ≡ Some after → Stands before p t
+      → p + length (array_bytes of (writings classes parts) p t).0 ≤ last_place
+      → IsArray class of p t (Object class (pos 1) parts) (array_bytes of (writings classes parts) p t).0 (array_bytes of (writings classes parts) p t).1 × Stands after (p + length (array_bytes of (writings classes parts) p t).0) (array_bytes of (writings classes parts) p t).1
   array_written class of [] ih before after p t e s room = absurd cc
   array_written class of (y ∷ z ∷ ys) ih before after p t e s room =
       let f = first_fits classes (codes "items") (many (kinded (Plain of))) [] y (z ∷ ys) before after e in

@@ -2,7 +2,6 @@
 use Rattle.std.proofs.Common.{◌≡◌, ◌&&◌, ◌||◌, ℕ, ◌+◌, ◌≤◌, ℤ, pos, negsuc, Bool, true, false, cond, List, [], ◌∷◌, ◌++◌, length, map, unwrap_or, Option, Some, None, refl, sym, ap, subst, ◌∙◌, arith}
 use Rattle.std.proofs.lemmas.List.{length-append}
 use Rattle.std.proofs.lemmas.Option.{option_and_then_some}
-use Rattle.std.proofs.lemmas.Slice.Eq.{bytes_eq-Decides}
 use Rattle.std.specs.List.{list_any}
 use Rattle.std.specs.Map.{lookup}
 use Rattle.std.specs.Str.{bytes_eq}
@@ -22,11 +21,11 @@ use Rattle.rio_format.specs.Fits.{Labels, Fitting, fields_fit, fixed_by, counted
 use Rattle.rio_format.specs.Slots.{kinded, based, base_field, member_field}
 use Rattle.rio_format.specs.Spelling.{Spellings, SpellsKind, SpellsCounted, SpellsEach, IsPart}
 use Rattle.rio_format.specs.State.{Words}
-use Rattle.rio_format.specs.Written.{Writing, fields_bytes, writing_of}
-use Rattle.rio_format.proofs.ValueCases.{Each}
+use Rattle.rio_format.specs.Written.{fields_bytes, writing_of}
+use Rattle.rio_format.proofs.Tests.{named_as}
 use Rattle.rio_format.proofs.WrittenPlaces.{Stands}
 use Rattle.rio_format.proofs.WrittenWays.{in_slot, in_counted, in_none, last_place}
-use Rattle.rio_format.proofs.WrittenLists.{IsWrittenAnywhere, stands_at, some_is}
+use Rattle.rio_format.proofs.WrittenLists.{AreKnown, fittings, writings, IsWrittenAnywhere, stands_at, some_is}
 
 -- ---- counters
 
@@ -111,12 +110,6 @@ module _ (object : Spellings) (classes : List ClassDef) where
 
   -- ---- the parts, one behind the other
 
-  abbrev fittings_of : List Part → List (List ℕ × Fitting)
-  fittings_of parts = map (λ y. (y.name, fitting_of classes y.value)) parts
-
-  abbrev writings_of : List Part → List Writing
-  writings_of parts = map (λ y. writing_of classes y.value) parts
-
   -- the parts of all slots, of which the last ones are these members'
   pub record AreParts (slots members : List Member) (counters : Counters) (parts : List Part) (after : Labels) (p : ℕ) (t : Words) (b : List ℕ × Words) : Type 0 where
     pub last : Counters
@@ -124,15 +117,11 @@ module _ (object : Spellings) (classes : List ClassDef) where
     pub stands : Stands after (p + length b.0) b.1
     pub readable : can_read_all (names_in counters) members ≡ true
 
-  named_as : (name own : List ℕ) (before after : Labels) (b : Bool) (o : Option Labels) → bytes_eq own name ≡ b → cond b o None ≡ Some after → (own ≡ name) × (o ≡ Some after)
-  named_as name own before after true o t e = ((bytes_eq-Decides own name).0 t, e)
-  named_as name own before after false o t e = absurd cc
-
   part_is : (name : List ℕ) (y : Part) → y.name ≡ name → y ≡ part name y.value
   part_is name y same = ap (λ (n : List ℕ). part n y.value) same
 
-  members_written : (ms : List Member) (parts : List Part) → Each (λ y. IsWrittenAnywhere object classes y.value) parts → (counters : Counters) (before after : Labels) (p : ℕ) (t : Words) → fields_fit (map member_field ms) (fittings_of parts) counters before ≡ Some after → Stands before p t
-      → p + length (fields_bytes (map member_field ms) (writings_of parts) p t).0 ≤ last_place → AreParts ms ms counters parts after p t (fields_bytes (map member_field ms) (writings_of parts) p t)
+  members_written : (ms : List Member) (parts : List Part) → AreKnown object classes parts → (counters : Counters) (before after : Labels) (p : ℕ) (t : Words) → fields_fit (map member_field ms) (fittings classes parts) counters before ≡ Some after → Stands before p t
+      → p + length (fields_bytes (map member_field ms) (writings classes parts) p t).0 ≤ last_place → AreParts ms ms counters parts after p t (fields_bytes (map member_field ms) (writings classes parts) p t)
   members_written [] [] ih counters before after p t e s room = record {
     last = counters;
     each = (refl, refl, refl);
@@ -144,13 +133,13 @@ module _ (object : Spellings) (classes : List ClassDef) where
   members_written (m ∷ ms) (y ∷ ys) ih counters before after p t e s room =
       let v = y.value in
       let a = (writing_of classes v).bytes (kinded m.kind) p t in
-      let r = fields_bytes (map member_field ms) (writings_of ys) (p + length a.0) a.1 in
+      let r = fields_bytes (map member_field ms) (writings classes ys) (p + length a.0) a.1 in
       let len = length-append a.0 r.0 in
-      let n = named_as m.name y.name before after (bytes_eq y.name m.name) _ refl e in
+      let n = named_as m.name y.name after (bytes_eq y.name m.name) _ refl e in
       let so_far = counted_by m m.kind v (fitting_of classes v).number counters refl (number_is classes v) in
-      option_and_then_some (fields_fit (map member_field ms) (fittings_of ys) (counted_so_far (member_field m) (fitting_of classes v).number counters)) ((fitting_of classes v).fits (counted_slot counters (kinded m.kind)) before) after n.1 (λ mid first rest.
+      option_and_then_some (fields_fit (map member_field ms) (fittings classes ys) (counted_so_far (member_field m) (fitting_of classes v).number counters)) ((fitting_of classes v).fits (counted_slot counters (kinded m.kind)) before) after n.1 (λ mid first rest.
       let one = kind_written v ih.0 counters m.kind before mid p t first s (omega (arith, room, len)) in
-      let rest1 = subst (λ (cs : Counters). fields_fit (map member_field ms) (fittings_of ys) cs mid ≡ Some after) so_far rest in
+      let rest1 = subst (λ (cs : Counters). fields_fit (map member_field ms) (fittings classes ys) cs mid ≡ Some after) so_far rest in
       let others = members_written ms ys ih.1 (counters_with m v counters) mid after (p + length a.0) a.1 rest1 one.stands (omega (arith, room, len)) in
       record {
         last = others.last;
@@ -169,19 +158,19 @@ module _ (object : Spellings) (classes : List ClassDef) where
         readable = ap (λ (b : Bool). b && can_read_all (names_with m (names_in counters)) ms) one.readable ∙ ap (λ (names : List (List ℕ)). can_read_all names ms) (sym (names_by m m.kind v counters refl)) ∙ others.readable;
       })
 
-  pub bases_written : (bs : List Base) (ms : List Member) (parts : List Part) → Each (λ y. IsWrittenAnywhere object classes y.value) parts → (counters : Counters) (before after : Labels) (p : ℕ) (t : Words)
-      → fields_fit (map base_field bs ++ map member_field ms) (fittings_of parts) counters before ≡ Some after → Stands before p t
-      → p + length (fields_bytes (map base_field bs ++ map member_field ms) (writings_of parts) p t).0 ≤ last_place → AreParts (map base_slot bs ++ ms) ms counters parts after p t (fields_bytes (map base_field bs ++ map member_field ms) (writings_of parts) p t)
+  pub bases_written : (bs : List Base) (ms : List Member) (parts : List Part) → AreKnown object classes parts → (counters : Counters) (before after : Labels) (p : ℕ) (t : Words)
+      → fields_fit (map base_field bs ++ map member_field ms) (fittings classes parts) counters before ≡ Some after → Stands before p t
+      → p + length (fields_bytes (map base_field bs ++ map member_field ms) (writings classes parts) p t).0 ≤ last_place → AreParts (map base_slot bs ++ ms) ms counters parts after p t (fields_bytes (map base_field bs ++ map member_field ms) (writings classes parts) p t)
   bases_written [] ms parts ih counters before after p t e s room = members_written ms parts ih counters before after p t e s room
   bases_written (b ∷ bs) ms [] ih counters before after p t e s room = absurd cc
   bases_written (b ∷ bs) ms (y ∷ ys) ih counters before after p t e s room =
       let v = y.value in
       let fields = map base_field bs ++ map member_field ms in
       let a = (writing_of classes v).bytes (based b.name b.version) p t in
-      let r = fields_bytes fields (writings_of ys) (p + length a.0) a.1 in
+      let r = fields_bytes fields (writings classes ys) (p + length a.0) a.1 in
       let len = length-append a.0 r.0 in
-      let n = named_as [] y.name before after (bytes_eq y.name []) _ refl e in
-      option_and_then_some (fields_fit fields (fittings_of ys) counters) ((fitting_of classes v).fits (based b.name b.version) before) after n.1 (λ mid first rest.
+      let n = named_as [] y.name after (bytes_eq y.name []) _ refl e in
+      option_and_then_some (fields_fit fields (fittings classes ys) counters) ((fitting_of classes v).fits (based b.name b.version) before) after n.1 (λ mid first rest.
       let one = ih.0 (in_slot (based b.name b.version)) before mid p t first s (omega (arith, room, len)) in
       let others = bases_written bs ms ys ih.1 counters mid after (p + length a.0) a.1 rest one.1 (omega (arith, room, len)) in
       record {

@@ -8,6 +8,7 @@ use Rattle.rio_types.specs.declared.kind.Kind.TheVariants.{Plain, Fixed, Text as
 use Rattle.rio_types.specs.declared.kind.Prim.{Prim}
 use Rattle.rio_value.specs.declared.value.Value.{Value, List as Items}
 use Rattle.rio_value.specs.declared.value.Value.TheOpen as layer
+use Rattle.rio_value.specs.declared.value.Part.{Part}
 use Rattle.rio_format.specs.Fits.{Labels, Fitting, all_fit, fitting_step, fitting_of}
 use Rattle.rio_format.specs.Slots.{Slot, kinded, any_pointer, link, many}
 use Rattle.rio_format.specs.Spelling.{Spellings, SpellsTimes, SpellsNumber, SpellsNumbers, IsLink}
@@ -20,6 +21,18 @@ use Rattle.rio_format.proofs.WrittenWays.{Way, in_slot, in_counted, SpellsSlot, 
 -- wherever it may stand
 abbrev pub IsWrittenAnywhere : Spellings → List ClassDef → Value → Type 0
 IsWrittenAnywhere object classes v = (way : Way) → IsWritten object way v (fitting_of classes v) (writing_of classes v)
+
+abbrev pub AreKnown : Spellings → List ClassDef → List Part → Type 0
+AreKnown object classes parts = Each (λ y. IsWrittenAnywhere object classes y.value) parts
+
+abbrev pub part_fitting : List ClassDef → Part → List ℕ × Fitting
+part_fitting classes y = (y.name, fitting_of classes y.value)
+
+abbrev pub fittings : List ClassDef → List Part → List (List ℕ × Fitting)
+fittings classes parts = map (part_fitting classes) parts
+
+abbrev pub writings : List ClassDef → List Part → List Writing
+writings classes parts = map (λ y. writing_of classes y.value) parts
 
 pub stands_at : (labels : Labels) (p q : ℕ) (t : Words) → p ≡ q → Stands labels p t → Stands labels q t
 stands_at labels p q t same s = subst (λ (r : ℕ). Stands labels r t) same s

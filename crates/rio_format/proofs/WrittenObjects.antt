@@ -1,5 +1,5 @@
 -- What is written for an object that fits spells it.
-use Rattle.std.proofs.Common.{◌≡◌, ◌&&◌, ℕ, ◌+◌, ◌^◌, ◌<◌, ◌≤◌, ℤ, pos, Bool, true, false, cond, List, [], ◌∷◌, ◌++◌, length, map, codes, unwrap_or, Option, Some, None, refl, sym, ap, subst, arith}
+use Rattle.std.proofs.Common.{◌≡◌, ◌&&◌, ℕ, ◌+◌, ◌^◌, ◌<◌, ◌≤◌, ℤ, pos, Bool, true, false, cond, List, [], ◌∷◌, ◌++◌, length, codes, unwrap_or, Option, Some, None, refl, sym, ap, subst, arith}
 use Rattle.std.proofs.lemmas.Bool.Decides.{Decides-int_eq}
 use Rattle.std.proofs.lemmas.Slice.Eq.{bytes_eq-Decides}
 use Rattle.std.specs.Option.{option_map}
@@ -19,13 +19,12 @@ use Rattle.rio_format.specs.Fits.{Labels, Fitting, fields_fit, parts_fit}
 use Rattle.rio_format.specs.Slots.{Field, field, kinded, many, body_fields, form_fields}
 use Rattle.rio_format.specs.Spelling.{Spellings, SpellsBody, SpellsForm, SpellsVersion, IsBare, IsArray}
 use Rattle.rio_format.specs.State.{Words}
-use Rattle.rio_format.specs.Written.{Writing, bare_bytes, array_bytes, body_bytes, form_bytes, writing_of}
-use Rattle.rio_format.proofs.ValueCases.{Each}
+use Rattle.rio_format.specs.Written.{bare_bytes, array_bytes, body_bytes, form_bytes}
 use Rattle.rio_format.proofs.WrittenPlaces.{Stands, stands_more}
 use Rattle.rio_format.proofs.WrittenWays.{last_place}
-use Rattle.rio_format.proofs.WrittenLists.{IsWrittenAnywhere, stands_at}
+use Rattle.rio_format.proofs.WrittenLists.{AreKnown, fittings, writings, stands_at}
 use Rattle.rio_format.proofs.WrittenFields.{bases_written}
-use Rattle.rio_format.proofs.WrittenBodies.{part_fitting, bare_fields, bare_written, array_written}
+use Rattle.rio_format.proofs.WrittenBodies.{bare_fields, bare_written, array_written}
 use Rattle.rio_format.proofs.WrittenArrays.{listed_written, arrayed_written}
 
 -- ---- the bodies of classes
@@ -90,33 +89,24 @@ first_version version fields parts before after true t e = ((Decides-int_eq vers
 first_version version fields parts before after false t e = absurd cc
 
 module _ (object : Spellings) (classes : List ClassDef) where
-  abbrev AreKnown : List Part → Type 0
-  AreKnown parts = Each (λ y. IsWrittenAnywhere object classes y.value) parts
-
-  abbrev fittings : List Part → List (List ℕ × Fitting)
-  fittings parts = map (part_fitting classes) parts
-
-  abbrev writings : List Part → List Writing
-  writings parts = map (λ y. writing_of classes y.value) parts
-
   -- a body that the class has, and what is written of it
   record IsBodyWritten (class : List ℕ) (version : ℤ) (parts : List Part) (own : Option Body) (found : Option ClassDef) (after : Labels) (p : ℕ) (t : Words) (b : List ℕ × Words) : Type 0 where
     spelled : (count : ℕ) → SpellsBody object class count (headed_from own found) p t (Object class version parts) b.0 b.1
     stands : Stands after (p + length b.0) b.1
 
-  described_written : (class : List ℕ) (version : ℤ) (c : ClassDef) (parts : List Part) (own : Option Body) (found : Option ClassDef) → AreKnown parts → (before after : Labels) (p : ℕ) (t : Words) → c.version ≡ version → (can_read_all [] c.members ≡ true → headed_from own found ≡ described c)
-      → parts_fit (body_fields (Some (described c))) (fittings parts) before ≡ Some after → Stands before p t → p + length (body_bytes (Some (described c)) (writings parts) p t).0 ≤ last_place
-      → IsBodyWritten class version parts own found after p t (body_bytes (Some (described c)) (writings parts) p t)
+  described_written : (class : List ℕ) (version : ℤ) (c : ClassDef) (parts : List Part) (own : Option Body) (found : Option ClassDef) → AreKnown object classes parts → (before after : Labels) (p : ℕ) (t : Words) → c.version ≡ version → (can_read_all [] c.members ≡ true → headed_from own found ≡ described c)
+      → parts_fit (body_fields (Some (described c))) (fittings classes parts) before ≡ Some after → Stands before p t → p + length (body_bytes (Some (described c)) (writings classes parts) p t).0 ≤ last_place
+      → IsBodyWritten class version parts own found after p t (body_bytes (Some (described c)) (writings classes parts) p t)
   described_written class version c parts own found ih before after p t same is e s room =
-      let b = body_bytes (Some (described c)) (writings parts) p t in
+      let b = body_bytes (Some (described c)) (writings classes parts) p t in
       let f = bases_written object classes c.bases c.members parts ih [] before after p t e s room in
       let spelled : (count : ℕ) → SpellsBody object class count (described c) p t (Object class version parts) b.0 b.1 =
       λ count. record { parts = parts; value = ap (λ (v : ℤ). Object class v parts) (sym same); inside = record { counters = f.last; each = f.each } } in
       record { spelled = λ count. subst (λ (body : Body). SpellsBody object class count body p t (Object class version parts) b.0 b.1) (sym (is f.readable)) (spelled count); stands = f.stands }
 
-  body_written : (class : List ℕ) (version : ℤ) (parts : List Part) (own : Option Body) (found : Option ClassDef) → AreKnown parts → ((body : Body) → own ≡ Some body → IsOfVersion version body) → ((c : ClassDef) → found ≡ Some c → c.version ≡ version) → (before after : Labels) (p : ℕ) (t : Words)
-      → parts_fit (body_fields (declared_from found own)) (fittings parts) before ≡ Some after → Stands before p t → p + length (body_bytes (declared_from found own) (writings parts) p t).0 ≤ last_place
-      → IsBodyWritten class version parts own found after p t (body_bytes (declared_from found own) (writings parts) p t)
+  body_written : (class : List ℕ) (version : ℤ) (parts : List Part) (own : Option Body) (found : Option ClassDef) → AreKnown object classes parts → ((body : Body) → own ≡ Some body → IsOfVersion version body) → ((c : ClassDef) → found ≡ Some c → c.version ≡ version) → (before after : Labels) (p : ℕ) (t : Words)
+      → parts_fit (body_fields (declared_from found own)) (fittings classes parts) before ≡ Some after → Stands before p t → p + length (body_bytes (declared_from found own) (writings classes parts) p t).0 ≤ last_place
+      → IsBodyWritten class version parts own found after p t (body_bytes (declared_from found own) (writings classes parts) p t)
   body_written class version parts (Some (described c)) found ih built listed_in before after p t e s room = described_written class version c parts (Some (described c)) found ih before after p t (built (described c) refl) (λ _. refl) e s room
   body_written class version parts (Some listed) found ih built listed_in before after p t e s room =
       let f = listed_written object classes parts ih before after p t e s room in
@@ -132,15 +122,15 @@ module _ (object : Spellings) (classes : List ClassDef) where
 
   -- what is written for an object spells it
   abbrev IsFormWritten : List ℕ → ℤ → Form → List Part → Type 0
-  IsFormWritten class version form parts = (before after : Labels) (p : ℕ) (t : Words) → parts_fit (form_fields classes class version form) (fittings parts) before ≡ Some after → Stands before p t → p + length (form_bytes classes class version form (writings parts) p t).0 ≤ last_place
-      → SpellsForm object classes class form p t (Object class version parts) (form_bytes classes class version form (writings parts) p t).0 (form_bytes classes class version form (writings parts) p t).1 × Stands after (p + length (form_bytes classes class version form (writings parts) p t).0) (form_bytes classes class version form (writings parts) p t).1
+  IsFormWritten class version form parts = (before after : Labels) (p : ℕ) (t : Words) → parts_fit (form_fields classes class version form) (fittings classes parts) before ≡ Some after → Stands before p t → p + length (form_bytes classes class version form (writings classes parts) p t).0 ≤ last_place
+      → SpellsForm object classes class form p t (Object class version parts) (form_bytes classes class version form (writings classes parts) p t).0 (form_bytes classes class version form (writings classes parts) p t).1 × Stands after (p + length (form_bytes classes class version form (writings classes parts) p t).0) (form_bytes classes class version form (writings classes parts) p t).1
 
-  headed_written : (class : List ℕ) (n : ℕ) (parts : List Part) → AreKnown parts → 0 < n → n < 2 ^ 16 → cast_unsigned w16 (pos n) ≡ n → IsFormWritten class (pos n) headed parts
+  headed_written : (class : List ℕ) (n : ℕ) (parts : List Part) → AreKnown object classes parts → 0 < n → n < 2 ^ 16 → cast_unsigned w16 (pos n) ≡ n → IsFormWritten class (pos n) headed parts
   headed_written class n parts ih some low same before after p t e s room =
       let own = built_in class (pos n) in
       let found = find_in classes class (pos n) in
       let version = big_bytes 2 (cast_unsigned w16 (pos n)) in
-      let b = body_bytes (declared_from found own) (writings parts) (p + 4 + 2) t in
+      let b = body_bytes (declared_from found own) (writings classes parts) (p + 4 + 2) t in
       let inner : List ℕ = version ++ b.0 in
       let f = body_written class (pos n) parts own found ih (built_version class (pos n)) (found_version classes class (pos n)) before after (p + 4 + 2) t e (stands_more before p (p + 4 + 2) t (omega arith) s) (omega (arith, room)) in
       let stated : SpellsVersion n None version = (some, low, ap (big_bytes 2) same) in (
@@ -148,15 +138,15 @@ module _ (object : Spellings) (classes : List ClassDef) where
         stands_at after (p + 4 + 2 + length b.0) (p + length (big_bytes 4 (length inner + 2 ^ 30) ++ inner)) b.1 (omega arith) f.stands,
       )
 
-  pub formed_written : (class : List ℕ) (n : ℕ) (parts : List Part) → AreKnown parts → 0 < n → n < 2 ^ 16 → cast_unsigned w16 (pos n) ≡ n → (form : Form) → form_of class ≡ form → IsFormWritten class (pos n) form parts
+  pub formed_written : (class : List ℕ) (n : ℕ) (parts : List Part) → AreKnown object classes parts → 0 < n → n < 2 ^ 16 → cast_unsigned w16 (pos n) ≡ n → (form : Form) → form_of class ≡ form → IsFormWritten class (pos n) form parts
   formed_written class n parts ih some low same bare is before after p t e s room =
-      let b = bare_bytes (writings parts) p t in
-      let f = first_version (pos n) bare_fields (fittings parts) before after (int_eq (pos n) (pos 1)) refl e in
+      let b = bare_bytes (writings classes parts) p t in
+      let f = first_version (pos n) bare_fields (fittings classes parts) before after (int_eq (pos n) (pos 1)) refl e in
       let r = bare_written object classes parts ih before after p t f.1 s room in
       (subst (λ (v : Value). IsBare t v b.0 b.1) (λ i. Object (sym (bare_class class is) i) (sym f.0 i) parts) r.0, r.1)
   formed_written class n parts ih some low same (numbers of) is before after p t e s room =
-      let b = array_bytes of (writings parts) p t in
-      let f = first_version (pos n) (field (codes "items") (many (kinded (Plain of))) ∷ []) (fittings parts) before after (int_eq (pos n) (pos 1)) refl e in
+      let b = array_bytes of (writings classes parts) p t in
+      let f = first_version (pos n) (field (codes "items") (many (kinded (Plain of))) ∷ []) (fittings classes parts) before after (int_eq (pos n) (pos 1)) refl e in
       let r = array_written object classes class of parts ih before after p t f.1 s room in
       (subst (λ (v : ℤ). IsArray class of p t (Object class v parts) b.0 b.1) (sym f.0) r.0, r.1)
   formed_written class n parts ih some low same headed is before after p t e s room = headed_written class n parts ih some low same before after p t e s room

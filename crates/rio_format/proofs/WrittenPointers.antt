@@ -2,7 +2,6 @@
 use Rattle.std.proofs.Common.{◌≡◌, ◌&&◌, ◌||◌, ◌==◌, inl, inr, ℕ, ◌+◌, ◌-◌, ◌^◌, ◌≤◌, ℤ, Bool, true, false, cond, eqb, List, [], ◌∷◌, ◌++◌, length, Option, Some, None, not, refl, sym, ap, subst, ◌∙◌, arith}
 use Rattle.std.proofs.lemmas.Bool.{eqb-true}
 use Rattle.std.proofs.lemmas.List.{length-append}
-use Rattle.std.proofs.lemmas.Slice.Eq.{bytes_eq-Decides}
 use Rattle.std.specs.Prelude.{slice_get}
 use Rattle.std.specs.List.{find, list_any}
 use Rattle.std.specs.Str.{bytes_eq}
@@ -19,6 +18,7 @@ use Rattle.rio_format.specs.Slots.{kinded, any_pointer, is_word}
 use Rattle.rio_format.specs.Spelling.{Spellings, IsPlain, SpellsClass, SpellsPointer, IsNew}
 use Rattle.rio_format.specs.State.{Words, with_label}
 use Rattle.rio_format.specs.Written.{Writing, class_by, class_bytes, labelled, counted, both, writing_step, writing_of}
+use Rattle.rio_format.proofs.Tests.{both_true, named_as}
 use Rattle.rio_format.proofs.WrittenPlaces.{Stands, stands_more, stands_name, stands_label, named_before}
 use Rattle.rio_format.proofs.WrittenWays.{Way, in_slot, fit_slot, SpellsWay, last_place, IsWrittenAt, IsWritten}
 use Rattle.rio_format.proofs.WrittenLists.{IsWrittenAnywhere, stands_at}
@@ -44,10 +44,6 @@ no_reference : (classes : List ClassDef) (own : Option (List ℕ × ℤ)) (class
 no_reference classes None class before after e = cc
 no_reference classes (Some own) class before after e = cc
 
-class_is : (own class : List ℕ) (o : Option Labels) (after : Labels) (b : Bool) → bytes_eq own class ≡ b → cond b o None ≡ Some after → own ≡ class
-class_is own class o after true t e = (bytes_eq-Decides own class).0 t
-class_is own class o after false t e = absurd cc
-
 layer_class : (classes : List ClassDef) (x : Value-F Value Part) (class : List ℕ) (before after : Labels) → (fit_layer classes x).fits (kinded (Inline class)) before ≡ Some after → (write_layer classes x).class ≡ class
 layer_class classes (layer.Int z) class before after e = absurd cc
 layer_class classes (layer.Bits32 n) class before after e = absurd cc
@@ -55,7 +51,7 @@ layer_class classes (layer.Bits64 n) class before after e = absurd cc
 layer_class classes (layer.Bool b) class before after e = absurd cc
 layer_class classes (layer.Text t) class before after e = absurd cc
 layer_class classes (layer.List vs) class before after e = absurd cc
-layer_class classes (layer.Object own version parts) class before after e = class_is own class _ after (bytes_eq own class) refl e
+layer_class classes (layer.Object own version parts) class before after e = (named_as class own after (bytes_eq own class) _ refl e).0
 layer_class classes (layer.Pointed label object) class before after e = absurd (no_pointer classes label (fitting_of classes object) (fitting_of classes object).class class before after e)
 layer_class classes layer.Null class before after e = absurd cc
 layer_class classes (layer.Back label) class before after e = absurd (no_reference classes (slice_get before label) class before after e)
@@ -103,13 +99,9 @@ record IsPointerWay (object : Spellings) (own : List ℕ × ℤ) (way : Way) : T
   word : is_word own.0 ≡ true
   gives : (p : ℕ) (t : Words) (v : Value) (bytes : List ℕ) (t' : Words) → SpellsPointer object p t v bytes t' → SpellsWay object way p t v bytes t'
 
-first_true : (a b : Bool) → (a && b) ≡ true → a ≡ true
-first_true true b e = refl
-first_true false b e = absurd cc
-
 pointer_way : (object : Spellings) (classes : List ClassDef) (own : List ℕ × ℤ) (way : Way) → may_point classes own (fit_slot way) ≡ true → IsPointerWay object own way
-pointer_way object classes own (in_slot (kinded (Pointer c))) e = record { word = first_true _ _ e; gives = λ p t v bytes t' c. c }
-pointer_way object classes own (in_slot any_pointer) e = record { word = first_true _ _ e; gives = λ p t v bytes t' c. c }
+pointer_way object classes own (in_slot (kinded (Pointer c))) e = record { word = (both_true _ _ e).0; gives = λ p t v bytes t' c. c }
+pointer_way object classes own (in_slot any_pointer) e = record { word = (both_true _ _ e).0; gives = λ p t v bytes t' c. c }
 pointer_way object classes own other e = absurd cc
 
 record PointsTo (label : ℕ) (before : Labels) (m : Bool) (o : Option Labels) (after : Labels) : Type 0 where

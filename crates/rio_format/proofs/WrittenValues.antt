@@ -21,20 +21,16 @@ use Rattle.rio_format.specs.Slots.{kinded, based, fields_of}
 use Rattle.rio_format.specs.Spelling.{Spellings, SpellsObject, Spells}
 use Rattle.rio_format.specs.State.{Words, no_words}
 use Rattle.rio_format.specs.Written.{Writing, form_bytes, writing_step, writing_of}
+use Rattle.rio_format.proofs.Tests.{both_true, named_as}
 use Rattle.rio_format.proofs.ValueCases.{Each, Steps, by_cases, fold_Int, fold_Bits32, fold_Bits64, fold_Bool, fold_Text, fold_List, fold_Object, fold_Pointed, fold_Null, fold_Back, fold_Opaque}
 use Rattle.rio_format.proofs.WrittenNumbers.{version_bytes}
 use Rattle.rio_format.proofs.WrittenPlaces.{Stands, stands_none}
 use Rattle.rio_format.proofs.WrittenWays.{Way, in_slot, last_place, IsWrittenAt, IsWritten, int_written, bits32_written, bits64_written, truth_written, text_written, null_written, back_written}
-use Rattle.rio_format.proofs.WrittenLists.{IsWrittenAnywhere, list_written}
-use Rattle.rio_format.proofs.WrittenBodies.{part_fitting}
+use Rattle.rio_format.proofs.WrittenLists.{AreKnown, part_fitting, fittings, writings, IsWrittenAnywhere, list_written}
 use Rattle.rio_format.proofs.WrittenObjects.{formed_written}
 use Rattle.rio_format.proofs.WrittenPointers.{pointed_written, inline_class}
 
 -- ---- objects
-
-class_as : (own class : List ℕ) (o : Option Labels) (after : Labels) (b : Bool) → bytes_eq own class ≡ b → cond b o None ≡ Some after → (own ≡ class) × (o ≡ Some after)
-class_as own class o after true t e = ((bytes_eq-Decides own class).0 t, e)
-class_as own class o after false t e = absurd cc
 
 based_as : (own class : List ℕ) (same : Bool) (o : Option Labels) (after : Labels) (b : Bool) → bytes_eq own class ≡ b → cond (b && same) o None ≡ Some after → (own ≡ class) × (o ≡ Some after)
 based_as own class true o after true t e = ((bytes_eq-Decides own class).0 t, e)
@@ -42,34 +38,28 @@ based_as own class false o after true t e = absurd cc
 based_as own class same o after false t e = absurd cc
 
 module _ (classes : List ClassDef) where
-  abbrev fittings : List Part → List (List ℕ × Fitting)
-  fittings parts = map (part_fitting classes) parts
+  abbrev pub object_fitting : List ℕ → ℤ → List Part → Fitting
+  object_fitting class version parts = fitting_step classes (layer.Object class version (fittings classes parts))
 
-  abbrev writings : List Part → List Writing
-  writings parts = map (λ y. writing_of classes y.value) parts
-
-  abbrev object_fitting : List ℕ → ℤ → List Part → Fitting
-  object_fitting class version parts = fitting_step classes (layer.Object class version (fittings parts))
-
-  abbrev object_writing : List ℕ → ℤ → List Part → Writing
-  object_writing class version parts = writing_step classes (layer.Object class version (writings parts))
+  abbrev pub object_writing : List ℕ → ℤ → List Part → Writing
+  object_writing class version parts = writing_step classes (layer.Object class version (writings classes parts))
 
   -- one level above its parts
-  module _ (levels : ℕ) (class : List ℕ) (n : ℕ) (parts : List Part) (ih : Each (λ y. IsWrittenAnywhere (SpellsObject levels classes) classes y.value) parts) (some : 0 < n) (low : n < 2 ^ 16) (same : cast_unsigned w16 (pos n) ≡ n) where
-    own_written : (c : List ℕ) (before after : Labels) (p : ℕ) (t : Words) → class ≡ c → parts_fit (fields_of classes class (pos n)) (fittings parts) before ≡ Some after → Stands before p t → p + length (form_bytes classes class (pos n) (form_of class) (writings parts) p t).0 ≤ last_place
-        → IsWrittenAt (SpellsObject (suc levels) classes) (in_slot (kinded (Inline c))) (Object class (pos n) parts) after p t (form_bytes classes class (pos n) (form_of class) (writings parts) p t)
+  module _ (levels : ℕ) (class : List ℕ) (n : ℕ) (parts : List Part) (ih : AreKnown (SpellsObject levels classes) classes parts) (some : 0 < n) (low : n < 2 ^ 16) (same : cast_unsigned w16 (pos n) ≡ n) where
+    own_written : (c : List ℕ) (before after : Labels) (p : ℕ) (t : Words) → class ≡ c → parts_fit (fields_of classes class (pos n)) (fittings classes parts) before ≡ Some after → Stands before p t → p + length (form_bytes classes class (pos n) (form_of class) (writings classes parts) p t).0 ≤ last_place
+        → IsWrittenAt (SpellsObject (suc levels) classes) (in_slot (kinded (Inline c))) (Object class (pos n) parts) after p t (form_bytes classes class (pos n) (form_of class) (writings classes parts) p t)
     unfolding SpellsObject
     own_written c before after p t is e s room =
-        let b = form_bytes classes class (pos n) (form_of class) (writings parts) p t in
+        let b = form_bytes classes class (pos n) (form_of class) (writings classes parts) p t in
         let r = formed_written (SpellsObject levels classes) classes class n parts ih some low same (form_of class) refl before after p t e s room in
         (subst (λ (k : List ℕ). SpellsObject (suc levels) classes k p t (Object class (pos n) parts) b.0 b.1) is r.0, r.1)
 
     object_written : (way : Way) → IsWritten (SpellsObject (suc levels) classes) way (Object class (pos n) parts) (object_fitting class (pos n) parts) (object_writing class (pos n) parts)
     object_written (in_slot (kinded (Inline c))) before after p t e s room =
-        let f = class_as class c (parts_fit (fields_of classes class (pos n)) (fittings parts) before) after (bytes_eq class c) refl e in
+        let f = named_as c class after (bytes_eq class c) (parts_fit (fields_of classes class (pos n)) (fittings classes parts) before) refl e in
         own_written c before after p t f.0 f.1 s room
     object_written (in_slot (based c version)) before after p t e s room =
-        let f = based_as class c (int_eq (pos n) version) (parts_fit (fields_of classes class (pos n)) (fittings parts) before) after (bytes_eq class c) refl e in
+        let f = based_as class c (int_eq (pos n) version) (parts_fit (fields_of classes class (pos n)) (fittings classes parts) before) after (bytes_eq class c) refl e in
         own_written c before after p t f.0 f.1 s room
     object_written other before after p t e s room = absurd cc
 
@@ -92,20 +82,22 @@ module _ (classes : List ClassDef) where
   part_writes : (p : Part) → fold-Part Writing Writing (writing_step classes) (λ p. p.value) p ≡ writing_of classes p.value
   part_writes p = fold_out-Part Writing Writing (writing_step classes) (λ p. p.value) p
 
-  both : (a b : Bool) → (a && b) ≡ true → (a ≡ true) × (b ≡ true)
-  both true b e = (refl, e)
-  both false b e = absurd cc
+  pub fit_object : (class : List ℕ) (version : ℤ) (parts : List Part) → fitting_of classes (Object class version parts) ≡ object_fitting class version parts
+  fit_object class version parts = fold_Object (fitting_step classes) (λ p. (p.name, p.value)) class version parts ∙ ap (λ (g : Part → List ℕ × Fitting). fitting_step classes (layer.Object class version (map g parts))) (λ i p. part_fits p i)
+
+  pub write_object : (class : List ℕ) (version : ℤ) (parts : List Part) → writing_of classes (Object class version parts) ≡ object_writing class version parts
+  write_object class version parts = fold_Object (writing_step classes) (λ p. p.value) class version parts ∙ ap (λ (g : Part → Writing). writing_step classes (layer.Object class version (map g parts))) (λ i p. part_writes p i)
 
   each_deep : (vs : List Value) (levels : ℕ) → Each IsWrittenDeep vs → greatest (map depth_of vs) ≤ levels → list_all (λ b. b) (map has_versions vs) ≡ true → Each (IsWrittenAnywhere (SpellsObject levels classes) classes) vs
   each_deep [] levels known le versions = tt
   each_deep (v ∷ vs) levels known le versions =
-      let e = both (has_versions v) (list_all (λ b. b) (map has_versions vs)) versions in
+      let e = both_true (has_versions v) (list_all (λ b. b) (map has_versions vs)) versions in
       (known.0 levels (omega (arith, le)) e.0, each_deep vs levels known.1 (omega (arith, le)) e.1)
 
   each_part_deep : (ps : List Part) (levels : ℕ) → Each (λ y. IsWrittenDeep y.value) ps → greatest (map (λ y. depth_of y.value) ps) ≤ levels → list_all (λ b. b) (map (λ y. has_versions y.value) ps) ≡ true → Each (λ y. IsWrittenAnywhere (SpellsObject levels classes) classes y.value) ps
   each_part_deep [] levels known le versions = tt
   each_part_deep (y ∷ ys) levels known le versions =
-      let e = both (has_versions y.value) (list_all (λ b. b) (map (λ y. has_versions y.value) ys)) versions in
+      let e = both_true (has_versions y.value) (list_all (λ b. b) (map (λ y. has_versions y.value) ys)) versions in
       (known.0 levels (omega (arith, le)) e.0, each_part_deep ys levels known.1 (omega (arith, le)) e.1)
 
   opaque_written : (object : Spellings) (class : List ℕ) (len : ℕ) (way : Way) → IsWritten object way (Opaque class len) (fitting_step classes (layer.Opaque class len)) (writing_step classes (layer.Opaque class len))
@@ -138,12 +130,8 @@ module _ (classes : List ClassDef) where
       fold_Object depth_step (λ p. p.value) class version parts ∙ ap (λ (g : Part → ℕ). greatest (map g parts) + 1) (λ i p. part_depth p i) in
       let whole : (int_le (pos 1) version && int_le version (pos 65535) && list_all (λ b. b) (map (λ y. has_versions y.value) parts)) ≡ true =
       sym (fold_Object versions_step (λ p. p.value) class version parts ∙ ap (λ (g : Part → Bool). int_le (pos 1) version && int_le version (pos 65535) && list_all (λ b. b) (map g parts)) (λ i p. part_versions p i)) ∙ versions in
-      let v = both (int_le (pos 1) version && int_le version (pos 65535)) (list_all (λ b. b) (map (λ y. has_versions y.value) parts)) whole in
-      let fit : fitting_of classes (Object class version parts) ≡ object_fitting class version parts =
-      fold_Object (fitting_step classes) (λ p. (p.name, p.value)) class version parts ∙ ap (λ (g : Part → List ℕ × Fitting). fitting_step classes (layer.Object class version (map g parts))) (λ i p. part_fits p i) in
-      let write : writing_of classes (Object class version parts) ≡ object_writing class version parts =
-      fold_Object (writing_step classes) (λ p. p.value) class version parts ∙ ap (λ (g : Part → Writing). writing_step classes (layer.Object class version (map g parts))) (λ i p. part_writes p i) in
-      by_layer (SpellsObject levels classes) (Object class version parts) (object_fitting class version parts) (object_writing class version parts) way fit write (object_deep class version parts levels known (omega (arith, le, depth)) v.0 v.1 way)
+      let v = both_true (int_le (pos 1) version && int_le version (pos 65535)) (list_all (λ b. b) (map (λ y. has_versions y.value) parts)) whole in
+      by_layer (SpellsObject levels classes) (Object class version parts) (object_fitting class version parts) (object_writing class version parts) way (fit_object class version parts) (write_object class version parts) (object_deep class version parts levels known (omega (arith, le, depth)) v.0 v.1 way)
 
   pointed_deep : (label : ℕ) (object : Value) → IsWrittenDeep object → IsWrittenDeep (Pointed label object)
   pointed_deep label object known levels le versions way =

@@ -17,6 +17,7 @@ use Rattle.rio_format.specs.Slots.{Slot, kinded, based, flags, any_pointer, link
 use Rattle.rio_format.specs.Spelling.{Spelling, Spellings, SpellsKind, SpellsCounted, SpellsTimes, SpellsPointer, IsLink, IsBack}
 use Rattle.rio_format.specs.State.{Words}
 use Rattle.rio_format.specs.Written.{Writing, writing_step}
+use Rattle.rio_format.proofs.Tests.{both_true}
 use Rattle.rio_format.proofs.WrittenPlaces.{Stands, stands_more, below_at, position_of}
 use Rattle.rio_format.proofs.WrittenNumbers.{int_number, counter_number, flags_bytes, bits32_number, bits64_number, truth_number}
 
@@ -84,10 +85,6 @@ passed false before after e = absurd cc
 pub leaf_stands : (before after : Labels) (p n : ℕ) (t : Words) → before ≡ after → Stands before p t → Stands after (p + n) t
 leaf_stands before after p n t same s = subst (λ (l : Labels). Stands l (p + n) t) same (stands_more before p (p + n) t (omega arith) s)
 
-both : (a b : Bool) → (a && b) ≡ true → (a ≡ true) × (b ≡ true)
-both true b e = (refl, e)
-both false b e = absurd cc
-
 not_true : (b : Bool) → b ≡ true → not b ≡ false
 not_true b e = ap not e
 
@@ -121,7 +118,7 @@ module _ (object : Spellings) (classes : List ClassDef) where
   int_written z (in_slot (kinded Counter)) before after p t e s room = let f = passed _ before after e in (counter_number z t f.0, leaf_stands before after p _ t f.1 s)
   int_written (pos n) (in_slot flags) before after p t e s room =
       let f = passed _ before after e in
-      let b = both (ltb n (2 ^ 32)) (bit_and n 16 == 0) f.0 in
+      let b = both_true (ltb n (2 ^ 32)) (bit_and n 16 == 0) f.0 in
       let lt : n < 2 ^ 32 = ltb-true _ _ b.0 in
       (record { n = n; value = refl; low = lt; plain = not_true _ b.1; spelled = ap (big_bytes 4) (flags_bytes n lt); words = refl }, leaf_stands before after p _ t f.1 s)
   int_written z other before after p t e s room = absurd cc
