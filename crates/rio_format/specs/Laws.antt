@@ -1,0 +1,61 @@
+-- How reading, spelling and writing of objects belong together.
+use Rattle.std.specs.Prelude.{◌≡◌, ◌≤◌, ◌<◌, ℕ, ◌+◌, ◌-◌, ◌^◌, pos, int_le, Bool, true, ◌&&◌, List, ◌++◌, length, slice_index, Ok, Err, IsTrue}
+use Rattle.std.specs.List.{list_all}
+use Rattle.rio_types.specs.declared.class.ClassDef.{ClassDef}
+use Rattle.rio_value.specs.Depth.{depth_of}
+use Rattle.rio_value.specs.declared.value.Value.{Value}
+use Rattle.rio_value.specs.declared.value.Value.TheOpen.{Value-F, Int, Bits32, Bits64, Bool as Truth, Text, List as Items, Object, Pointed, Null, Back, Opaque}
+use Rattle.rio_value.specs.declared.value.Value.TheFolds.{fold-Value}
+use Rattle.rio_format.specs.Fits.{Fits}
+use Rattle.rio_format.specs.Objects.{first_at, depth_limit}
+use Rattle.rio_format.specs.Spelling.{Spells}
+use Rattle.rio_format.specs.State.{State}
+use Rattle.rio_format.specs.Written.{written_form}
+use Rattle.rio_format.specs.declared.fault.ObjFault.{ObjFault}
+
+-- numbers from 0 to 255
+abbrev pub AreBytes : List ℕ → Type 0
+AreBytes bytes = (i : ℕ) → slice_index bytes i < 256
+
+-- what is read is spelled by the bytes before the place where reading stands
+abbrev pub ReadIsSpelled : Type 0
+ReadIsSpelled = (classes : List ClassDef) (class : List ℕ) (start : ℕ) (bytes : List ℕ) (v : Value) (s : State) → AreBytes bytes → first_at classes class start bytes ≡ Ok (v, s)
+    → (front : List ℕ) × (bytes ≡ front ++ s.at.rest) × Spells classes start class v front
+
+-- what is spelled is read, whatever follows, and reading stands behind it
+abbrev pub SpelledIsRead : Type 0
+SpelledIsRead = (classes : List ClassDef) (class : List ℕ) (start : ℕ) (v : Value) (front more : List ℕ) → Spells classes start class v front
+    → (s : State) × (first_at classes class start (front ++ more) ≡ Ok (v, s)) × (s.at.rest ≡ more)
+
+-- one prefix of the bytes spells one value
+abbrev pub IsSpelledOnce : Type 0
+IsSpelledOnce = (classes : List ClassDef) (class : List ℕ) (start : ℕ) (v w : Value) (front more other rest : List ℕ) → front ++ more ≡ other ++ rest → Spells classes start class v front → Spells classes start class w other
+    → (v ≡ w) × (front ≡ other)
+
+-- a prefix of the bytes spells no value where there is a fault
+abbrev pub FaultIsNotSpelled : Type 0
+FaultIsNotSpelled = (classes : List ClassDef) (class : List ℕ) (start : ℕ) (v : Value) (front more : List ℕ) (fault : ObjFault) → first_at classes class start (front ++ more) ≡ Err fault → Spells classes start class v front → ⊥
+
+-- one layer of a value: the version of an object can be written
+abbrev pub versions_step : Value-F Bool Bool → Bool
+versions_step (Int z) = true
+versions_step (Bits32 n) = true
+versions_step (Bits64 n) = true
+versions_step (Truth b) = true
+versions_step (Text t) = true
+versions_step (Items items) = list_all (λ b. b) items
+versions_step (Object class version parts) = int_le (pos 1) version && int_le version (pos 65535) && list_all (λ b. b) parts
+versions_step (Pointed label object) = object
+versions_step Null = true
+versions_step (Back label) = true
+versions_step (Opaque class len) = true
+
+-- the versions of all objects are from 1 to 65535
+abbrev pub has_versions : Value → Bool
+has_versions = fold-Value Bool Bool versions_step (λ p. p.value)
+
+-- What is written for a value that fits spells it, where it isn't too deep, its versions can be written and its places are
+-- below 2^30 - 2.
+abbrev pub WrittenIsSpelled : Type 0
+WrittenIsSpelled = (classes : List ClassDef) (class : List ℕ) (start : ℕ) (v : Value) → Fits classes class v → depth_of v ≤ depth_limit → IsTrue (has_versions v) → start + length (written_form classes start v) ≤ 2 ^ 30 - 2
+    → Spells classes start class v (written_form classes start v)

@@ -1,0 +1,9 @@
+pub mod Bodies
+pub mod Fits
+pub mod Laws
+pub mod Objects
+pub mod Prims
+pub mod Slots
+pub mod Spelling
+pub mod State
+pub mod Written

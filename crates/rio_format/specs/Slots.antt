@@ -1,0 +1,98 @@
+-- What may stand at a place within a value.
+use Rattle.std.specs.Prelude.{ℕ, zero, suc, ◌+◌, ℤ, pos, List, [], ◌∷◌, ◌++◌, length, map, codes, Bool, false, ◌||◌, not, ◌==◌, Option, Some, None, if◌then◌else◌, is_some}
+use Rattle.std.specs.Str.{bytes_eq}
+use Rattle.std.specs.List.{list_any}
+use Rattle.std.specs.Option.{option_map}
+use Rattle.std.specs.Ordering.{int_eq}
+use Rattle.rio_types.specs.Classes.{find_in, newest_in}
+use Rattle.rio_types.specs.declared.class.Base.{Base}
+use Rattle.rio_types.specs.declared.class.ClassDef.{ClassDef}
+use Rattle.rio_types.specs.declared.class.Member.{Member}
+use Rattle.rio_types.specs.declared.kind.Kind.{Kind}
+use Rattle.rio_types.specs.declared.kind.Kind.TheVariants.{Plain, Text}
+use Rattle.rio_types.specs.declared.kind.Prim.{Prim}
+use Rattle.rio_types.specs.declared.kind.Prim.TheVariants.{I32, U32}
+use Rattle.rio_format.specs.Bodies.{Form, bare, numbers, headed, form_of, Body, described, listed, arrayed, opaque, built_in, t_object_base}
+
+pub data Slot : Type 0 where
+  -- a value of the kind
+  kinded : Kind → Slot
+  -- an object of a class, in this version
+  based : List ℕ → ℤ → Slot
+  -- TObject's fBits
+  flags : Slot
+  -- a pointer to an object of any class that can be put
+  any_pointer : Slot
+  -- such a pointer, and a text
+  link : Slot
+  -- values in a list of any length
+  many : Slot → Slot
+
+-- a part of an object: its name, and what may stand there
+pub record Field : Type 0 where
+  pub name : List ℕ
+  pub slot : Slot
+
+abbrev pub field : List ℕ → Slot → Field
+field name slot = record { name = name; slot = slot }
+
+abbrev pub base_field : Base → Field
+base_field b = field [] (based b.name b.version)
+
+abbrev pub member_field : Member → Field
+member_field m = field m.name (kinded m.kind)
+
+-- the body that a class has in a version, if it is built in or described in it
+abbrev pub declared_body : List ClassDef → List ℕ → ℤ → Option Body
+declared_body classes class version = first (built_in class version)
+  where
+    first : Option Body → Option Body
+    first (Some body) = Some body
+    first None = option_map described (find_in classes class version)
+
+-- the parts of an object behind a header, in order
+abbrev pub body_fields : Option Body → Option (List Field)
+body_fields None = None
+body_fields (Some (described c)) = Some (map base_field c.bases ++ map member_field c.members)
+body_fields (Some listed) = Some (base_field t_object_base ∷ field (codes "fName") (kinded Text) ∷ field (codes "items") (many link) ∷ [])
+body_fields (Some arrayed) = Some (base_field t_object_base ∷ field (codes "fName") (kinded Text) ∷ field (codes "fLowerBound") (kinded (Plain I32)) ∷ field (codes "items") (many any_pointer) ∷ [])
+body_fields (Some opaque) = None
+
+abbrev pub form_fields : List ClassDef → List ℕ → ℤ → Form → Option (List Field)
+form_fields classes class version bare =
+    if int_eq version (pos 1) then Some (field (codes "fUniqueID") (kinded (Plain U32)) ∷ field (codes "fBits") flags ∷ []) else None
+form_fields classes class version (numbers of) = if int_eq version (pos 1) then Some (field (codes "items") (many (kinded (Plain of))) ∷ []) else None
+form_fields classes class version headed = body_fields (declared_body classes class version)
+
+-- the parts of an object of a class in a version, in order; none where the version isn't known
+abbrev pub fields_of : List ClassDef → List ℕ → ℤ → Option (List Field)
+fields_of classes class version = form_fields classes class version (form_of class)
+
+-- ---- which classes may be pointed to
+
+abbrev pub body_bases : Option Body → List Base
+body_bases None = []
+body_bases (Some (described c)) = c.bases
+body_bases (Some listed) = t_object_base ∷ []
+body_bases (Some arrayed) = t_object_base ∷ []
+body_bases (Some opaque) = []
+
+-- whether a class has another among its bases, at most so many levels deep
+unfoldable pub has_base : ℕ → List ClassDef → List ℕ → List ℕ → ℤ → Bool
+has_base zero classes target class version = false
+has_base (suc levels) classes target class version =
+    list_any (λ b. bytes_eq b.name target || has_base levels classes target b.name b.version) (body_bases (declared_body classes class version))
+
+-- Whether it is the other class or has that among its bases at any depth: a way through the bases that meets no description
+-- twice is no longer than the list and one built-in class.
+abbrev pub derives_from : List ClassDef → List ℕ → List ℕ → ℤ → Bool
+derives_from classes target class version = bytes_eq class target || has_base (length classes + 1) classes target class version
+
+-- a class word can spell the name
+abbrev pub is_word : List ℕ → Bool
+is_word class = not (list_any (λ b. b == 0) class)
+
+-- whether a put can have an object of this class as its value
+abbrev pub can_be_put : List ClassDef → List ℕ → Bool
+can_be_put classes class =
+    is_some (newest_in classes class) || bytes_eq class (codes "TNamed") || bytes_eq class (codes "TObjString") || bytes_eq class (codes "TList") || bytes_eq class (codes "TObjArray")

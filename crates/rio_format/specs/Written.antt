@@ -1,0 +1,182 @@
+-- The one spelling that is written for a value that fits.
+use Rattle.std.specs.Prelude.{ℕ, ◌+◌, ◌-◌, ◌^◌, ℤ, pos, List, [], ◌∷◌, ◌++◌, length, slice_index, codes, Bool, true, false, Option, Some, None, find}
+use Rattle.std.specs.Int.{Width, w8, w16, w32, w64, cast_unsigned}
+use Rattle.std.specs.Str.{bytes_eq}
+use Rattle.byteorder.specs.Endian.{big_bytes}
+use Rattle.rio_num.specs.Text.{text_bytes}
+use Rattle.rio_types.specs.declared.class.ClassDef.{ClassDef}
+use Rattle.rio_types.specs.declared.kind.Kind.TheVariants.{Plain, Counter, Fixed, Counted, Text as Texted, Inline}
+use Rattle.rio_types.specs.declared.kind.Prim.{Prim}
+use Rattle.rio_types.specs.declared.kind.Prim.TheVariants.{I8, I16, I32, I64, U8, U16, U32, U64, Bool as Boolean, F32, F64}
+use Rattle.rio_value.specs.declared.value.Value.{Value}
+use Rattle.rio_value.specs.declared.value.Value.TheOpen.{Value-F, Int, Bits32, Bits64, Bool as Truth, Text, List as Items, Object, Pointed, Null, Back, Opaque}
+use Rattle.rio_value.specs.declared.value.Value.TheFolds.{fold-Value}
+use Rattle.rio_format.specs.Bodies.{Form, bare, numbers, headed, form_of, Body, described, listed, arrayed, opaque}
+use Rattle.rio_format.specs.Prims.{width_of}
+use Rattle.rio_format.specs.Slots.{Slot, kinded, based, flags, any_pointer, link, many, Field, declared_body, body_fields}
+use Rattle.rio_format.specs.State.{Words, no_words, with_label, with_name}
+
+-- what is written at a place behind these words, and the words behind it
+abbrev pub Writer : Type 0
+Writer = ℕ → Words → List ℕ × Words
+
+-- what is to be known of a value: what is written for it in a slot
+pub record Writing : Type 0 where
+  -- the class of an object
+  pub class : List ℕ
+  -- the number of a list's items
+  pub count : ℕ
+  pub bytes : Slot → Writer
+
+abbrev pub just : List ℕ → Writer
+just bytes p t = (bytes, t)
+
+-- one behind the other
+abbrev pub joined : List ℕ × Words → List ℕ × Words → List ℕ × Words
+joined a b = (a.0 ++ b.0, b.1)
+
+abbrev pub both : Writer → Writer → Writer
+both f g p t = let a = f p t in joined a (g (p + length a.0) a.1)
+
+abbrev pub all : Slot → List Writing → Writer
+all slot [] = just []
+all slot (w ∷ ws) = both (w.bytes slot) (all slot ws)
+
+-- ---- numbers and lists
+
+abbrev pub bits_of : Prim → Width
+bits_of I8 = w8
+bits_of I16 = w16
+bits_of I32 = w32
+bits_of I64 = w64
+bits_of U8 = w8
+bits_of U16 = w16
+bits_of U32 = w32
+bits_of U64 = w64
+bits_of Boolean = w8
+bits_of F32 = w32
+bits_of F64 = w64
+
+abbrev pub int_bytes : ℤ → Slot → List ℕ
+int_bytes z (kinded (Plain of)) = big_bytes (width_of of) (cast_unsigned (bits_of of) z)
+int_bytes z (kinded Counter) = big_bytes 4 (cast_unsigned w32 z)
+int_bytes z flags = big_bytes 4 (cast_unsigned w32 z)
+int_bytes z other = []
+
+-- the byte 0 for nothing, and else the byte 1 and the values
+abbrev pub counted_bytes : Prim → List Writing → Writer
+counted_bytes of [] = just (0 ∷ [])
+counted_bytes of (w ∷ ws) = both (just (1 ∷ [])) (all (kinded (Plain of)) (w ∷ ws))
+
+abbrev pub link_bytes : List Writing → Writer
+link_bytes (pointer ∷ text ∷ []) = both (pointer.bytes any_pointer) (text.bytes (kinded Texted))
+link_bytes other = just []
+
+abbrev pub list_bytes : List Writing → Slot → Writer
+list_bytes items (kinded (Fixed of count)) = all (kinded (Plain of)) items
+list_bytes items (kinded (Counted of counter)) = counted_bytes of items
+list_bytes items link = link_bytes items
+list_bytes items (many slot) = all slot items
+list_bytes items other = just []
+
+-- ---- pointers
+
+-- the name, where it stands for the first time, and else a reference to where it stood
+abbrev pub class_by : List ℕ → Option (ℕ × List ℕ) → Writer
+class_by class None p t = (big_bytes 4 (2 ^ 32 - 1) ++ (class ++ 0 ∷ []), with_name t p class)
+class_by class (Some e) p t = (big_bytes 4 (e.0 + (2 ^ 31 + 2)), t)
+
+abbrev pub class_bytes : List ℕ → Writer
+class_bytes class p t = class_by class (find (λ e. bytes_eq e.1 class) t.names) p t
+
+abbrev pub labelled : ℕ → Writer → Writer
+labelled place f p t = f p (with_label t place)
+
+-- a byte count before the bytes that it counts
+abbrev pub counted : List ℕ × Words → List ℕ × Words
+counted a = (big_bytes 4 (length a.0 + 2 ^ 30) ++ a.0, a.1)
+
+abbrev pub pointed_bytes : Writing → Writer
+pointed_bytes object p t = counted (both (class_bytes object.class) (labelled p (object.bytes (kinded (Inline object.class)))) (p + 4) t)
+
+-- a reference to the place of the label's count word
+abbrev pub back_bytes : ℕ → Writer
+back_bytes label p t = (big_bytes 4 (slice_index t.labels label + 2), t)
+
+-- ---- objects
+
+abbrev pub fields_bytes : List Field → List Writing → Writer
+fields_bytes [] ws = just []
+fields_bytes (f ∷ fs) [] = just []
+fields_bytes (f ∷ fs) (w ∷ ws) = both (w.bytes f.slot) (fields_bytes fs ws)
+
+abbrev pub described_bytes : Option (List Field) → List Writing → Writer
+described_bytes None parts = just []
+described_bytes (Some fields) parts = fields_bytes fields parts
+
+-- base, name, count and items
+abbrev pub listed_bytes : List Writing → Writer
+listed_bytes (base ∷ name ∷ items ∷ []) =
+    both (base.bytes (based (codes "TObject") (pos 1))) (both (name.bytes (kinded Texted)) (both (just (big_bytes 4 items.count)) (items.bytes (many link))))
+listed_bytes other = just []
+
+-- base, name, count, lower bound and items
+abbrev pub arrayed_bytes : List Writing → Writer
+arrayed_bytes (base ∷ name ∷ lower ∷ items ∷ []) =
+    both (base.bytes (based (codes "TObject") (pos 1))) (both (name.bytes (kinded Texted))
+    (both (just (big_bytes 4 items.count)) (both (lower.bytes (kinded (Plain I32))) (items.bytes (many any_pointer)))))
+arrayed_bytes other = just []
+
+abbrev pub body_bytes : Option Body → List Writing → Writer
+body_bytes None parts = just []
+body_bytes (Some (described c)) parts = described_bytes (body_fields (Some (described c))) parts
+body_bytes (Some listed) parts = listed_bytes parts
+body_bytes (Some arrayed) parts = arrayed_bytes parts
+body_bytes (Some opaque) parts = just []
+
+-- the version, without a byte count
+abbrev pub bare_bytes : List Writing → Writer
+bare_bytes (id ∷ bits ∷ []) = both (just (big_bytes 2 1)) (both (id.bytes (kinded (Plain U32))) (bits.bytes flags))
+bare_bytes other = just []
+
+abbrev pub array_bytes : Prim → List Writing → Writer
+array_bytes of (items ∷ []) = both (just (big_bytes 4 items.count)) (items.bytes (many (kinded (Plain of))))
+array_bytes of other = just []
+
+abbrev pub headed_bytes : ℤ → Writer → Writer
+headed_bytes version body p t = counted (both (just (big_bytes 2 (cast_unsigned w16 version))) body (p + 4) t)
+
+abbrev pub form_bytes : List ClassDef → List ℕ → ℤ → Form → List Writing → Writer
+form_bytes classes class version bare parts = bare_bytes parts
+form_bytes classes class version (numbers of) parts = array_bytes of parts
+form_bytes classes class version headed parts = headed_bytes version (body_bytes (declared_body classes class version) parts)
+
+-- ---- values
+
+abbrev pub plainly : (Slot → List ℕ) → Writing
+plainly bytes = record { class = []; count = 0; bytes = λ slot. just (bytes slot) }
+
+abbrev pub truth_byte : Bool → ℕ
+truth_byte true = 1
+truth_byte false = 0
+
+-- one layer of a value, with what is known of each child in its place
+abbrev pub writing_step : List ClassDef → Value-F Writing Writing → Writing
+writing_step classes (Int z) = plainly (int_bytes z)
+writing_step classes (Bits32 n) = plainly (λ slot. big_bytes 4 n)
+writing_step classes (Bits64 n) = plainly (λ slot. big_bytes 8 n)
+writing_step classes (Truth b) = plainly (λ slot. truth_byte b ∷ [])
+writing_step classes (Text t) = plainly (λ slot. text_bytes t)
+writing_step classes (Items items) = record { class = []; count = length items; bytes = list_bytes items }
+writing_step classes (Object class version parts) = record { class = class; count = 0; bytes = λ slot. form_bytes classes class version (form_of class) parts }
+writing_step classes (Pointed label object) = record { class = []; count = 0; bytes = λ slot. pointed_bytes object }
+writing_step classes Null = plainly (λ slot. big_bytes 4 0)
+writing_step classes (Back label) = record { class = []; count = 0; bytes = λ slot. back_bytes label }
+writing_step classes (Opaque class len) = plainly (λ slot. [])
+
+abbrev pub writing_of : List ClassDef → Value → Writing
+writing_of classes = fold-Value Writing Writing (writing_step classes) (λ p. p.value)
+
+-- the bytes that are written for an object whose first byte has the place
+abbrev pub written_form : List ClassDef → ℕ → Value → List ℕ
+written_form classes start v = let w = writing_of classes v in (w.bytes (kinded (Inline w.class)) start no_words).0

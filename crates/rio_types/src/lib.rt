@@ -1,0 +1,10 @@
+//! Classes as a file describes them, and lists of classes.
+#![tactic(auto)]
+
+mod class;
+mod classes;
+mod kind;
+
+pub use class::{Base, Bases, ClassDef, Member, Members};
+pub use classes::Classes;
+pub use kind::{Kind, Prim};

@@ -1,0 +1,6 @@
+//! Values: what an object in a file, or a row of a tree, is read as.
+#![tactic(auto)]
+
+mod value;
+
+pub use value::{Part, Parts, Rows, Value, Values, copy, depth};
