@@ -1,0 +1,6 @@
+//! Objects in bytes, by the classes that a file describes.
+#![tactic(auto)]
+
+mod bare;
+mod numbers;
+mod shape;
