@@ -2,5 +2,6 @@
 #![tactic(auto)]
 
 mod bare;
+mod body;
 mod numbers;
 mod shape;
