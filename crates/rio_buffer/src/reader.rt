@@ -58,7 +58,8 @@ impl<'a> ObjReader<'a> {
 
     /// The place of the next byte.
     pub fn place(&self) -> u64
-        ensures { result ≡ self.now.at.place }
+        ensures value { result ≡ self.now.at.place }
+        ensures fits { data_end self.now < 2 ^ 32 }
     {
         self.cursor.place()
     }

@@ -1,2 +1,3 @@
 pub mod CounterLaws
+pub mod Counts
 pub mod Each

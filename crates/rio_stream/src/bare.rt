@@ -6,29 +6,20 @@ ghost use Rattle.rio_format.specs.Objects.{Reads, array_at, bare_at, bare_object
 ghost use Rattle.rio_value.specs.declared.value.Value.{Int, Object};
 ghost use Rattle.rio_stream.specs.Bodies.{pid_parts};
 
+use crate::member::part_with;
 use crate::numbers::{read_count, read_numbers, width_of};
 use rio_buffer::{ObjFault, ObjReader};
 use rio_num::{Name, NoMemory};
 use rio_types::{Classes, Prim};
-use rio_value::{Part, Parts, Value};
+use rio_value::{Parts, Value};
 use std::alloc::Global;
-
-/// A part of this name.
-pub(crate) fn part_of(alloc: Global, name: &[u8], value: Value) -> Result<Part, NoMemory>
-    ensures { IfOk result (λ p. p ≡ part name.now value) }
-{
-    Ok(Part {
-        name: Name::from_slice(alloc, name)?,
-        value,
-    })
-}
 
 fn bare_parts(alloc: Global, id: u32, bits: u32) -> Result<Parts, NoMemory>
     ensures { IfOk result (λ parts. parts ≡ part (codes "fUniqueID") (Int (pos id)) ∷ part (codes "fBits") (Int (pos bits)) ∷ []) }
 {
     let mut parts = Parts::new(alloc);
-    parts.push(part_of(alloc, b"fUniqueID", Value::Int(i128::from(id)))?)?;
-    parts.push(part_of(alloc, b"fBits", Value::Int(i128::from(bits)))?)?;
+    parts.push(part_with(alloc, b"fUniqueID", Value::Int(i128::from(id)))?)?;
+    parts.push(part_with(alloc, b"fBits", Value::Int(i128::from(bits)))?)?;
     Ok(parts)
 }
 
@@ -37,7 +28,7 @@ fn with_pid(alloc: Global, mut parts: Parts, pid: Option<u16>) -> Result<Parts, 
 {
     match pid {
         Some(pid) => {
-            parts.push(part_of(alloc, b"fPid", Value::Int(i128::from(pid)))?)?;
+            parts.push(part_with(alloc, b"fPid", Value::Int(i128::from(pid)))?)?;
             Ok(parts)
         }
         None => Ok(parts),
@@ -97,7 +88,7 @@ fn array_of(alloc: Global, class: &[u8], items: Value) -> Result<Value, NoMemory
     ensures { IfOk result (λ v. v ≡ Object class.now (pos 1) (part (codes "items") items ∷ [])) }
 {
     let mut parts = Parts::new(alloc);
-    parts.push(part_of(alloc, b"items", items)?)?;
+    parts.push(part_with(alloc, b"items", items)?)?;
     Ok(Value::Object {
         class: Name::from_slice(alloc, class)?,
         version: 1,

@@ -3,5 +3,9 @@
 
 mod bare;
 mod body;
+mod builtin;
+mod counters;
+mod member;
 mod numbers;
 mod shape;
+mod whole;
