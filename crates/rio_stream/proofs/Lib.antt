@@ -1,3 +1,5 @@
+pub mod Closed
 pub mod CounterLaws
 pub mod Counts
 pub mod Each
+pub mod Parts

@@ -6,6 +6,7 @@ ghost use Rattle.std.specs.Option.{option_copied, option_map};
 ghost use Rattle.rio_format.specs.Bodies.{body_of, built_in, by_description, can_read, can_read_all, is_counter, picked, stated_version};
 ghost use Rattle.rio_stream.specs.Bodies.{body_as, counters_in};
 
+use rio_buffer::Header;
 use rio_types::{ClassDef, Classes, Kind, Member};
 
 pub(crate) enum Body<'a> {
@@ -113,15 +114,11 @@ fn picked<'a>(
     }
 }
 
-/// What stands behind a header of this version, and of this checksum if there is one.
-pub(crate) fn body_of<'a>(
-    classes: &'a Classes,
-    class: &[u8],
-    version: i32,
-    sum: Option<u32>,
-) -> Body<'a>
-    ensures { body_as result ≡ body_of classes.now class.now version sum }
+/// What stands behind a header of the class.
+pub(crate) fn body_of<'a>(classes: &'a Classes, class: &[u8], header: &Header) -> Body<'a>
+    ensures { body_as result ≡ body_of classes.now class.now header.now.version header.now.sum }
 {
+    let (version, sum) = (header.version, header.sum);
     match built_in(class, stated_version(classes, class, version, sum)) {
         Some(body) => body,
         None => by_description(picked(classes, class, version, sum)),

@@ -1,8 +1,8 @@
 //! The parts of built-in classes with a header.
 ghost use Rattle.std.specs.Prelude.{◌≡◌, [], ◌∷◌, codes, IfOk};
 ghost use Rattle.rio_num.specs.At.{GoesOn};
-ghost use Rattle.rio_format.specs.Bodies.{part};
-ghost use Rattle.rio_format.specs.Objects.{Reads, object_at};
+ghost use Rattle.rio_format.specs.Bodies.{part, slots_of, t_named, t_obj_string};
+ghost use Rattle.rio_format.specs.Objects.{Reads, object_at, parts_at};
 ghost use Rattle.rio_value.specs.declared.value.Value.{Text, List as Listing};
 ghost use Rattle.rio_stream.specs.Members.{named_parts_at, obj_string_parts_at};
 
@@ -68,9 +68,8 @@ pub(crate) fn array_parts(
     Ok(parts)
 }
 
-/// The parts of a TNamed.
 #[tactic(auto, unfolding(crate::specs::Members::named_parts_at))]
-pub(crate) fn read_named_parts(
+fn read_named(
     alloc: Global,
     classes: &Classes,
     reader: &mut ObjReader,
@@ -85,9 +84,8 @@ pub(crate) fn read_named_parts(
     Ok(named_parts(alloc, base, name, title)?)
 }
 
-/// The parts of a TObjString.
 #[tactic(auto, unfolding(crate::specs::Members::obj_string_parts_at))]
-pub(crate) fn read_obj_string_parts(
+fn read_obj_string(
     alloc: Global,
     classes: &Classes,
     reader: &mut ObjReader,
@@ -99,4 +97,30 @@ pub(crate) fn read_obj_string_parts(
     let base = read_base(alloc, classes, reader, levels)?;
     let text = read_name(alloc, reader)?;
     Ok(obj_string_parts(alloc, base, text)?)
+}
+
+/// The parts of a TNamed.
+pub(crate) fn read_named_parts(
+    alloc: Global,
+    classes: &Classes,
+    reader: &mut ObjReader,
+    levels: u32,
+) -> Result<Parts, ObjFault>
+    ensures exact { Reads (λ x. x) result (parts_at (object_at levels classes.now) (slots_of t_named) reader.old) reader.new }
+    ensures goes { GoesOn reader.old.at reader.new.at }
+{
+    read_named(alloc, classes, reader, levels)
+}
+
+/// The parts of a TObjString.
+pub(crate) fn read_obj_string_parts(
+    alloc: Global,
+    classes: &Classes,
+    reader: &mut ObjReader,
+    levels: u32,
+) -> Result<Parts, ObjFault>
+    ensures exact { Reads (λ x. x) result (parts_at (object_at levels classes.now) (slots_of t_obj_string) reader.old) reader.new }
+    ensures goes { GoesOn reader.old.at reader.new.at }
+{
+    read_obj_string(alloc, classes, reader, levels)
 }

@@ -7,5 +7,6 @@ mod builtin;
 mod counters;
 mod member;
 mod numbers;
+mod object;
 mod shape;
 mod whole;

@@ -7,6 +7,7 @@ ghost use Rattle.rio_stream.specs.Members.{closed_at};
 
 use rio_buffer::{Header, ObjFault, ObjReader};
 use rio_num::Name;
+use rio_types::ClassDef;
 use rio_value::{Parts, Value};
 use std::alloc::Global;
 
@@ -30,6 +31,22 @@ pub(crate) fn whole(
         version,
         parts,
     })
+}
+
+/// The object of these parts, in the version that is described.
+pub(crate) fn whole_described(
+    alloc: Global,
+    reader: &mut ObjReader,
+    class: &[u8],
+    described: &ClassDef,
+    header: Header,
+    parts: Parts,
+) -> Result<Value, ObjFault>
+    requires { IsCounted header.place header.end reader.old }
+    ensures exact { Reads (λ x. x) result (closed_at class.now described.now.version header parts reader.old) reader.new }
+    ensures goes { GoesOn reader.old.at reader.new.at }
+{
+    whole(alloc, reader, class, described.version, header, parts)
 }
 
 /// An object that isn't read, up to where the header says.

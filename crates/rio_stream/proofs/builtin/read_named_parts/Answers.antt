@@ -1,0 +1,8 @@
+use Rattle.std.proofs.Common.{subst, sym, List}
+use Rattle.rio_format.specs.Objects.{Step, Reads, object_at}
+use Rattle.rio_value.specs.declared.value.Part.{Part}
+use Rattle.rio_stream.proofs.Parts.{named_parts}
+use Rattle.rio_stream.proofs.builtin.read_named_parts.Goals as goal
+
+pub returns-clause-exact : goal.returns-clause-exact
+returns-clause-exact c = rw (named_parts (object_at c.args.levels c.args.classes.now) c.args.reader.now) c.read_named.ensures.exact
