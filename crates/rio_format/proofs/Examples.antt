@@ -5,7 +5,7 @@ use Rattle.byteorder.specs.Endian.{big_bytes}
 use Rattle.rio_num.specs.Reading.{text_at}
 use Rattle.rio_types.specs.declared.class.ClassDef.{ClassDef}
 use Rattle.rio_types.specs.declared.kind.Kind.TheVariants.{Plain, Pointer}
-use Rattle.rio_types.specs.declared.kind.Prim.TheVariants.{I32}
+use Rattle.rio_types.specs.declared.kind.Primitive.TheVariants.{I32}
 use Rattle.rio_value.specs.declared.value.Value.{Value, Int, Text, Object, Pointed, Null, Back, Opaque}
 use Rattle.rio_format.specs.Bodies.{part, member}
 use Rattle.rio_format.specs.Objects.{value_at, object_at, formed_at, headed_at, body_at, header_at, whole_at, parts_at, member_at, each_at, kind_at, number_value_at, count_at, text_value_at, pointer_at, pointer_word_at, pointed_at, new_word_at, class_at, new_class_at, bare_at, list_parts_at, link_at}
