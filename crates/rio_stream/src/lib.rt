@@ -8,5 +8,8 @@ mod counters;
 mod member;
 mod numbers;
 mod object;
+mod read;
 mod shape;
 mod whole;
+
+pub use read::{read_builtin, read_object};
