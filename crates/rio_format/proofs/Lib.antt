@@ -1,1 +1,11 @@
+pub mod AgainNumbers
+pub mod AgainPointers
+pub mod AgainParts
+pub mod AgainObjects
+pub mod FoundNumbers
+pub mod FoundPointers
+pub mod FoundParts
+pub mod FoundLists
+pub mod FoundObjects
+pub mod ObjectLaws
 pub mod Examples

@@ -1,8 +1,10 @@
-//! What bytes of a file mean: definitions that contracts cite, and the types that they speak of.
+//! What bytes of a file mean: definitions that contracts cite, laws about them, and the types that they speak of.
 #![tactic(auto)]
 
 mod fault;
+mod laws;
 mod words;
 
 pub use fault::ObjFault;
+pub use laws::{fault_is_not_spelled, is_spelled_once, read_is_spelled, spelled_is_read};
 pub use words::{Header, PointerWord};

@@ -1,4 +1,4 @@
-use Rattle.std.proofs.Common.{◌≡◌, [], ◌∷◌, ◌++◌, drop}
+use Rattle.std.proofs.Common.{◌≡◌, ◌∷◌, ◌++◌, drop}
 use Rattle.std.specs.List.{flat_map}
 use Rattle.rio_num.specs.Printed.{escaped}
 use Rattle.rio_num.proofs.printed.printed_string.Given as goal
