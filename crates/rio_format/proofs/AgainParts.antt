@@ -9,8 +9,8 @@ use Rattle.rio_types.specs.declared.class.ClassDef.{ClassDef}
 use Rattle.rio_types.specs.declared.class.Member.{Member}
 use Rattle.rio_types.specs.declared.kind.Kind.{Kind}
 use Rattle.rio_types.specs.declared.kind.Kind.TheVariants.{Plain, Counter, Fixed, Counted, Text as Texted, Inline, Pointer, Other}
-use Rattle.rio_types.specs.declared.kind.Prim.{Prim}
-use Rattle.rio_types.specs.declared.kind.Prim.TheVariants.{I8, I16, I32, I64, U8, U16, U32, U64, Bool as Boolean, F32, F64}
+use Rattle.rio_types.specs.declared.kind.Primitive.{Primitive as Prim}
+use Rattle.rio_types.specs.declared.kind.Primitive.TheVariants.{I8, I16, I32, I64, U8, U16, U32, U64, Bool as Boolean, F32, F64}
 use Rattle.rio_value.specs.declared.value.Value.{Value}
 use Rattle.rio_format.specs.Bodies.{slots_of, Counters, count_by}
 use Rattle.rio_format.specs.Objects.{Reader, Within, kind_at, member_at, parts_at, count_at, link_at, list_parts_at, array_parts_at, bare_at, array_at, pointer_at, has_pid}

@@ -7,8 +7,8 @@ use Rattle.rio_num.specs.Reading.{◌>>=◌, number_at, text_at}
 use Rattle.rio_num.specs.Text.{SpellsText}
 use Rattle.rio_num.specs.declared.cursor.Short.{Short as Shortage}
 use Rattle.rio_num.proofs.ReadLaws.{IsBytes, Took, Took-then, ReadsBack, back_1, back_2, back_4, back_8, number_found, text_found, bind_ok, chosen, ok_is}
-use Rattle.rio_types.specs.declared.kind.Prim.{Prim}
-use Rattle.rio_types.specs.declared.kind.Prim.TheVariants.{I8, I16, I32, I64, U8, U16, U32, U64, Bool as Boolean, F32, F64}
+use Rattle.rio_types.specs.declared.kind.Primitive.{Primitive as Prim}
+use Rattle.rio_types.specs.declared.kind.Primitive.TheVariants.{I8, I16, I32, I64, U8, U16, U32, U64, Bool as Boolean, F32, F64}
 use Rattle.rio_value.specs.declared.value.Value.{Value, Text, List as Items}
 use Rattle.rio_format.specs.Objects.{Step, lifted, word_at, chars_at, each_at, times_at, number_value_at, numbers_at, filled_at, counted_at, text_value_at}
 use Rattle.rio_format.specs.Prims.{width_of, value_of}

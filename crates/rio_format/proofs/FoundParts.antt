@@ -4,7 +4,7 @@ use Rattle.std.proofs.lemmas.Bool.{leb-false, eqb-true}
 use Rattle.byteorder.specs.Endian.{big_bytes}
 use Rattle.rio_num.specs.Reading.{◌>>=◌}
 use Rattle.rio_num.proofs.ReadLaws.{IsBytes, Took, Took-then, bind_ok, chosen, ok_is}
-use Rattle.rio_types.specs.declared.kind.Prim.{Prim}
+use Rattle.rio_types.specs.declared.kind.Primitive.{Primitive as Prim}
 use Rattle.rio_value.specs.declared.value.Value.{Value, Object}
 use Rattle.rio_format.specs.Bodies.{part}
 use Rattle.rio_format.specs.Objects.{Step, word_at, numbers_at, count_at, bare_at, array_at, has_pid, bare_object, pid_part}

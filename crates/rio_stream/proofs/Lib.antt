@@ -3,3 +3,4 @@ pub mod CounterLaws
 pub mod Counts
 pub mod Each
 pub mod Parts
+pub mod ReadLaws

@@ -1,18 +1,17 @@
 -- The parts of an object, by bases and members.
-use Rattle.std.proofs.Common.{◌≡◌, ℕ, List, [], ◌∷◌, ◌++◌, Result, Ok, Err, map, refl, sym, ap, ◌∙◌}
-use Rattle.std.specs.Prelude.{codes}
+use Rattle.std.proofs.Common.{◌≡◌, List, [], ◌∷◌, ◌++◌, Result, Ok, Err, map, refl, sym}
 use Rattle.rio_num.specs.Reading.{◌>>=◌}
 use Rattle.rio_types.specs.declared.class.Base.{Base}
 use Rattle.rio_types.specs.declared.class.ClassDef.{ClassDef}
 use Rattle.rio_types.specs.declared.class.Member.{Member}
 use Rattle.rio_types.specs.declared.kind.Kind.TheVariants.{Counter}
 use Rattle.rio_value.specs.declared.value.Value.TheVariants.{outs-Int}
-use Rattle.rio_format.specs.Bodies.{base_slot, slots_of, t_named, t_obj_string, Counters}
-use Rattle.rio_format.specs.Objects.{Step, Reader, Within, each_at, member_at, kind_at, number_value_at, text_value_at, parts_at}
+use Rattle.rio_format.specs.Bodies.{base_slot, slots_of, t_named, t_obj_string}
+use Rattle.rio_format.specs.Objects.{Reader, Within, each_at, member_at, kind_at, number_value_at, text_value_at, parts_at}
 use Rattle.rio_format.specs.State.{State}
 use Rattle.rio_stream.proofs.Each.{with_front-none}
 use Rattle.rio_stream.specs.Lists.{with_front}
-use Rattle.rio_stream.specs.Members.{members_at, without_counters, counter_at, named_parts_at, obj_string_parts_at}
+use Rattle.rio_stream.specs.Members.{without_counters, counter_at, named_parts_at, obj_string_parts_at}
 
 bind_assoc : {A B C E : Type 0} (m : Result A E) (f : A → Result B E) (g : B → Result C E) → ((m >>= f) >>= g) ≡ (m >>= λ x. (f x >>= g))
 bind_assoc (Ok x) f g = refl

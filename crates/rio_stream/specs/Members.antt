@@ -1,9 +1,9 @@
 -- Parts of an object, one behind the other.
-use Rattle.std.specs.Prelude.{◌≡◌, ℕ, List, [], ◌∷◌, ◌++◌, codes, ℤ, Result, Ok, Err}
+use Rattle.std.specs.Prelude.{◌≡◌, ℕ, List, [], ◌∷◌, codes, ℤ, Result, Ok, Err}
 use Rattle.std.specs.Int.{w32, cast_signed}
 use Rattle.rio_num.specs.Reading.{◌>>=◌}
 use Rattle.rio_types.specs.declared.class.Member.{Member}
-use Rattle.rio_value.specs.declared.value.Value.{Value, Int, Text, List as Items, Object}
+use Rattle.rio_value.specs.declared.value.Value.{Value, Int, Text, Object}
 use Rattle.rio_value.specs.declared.value.Part.{Part}
 use Rattle.rio_format.specs.Bodies.{part, Counters}
 use Rattle.rio_format.specs.Objects.{Step, Reader, Within, Fails, each_at, finish_at, member_at, base_at, chars_at, word_at}

@@ -34,9 +34,7 @@ fn is_counter(kind: &Kind) -> bool
 fn has_counter(members: &[Member], name: &[u8]) -> bool
     ensures { result ≡ list_any (λ m. is_counter m.kind && bytes_eq name.now m.name) members.now }
 {
-    members
-        .iter()
-        .any(|member| is_counter(&member.kind) && name == member.name.as_slice())
+    members.iter().any(|member| is_counter(&member.kind) && name == member.name.as_slice())
 }
 
 // Whether a member of the kind can be read behind these members.

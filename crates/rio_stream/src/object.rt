@@ -183,14 +183,7 @@ fn read_members(
 {
     let mut counters = Counters::new(alloc);
     for member in members {
-        parts.push(read_member(
-            alloc,
-            classes,
-            reader,
-            member,
-            &mut counters,
-            levels,
-        )?)?;
+        parts.push(read_member(alloc, classes, reader, member, &mut counters, levels)?)?;
     }
     Ok(parts)
 }

@@ -1,6 +1,8 @@
-ghost use Rattle.std.specs.Prelude.{◌≡◌, ◌+◌, ◌<◌, ◌^◌, length, IsTrue};
+ghost use Rattle.std.specs.Prelude.{◌≡◌, ℕ, ◌+◌, ◌<◌, ◌^◌, List, ◌++◌, length, Ok, IfOk, IsTrue};
 ghost use Rattle.rio_num.specs.At.{GoesOn};
 ghost use Rattle.rio_format.specs.Objects.{Reads, depth_limit, object_at, value_at};
+ghost use Rattle.rio_format.specs.Spelling.{Spells};
+ghost use Rattle.rio_value.specs.declared.value.Value.{Value as Spelled};
 ghost use Rattle.rio_stream.specs.Reading.{Answers, is_small_builtin};
 
 use crate::object;
@@ -23,7 +25,25 @@ pub fn read_object(
     start: u64,
 ) -> Result<Value, ObjFault>
     requires { start + length bytes.now < 2 ^ 32 }
+    // What is read is spelled by the front of the data.
+    ensures found { IfOk result (λ v. (front : List ℕ) × (rest : List ℕ) × (bytes.now ≡ front ++ rest) × Spells classes.now start class.now v front) }
+    // What the front of the data spells is read, unless memory runs out.
+    ensures only { (v : Spelled) (front rest : List ℕ) → bytes.now ≡ front ++ rest → Spells classes.now start class.now v front → Answers result (Ok v) }
+    // Which value it is, or which fault.
     ensures exact { Answers result (value_at classes.now class.now start bytes.now) }
+{
+    read_first(alloc, classes, class, bytes, start)
+}
+
+fn read_first(
+    alloc: Global,
+    classes: &Classes,
+    class: &[u8],
+    bytes: &[u8],
+    start: u64,
+) -> Result<Value, ObjFault>
+    requires { start + length bytes.now < 2 ^ 32 }
+    ensures { Answers result (value_at classes.now class.now start bytes.now) }
 {
     let mut reader = ObjReader::new(alloc, bytes, start);
     object::read_object(alloc, classes, &mut reader, class, DEPTH_LIMIT)

@@ -1,6 +1,4 @@
-use Rattle.std.proofs.Common.{subst, sym, List}
-use Rattle.rio_format.specs.Objects.{Step, Reads, object_at}
-use Rattle.rio_value.specs.declared.value.Part.{Part}
+use Rattle.rio_format.specs.Objects.{object_at}
 use Rattle.rio_stream.proofs.Parts.{named_parts}
 use Rattle.rio_stream.proofs.builtin.read_named_parts.Goals as goal
 

@@ -1,4 +1,4 @@
-use Rattle.std.proofs.Common.{rules, List, [], Ok, Err, ap, refl, sym, ◌∙◌}
+use Rattle.std.proofs.Common.{rules, [], ap, refl, sym, ◌∙◌}
 use Rattle.std.proofs.lemmas.Result.{err_from_is_err_and}
 use Rattle.rio_format.specs.Bodies.{base_slot}
 use Rattle.rio_format.specs.Objects.{link_at, member_at, object_at, pointer_at}
