@@ -10,6 +10,8 @@ mod numbers;
 mod object;
 mod read;
 mod shape;
+#[cfg(test)]
+mod tests;
 mod whole;
 
 pub use read::{read_builtin, read_object};
