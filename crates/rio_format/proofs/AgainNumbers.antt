@@ -5,7 +5,7 @@ use Rattle.byteorder.specs.Endian.{big_bytes}
 use Rattle.byteorder.specs.Numbers.{length-bytes_high_first}
 use Rattle.rio_num.specs.Text.{SpellsText}
 use Rattle.rio_num.proofs.ReadLaws.{number_again, text_again}
-use Rattle.rio_types.specs.declared.kind.Prim.{Prim}
+use Rattle.rio_types.specs.declared.kind.Primitive.{Primitive as Primitive}
 use Rattle.rio_value.specs.declared.value.Value.{Value}
 use Rattle.rio_format.specs.Objects.{Step, lifted, word_at, chars_at, each_at, times_at, number_value_at, numbers_at, counted_at, text_value_at}
 use Rattle.rio_format.specs.Prims.{width_of}
@@ -45,7 +45,7 @@ word_again n x p rest t lt = ap (lifted (standing p (big_bytes n x ++ rest) t)) 
 pub chars_again : (text bytes : List ℕ) (p : ℕ) (rest : List ℕ) (t : Words) → SpellsText text bytes → chars_at (standing p (bytes ++ rest) t) ≡ Ok (text, standing (p + length bytes) rest t)
 chars_again text bytes p rest t spelled = ap (lifted (standing p (bytes ++ rest) t)) (text_again text bytes p rest spelled)
 
-pub number_value_again : (of : Prim) → IsReadAgain (number_value_at of) (SpellsNumber of)
+pub number_value_again : (of : Primitive) → IsReadAgain (number_value_at of) (SpellsNumber of)
 unfolding number_value_at
 number_value_again of p t v bytes t' more c =
     let whole : bytes ++ more ≡ big_bytes (width_of of) c.n ++ more = ap (λ (b : List ℕ). b ++ more) c.spelled in
@@ -53,7 +53,7 @@ number_value_again of p t v bytes t' more c =
     let end : p + width_of of ≡ p + length bytes = omega (arith, ap length c.spelled, length-bytes_high_first (width_of of) c.n) in
     rw (whole, w, c.value, c.words, end) refl
 
-pub numbers_again : (of : Prim) (count : ℕ) → IsReadAgain (numbers_at of count) (SpellsNumbers of count)
+pub numbers_again : (of : Primitive) (count : ℕ) → IsReadAgain (numbers_at of count) (SpellsNumbers of count)
 unfolding numbers_at
 numbers_again of count p t v bytes t' more c =
     let each = times_again count (number_value_at of) (SpellsNumber of) (number_value_again of) p t c.items bytes t' more c.each in
@@ -67,7 +67,7 @@ text_value_again p t v bytes t' more c =
 
 -- ---- counted arrays
 
-pub counted_again : (of : Prim) (counter : ℤ) → IsReadAgain (counted_at of counter) (SpellsCounted of counter)
+pub counted_again : (of : Primitive) (counter : ℤ) → IsReadAgain (counted_at of counter) (SpellsCounted of counter)
 unfolding counted_at
 counted_again of counter p t v bytes t' more (inl c) =
     let whole : bytes ++ more ≡ big_bytes 1 0 ++ more = ap (λ (b : List ℕ). b ++ more) c.spelled in

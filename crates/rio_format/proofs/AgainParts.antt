@@ -9,8 +9,8 @@ use Rattle.rio_types.specs.declared.class.ClassDef.{ClassDef}
 use Rattle.rio_types.specs.declared.class.Member.{Member}
 use Rattle.rio_types.specs.declared.kind.Kind.{Kind}
 use Rattle.rio_types.specs.declared.kind.Kind.TheVariants.{Plain, Counter, Fixed, Counted, Text as Texted, Inline, Pointer, Other}
-use Rattle.rio_types.specs.declared.kind.Prim.{Prim}
-use Rattle.rio_types.specs.declared.kind.Prim.TheVariants.{I8, I16, I32, I64, U8, U16, U32, U64, Bool as Boolean, F32, F64}
+use Rattle.rio_types.specs.declared.kind.Primitive.{Primitive as Primitive}
+use Rattle.rio_types.specs.declared.kind.Primitive.TheVariants.{I8, I16, I32, I64, U8, U16, U32, U64, Bool as Boolean, F32, F64}
 use Rattle.rio_value.specs.declared.value.Value.{Value}
 use Rattle.rio_format.specs.Bodies.{slots_of, Counters, count_by}
 use Rattle.rio_format.specs.Objects.{Reader, Within, kind_at, member_at, parts_at, count_at, link_at, list_parts_at, array_parts_at, bare_at, array_at, pointer_at, has_pid}
@@ -41,7 +41,7 @@ times_room n width spells some long p t ys bytes t' more c =
     let same : n * width ≤ length bytes = rw length-replicate at all in
     (le-div_iff_mul-le some).1 (omega (arith, same, length-append bytes more))
 
-pub number_long : (of : Prim) → IsLong (width_of of) (SpellsNumber of)
+pub number_long : (of : Primitive) → IsLong (width_of of) (SpellsNumber of)
 number_long of p t v bytes t' c = omega (arith, ap length c.spelled, length-bytes_high_first (width_of of) c.n)
 
 pub pointer_long : (spells : Spellings) → IsLong 4 (SpellsPointer spells)
@@ -54,7 +54,7 @@ link_long spells p t v bytes t' c =
     let first : 4 ≤ length c.pointer_bytes = pointer_long spells p t c.pointer c.pointer_bytes t' c.first in
     omega (arith, first, ap length c.spelled, length-append c.pointer_bytes c.option_bytes)
 
-pub width_some : (of : Prim) → 0 < width_of of
+pub width_some : (of : Primitive) → 0 < width_of of
 width_some I8 = omega arith
 width_some I16 = omega arith
 width_some I32 = omega arith
@@ -103,7 +103,7 @@ bare_by t v bytes t' c false has d p more =
 pub bare_again : IsReadAgain bare_at (λ p t v bytes t'. IsBare t v bytes t')
 bare_again p t v bytes t' more c = bare_by t v bytes t' c (has_pid c.bits) refl c.pid_fits p more
 
-pub array_again : (class : List ℕ) (of : Prim) → IsReadAgain (array_at class of) (λ p t v bytes t'. IsArray class of p t v bytes t')
+pub array_again : (class : List ℕ) (of : Primitive) → IsReadAgain (array_at class of) (λ p t v bytes t'. IsArray class of p t v bytes t')
 unfolding array_at
 array_again class of p t v bytes t' more c =
     let whole : bytes ++ more ≡ big_bytes 4 c.count ++ (c.item_bytes ++ more) = ap (λ (b : List ℕ). b ++ more) c.spelled in

@@ -7,8 +7,8 @@ use Rattle.rio_num.specs.Reading.{◌>>=◌, number_at, text_at}
 use Rattle.rio_num.specs.Text.{SpellsText}
 use Rattle.rio_num.specs.declared.cursor.Short.{Short as Shortage}
 use Rattle.rio_num.proofs.ReadLaws.{IsBytes, Took, Took-then, ReadsBack, back_1, back_2, back_4, back_8, number_found, text_found, bind_ok, chosen, ok_is}
-use Rattle.rio_types.specs.declared.kind.Prim.{Prim}
-use Rattle.rio_types.specs.declared.kind.Prim.TheVariants.{I8, I16, I32, I64, U8, U16, U32, U64, Bool as Boolean, F32, F64}
+use Rattle.rio_types.specs.declared.kind.Primitive.{Primitive as Primitive}
+use Rattle.rio_types.specs.declared.kind.Primitive.TheVariants.{I8, I16, I32, I64, U8, U16, U32, U64, Bool as Boolean, F32, F64}
 use Rattle.rio_value.specs.declared.value.Value.{Value, Text, List as Items}
 use Rattle.rio_format.specs.Objects.{Step, lifted, word_at, chars_at, each_at, times_at, number_value_at, numbers_at, filled_at, counted_at, text_value_at}
 use Rattle.rio_format.specs.Prims.{width_of, value_of}
@@ -123,7 +123,7 @@ chars_found s text s' fits e =
     let f = text_found s.at text s'.at fits l.read in
     record { bytes = f.bytes; took = f.took; spelled = f.spelled; same = l.same }
 
-back_width : (of : Prim) → ReadsBack (width_of of)
+back_width : (of : Primitive) → ReadsBack (width_of of)
 back_width I8 = back_1
 back_width I16 = back_2
 back_width I32 = back_4
@@ -136,7 +136,7 @@ back_width Boolean = back_1
 back_width F32 = back_4
 back_width F64 = back_8
 
-pub number_value_found : (of : Prim) → IsFound (number_value_at of) (SpellsNumber of)
+pub number_value_found : (of : Primitive) → IsFound (number_value_at of) (SpellsNumber of)
 unfolding number_value_at
 number_value_found of s v s' fits e =
     let w = bind_ok (word_at (width_of of) s) (λ n. Ok (value_of of n.0, n.1)) (v, s') e in
@@ -148,7 +148,7 @@ number_value_found of s v s' fits e =
     } in
     given (SpellsNumber of) s (value_of of w.0.0) w.0.1 v s' w.2 made
 
-pub numbers_found : (of : Prim) (count : ℕ) → IsFound (numbers_at of count) (SpellsNumbers of count)
+pub numbers_found : (of : Primitive) (count : ℕ) → IsFound (numbers_at of count) (SpellsNumbers of count)
 unfolding numbers_at
 numbers_found of count s v s' fits e =
     let w = bind_ok (times_at count (number_value_at of) s) (λ vs. Ok (Items vs.0, vs.1)) (v, s') e in
@@ -169,7 +169,7 @@ text_value_found s v s' fits e =
 
 -- ---- counted arrays
 
-filled_found : (of : Prim) (counter : ℤ) (s w : State) (v : Value) (s' : State) → IsWord 1 1 s w → filled_at of s.at.place counter w ≡ Ok (v, s') → Found (SpellsCounted of counter) s v s'
+filled_found : (of : Primitive) (counter : ℤ) (s w : State) (v : Value) (s' : State) → IsWord 1 1 s w → filled_at of s.at.place counter w ≡ Ok (v, s') → Found (SpellsCounted of counter) s v s'
 filled_found of (negsuc n) s w v s' flag e = absurd cc
 filled_found of (pos count) s w v s' flag e =
     let f = numbers_found of count w v s' flag.took.fits e in
@@ -185,7 +185,7 @@ filled_found of (pos count) s w v s' flag e =
       });
     }
 
-pub counted_found : (of : Prim) (counter : ℤ) → IsFound (counted_at of counter) (SpellsCounted of counter)
+pub counted_found : (of : Primitive) (counter : ℤ) → IsFound (counted_at of counter) (SpellsCounted of counter)
 unfolding counted_at
 counted_found of counter s v s' fits e =
     let w = bind_ok (word_at 1 s) (λ flag. cond (flag.0 == 0) (Ok (Items [], flag.1)) (cond (flag.0 == 1) (filled_at of s.at.place counter flag.1) (Err (BadFlag s.at.place)))) (v, s') e in

@@ -4,7 +4,7 @@ use Rattle.std.proofs.lemmas.Bool.{leb-false, eqb-true}
 use Rattle.byteorder.specs.Endian.{big_bytes}
 use Rattle.rio_num.specs.Reading.{◌>>=◌}
 use Rattle.rio_num.proofs.ReadLaws.{IsBytes, Took, Took-then, bind_ok, chosen, ok_is}
-use Rattle.rio_types.specs.declared.kind.Prim.{Prim}
+use Rattle.rio_types.specs.declared.kind.Primitive.{Primitive as Primitive}
 use Rattle.rio_value.specs.declared.value.Value.{Value, Object}
 use Rattle.rio_format.specs.Bodies.{part}
 use Rattle.rio_format.specs.Objects.{Step, word_at, numbers_at, count_at, bare_at, array_at, has_pid, bare_object, pid_part}
@@ -106,13 +106,13 @@ bare_found s v s' fits e =
     let bits = word4 i.0.1 b.0.0 b.0.1 id.took.fits b.1 in
     bare_end i.0.0 b.0.0 s b.0.1 _ v s' (bare_front w.0.0 i.0.0 b.0.0 s w.0.1 i.0.1 b.0.1 i1.0 version id bits) refl b.2
 
-abbrev SpellsArray : List ℕ → Prim → Spelling Value
+abbrev SpellsArray : List ℕ → Primitive → Spelling Value
 SpellsArray class of p t v bytes t' = IsArray class of p t v bytes t'
 
 abbrev to_array : List ℕ → Value × State → Step Value
 to_array class items = Ok (Object class (pos 1) (part (codes "items") items.0 ∷ []), items.1)
 
-pub array_found : (class : List ℕ) (of : Prim) → IsFound (array_at class of) (SpellsArray class of)
+pub array_found : (class : List ℕ) (of : Primitive) → IsFound (array_at class of) (SpellsArray class of)
 unfolding array_at
 array_found class of s v s' fits e =
     let n = bind_ok (count_at (width_of of) s) (λ count. numbers_at of count.0 count.1 >>= to_array class) (v, s') e in

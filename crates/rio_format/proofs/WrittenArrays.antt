@@ -6,7 +6,7 @@ use Rattle.std.specs.Option.{option_and_then}
 use Rattle.byteorder.specs.Endian.{big_bytes}
 use Rattle.rio_types.specs.declared.class.ClassDef.{ClassDef}
 use Rattle.rio_types.specs.declared.kind.Kind.TheVariants.{Plain, Text as Texted}
-use Rattle.rio_types.specs.declared.kind.Prim.TheVariants.{I32}
+use Rattle.rio_types.specs.declared.kind.Primitive.TheVariants.{I32}
 use Rattle.rio_value.specs.declared.value.Part.{Part}
 use Rattle.rio_format.specs.Bodies.{part, Counters}
 use Rattle.rio_format.specs.Fits.{Labels, Fitting, fields_fit, counted_slot, counted_so_far}

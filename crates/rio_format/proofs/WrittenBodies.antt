@@ -8,8 +8,8 @@ use Rattle.std.specs.Str.{bytes_eq}
 use Rattle.byteorder.specs.Endian.{big_bytes}
 use Rattle.rio_types.specs.declared.class.ClassDef.{ClassDef}
 use Rattle.rio_types.specs.declared.kind.Kind.TheVariants.{Plain}
-use Rattle.rio_types.specs.declared.kind.Prim.{Prim}
-use Rattle.rio_types.specs.declared.kind.Prim.TheVariants.{U32}
+use Rattle.rio_types.specs.declared.kind.Primitive.{Primitive}
+use Rattle.rio_types.specs.declared.kind.Primitive.TheVariants.{U32}
 use Rattle.rio_value.specs.declared.value.Value.{Value, List as Items, Object}
 use Rattle.rio_value.specs.declared.value.Part.{Part}
 use Rattle.rio_format.specs.Bodies.{part}
@@ -91,7 +91,7 @@ module _ (object : Spellings) (classes : List ClassDef) where
 
   -- ---- arrays of numbers
 
-  pub array_written : (class : List ℕ) (of : Prim) (parts : List Part) → AreKnown object classes parts → (before after : Labels) (p : ℕ) (t : Words) → fields_fit (field (codes "items") (many (kinded (Plain of))) ∷ []) (fittings classes parts) [] before ≡ Some after → Stands before p t
+  pub array_written : (class : List ℕ) (of : Primitive) (parts : List Part) → AreKnown object classes parts → (before after : Labels) (p : ℕ) (t : Words) → fields_fit (field (codes "items") (many (kinded (Plain of))) ∷ []) (fittings classes parts) [] before ≡ Some after → Stands before p t
       → p + length (array_bytes of (writings classes parts) p t).0 ≤ last_place
       → IsArray class of p t (Object class (pos 1) parts) (array_bytes of (writings classes parts) p t).0 (array_bytes of (writings classes parts) p t).1 × Stands after (p + length (array_bytes of (writings classes parts) p t).0) (array_bytes of (writings classes parts) p t).1
   array_written class of [] ih before after p t e s room = absurd cc

@@ -10,7 +10,7 @@ use Rattle.rio_types.specs.declared.class.Member.{Member}
 use Rattle.rio_types.specs.declared.class.ClassDef.{ClassDef}
 use Rattle.rio_types.specs.declared.kind.Kind.{Kind}
 use Rattle.rio_types.specs.declared.kind.Kind.TheVariants.{Plain, Counter, Fixed, Counted, Text as Texted, Inline, Pointer, Other}
-use Rattle.rio_types.specs.declared.kind.Prim.{Prim}
+use Rattle.rio_types.specs.declared.kind.Primitive.{Primitive}
 use Rattle.rio_value.specs.declared.value.Value.{Value, out-Value, map-Value}
 use Rattle.rio_value.specs.declared.value.Value.TheOpen.{Value-F}
 use Rattle.rio_value.specs.declared.value.Value.TheOpen as layer
@@ -86,7 +86,7 @@ module _ (object : Spellings) (classes : List ClassDef) where
     stands : Stands after (p + length b.0) b.1
     readable : can_read (names_in counters) kind ≡ true
 
-  counted_kind : (v : Value) → IsWrittenAnywhere object classes v → (counters : Counters) (of : Prim) (counter : List ℕ) (o : Option ℤ) (before after : Labels) (p : ℕ) (t : Words) → lookup (bytes_eq counter) counters ≡ o
+  counted_kind : (v : Value) → IsWrittenAnywhere object classes v → (counters : Counters) (of : Primitive) (counter : List ℕ) (o : Option ℤ) (before after : Labels) (p : ℕ) (t : Words) → lookup (bytes_eq counter) counters ≡ o
       → (fitting_of classes v).fits (fixed_by of o) before ≡ Some after → Stands before p t → p + length ((writing_of classes v).bytes (kinded (Counted of counter)) p t).0 ≤ last_place
       → IsKindWritten counters (Counted of counter) v after p t ((writing_of classes v).bytes (kinded (Counted of counter)) p t)
   counted_kind v ih counters of counter None before after p t look e s room = absurd ((ih (in_none (kinded (Counted of counter))) before after p t e s room).0)

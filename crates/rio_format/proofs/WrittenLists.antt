@@ -5,7 +5,7 @@ use Rattle.std.proofs.lemmas.List.{length-append, length-map}
 use Rattle.std.proofs.lemmas.Option.{option_and_then_some}
 use Rattle.rio_types.specs.declared.class.ClassDef.{ClassDef}
 use Rattle.rio_types.specs.declared.kind.Kind.TheVariants.{Plain, Fixed, Text as Texted}
-use Rattle.rio_types.specs.declared.kind.Prim.{Prim}
+use Rattle.rio_types.specs.declared.kind.Primitive.{Primitive}
 use Rattle.rio_value.specs.declared.value.Value.{Value, List as Items}
 use Rattle.rio_value.specs.declared.value.Value.TheOpen as layer
 use Rattle.rio_value.specs.declared.value.Part.{Part}
@@ -66,12 +66,12 @@ module _ (object : Spellings) (classes : List ClassDef) where
       })
 
   -- as many values as are wanted
-  fixed_fit : (of : Prim) (vs : List Value) (count : ℕ) (b : Bool) (before after : Labels) → (length (map (fitting_of classes) vs) == count) ≡ b → cond b (all_fit (kinded (Plain of)) (map (fitting_of classes) vs) before) None ≡ Some after
+  fixed_fit : (of : Primitive) (vs : List Value) (count : ℕ) (b : Bool) (before after : Labels) → (length (map (fitting_of classes) vs) == count) ≡ b → cond b (all_fit (kinded (Plain of)) (map (fitting_of classes) vs) before) None ≡ Some after
       → (length vs ≡ count) × (all_fit (kinded (Plain of)) (map (fitting_of classes) vs) before ≡ Some after)
   fixed_fit of vs count true before after t e = (sym (length-map vs (fitting_of classes)) ∙ eqb-true _ _ t, e)
   fixed_fit of vs count false before after t e = absurd cc
 
-  numbers_are : (of : Prim) (vs : List Value) (count p : ℕ) (t : Words) (bytes : List ℕ) (t' : Words) → length vs ≡ count → SpellsTimes (length vs) (SpellsSlot object (kinded (Plain of))) p t vs bytes t' → SpellsNumbers of count p t (Items vs) bytes t'
+  numbers_are : (of : Primitive) (vs : List Value) (count p : ℕ) (t : Words) (bytes : List ℕ) (t' : Words) → length vs ≡ count → SpellsTimes (length vs) (SpellsSlot object (kinded (Plain of))) p t vs bytes t' → SpellsNumbers of count p t (Items vs) bytes t'
   numbers_are of vs count p t bytes t' same each = record { items = vs; value = refl; each = subst (λ (n : ℕ). SpellsTimes n (SpellsNumber of) p t vs bytes t') same each }
 
   abbrev list_fitting : List Value → Fitting
@@ -103,7 +103,7 @@ module _ (object : Spellings) (classes : List ClassDef) where
       } in
       (own, stands_at after (p + length a.0 + length r.0) (p + length (a.0 ++ r.0)) r.1 (omega (arith, len)) text.1))
 
-  counted_written : (of : Prim) (counter : List ℕ) (count : ℕ) (vs : List Value) → Each (IsWrittenAnywhere object classes) vs → IsWritten object (in_counted of counter count) (Items vs) (list_fitting vs) (list_writing vs)
+  counted_written : (of : Primitive) (counter : List ℕ) (count : ℕ) (vs : List Value) → Each (IsWrittenAnywhere object classes) vs → IsWritten object (in_counted of counter count) (Items vs) (list_fitting vs) (list_writing vs)
   counted_written of counter count [] ih before after p t e s room =
       let f = fixed_fit of [] count _ before after refl e in
       (inl (record { value = refl; spelled = refl; words = refl }), subst (λ (l : Labels). Stands l (p + 1) t) (some_is before after f.1) (stands_more before p (p + 1) t (omega arith) s))

@@ -4,8 +4,8 @@ use Rattle.std.proofs.lemmas.Bool.{ltb-true}
 use Rattle.std.proofs.lemmas.Int.{ints}
 use Rattle.std.specs.Int.{w8, w16, w32, w64, cast_signed, cast_unsigned}
 use Rattle.byteorder.specs.Endian.{big_bytes}
-use Rattle.rio_types.specs.declared.kind.Prim.{Prim}
-use Rattle.rio_types.specs.declared.kind.Prim.TheVariants.{I8, I16, I32, I64, U8, U16, U32, U64, Bool as Boolean, F32, F64}
+use Rattle.rio_types.specs.declared.kind.Primitive.{Primitive}
+use Rattle.rio_types.specs.declared.kind.Primitive.TheVariants.{I8, I16, I32, I64, U8, U16, U32, U64, Bool as Boolean, F32, F64}
 use Rattle.rio_value.specs.declared.value.Value.{Int, Bits32, Bits64, Bool as Truth}
 use Rattle.rio_format.specs.Fits.{fits_prim, fits_signed, fits_unsigned}
 use Rattle.rio_format.specs.Prims.{width_of, value_of}
@@ -63,10 +63,10 @@ unsigned_low_64 z e = grind (arith, ints)
 
 -- ---- integers
 
-abbrev IsIn : Prim → ℤ → Type 0
+abbrev IsIn : Primitive → ℤ → Type 0
 IsIn of z = (cast_unsigned (bits_of of) z < 256 ^ width_of of) × (Int z ≡ value_of of (cast_unsigned (bits_of of) z))
 
-int_in : (of : Prim) (z : ℤ) → fits_prim of z ≡ true → IsIn of z
+int_in : (of : Primitive) (z : ℤ) → fits_prim of z ≡ true → IsIn of z
 int_in I8 z e = (signed_low_8 z e, ap Int (sym (signed_8 z e)))
 int_in I16 z e = (signed_low_16 z e, ap Int (sym (signed_16 z e)))
 int_in I32 z e = (signed_low_32 z e, ap Int (sym (signed_32 z e)))
@@ -79,7 +79,7 @@ int_in Boolean z e = absurd cc
 int_in F32 z e = absurd cc
 int_in F64 z e = absurd cc
 
-pub int_number : (of : Prim) (z : ℤ) (t : Words) → fits_prim of z ≡ true → IsNumber of t (Int z) (big_bytes (width_of of) (cast_unsigned (bits_of of) z)) t
+pub int_number : (of : Primitive) (z : ℤ) (t : Words) → fits_prim of z ≡ true → IsNumber of t (Int z) (big_bytes (width_of of) (cast_unsigned (bits_of of) z)) t
 int_number of z t e = let f = int_in of z e in record { n = cast_unsigned (bits_of of) z; fits = f.0; value = f.1; spelled = refl; words = refl }
 
 pub counter_number : (z : ℤ) (t : Words) → fits_signed 32 z ≡ true → IsNumber I32 t (Int z) (big_bytes 4 (cast_unsigned w32 z)) t

@@ -10,8 +10,8 @@ use Rattle.byteorder.specs.Endian.{big_bytes}
 use Rattle.rio_types.specs.Classes.{find_in}
 use Rattle.rio_types.specs.declared.class.ClassDef.{ClassDef}
 use Rattle.rio_types.specs.declared.kind.Kind.TheVariants.{Plain}
-use Rattle.rio_types.specs.declared.kind.Prim.{Prim}
-use Rattle.rio_types.specs.declared.kind.Prim.TheVariants.{I8, I16, I32, I64, F32, F64}
+use Rattle.rio_types.specs.declared.kind.Primitive.{Primitive}
+use Rattle.rio_types.specs.declared.kind.Primitive.TheVariants.{I8, I16, I32, I64, F32, F64}
 use Rattle.rio_value.specs.declared.value.Value.{Value, Object}
 use Rattle.rio_value.specs.declared.value.Part.{Part}
 use Rattle.rio_format.specs.Bodies.{Form, bare, numbers, headed, form_of, Body, described, listed, arrayed, opaque, t_named, t_obj_string, built_in, by_description, can_read_all}
@@ -75,7 +75,7 @@ is_bare : (a : Bool) (rest : Form) → (rest ≡ bare → ⊥) → cond a bare r
 is_bare true rest other e = refl
 is_bare false rest other e = absurd (other e)
 
-not_bare : (b : Bool) (of : Prim) (rest : Form) → (rest ≡ bare → ⊥) → cond b (numbers of) rest ≡ bare → ⊥
+not_bare : (b : Bool) (of : Primitive) (rest : Form) → (rest ≡ bare → ⊥) → cond b (numbers of) rest ≡ bare → ⊥
 not_bare true of rest other e = cc
 not_bare false of rest other e = other e
 

@@ -7,8 +7,8 @@ use Rattle.byteorder.specs.Endian.{big_bytes}
 use Rattle.rio_num.specs.Text.{SpellsText, text_bytes, short_form, long_form}
 use Rattle.rio_types.specs.declared.class.ClassDef.{ClassDef}
 use Rattle.rio_types.specs.declared.kind.Kind.TheVariants.{Plain, Counter, Fixed, Counted, Text as Texted, Pointer, Other}
-use Rattle.rio_types.specs.declared.kind.Prim.{Prim}
-use Rattle.rio_types.specs.declared.kind.Prim.TheVariants.{Bool as Boolean, F32, F64}
+use Rattle.rio_types.specs.declared.kind.Primitive.{Primitive}
+use Rattle.rio_types.specs.declared.kind.Primitive.TheVariants.{Bool as Boolean, F32, F64}
 use Rattle.rio_value.specs.declared.value.Value.{Value, Int, Bits32, Bits64, Bool as Truth, Text, List as Items, Null, Back}
 use Rattle.rio_value.specs.declared.value.Value.TheOpen as layer
 use Rattle.rio_format.specs.Fits.{Labels, Fitting, pass, fitting_step, back_fits}
@@ -24,7 +24,7 @@ use Rattle.rio_format.proofs.WrittenNumbers.{int_number, counter_number, flags_b
 -- A list behind a counter fits as a list of so many values. Without a counter nothing fits.
 pub data Way : Type 0 where
   in_slot : Slot → Way
-  in_counted : Prim → List ℕ → ℕ → Way
+  in_counted : Primitive → List ℕ → ℕ → Way
   in_none : Slot → Way
 
 abbrev pub fit_slot : Way → Slot

@@ -11,8 +11,8 @@ use Rattle.rio_types.specs.declared.class.ClassDef.{ClassDef}
 use Rattle.rio_types.specs.declared.class.Member.{Member}
 use Rattle.rio_types.specs.declared.kind.Kind.{Kind}
 use Rattle.rio_types.specs.declared.kind.Kind.TheVariants.{Plain, Counter, Fixed, Counted, Text, Inline, Pointer, Other}
-use Rattle.rio_types.specs.declared.kind.Prim.{Prim}
-use Rattle.rio_types.specs.declared.kind.Prim.TheVariants.{I8, I16, I32, I64, F32, F64}
+use Rattle.rio_types.specs.declared.kind.Primitive.{Primitive as Primitive}
+use Rattle.rio_types.specs.declared.kind.Primitive.TheVariants.{I8, I16, I32, I64, F32, F64}
 use Rattle.rio_value.specs.declared.value.Value.{Value, out-Value}
 use Rattle.rio_value.specs.declared.value.Value.TheOpen.{Value-F, Int}
 use Rattle.rio_value.specs.declared.value.Part.{Part}
@@ -28,7 +28,7 @@ member name kind = record { name = name; kind = kind; title = [] }
 -- how an object of a class begins
 pub data Form : Type 0 where
   bare : Form
-  numbers : Prim → Form
+  numbers : Primitive → Form
   headed : Form
 
 -- TObject has no byte count; a TArray is a count and numbers; any other object begins with a header

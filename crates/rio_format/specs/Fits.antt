@@ -5,8 +5,8 @@ use Rattle.std.specs.Str.{bytes_eq}
 use Rattle.std.specs.Ordering.{int_eq}
 use Rattle.rio_types.specs.declared.class.ClassDef.{ClassDef}
 use Rattle.rio_types.specs.declared.kind.Kind.TheVariants.{Plain, Counter, Fixed, Counted, Text as Texted, Inline, Pointer, Other}
-use Rattle.rio_types.specs.declared.kind.Prim.{Prim}
-use Rattle.rio_types.specs.declared.kind.Prim.TheVariants.{I8, I16, I32, I64, U8, U16, U32, U64, Bool as Boolean, F32, F64}
+use Rattle.rio_types.specs.declared.kind.Primitive.{Primitive as Primitive}
+use Rattle.rio_types.specs.declared.kind.Primitive.TheVariants.{I8, I16, I32, I64, U8, U16, U32, U64, Bool as Boolean, F32, F64}
 use Rattle.rio_value.specs.declared.value.Value.{Value}
 use Rattle.rio_value.specs.declared.value.Value.TheOpen.{Value-F, Int, Bits32, Bits64, Bool as Truth, Text, List as Items, Object, Pointed, Null, Back, Opaque}
 use Rattle.rio_value.specs.declared.value.Value.TheFolds.{fold-Value}
@@ -37,7 +37,7 @@ fits_signed bits z = int_le (neg_ℤ (pos (2 ^ (bits - 1)))) z && int_lt z (pos 
 abbrev pub fits_unsigned : ℕ → ℤ → Bool
 fits_unsigned bits z = int_le (pos 0) z && int_lt z (pos (2 ^ bits))
 
-abbrev pub fits_prim : Prim → ℤ → Bool
+abbrev pub fits_prim : Primitive → ℤ → Bool
 fits_prim I8 z = fits_signed 8 z
 fits_prim I16 z = fits_signed 16 z
 fits_prim I32 z = fits_signed 32 z
@@ -92,7 +92,7 @@ list_fits items other labels = None
 -- ---- objects
 
 -- A counted list fits as a list of as many values as the last earlier counter of the name says. Without one nothing fits.
-abbrev pub fixed_by : Prim → Option ℤ → Slot
+abbrev pub fixed_by : Primitive → Option ℤ → Slot
 fixed_by of (Some (pos count)) = kinded (Fixed of count)
 fixed_by of other = kinded (Other (pos 0))
 

@@ -8,8 +8,8 @@ use Rattle.rio_types.specs.declared.class.ClassDef.{ClassDef}
 use Rattle.rio_types.specs.declared.class.Member.{Member}
 use Rattle.rio_types.specs.declared.kind.Kind.{Kind}
 use Rattle.rio_types.specs.declared.kind.Kind.TheVariants.{Plain, Counter, Fixed, Counted, Text as Texted, Inline, Pointer, Other}
-use Rattle.rio_types.specs.declared.kind.Prim.{Prim}
-use Rattle.rio_types.specs.declared.kind.Prim.TheVariants.{I32}
+use Rattle.rio_types.specs.declared.kind.Primitive.{Primitive as Primitive}
+use Rattle.rio_types.specs.declared.kind.Primitive.TheVariants.{I32}
 use Rattle.rio_value.specs.declared.value.Value.{Value, Int, Text, List as Items, Object, Pointed, Null as Nothing, Back as Earlier, Opaque}
 use Rattle.rio_value.specs.declared.value.Part.{Part}
 use Rattle.rio_format.specs.Bodies.{part, Form, bare, numbers, headed, form_of, Body, described, listed, arrayed, opaque, body_of, slots_of, Counters, counters_with, count_by}
@@ -54,12 +54,12 @@ each_at f (x ∷ xs) s = do
 abbrev pub times_at : {Y : Type 0} → ℕ → (State → Step Y) → State → Step (List Y)
 times_at n f s = each_at (λ (x : Unit {0}). f) (replicate n tt) s
 
-unfoldable pub number_value_at : Prim → State → Step Value
+unfoldable pub number_value_at : Primitive → State → Step Value
 number_value_at of s = do
   n ← word_at (width_of of) s
   Ok (value_of of n.0, n.1)
 
-unfoldable pub numbers_at : Prim → ℕ → State → Step Value
+unfoldable pub numbers_at : Primitive → ℕ → State → Step Value
 numbers_at of count s = do
   vs ← times_at count (number_value_at of) s
   Ok (Items vs.0, vs.1)
@@ -179,12 +179,12 @@ pointer_at object s = do
 -- ---- members
 
 -- as many values as a counter said, behind the byte 1 at the place
-abbrev pub filled_at : Prim → ℕ → ℤ → State → Step Value
+abbrev pub filled_at : Primitive → ℕ → ℤ → State → Step Value
 filled_at of place (pos count) s = numbers_at of count s
 filled_at of place (negsuc count) s = Err (BadCount place)
 
 -- the byte 0 for nothing, or the byte 1 and the values
-unfoldable pub counted_at : Prim → ℤ → State → Step Value
+unfoldable pub counted_at : Primitive → ℤ → State → Step Value
 counted_at of count s = do
   flag ← word_at 1 s
   if flag.0 == 0 then Ok (Items [], flag.1)
@@ -271,7 +271,7 @@ bare_at s = do
       else Ok (bare_object id.0 bits.0 [], bits.1)
 
 -- a TArray of a class, which is a count and its numbers
-unfoldable pub array_at : List ℕ → Prim → State → Step Value
+unfoldable pub array_at : List ℕ → Primitive → State → Step Value
 array_at class of s = do
   count ← count_at (width_of of) s
   items ← numbers_at of count.0 count.1

@@ -1,12 +1,12 @@
 -- Single values in bytes.
 use Rattle.std.specs.Prelude.{ℕ, pos, ◌==◌, not}
 use Rattle.std.specs.Int.{w8, w16, w32, w64, cast_signed}
-use Rattle.rio_types.specs.declared.kind.Prim.{Prim}
-use Rattle.rio_types.specs.declared.kind.Prim.TheVariants.{I8, I16, I32, I64, U8, U16, U32, U64, Bool as Boolean, F32, F64}
+use Rattle.rio_types.specs.declared.kind.Primitive.{Primitive as Primitive}
+use Rattle.rio_types.specs.declared.kind.Primitive.TheVariants.{I8, I16, I32, I64, U8, U16, U32, U64, Bool as Boolean, F32, F64}
 use Rattle.rio_value.specs.declared.value.Value.{Value, Int, Bits32, Bits64, Bool as Truth}
 
 -- how many bytes it has
-abbrev pub width_of : Prim → ℕ
+abbrev pub width_of : Primitive → ℕ
 width_of I8 = 1
 width_of I16 = 2
 width_of I32 = 4
@@ -20,7 +20,7 @@ width_of F32 = 4
 width_of F64 = 8
 
 -- the value whose bytes give the number: integers in two's complement, and any number but 0 is true
-abbrev pub value_of : Prim → ℕ → Value
+abbrev pub value_of : Primitive → ℕ → Value
 value_of I8 n = Int (cast_signed w8 n)
 value_of I16 n = Int (cast_signed w16 n)
 value_of I32 n = Int (cast_signed w32 n)

@@ -7,8 +7,8 @@ use Rattle.rio_types.specs.declared.class.ClassDef.{ClassDef}
 use Rattle.rio_types.specs.declared.class.Member.{Member}
 use Rattle.rio_types.specs.declared.kind.Kind.{Kind}
 use Rattle.rio_types.specs.declared.kind.Kind.TheVariants.{Plain, Counter, Fixed, Counted, Text as Texted, Inline, Pointer, Other}
-use Rattle.rio_types.specs.declared.kind.Prim.{Prim}
-use Rattle.rio_types.specs.declared.kind.Prim.TheVariants.{I32}
+use Rattle.rio_types.specs.declared.kind.Primitive.{Primitive as Primitive}
+use Rattle.rio_types.specs.declared.kind.Primitive.TheVariants.{I32}
 use Rattle.rio_value.specs.declared.value.Value.{Value, Text, List as Items, Object, Pointed, Null, Back, Opaque}
 use Rattle.rio_value.specs.declared.value.Part.{Part}
 use Rattle.rio_format.specs.Bodies.{part, Form, bare, numbers, headed, form_of, Body, described, listed, arrayed, opaque, body_of, slots_of, Counters, counters_with, count_by}
@@ -50,22 +50,22 @@ SpellsTimes n one p t ys bytes t' = SpellsEach (λ (x : Unit {0}). one) (replica
 -- ---- numbers and texts
 
 -- the value of a number in as many bytes as the kind has: any but 0 for true
-pub record IsNumber (of : Prim) (t : Words) (v : Value) (bytes : List ℕ) (t' : Words) : Type 0 where
+pub record IsNumber (of : Primitive) (t : Words) (v : Value) (bytes : List ℕ) (t' : Words) : Type 0 where
   pub n : ℕ
   pub fits : n < 256 ^ width_of of
   pub value : v ≡ value_of of n
   pub spelled : bytes ≡ big_bytes (width_of of) n
   pub words : t' ≡ t
 
-abbrev pub SpellsNumber : Prim → Spelling Value
+abbrev pub SpellsNumber : Primitive → Spelling Value
 SpellsNumber of p t v bytes t' = IsNumber of t v bytes t'
 
-pub record IsNumbers (of : Prim) (count p : ℕ) (t : Words) (v : Value) (bytes : List ℕ) (t' : Words) : Type 0 where
+pub record IsNumbers (of : Primitive) (count p : ℕ) (t : Words) (v : Value) (bytes : List ℕ) (t' : Words) : Type 0 where
   pub items : List Value
   pub value : v ≡ Items items
   pub each : SpellsTimes count (SpellsNumber of) p t items bytes t'
 
-abbrev pub SpellsNumbers : Prim → ℕ → Spelling Value
+abbrev pub SpellsNumbers : Primitive → ℕ → Spelling Value
 SpellsNumbers of count p t v bytes t' = IsNumbers of count p t v bytes t'
 
 pub record IsText (t : Words) (v : Value) (bytes : List ℕ) (t' : Words) : Type 0 where
@@ -83,14 +83,14 @@ pub record IsNone (t : Words) (v : Value) (bytes : List ℕ) (t' : Words) : Type
   pub words : t' ≡ t
 
 -- the byte 1, and as many values as the counter says
-pub record IsFilled (of : Prim) (counter : ℤ) (p : ℕ) (t : Words) (v : Value) (bytes : List ℕ) (t' : Words) : Type 0 where
+pub record IsFilled (of : Primitive) (counter : ℤ) (p : ℕ) (t : Words) (v : Value) (bytes : List ℕ) (t' : Words) : Type 0 where
   pub count : ℕ
   pub inner : List ℕ
   pub counted : counter ≡ pos count
   pub values : SpellsNumbers of count (p + 1) t v inner t'
   pub spelled : bytes ≡ 1 ∷ inner
 
-abbrev pub SpellsCounted : Prim → ℤ → Spelling Value
+abbrev pub SpellsCounted : Primitive → ℤ → Spelling Value
 SpellsCounted of counter p t v bytes t' = IsNone t v bytes t' ⊎ IsFilled of counter p t v bytes t'
 
 -- ---- pointers
@@ -243,7 +243,7 @@ pub record IsBare (t : Words) (v : Value) (bytes : List ℕ) (t' : Words) : Type
   pub words : t' ≡ t
 
 -- a TArray of a class, which is a count and its numbers
-pub record IsArray (class : List ℕ) (of : Prim) (p : ℕ) (t : Words) (v : Value) (bytes : List ℕ) (t' : Words) : Type 0 where
+pub record IsArray (class : List ℕ) (of : Primitive) (p : ℕ) (t : Words) (v : Value) (bytes : List ℕ) (t' : Words) : Type 0 where
   pub count : ℕ
   pub items : Value
   pub item_bytes : List ℕ

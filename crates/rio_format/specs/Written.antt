@@ -6,8 +6,8 @@ use Rattle.byteorder.specs.Endian.{big_bytes}
 use Rattle.rio_num.specs.Text.{text_bytes}
 use Rattle.rio_types.specs.declared.class.ClassDef.{ClassDef}
 use Rattle.rio_types.specs.declared.kind.Kind.TheVariants.{Plain, Counter, Fixed, Counted, Text as Texted, Inline}
-use Rattle.rio_types.specs.declared.kind.Prim.{Prim}
-use Rattle.rio_types.specs.declared.kind.Prim.TheVariants.{I8, I16, I32, I64, U8, U16, U32, U64, Bool as Boolean, F32, F64}
+use Rattle.rio_types.specs.declared.kind.Primitive.{Primitive as Primitive}
+use Rattle.rio_types.specs.declared.kind.Primitive.TheVariants.{I8, I16, I32, I64, U8, U16, U32, U64, Bool as Boolean, F32, F64}
 use Rattle.rio_value.specs.declared.value.Value.{Value}
 use Rattle.rio_value.specs.declared.value.Value.TheOpen.{Value-F, Int, Bits32, Bits64, Bool as Truth, Text, List as Items, Object, Pointed, Null, Back, Opaque}
 use Rattle.rio_value.specs.declared.value.Value.TheFolds.{fold-Value}
@@ -44,7 +44,7 @@ all slot (w ∷ ws) = both (w.bytes slot) (all slot ws)
 
 -- ---- numbers and lists
 
-abbrev pub bits_of : Prim → Width
+abbrev pub bits_of : Primitive → Width
 bits_of I8 = w8
 bits_of I16 = w16
 bits_of I32 = w32
@@ -64,7 +64,7 @@ int_bytes z flags = big_bytes 4 (cast_unsigned w32 z)
 int_bytes z other = []
 
 -- the byte 0 for nothing, and else the byte 1 and the values
-abbrev pub counted_bytes : Prim → List Writing → Writer
+abbrev pub counted_bytes : Primitive → List Writing → Writer
 counted_bytes of [] = just (0 ∷ [])
 counted_bytes of (w ∷ ws) = both (just (1 ∷ [])) (all (kinded (Plain of)) (w ∷ ws))
 
@@ -139,7 +139,7 @@ abbrev pub bare_bytes : List Writing → Writer
 bare_bytes (id ∷ bits ∷ []) = both (just (big_bytes 2 1)) (both (id.bytes (kinded (Plain U32))) (bits.bytes flags))
 bare_bytes other = just []
 
-abbrev pub array_bytes : Prim → List Writing → Writer
+abbrev pub array_bytes : Primitive → List Writing → Writer
 array_bytes of (items ∷ []) = both (just (big_bytes 4 items.count)) (items.bytes (many (kinded (Plain of))))
 array_bytes of other = just []
 

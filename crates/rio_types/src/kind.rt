@@ -4,7 +4,7 @@ use rio_num::{Name, NoMemory};
 
 /// A kind of single values. Floating-point numbers are taken as bit patterns.
 #[derive(Clone, Copy, Debug, PartialEq, Eq)]
-pub enum Prim {
+pub enum Primitive {
     I8,
     I16,
     I32,
@@ -17,6 +17,9 @@ pub enum Prim {
     F32,
     F64,
 }
+
+/// The same, by its short name.
+pub type Prim = Primitive;
 
 /// What a member of a class holds.
 #[derive(Debug, Drop)]

@@ -7,4 +7,4 @@ mod kind;
 
 pub use class::{Base, Bases, ClassDef, Member, Members};
 pub use classes::Classes;
-pub use kind::{Kind, Prim};
+pub use kind::{Kind, Prim, Primitive};

@@ -1,0 +1,383 @@
+ghost use Rattle.std.specs.Prelude.{◌≡◌, ◌==◌, ◌<◌, length, position, IfSome};
+
+use crate::{Header, ObjFault, PointerWord};
+use indexmap::{IndexMap, IndexSet};
+use rio_num::{Cursor, Name, NoMemory};
+use std::alloc::Global;
+use std::marker::Model;
+
+/// Where the reading of objects stands in some data, and which classes and objects it met there.
+#[derive(Drop)]
+pub struct ObjReader<'a> {
+    alloc: Global,
+    cursor: Cursor<'a>,
+    // The places of the count words of pointed objects, in order of their labels.
+    labels: IndexSet<u64>,
+    // The names of classes, by the places of the class words that spell them out.
+    names: IndexMap<u64, Name>,
+}
+
+impl<'a> Model for ObjReader<'a> {
+    ghost use Rattle.std.specs.Prelude.{◌+◌, ◌<◌, ◌≤◌, ◌^◌, length};
+    ghost use Rattle.rio_format.specs.State.{State};
+
+    ghost Value = { State };
+
+    ghost view = { λ r. record { at = r.cursor; words = record { labels = r.labels.keys; names = r.names.entries } } };
+
+    ghost invariant = { λ r. (r.cursor.place + length r.cursor.rest < 2 ^ 32) × (length r.labels.keys ≤ r.cursor.place) };
+}
+
+// A class word, and the name behind it where it spells one out.
+#[derive(Drop)]
+enum ClassWord {
+    Spelled(Name),
+    Earlier(Name),
+}
+
+impl<'a> ObjReader<'a> {
+    ghost use Rattle.std.specs.Prelude.{◌≡◌, ◌+◌, ◌<◌, ◌≤◌, ◌^◌, length, IsTrue, IfOk, IfErr, OnErr, Ok, Err};
+    ghost use Rattle.rio_num.specs.At.{GoesOn};
+    ghost use Rattle.rio_num.specs.Reading.{skip_at};
+    ghost use Rattle.rio_format.specs.State.{standing, no_words, with_label, with_name};
+    ghost use Rattle.rio_format.specs.Objects.{Reads, Fails, lifted, word_at, chars_at, is_count, data_end, end_at, finish_at, header_end_at, header_at, name_at, class_at, known_class_at, new_word_at, reference_at, pointer_word_at};
+    ghost use Rattle.rio_buffer.specs.Reader.{Takes, MayTake, IsCounted, IsPointerWithin, name_of, noted};
+
+    /// Reads data whose first byte has the place `start`.
+    pub fn new(alloc: Global, bytes: &'a [u8], start: u64) -> ObjReader<'a>
+        requires { start + length bytes.now < 2 ^ 32 }
+        ensures { result ≡ standing start bytes.now no_words }
+    {
+        ObjReader {
+            alloc,
+            cursor: Cursor::new(bytes, start),
+            labels: IndexSet::new(alloc),
+            names: IndexMap::new(alloc),
+        }
+    }
+
+    /// The place of the next byte.
+    pub fn place(&self) -> u64
+        ensures value { result ≡ self.now.at.place }
+        ensures fits { data_end self.now < 2 ^ 32 }
+    {
+        self.cursor.place()
+    }
+
+    /// How many bytes are left.
+    pub fn left(&self) -> u64
+        ensures value { result ≡ length self.now.at.rest }
+        ensures fits { data_end self.now < 2 ^ 32 }
+    {
+        self.cursor.left()
+    }
+
+    pub fn take_u8(&mut self) -> Result<u8, ObjFault>
+        ensures exact { Takes (λ x. x) result (word_at 1 self.old) self.old self.new }
+        ensures goes { GoesOn self.old.at self.new.at }
+    {
+        Ok(self.cursor.take_u8()?)
+    }
+
+    pub fn take_u16(&mut self) -> Result<u16, ObjFault>
+        ensures exact { Takes (λ x. x) result (word_at 2 self.old) self.old self.new }
+        ensures goes { GoesOn self.old.at self.new.at }
+    {
+        Ok(self.cursor.take_u16()?)
+    }
+
+    pub fn take_u32(&mut self) -> Result<u32, ObjFault>
+        ensures exact { Takes (λ x. x) result (word_at 4 self.old) self.old self.new }
+        ensures goes { GoesOn self.old.at self.new.at }
+    {
+        Ok(self.cursor.take_u32()?)
+    }
+
+    pub fn take_u64(&mut self) -> Result<u64, ObjFault>
+        ensures exact { Takes (λ x. x) result (word_at 8 self.old) self.old self.new }
+        ensures goes { GoesOn self.old.at self.new.at }
+    {
+        Ok(self.cursor.take_u64()?)
+    }
+
+    /// The next text, which lives as long as the data.
+    pub fn take_text(&mut self) -> Result<&'a [u8], ObjFault>
+        ensures exact { Takes (λ t. t.now) result (chars_at self.old) self.old self.new }
+        ensures goes { GoesOn self.old.at self.new.at }
+    {
+        Ok(self.cursor.take_text()?)
+    }
+
+    /// Passes over the next `n` bytes.
+    pub fn skip(&mut self, n: u64) -> Result<(), ObjFault>
+        ensures exact { Takes (λ _. tt) result (lifted self.old (skip_at n self.old.at)) self.old self.new }
+        ensures goes { GoesOn self.old.at self.new.at }
+    {
+        Ok(self.cursor.skip(n)?)
+    }
+
+    /// Compares the bytes used since the count word at `place` with its count, by which they end at `end`.
+    pub fn finish(&mut self, place: u64, end: u64) -> Result<(), ObjFault>
+        requires { IsCounted place end self.old }
+        ensures exact { Takes (λ _. tt) result (finish_at place end self.old) self.old self.new }
+        ensures goes { GoesOn self.old.at self.new.at }
+    {
+        let used_to = self.cursor.place();
+        if used_to != end {
+            return Err(ObjFault::CountMismatch {
+                place,
+                said: (end - place - 4) as u32,
+                used: (used_to - place - 4) as u32,
+            });
+        }
+        Ok(())
+    }
+
+    // Reading stands at the place again where it stood before these bytes.
+    fn go_back(&mut self, rest: &'a [u8], place: u64)
+        requires end { place + length rest.now < 2 ^ 32 }
+        requires words { length self.old.words.labels ≤ place }
+        ensures { self.new ≡ standing place rest.now self.old.words }
+    {
+        self.cursor = Cursor::new(rest, place);
+    }
+
+    // Where the bytes end that the count word at `place` counts.
+    fn end_of(&self, place: u64, word: u32) -> Result<u64, ObjFault>
+        requires count { IsTrue (is_count word) }
+        requires behind { place + 4 ≤ self.now.at.place }
+        ensures exact { Takes (λ x. x) result (end_at place word self.now) self.now self.now }
+        ensures within { IfOk result (λ end. IsCounted place end self.now) }
+    {
+        let data_end = self.cursor.place() + self.cursor.left();
+        let end = place + 4 + u64::from(word - 0x4000_0000);
+        if data_end < end {
+            return Err(ObjFault::BadCount { place });
+        }
+        Ok(end)
+    }
+
+    // ---- headers
+
+    fn header_end(&self, place: u64, word: u32) -> Result<u64, ObjFault>
+        requires { place + 4 ≤ self.now.at.place }
+        ensures exact { Takes (λ x. x) result (header_end_at place word self.now) self.now self.now }
+        ensures within { IfOk result (λ end. IsCounted place end self.now) }
+    {
+        if (0x4000_0000..0x8000_0000).contains(&word) {
+            self.end_of(place, word)
+        } else if word >= 0xC000_0000 {
+            Err(ObjFault::BadCount { place })
+        } else {
+            Err(ObjFault::NoCount { place })
+        }
+    }
+
+    // The same as `header`, but where it refuses, reading may have gone on.
+    #[tactic(auto, unfolding(rio_format::specs::Objects::header_at))]
+    fn read_header(&mut self) -> Result<Header, ObjFault>
+        ensures ok { IfOk result (λ h. header_at self.old ≡ Ok (h, self.new)) }
+        ensures err { IfErr result (λ e. header_at self.old ≡ Err e) }
+        ensures within { IfOk result (λ h. IsCounted h.place h.end self.new) }
+        ensures words { self.new.words ≡ self.old.words }
+        ensures goes { GoesOn self.old.at self.new.at }
+    {
+        let place = self.place();
+        let word = self.take_u32()?;
+        let end = self.header_end(place, word)?;
+        let version = i32::from(self.take_u16()?);
+        let sum = if version == 0 {
+            Some(self.take_u32()?)
+        } else {
+            None
+        };
+        Ok(Header {
+            place,
+            end,
+            version,
+            sum,
+        })
+    }
+
+    /// The header of an object, whose count is within the data.
+    pub fn header(&mut self) -> Result<Header, ObjFault>
+        ensures exact { Takes (λ x. x) result (header_at self.old) self.old self.new }
+        ensures within { IfOk result (λ h. IsCounted h.place h.end self.new) }
+        ensures goes { GoesOn self.old.at self.new.at }
+    {
+        let (rest, place) = (self.cursor.rest(), self.cursor.place());
+        match self.read_header() {
+            Ok(header) => Ok(header),
+            Err(fault) => {
+                self.go_back(rest, place);
+                Err(fault)
+            }
+        }
+    }
+
+    // ---- pointers
+
+    // A name that ends before a zero byte.
+    fn class_name(&mut self) -> Result<Name, ObjFault>
+        ensures exact { Reads (λ x. x) result (name_at self.old) self.new }
+        ensures words { self.new.words ≡ self.old.words }
+        ensures goes { GoesOn self.old.at self.new.at }
+    {
+        let rest = self.cursor.rest();
+        let Some(len) = first_zero(rest) else {
+            return Err(ObjFault::Short {
+                place: self.cursor.place() + self.cursor.left(),
+                wanted: 1,
+            });
+        };
+        self.cursor.skip(len as u64 + 1)?;
+        Ok(Name::from_slice(self.alloc, &rest[..len])?)
+    }
+
+    // The class that an earlier class word spells out.
+    fn earlier_class(&self, place: u64, word: u32) -> Result<Name, ObjFault>
+        ensures { Reads (λ x. x) result (known_class_at place word self.now) self.now }
+    {
+        if word < 0x8000_0002 {
+            return Err(ObjFault::UnknownClassWord { place, word });
+        }
+        match self.names.get(&u64::from(word - 0x8000_0002)) {
+            Some(name) => Ok(name.copy()?),
+            None => Err(ObjFault::UnknownClassWord { place, word }),
+        }
+    }
+
+    // A class word. A name that it spells out isn't kept yet.
+    #[tactic(auto, unfolding(rio_format::specs::Objects::class_at, rio_format::specs::Objects::new_class_at))]
+    fn class_word(&mut self) -> Result<ClassWord, ObjFault>
+        ensures ok { IfOk result (λ c. class_at self.old ≡ Ok (name_of c, noted self.old.at.place c self.new)) }
+        ensures err { IfErr result (λ e. Fails e (class_at self.old)) }
+        ensures words { self.new.words ≡ self.old.words }
+        ensures goes { GoesOn self.old.at self.new.at }
+    {
+        let place = self.place();
+        let word = self.take_u32()?;
+        if word == u32::MAX {
+            return Ok(ClassWord::Spelled(self.class_name()?));
+        }
+        Ok(ClassWord::Earlier(self.earlier_class(place, word)?))
+    }
+
+    // The next label, for the object whose count word stands at `place`.
+    fn label(&mut self, place: u64) -> Result<u32, NoMemory>
+        requires { length self.old.words.labels < self.old.at.place }
+        ensures ok { IfOk result (λ label. (label ≡ length self.old.words.labels) × (self.new ≡ record self.old { words = with_label self.old.words place })) }
+        ensures err { OnErr result (self.new ≡ self.old) }
+    {
+        let label = self.labels.len();
+        self.labels.insert(place)?;
+        Ok(label as u32)
+    }
+
+    // The next label, and the name that the class word at `class_place` spells out.
+    fn label_and_name(&mut self, place: u64, class_place: u64, name: Name) -> Result<u32, NoMemory>
+        requires { length self.old.words.labels < self.old.at.place }
+        ensures ok { IfOk result (λ label. (label ≡ length self.old.words.labels) × (self.new ≡ record self.old { words = with_label (with_name self.old.words class_place name) place })) }
+        ensures err { OnErr result (self.new ≡ self.old) }
+    {
+        self.labels.reserve(1)?;
+        let label = self.labels.len();
+        self.names.insert(class_place, name)?;
+        self.labels.insert(place).unwrap();
+        Ok(label as u32)
+    }
+
+    // The object that begins behind the count word at `place`.
+    #[tactic(auto, unfolding(rio_format::specs::Objects::new_word_at))]
+    fn new_object(&mut self, place: u64, word: u32) -> Result<PointerWord, ObjFault>
+        requires count { IsTrue (is_count word) }
+        requires behind { place + 4 ≤ self.old.at.place }
+        requires labels { length self.old.words.labels < self.old.at.place }
+        ensures exact { Reads (λ x. x) result (new_word_at place word self.old) self.new }
+        ensures within { IfOk result (λ w. IsPointerWithin w self.new) }
+        ensures words { OnErr result (self.new.words ≡ self.old.words) }
+        ensures goes { GoesOn self.old.at self.new.at }
+    {
+        let end = self.end_of(place, word)?;
+        let class_place = self.place();
+        match self.class_word()? {
+            ClassWord::Spelled(class) => {
+                let name = class.copy()?;
+                let label = self.label_and_name(place, class_place, name)?;
+                Ok(PointerWord::New {
+                    label,
+                    place,
+                    end,
+                    class,
+                })
+            }
+            ClassWord::Earlier(class) => {
+                let label = self.label(place)?;
+                Ok(PointerWord::New {
+                    label,
+                    place,
+                    end,
+                    class,
+                })
+            }
+        }
+    }
+
+    // The earlier object that the word refers to.
+    fn reference(&self, place: u64, word: u32) -> Result<PointerWord, ObjFault>
+        ensures { Takes (λ x. x) result (reference_at place word self.now) self.now self.now }
+    {
+        if word < 2 {
+            return Err(ObjFault::UnknownRef { place, word });
+        }
+        match self.labels.get_index_of(&u64::from(word - 2)) {
+            Some(label) => Ok(PointerWord::Back {
+                label: label as u32,
+            }),
+            None => Err(ObjFault::UnknownRef { place, word }),
+        }
+    }
+
+    // The same as `pointer`, but where it refuses, reading may have gone on.
+    #[tactic(auto, unfolding(rio_format::specs::Objects::pointer_word_at))]
+    fn read_pointer(&mut self) -> Result<PointerWord, ObjFault>
+        ensures exact { Reads (λ x. x) result (pointer_word_at self.old) self.new }
+        ensures within { IfOk result (λ w. IsPointerWithin w self.new) }
+        ensures words { OnErr result (self.new.words ≡ self.old.words) }
+        ensures goes { GoesOn self.old.at self.new.at }
+    {
+        let place = self.cursor.place();
+        let word = self.take_u32()?;
+        if word == 0 {
+            Ok(PointerWord::Null)
+        } else if (0x4000_0000..0x8000_0000).contains(&word) {
+            self.new_object(place, word)
+        } else {
+            self.reference(place, word)
+        }
+    }
+
+    /// The first word of a pointer, and for a new object its class word, behind which the object stands.
+    pub fn pointer(&mut self) -> Result<PointerWord, ObjFault>
+        ensures exact { MayTake (λ x. x) result (pointer_word_at self.old) self.old self.new }
+        ensures within { IfOk result (λ w. IsPointerWithin w self.new) }
+        ensures goes { GoesOn self.old.at self.new.at }
+    {
+        let (rest, place) = (self.cursor.rest(), self.cursor.place());
+        match self.read_pointer() {
+            Ok(word) => Ok(word),
+            Err(fault) => {
+                self.go_back(rest, place);
+                Err(fault)
+            }
+        }
+    }
+}
+
+// Where the first zero byte stands.
+fn first_zero(bytes: &[u8]) -> Option<usize>
+    ensures place { result ≡ position (λ b. b == 0) bytes.now }
+    ensures within { IfSome result (λ k. k < length bytes.now) }
+{
+    bytes.iter().position(|b| *b == 0)
+}

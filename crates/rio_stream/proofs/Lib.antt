@@ -1,0 +1,6 @@
+pub mod Closed
+pub mod CounterLaws
+pub mod Counts
+pub mod Each
+pub mod Parts
+pub mod ReadLaws

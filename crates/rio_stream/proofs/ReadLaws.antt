@@ -1,0 +1,29 @@
+-- What is read of data, and what spells it.
+use Rattle.std.proofs.Common.{◌≡◌, ℕ, List, ◌++◌, Result, Ok, Err, refl, ap, IfOk}
+use Rattle.rio_types.specs.declared.class.ClassDef.{ClassDef}
+use Rattle.rio_value.specs.declared.value.Value.{Value}
+use Rattle.rio_format.specs.Laws.{AreBytes}
+use Rattle.rio_format.specs.Objects.{Step, first_at, only_value, value_at}
+use Rattle.rio_format.specs.Spelling.{Spells}
+use Rattle.rio_format.specs.State.{State}
+use Rattle.rio_format.specs.declared.fault.ObjFault.{ObjFault}
+use Rattle.rio_format.proofs.ObjectLaws.{read_is_spelled, spelled_is_read}
+use Rattle.rio_num.proofs.ReadLaws.{ok_is}
+use Rattle.rio_stream.specs.Reading.{Answers}
+
+read_at : (read : Step Value) (v : Value) → only_value read ≡ Ok v → (s : State) × (read ≡ Ok (v, s))
+read_at (Ok x) v e = (x.1, ap (λ (w : Value). let r : Step Value = Ok (w, x.1) in r) (ok_is {E = ObjFault} x.0 v e))
+read_at (Err d) v e = absurd cc
+
+module _ (classes : List ClassDef) (class : List ℕ) (start : ℕ) (bytes : List ℕ) where
+  pub is_found : (read : Result Value ObjFault) → AreBytes bytes → Answers read (value_at classes class start bytes) → IfOk read (λ v. (front : List ℕ) × (rest : List ℕ) × (bytes ≡ front ++ rest) × Spells classes start class v front)
+  is_found (Ok v) fits e =
+      let at = read_at (first_at classes class start bytes) v e in
+      let spelled = read_is_spelled classes class start bytes v at.0 fits at.1 in
+      (spelled.0, at.0.at.rest, spelled.1, spelled.2)
+  is_found (Err d) fits e = tt
+
+  pub is_only : (v : Value) (front rest : List ℕ) → bytes ≡ front ++ rest → Spells classes start class v front → value_at classes class start bytes ≡ Ok v
+  is_only v front rest e spelled =
+      let read = spelled_is_read classes class start v front rest spelled in
+      rw (e, read.1) refl

@@ -1,0 +1,12 @@
+use Rattle.std.proofs.Common.{subst, arith}
+use Rattle.rio_stream.specs.Reading.{Answers}
+use Rattle.rio_stream.proofs.ReadLaws.{is_found, is_only}
+use Rattle.rio_stream.proofs.read.read_object.Goals as goal
+
+pub returns-clause-found : goal.returns-clause-found
+returns-clause-found c =
+    is_found c.args.classes.now c.args.class.now c.args.start c.args.bytes.now c.read_first.result (λ i. omega (arith, c.type_inv.bytes i)) c.read_first.ensures
+
+pub returns-clause-only : goal.returns-clause-only
+returns-clause-only c = λ v front rest e spelled.
+    subst (Answers c.read_first.result) (is_only c.args.classes.now c.args.class.now c.args.start c.args.bytes.now v front rest e spelled) c.read_first.ensures

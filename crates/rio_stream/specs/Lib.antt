@@ -1,0 +1,4 @@
+pub mod Bodies
+pub mod Lists
+pub mod Members
+pub mod Reading

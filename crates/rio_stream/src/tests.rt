@@ -1,0 +1,372 @@
+//! Rows of objects in bytes, with the values or faults that they stand for.
+
+mod classes;
+mod printed;
+
+use crate::{read_builtin, read_object};
+use classes::{classes_of_rows, hex_bytes};
+use printed::put_value;
+use rio_buffer::{ObjFault, ObjReader};
+use rio_num::{Bytes, NoMemory};
+use rio_value::depth;
+use std::alloc::Global;
+use std::test::Fail;
+
+struct Row {
+    class: &'static str,
+    bytes: &'static str,
+    text: &'static str,
+}
+
+// Objects whose first byte has the place 34.
+static READ: [Row; 21] = [
+    Row {
+        class: "Node",
+        bytes: "40000033 0001 00000001 40000029 FFFFFFFF 4E6F646500 4000001C 0001 00000002 40000012 80000032 4000000A 0001 00000003 00000000 000000",
+        text: "Node#1{val: 1, next: @0=Node#1{val: 2, next: @1=Node#1{val: 3, next: null}}}",
+    },
+    Row {
+        class: "Node",
+        bytes: "40000021 0001 00000001 40000017 FFFFFFFF 4E6F646500 4000000A 0001 00000002 0000002E 00",
+        text: "Node#1{val: 1, next: @0=Node#1{val: 2, next: @0}}",
+    },
+    Row {
+        class: "Node",
+        bytes: "4000000E 0000 12345678 00000005 00000000",
+        text: "Node#1{val: 5, next: null}",
+    },
+    Row {
+        class: "Counts",
+        bytes: "40000009 0001 00000002 01 07FF",
+        text: "Counts#1{n: 2, w: [7, 255]}",
+    },
+    Row {
+        class: "Counts",
+        bytes: "40000007 0001 00000002 00",
+        text: "Counts#1{n: 2, w: []}",
+    },
+    Row {
+        class: "All",
+        bytes: "4000002B 0001 40000007 0001 00000002 00 02 FFFE 8000000000000000 FFFFFFFFFFFFFFFF 3F800000 0001 0002 02 6869",
+        text: "All#1{Counts#1{n: 2, w: []}, b: true, i: -2, l: -9223372036854775808, u: 18446744073709551615, f: 0x3f800000, p: [1, 2], t: \"hi\"}",
+    },
+    Row {
+        class: "TObject",
+        bytes: "0001 00000005 00000000",
+        text: "TObject#1{fUniqueID: 5, fBits: 0}",
+    },
+    Row {
+        class: "TObject",
+        bytes: "0001 00000005 00000010 0007",
+        text: "TObject#1{fUniqueID: 5, fBits: 16, fPid: 7}",
+    },
+    Row {
+        class: "TNamed",
+        bytes: "40000011 0001 0001 00000000 00000000 01 61 02 6263",
+        text: "TNamed#1{TObject#1{fUniqueID: 0, fBits: 0}, fName: \"a\", fTitle: \"bc\"}",
+    },
+    Row {
+        class: "TObjString",
+        bytes: "4000000F 0001 0001 00000000 00000000 02 6869 00",
+        text: "TObjString#1{TObject#1{fUniqueID: 0, fBits: 0}, fString: \"hi\"}",
+    },
+    Row {
+        class: "Holds",
+        bytes: "4000005D 0001 40000057 FFFFFFFF 544C69737400 40000049 0005 0001 00000000 00000000 00 00000001 40000033 FFFFFFFF 544F626A417272617900 40000021 0003 0001 00000000 00000000 00 00000003 00000000 0000002A 0000004D 00000000 00",
+        text: "Holds#1{p: @0=TList#5{TObject#1{fUniqueID: 0, fBits: 0}, fName: \"\", items: [[@1=TObjArray#3{TObject#1{fUniqueID: 0, fBits: 0}, fName: \"\", fLowerBound: 0, items: [@0, @1, null]}, \"\"]]}}",
+    },
+    Row {
+        class: "TArrayC",
+        bytes: "00000002 07FF",
+        text: "TArrayC#1{items: [7, -1]}",
+    },
+    Row {
+        class: "TArrayS",
+        bytes: "00000001 FFFE",
+        text: "TArrayS#1{items: [-2]}",
+    },
+    Row {
+        class: "TArrayI",
+        bytes: "00000001 80000000",
+        text: "TArrayI#1{items: [-2147483648]}",
+    },
+    Row {
+        class: "TArrayL64",
+        bytes: "00000001 0000000100000000",
+        text: "TArrayL64#1{items: [4294967296]}",
+    },
+    Row {
+        class: "TArrayF",
+        bytes: "00000001 3F800000",
+        text: "TArrayF#1{items: [0x3f800000]}",
+    },
+    Row {
+        class: "TArrayD",
+        bytes: "00000001 3FF0000000000000",
+        text: "TArrayD#1{items: [0x3ff0000000000000]}",
+    },
+    // The version isn't described.
+    Row {
+        class: "Node",
+        bytes: "4000000A 0007 00000005 00000000",
+        text: "opaque(Node, 10)",
+    },
+    // The class isn't.
+    Row {
+        class: "Nobody",
+        bytes: "40000002 0001",
+        text: "opaque(Nobody, 2)",
+    },
+    // A member is of another kind.
+    Row {
+        class: "Odd",
+        bytes: "40000004 0001 0203",
+        text: "opaque(Odd, 4)",
+    },
+    // No counter stands before the member that it counts.
+    Row {
+        class: "Late",
+        bytes: "40000009 0001 01 07FF 00000002",
+        text: "opaque(Late, 9)",
+    },
+];
+
+static REFUSED: [(&str, &str, ObjFault); 20] = [
+    (
+        "Node",
+        "",
+        ObjFault::Short {
+            place: 34,
+            wanted: 4,
+        },
+    ),
+    (
+        "Node",
+        "00000033 0001 00000001",
+        ObjFault::NoCount { place: 34 },
+    ),
+    (
+        "Node",
+        "4FFFFFFF 0001 00000001",
+        ObjFault::BadCount { place: 34 },
+    ),
+    (
+        "Node",
+        "C0000006 0001 00000001",
+        ObjFault::BadCount { place: 34 },
+    ),
+    // The name of the class has no end.
+    (
+        "Node",
+        "40000013 0001 00000001 40000009 FFFFFFFF 4E6F646565",
+        ObjFault::Short {
+            place: 57,
+            wanted: 1,
+        },
+    ),
+    // A class word between the words that there are.
+    (
+        "Node",
+        "40000033 0001 00000001 40000029 FFFFFFFF 4E6F646500 4000001C 0001 00000002 40000012 80000033 4000000A 0001 00000003 00000000",
+        ObjFault::UnknownClassWord {
+            place: 71,
+            word: 2_147_483_699,
+        },
+    ),
+    // A class word in place of the first one.
+    (
+        "Node",
+        "4000000E 0001 00000001 40000004 80000032",
+        ObjFault::UnknownClassWord {
+            place: 48,
+            word: 2_147_483_698,
+        },
+    ),
+    // References to the class word, to themselves, and to nothing.
+    (
+        "Node",
+        "40000021 0001 00000001 40000017 FFFFFFFF 4E6F646500 4000000A 0001 00000002 00000032",
+        ObjFault::UnknownRef {
+            place: 67,
+            word: 50,
+        },
+    ),
+    (
+        "Node",
+        "40000021 0001 00000001 40000017 FFFFFFFF 4E6F646500 4000000A 0001 00000002 00000045",
+        ObjFault::UnknownRef {
+            place: 67,
+            word: 69,
+        },
+    ),
+    (
+        "Node",
+        "4000000A 0001 00000001 00000001",
+        ObjFault::UnknownRef { place: 44, word: 1 },
+    ),
+    (
+        "Counts",
+        "40000009 0001 00000002 02 07FF",
+        ObjFault::BadFlag { place: 44 },
+    ),
+    (
+        "Counts",
+        "40000009 0001 FFFFFFFF 01 07FF",
+        ObjFault::BadCount { place: 44 },
+    ),
+    (
+        "Counts",
+        "40000009 0001 00000003 01 07FF",
+        ObjFault::Short {
+            place: 47,
+            wanted: 1,
+        },
+    ),
+    (
+        "TObjString",
+        "40000010 0001 0001 00000000 00000000 02 6869 00",
+        ObjFault::CountMismatch {
+            place: 34,
+            said: 16,
+            used: 15,
+        },
+    ),
+    (
+        "TObjString",
+        "4000000E 0001 0001 00000000 00000000 02 6869 00",
+        ObjFault::CountMismatch {
+            place: 34,
+            said: 14,
+            used: 15,
+        },
+    ),
+    (
+        "Nobody",
+        "40000001 0001 00",
+        ObjFault::CountMismatch {
+            place: 34,
+            said: 1,
+            used: 2,
+        },
+    ),
+    (
+        "TObject",
+        "0002 00000005 00000000",
+        ObjFault::NoCount { place: 34 },
+    ),
+    (
+        "TArrayS",
+        "00000002 0001 00",
+        ObjFault::BadCount { place: 34 },
+    ),
+    ("TArrayC", "FFFFFFFF 00", ObjFault::BadCount { place: 34 }),
+    (
+        "TList",
+        "40000015 0005 0001 00000000 00000000 00 00000002 00000000",
+        ObjFault::BadCount { place: 51 },
+    ),
+];
+
+// The object, or what refuses it.
+fn printed_object(
+    alloc: Global,
+    class: &str,
+    bytes: &str,
+    printed: &mut Bytes,
+) -> Result<(), ObjFault> {
+    let bytes = hex_bytes(alloc, bytes)?;
+    if bytes.len() > 10_000 {
+        return Err(ObjFault::NoMemory);
+    }
+    let classes = classes_of_rows(alloc)?;
+    let value = read_object(alloc, &classes, class.as_bytes(), bytes.as_slice(), 34)?;
+    put_value(printed, &value)?;
+    Ok(())
+}
+
+#[test]
+fn reads(rt: HostRuntime) -> Result<(), Fail> {
+    for row in &READ {
+        let mut printed = Bytes::new(rt.alloc());
+        let read = printed_object(rt.alloc(), row.class, row.bytes, &mut printed);
+        assert_eq!(rt; read, Ok(()), "{}", row.text);
+        assert!(rt; printed.as_slice() == row.text.as_bytes(), "{}", row.text);
+    }
+    Ok(())
+}
+
+#[test]
+fn refuses(rt: HostRuntime) -> Result<(), Fail> {
+    for (class, bytes, fault) in &REFUSED {
+        let mut printed = Bytes::new(rt.alloc());
+        let read = printed_object(rt.alloc(), class, bytes, &mut printed);
+        assert_eq!(rt; read, Err(*fault), "{bytes}");
+    }
+    Ok(())
+}
+
+// As many nodes, each of which points to the next.
+fn chain(alloc: Global, count: u32) -> Result<Bytes, NoMemory> {
+    let end: u32 = 18u32.wrapping_mul(count).wrapping_add(35);
+    let mut bytes = Bytes::new(alloc);
+    let mut place: u32 = 34;
+    for k in 1..count.saturating_add(1) {
+        bytes.put_u32(0x3FFF_FFFC_u32.wrapping_add(end).wrapping_sub(place))?;
+        bytes.put_u16(1)?;
+        bytes.put_u32(k)?;
+        if k == count {
+            bytes.put_u32(0)?;
+        } else {
+            place = place.wrapping_add(10);
+            bytes.put_u32(0x3FFF_FFFC_u32.wrapping_add(end).wrapping_sub(place))?;
+            if k == 1 {
+                bytes.put(b"\xFF\xFF\xFF\xFFNode\0")?;
+                place = place.wrapping_add(13);
+            } else {
+                bytes.put_u32(0x8000_0032)?;
+                place = place.wrapping_add(8);
+            }
+        }
+    }
+    Ok(bytes)
+}
+
+fn depth_of_chain(alloc: Global, count: u32) -> Result<u32, ObjFault> {
+    let classes = classes_of_rows(alloc)?;
+    let bytes = chain(alloc, count)?;
+    if bytes.len() > 10_000 {
+        return Err(ObjFault::NoMemory);
+    }
+    let value = read_object(alloc, &classes, b"Node", bytes.as_slice(), 34)?;
+    Ok(depth(&value))
+}
+
+#[test]
+fn reads_as_deep_as_it_may(rt: HostRuntime) -> Result<(), Fail> {
+    assert_eq!(rt; depth_of_chain(rt.alloc(), 256), Ok(256));
+    assert_eq!(rt;
+        depth_of_chain(rt.alloc(), 257),
+        Err(ObjFault::TooDeep { place: 4647 })
+    );
+    Ok(())
+}
+
+#[test]
+fn reads_one_behind_the_other(rt: HostRuntime) -> Result<(), Fail> {
+    let classes = classes_of_rows(rt.alloc()).ok().ok_or("classes")?;
+    let mut reader = ObjReader::new(rt.alloc(), b"\0\x01\0\0\0\0\0\0\0\0\0\0\0\x01\x07", 0);
+    let mut printed = Bytes::new(rt.alloc());
+    let object = read_builtin(rt.alloc(), &classes, &mut reader, b"TObject")
+        .ok()
+        .ok_or("a TObject")?;
+    put_value(&mut printed, &object).ok().ok_or("memory")?;
+    let array = read_builtin(rt.alloc(), &classes, &mut reader, b"TArrayC")
+        .ok()
+        .ok_or("a TArrayC")?;
+    put_value(&mut printed, &array).ok().ok_or("memory")?;
+    assert!(rt;
+        printed.as_slice() == b"TObject#1{fUniqueID: 0, fBits: 0}TArrayC#1{items: [7]}".as_slice()
+    );
+    assert_eq!(rt; reader.left(), 0);
+    Ok(())
+}
