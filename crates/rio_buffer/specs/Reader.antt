@@ -1,7 +1,7 @@
 -- What a call of a reader of objects did.
-use Rattle.std.specs.Prelude.{◌≡◌, ◌≤◌, ℕ, ◌+◌, List, Result, Ok, Err}
+use Rattle.std.specs.Prelude.{◌≡◌, ◌≤◌, ◌<◌, ◌^◌, ℕ, ◌+◌, List, Result, Ok, Err}
 use Rattle.rio_format.specs.Objects.{Step, Fails, data_end}
-use Rattle.rio_format.specs.State.{State, with_name}
+use Rattle.rio_format.specs.ReaderState.{ReaderState, with_name}
 use Rattle.rio_format.specs.declared.fault.ObjFault.{ObjFault}
 use Rattle.rio_format.specs.declared.words.PointerWord.{PointerWord}
 use Rattle.rio_format.specs.declared.words.PointerWord.TheVariants.{Null, New, Back}
@@ -9,22 +9,24 @@ use Rattle.rio_buffer.specs.declared.reader.ClassWord.{ClassWord}
 use Rattle.rio_buffer.specs.declared.reader.ClassWord.TheVariants.{Spelled, Earlier}
 
 -- It took what reading gives, or the reading fails so and nothing changed.
-abbrev pub Takes : {X Y : Type 0} → (X → Y) → Result X ObjFault → Step Y → State → State → Type 0
+abbrev pub Takes : {X Y : Type 0} → (X → Y) → Result X ObjFault → Step Y → ReaderState → ReaderState → Type 0
 Takes view (Ok x) read old new = read ≡ Ok (view x, new)
 Takes view (Err e) read old new = (read ≡ Err e) × (new ≡ old)
 
 -- The same, and memory may have run out: nothing changed then either.
-abbrev pub MayTake : {X Y : Type 0} → (X → Y) → Result X ObjFault → Step Y → State → State → Type 0
+abbrev pub MayTake : {X Y : Type 0} → (X → Y) → Result X ObjFault → Step Y → ReaderState → ReaderState → Type 0
 MayTake view (Ok x) read old new = read ≡ Ok (view x, new)
 MayTake view (Err e) read old new = Fails e read × (new ≡ old)
 
--- The bytes that a count word at the place counts end within the data, and reading stands behind the word.
-pub record IsCounted (place end : ℕ) (s : State) : Type 0 where
+-- The bytes that a count word at the place counts end within the data, reading stands behind the word, and the data are as
+-- short as a reader's are.
+pub record IsCounted (place end : ℕ) (s : ReaderState) : Type 0 where
   pub begins : place + 4 ≤ end
   pub ends : end ≤ data_end s
   pub behind : place + 4 ≤ s.at.place
+  pub near : data_end s < place + 2 ^ 32
 
-abbrev pub IsPointerWithin : PointerWord → State → Type 0
+abbrev pub IsPointerWithin : PointerWord → ReaderState → Type 0
 IsPointerWithin Null s = Unit {0}
 IsPointerWithin (New label place end class) s = IsCounted place end s
 IsPointerWithin (Back label) s = Unit {0}
@@ -36,6 +38,6 @@ name_of (Spelled name) = name
 name_of (Earlier name) = name
 
 -- behind the class word at the place: a name that it spells out is known from then on
-abbrev pub noted : ℕ → ClassWord → State → State
+abbrev pub noted : ℕ → ClassWord → ReaderState → ReaderState
 noted place (Spelled name) s = record s { words = with_name s.words place name }
 noted place (Earlier name) s = s

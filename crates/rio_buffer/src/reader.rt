@@ -19,13 +19,13 @@ pub struct ObjReader<'a> {
 
 impl<'a> Model for ObjReader<'a> {
     ghost use Rattle.std.specs.Prelude.{◌+◌, ◌<◌, ◌≤◌, ◌^◌, length};
-    ghost use Rattle.rio_format.specs.State.{State};
+    ghost use Rattle.rio_format.specs.ReaderState.{ReaderState};
 
-    ghost Value = { State };
+    ghost Value = { ReaderState };
 
     ghost view = { λ r. record { at = r.cursor; words = record { labels = r.labels.keys; names = r.names.entries } } };
 
-    ghost invariant = { λ r. (r.cursor.place + length r.cursor.rest < 2 ^ 32) × (length r.labels.keys ≤ r.cursor.place) };
+    ghost invariant = { λ r. (r.cursor.place + length r.cursor.rest < 2 ^ 64) × (length r.labels.keys + length r.cursor.rest < 2 ^ 32) };
 }
 
 // A class word, and the name behind it where it spells one out.
@@ -39,13 +39,14 @@ impl<'a> ObjReader<'a> {
     ghost use Rattle.std.specs.Prelude.{◌≡◌, ◌+◌, ◌<◌, ◌≤◌, ◌^◌, length, IsTrue, IfOk, IfErr, OnErr, Ok, Err};
     ghost use Rattle.rio_num.specs.At.{GoesOn};
     ghost use Rattle.rio_num.specs.Reading.{skip_at};
-    ghost use Rattle.rio_format.specs.State.{standing, no_words, with_label, with_name};
-    ghost use Rattle.rio_format.specs.Objects.{Reads, Fails, lifted, word_at, chars_at, is_count, data_end, end_at, finish_at, header_end_at, header_at, name_at, class_at, known_class_at, new_word_at, reference_at, pointer_word_at};
+    ghost use Rattle.rio_format.specs.ReaderState.{standing, no_words, with_label, with_name};
+    ghost use Rattle.rio_format.specs.Objects.{ReadsAs, Fails, lifted, word_at, chars_at, is_count, data_end, end_at, finish_at, header_end_at, header_at, name_at, class_at, known_class_at, new_word_at, reference_at, pointer_word_at};
     ghost use Rattle.rio_buffer.specs.Reader.{Takes, MayTake, IsCounted, IsPointerWithin, name_of, noted};
 
     /// Reads data whose first byte has the place `start`.
     pub fn new(alloc: Global, bytes: &'a [u8], start: u64) -> ObjReader<'a>
-        requires { start + length bytes.now < 2 ^ 32 }
+        requires places { start + length bytes.now < 2 ^ 64 }
+        requires size { length bytes.now < 2 ^ 32 }
         ensures { result ≡ standing start bytes.now no_words }
     {
         ObjReader {
@@ -59,7 +60,8 @@ impl<'a> ObjReader<'a> {
     /// The place of the next byte.
     pub fn place(&self) -> u64
         ensures value { result ≡ self.now.at.place }
-        ensures fits { data_end self.now < 2 ^ 32 }
+        ensures fits { data_end self.now < 2 ^ 64 }
+        ensures size { length self.now.at.rest < 2 ^ 32 }
     {
         self.cursor.place()
     }
@@ -67,7 +69,7 @@ impl<'a> ObjReader<'a> {
     /// How many bytes are left.
     pub fn left(&self) -> u64
         ensures value { result ≡ length self.now.at.rest }
-        ensures fits { data_end self.now < 2 ^ 32 }
+        ensures fits { length self.now.at.rest < 2 ^ 32 }
     {
         self.cursor.left()
     }
@@ -135,8 +137,8 @@ impl<'a> ObjReader<'a> {
 
     // Reading stands at the place again where it stood before these bytes.
     fn go_back(&mut self, rest: &'a [u8], place: u64)
-        requires end { place + length rest.now < 2 ^ 32 }
-        requires words { length self.old.words.labels ≤ place }
+        requires places { place + length rest.now < 2 ^ 64 }
+        requires size { length self.old.words.labels + length rest.now < 2 ^ 32 }
         ensures { self.new ≡ standing place rest.now self.old.words }
     {
         self.cursor = Cursor::new(rest, place);
@@ -146,21 +148,24 @@ impl<'a> ObjReader<'a> {
     fn end_of(&self, place: u64, word: u32) -> Result<u64, ObjFault>
         requires count { IsTrue (is_count word) }
         requires behind { place + 4 ≤ self.now.at.place }
+        requires near { data_end self.now < place + 2 ^ 32 }
         ensures exact { Takes (λ x. x) result (end_at place word self.now) self.now self.now }
         ensures within { IfOk result (λ end. IsCounted place end self.now) }
     {
         let data_end = self.cursor.place() + self.cursor.left();
-        let end = place + 4 + u64::from(word - 0x4000_0000);
-        if data_end < end {
+        let begin = place + 4;
+        let count = u64::from(word - 0x4000_0000);
+        if data_end - begin < count {
             return Err(ObjFault::BadCount { place });
         }
-        Ok(end)
+        Ok(begin + count)
     }
 
     // ---- headers
 
     fn header_end(&self, place: u64, word: u32) -> Result<u64, ObjFault>
-        requires { place + 4 ≤ self.now.at.place }
+        requires behind { place + 4 ≤ self.now.at.place }
+        requires near { data_end self.now < place + 2 ^ 32 }
         ensures exact { Takes (λ x. x) result (header_end_at place word self.now) self.now self.now }
         ensures within { IfOk result (λ end. IsCounted place end self.now) }
     {
@@ -219,7 +224,7 @@ impl<'a> ObjReader<'a> {
 
     // A name that ends before a zero byte.
     fn class_name(&mut self) -> Result<Name, ObjFault>
-        ensures exact { Reads (λ x. x) result (name_at self.old) self.new }
+        ensures exact { ReadsAs (λ x. x) result (name_at self.old) self.new }
         ensures words { self.new.words ≡ self.old.words }
         ensures goes { GoesOn self.old.at self.new.at }
     {
@@ -236,7 +241,7 @@ impl<'a> ObjReader<'a> {
 
     // The class that an earlier class word spells out.
     fn earlier_class(&self, place: u64, word: u32) -> Result<Name, ObjFault>
-        ensures { Reads (λ x. x) result (known_class_at place word self.now) self.now }
+        ensures { ReadsAs (λ x. x) result (known_class_at place word self.now) self.now }
     {
         if word < 0x8000_0002 {
             return Err(ObjFault::UnknownClassWord { place, word });
@@ -265,7 +270,7 @@ impl<'a> ObjReader<'a> {
 
     // The next label, for the object whose count word stands at `place`.
     fn label(&mut self, place: u64) -> Result<u32, NoMemory>
-        requires { length self.old.words.labels < self.old.at.place }
+        requires { length self.old.words.labels + length self.old.at.rest + 1 < 2 ^ 32 }
         ensures ok { IfOk result (λ label. (label ≡ length self.old.words.labels) × (self.new ≡ record self.old { words = with_label self.old.words place })) }
         ensures err { OnErr result (self.new ≡ self.old) }
     {
@@ -276,7 +281,7 @@ impl<'a> ObjReader<'a> {
 
     // The next label, and the name that the class word at `class_place` spells out.
     fn label_and_name(&mut self, place: u64, class_place: u64, name: Name) -> Result<u32, NoMemory>
-        requires { length self.old.words.labels < self.old.at.place }
+        requires { length self.old.words.labels + length self.old.at.rest + 1 < 2 ^ 32 }
         ensures ok { IfOk result (λ label. (label ≡ length self.old.words.labels) × (self.new ≡ record self.old { words = with_label (with_name self.old.words class_place name) place })) }
         ensures err { OnErr result (self.new ≡ self.old) }
     {
@@ -292,8 +297,9 @@ impl<'a> ObjReader<'a> {
     fn new_object(&mut self, place: u64, word: u32) -> Result<PointerWord, ObjFault>
         requires count { IsTrue (is_count word) }
         requires behind { place + 4 ≤ self.old.at.place }
-        requires labels { length self.old.words.labels < self.old.at.place }
-        ensures exact { Reads (λ x. x) result (new_word_at place word self.old) self.new }
+        requires near { data_end self.old < place + 2 ^ 32 }
+        requires labels { length self.old.words.labels + length self.old.at.rest + 1 < 2 ^ 32 }
+        ensures exact { ReadsAs (λ x. x) result (new_word_at place word self.old) self.new }
         ensures within { IfOk result (λ w. IsPointerWithin w self.new) }
         ensures words { OnErr result (self.new.words ≡ self.old.words) }
         ensures goes { GoesOn self.old.at self.new.at }
@@ -341,7 +347,7 @@ impl<'a> ObjReader<'a> {
     // The same as `pointer`, but where it refuses, reading may have gone on.
     #[tactic(auto, unfolding(rio_format::specs::Objects::pointer_word_at))]
     fn read_pointer(&mut self) -> Result<PointerWord, ObjFault>
-        ensures exact { Reads (λ x. x) result (pointer_word_at self.old) self.new }
+        ensures exact { ReadsAs (λ x. x) result (pointer_word_at self.old) self.new }
         ensures within { IfOk result (λ w. IsPointerWithin w self.new) }
         ensures words { OnErr result (self.new.words ≡ self.old.words) }
         ensures goes { GoesOn self.old.at self.new.at }

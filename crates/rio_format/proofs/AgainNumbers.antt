@@ -5,18 +5,18 @@ use Rattle.byteorder.specs.Endian.{big_bytes}
 use Rattle.byteorder.specs.Numbers.{length-bytes_high_first}
 use Rattle.rio_num.specs.Text.{SpellsText}
 use Rattle.rio_num.proofs.ReadLaws.{number_again, text_again}
-use Rattle.rio_types.specs.declared.kind.Primitive.{Primitive as Primitive}
+use Rattle.rio_types.specs.declared.kind.Primitive.{Primitive}
 use Rattle.rio_value.specs.declared.value.Value.{Value}
 use Rattle.rio_format.specs.Objects.{Step, lifted, word_at, chars_at, each_at, times_at, number_value_at, numbers_at, counted_at, text_value_at}
 use Rattle.rio_format.specs.Prims.{width_of}
 use Rattle.rio_format.specs.Spelling.{Spelling, SpellsEach, SpellsTimes, SpellsNumber, SpellsNumbers, SpellsCounted, IsText}
-use Rattle.rio_format.specs.State.{State, Words, standing}
+use Rattle.rio_format.specs.ReaderState.{ReaderState, WordsMet, standing}
 
 -- what a relation says is spelled is read, from where reading stands
 abbrev pub IsReadBy : {S W Y E : Type 0} → (ℕ → List ℕ → W → S) → (S → Result (Y × S) E) → (ℕ → W → Y → List ℕ → W → Type 0) → Type 0
 IsReadBy {W = W} {Y = Y} stand read spells = (p : ℕ) (w : W) (y : Y) (bytes : List ℕ) (w' : W) (more : List ℕ) → spells p w y bytes w' → read (stand p (bytes ++ more) w) ≡ Ok (y, stand (p + length bytes) more w')
 
-abbrev pub IsReadAgain : {Y : Type 0} → (State → Step Y) → Spelling Y → Type 0
+abbrev pub IsReadAgain : {Y : Type 0} → (ReaderState → Step Y) → Spelling Y → Type 0
 IsReadAgain read spells = IsReadBy standing read spells
 
 -- ---- one thing after the other
@@ -34,15 +34,15 @@ each_again stand read spells again (x ∷ xs) p w ys bytes w' more c =
     let end : p + length c.front + length c.back ≡ p + length bytes = omega (arith, ap length c.spelled, length-append c.front c.back) in
     rw (whole, one, others, c.values, end) refl
 
-pub times_again : (n : ℕ) (read : State → Step Value) (spells : Spelling Value) → IsReadAgain read spells → IsReadAgain (times_at n read) (SpellsTimes n spells)
+pub times_again : (n : ℕ) (read : ReaderState → Step Value) (spells : Spelling Value) → IsReadAgain read spells → IsReadAgain (times_at n read) (SpellsTimes n spells)
 times_again n read spells again = each_again standing (λ (x : Unit {0}). read) (λ (x : Unit {0}). spells) (λ x. again) (replicate n tt)
 
 -- ---- numbers and texts
 
-pub word_again : (n x p : ℕ) (rest : List ℕ) (t : Words) → x < 256 ^ n → word_at n (standing p (big_bytes n x ++ rest) t) ≡ Ok (x, standing (p + n) rest t)
+pub word_again : (n x p : ℕ) (rest : List ℕ) (t : WordsMet) → x < 256 ^ n → word_at n (standing p (big_bytes n x ++ rest) t) ≡ Ok (x, standing (p + n) rest t)
 word_again n x p rest t lt = ap (lifted (standing p (big_bytes n x ++ rest) t)) (number_again n x p rest lt)
 
-pub chars_again : (text bytes : List ℕ) (p : ℕ) (rest : List ℕ) (t : Words) → SpellsText text bytes → chars_at (standing p (bytes ++ rest) t) ≡ Ok (text, standing (p + length bytes) rest t)
+pub chars_again : (text bytes : List ℕ) (p : ℕ) (rest : List ℕ) (t : WordsMet) → SpellsText text bytes → chars_at (standing p (bytes ++ rest) t) ≡ Ok (text, standing (p + length bytes) rest t)
 chars_again text bytes p rest t spelled = ap (lifted (standing p (bytes ++ rest) t)) (text_again text bytes p rest spelled)
 
 pub number_value_again : (of : Primitive) → IsReadAgain (number_value_at of) (SpellsNumber of)

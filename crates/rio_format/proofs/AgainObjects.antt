@@ -9,7 +9,7 @@ use Rattle.rio_value.specs.declared.value.Part.{Part}
 use Rattle.rio_format.specs.Bodies.{Form, bare, numbers, headed, form_of, Body, described, listed, arrayed, opaque, body_of, slots_of}
 use Rattle.rio_format.specs.Objects.{Step, Reader, header_at, body_at, whole_at, headed_at, formed_at, object_at, parts_at, list_parts_at, array_parts_at, first_at, depth_limit}
 use Rattle.rio_format.specs.Spelling.{Spelling, Spellings, SpellsVersion, SpellsBody, SpellsForm, SpellsObject, IsWhole, IsHeaded, IsParts, IsListParts, IsArrayParts, Spells}
-use Rattle.rio_format.specs.State.{State, Words, standing, no_words}
+use Rattle.rio_format.specs.ReaderState.{ReaderState, WordsMet, standing, no_words}
 use Rattle.rio_format.specs.declared.words.Header.{Header}
 use Rattle.rio_format.proofs.AgainNumbers.{IsReadAgain, word_again}
 use Rattle.rio_format.proofs.AgainPointers.{count_is, end_again, finish_again}
@@ -20,7 +20,7 @@ use Rattle.rio_format.proofs.AgainParts.{bare_again, array_again, parts_again, l
 abbrev header_of : ℕ → ℕ → ℕ → Option ℕ → Header
 header_of p n version sum = record { place = p; end = p + 4 + n; version = pos version; sum = sum }
 
-header_again : (n p version : ℕ) (sum : Option ℕ) (bytes rest : List ℕ) (t : Words) → n < 2 ^ 30 → n ≤ length bytes + length rest → SpellsVersion version sum bytes
+header_again : (n p version : ℕ) (sum : Option ℕ) (bytes rest : List ℕ) (t : WordsMet) → n < 2 ^ 30 → n ≤ length bytes + length rest → SpellsVersion version sum bytes
     → header_at (standing p (big_bytes 4 (n + 2 ^ 30) ++ (bytes ++ rest)) t) ≡ Ok (header_of p n version sum, standing (p + 4 + length bytes) rest t)
 unfolding header_at
 header_again n p version None bytes rest t low le spelled =
@@ -43,10 +43,10 @@ header_again n p version (Some sum) bytes rest t low le spelled =
 -- ---- bodies
 
 -- what stands behind a header that counts n bytes and ends at q
-abbrev IsBodyAgain : ℕ → ℕ → ℕ → (State → Step Value) → Spelling Value → Type 0
-IsBodyAgain p n q read spells = (t : Words) (v : Value) (bytes : List ℕ) (t' : Words) (more : List ℕ) → p + 4 + n ≡ q + length bytes → spells q t v bytes t' → read (standing q (bytes ++ more) t) ≡ Ok (v, standing (q + length bytes) more t')
+abbrev IsBodyAgain : ℕ → ℕ → ℕ → (ReaderState → Step Value) → Spelling Value → Type 0
+IsBodyAgain p n q read spells = (t : WordsMet) (v : Value) (bytes : List ℕ) (t' : WordsMet) (more : List ℕ) → p + 4 + n ≡ q + length bytes → spells q t v bytes t' → read (standing q (bytes ++ more) t) ≡ Ok (v, standing (q + length bytes) more t')
 
-whole_again : (class : List ℕ) (version : ℤ) (h : Header) (n q : ℕ) (parts : State → Step (List Part)) (spells : Spelling (List Part)) → IsReadAgain parts spells → h.end ≡ h.place + 4 + n
+whole_again : (class : List ℕ) (version : ℤ) (h : Header) (n q : ℕ) (parts : ReaderState → Step (List Part)) (spells : Spelling (List Part)) → IsReadAgain parts spells → h.end ≡ h.place + 4 + n
     → IsBodyAgain h.place n q (whole_at class version h parts) (λ p t v bytes t'. IsWhole class version spells p t v bytes t')
 unfolding whole_at
 whole_again class version h n q parts spells again ends t v bytes t' more counted c =
@@ -99,7 +99,7 @@ object_again (suc levels) classes class p t v bytes t' more c = formed_again (ob
 
 -- what begins the data
 pub first_again : (classes : List ClassDef) (class : List ℕ) (start : ℕ) (v : Value) (front more : List ℕ) → Spells classes start class v front
-    → (s : State) × (first_at classes class start (front ++ more) ≡ Ok (v, s)) × (s.at.rest ≡ more)
+    → (s : ReaderState) × (first_at classes class start (front ++ more) ≡ Ok (v, s)) × (s.at.rest ≡ more) × (s.at.place ≡ start + length front)
 unfolding Spells
 first_again classes class start v front more spelled =
-    (standing (start + length front) more spelled.0, object_again depth_limit classes class start no_words v front spelled.0 more spelled.1, refl)
+    (standing (start + length front) more spelled.0, object_again depth_limit classes class start no_words v front spelled.0 more spelled.1, refl, refl)

@@ -9,14 +9,14 @@ use Rattle.rio_types.specs.declared.class.ClassDef.{ClassDef}
 use Rattle.rio_types.specs.declared.class.Member.{Member}
 use Rattle.rio_types.specs.declared.kind.Kind.{Kind}
 use Rattle.rio_types.specs.declared.kind.Kind.TheVariants.{Plain, Counter, Fixed, Counted, Text as Texted, Inline, Pointer, Other}
-use Rattle.rio_types.specs.declared.kind.Primitive.{Primitive as Primitive}
+use Rattle.rio_types.specs.declared.kind.Primitive.{Primitive}
 use Rattle.rio_types.specs.declared.kind.Primitive.TheVariants.{I8, I16, I32, I64, U8, U16, U32, U64, Bool as Boolean, F32, F64}
 use Rattle.rio_value.specs.declared.value.Value.{Value}
 use Rattle.rio_format.specs.Bodies.{slots_of, Counters, count_by}
 use Rattle.rio_format.specs.Objects.{Reader, Within, kind_at, member_at, parts_at, count_at, link_at, list_parts_at, array_parts_at, bare_at, array_at, pointer_at, has_pid}
 use Rattle.rio_format.specs.Prims.{width_of}
 use Rattle.rio_format.specs.Spelling.{Spelling, Spellings, SpellsEach, SpellsTimes, SpellsKind, SpellsNumber, SpellsPointer, SpellsPid, IsPart, IsParts, IsLink, IsListParts, IsArrayParts, IsBare, IsArray}
-use Rattle.rio_format.specs.State.{Words, standing}
+use Rattle.rio_format.specs.ReaderState.{WordsMet, standing}
 use Rattle.rio_format.proofs.AgainNumbers.{IsReadBy, IsReadAgain, each_again, times_again, word_again, chars_again, number_value_again, numbers_again, counted_again, text_value_again}
 use Rattle.rio_format.proofs.AgainPointers.{pointer_again}
 
@@ -35,7 +35,7 @@ each_long width spells long (x ∷ xs) p s ys bytes s' c =
     rw suc-mul (omega (arith, one, others, len))
 
 -- the bytes have room for as many
-pub times_room : (n width : ℕ) (spells : Spelling Value) → 0 < width → IsLong width spells → (p : ℕ) (t : Words) (ys : List Value) (bytes : List ℕ) (t' : Words) (more : List ℕ) → SpellsTimes n spells p t ys bytes t' → n ≤ length (bytes ++ more) / width
+pub times_room : (n width : ℕ) (spells : Spelling Value) → 0 < width → IsLong width spells → (p : ℕ) (t : WordsMet) (ys : List Value) (bytes : List ℕ) (t' : WordsMet) (more : List ℕ) → SpellsTimes n spells p t ys bytes t' → n ≤ length (bytes ++ more) / width
 times_room n width spells some long p t ys bytes t' more c =
     let all : length (replicate n tt) * width ≤ length bytes = each_long width (λ (x : Unit {0}). spells) (λ x. long) (replicate n tt) p t ys bytes t' c in
     let same : n * width ≤ length bytes = rw length-replicate at all in
@@ -67,7 +67,7 @@ width_some Boolean = omega arith
 width_some F32 = omega arith
 width_some F64 = omega arith
 
-count_again : (width n p : ℕ) (rest : List ℕ) (t : Words) → n < 2 ^ 31 → n ≤ length rest / width → count_at width (standing p (big_bytes 4 n ++ rest) t) ≡ Ok (n, standing (p + 4) rest t)
+count_again : (width n p : ℕ) (rest : List ℕ) (t : WordsMet) → n < 2 ^ 31 → n ≤ length rest / width → count_at width (standing p (big_bytes 4 n ++ rest) t) ≡ Ok (n, standing (p + 4) rest t)
 unfolding count_at
 count_again width n p rest t low room =
     let w = word_again 4 n p rest t (omega (arith, low)) in
@@ -77,7 +77,7 @@ count_again width n p rest t low room =
 
 -- ---- objects without a header
 
-bare_by : (t : Words) (v : Value) (bytes : List ℕ) (t' : Words) (c : IsBare t v bytes t') (b : Bool) → has_pid c.bits ≡ b → SpellsPid b c.pid c.pid_bytes → (p : ℕ) (more : List ℕ) → bare_at (standing p (bytes ++ more) t) ≡ Ok (v, standing (p + length bytes) more t')
+bare_by : (t : WordsMet) (v : Value) (bytes : List ℕ) (t' : WordsMet) (c : IsBare t v bytes t') (b : Bool) → has_pid c.bits ≡ b → SpellsPid b c.pid c.pid_bytes → (p : ℕ) (more : List ℕ) → bare_at (standing p (bytes ++ more) t) ≡ Ok (v, standing (p + length bytes) more t')
 unfolding bare_at
 bare_by t v bytes t' c true has d p more =
     let r3 = big_bytes 2 d.0 ++ more in
@@ -116,11 +116,11 @@ array_again class of p t v bytes t' more c =
 -- ---- lists and arrays of pointers
 
 -- reading stands within the parts of an object
-abbrev within : ℕ → List ℕ → Words × Counters → Within
+abbrev within : ℕ → List ℕ → WordsMet × Counters → Within
 within p rest s = (standing p rest s.0, s.1)
 
 -- the items of an array have room behind its lower bound
-array_room : (spells : Spellings) (count p : ℕ) (t : Words) (items : List Value) (bytes : List ℕ) (t' : Words) (lower more : List ℕ) → SpellsTimes count (SpellsPointer spells) p t items bytes t' → count ≤ length (lower ++ (bytes ++ more)) / 4
+array_room : (spells : Spellings) (count p : ℕ) (t : WordsMet) (items : List Value) (bytes : List ℕ) (t' : WordsMet) (lower more : List ℕ) → SpellsTimes count (SpellsPointer spells) p t items bytes t' → count ≤ length (lower ++ (bytes ++ more)) / 4
 array_room spells count p t items bytes t' lower more each =
     let some : 0 < 4 = omega arith in
     let room : count * 4 ≤ length (bytes ++ more) = (le-div_iff_mul-le {k = 4} {x = count} {y = length (bytes ++ more)} some).0 (times_room count 4 (SpellsPointer spells) some (pointer_long spells) p t items bytes t' more each) in

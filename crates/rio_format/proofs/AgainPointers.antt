@@ -6,7 +6,7 @@ use Rattle.std.specs.List.{position_or_len}
 use Rattle.byteorder.specs.Endian.{big_bytes}
 use Rattle.rio_format.specs.Objects.{Reader, is_count, end_at, finish_at, name_at, class_at, new_class_at, new_word_at, pointer_word_at, pointed_at, pointer_at}
 use Rattle.rio_format.specs.Spelling.{Spellings, SpellsClass, SpellsPointer, IsNull, IsBack, IsNew, IsPlain}
-use Rattle.rio_format.specs.State.{State, Words, standing, with_label}
+use Rattle.rio_format.specs.ReaderState.{ReaderState, WordsMet, standing, with_label}
 use Rattle.rio_format.proofs.AgainNumbers.{IsReadAgain, word_again}
 
 -- ---- byte counts
@@ -18,13 +18,13 @@ count_is n lt =
     rw (low, high) refl
 
 -- a count that the data hold
-pub end_again : (p n : ℕ) (s : State) → n + p + 4 ≤ s.at.place + length s.at.rest → end_at p (n + 2 ^ 30) s ≡ Ok (p + 4 + n, s)
+pub end_again : (p n : ℕ) (s : ReaderState) → n + p + 4 ≤ s.at.place + length s.at.rest → end_at p (n + 2 ^ 30) s ≡ Ok (p + 4 + n, s)
 end_again p n s le =
     let fits : ltb (s.at.place + length s.at.rest) (p + 4 + (n + 2 ^ 30 - 2 ^ 30)) ≡ false = le-ltb _ _ (omega arith) in
     let end : p + 4 + (n + 2 ^ 30 - 2 ^ 30) ≡ p + 4 + n = omega arith in
     rw (fits, end) refl
 
-pub finish_again : (p n place : ℕ) (rest : List ℕ) (t : Words) → place ≡ p + 4 + n → finish_at p (p + 4 + n) (standing place rest t) ≡ Ok (tt, standing place rest t)
+pub finish_again : (p n place : ℕ) (rest : List ℕ) (t : WordsMet) → place ≡ p + 4 + n → finish_at p (p + 4 + n) (standing place rest t) ≡ Ok (tt, standing place rest t)
 finish_again p n place rest t e = let same : eqb place (p + 4 + n) ≡ true = eq-eqb _ _ e in rw same refl
 
 -- ---- class words
@@ -33,7 +33,7 @@ zero_place : (name more : List ℕ) → IsPlain name → position_or_len (λ b. 
 zero_place [] more plain = refl
 zero_place (b ∷ name) more plain = rw plain.0 (omega (arith, zero_place name more plain.1))
 
-name_again : (p : ℕ) (name more : List ℕ) (t : Words) → IsPlain name → name_at (standing p (name ++ 0 ∷ more) t) ≡ Ok (name, standing (p + (length name + 1)) more t)
+name_again : (p : ℕ) (name more : List ℕ) (t : WordsMet) → IsPlain name → name_at (standing p (name ++ 0 ∷ more) t) ≡ Ok (name, standing (p + (length name + 1)) more t)
 name_again p name more t plain =
     let z = zero_place name more plain in
     let within : ltb (length name) (length (name ++ 0 ∷ more)) ≡ true = lt-ltb _ _ (omega (arith, length-append name (0 ∷ more))) in

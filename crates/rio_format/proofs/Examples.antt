@@ -11,7 +11,7 @@ use Rattle.rio_format.specs.Bodies.{part, member}
 use Rattle.rio_format.specs.Fits.{fits, fitting_step}
 use Rattle.rio_value.specs.declared.value.Value.TheOpen as layer
 use Rattle.rio_format.specs.Slots.{kinded}
-use Rattle.rio_format.specs.State.{no_words}
+use Rattle.rio_format.specs.ReaderState.{no_words}
 use Rattle.rio_format.specs.Written.{Writing, written_form, writing_step, writing_of}
 use Rattle.rio_format.proofs.ValueCases.{fold_Int, fold_Pointed, fold_Back}
 use Rattle.rio_format.proofs.WrittenValues.{fit_object, write_object}

@@ -15,7 +15,7 @@ use Rattle.rio_value.specs.declared.value.Part.{Part}
 use Rattle.rio_format.specs.Bodies.{part, slots_of, Counters, counters_with, count_by}
 use Rattle.rio_format.specs.Objects.{Step, Reader, Within, chars_at, times_at, each_at, number_value_at, kind_at, member_at, parts_at, count_at, link_at, list_parts_at, array_parts_at, base_at, pointer_at}
 use Rattle.rio_format.specs.Spelling.{Spelling, Spellings, SpellsTimes, SpellsKind, SpellsNumber, SpellsPointer, IsPart, IsParts, IsLink, IsListParts, IsArrayParts}
-use Rattle.rio_format.specs.State.{State, Words}
+use Rattle.rio_format.specs.ReaderState.{ReaderState, WordsMet}
 use Rattle.rio_format.specs.declared.fault.ObjFault.{ObjFault}
 use Rattle.rio_format.proofs.FoundNumbers.{IsFoundAt, IsFoundBy, Found, IsFound, IsChars, chars_found, given_at, given, moved, each_found, times_found, number_value_found, numbers_found, counted_found, text_value_found}
 use Rattle.rio_format.proofs.FoundPointers.{pointer_found}
@@ -27,7 +27,7 @@ abbrev Parts : Type 0
 Parts = Step (List Part)
 
 abbrev Many : Type 0
-Many = List Value × State
+Many = List Value × ReaderState
 
 abbrev list_of : Value → List ℕ → List Value → List Part
 list_of base name items = part [] base ∷ part (codes "fName") (Text name) ∷ part (codes "items") (Items items) ∷ []
@@ -35,13 +35,13 @@ list_of base name items = part [] base ∷ part (codes "fName") (Text name) ∷ 
 abbrev to_list_items : Value → List ℕ → Many → Parts
 to_list_items base name items = Ok (list_of base name items.0, items.1)
 
-abbrev to_list_count : Reader → Value → List ℕ → ℕ × State → Parts
+abbrev to_list_count : Reader → Value → List ℕ → ℕ × ReaderState → Parts
 to_list_count object base name count = times_at count.0 (link_at object) count.1 >>= to_list_items base name
 
-abbrev to_list_name : Reader → Value → List ℕ × State → Parts
+abbrev to_list_name : Reader → Value → List ℕ × ReaderState → Parts
 to_list_name object base name = count_at 4 name.1 >>= to_list_count object base name.0
 
-abbrev to_list_base : Reader → Value × State → Parts
+abbrev to_list_base : Reader → Value × ReaderState → Parts
 to_list_base object base = chars_at base.1 >>= to_list_name object base.0
 
 abbrev array_of : Value → List ℕ → Value → List Value → List Part
@@ -50,25 +50,25 @@ array_of base name lower items = part [] base ∷ part (codes "fName") (Text nam
 abbrev to_array_items : Value → List ℕ → Value → Many → Parts
 to_array_items base name lower items = Ok (array_of base name lower items.0, items.1)
 
-abbrev to_array_lower : Reader → Value → List ℕ → ℕ → Value × State → Parts
+abbrev to_array_lower : Reader → Value → List ℕ → ℕ → Value × ReaderState → Parts
 to_array_lower object base name count lower = times_at count (pointer_at object) lower.1 >>= to_array_items base name lower.0
 
-abbrev to_array_count : Reader → Value → List ℕ → ℕ × State → Parts
+abbrev to_array_count : Reader → Value → List ℕ → ℕ × ReaderState → Parts
 to_array_count object base name count = number_value_at I32 count.1 >>= to_array_lower object base name count.0
 
-abbrev to_array_name : Reader → Value → List ℕ × State → Parts
+abbrev to_array_name : Reader → Value → List ℕ × ReaderState → Parts
 to_array_name object base name = count_at 4 name.1 >>= to_array_count object base name.0
 
-abbrev to_array_base : Reader → Value × State → Parts
+abbrev to_array_base : Reader → Value × ReaderState → Parts
 to_array_base object base = chars_at base.1 >>= to_array_name object base.0
 
-abbrev to_link : Value → List ℕ × State → Step Value
+abbrev to_link : Value → List ℕ × ReaderState → Step Value
 to_link pointer option = Ok (Items (pointer ∷ Text option.0 ∷ []), option.1)
 
 abbrev to_parts : List Part × Within → Parts
 to_parts ps = Ok (ps.0, ps.1.0)
 
-abbrev member_read : Member → Counters → Value × State → Result (Part × Within) ObjFault
+abbrev member_read : Member → Counters → Value × ReaderState → Result (Part × Within) ObjFault
 member_read m counters v = Ok (part m.name v.0, (v.1, counters_with m v.0 counters))
 
 -- ---- what spells them
@@ -89,14 +89,14 @@ SpellsParts spells c p t v bytes t' = IsParts spells c p t v bytes t'
 abbrev at_within : Within → At
 at_within s = s.0.at
 
-abbrev words_within : Within → Words × Counters
+abbrev words_within : Within → WordsMet × Counters
 words_within s = (s.0.words, s.1)
 
 -- the base, the name and the count, which both have
-record IsListFront (spells : Spellings) (base : Value) (name : List ℕ) (count : ℕ) (s s' : State) : Type 0 where
+record IsListFront (spells : Spellings) (base : Value) (name : List ℕ) (count : ℕ) (s s' : ReaderState) : Type 0 where
   base_bytes : List ℕ
   name_bytes : List ℕ
-  t1 : Words
+  t1 : WordsMet
   based : spells (codes "TObject") s.at.place s.words base base_bytes t1
   named : SpellsText name name_bytes
   low : count < 2 ^ 31
@@ -121,13 +121,13 @@ module _ (object : Reader) (spells : Spellings) (found : (class : List ℕ) → 
           pointer_bytes = pointer.bytes;
           option_bytes = option.bytes;
           value = refl;
-          first = subst (λ (t : Words). SpellsPointer spells s.at.place s.words p.0.0 pointer.bytes t) (sym option.same) pointer.spelled;
+          first = subst (λ (t : WordsMet). SpellsPointer spells s.at.place s.words p.0.0 pointer.bytes t) (sym option.same) pointer.spelled;
           second = option.spelled;
           spelled = refl;
         };
       })
 
-  list_front : (base : Value) (name : List ℕ) (count : ℕ) (s s1 s2 s3 : State) → Found (spells (codes "TObject")) s base s1 → IsChars name s1 s2 → IsCount count s2 s3 → IsListFront spells base name count s s3
+  list_front : (base : Value) (name : List ℕ) (count : ℕ) (s s1 s2 s3 : ReaderState) → Found (spells (codes "TObject")) s base s1 → IsChars name s1 s2 → IsCount count s2 s3 → IsListFront spells base name count s s3
   list_front base name count s s1 s2 s3 a b c =
       let took = Took-then s.at a.bytes s1.at (b.bytes ++ big_bytes 4 count) s3.at a.took (Took-then s1.at b.bytes s2.at (big_bytes 4 count) s3.at b.took c.word.took) in
       record {
@@ -142,7 +142,7 @@ module _ (object : Reader) (spells : Spellings) (found : (class : List ℕ) → 
         same = c.word.same ∙ b.same;
       }
 
-  list_made : (base : Value) (name : List ℕ) (count : ℕ) (items : List Value) (s w s' : State) → IsListFront spells base name count s w → Found (SpellsTimes count (SpellsLink spells)) w items s' → Found (SpellsListParts spells) s (list_of base name items) s'
+  list_made : (base : Value) (name : List ℕ) (count : ℕ) (items : List Value) (s w s' : ReaderState) → IsListFront spells base name count s w → Found (SpellsTimes count (SpellsLink spells)) w items s' → Found (SpellsListParts spells) s (list_of base name items) s'
   list_made base name count items s w s' f i =
       let took = Took-then s.at (f.base_bytes ++ (f.name_bytes ++ big_bytes 4 count)) w.at i.bytes s'.at f.took i.took in
       let same : (f.base_bytes ++ (f.name_bytes ++ big_bytes 4 count)) ++ i.bytes ≡ f.base_bytes ++ (f.name_bytes ++ (big_bytes 4 count ++ i.bytes)) = simp append_assoc in
@@ -181,7 +181,7 @@ module _ (object : Reader) (spells : Spellings) (found : (class : List ℕ) → 
       given (SpellsListParts spells) s (list_of b.0.0 n.0.0 i.0.0) i.0.1 ps s' i.2
       (list_made b.0.0 n.0.0 c.0.0 i.0.0 s c.0.1 i.0.1 (list_front b.0.0 n.0.0 c.0.0 s b.0.1 n.0.1 c.0.1 base name count) items)
 
-  array_made : (base : Value) (name : List ℕ) (count : ℕ) (lower : Value) (items : List Value) (s w x s' : State) → IsListFront spells base name count s w → Found (SpellsNumber I32) w lower x → Found (SpellsTimes count (SpellsPointer spells)) x items s'
+  array_made : (base : Value) (name : List ℕ) (count : ℕ) (lower : Value) (items : List Value) (s w x s' : ReaderState) → IsListFront spells base name count s w → Found (SpellsNumber I32) w lower x → Found (SpellsTimes count (SpellsPointer spells)) x items s'
       → Found (SpellsArrayParts spells) s (array_of base name lower items) s'
   array_made base name count lower items s w x s' f l i =
       let front : List ℕ = f.base_bytes ++ (f.name_bytes ++ big_bytes 4 count) in

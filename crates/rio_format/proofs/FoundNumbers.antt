@@ -7,13 +7,13 @@ use Rattle.rio_num.specs.Reading.{◌>>=◌, number_at, text_at}
 use Rattle.rio_num.specs.Text.{SpellsText}
 use Rattle.rio_num.specs.declared.cursor.Short.{Short as Shortage}
 use Rattle.rio_num.proofs.ReadLaws.{IsBytes, Took, Took-then, ReadsBack, back_1, back_2, back_4, back_8, number_found, text_found, bind_ok, chosen, ok_is}
-use Rattle.rio_types.specs.declared.kind.Primitive.{Primitive as Primitive}
+use Rattle.rio_types.specs.declared.kind.Primitive.{Primitive}
 use Rattle.rio_types.specs.declared.kind.Primitive.TheVariants.{I8, I16, I32, I64, U8, U16, U32, U64, Bool as Boolean, F32, F64}
 use Rattle.rio_value.specs.declared.value.Value.{Value, Text, List as Items}
 use Rattle.rio_format.specs.Objects.{Step, lifted, word_at, chars_at, each_at, times_at, number_value_at, numbers_at, filled_at, counted_at, text_value_at}
 use Rattle.rio_format.specs.Prims.{width_of, value_of}
 use Rattle.rio_format.specs.Spelling.{Spelling, SpellsEach, SpellsTimes, SpellsNumber, SpellsNumbers, SpellsCounted, IsText}
-use Rattle.rio_format.specs.State.{State}
+use Rattle.rio_format.specs.ReaderState.{ReaderState}
 use Rattle.rio_format.specs.declared.fault.ObjFault.{ObjFault}
 use Rattle.rio_format.specs.declared.fault.ObjFault.TheVariants.{BadFlag}
 
@@ -27,23 +27,23 @@ pub record IsFoundAt {S W Y : Type 0} (at : S → At) (words : S → W) (spells 
 abbrev pub IsFoundBy : {S W Y E : Type 0} → (S → At) → (S → W) → (S → Result (Y × S) E) → (ℕ → W → Y → List ℕ → W → Type 0) → Type 0
 IsFoundBy {S = S} {Y = Y} at words read spells = (s : S) (y : Y) (s' : S) → IsBytes (at s).rest → read s ≡ Ok (y, s') → IsFoundAt at words spells s y s'
 
-abbrev pub Found : {Y : Type 0} → Spelling Y → State → Y → State → Type 0
+abbrev pub Found : {Y : Type 0} → Spelling Y → ReaderState → Y → ReaderState → Type 0
 Found spells s y s' = IsFoundAt (λ s. s.at) (λ s. s.words) spells s y s'
 
-abbrev pub IsFound : {Y : Type 0} → (State → Step Y) → Spelling Y → Type 0
+abbrev pub IsFound : {Y : Type 0} → (ReaderState → Step Y) → Spelling Y → Type 0
 IsFound read spells = IsFoundBy (λ s. s.at) (λ s. s.words) read spells
 
 abbrev pub read_as : {S Y E : Type 0} → Y → S → Result (Y × S) E
 read_as y s = Ok (y, s)
 
-abbrev pub read_so : {Y : Type 0} → Y → State → Step Y
+abbrev pub read_so : {Y : Type 0} → Y → ReaderState → Step Y
 read_so y s = Ok (y, s)
 
 -- it was found, by the last step of reading
 pub given_at : {S W Y E : Type 0} (at : S → At) (words : S → W) (spells : ℕ → W → Y → List ℕ → W → Type 0) (s : S) (y : Y) (s1 : S) (z : Y) (s' : S) → read_as {E = E} y s1 ≡ read_as z s' → IsFoundAt at words spells s y s1 → IsFoundAt at words spells s z s'
 given_at {S = S} {Y = Y} {E = E} at words spells s y s1 z s' e found = subst (λ (q : Y × S). IsFoundAt at words spells s q.0 q.1) (ok_is {E = E} (y, s1) (z, s') e) found
 
-pub given : {Y : Type 0} (spells : Spelling Y) (s : State) (y : Y) (s1 : State) (z : Y) (s' : State) → read_so y s1 ≡ read_so z s' → Found spells s y s1 → Found spells s z s'
+pub given : {Y : Type 0} (spells : Spelling Y) (s : ReaderState) (y : Y) (s1 : ReaderState) (z : Y) (s' : ReaderState) → read_so y s1 ≡ read_so z s' → Found spells s y s1 → Found spells s z s'
 given spells s y s1 z s' e found = given_at (λ s. s.at) (λ s. s.words) spells s y s1 z s' e found
 
 -- the same at an equal place and behind equal words
@@ -79,45 +79,45 @@ each_found at words read spells found (x ∷ xs) s ys s' fits e =
     } in
     given_at at words (SpellsEach spells (x ∷ xs)) s (a.0.0 ∷ b.0.0) b.0.1 ys s' b.2 made
 
-pub times_found : (n : ℕ) (read : State → Step Value) (spells : Spelling Value) → IsFound read spells → IsFound (times_at n read) (SpellsTimes n spells)
+pub times_found : (n : ℕ) (read : ReaderState → Step Value) (spells : Spelling Value) → IsFound read spells → IsFound (times_at n read) (SpellsTimes n spells)
 times_found n read spells found = each_found (λ s. s.at) (λ s. s.words) (λ (x : Unit {0}). read) (λ (x : Unit {0}). spells) (λ x. found) (replicate n tt)
 
 -- ---- numbers and texts
 
-record LiftedOk {A : Type 0} (s : State) (r : Result (A × At) Shortage) (x : A) (s' : State) : Type 0 where
+record LiftedOk {A : Type 0} (s : ReaderState) (r : Result (A × At) Shortage) (x : A) (s' : ReaderState) : Type 0 where
   read : r ≡ Ok (x, s'.at)
   same : s'.words ≡ s.words
 
-lifted_ok : {A : Type 0} (s : State) (r : Result (A × At) Shortage) (x : A) (s' : State) → lifted s r ≡ Ok (x, s') → LiftedOk s r x s'
+lifted_ok : {A : Type 0} (s : ReaderState) (r : Result (A × At) Shortage) (x : A) (s' : ReaderState) → lifted s r ≡ Ok (x, s') → LiftedOk s r x s'
 lifted_ok {A = A} s (Ok y) x s' e =
     let p = ok_is {E = ObjFault} (y.0, record s { at = y.1 }) (x, s') e in
-    record { read = ap (λ (q : A × State). let r : Result (A × At) Shortage = Ok (q.0, q.1.at) in r) p; same = ap (λ (q : A × State). q.1.words) (sym p) }
+    record { read = ap (λ (q : A × ReaderState). let r : Result (A × At) Shortage = Ok (q.0, q.1.at) in r) p; same = ap (λ (q : A × ReaderState). q.1.words) (sym p) }
 lifted_ok s (Err d) x s' e = absurd cc
 
-pub record IsWord (n x : ℕ) (s s' : State) : Type 0 where
+pub record IsWord (n x : ℕ) (s s' : ReaderState) : Type 0 where
   pub took : Took s.at (big_bytes n x) s'.at
   pub fits : x < 256 ^ n
   pub same : s'.words ≡ s.words
 
-pub word_found : (n : ℕ) → ReadsBack n → (s : State) (x : ℕ) (s' : State) → IsBytes s.at.rest → word_at n s ≡ Ok (x, s') → IsWord n x s s'
+pub word_found : (n : ℕ) → ReadsBack n → (s : ReaderState) (x : ℕ) (s' : ReaderState) → IsBytes s.at.rest → word_at n s ≡ Ok (x, s') → IsWord n x s s'
 word_found n back s x s' fits e =
     let l = lifted_ok s (number_at n s.at) x s' e in
     let f = number_found n back s.at x s'.at fits l.read in
     record { took = f.took; fits = f.fits; same = l.same }
 
-abbrev pub word4 : (s : State) (x : ℕ) (s' : State) → IsBytes s.at.rest → word_at 4 s ≡ Ok (x, s') → IsWord 4 x s s'
+abbrev pub word4 : (s : ReaderState) (x : ℕ) (s' : ReaderState) → IsBytes s.at.rest → word_at 4 s ≡ Ok (x, s') → IsWord 4 x s s'
 word4 = word_found 4 back_4
 
-abbrev pub word2 : (s : State) (x : ℕ) (s' : State) → IsBytes s.at.rest → word_at 2 s ≡ Ok (x, s') → IsWord 2 x s s'
+abbrev pub word2 : (s : ReaderState) (x : ℕ) (s' : ReaderState) → IsBytes s.at.rest → word_at 2 s ≡ Ok (x, s') → IsWord 2 x s s'
 word2 = word_found 2 back_2
 
-pub record IsChars (text : List ℕ) (s s' : State) : Type 0 where
+pub record IsChars (text : List ℕ) (s s' : ReaderState) : Type 0 where
   pub bytes : List ℕ
   pub took : Took s.at bytes s'.at
   pub spelled : SpellsText text bytes
   pub same : s'.words ≡ s.words
 
-pub chars_found : (s : State) (text : List ℕ) (s' : State) → IsBytes s.at.rest → chars_at s ≡ Ok (text, s') → IsChars text s s'
+pub chars_found : (s : ReaderState) (text : List ℕ) (s' : ReaderState) → IsBytes s.at.rest → chars_at s ≡ Ok (text, s') → IsChars text s s'
 chars_found s text s' fits e =
     let l = lifted_ok s (text_at s.at) text s' e in
     let f = text_found s.at text s'.at fits l.read in
@@ -169,7 +169,7 @@ text_value_found s v s' fits e =
 
 -- ---- counted arrays
 
-filled_found : (of : Primitive) (counter : ℤ) (s w : State) (v : Value) (s' : State) → IsWord 1 1 s w → filled_at of s.at.place counter w ≡ Ok (v, s') → Found (SpellsCounted of counter) s v s'
+filled_found : (of : Primitive) (counter : ℤ) (s w : ReaderState) (v : Value) (s' : ReaderState) → IsWord 1 1 s w → filled_at of s.at.place counter w ≡ Ok (v, s') → Found (SpellsCounted of counter) s v s'
 filled_found of (negsuc n) s w v s' flag e = absurd cc
 filled_found of (pos count) s w v s' flag e =
     let f = numbers_found of count w v s' flag.took.fits e in

@@ -12,7 +12,7 @@ use Rattle.rio_value.specs.declared.value.Part.{Part}
 use Rattle.rio_format.specs.Bodies.{Form, bare, numbers, headed, form_of, Body, described, listed, arrayed, opaque, body_of, slots_of}
 use Rattle.rio_format.specs.Objects.{Step, Reader, word_at, is_count, counted_end, data_end, end_at, finish_at, header_end_at, header_at, whole_at, body_at, headed_at, formed_at, object_at, parts_at, list_parts_at, array_parts_at, first_at, depth_limit}
 use Rattle.rio_format.specs.Spelling.{Spelling, Spellings, SpellsVersion, SpellsBody, SpellsForm, SpellsObject, IsWhole, IsHeaded, Spells}
-use Rattle.rio_format.specs.State.{State, standing, no_words}
+use Rattle.rio_format.specs.ReaderState.{ReaderState, standing, no_words}
 use Rattle.rio_format.specs.declared.words.Header.{Header}
 use Rattle.rio_format.specs.declared.fault.ObjFault.{ObjFault}
 use Rattle.rio_format.specs.declared.fault.ObjFault.TheVariants.{BadCount, NoCount, CountMismatch}
@@ -24,11 +24,11 @@ use Rattle.rio_format.proofs.FoundLists.{SpellsParts, SpellsListParts, SpellsArr
 -- ---- headers
 
 -- the end that a header's word gives is within the data
-record IsHeaderEnd (w : ℕ) (p : ℕ) (s : State) : Type 0 where
+record IsHeaderEnd (w : ℕ) (p : ℕ) (s : ReaderState) : Type 0 where
   counts : is_count w ≡ true
   within : counted_end p w ≤ data_end s
 
-header_end_found : {Z : Type 0} (y : Z) (p w : ℕ) (s : State) (next : ℕ × State → Result Z ObjFault) → (header_end_at p w s >>= next) ≡ Ok y → IsHeaderEnd w p s × (next (counted_end p w, s) ≡ Ok y)
+header_end_found : {Z : Type 0} (y : Z) (p w : ℕ) (s : ReaderState) (next : ℕ × ReaderState → Result Z ObjFault) → (header_end_at p w s >>= next) ≡ Ok y → IsHeaderEnd w p s × (next (counted_end p w, s) ≡ Ok y)
 header_end_found {Z = Z} y p w s next e = by (is_count w) (leb (3 * 2 ^ 30) w) refl e
   where
     by : (b c : Bool) → is_count w ≡ b → (cond {A = Step ℕ} b (end_at p w s) (cond c (Err (BadCount p)) (Err (NoCount p))) >>= next) ≡ Ok y → IsHeaderEnd w p s × (next (counted_end p w, s) ≡ Ok y)
@@ -39,7 +39,7 @@ header_end_found {Z = Z} y p w s next e = by (is_count w) (leb (3 * 2 ^ 30) w) r
 abbrev header_of : ℕ → ℕ → ℕ → Option ℕ → Header
 header_of p n version sum = record { place = p; end = p + 4 + n; version = pos version; sum = sum }
 
-record IsHeader (h : Header) (s s' : State) : Type 0 where
+record IsHeader (h : Header) (s s' : ReaderState) : Type 0 where
   n : ℕ
   version : ℕ
   sum : Option ℕ
@@ -52,7 +52,7 @@ record IsHeader (h : Header) (s s' : State) : Type 0 where
   same : s'.words ≡ s.words
 
 -- a header, from its count word and its version
-header_made : (c : ℕ) (s w : State) (word : IsWord 4 c s w) (ends : IsHeaderEnd c s.at.place w) (version : ℕ) (sum : Option ℕ) (bytes : List ℕ) (s' : State) → SpellsVersion version sum bytes → Took w.at bytes s'.at → s'.words ≡ w.words
+header_made : (c : ℕ) (s w : ReaderState) (word : IsWord 4 c s w) (ends : IsHeaderEnd c s.at.place w) (version : ℕ) (sum : Option ℕ) (bytes : List ℕ) (s' : ReaderState) → SpellsVersion version sum bytes → Took w.at bytes s'.at → s'.words ≡ w.words
     → IsHeader (record { place = s.at.place; end = counted_end s.at.place c; version = pos version; sum = sum }) s s'
 header_made c s w word ends version sum bytes s' stated took same =
     let k = count_found c ends.counts in
@@ -71,19 +71,19 @@ header_made c s w word ends version sum bytes s' stated took same =
       same = same ∙ word.same;
     }
 
-abbrev to_sum : ℕ → ℕ → ℕ × State → Step Header
+abbrev to_sum : ℕ → ℕ → ℕ × ReaderState → Step Header
 to_sum p end sum = Ok (record { place = p; end = end; version = pos 0; sum = Some sum.0 }, sum.1)
 
-abbrev without_sum : ℕ → ℕ → ℕ × State → Step Header
+abbrev without_sum : ℕ → ℕ → ℕ × ReaderState → Step Header
 without_sum p end version = Ok (record { place = p; end = end; version = pos version.0; sum = None }, version.1)
 
-abbrev to_version : ℕ → ℕ → ℕ × State → Step Header
+abbrev to_version : ℕ → ℕ → ℕ × ReaderState → Step Header
 to_version p end version = cond (version.0 == 0) (word_at 4 version.1 >>= to_sum p end) (without_sum p end version)
 
-given_header : (s : State) (h : Header) (s1 : State) (k : Header) (s' : State) → read_so h s1 ≡ read_so k s' → IsHeader h s s1 → IsHeader k s s'
-given_header s h s1 k s' e found = subst (λ (q : Header × State). IsHeader q.0 s q.1) (ok_is {E = ObjFault} (h, s1) (k, s') e) found
+given_header : (s : ReaderState) (h : Header) (s1 : ReaderState) (k : Header) (s' : ReaderState) → read_so h s1 ≡ read_so k s' → IsHeader h s s1 → IsHeader k s s'
+given_header s h s1 k s' e found = subst (λ (q : Header × ReaderState). IsHeader q.0 s q.1) (ok_is {E = ObjFault} (h, s1) (k, s') e) found
 
-version_found : (c : ℕ) (s w : State) → IsWord 4 c s w → IsHeaderEnd c s.at.place w → (x : ℕ) (w2 : State) → IsWord 2 x w w2 → (b : Bool) → eqb x 0 ≡ b → (h : Header) (s' : State)
+version_found : (c : ℕ) (s w : ReaderState) → IsWord 4 c s w → IsHeaderEnd c s.at.place w → (x : ℕ) (w2 : ReaderState) → IsWord 2 x w w2 → (b : Bool) → eqb x 0 ≡ b → (h : Header) (s' : ReaderState)
     → cond b (word_at 4 w2 >>= to_sum s.at.place (counted_end s.at.place c)) (without_sum s.at.place (counted_end s.at.place c) (x, w2)) ≡ Ok (h, s') → IsHeader h s s'
 version_found c s w word ends x w2 version true t h s' e =
     let end = counted_end s.at.place c in
@@ -101,7 +101,7 @@ version_found c s w word ends x w2 version false t h s' e =
     given_header s (record { place = s.at.place; end = end; version = pos x; sum = None }) w2 h s' e
     (header_made c s w word ends x None (big_bytes 2 x) w2 stated version.took version.same)
 
-header_found : (s : State) (h : Header) (s' : State) → IsBytes s.at.rest → header_at s ≡ Ok (h, s') → IsHeader h s s'
+header_found : (s : ReaderState) (h : Header) (s' : ReaderState) → IsBytes s.at.rest → header_at s ≡ Ok (h, s') → IsHeader h s s'
 unfolding header_at
 header_found s h s' fits e =
     let p = s.at.place in
@@ -115,17 +115,17 @@ header_found s h s' fits e =
 -- ---- bodies
 
 -- a body was found that ends there
-record IsBodyFound (spells : Spelling Value) (end : ℕ) (s : State) (v : Value) (s' : State) : Type 0 where
+record IsBodyFound (spells : Spelling Value) (end : ℕ) (s : ReaderState) (v : Value) (s' : ReaderState) : Type 0 where
   found : Found spells s v s'
   ends : s'.at.place ≡ end
 
-given_body : (spells : Spelling Value) (end : ℕ) (s : State) (v : Value) (s1 : State) (z : Value) (s' : State) → read_so v s1 ≡ read_so z s' → IsBodyFound spells end s v s1 → IsBodyFound spells end s z s'
-given_body spells end s v s1 z s' e found = subst (λ (q : Value × State). IsBodyFound spells end s q.0 q.1) (ok_is {E = ObjFault} (v, s1) (z, s') e) found
+given_body : (spells : Spelling Value) (end : ℕ) (s : ReaderState) (v : Value) (s1 : ReaderState) (z : Value) (s' : ReaderState) → read_so v s1 ≡ read_so z s' → IsBodyFound spells end s v s1 → IsBodyFound spells end s z s'
+given_body spells end s v s1 z s' e found = subst (λ (q : Value × ReaderState). IsBodyFound spells end s q.0 q.1) (ok_is {E = ObjFault} (v, s1) (z, s') e) found
 
 abbrev SpellsWhole : List ℕ → ℤ → Spelling (List Part) → Spelling Value
 SpellsWhole class version spells p t v bytes t' = IsWhole class version spells p t v bytes t'
 
-whole_found : (class : List ℕ) (version : ℤ) (h : Header) (parts : State → Step (List Part)) (spells : Spelling (List Part)) → IsFound parts spells → (s : State) (v : Value) (s' : State) → IsBytes s.at.rest → whole_at class version h parts s ≡ Ok (v, s')
+whole_found : (class : List ℕ) (version : ℤ) (h : Header) (parts : ReaderState → Step (List Part)) (spells : Spelling (List Part)) → IsFound parts spells → (s : ReaderState) (v : Value) (s' : ReaderState) → IsBytes s.at.rest → whole_at class version h parts s ≡ Ok (v, s')
     → IsBodyFound (SpellsWhole class version spells) h.end s v s'
 unfolding whole_at
 whole_found class version h parts spells found s v s' fits e =
@@ -147,13 +147,13 @@ bytes_took s n le fits = record {
 abbrev SpellsOpaque : List ℕ → ℕ → Spelling Value
 SpellsOpaque class count p t v bytes t' = (v ≡ Opaque class count) × (t' ≡ t)
 
-opaque_found : (class : List ℕ) (h : Header) (n : ℕ) (s : State) (b : Bool) (v : Value) (s' : State) → IsBytes s.at.rest → h.end ≡ h.place + 4 + n → h.end ≤ s.at.place + length s.at.rest → ltb h.end s.at.place ≡ b
+opaque_found : (class : List ℕ) (h : Header) (n : ℕ) (s : ReaderState) (b : Bool) (v : Value) (s' : ReaderState) → IsBytes s.at.rest → h.end ≡ h.place + 4 + n → h.end ≤ s.at.place + length s.at.rest → ltb h.end s.at.place ≡ b
     → cond {A = Step Value} b (Err (CountMismatch h.place (h.end - h.place - 4) (s.at.place - h.place - 4))) (Ok (Opaque class (h.end - h.place - 4), record s { at = skip (h.end - s.at.place) s.at })) ≡ Ok (v, s') → IsBodyFound (SpellsOpaque class n) h.end s v s'
 opaque_found class h n s true v s' fits ends within t e = absurd cc
 opaque_found class h n s false v s' fits ends within t e =
     let behind : s.at.place ≤ h.end = ltb-false _ _ t in
     let used : h.end - h.place - 4 ≡ n = omega (arith, ends) in
-    let s1 : State = record s { at = skip (h.end - s.at.place) s.at } in
+    let s1 : ReaderState = record s { at = skip (h.end - s.at.place) s.at } in
     given_body (SpellsOpaque class n) h.end s (Opaque class (h.end - h.place - 4)) s1 v s' e (record {
       found = record {
         bytes = take (h.end - s.at.place) s.at.rest;
@@ -169,10 +169,10 @@ abbrev SpellsHeaded : Spellings → List ClassDef → List ℕ → Spelling Valu
 SpellsHeaded spells classes class p t v bytes t' = IsHeaded spells classes class p t v bytes t'
 
 -- where a header ends
-header_place : (h : Header) (s w : State) (f : IsHeader h s w) → w.at.place ≡ s.at.place + 4 + length f.version_bytes
+header_place : (h : Header) (s w : ReaderState) (f : IsHeader h s w) → w.at.place ≡ s.at.place + 4 + length f.version_bytes
 header_place h s w f = omega (arith, f.took.place, length-append (big_bytes 4 (f.n + 2 ^ 30)) f.version_bytes)
 
-headed_made : (spells : Spellings) (classes : List ClassDef) (class : List ℕ) (h : Header) (s w : State) (v : Value) (s' : State) (f : IsHeader h s w)
+headed_made : (spells : Spellings) (classes : List ClassDef) (class : List ℕ) (h : Header) (s w : ReaderState) (v : Value) (s' : ReaderState) (f : IsHeader h s w)
     → IsBodyFound (SpellsBody spells class f.n (body_of classes class (pos f.version) f.sum)) (s.at.place + 4 + f.n) w v s' → Found (SpellsHeaded spells classes class) s v s'
 headed_made spells classes class h s w v s' f b =
     let body = body_of classes class (pos f.version) f.sum in
@@ -198,7 +198,7 @@ headed_made spells classes class h s w v s' f b =
     }
 
 module _ (object : Reader) (spells : Spellings) (found : (class : List ℕ) → IsFound (object class) (spells class)) where
-  body_found : (class : List ℕ) (h : Header) (n : ℕ) (body : Body) (s : State) (v : Value) (s' : State) → IsBytes s.at.rest → h.end ≡ h.place + 4 + n → h.end ≤ s.at.place + length s.at.rest → body_at object class h body s ≡ Ok (v, s')
+  body_found : (class : List ℕ) (h : Header) (n : ℕ) (body : Body) (s : ReaderState) (v : Value) (s' : ReaderState) → IsBytes s.at.rest → h.end ≡ h.place + 4 + n → h.end ≤ s.at.place + length s.at.rest → body_at object class h body s ≡ Ok (v, s')
       → IsBodyFound (SpellsBody spells class n body) h.end s v s'
   unfolding body_at
   body_found class h n (described c) s v s' fits ends within e = whole_found class c.version h (parts_at object (slots_of c)) (SpellsParts spells c) (parts_found object spells found c) s v s' fits e
@@ -232,7 +232,7 @@ object_found (suc levels) classes class s v s' fits e =
     record { bytes = f.bytes; took = f.took; spelled = f.spelled }
 
 -- what begins the data
-pub first_found : (classes : List ClassDef) (class : List ℕ) (start : ℕ) (bytes : List ℕ) (v : Value) (s : State) → IsBytes bytes → first_at classes class start bytes ≡ Ok (v, s)
+pub first_found : (classes : List ClassDef) (class : List ℕ) (start : ℕ) (bytes : List ℕ) (v : Value) (s : ReaderState) → IsBytes bytes → first_at classes class start bytes ≡ Ok (v, s)
     → (front : List ℕ) × (bytes ≡ front ++ s.at.rest) × Spells classes start class v front
 unfolding Spells
 first_found classes class start bytes v s fits e =

@@ -4,13 +4,13 @@ use Rattle.std.proofs.lemmas.Bool.{leb-false, eqb-true}
 use Rattle.byteorder.specs.Endian.{big_bytes}
 use Rattle.rio_num.specs.Reading.{◌>>=◌}
 use Rattle.rio_num.proofs.ReadLaws.{IsBytes, Took, Took-then, bind_ok, chosen, ok_is}
-use Rattle.rio_types.specs.declared.kind.Primitive.{Primitive as Primitive}
+use Rattle.rio_types.specs.declared.kind.Primitive.{Primitive}
 use Rattle.rio_value.specs.declared.value.Value.{Value, Object}
 use Rattle.rio_format.specs.Bodies.{part}
 use Rattle.rio_format.specs.Objects.{Step, word_at, numbers_at, count_at, bare_at, array_at, has_pid, bare_object, pid_part}
 use Rattle.rio_format.specs.Prims.{width_of}
 use Rattle.rio_format.specs.Spelling.{Spelling, SpellsNumbers, SpellsPid, IsBare, IsArray}
-use Rattle.rio_format.specs.State.{State}
+use Rattle.rio_format.specs.ReaderState.{ReaderState}
 use Rattle.rio_format.specs.declared.fault.ObjFault.{ObjFault}
 use Rattle.rio_format.specs.declared.fault.ObjFault.TheVariants.{BadCount, NoCount}
 use Rattle.rio_format.proofs.FoundNumbers.{Found, IsFound, IsWord, word4, word2, given, moved, numbers_found}
@@ -21,17 +21,17 @@ first_false : (a b : Bool) → (a || b) ≡ false → a ≡ false
 first_false true b e = absurd cc
 first_false false b e = refl
 
-pub record IsCount (n : ℕ) (s s' : State) : Type 0 where
+pub record IsCount (n : ℕ) (s s' : ReaderState) : Type 0 where
   pub word : IsWord 4 n s s'
   pub low : n < 2 ^ 31
 
-count_by_test : (n : ℕ) (s w : State) (x : ℕ) (s' : State) (room : Bool) (p : ℕ) (b : Bool) → (leb (2 ^ 31) n || room) ≡ b → IsWord 4 n s w → cond {A = Step ℕ} b (Err (BadCount p)) (Ok (n, w)) ≡ Ok (x, s') → IsCount x s s'
+count_by_test : (n : ℕ) (s w : ReaderState) (x : ℕ) (s' : ReaderState) (room : Bool) (p : ℕ) (b : Bool) → (leb (2 ^ 31) n || room) ≡ b → IsWord 4 n s w → cond {A = Step ℕ} b (Err (BadCount p)) (Ok (n, w)) ≡ Ok (x, s') → IsCount x s s'
 count_by_test n s w x s' room p true t word e = absurd cc
 count_by_test n s w x s' room p false t word e =
     let made : IsCount n s w = record { word = word; low = leb-false _ _ (first_false _ room t) } in
-    subst (λ (q : ℕ × State). IsCount q.0 s q.1) (ok_is {E = ObjFault} (n, w) (x, s') e) made
+    subst (λ (q : ℕ × ReaderState). IsCount q.0 s q.1) (ok_is {E = ObjFault} (n, w) (x, s') e) made
 
-pub count_found_at : (width : ℕ) (s : State) (x : ℕ) (s' : State) → IsBytes s.at.rest → count_at width s ≡ Ok (x, s') → IsCount x s s'
+pub count_found_at : (width : ℕ) (s : ReaderState) (x : ℕ) (s' : ReaderState) → IsBytes s.at.rest → count_at width s ≡ Ok (x, s') → IsCount x s s'
 unfolding count_at
 count_found_at width s x s' fits e =
     let w = bind_ok (word_at 4 s) (λ n. cond (leb (2 ^ 31) n.0 || ltb (length n.1.at.rest / width) n.0) (Err (BadCount s.at.place)) (Ok n)) (x, s') e in
@@ -42,26 +42,26 @@ count_found_at width s x s' fits e =
 abbrev SpellsBare : Spelling Value
 SpellsBare p t v bytes t' = IsBare t v bytes t'
 
-abbrev to_pid : ℕ → ℕ → ℕ × State → Step Value
+abbrev to_pid : ℕ → ℕ → ℕ × ReaderState → Step Value
 to_pid id bits pid = Ok (bare_object id bits (pid_part pid.0 ∷ []), pid.1)
 
-abbrev to_bits : ℕ → ℕ × State → Step Value
+abbrev to_bits : ℕ → ℕ × ReaderState → Step Value
 to_bits id bits = cond (has_pid bits.0) (word_at 2 bits.1 >>= to_pid id bits.0) (Ok (bare_object id bits.0 [], bits.1))
 
-abbrev to_id : ℕ × State → Step Value
+abbrev to_id : ℕ × ReaderState → Step Value
 to_id id = word_at 4 id.1 >>= to_bits id.0
 
-abbrev id_at : ℕ → ℕ × State → Step ℕ
+abbrev id_at : ℕ → ℕ × ReaderState → Step ℕ
 id_at place version = cond (version.0 == 1) (word_at 4 version.1) (Err (NoCount place))
 
 -- the three numbers that each has, one behind the other
-record IsBareFront (id bits : ℕ) (s s' : State) : Type 0 where
+record IsBareFront (id bits : ℕ) (s s' : ReaderState) : Type 0 where
   id_fits : id < 2 ^ 32
   bits_fit : bits < 2 ^ 32
   took : Took s.at (big_bytes 2 1 ++ (big_bytes 4 id ++ big_bytes 4 bits)) s'.at
   same : s'.words ≡ s.words
 
-bare_front : (version id bits : ℕ) (s s1 s2 s3 : State) → version ≡ 1 → IsWord 2 version s s1 → IsWord 4 id s1 s2 → IsWord 4 bits s2 s3 → IsBareFront id bits s s3
+bare_front : (version id bits : ℕ) (s s1 s2 s3 : ReaderState) → version ≡ 1 → IsWord 2 version s s1 → IsWord 4 id s1 s2 → IsWord 4 bits s2 s3 → IsBareFront id bits s s3
 bare_front version id bits s s1 s2 s3 one a b c = record {
   id_fits = b.fits;
   bits_fit = c.fits;
@@ -69,7 +69,7 @@ bare_front version id bits s s1 s2 s3 one a b c = record {
   same = c.same ∙ b.same ∙ a.same;
 }
 
-bare_end : (id bits : ℕ) (s w : State) (b : Bool) (v : Value) (s' : State) → IsBareFront id bits s w → has_pid bits ≡ b → cond b (word_at 2 w >>= to_pid id bits) (Ok (bare_object id bits [], w)) ≡ Ok (v, s') → Found SpellsBare s v s'
+bare_end : (id bits : ℕ) (s w : ReaderState) (b : Bool) (v : Value) (s' : ReaderState) → IsBareFront id bits s w → has_pid bits ≡ b → cond b (word_at 2 w >>= to_pid id bits) (Ok (bare_object id bits [], w)) ≡ Ok (v, s') → Found SpellsBare s v s'
 bare_end id bits s w true v s' f has e =
     let d = bind_ok (word_at 2 w) (to_pid id bits) (v, s') e in
     let pid = word2 w d.0.0 d.0.1 f.took.fits d.1 in
@@ -88,7 +88,7 @@ bare_end id bits s w false v s' f has e =
     })
 
 -- the id is read only in version 1
-id_found : (place : ℕ) (version : ℕ × State) (y : ℕ × State) → id_at place version ≡ Ok y → (version.0 ≡ 1) × (word_at 4 version.1 ≡ Ok y)
+id_found : (place : ℕ) (version : ℕ × ReaderState) (y : ℕ × ReaderState) → id_at place version ≡ Ok y → (version.0 ≡ 1) × (word_at 4 version.1 ≡ Ok y)
 id_found place version y e = elim (chosen (version.0 == 1) (word_at 4 version.1) (Err (NoCount place)) (Ok y) e) [
   | inl c ↦ (eqb-true _ _ c.0, c.1)
   | inr c ↦ absurd cc
@@ -109,7 +109,7 @@ bare_found s v s' fits e =
 abbrev SpellsArray : List ℕ → Primitive → Spelling Value
 SpellsArray class of p t v bytes t' = IsArray class of p t v bytes t'
 
-abbrev to_array : List ℕ → Value × State → Step Value
+abbrev to_array : List ℕ → Value × ReaderState → Step Value
 to_array class items = Ok (Object class (pos 1) (part (codes "items") items.0 ∷ []), items.1)
 
 pub array_found : (class : List ℕ) (of : Primitive) → IsFound (array_at class of) (SpellsArray class of)

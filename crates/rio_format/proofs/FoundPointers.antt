@@ -10,7 +10,7 @@ use Rattle.rio_num.proofs.ReadLaws.{IsBytes, IsBytes-drop, Took, Took-then, bind
 use Rattle.rio_value.specs.declared.value.Value.{Value, Pointed, Null as Nothing, Back as Earlier}
 use Rattle.rio_format.specs.Objects.{Step, Reader, word_at, is_count, counted_end, data_end, end_at, finish_at, name_at, named, new_class_at, known_class, known_class_at, class_at, new_word_at, referred, reference_at, pointer_word_at, pointed_at, pointer_at}
 use Rattle.rio_format.specs.Spelling.{Spellings, IsPlain, SpellsClass, SpellsPointer, IsNew}
-use Rattle.rio_format.specs.State.{State, Words, with_name, with_label}
+use Rattle.rio_format.specs.ReaderState.{ReaderState, WordsMet, with_name, with_label}
 use Rattle.rio_format.specs.declared.words.PointerWord.{PointerWord}
 use Rattle.rio_format.specs.declared.words.PointerWord.TheVariants.{Null, New, Back}
 use Rattle.rio_format.specs.declared.fault.ObjFault.{ObjFault}
@@ -35,7 +35,7 @@ count_found w e =
 
 module _ {Z : Type 0} (y : Z) where
   -- an end that the data hold, and the next step
-  pub end_found : (p w : ℕ) (s : State) (next : ℕ × State → Result Z ObjFault) → (end_at p w s >>= next) ≡ Ok y → (counted_end p w ≤ data_end s) × (next (counted_end p w, s) ≡ Ok y)
+  pub end_found : (p w : ℕ) (s : ReaderState) (next : ℕ × ReaderState → Result Z ObjFault) → (end_at p w s >>= next) ≡ Ok y → (counted_end p w ≤ data_end s) × (next (counted_end p w, s) ≡ Ok y)
   end_found p w s next e = by (ltb (data_end s) (counted_end p w)) refl e
     where
       by : (b : Bool) → ltb (data_end s) (counted_end p w) ≡ b → (cond {A = Step ℕ} b (Err (BadCount p)) (Ok (counted_end p w, s)) >>= next) ≡ Ok y → (counted_end p w ≤ data_end s) × (next (counted_end p w, s) ≡ Ok y)
@@ -43,7 +43,7 @@ module _ {Z : Type 0} (y : Z) where
       by false t e = (ltb-false _ _ t, e)
 
   -- reading stands where the count said, and the next step
-  pub finish_found : (p end : ℕ) (s : State) (next : Unit {0} × State → Result Z ObjFault) → (finish_at p end s >>= next) ≡ Ok y → (s.at.place ≡ end) × (next (tt, s) ≡ Ok y)
+  pub finish_found : (p end : ℕ) (s : ReaderState) (next : Unit {0} × ReaderState → Result Z ObjFault) → (finish_at p end s >>= next) ≡ Ok y → (s.at.place ≡ end) × (next (tt, s) ≡ Ok y)
   finish_found p end s next e = by (eqb s.at.place end) refl e
     where
       by : (b : Bool) → eqb s.at.place end ≡ b → (cond {A = Step (Unit {0})} b (Ok (tt, s)) (Err (CountMismatch p (end - p - 4) (s.at.place - p - 4))) >>= next) ≡ Ok y → (s.at.place ≡ end) × (next (tt, s) ≡ Ok y)
@@ -78,12 +78,12 @@ zero_there (x ∷ xs) lt = by (x == 0) refl (zero_there xs) lt
         let lt1 : before_zero xs < length xs = omega (arith, rw e at lt) in
         rw (e, one-add, add-one) (ap (λ (ys : List ℕ). x ∷ ys) (rw add-one at rest lt1))
 
-record IsNamed (s : State) (name : List ℕ) (s' : State) : Type 0 where
+record IsNamed (s : ReaderState) (name : List ℕ) (s' : ReaderState) : Type 0 where
   plain : IsPlain name
   took : Took s.at (name ++ 0 ∷ []) s'.at
   same : s'.words ≡ s.words
 
-name_found : (s : State) (name : List ℕ) (s' : State) → IsBytes s.at.rest → name_at s ≡ Ok (name, s') → IsNamed s name s'
+name_found : (s : ReaderState) (name : List ℕ) (s' : ReaderState) → IsBytes s.at.rest → name_at s ≡ Ok (name, s') → IsNamed s name s'
 name_found s name s' fits e = by (ltb (before_zero s.at.rest) (length s.at.rest)) refl e
   where
     by : (b : Bool) → ltb (before_zero s.at.rest) (length s.at.rest) ≡ b → named s (cond b (Some (before_zero s.at.rest)) None) ≡ Ok (name, s') → IsNamed s name s'
@@ -99,29 +99,29 @@ name_found s name s' fits e = by (ltb (before_zero s.at.rest) (length s.at.rest)
           };
           same = refl;
         } in
-        subst (λ (q : List ℕ × State). IsNamed s q.0 q.1) (ok_is {E = ObjFault} (take n s.at.rest, record s { at = skip (n + 1) s.at }) (name, s') e) made
+        subst (λ (q : List ℕ × ReaderState). IsNamed s q.0 q.1) (ok_is {E = ObjFault} (take n s.at.rest, record s { at = skip (n + 1) s.at }) (name, s') e) made
     by false t e = absurd cc
 
 -- ---- class words
 
-abbrev with_class : ℕ → List ℕ × State → Step (List ℕ)
+abbrev with_class : ℕ → List ℕ × ReaderState → Step (List ℕ)
 with_class place name = Ok (name.0, record name.1 { words = with_name name.1.words place name.0 })
 
-new_class_found : (s w : State) (name : List ℕ) (s' : State) → IsWord 4 (2 ^ 32 - 1) s w → new_class_at s.at.place w ≡ Ok (name, s') → Found SpellsClass s name s'
+new_class_found : (s w : ReaderState) (name : List ℕ) (s' : ReaderState) → IsWord 4 (2 ^ 32 - 1) s w → new_class_at s.at.place w ≡ Ok (name, s') → Found SpellsClass s name s'
 unfolding new_class_at
 new_class_found s w name s' word e =
     let n = bind_ok (name_at w) (with_class s.at.place) (name, s') e in
     let f = name_found w n.0.0 n.0.1 word.took.fits n.1 in
-    let z : State = record n.0.1 { words = with_name n.0.1.words s.at.place n.0.0 } in
+    let z : ReaderState = record n.0.1 { words = with_name n.0.1.words s.at.place n.0.0 } in
     let t = Took-then s.at (big_bytes 4 (2 ^ 32 - 1)) w.at (n.0.0 ++ 0 ∷ []) n.0.1.at word.took f.took in
     let made : Found SpellsClass s n.0.0 z = record {
       bytes = big_bytes 4 (2 ^ 32 - 1) ++ (n.0.0 ++ 0 ∷ []);
       took = t;
-      spelled = inl (record { plain = f.plain; spelled = refl; words = ap (λ (t : Words). with_name t s.at.place n.0.0) (f.same ∙ word.same) });
+      spelled = inl (record { plain = f.plain; spelled = refl; words = ap (λ (t : WordsMet). with_name t s.at.place n.0.0) (f.same ∙ word.same) });
     } in
     given SpellsClass s n.0.0 z name s' n.2 made
 
-known_class_found : (s w : State) (x : ℕ) (o : Option (List ℕ)) (b : Bool) (name : List ℕ) (s' : State) → lookup (nat_eq (x - (2 ^ 31 + 2))) w.words.names ≡ o → ltb x (2 ^ 31 + 2) ≡ b → eqb x (2 ^ 32 - 1) ≡ false → IsWord 4 x s w
+known_class_found : (s w : ReaderState) (x : ℕ) (o : Option (List ℕ)) (b : Bool) (name : List ℕ) (s' : ReaderState) → lookup (nat_eq (x - (2 ^ 31 + 2))) w.words.names ≡ o → ltb x (2 ^ 31 + 2) ≡ b → eqb x (2 ^ 32 - 1) ≡ false → IsWord 4 x s w
     → cond b (Err (UnknownClassWord s.at.place x)) (known_class s.at.place x w o) ≡ Ok (name, s') → Found SpellsClass s name s'
 known_class_found s w x o true name s' look t old word e = absurd cc
 known_class_found s w x None false name s' look t old word e = absurd cc
@@ -135,7 +135,7 @@ known_class_found s w x (Some known) false name s' look t old word e =
       took = word.took;
       spelled = inr (record {
         place = x - (2 ^ 31 + 2);
-        known = ap (λ (t : Words). lookup (nat_eq (x - (2 ^ 31 + 2))) t.names) (sym word.same) ∙ look;
+        known = ap (λ (t : WordsMet). lookup (nat_eq (x - (2 ^ 31 + 2))) t.names) (sym word.same) ∙ look;
         low = omega arith;
         spelled = ap (big_bytes 4) x-is;
         words = word.same;
@@ -155,16 +155,16 @@ class_found s name s' fits e =
 
 -- ---- pointers' words
 
-record IsBackWord (label : ℕ) (s s' : State) : Type 0 where
+record IsBackWord (label : ℕ) (s s' : ReaderState) : Type 0 where
   place : ℕ
   word : IsWord 4 (place + 2) s s'
   known : position (nat_eq place) s.words.labels ≡ Some label
   reference : is_count (place + 2) ≡ false
 
-record IsNewWord (label place end : ℕ) (class : List ℕ) (s s' : State) : Type 0 where
+record IsNewWord (label place end : ℕ) (class : List ℕ) (s s' : ReaderState) : Type 0 where
   n : ℕ
   class_bytes : List ℕ
-  t1 : Words
+  t1 : WordsMet
   low : n < 2 ^ 30
   place-is : place ≡ s.at.place
   end-is : end ≡ s.at.place + 4 + n
@@ -173,15 +173,15 @@ record IsNewWord (label place end : ℕ) (class : List ℕ) (s s' : State) : Typ
   class_spelled : SpellsClass (s.at.place + 4) s.words class class_bytes t1
   words-are : s'.words ≡ with_label t1 s.at.place
 
-abbrev FoundWord : State → PointerWord → State → Type 0
+abbrev FoundWord : ReaderState → PointerWord → ReaderState → Type 0
 FoundWord s Null s' = IsWord 4 0 s s'
 FoundWord s (Back label) s' = IsBackWord label s s'
 FoundWord s (New label place end class) s' = IsNewWord label place end class s s'
 
-given_word : (s : State) (w : PointerWord) (s1 : State) (z : PointerWord) (s' : State) → read_so w s1 ≡ read_so z s' → FoundWord s w s1 → FoundWord s z s'
-given_word s w s1 z s' e found = subst (λ (q : PointerWord × State). FoundWord s q.0 q.1) (ok_is {E = ObjFault} (w, s1) (z, s') e) found
+given_word : (s : ReaderState) (w : PointerWord) (s1 : ReaderState) (z : PointerWord) (s' : ReaderState) → read_so w s1 ≡ read_so z s' → FoundWord s w s1 → FoundWord s z s'
+given_word s w s1 z s' e found = subst (λ (q : PointerWord × ReaderState). FoundWord s q.0 q.1) (ok_is {E = ObjFault} (w, s1) (z, s') e) found
 
-reference_found : (s w : State) (x : ℕ) (o : Option ℕ) (b : Bool) (z : PointerWord) (s' : State) → position (nat_eq (x - 2)) w.words.labels ≡ o → ltb x 2 ≡ b → is_count x ≡ false → IsWord 4 x s w
+reference_found : (s w : ReaderState) (x : ℕ) (o : Option ℕ) (b : Bool) (z : PointerWord) (s' : ReaderState) → position (nat_eq (x - 2)) w.words.labels ≡ o → ltb x 2 ≡ b → is_count x ≡ false → IsWord 4 x s w
     → cond b (Err (UnknownRef s.at.place x)) (referred s.at.place x w o) ≡ Ok (z, s') → FoundWord s z s'
 reference_found s w x o true z s' look t plain word e = absurd cc
 reference_found s w x None false z s' look t plain word e = absurd cc
@@ -190,15 +190,15 @@ reference_found s w x (Some label) false z s' look t plain word e =
     let made : IsBackWord label s w = record {
       place = x - 2;
       word = subst (λ (y : ℕ). IsWord 4 y s w) x-is word;
-      known = ap (λ (t : Words). position (nat_eq (x - 2)) t.labels) (sym word.same) ∙ look;
+      known = ap (λ (t : WordsMet). position (nat_eq (x - 2)) t.labels) (sym word.same) ∙ look;
       reference = ap is_count (sym x-is) ∙ plain;
     } in
     given_word s (Back label) w z s' e made
 
-abbrev to_new : ℕ → ℕ → List ℕ × State → Step PointerWord
+abbrev to_new : ℕ → ℕ → List ℕ × ReaderState → Step PointerWord
 to_new place end class = Ok (New (length class.1.words.labels) place end class.0, record class.1 { words = with_label class.1.words place })
 
-new_word_found : (s w : State) (x : ℕ) (z : PointerWord) (s' : State) → is_count x ≡ true → IsWord 4 x s w → new_word_at s.at.place x w ≡ Ok (z, s') → FoundWord s z s'
+new_word_found : (s w : ReaderState) (x : ℕ) (z : PointerWord) (s' : ReaderState) → is_count x ≡ true → IsWord 4 x s w → new_word_at s.at.place x w ≡ Ok (z, s') → FoundWord s z s'
 unfolding new_word_at
 new_word_found s w x z s' counts word e =
     let p = s.at.place in
@@ -206,7 +206,7 @@ new_word_found s w x z s' counts word e =
     let k = bind_ok (class_at w) (to_new p (counted_end p x)) (z, s') h.1 in
     let f = class_found w k.0.0 k.0.1 word.took.fits k.1 in
     let c = count_found x counts in
-    let s1 : State = record k.0.1 { words = with_label k.0.1.words p } in
+    let s1 : ReaderState = record k.0.1 { words = with_label k.0.1.words p } in
     let made : IsNewWord (length k.0.1.words.labels) p (counted_end p x) k.0.0 s s1 = record {
       n = c.n;
       class_bytes = f.bytes;
@@ -221,7 +221,7 @@ new_word_found s w x z s' counts word e =
     } in
     given_word s (New (length k.0.1.words.labels) p (counted_end p x) k.0.0) s1 z s' k.2 made
 
-pointer_word_found : (s : State) (z : PointerWord) (s' : State) → IsBytes s.at.rest → pointer_word_at s ≡ Ok (z, s') → FoundWord s z s'
+pointer_word_found : (s : ReaderState) (z : PointerWord) (s' : ReaderState) → IsBytes s.at.rest → pointer_word_at s ≡ Ok (z, s') → FoundWord s z s'
 unfolding pointer_word_at
 pointer_word_found s z s' fits e =
     let w = bind_ok (word_at 4 s) (λ w. cond (w.0 == 0) (Ok (Null, w.1)) (cond (is_count w.0) (new_word_at s.at.place w.0 w.1) (reference_at s.at.place w.0 w.1))) (z, s') e in
@@ -237,7 +237,7 @@ pointer_word_found s z s' fits e =
 -- ---- pointers
 
 module _ (object : Reader) (spells : Spellings) (found : (class : List ℕ) → IsFound (object class) (spells class)) where
-  new_found : (label place end : ℕ) (class : List ℕ) (s w : State) (v : Value) (s' : State) → IsNewWord label place end class s w → pointed_at object (New label place end class) w ≡ Ok (v, s') → Found (SpellsPointer spells) s v s'
+  new_found : (label place end : ℕ) (class : List ℕ) (s w : ReaderState) (v : Value) (s' : ReaderState) → IsNewWord label place end class s w → pointed_at object (New label place end class) w ≡ Ok (v, s') → Found (SpellsPointer spells) s v s'
   unfolding pointed_at
   new_found label place end class s w v s' word e =
       let o = bind_ok (object class w) (λ o. finish_at place end o.1 >>= λ done. Ok (Pointed label o.0, done.1)) (v, s') e in
@@ -267,7 +267,7 @@ module _ (object : Reader) (spells : Spellings) (found : (class : List ℕ) → 
         spelled = inr (inr made);
       })
 
-  pointed_found : (z : PointerWord) (s w : State) (v : Value) (s' : State) → FoundWord s z w → pointed_at object z w ≡ Ok (v, s') → Found (SpellsPointer spells) s v s'
+  pointed_found : (z : PointerWord) (s w : ReaderState) (v : Value) (s' : ReaderState) → FoundWord s z w → pointed_at object z w ≡ Ok (v, s') → Found (SpellsPointer spells) s v s'
   unfolding pointed_at
   pointed_found Null s w v s' word e =
       given (SpellsPointer spells) s Nothing w v s' e (record { bytes = big_bytes 4 0; took = word.took; spelled = inl (record { value = refl; spelled = refl; words = word.same }) })

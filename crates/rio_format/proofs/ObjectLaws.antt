@@ -5,7 +5,7 @@ use Rattle.rio_num.proofs.ReadLaws.{ok_is}
 use Rattle.rio_value.specs.declared.value.Value.{Value}
 use Rattle.rio_format.specs.Laws.{SpelledIsRead, IsSpelledOnce, FaultIsNotSpelled, ReadIsSpelled}
 use Rattle.rio_format.specs.Objects.{first_at}
-use Rattle.rio_format.specs.State.{State}
+use Rattle.rio_format.specs.ReaderState.{ReaderState}
 use Rattle.rio_format.specs.declared.fault.ObjFault.{ObjFault}
 use Rattle.rio_format.proofs.AgainObjects.{first_again}
 use Rattle.rio_format.proofs.FoundObjects.{first_found}
@@ -21,8 +21,8 @@ is_spelled_once classes class start v w front more other rest e first second =
     let a = first_again classes class start v front more first in
     let b = first_again classes class start w other rest second in
     let same = ok_is {E = ObjFault} (v, a.0) (w, b.0) (sym a.1 ∙ ap (first_at classes class start) e ∙ b.1) in
-    let behind : more ≡ rest = sym a.2 ∙ ap (λ (q : Value × State). q.1.at.rest) same ∙ b.2 in
-    (ap (λ (q : Value × State). q.0) same, append_cancel_right front other rest (ap (λ (m : List ℕ). front ++ m) (sym behind) ∙ e))
+    let behind : more ≡ rest = sym a.2 ∙ ap (λ (q : Value × ReaderState). q.1.at.rest) same ∙ b.2 in
+    (ap (λ (q : Value × ReaderState). q.0) same, append_cancel_right front other rest (ap (λ (m : List ℕ). front ++ m) (sym behind) ∙ e))
 
 not_both : {A E : Type 0} (r : Result A E) (e : E) (x : A) → r ≡ Err e → r ≡ Ok x → ⊥
 not_both (Ok y) e x a b = absurd cc

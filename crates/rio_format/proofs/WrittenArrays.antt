@@ -12,7 +12,7 @@ use Rattle.rio_format.specs.Bodies.{part, Counters}
 use Rattle.rio_format.specs.Fits.{Labels, Fitting, fields_fit, counted_slot, counted_so_far}
 use Rattle.rio_format.specs.Slots.{Slot, kinded, based, any_pointer, link, many, Field, field}
 use Rattle.rio_format.specs.Spelling.{Spellings, SpellsTimes, SpellsPointer, IsListParts, IsArrayParts, IsLink}
-use Rattle.rio_format.specs.State.{Words}
+use Rattle.rio_format.specs.ReaderState.{WordsMet}
 use Rattle.rio_format.specs.Written.{listed_bytes, arrayed_bytes, writing_of}
 use Rattle.rio_format.proofs.AgainParts.{pointer_long, link_long}
 use Rattle.rio_format.proofs.WrittenPlaces.{Stands, stands_more}
@@ -47,7 +47,7 @@ module _ (object : Spellings) (classes : List ClassDef) where
   abbrev list_fields : List Field
   list_fields = field [] base_slot_is ∷ name_fields
 
-  list_made : (y z x : Part) (a b c : List ℕ × Words) (p : ℕ) (t : Words) → y ≡ part [] y.value → z ≡ part (codes "fName") z.value → x ≡ part (codes "items") x.value
+  list_made : (y z x : Part) (a b c : List ℕ × WordsMet) (p : ℕ) (t : WordsMet) → y ≡ part [] y.value → z ≡ part (codes "fName") z.value → x ≡ part (codes "items") x.value
       → SpellsSlot object base_slot_is p t y.value a.0 a.1 → SpellsSlot object (kinded Texted) (p + length a.0) a.1 z.value b.0 b.1 → SpellsSlot object (many link) (p + length a.0 + length b.0 + 4) b.1 x.value c.0 c.1 → length c.0 < 2 ^ 31
       → IsListParts object p t (y ∷ z ∷ x ∷ []) (a.0 ++ (b.0 ++ (big_bytes 4 (writing_of classes x.value).count ++ c.0))) c.1
   list_made y z x a b c p t y-is z-is x-is base name items short =
@@ -63,14 +63,14 @@ module _ (object : Spellings) (classes : List ClassDef) where
         item_bytes = c.0;
         t1 = b.1;
         value = λ i. y-is i ∷ (z-is ∙ ap (part (codes "fName")) name.value) i ∷ (x-is ∙ ap (part (codes "items")) items.value) i ∷ [];
-        based = subst (λ (u : Words). object (codes "TObject") p t y.value a.0 u) (sym name.words) base;
+        based = subst (λ (u : WordsMet). object (codes "TObject") p t y.value a.0 u) (sym name.words) base;
         named = name.spelled;
         low = omega (arith, low, short);
         each = items.each;
         spelled = ap (λ (n : ℕ). a.0 ++ (b.0 ++ (big_bytes 4 n ++ c.0))) count;
       }
 
-  pub listed_written : (parts : List Part) → AreKnown object classes parts → (before after : Labels) (p : ℕ) (t : Words) → fields_fit list_fields (fittings classes parts) [] before ≡ Some after → Stands before p t → p + length (listed_bytes (writings classes parts) p t).0 ≤ last_place
+  pub listed_written : (parts : List Part) → AreKnown object classes parts → (before after : Labels) (p : ℕ) (t : WordsMet) → fields_fit list_fields (fittings classes parts) [] before ≡ Some after → Stands before p t → p + length (listed_bytes (writings classes parts) p t).0 ≤ last_place
       → IsListParts object p t parts (listed_bytes (writings classes parts) p t).0 (listed_bytes (writings classes parts) p t).1 × Stands after (p + length (listed_bytes (writings classes parts) p t).0) (listed_bytes (writings classes parts) p t).1
   listed_written [] ih before after p t e s room = absurd cc
   listed_written (y ∷ []) ih before after p t e s room = absurd (omega (arith, same_length list_fields (fittings classes (y ∷ [])) [] before after e))
@@ -107,7 +107,7 @@ module _ (object : Spellings) (classes : List ClassDef) where
   abbrev array_fields : List Field
   array_fields = field [] base_slot_is ∷ array_name_fields
 
-  array_made : (y z k x : Part) (a b d c : List ℕ × Words) (p : ℕ) (t : Words) → y ≡ part [] y.value → z ≡ part (codes "fName") z.value → k ≡ part (codes "fLowerBound") k.value → x ≡ part (codes "items") x.value
+  array_made : (y z k x : Part) (a b d c : List ℕ × WordsMet) (p : ℕ) (t : WordsMet) → y ≡ part [] y.value → z ≡ part (codes "fName") z.value → k ≡ part (codes "fLowerBound") k.value → x ≡ part (codes "items") x.value
       → SpellsSlot object base_slot_is p t y.value a.0 a.1 → SpellsSlot object (kinded Texted) (p + length a.0) a.1 z.value b.0 b.1 → SpellsSlot object (kinded (Plain I32)) (p + length a.0 + length b.0 + 4) b.1 k.value d.0 d.1
       → SpellsSlot object (many any_pointer) (p + length a.0 + length b.0 + 4 + length d.0) d.1 x.value c.0 c.1 → length c.0 < 2 ^ 31
       → IsArrayParts object p t (y ∷ z ∷ k ∷ x ∷ []) (a.0 ++ (b.0 ++ (big_bytes 4 (writing_of classes x.value).count ++ (d.0 ++ c.0)))) c.1
@@ -128,7 +128,7 @@ module _ (object : Spellings) (classes : List ClassDef) where
         item_bytes = c.0;
         t1 = d.1;
         value = λ i. y-is i ∷ (z-is ∙ ap (part (codes "fName")) name.value) i ∷ k-is i ∷ (x-is ∙ ap (part (codes "items")) items.value) i ∷ [];
-        based = subst (λ (u : Words). object (codes "TObject") p t y.value a.0 u) (sym (lower.words ∙ name.words)) base;
+        based = subst (λ (u : WordsMet). object (codes "TObject") p t y.value a.0 u) (sym (lower.words ∙ name.words)) base;
         named = name.spelled;
         low = omega (arith, low, short);
         bound = record { n = lower.n; fits = lower.fits; value = lower.value; spelled = lower.spelled; words = refl };
@@ -136,7 +136,7 @@ module _ (object : Spellings) (classes : List ClassDef) where
         spelled = ap (λ (n : ℕ). a.0 ++ (b.0 ++ (big_bytes 4 n ++ (d.0 ++ c.0)))) count;
       }
 
-  pub arrayed_written : (parts : List Part) → AreKnown object classes parts → (before after : Labels) (p : ℕ) (t : Words) → fields_fit array_fields (fittings classes parts) [] before ≡ Some after → Stands before p t → p + length (arrayed_bytes (writings classes parts) p t).0 ≤ last_place
+  pub arrayed_written : (parts : List Part) → AreKnown object classes parts → (before after : Labels) (p : ℕ) (t : WordsMet) → fields_fit array_fields (fittings classes parts) [] before ≡ Some after → Stands before p t → p + length (arrayed_bytes (writings classes parts) p t).0 ≤ last_place
       → IsArrayParts object p t parts (arrayed_bytes (writings classes parts) p t).0 (arrayed_bytes (writings classes parts) p t).1 × Stands after (p + length (arrayed_bytes (writings classes parts) p t).0) (arrayed_bytes (writings classes parts) p t).1
   arrayed_written [] ih before after p t e s room = absurd cc
   arrayed_written (y ∷ []) ih before after p t e s room = absurd (omega (arith, same_length array_fields (fittings classes (y ∷ [])) [] before after e))

@@ -17,7 +17,7 @@ use Rattle.rio_format.specs.Fits.{Labels, fields_fit, fitting_of}
 use Rattle.rio_format.specs.Prims.{width_of}
 use Rattle.rio_format.specs.Slots.{Slot, kinded, flags, many, Field, field}
 use Rattle.rio_format.specs.Spelling.{Spelling, Spellings, SpellsTimes, SpellsNumber, SpellsPid, IsBare, IsArray}
-use Rattle.rio_format.specs.State.{Words}
+use Rattle.rio_format.specs.ReaderState.{WordsMet}
 use Rattle.rio_format.specs.Written.{Writing, bare_bytes, array_bytes, writing_step, writing_of}
 use Rattle.rio_format.proofs.Tests.{named_as}
 use Rattle.rio_format.proofs.AgainParts.{IsLong, times_room, number_long, width_some}
@@ -27,7 +27,7 @@ use Rattle.rio_format.proofs.WrittenWays.{in_slot, last_place}
 use Rattle.rio_format.proofs.WrittenLists.{AreKnown, fittings, writings, stands_at, some_is}
 
 -- how many there are is no more than how many bytes they have
-pub times_low : (n width : ℕ) (spells : Spelling Value) → 0 < width → IsLong width spells → (p : ℕ) (t : Words) (ys : List Value) (bytes : List ℕ) (t' : Words) → SpellsTimes n spells p t ys bytes t' → n ≤ length bytes
+pub times_low : (n width : ℕ) (spells : Spelling Value) → 0 < width → IsLong width spells → (p : ℕ) (t : WordsMet) (ys : List Value) (bytes : List ℕ) (t' : WordsMet) → SpellsTimes n spells p t ys bytes t' → n ≤ length bytes
 times_low n width spells some long p t ys bytes t' c =
     let room : n ≤ length (bytes ++ []) / width = times_room n width spells some long p t ys bytes t' [] c in
     omega (arith, room, div-le_self (length (bytes ++ [])) width, length-append bytes [])
@@ -57,7 +57,7 @@ bare_fields = field (codes "fUniqueID") (kinded (Plain U32)) ∷ field (codes "f
 module _ (object : Spellings) (classes : List ClassDef) where
   -- ---- TObject
 
-  pub bare_written : (parts : List Part) → AreKnown object classes parts → (before after : Labels) (p : ℕ) (t : Words) → fields_fit bare_fields (fittings classes parts) [] before ≡ Some after → Stands before p t → p + length (bare_bytes (writings classes parts) p t).0 ≤ last_place
+  pub bare_written : (parts : List Part) → AreKnown object classes parts → (before after : Labels) (p : ℕ) (t : WordsMet) → fields_fit bare_fields (fittings classes parts) [] before ≡ Some after → Stands before p t → p + length (bare_bytes (writings classes parts) p t).0 ≤ last_place
       → IsBare t (Object (codes "TObject") (pos 1) parts) (bare_bytes (writings classes parts) p t).0 (bare_bytes (writings classes parts) p t).1 × Stands after (p + length (bare_bytes (writings classes parts) p t).0) (bare_bytes (writings classes parts) p t).1
   bare_written [] ih before after p t e s room = absurd cc
   bare_written (y ∷ []) ih before after p t e s room =
@@ -91,7 +91,7 @@ module _ (object : Spellings) (classes : List ClassDef) where
 
   -- ---- arrays of numbers
 
-  pub array_written : (class : List ℕ) (of : Primitive) (parts : List Part) → AreKnown object classes parts → (before after : Labels) (p : ℕ) (t : Words) → fields_fit (field (codes "items") (many (kinded (Plain of))) ∷ []) (fittings classes parts) [] before ≡ Some after → Stands before p t
+  pub array_written : (class : List ℕ) (of : Primitive) (parts : List Part) → AreKnown object classes parts → (before after : Labels) (p : ℕ) (t : WordsMet) → fields_fit (field (codes "items") (many (kinded (Plain of))) ∷ []) (fittings classes parts) [] before ≡ Some after → Stands before p t
       → p + length (array_bytes of (writings classes parts) p t).0 ≤ last_place
       → IsArray class of p t (Object class (pos 1) parts) (array_bytes of (writings classes parts) p t).0 (array_bytes of (writings classes parts) p t).1 × Stands after (p + length (array_bytes of (writings classes parts) p t).0) (array_bytes of (writings classes parts) p t).1
   array_written class of [] ih before after p t e s room = absurd cc

@@ -20,7 +20,7 @@ use Rattle.rio_format.specs.Bodies.{part, Counters, counters_with, count_by, num
 use Rattle.rio_format.specs.Fits.{Labels, Fitting, fields_fit, fixed_by, counted_slot, counted_so_far, fitting_step, fitting_of}
 use Rattle.rio_format.specs.Slots.{kinded, based, base_field, member_field}
 use Rattle.rio_format.specs.Spelling.{Spellings, SpellsKind, SpellsCounted, SpellsEach, IsPart}
-use Rattle.rio_format.specs.State.{Words}
+use Rattle.rio_format.specs.ReaderState.{WordsMet}
 use Rattle.rio_format.specs.Written.{fields_bytes, writing_of}
 use Rattle.rio_format.proofs.Tests.{named_as}
 use Rattle.rio_format.proofs.WrittenPlaces.{Stands}
@@ -81,12 +81,12 @@ counter_there name (c ∷ cs) z e = by (bytes_eq name c.0) e (counter_there name
 module _ (object : Spellings) (classes : List ClassDef) where
   -- ---- one part
 
-  record IsKindWritten (counters : Counters) (kind : Kind) (v : Value) (after : Labels) (p : ℕ) (t : Words) (b : List ℕ × Words) : Type 0 where
+  record IsKindWritten (counters : Counters) (kind : Kind) (v : Value) (after : Labels) (p : ℕ) (t : WordsMet) (b : List ℕ × WordsMet) : Type 0 where
     spelled : SpellsKind object counters kind p t v b.0 b.1
     stands : Stands after (p + length b.0) b.1
     readable : can_read (names_in counters) kind ≡ true
 
-  counted_kind : (v : Value) → IsWrittenAnywhere object classes v → (counters : Counters) (of : Primitive) (counter : List ℕ) (o : Option ℤ) (before after : Labels) (p : ℕ) (t : Words) → lookup (bytes_eq counter) counters ≡ o
+  counted_kind : (v : Value) → IsWrittenAnywhere object classes v → (counters : Counters) (of : Primitive) (counter : List ℕ) (o : Option ℤ) (before after : Labels) (p : ℕ) (t : WordsMet) → lookup (bytes_eq counter) counters ≡ o
       → (fitting_of classes v).fits (fixed_by of o) before ≡ Some after → Stands before p t → p + length ((writing_of classes v).bytes (kinded (Counted of counter)) p t).0 ≤ last_place
       → IsKindWritten counters (Counted of counter) v after p t ((writing_of classes v).bytes (kinded (Counted of counter)) p t)
   counted_kind v ih counters of counter None before after p t look e s room = absurd ((ih (in_none (kinded (Counted of counter))) before after p t e s room).0)
@@ -97,7 +97,7 @@ module _ (object : Spellings) (classes : List ClassDef) where
       let says : pos n ≡ count_by counter counters = ap (λ (o : Option ℤ). unwrap_or o (pos 0)) (sym look) in
       record { spelled = subst (λ (z : ℤ). SpellsCounted of z p t v b.0 b.1) says r.0; stands = r.1; readable = counter_there counter counters (pos n) look }
 
-  kind_written : (v : Value) → IsWrittenAnywhere object classes v → (counters : Counters) (kind : Kind) (before after : Labels) (p : ℕ) (t : Words) → (fitting_of classes v).fits (counted_slot counters (kinded kind)) before ≡ Some after → Stands before p t
+  kind_written : (v : Value) → IsWrittenAnywhere object classes v → (counters : Counters) (kind : Kind) (before after : Labels) (p : ℕ) (t : WordsMet) → (fitting_of classes v).fits (counted_slot counters (kinded kind)) before ≡ Some after → Stands before p t
       → p + length ((writing_of classes v).bytes (kinded kind) p t).0 ≤ last_place → IsKindWritten counters kind v after p t ((writing_of classes v).bytes (kinded kind) p t)
   kind_written v ih counters (Plain of) before after p t e s room = let r = ih (in_slot (kinded (Plain of))) before after p t e s room in record { spelled = r.0; stands = r.1; readable = refl }
   kind_written v ih counters Counter before after p t e s room = let r = ih (in_slot (kinded Counter)) before after p t e s room in record { spelled = r.0; stands = r.1; readable = refl }
@@ -111,7 +111,7 @@ module _ (object : Spellings) (classes : List ClassDef) where
   -- ---- the parts, one behind the other
 
   -- the parts of all slots, of which the last ones are these members'
-  pub record AreParts (slots members : List Member) (counters : Counters) (parts : List Part) (after : Labels) (p : ℕ) (t : Words) (b : List ℕ × Words) : Type 0 where
+  pub record AreParts (slots members : List Member) (counters : Counters) (parts : List Part) (after : Labels) (p : ℕ) (t : WordsMet) (b : List ℕ × WordsMet) : Type 0 where
     pub last : Counters
     pub each : SpellsEach (IsPart object) slots p (t, counters) parts b.0 (b.1, last)
     pub stands : Stands after (p + length b.0) b.1
@@ -120,7 +120,7 @@ module _ (object : Spellings) (classes : List ClassDef) where
   part_is : (name : List ℕ) (y : Part) → y.name ≡ name → y ≡ part name y.value
   part_is name y same = ap (λ (n : List ℕ). part n y.value) same
 
-  members_written : (ms : List Member) (parts : List Part) → AreKnown object classes parts → (counters : Counters) (before after : Labels) (p : ℕ) (t : Words) → fields_fit (map member_field ms) (fittings classes parts) counters before ≡ Some after → Stands before p t
+  members_written : (ms : List Member) (parts : List Part) → AreKnown object classes parts → (counters : Counters) (before after : Labels) (p : ℕ) (t : WordsMet) → fields_fit (map member_field ms) (fittings classes parts) counters before ≡ Some after → Stands before p t
       → p + length (fields_bytes (map member_field ms) (writings classes parts) p t).0 ≤ last_place → AreParts ms ms counters parts after p t (fields_bytes (map member_field ms) (writings classes parts) p t)
   members_written [] [] ih counters before after p t e s room = record {
     last = counters;
@@ -158,7 +158,7 @@ module _ (object : Spellings) (classes : List ClassDef) where
         readable = ap (λ (b : Bool). b && can_read_all (names_with m (names_in counters)) ms) one.readable ∙ ap (λ (names : List (List ℕ)). can_read_all names ms) (sym (names_by m m.kind v counters refl)) ∙ others.readable;
       })
 
-  pub bases_written : (bs : List Base) (ms : List Member) (parts : List Part) → AreKnown object classes parts → (counters : Counters) (before after : Labels) (p : ℕ) (t : Words)
+  pub bases_written : (bs : List Base) (ms : List Member) (parts : List Part) → AreKnown object classes parts → (counters : Counters) (before after : Labels) (p : ℕ) (t : WordsMet)
       → fields_fit (map base_field bs ++ map member_field ms) (fittings classes parts) counters before ≡ Some after → Stands before p t
       → p + length (fields_bytes (map base_field bs ++ map member_field ms) (writings classes parts) p t).0 ≤ last_place → AreParts (map base_slot bs ++ ms) ms counters parts after p t (fields_bytes (map base_field bs ++ map member_field ms) (writings classes parts) p t)
   bases_written [] ms parts ih counters before after p t e s room = members_written ms parts ih counters before after p t e s room

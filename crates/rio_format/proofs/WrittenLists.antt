@@ -12,7 +12,7 @@ use Rattle.rio_value.specs.declared.value.Part.{Part}
 use Rattle.rio_format.specs.Fits.{Labels, Fitting, all_fit, fitting_step, fitting_of}
 use Rattle.rio_format.specs.Slots.{Slot, kinded, any_pointer, link, many}
 use Rattle.rio_format.specs.Spelling.{Spellings, SpellsTimes, SpellsNumber, SpellsNumbers, IsLink}
-use Rattle.rio_format.specs.State.{Words}
+use Rattle.rio_format.specs.ReaderState.{WordsMet}
 use Rattle.rio_format.specs.Written.{Writing, all, writing_step, writing_of}
 use Rattle.rio_format.proofs.ValueCases.{Each}
 use Rattle.rio_format.proofs.WrittenPlaces.{Stands, stands_more}
@@ -34,7 +34,7 @@ fittings classes parts = map (part_fitting classes) parts
 abbrev pub writings : List ClassDef → List Part → List Writing
 writings classes parts = map (λ y. writing_of classes y.value) parts
 
-pub stands_at : (labels : Labels) (p q : ℕ) (t : Words) → p ≡ q → Stands labels p t → Stands labels q t
+pub stands_at : (labels : Labels) (p q : ℕ) (t : WordsMet) → p ≡ q → Stands labels p t → Stands labels q t
 stands_at labels p q t same s = subst (λ (r : ℕ). Stands labels r t) same s
 
 pub some_is : (a b : Labels) → Some a ≡ Some b → a ≡ b
@@ -42,11 +42,11 @@ some_is a b e = cc
 
 module _ (object : Spellings) (classes : List ClassDef) where
   -- items, one behind the other
-  pub record AreWritten (slot : Slot) (vs : List Value) (after : Labels) (p : ℕ) (t : Words) (b : List ℕ × Words) : Type 0 where
+  pub record AreWritten (slot : Slot) (vs : List Value) (after : Labels) (p : ℕ) (t : WordsMet) (b : List ℕ × WordsMet) : Type 0 where
     pub each : SpellsTimes (length vs) (SpellsSlot object slot) p t vs b.0 b.1
     pub stands : Stands after (p + length b.0) b.1
 
-  all_written : (slot : Slot) (vs : List Value) → Each (IsWrittenAnywhere object classes) vs → (before after : Labels) (p : ℕ) (t : Words) → all_fit slot (map (fitting_of classes) vs) before ≡ Some after → Stands before p t
+  all_written : (slot : Slot) (vs : List Value) → Each (IsWrittenAnywhere object classes) vs → (before after : Labels) (p : ℕ) (t : WordsMet) → all_fit slot (map (fitting_of classes) vs) before ≡ Some after → Stands before p t
       → p + length (all slot (map (writing_of classes) vs) p t).0 ≤ last_place → AreWritten slot vs after p t (all slot (map (writing_of classes) vs) p t)
   all_written slot [] ih before after p t e s room = record {
     each = (refl, refl, refl);
@@ -71,7 +71,7 @@ module _ (object : Spellings) (classes : List ClassDef) where
   fixed_fit of vs count true before after t e = (sym (length-map vs (fitting_of classes)) ∙ eqb-true _ _ t, e)
   fixed_fit of vs count false before after t e = absurd cc
 
-  numbers_are : (of : Primitive) (vs : List Value) (count p : ℕ) (t : Words) (bytes : List ℕ) (t' : Words) → length vs ≡ count → SpellsTimes (length vs) (SpellsSlot object (kinded (Plain of))) p t vs bytes t' → SpellsNumbers of count p t (Items vs) bytes t'
+  numbers_are : (of : Primitive) (vs : List Value) (count p : ℕ) (t : WordsMet) (bytes : List ℕ) (t' : WordsMet) → length vs ≡ count → SpellsTimes (length vs) (SpellsSlot object (kinded (Plain of))) p t vs bytes t' → SpellsNumbers of count p t (Items vs) bytes t'
   numbers_are of vs count p t bytes t' same each = record { items = vs; value = refl; each = subst (λ (n : ℕ). SpellsTimes n (SpellsNumber of) p t vs bytes t') same each }
 
   abbrev list_fitting : List Value → Fitting
@@ -97,7 +97,7 @@ module _ (object : Spellings) (classes : List ClassDef) where
         pointer_bytes = a.0;
         option_bytes = r.0;
         value = ap (λ (x : Value). Items (v ∷ x ∷ [])) text.0.value;
-        first = subst (λ (u : Words). SpellsSlot object any_pointer p t v a.0 u) (sym text.0.words) pointer.0;
+        first = subst (λ (u : WordsMet). SpellsSlot object any_pointer p t v a.0 u) (sym text.0.words) pointer.0;
         second = text.0.spelled;
         spelled = refl;
       } in

@@ -10,7 +10,7 @@ use Rattle.rio_value.specs.declared.value.Value.{Int, Bits32, Bits64, Bool as Tr
 use Rattle.rio_format.specs.Fits.{fits_prim, fits_signed, fits_unsigned}
 use Rattle.rio_format.specs.Prims.{width_of, value_of}
 use Rattle.rio_format.specs.Spelling.{IsNumber}
-use Rattle.rio_format.specs.State.{Words}
+use Rattle.rio_format.specs.ReaderState.{WordsMet}
 use Rattle.rio_format.specs.Written.{bits_of, truth_byte}
 
 signed_8 : (z : ℤ) → fits_signed 8 z ≡ true → cast_signed w8 (cast_unsigned w8 z) ≡ z
@@ -79,10 +79,10 @@ int_in Boolean z e = absurd cc
 int_in F32 z e = absurd cc
 int_in F64 z e = absurd cc
 
-pub int_number : (of : Primitive) (z : ℤ) (t : Words) → fits_prim of z ≡ true → IsNumber of t (Int z) (big_bytes (width_of of) (cast_unsigned (bits_of of) z)) t
+pub int_number : (of : Primitive) (z : ℤ) (t : WordsMet) → fits_prim of z ≡ true → IsNumber of t (Int z) (big_bytes (width_of of) (cast_unsigned (bits_of of) z)) t
 int_number of z t e = let f = int_in of z e in record { n = cast_unsigned (bits_of of) z; fits = f.0; value = f.1; spelled = refl; words = refl }
 
-pub counter_number : (z : ℤ) (t : Words) → fits_signed 32 z ≡ true → IsNumber I32 t (Int z) (big_bytes 4 (cast_unsigned w32 z)) t
+pub counter_number : (z : ℤ) (t : WordsMet) → fits_signed 32 z ≡ true → IsNumber I32 t (Int z) (big_bytes 4 (cast_unsigned w32 z)) t
 counter_number z t e = int_number I32 z t e
 
 -- TObject's fBits
@@ -91,13 +91,13 @@ flags_bytes n lt = grind (arith, ints)
 
 -- ---- other single values
 
-pub bits32_number : (n : ℕ) (t : Words) → ltb n (2 ^ 32) ≡ true → IsNumber F32 t (Bits32 n) (big_bytes 4 n) t
+pub bits32_number : (n : ℕ) (t : WordsMet) → ltb n (2 ^ 32) ≡ true → IsNumber F32 t (Bits32 n) (big_bytes 4 n) t
 bits32_number n t e = let lt : n < 2 ^ 32 = ltb-true _ _ e in record { n = n; fits = omega arith; value = refl; spelled = refl; words = refl }
 
-pub bits64_number : (n : ℕ) (t : Words) → ltb n (2 ^ 64) ≡ true → IsNumber F64 t (Bits64 n) (big_bytes 8 n) t
+pub bits64_number : (n : ℕ) (t : WordsMet) → ltb n (2 ^ 64) ≡ true → IsNumber F64 t (Bits64 n) (big_bytes 8 n) t
 bits64_number n t e = let lt : n < 2 ^ 64 = ltb-true _ _ e in record { n = n; fits = omega arith; value = refl; spelled = refl; words = refl }
 
-pub truth_number : (b : Bool) (t : Words) → IsNumber Boolean t (Truth b) (truth_byte b ∷ []) t
+pub truth_number : (b : Bool) (t : WordsMet) → IsNumber Boolean t (Truth b) (truth_byte b ∷ []) t
 truth_number true t = record { n = 1; fits = omega arith; value = refl; spelled = refl; words = refl }
 truth_number false t = record { n = 0; fits = omega arith; value = refl; spelled = refl; words = refl }
 

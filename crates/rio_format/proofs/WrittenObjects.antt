@@ -18,7 +18,7 @@ use Rattle.rio_format.specs.Bodies.{Form, bare, numbers, headed, form_of, Body, 
 use Rattle.rio_format.specs.Fits.{Labels, Fitting, fields_fit, parts_fit}
 use Rattle.rio_format.specs.Slots.{Field, field, kinded, many, body_fields, form_fields}
 use Rattle.rio_format.specs.Spelling.{Spellings, SpellsBody, SpellsForm, SpellsVersion, IsBare, IsArray}
-use Rattle.rio_format.specs.State.{Words}
+use Rattle.rio_format.specs.ReaderState.{WordsMet}
 use Rattle.rio_format.specs.Written.{bare_bytes, array_bytes, body_bytes, form_bytes}
 use Rattle.rio_format.proofs.WrittenPlaces.{Stands, stands_more}
 use Rattle.rio_format.proofs.WrittenWays.{last_place}
@@ -90,11 +90,11 @@ first_version version fields parts before after false t e = absurd cc
 
 module _ (object : Spellings) (classes : List ClassDef) where
   -- a body that the class has, and what is written of it
-  record IsBodyWritten (class : List ℕ) (version : ℤ) (parts : List Part) (own : Option Body) (found : Option ClassDef) (after : Labels) (p : ℕ) (t : Words) (b : List ℕ × Words) : Type 0 where
+  record IsBodyWritten (class : List ℕ) (version : ℤ) (parts : List Part) (own : Option Body) (found : Option ClassDef) (after : Labels) (p : ℕ) (t : WordsMet) (b : List ℕ × WordsMet) : Type 0 where
     spelled : (count : ℕ) → SpellsBody object class count (headed_from own found) p t (Object class version parts) b.0 b.1
     stands : Stands after (p + length b.0) b.1
 
-  described_written : (class : List ℕ) (version : ℤ) (c : ClassDef) (parts : List Part) (own : Option Body) (found : Option ClassDef) → AreKnown object classes parts → (before after : Labels) (p : ℕ) (t : Words) → c.version ≡ version → (can_read_all [] c.members ≡ true → headed_from own found ≡ described c)
+  described_written : (class : List ℕ) (version : ℤ) (c : ClassDef) (parts : List Part) (own : Option Body) (found : Option ClassDef) → AreKnown object classes parts → (before after : Labels) (p : ℕ) (t : WordsMet) → c.version ≡ version → (can_read_all [] c.members ≡ true → headed_from own found ≡ described c)
       → parts_fit (body_fields (Some (described c))) (fittings classes parts) before ≡ Some after → Stands before p t → p + length (body_bytes (Some (described c)) (writings classes parts) p t).0 ≤ last_place
       → IsBodyWritten class version parts own found after p t (body_bytes (Some (described c)) (writings classes parts) p t)
   described_written class version c parts own found ih before after p t same is e s room =
@@ -104,7 +104,7 @@ module _ (object : Spellings) (classes : List ClassDef) where
       λ count. record { parts = parts; value = ap (λ (v : ℤ). Object class v parts) (sym same); inside = record { counters = f.last; each = f.each } } in
       record { spelled = λ count. subst (λ (body : Body). SpellsBody object class count body p t (Object class version parts) b.0 b.1) (sym (is f.readable)) (spelled count); stands = f.stands }
 
-  body_written : (class : List ℕ) (version : ℤ) (parts : List Part) (own : Option Body) (found : Option ClassDef) → AreKnown object classes parts → ((body : Body) → own ≡ Some body → IsOfVersion version body) → ((c : ClassDef) → found ≡ Some c → c.version ≡ version) → (before after : Labels) (p : ℕ) (t : Words)
+  body_written : (class : List ℕ) (version : ℤ) (parts : List Part) (own : Option Body) (found : Option ClassDef) → AreKnown object classes parts → ((body : Body) → own ≡ Some body → IsOfVersion version body) → ((c : ClassDef) → found ≡ Some c → c.version ≡ version) → (before after : Labels) (p : ℕ) (t : WordsMet)
       → parts_fit (body_fields (declared_from found own)) (fittings classes parts) before ≡ Some after → Stands before p t → p + length (body_bytes (declared_from found own) (writings classes parts) p t).0 ≤ last_place
       → IsBodyWritten class version parts own found after p t (body_bytes (declared_from found own) (writings classes parts) p t)
   body_written class version parts (Some (described c)) found ih built listed_in before after p t e s room = described_written class version c parts (Some (described c)) found ih before after p t (built (described c) refl) (λ _. refl) e s room
@@ -122,7 +122,7 @@ module _ (object : Spellings) (classes : List ClassDef) where
 
   -- what is written for an object spells it
   abbrev IsFormWritten : List ℕ → ℤ → Form → List Part → Type 0
-  IsFormWritten class version form parts = (before after : Labels) (p : ℕ) (t : Words) → parts_fit (form_fields classes class version form) (fittings classes parts) before ≡ Some after → Stands before p t → p + length (form_bytes classes class version form (writings classes parts) p t).0 ≤ last_place
+  IsFormWritten class version form parts = (before after : Labels) (p : ℕ) (t : WordsMet) → parts_fit (form_fields classes class version form) (fittings classes parts) before ≡ Some after → Stands before p t → p + length (form_bytes classes class version form (writings classes parts) p t).0 ≤ last_place
       → SpellsForm object classes class form p t (Object class version parts) (form_bytes classes class version form (writings classes parts) p t).0 (form_bytes classes class version form (writings classes parts) p t).1 × Stands after (p + length (form_bytes classes class version form (writings classes parts) p t).0) (form_bytes classes class version form (writings classes parts) p t).1
 
   headed_written : (class : List ℕ) (n : ℕ) (parts : List Part) → AreKnown object classes parts → 0 < n → n < 2 ^ 16 → cast_unsigned w16 (pos n) ≡ n → IsFormWritten class (pos n) headed parts

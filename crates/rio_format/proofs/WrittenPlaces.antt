@@ -9,7 +9,7 @@ use Rattle.std.specs.Str.{bytes_eq}
 use Rattle.indexmap.specs.IndexMap.{insert_entry}
 use Rattle.indexmap.specs.IndexSet.{insert_key}
 use Rattle.rio_format.specs.Fits.{Labels}
-use Rattle.rio_format.specs.State.{Words, no_words, with_label, with_name}
+use Rattle.rio_format.specs.ReaderState.{WordsMet, no_words, with_label, with_name}
 
 -- ---- places in order
 
@@ -147,7 +147,7 @@ named_before p class (d ∷ es) e below h f = by (bytes_eq d.1 class) refl f (na
 -- ---- words
 
 -- the words stand before the place, and the labels are those of the objects
-pub record Stands (labels : Labels) (p : ℕ) (t : Words) : Type 0 where
+pub record Stands (labels : Labels) (p : ℕ) (t : WordsMet) : Type 0 where
   pub count : length t.labels ≡ length labels
   pub below : AllBelow p t.labels
   pub rising : AreRising t.labels
@@ -157,11 +157,11 @@ pub record Stands (labels : Labels) (p : ℕ) (t : Words) : Type 0 where
 pub stands_none : (p : ℕ) → Stands [] p no_words
 stands_none p = record { count = refl; below = tt; rising = tt; names_below = tt; names_rising = tt }
 
-pub stands_more : (labels : Labels) (p q : ℕ) (t : Words) → p ≤ q → Stands labels p t → Stands labels q t
+pub stands_more : (labels : Labels) (p q : ℕ) (t : WordsMet) → p ≤ q → Stands labels p t → Stands labels q t
 stands_more labels p q t le s = record { count = s.count; below = below_more p q t.labels le s.below; rising = s.rising; names_below = names_more p q t.names le s.names_below; names_rising = s.names_rising }
 
 -- a name is met
-pub stands_name : (labels : Labels) (p q : ℕ) (name : List ℕ) (t : Words) → p < q → Stands labels p t → Stands labels q (with_name t p name)
+pub stands_name : (labels : Labels) (p q : ℕ) (name : List ℕ) (t : WordsMet) → p < q → Stands labels p t → Stands labels q (with_name t p name)
 stands_name labels p q name t lt s = record {
   count = s.count;
   below = below_more p q t.labels (omega (arith, lt)) s.below;
@@ -171,7 +171,7 @@ stands_name labels p q name t lt s = record {
 }
 
 -- an object gets the next label, from its place on, while names may be met behind
-pub stands_label : (labels : Labels) (own : List ℕ × ℤ) (p q : ℕ) (t t1 : Words) → p < q → Stands labels p t → t1.labels ≡ t.labels → Stands labels q t1 → Stands (labels ++ own ∷ []) q (with_label t1 p)
+pub stands_label : (labels : Labels) (own : List ℕ × ℤ) (p q : ℕ) (t t1 : WordsMet) → p < q → Stands labels p t → t1.labels ≡ t.labels → Stands labels q t1 → Stands (labels ++ own ∷ []) q (with_label t1 p)
 stands_label labels own p q t t1 lt before same s =
     let below : AllBelow p t1.labels = subst (AllBelow p) (sym same) before.below in
     let put = pushed p t1.labels below in

@@ -16,7 +16,7 @@ use Rattle.rio_value.specs.declared.value.Part.{Part}
 use Rattle.rio_format.specs.Fits.{Labels, Fitting, pass, may_point, back_fits, pointed_fits, fitting_step, fitting_of}
 use Rattle.rio_format.specs.Slots.{kinded, any_pointer, is_word}
 use Rattle.rio_format.specs.Spelling.{Spellings, IsPlain, SpellsClass, SpellsPointer, IsNew}
-use Rattle.rio_format.specs.State.{Words, with_label}
+use Rattle.rio_format.specs.ReaderState.{WordsMet, with_label}
 use Rattle.rio_format.specs.Written.{Writing, class_by, class_bytes, labelled, counted, both, writing_step, writing_of}
 use Rattle.rio_format.proofs.Tests.{both_true, named_as}
 use Rattle.rio_format.proofs.WrittenPlaces.{Stands, stands_more, stands_name, stands_label, named_before}
@@ -77,12 +77,12 @@ not_false : (b : Bool) → not b ≡ true → b ≡ false
 not_false true e = absurd cc
 not_false false e = refl
 
-record IsClassWritten (labels : Labels) (class : List ℕ) (p : ℕ) (t : Words) (b : List ℕ × Words) : Type 0 where
+record IsClassWritten (labels : Labels) (class : List ℕ) (p : ℕ) (t : WordsMet) (b : List ℕ × WordsMet) : Type 0 where
   spelled : SpellsClass p t class b.0 b.1
   stands : Stands labels (p + length b.0) b.1
   same : b.1.labels ≡ t.labels
 
-class_written_by : (labels : Labels) (class : List ℕ) (p : ℕ) (t : Words) (o : Option (ℕ × List ℕ)) → find (λ e. bytes_eq e.1 class) t.names ≡ o → is_word class ≡ true → Stands labels p t → p + length (class_by class o p t).0 ≤ last_place → IsClassWritten labels class p t (class_by class o p t)
+class_written_by : (labels : Labels) (class : List ℕ) (p : ℕ) (t : WordsMet) (o : Option (ℕ × List ℕ)) → find (λ e. bytes_eq e.1 class) t.names ≡ o → is_word class ≡ true → Stands labels p t → p + length (class_by class o p t).0 ≤ last_place → IsClassWritten labels class p t (class_by class o p t)
 class_written_by labels class p t None look word s room = record {
   spelled = inl (record { plain = plain_by class (not_false _ word); spelled = refl; words = refl });
   stands = stands_name labels p (p + length (big_bytes 4 (2 ^ 32 - 1) ++ (class ++ 0 ∷ []))) class t (omega arith) s;
@@ -97,7 +97,7 @@ class_written_by labels class p t (Some e) look word s room =
 -- a slot for a pointer to an object of a class that a class word can spell
 record IsPointerWay (object : Spellings) (own : List ℕ × ℤ) (way : Way) : Type 0 where
   word : is_word own.0 ≡ true
-  gives : (p : ℕ) (t : Words) (v : Value) (bytes : List ℕ) (t' : Words) → SpellsPointer object p t v bytes t' → SpellsWay object way p t v bytes t'
+  gives : (p : ℕ) (t : WordsMet) (v : Value) (bytes : List ℕ) (t' : WordsMet) → SpellsPointer object p t v bytes t' → SpellsWay object way p t v bytes t'
 
 pointer_way : (object : Spellings) (classes : List ClassDef) (own : List ℕ × ℤ) (way : Way) → may_point classes own (fit_slot way) ≡ true → IsPointerWay object own way
 pointer_way object classes own (in_slot (kinded (Pointer c))) e = record { word = (both_true _ _ e).0; gives = λ p t v bytes t' c. c }
@@ -115,11 +115,11 @@ points_to label before false o after true t e = absurd cc
 points_to label before m o after false t e = absurd cc
 
 -- what is written for a pointer to an object of a class
-abbrev pointed_of : List ℕ → Writing → ℕ → Words → List ℕ × Words
+abbrev pointed_of : List ℕ → Writing → ℕ → WordsMet → List ℕ × WordsMet
 pointed_of class w p t = counted (both (class_bytes class) (labelled p (w.bytes (kinded (Inline class)))) (p + 4) t)
 
 module _ (object : Spellings) (classes : List ClassDef) (label : ℕ) (v : Value) (ih : IsWrittenAnywhere object classes v) where
-  new_written : (own : List ℕ × ℤ) (way : Way) (before after : Labels) (p : ℕ) (t : Words) → PointsTo label before (may_point classes own (fit_slot way)) ((fitting_of classes v).fits (kinded (Inline own.0)) (before ++ own ∷ [])) after → Stands before p t
+  new_written : (own : List ℕ × ℤ) (way : Way) (before after : Labels) (p : ℕ) (t : WordsMet) → PointsTo label before (may_point classes own (fit_slot way)) ((fitting_of classes v).fits (kinded (Inline own.0)) (before ++ own ∷ [])) after → Stands before p t
       → p + length (pointed_of own.0 (writing_of classes v) p t).0 ≤ last_place → IsWrittenAt object way (Pointed label v) after p t (pointed_of own.0 (writing_of classes v) p t)
   new_written own way before after p t f s room =
       let w = pointer_way object classes own way f.may in
@@ -152,7 +152,7 @@ module _ (object : Spellings) (classes : List ClassDef) (label : ℕ) (v : Value
   abbrev pointed_writing : Writing
   pointed_writing = writing_step classes (layer.Pointed label (writing_of classes v))
 
-  pointed_by : (o : Option (List ℕ × ℤ)) (way : Way) (before after : Labels) (p : ℕ) (t : Words) → pointed_fits classes label (fitting_of classes v) o (fit_slot way) before ≡ Some after → Stands before p t
+  pointed_by : (o : Option (List ℕ × ℤ)) (way : Way) (before after : Labels) (p : ℕ) (t : WordsMet) → pointed_fits classes label (fitting_of classes v) o (fit_slot way) before ≡ Some after → Stands before p t
       → p + length (pointed_of (writing_of classes v).class (writing_of classes v) p t).0 ≤ last_place → IsWrittenAt object way (Pointed label v) after p t (pointed_of (writing_of classes v).class (writing_of classes v) p t)
   pointed_by None way before after p t e s room = absurd cc
   pointed_by (Some own) way before after p t e s room =

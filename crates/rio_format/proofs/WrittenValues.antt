@@ -19,7 +19,7 @@ use Rattle.rio_format.specs.Laws.{versions_step, has_versions, WrittenIsSpelled}
 use Rattle.rio_format.specs.Objects.{depth_limit}
 use Rattle.rio_format.specs.Slots.{kinded, based, fields_of}
 use Rattle.rio_format.specs.Spelling.{Spellings, SpellsObject, Spells}
-use Rattle.rio_format.specs.State.{Words, no_words}
+use Rattle.rio_format.specs.ReaderState.{WordsMet, no_words}
 use Rattle.rio_format.specs.Written.{Writing, form_bytes, writing_step, writing_of}
 use Rattle.rio_format.proofs.Tests.{both_true, named_as}
 use Rattle.rio_format.proofs.ValueCases.{Each, Steps, by_cases, fold_Int, fold_Bits32, fold_Bits64, fold_Bool, fold_Text, fold_List, fold_Object, fold_Pointed, fold_Null, fold_Back, fold_Opaque}
@@ -46,7 +46,7 @@ module _ (classes : List ClassDef) where
 
   -- one level above its parts
   module _ (levels : ℕ) (class : List ℕ) (n : ℕ) (parts : List Part) (ih : AreKnown (SpellsObject levels classes) classes parts) (some : 0 < n) (low : n < 2 ^ 16) (same : cast_unsigned w16 (pos n) ≡ n) where
-    own_written : (c : List ℕ) (before after : Labels) (p : ℕ) (t : Words) → class ≡ c → parts_fit (fields_of classes class (pos n)) (fittings classes parts) before ≡ Some after → Stands before p t → p + length (form_bytes classes class (pos n) (form_of class) (writings classes parts) p t).0 ≤ last_place
+    own_written : (c : List ℕ) (before after : Labels) (p : ℕ) (t : WordsMet) → class ≡ c → parts_fit (fields_of classes class (pos n)) (fittings classes parts) before ≡ Some after → Stands before p t → p + length (form_bytes classes class (pos n) (form_of class) (writings classes parts) p t).0 ≤ last_place
         → IsWrittenAt (SpellsObject (suc levels) classes) (in_slot (kinded (Inline c))) (Object class (pos n) parts) after p t (form_bytes classes class (pos n) (form_of class) (writings classes parts) p t)
     unfolding SpellsObject
     own_written c before after p t is e s room =

@@ -15,7 +15,7 @@ use Rattle.rio_format.specs.Fits.{Labels, Fitting, pass, fitting_step, back_fits
 use Rattle.rio_format.specs.Objects.{has_pid}
 use Rattle.rio_format.specs.Slots.{Slot, kinded, based, flags, any_pointer, link, many}
 use Rattle.rio_format.specs.Spelling.{Spelling, Spellings, SpellsKind, SpellsCounted, SpellsTimes, SpellsPointer, IsLink, IsBack}
-use Rattle.rio_format.specs.State.{Words}
+use Rattle.rio_format.specs.ReaderState.{WordsMet}
 use Rattle.rio_format.specs.Written.{Writing, writing_step}
 use Rattle.rio_format.proofs.Tests.{both_true}
 use Rattle.rio_format.proofs.WrittenPlaces.{Stands, stands_more, below_at, position_of}
@@ -39,7 +39,7 @@ write_slot (in_none slot) = slot
 
 -- ---- what is spelled
 
-pub record IsFlags (t : Words) (v : Value) (bytes : List ℕ) (t' : Words) : Type 0 where
+pub record IsFlags (t : WordsMet) (v : Value) (bytes : List ℕ) (t' : WordsMet) : Type 0 where
   pub n : ℕ
   pub value : v ≡ Int (pos n)
   pub low : n < 2 ^ 32
@@ -47,7 +47,7 @@ pub record IsFlags (t : Words) (v : Value) (bytes : List ℕ) (t' : Words) : Typ
   pub spelled : bytes ≡ big_bytes 4 n
   pub words : t' ≡ t
 
-pub record IsMany (one : Spelling Value) (p : ℕ) (t : Words) (v : Value) (bytes : List ℕ) (t' : Words) : Type 0 where
+pub record IsMany (one : Spelling Value) (p : ℕ) (t : WordsMet) (v : Value) (bytes : List ℕ) (t' : WordsMet) : Type 0 where
   pub items : List Value
   pub value : v ≡ Items items
   pub each : SpellsTimes (length items) one p t items bytes t'
@@ -70,11 +70,11 @@ abbrev pub last_place : ℕ
 last_place = 2 ^ 30 - 2
 
 -- what is written spells the value, and these labels belong to the words behind it
-abbrev pub IsWrittenAt : Spellings → Way → Value → Labels → ℕ → Words → List ℕ × Words → Type 0
+abbrev pub IsWrittenAt : Spellings → Way → Value → Labels → ℕ → WordsMet → List ℕ × WordsMet → Type 0
 IsWrittenAt object way v after p t b = SpellsWay object way p t v b.0 b.1 × Stands after (p + length b.0) b.1
 
 abbrev pub IsWritten : Spellings → Way → Value → Fitting → Writing → Type 0
-IsWritten object way v f w = (before after : Labels) (p : ℕ) (t : Words) → f.fits (fit_slot way) before ≡ Some after → Stands before p t → p + length (w.bytes (write_slot way) p t).0 ≤ last_place → IsWrittenAt object way v after p t (w.bytes (write_slot way) p t)
+IsWritten object way v f w = (before after : Labels) (p : ℕ) (t : WordsMet) → f.fits (fit_slot way) before ≡ Some after → Stands before p t → p + length (w.bytes (write_slot way) p t).0 ≤ last_place → IsWrittenAt object way v after p t (w.bytes (write_slot way) p t)
 
 -- ---- values without others in them
 
@@ -82,7 +82,7 @@ pub passed : (b : Bool) (before after : Labels) → pass b before ≡ Some after
 passed true before after e = (refl, cc)
 passed false before after e = absurd cc
 
-pub leaf_stands : (before after : Labels) (p n : ℕ) (t : Words) → before ≡ after → Stands before p t → Stands after (p + n) t
+pub leaf_stands : (before after : Labels) (p n : ℕ) (t : WordsMet) → before ≡ after → Stands before p t → Stands after (p + n) t
 leaf_stands before after p n t same s = subst (λ (l : Labels). Stands l (p + n) t) same (stands_more before p (p + n) t (omega arith) s)
 
 not_true : (b : Bool) → b ≡ true → not b ≡ false
@@ -96,7 +96,7 @@ text_spelled : (text : List ℕ) → length (text_bytes text) ≤ last_place →
 text_spelled text le = text_spelled_by text (ltb (length text) 255) refl le
 
 -- a reference to an object with a label
-back_found : (labels : Labels) (label p : ℕ) (t : Words) → label < length labels → Stands labels p t → p ≤ last_place → IsBack t (Back label) (big_bytes 4 (slice_index t.labels label + 2)) t
+back_found : (labels : Labels) (label p : ℕ) (t : WordsMet) → label < length labels → Stands labels p t → p ≤ last_place → IsBack t (Back label) (big_bytes 4 (slice_index t.labels label + 2)) t
 back_found labels label p t lt s le =
     let within : label < length t.labels = omega (arith, lt, s.count) in
     let low : slice_index t.labels label < p = below_at p t.labels label within s.below in
@@ -146,7 +146,7 @@ module _ (object : Spellings) (classes : List ClassDef) where
   null_written (in_slot any_pointer) before after p t e s room = let f = passed true before after e in (inl (record { value = refl; spelled = refl; words = refl }), leaf_stands before after p _ t f.1 s)
   null_written other before after p t e s room = absurd cc
 
-  back_by : (label : ℕ) (o : Option (List ℕ × ℤ)) (way : Way) (before after : Labels) (p : ℕ) (t : Words) → slice_get before label ≡ o → pass (back_fits classes o (fit_slot way)) before ≡ Some after → Stands before p t → p ≤ last_place
+  back_by : (label : ℕ) (o : Option (List ℕ × ℤ)) (way : Way) (before after : Labels) (p : ℕ) (t : WordsMet) → slice_get before label ≡ o → pass (back_fits classes o (fit_slot way)) before ≡ Some after → Stands before p t → p ≤ last_place
       → IsWrittenAt object way (Back label) after p t (big_bytes 4 (slice_index t.labels label + 2), t)
   back_by label None way before after p t look e s le = absurd cc
   back_by label (Some own) (in_slot (kinded (Pointer class))) before after p t look e s le =

@@ -9,7 +9,7 @@ use Rattle.rio_value.specs.declared.value.Value.TheFolds.{fold-Value}
 use Rattle.rio_format.specs.Fits.{Fits}
 use Rattle.rio_format.specs.Objects.{first_at, depth_limit}
 use Rattle.rio_format.specs.Spelling.{Spells}
-use Rattle.rio_format.specs.State.{State}
+use Rattle.rio_format.specs.ReaderState.{ReaderState}
 use Rattle.rio_format.specs.Written.{written_form}
 use Rattle.rio_format.specs.declared.fault.ObjFault.{ObjFault}
 
@@ -19,13 +19,13 @@ AreBytes bytes = (i : ℕ) → slice_index bytes i < 256
 
 -- what is read is spelled by the bytes before the place where reading stands
 abbrev pub ReadIsSpelled : Type 0
-ReadIsSpelled = (classes : List ClassDef) (class : List ℕ) (start : ℕ) (bytes : List ℕ) (v : Value) (s : State) → AreBytes bytes → first_at classes class start bytes ≡ Ok (v, s)
+ReadIsSpelled = (classes : List ClassDef) (class : List ℕ) (start : ℕ) (bytes : List ℕ) (v : Value) (s : ReaderState) → AreBytes bytes → first_at classes class start bytes ≡ Ok (v, s)
     → (front : List ℕ) × (bytes ≡ front ++ s.at.rest) × Spells classes start class v front
 
 -- what is spelled is read, whatever follows, and reading stands behind it
 abbrev pub SpelledIsRead : Type 0
 SpelledIsRead = (classes : List ClassDef) (class : List ℕ) (start : ℕ) (v : Value) (front more : List ℕ) → Spells classes start class v front
-    → (s : State) × (first_at classes class start (front ++ more) ≡ Ok (v, s)) × (s.at.rest ≡ more)
+    → (s : ReaderState) × (first_at classes class start (front ++ more) ≡ Ok (v, s)) × (s.at.rest ≡ more) × (s.at.place ≡ start + length front)
 
 -- one prefix of the bytes spells one value
 abbrev pub IsSpelledOnce : Type 0

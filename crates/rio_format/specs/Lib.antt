@@ -3,7 +3,7 @@ pub mod Fits
 pub mod Laws
 pub mod Objects
 pub mod Prims
+pub mod ReaderState
 pub mod Slots
 pub mod Spelling
-pub mod State
 pub mod Written

@@ -1,5 +1,5 @@
 -- What may stand at a place within a value.
-use Rattle.std.specs.Prelude.{ℕ, zero, suc, ◌+◌, ℤ, pos, List, [], ◌∷◌, ◌++◌, length, map, codes, Bool, false, ◌||◌, not, ◌==◌, Option, Some, None, if◌then◌else◌, is_some}
+use Rattle.std.specs.Prelude.{ℕ, zero, suc, ◌+◌, ℤ, pos, List, [], ◌∷◌, ◌++◌, length, map, codes, Bool, true, false, ◌&&◌, ◌||◌, not, ◌==◌, Option, Some, None, if◌then◌else◌, is_some}
 use Rattle.std.specs.Str.{bytes_eq}
 use Rattle.std.specs.List.{list_any}
 use Rattle.std.specs.Option.{option_map}
@@ -10,7 +10,7 @@ use Rattle.rio_types.specs.declared.class.ClassDef.{ClassDef}
 use Rattle.rio_types.specs.declared.class.Member.{Member}
 use Rattle.rio_types.specs.declared.kind.Kind.{Kind}
 use Rattle.rio_types.specs.declared.kind.Kind.TheVariants.{Plain, Text}
-use Rattle.rio_types.specs.declared.kind.Primitive.{Primitive as Primitive}
+use Rattle.rio_types.specs.declared.kind.Primitive.{Primitive}
 use Rattle.rio_types.specs.declared.kind.Primitive.TheVariants.{I32, U32}
 use Rattle.rio_format.specs.Bodies.{Form, bare, numbers, headed, form_of, Body, described, listed, arrayed, opaque, built_in, t_object_base}
 
@@ -77,11 +77,20 @@ body_bases (Some listed) = t_object_base ∷ []
 body_bases (Some arrayed) = t_object_base ∷ []
 body_bases (Some opaque) = []
 
+-- the bases of objects of this form: those without a header have none, whatever a class list says of their class
+abbrev pub form_bases : List Base → Form → List Base
+form_bases bases bare = []
+form_bases bases (numbers of) = []
+form_bases bases headed = bases
+
+abbrev pub bases_of : List ClassDef → List ℕ → ℤ → List Base
+bases_of classes class version = form_bases (body_bases (declared_body classes class version)) (form_of class)
+
 -- whether a class has another among its bases, at most so many levels deep
 unfoldable pub has_base : ℕ → List ClassDef → List ℕ → List ℕ → ℤ → Bool
 has_base zero classes target class version = false
 has_base (suc levels) classes target class version =
-    list_any (λ b. bytes_eq b.name target || has_base levels classes target b.name b.version) (body_bases (declared_body classes class version))
+    list_any (λ b. bytes_eq b.name target || has_base levels classes target b.name b.version) (bases_of classes class version)
 
 -- Whether it is the other class or has that among its bases at any depth: a way through the bases that meets no description
 -- twice is no longer than the list and one built-in class.
@@ -92,7 +101,13 @@ derives_from classes target class version = bytes_eq class target || has_base (l
 abbrev pub is_word : List ℕ → Bool
 is_word class = not (list_any (λ b. b == 0) class)
 
+-- objects of this form begin with a header
+abbrev pub is_headed : Form → Bool
+is_headed bare = false
+is_headed (numbers of) = false
+is_headed headed = true
+
 -- whether a put can have an object of this class as its value
 abbrev pub can_be_put : List ClassDef → List ℕ → Bool
 can_be_put classes class =
-    is_some (newest_in classes class) || bytes_eq class (codes "TNamed") || bytes_eq class (codes "TObjString") || bytes_eq class (codes "TList") || bytes_eq class (codes "TObjArray")
+    (is_headed (form_of class) && is_some (newest_in classes class)) || bytes_eq class (codes "TNamed") || bytes_eq class (codes "TObjString") || bytes_eq class (codes "TList") || bytes_eq class (codes "TObjArray")

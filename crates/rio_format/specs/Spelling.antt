@@ -7,18 +7,18 @@ use Rattle.rio_types.specs.declared.class.ClassDef.{ClassDef}
 use Rattle.rio_types.specs.declared.class.Member.{Member}
 use Rattle.rio_types.specs.declared.kind.Kind.{Kind}
 use Rattle.rio_types.specs.declared.kind.Kind.TheVariants.{Plain, Counter, Fixed, Counted, Text as Texted, Inline, Pointer, Other}
-use Rattle.rio_types.specs.declared.kind.Primitive.{Primitive as Primitive}
+use Rattle.rio_types.specs.declared.kind.Primitive.{Primitive}
 use Rattle.rio_types.specs.declared.kind.Primitive.TheVariants.{I32}
 use Rattle.rio_value.specs.declared.value.Value.{Value, Text, List as Items, Object, Pointed, Null, Back, Opaque}
 use Rattle.rio_value.specs.declared.value.Part.{Part}
 use Rattle.rio_format.specs.Bodies.{part, Form, bare, numbers, headed, form_of, Body, described, listed, arrayed, opaque, body_of, slots_of, Counters, counters_with, count_by}
 use Rattle.rio_format.specs.Objects.{is_count, has_pid, bare_object, pid_part, depth_limit}
 use Rattle.rio_format.specs.Prims.{width_of, value_of}
-use Rattle.rio_format.specs.State.{Words, no_words, with_label, with_name}
+use Rattle.rio_format.specs.ReaderState.{WordsMet, no_words, with_label, with_name}
 
 -- Bytes whose first has the place, behind these words, spell this value, and these words stand before what follows.
 abbrev pub Spelling : Type 0 → Type 1
-Spelling Y = ℕ → Words → Y → List ℕ → Words → Type 0
+Spelling Y = ℕ → WordsMet → Y → List ℕ → WordsMet → Type 0
 
 -- how an object of a class is spelled
 abbrev pub Spellings : Type 1
@@ -50,7 +50,7 @@ SpellsTimes n one p t ys bytes t' = SpellsEach (λ (x : Unit {0}). one) (replica
 -- ---- numbers and texts
 
 -- the value of a number in as many bytes as the kind has: any but 0 for true
-pub record IsNumber (of : Primitive) (t : Words) (v : Value) (bytes : List ℕ) (t' : Words) : Type 0 where
+pub record IsNumber (of : Primitive) (t : WordsMet) (v : Value) (bytes : List ℕ) (t' : WordsMet) : Type 0 where
   pub n : ℕ
   pub fits : n < 256 ^ width_of of
   pub value : v ≡ value_of of n
@@ -60,7 +60,7 @@ pub record IsNumber (of : Primitive) (t : Words) (v : Value) (bytes : List ℕ) 
 abbrev pub SpellsNumber : Primitive → Spelling Value
 SpellsNumber of p t v bytes t' = IsNumber of t v bytes t'
 
-pub record IsNumbers (of : Primitive) (count p : ℕ) (t : Words) (v : Value) (bytes : List ℕ) (t' : Words) : Type 0 where
+pub record IsNumbers (of : Primitive) (count p : ℕ) (t : WordsMet) (v : Value) (bytes : List ℕ) (t' : WordsMet) : Type 0 where
   pub items : List Value
   pub value : v ≡ Items items
   pub each : SpellsTimes count (SpellsNumber of) p t items bytes t'
@@ -68,7 +68,7 @@ pub record IsNumbers (of : Primitive) (count p : ℕ) (t : Words) (v : Value) (b
 abbrev pub SpellsNumbers : Primitive → ℕ → Spelling Value
 SpellsNumbers of count p t v bytes t' = IsNumbers of count p t v bytes t'
 
-pub record IsText (t : Words) (v : Value) (bytes : List ℕ) (t' : Words) : Type 0 where
+pub record IsText (t : WordsMet) (v : Value) (bytes : List ℕ) (t' : WordsMet) : Type 0 where
   pub text : List ℕ
   pub value : v ≡ Text text
   pub spelled : SpellsText text bytes
@@ -77,13 +77,13 @@ pub record IsText (t : Words) (v : Value) (bytes : List ℕ) (t' : Words) : Type
 -- ---- counted arrays
 
 -- the byte 0: nothing, whatever the counter says
-pub record IsNone (t : Words) (v : Value) (bytes : List ℕ) (t' : Words) : Type 0 where
+pub record IsNone (t : WordsMet) (v : Value) (bytes : List ℕ) (t' : WordsMet) : Type 0 where
   pub value : v ≡ Items []
   pub spelled : bytes ≡ 0 ∷ []
   pub words : t' ≡ t
 
 -- the byte 1, and as many values as the counter says
-pub record IsFilled (of : Primitive) (counter : ℤ) (p : ℕ) (t : Words) (v : Value) (bytes : List ℕ) (t' : Words) : Type 0 where
+pub record IsFilled (of : Primitive) (counter : ℤ) (p : ℕ) (t : WordsMet) (v : Value) (bytes : List ℕ) (t' : WordsMet) : Type 0 where
   pub count : ℕ
   pub inner : List ℕ
   pub counted : counter ≡ pos count
@@ -101,13 +101,13 @@ IsPlain [] = Unit {0}
 IsPlain (b ∷ bs) = ((b == 0) ≡ false) × IsPlain bs
 
 -- a class word that spells the name out
-pub record IsNewClass (p : ℕ) (t : Words) (name bytes : List ℕ) (t' : Words) : Type 0 where
+pub record IsNewClass (p : ℕ) (t : WordsMet) (name bytes : List ℕ) (t' : WordsMet) : Type 0 where
   pub plain : IsPlain name
   pub spelled : bytes ≡ big_bytes 4 (2 ^ 32 - 1) ++ (name ++ 0 ∷ [])
   pub words : t' ≡ with_name t p name
 
 -- a class word that gives the place of an earlier one, and 2 more, with the highest bit
-pub record IsKnownClass (t : Words) (name bytes : List ℕ) (t' : Words) : Type 0 where
+pub record IsKnownClass (t : WordsMet) (name bytes : List ℕ) (t' : WordsMet) : Type 0 where
   pub place : ℕ
   pub known : lookup (nat_eq place) t.names ≡ Some name
   pub low : place + (2 ^ 31 + 2) < 2 ^ 32 - 1
@@ -117,13 +117,13 @@ pub record IsKnownClass (t : Words) (name bytes : List ℕ) (t' : Words) : Type 
 abbrev pub SpellsClass : Spelling (List ℕ)
 SpellsClass p t name bytes t' = IsNewClass p t name bytes t' ⊎ IsKnownClass t name bytes t'
 
-pub record IsNull (t : Words) (v : Value) (bytes : List ℕ) (t' : Words) : Type 0 where
+pub record IsNull (t : WordsMet) (v : Value) (bytes : List ℕ) (t' : WordsMet) : Type 0 where
   pub value : v ≡ Null
   pub spelled : bytes ≡ big_bytes 4 0
   pub words : t' ≡ t
 
 -- the place of an earlier object's count word, and 2 more
-pub record IsBack (t : Words) (v : Value) (bytes : List ℕ) (t' : Words) : Type 0 where
+pub record IsBack (t : WordsMet) (v : Value) (bytes : List ℕ) (t' : WordsMet) : Type 0 where
   pub label : ℕ
   pub place : ℕ
   pub value : v ≡ Back label
@@ -134,12 +134,12 @@ pub record IsBack (t : Words) (v : Value) (bytes : List ℕ) (t' : Words) : Type
   pub words : t' ≡ t
 
 -- a byte count, a class word and an object of this class, which may be referred to from its class word on
-pub record IsNew (object : Spellings) (p : ℕ) (t : Words) (v : Value) (bytes : List ℕ) (t' : Words) : Type 0 where
+pub record IsNew (object : Spellings) (p : ℕ) (t : WordsMet) (v : Value) (bytes : List ℕ) (t' : WordsMet) : Type 0 where
   pub inner : Value
   pub name : List ℕ
   pub class_bytes : List ℕ
   pub object_bytes : List ℕ
-  pub t1 : Words
+  pub t1 : WordsMet
   pub value : v ≡ Pointed (length t1.labels) inner
   pub class : SpellsClass (p + 4) t name class_bytes t1
   pub inside : object name (p + 4 + length class_bytes) (with_label t1 p) inner object_bytes t'
@@ -163,21 +163,21 @@ SpellsKind object counters (Pointer class) p t v bytes t' = SpellsPointer object
 SpellsKind object counters (Other code) p t v bytes t' = ⊥
 
 -- a part of an object: the member's name and a value of its kind
-pub record IsPart (object : Spellings) (m : Member) (p : ℕ) (s : Words × Counters) (y : Part) (bytes : List ℕ) (s' : Words × Counters) : Type 0 where
+pub record IsPart (object : Spellings) (m : Member) (p : ℕ) (s : WordsMet × Counters) (y : Part) (bytes : List ℕ) (s' : WordsMet × Counters) : Type 0 where
   pub v : Value
   pub part : y ≡ part m.name v
   pub value : SpellsKind object s.1 m.kind p s.0 v bytes s'.0
   pub counters : s'.1 ≡ counters_with m v s.1
 
 -- the bases and then the members of an object, in order
-pub record IsParts (object : Spellings) (c : ClassDef) (p : ℕ) (t : Words) (parts : List Part) (bytes : List ℕ) (t' : Words) : Type 0 where
+pub record IsParts (object : Spellings) (c : ClassDef) (p : ℕ) (t : WordsMet) (parts : List Part) (bytes : List ℕ) (t' : WordsMet) : Type 0 where
   pub counters : Counters
   pub each : SpellsEach (IsPart object) (slots_of c) p (t, []) parts bytes (t', counters)
 
 -- ---- built-in classes
 
 -- an item of a TList: a pointer and an option text
-pub record IsLink (object : Spellings) (p : ℕ) (t : Words) (v : Value) (bytes : List ℕ) (t' : Words) : Type 0 where
+pub record IsLink (object : Spellings) (p : ℕ) (t : WordsMet) (v : Value) (bytes : List ℕ) (t' : WordsMet) : Type 0 where
   pub pointer : Value
   pub option : List ℕ
   pub pointer_bytes : List ℕ
@@ -188,7 +188,7 @@ pub record IsLink (object : Spellings) (p : ℕ) (t : Words) (v : Value) (bytes 
   pub spelled : bytes ≡ pointer_bytes ++ option_bytes
 
 -- the parts of a TList
-pub record IsListParts (object : Spellings) (p : ℕ) (t : Words) (parts : List Part) (bytes : List ℕ) (t' : Words) : Type 0 where
+pub record IsListParts (object : Spellings) (p : ℕ) (t : WordsMet) (parts : List Part) (bytes : List ℕ) (t' : WordsMet) : Type 0 where
   pub base : Value
   pub name : List ℕ
   pub count : ℕ
@@ -196,7 +196,7 @@ pub record IsListParts (object : Spellings) (p : ℕ) (t : Words) (parts : List 
   pub base_bytes : List ℕ
   pub name_bytes : List ℕ
   pub item_bytes : List ℕ
-  pub t1 : Words
+  pub t1 : WordsMet
   pub value : parts ≡ part [] base ∷ part (codes "fName") (Text name) ∷ part (codes "items") (Items items) ∷ []
   pub based : object (codes "TObject") p t base base_bytes t1
   pub named : SpellsText name name_bytes
@@ -205,7 +205,7 @@ pub record IsListParts (object : Spellings) (p : ℕ) (t : Words) (parts : List 
   pub spelled : bytes ≡ base_bytes ++ (name_bytes ++ (big_bytes 4 count ++ item_bytes))
 
 -- the parts of a TObjArray
-pub record IsArrayParts (object : Spellings) (p : ℕ) (t : Words) (parts : List Part) (bytes : List ℕ) (t' : Words) : Type 0 where
+pub record IsArrayParts (object : Spellings) (p : ℕ) (t : WordsMet) (parts : List Part) (bytes : List ℕ) (t' : WordsMet) : Type 0 where
   pub base : Value
   pub name : List ℕ
   pub count : ℕ
@@ -215,7 +215,7 @@ pub record IsArrayParts (object : Spellings) (p : ℕ) (t : Words) (parts : List
   pub name_bytes : List ℕ
   pub lower_bytes : List ℕ
   pub item_bytes : List ℕ
-  pub t1 : Words
+  pub t1 : WordsMet
   pub value : parts ≡ part [] base ∷ part (codes "fName") (Text name) ∷ part (codes "fLowerBound") lower ∷ part (codes "items") (Items items) ∷ []
   pub based : object (codes "TObject") p t base base_bytes t1
   pub named : SpellsText name name_bytes
@@ -230,7 +230,7 @@ SpellsPid true parts bytes = (pid : ℕ) × (pid < 2 ^ 16) × (parts ≡ pid_par
 SpellsPid false parts bytes = (parts ≡ []) × (bytes ≡ [])
 
 -- a TObject, which has no byte count
-pub record IsBare (t : Words) (v : Value) (bytes : List ℕ) (t' : Words) : Type 0 where
+pub record IsBare (t : WordsMet) (v : Value) (bytes : List ℕ) (t' : WordsMet) : Type 0 where
   pub id : ℕ
   pub bits : ℕ
   pub pid : List Part
@@ -243,7 +243,7 @@ pub record IsBare (t : Words) (v : Value) (bytes : List ℕ) (t' : Words) : Type
   pub words : t' ≡ t
 
 -- a TArray of a class, which is a count and its numbers
-pub record IsArray (class : List ℕ) (of : Primitive) (p : ℕ) (t : Words) (v : Value) (bytes : List ℕ) (t' : Words) : Type 0 where
+pub record IsArray (class : List ℕ) (of : Primitive) (p : ℕ) (t : WordsMet) (v : Value) (bytes : List ℕ) (t' : WordsMet) : Type 0 where
   pub count : ℕ
   pub items : Value
   pub item_bytes : List ℕ
@@ -260,7 +260,7 @@ SpellsVersion version None bytes = (0 < version) × (version < 2 ^ 16) × (bytes
 SpellsVersion version (Some sum) bytes = (version ≡ 0) × (sum < 2 ^ 32) × (bytes ≡ big_bytes 2 0 ++ big_bytes 4 sum)
 
 -- an object of a class in this version, by its parts
-pub record IsWhole (class : List ℕ) (version : ℤ) (parts_are : Spelling (List Part)) (p : ℕ) (t : Words) (v : Value) (bytes : List ℕ) (t' : Words) : Type 0 where
+pub record IsWhole (class : List ℕ) (version : ℤ) (parts_are : Spelling (List Part)) (p : ℕ) (t : WordsMet) (v : Value) (bytes : List ℕ) (t' : WordsMet) : Type 0 where
   pub parts : List Part
   pub value : v ≡ Object class version parts
   pub inside : parts_are p t parts bytes t'
@@ -273,7 +273,7 @@ SpellsBody object class count arrayed p t v bytes t' = IsWhole class (pos 3) (Is
 SpellsBody object class count opaque p t v bytes t' = (v ≡ Opaque class count) × (t' ≡ t)
 
 -- an object with a header: the count of all behind it, a version, and the body that this version has
-pub record IsHeaded (object : Spellings) (classes : List ClassDef) (class : List ℕ) (p : ℕ) (t : Words) (v : Value) (bytes : List ℕ) (t' : Words) : Type 0 where
+pub record IsHeaded (object : Spellings) (classes : List ClassDef) (class : List ℕ) (p : ℕ) (t : WordsMet) (v : Value) (bytes : List ℕ) (t' : WordsMet) : Type 0 where
   pub version : ℕ
   pub sum : Option ℕ
   pub version_bytes : List ℕ
@@ -295,4 +295,4 @@ SpellsObject (suc levels) classes class p t v bytes t' = SpellsForm (SpellsObjec
 
 -- bytes that begin the data, the first of which has the place, spell the value as an object of the class
 unfoldable pub Spells : List ClassDef → ℕ → List ℕ → Value → List ℕ → Type 0
-Spells classes start class v bytes = (t : Words) × SpellsObject depth_limit classes class start no_words v bytes t
+Spells classes start class v bytes = (t : WordsMet) × SpellsObject depth_limit classes class start no_words v bytes t

@@ -6,7 +6,7 @@ use Rattle.byteorder.specs.Endian.{big_bytes}
 use Rattle.rio_num.specs.Text.{text_bytes}
 use Rattle.rio_types.specs.declared.class.ClassDef.{ClassDef}
 use Rattle.rio_types.specs.declared.kind.Kind.TheVariants.{Plain, Counter, Fixed, Counted, Text as Texted, Inline}
-use Rattle.rio_types.specs.declared.kind.Primitive.{Primitive as Primitive}
+use Rattle.rio_types.specs.declared.kind.Primitive.{Primitive}
 use Rattle.rio_types.specs.declared.kind.Primitive.TheVariants.{I8, I16, I32, I64, U8, U16, U32, U64, Bool as Boolean, F32, F64}
 use Rattle.rio_value.specs.declared.value.Value.{Value}
 use Rattle.rio_value.specs.declared.value.Value.TheOpen.{Value-F, Int, Bits32, Bits64, Bool as Truth, Text, List as Items, Object, Pointed, Null, Back, Opaque}
@@ -14,11 +14,11 @@ use Rattle.rio_value.specs.declared.value.Value.TheFolds.{fold-Value}
 use Rattle.rio_format.specs.Bodies.{Form, bare, numbers, headed, form_of, Body, described, listed, arrayed, opaque}
 use Rattle.rio_format.specs.Prims.{width_of}
 use Rattle.rio_format.specs.Slots.{Slot, kinded, based, flags, any_pointer, link, many, Field, declared_body, body_fields}
-use Rattle.rio_format.specs.State.{Words, no_words, with_label, with_name}
+use Rattle.rio_format.specs.ReaderState.{WordsMet, no_words, with_label, with_name}
 
 -- what is written at a place behind these words, and the words behind it
 abbrev pub Writer : Type 0
-Writer = ℕ → Words → List ℕ × Words
+Writer = ℕ → WordsMet → List ℕ × WordsMet
 
 -- what is to be known of a value: what is written for it in a slot
 pub record Writing : Type 0 where
@@ -32,7 +32,7 @@ abbrev pub just : List ℕ → Writer
 just bytes p t = (bytes, t)
 
 -- one behind the other
-abbrev pub joined : List ℕ × Words → List ℕ × Words → List ℕ × Words
+abbrev pub joined : List ℕ × WordsMet → List ℕ × WordsMet → List ℕ × WordsMet
 joined a b = (a.0 ++ b.0, b.1)
 
 abbrev pub both : Writer → Writer → Writer
@@ -93,7 +93,7 @@ abbrev pub labelled : ℕ → Writer → Writer
 labelled place f p t = f p (with_label t place)
 
 -- a byte count before the bytes that it counts
-abbrev pub counted : List ℕ × Words → List ℕ × Words
+abbrev pub counted : List ℕ × WordsMet → List ℕ × WordsMet
 counted a = (big_bytes 4 (length a.0 + 2 ^ 30) ++ a.0, a.1)
 
 abbrev pub pointed_bytes : Writing → Writer

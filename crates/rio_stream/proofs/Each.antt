@@ -3,7 +3,7 @@ use Rattle.std.proofs.Common.{◌≡◌, ℕ, suc, ◌+◌, ◌-◌, ◌<◌, �
 use Rattle.std.proofs.lemmas.List.{append-nil, drop_more, drop_all}
 use Rattle.rio_num.specs.Reading.{◌>>=◌}
 use Rattle.rio_format.specs.Objects.{Step, each_at, times_at}
-use Rattle.rio_format.specs.State.{State}
+use Rattle.rio_format.specs.ReaderState.{ReaderState}
 use Rattle.rio_format.specs.declared.fault.ObjFault.{ObjFault}
 use Rattle.rio_stream.specs.Lists.{with_front}
 
@@ -40,8 +40,8 @@ module _ {X Y S E : Type 0} (f : X → S → Result (Y × S) E) (xs : List X) (i
       sym so_far ∙ one
 
 -- a loop that does the same thing so many times
-module _ {Y : Type 0} (f : State → Step Y) (n i : ℕ) (front : List Y) (s : State) (total : Step (List Y)) where
-  pub times_goes_on : (y : Y) (s1 : State) → i < n → f s ≡ Ok (y, s1) → with_front front (times_at (n - i) f s) ≡ total → with_front (front ++ y ∷ []) (times_at (n - (i + 1)) f s1) ≡ total
+module _ {Y : Type 0} (f : ReaderState → Step Y) (n i : ℕ) (front : List Y) (s : ReaderState) (total : Step (List Y)) where
+  pub times_goes_on : (y : Y) (s1 : ReaderState) → i < n → f s ≡ Ok (y, s1) → with_front front (times_at (n - i) f s) ≡ total → with_front (front ++ y ∷ []) (times_at (n - (i + 1)) f s1) ≡ total
   unfolding each_at
   times_goes_on y s1 lt h so_far =
       let split : n - i ≡ suc (n - (i + 1)) = omega arith in

@@ -8,7 +8,7 @@ use Rattle.rio_types.specs.declared.kind.Kind.TheVariants.{Counter}
 use Rattle.rio_value.specs.declared.value.Value.TheVariants.{outs-Int}
 use Rattle.rio_format.specs.Bodies.{base_slot, slots_of, t_named, t_obj_string}
 use Rattle.rio_format.specs.Objects.{Reader, Within, each_at, member_at, kind_at, number_value_at, text_value_at, parts_at}
-use Rattle.rio_format.specs.State.{State}
+use Rattle.rio_format.specs.ReaderState.{ReaderState}
 use Rattle.rio_stream.proofs.Each.{with_front-none}
 use Rattle.rio_stream.specs.Lists.{with_front}
 use Rattle.rio_stream.specs.Members.{without_counters, counter_at, named_parts_at, obj_string_parts_at}
@@ -28,21 +28,21 @@ each_at-map f g [] s = refl
 each_at-map {S = S} f g (v ∷ vs) s = let ih : (t : S) → _ = each_at-map f g vs in simp ih
 
 module _ (object : Reader) where
-  split : (c : ClassDef) (s : State) → parts_at object (slots_of c) s ≡ (each_at (λ b. member_at object (base_slot b)) c.bases (s, []) >>= λ bs. without_counters (with_front bs.0 (each_at (member_at object) c.members bs.1)))
+  split : (c : ClassDef) (s : ReaderState) → parts_at object (slots_of c) s ≡ (each_at (λ b. member_at object (base_slot b)) c.bases (s, []) >>= λ bs. without_counters (with_front bs.0 (each_at (member_at object) c.members bs.1)))
   unfolding parts_at
   split c s = rw (each_at-append, each_at-map) (simp bind_assoc)
 
-  pub parts_split : (c : ClassDef) (bases : List Base) (members : List Member) (s : State) → bases ≡ c.bases → members ≡ c.members → parts_at object (slots_of c) s ≡ (each_at (λ b. member_at object (base_slot b)) bases (s, []) >>= λ bs. without_counters (with_front bs.0 (each_at (member_at object) members bs.1)))
+  pub parts_split : (c : ClassDef) (bases : List Base) (members : List Member) (s : ReaderState) → bases ≡ c.bases → members ≡ c.members → parts_at object (slots_of c) s ≡ (each_at (λ b. member_at object (base_slot b)) bases (s, []) >>= λ bs. without_counters (with_front bs.0 (each_at (member_at object) members bs.1)))
   parts_split c bases members s eb em = rw (eb, em) (split c s)
 
   pub counter_member : (m : Member) (w : Within) → m.kind ≡ Counter → member_at object m w ≡ counter_at m.name w
   unfolding member_at kind_at number_value_at counter_at
   counter_member m w e = rw e (simp (bind_assoc, outs-Int))
 
-  pub named_parts : (s : State) → parts_at object (slots_of t_named) s ≡ named_parts_at object s
+  pub named_parts : (s : ReaderState) → parts_at object (slots_of t_named) s ≡ named_parts_at object s
   unfolding parts_at each_at member_at kind_at text_value_at named_parts_at
   named_parts s = simp bind_assoc
 
-  pub obj_string_parts : (s : State) → parts_at object (slots_of t_obj_string) s ≡ obj_string_parts_at object s
+  pub obj_string_parts : (s : ReaderState) → parts_at object (slots_of t_obj_string) s ≡ obj_string_parts_at object s
   unfolding parts_at each_at member_at kind_at text_value_at obj_string_parts_at
   obj_string_parts s = simp bind_assoc

@@ -5,13 +5,13 @@ use Rattle.rio_value.specs.declared.value.Value.{Value}
 use Rattle.rio_format.specs.Laws.{AreBytes}
 use Rattle.rio_format.specs.Objects.{Step, first_at, only_value, value_at}
 use Rattle.rio_format.specs.Spelling.{Spells}
-use Rattle.rio_format.specs.State.{State}
+use Rattle.rio_format.specs.ReaderState.{ReaderState}
 use Rattle.rio_format.specs.declared.fault.ObjFault.{ObjFault}
 use Rattle.rio_format.proofs.ObjectLaws.{read_is_spelled, spelled_is_read}
 use Rattle.rio_num.proofs.ReadLaws.{ok_is}
 use Rattle.rio_stream.specs.Reading.{Answers}
 
-read_at : (read : Step Value) (v : Value) → only_value read ≡ Ok v → (s : State) × (read ≡ Ok (v, s))
+read_at : (read : Step Value) (v : Value) → only_value read ≡ Ok v → (s : ReaderState) × (read ≡ Ok (v, s))
 read_at (Ok x) v e = (x.1, ap (λ (w : Value). let r : Step Value = Ok (w, x.1) in r) (ok_is {E = ObjFault} x.0 v e))
 read_at (Err d) v e = absurd cc
 

@@ -7,13 +7,13 @@ use Rattle.rio_value.specs.declared.value.Value.{Value, Int, Text, Object}
 use Rattle.rio_value.specs.declared.value.Part.{Part}
 use Rattle.rio_format.specs.Bodies.{part, Counters}
 use Rattle.rio_format.specs.Objects.{Step, Reader, Within, Fails, each_at, finish_at, member_at, base_at, chars_at, word_at}
-use Rattle.rio_format.specs.State.{State}
+use Rattle.rio_format.specs.ReaderState.{ReaderState}
 use Rattle.rio_format.specs.declared.fault.ObjFault.{ObjFault}
 use Rattle.rio_format.specs.declared.words.Header.{Header}
 use Rattle.rio_stream.specs.Lists.{with_front}
 
 -- What was returned is what reading gives, and the reader stands at new then, behind these counters.
-abbrev pub ReadsWithin : {Y : Type 0} → Result Y ObjFault → Result (Y × Within) ObjFault → State → Counters → Type 0
+abbrev pub ReadsWithin : {Y : Type 0} → Result Y ObjFault → Result (Y × Within) ObjFault → ReaderState → Counters → Type 0
 ReadsWithin (Ok x) read new counters = read ≡ Ok (x, (new, counters))
 ReadsWithin (Err e) read new counters = Fails e read
 
@@ -21,7 +21,7 @@ abbrev pub without_counters : Result (List Part × Within) ObjFault → Step (Li
 without_counters read = read >>= λ ps. Ok (ps.0, ps.1.0)
 
 -- members behind these parts
-abbrev pub members_at : Reader → List Part → List Member → State → Step (List Part)
+abbrev pub members_at : Reader → List Part → List Member → ReaderState → Step (List Part)
 members_at object parts members s = without_counters (with_front parts (each_at (member_at object) members (s, [])))
 
 -- a counter, which counts from then on
@@ -31,13 +31,13 @@ counter_at name s = do
   Ok (part name (Int (cast_signed w32 n.0)), (n.1, (name, cast_signed w32 n.0) ∷ s.1))
 
 -- an object of these parts, whose header is behind it
-unfoldable pub closed_at : List ℕ → ℤ → Header → List Part → State → Step Value
+unfoldable pub closed_at : List ℕ → ℤ → Header → List Part → ReaderState → Step Value
 closed_at class version h parts s = do
   done ← finish_at h.place h.end s
   Ok (Object class version parts, done.1)
 
 -- the parts of a TNamed
-unfoldable pub named_parts_at : Reader → State → Step (List Part)
+unfoldable pub named_parts_at : Reader → ReaderState → Step (List Part)
 named_parts_at object s = do
   base ← base_at object s
   name ← chars_at base.1
@@ -45,7 +45,7 @@ named_parts_at object s = do
   Ok (part [] base.0 ∷ part (codes "fName") (Text name.0) ∷ part (codes "fTitle") (Text title.0) ∷ [], title.1)
 
 -- the parts of a TObjString
-unfoldable pub obj_string_parts_at : Reader → State → Step (List Part)
+unfoldable pub obj_string_parts_at : Reader → ReaderState → Step (List Part)
 obj_string_parts_at object s = do
   base ← base_at object s
   text ← chars_at base.1

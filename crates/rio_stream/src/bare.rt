@@ -2,7 +2,7 @@
 ghost use Rattle.std.specs.Prelude.{◌≡◌, ◌∷◌, ◌++◌, [], pos, codes, IfOk};
 ghost use Rattle.rio_num.specs.At.{GoesOn};
 ghost use Rattle.rio_format.specs.Bodies.{part};
-ghost use Rattle.rio_format.specs.Objects.{Reads, array_at, bare_at, bare_object, object_at};
+ghost use Rattle.rio_format.specs.Objects.{ReadsAs, array_at, bare_at, bare_object, object_at};
 ghost use Rattle.rio_value.specs.declared.value.Value.{Int, Object};
 ghost use Rattle.rio_stream.specs.Bodies.{pid_parts};
 
@@ -48,7 +48,7 @@ fn bare_object(alloc: Global, id: u32, bits: u32, pid: Option<u16>) -> Result<Va
 /// A TObject.
 #[tactic(auto, unfolding(rio_format::specs::Objects::bare_at))]
 pub(crate) fn read_bare(alloc: Global, reader: &mut ObjReader) -> Result<Value, ObjFault>
-    ensures exact { Reads (λ x. x) result (bare_at reader.old) reader.new }
+    ensures exact { ReadsAs (λ x. x) result (bare_at reader.old) reader.new }
     ensures goes { GoesOn reader.old.at reader.new.at }
 {
     let place = reader.place();
@@ -73,7 +73,7 @@ pub(crate) fn read_base(
     reader: &mut ObjReader,
     levels: u32,
 ) -> Result<Value, ObjFault>
-    ensures exact { Reads (λ x. x) result (object_at levels classes.now (codes "TObject") reader.old) reader.new }
+    ensures exact { ReadsAs (λ x. x) result (object_at levels classes.now (codes "TObject") reader.old) reader.new }
     ensures goes { GoesOn reader.old.at reader.new.at }
 {
     if levels == 0 {
@@ -104,7 +104,7 @@ pub(crate) fn read_array(
     class: &[u8],
     of: Prim,
 ) -> Result<Value, ObjFault>
-    ensures exact { Reads (λ x. x) result (array_at class.now of reader.old) reader.new }
+    ensures exact { ReadsAs (λ x. x) result (array_at class.now of reader.old) reader.new }
     ensures goes { GoesOn reader.old.at reader.new.at }
 {
     let count = read_count(reader, width_of(of))?;

@@ -2,7 +2,7 @@
 ghost use Rattle.std.specs.Prelude.{◌≡◌, [], ◌∷◌, codes, IfOk};
 ghost use Rattle.rio_num.specs.At.{GoesOn};
 ghost use Rattle.rio_format.specs.Bodies.{part, slots_of, t_named, t_obj_string};
-ghost use Rattle.rio_format.specs.Objects.{Reads, object_at, parts_at};
+ghost use Rattle.rio_format.specs.Objects.{ReadsAs, object_at, parts_at};
 ghost use Rattle.rio_value.specs.declared.value.Value.{Text, List as Listing};
 ghost use Rattle.rio_stream.specs.Members.{named_parts_at, obj_string_parts_at};
 
@@ -75,7 +75,7 @@ fn read_named(
     reader: &mut ObjReader,
     levels: u32,
 ) -> Result<Parts, ObjFault>
-    ensures exact { Reads (λ x. x) result (named_parts_at (object_at levels classes.now) reader.old) reader.new }
+    ensures exact { ReadsAs (λ x. x) result (named_parts_at (object_at levels classes.now) reader.old) reader.new }
     ensures goes { GoesOn reader.old.at reader.new.at }
 {
     let base = read_base(alloc, classes, reader, levels)?;
@@ -91,7 +91,7 @@ fn read_obj_string(
     reader: &mut ObjReader,
     levels: u32,
 ) -> Result<Parts, ObjFault>
-    ensures exact { Reads (λ x. x) result (obj_string_parts_at (object_at levels classes.now) reader.old) reader.new }
+    ensures exact { ReadsAs (λ x. x) result (obj_string_parts_at (object_at levels classes.now) reader.old) reader.new }
     ensures goes { GoesOn reader.old.at reader.new.at }
 {
     let base = read_base(alloc, classes, reader, levels)?;
@@ -106,7 +106,7 @@ pub(crate) fn read_named_parts(
     reader: &mut ObjReader,
     levels: u32,
 ) -> Result<Parts, ObjFault>
-    ensures exact { Reads (λ x. x) result (parts_at (object_at levels classes.now) (slots_of t_named) reader.old) reader.new }
+    ensures exact { ReadsAs (λ x. x) result (parts_at (object_at levels classes.now) (slots_of t_named) reader.old) reader.new }
     ensures goes { GoesOn reader.old.at reader.new.at }
 {
     read_named(alloc, classes, reader, levels)
@@ -119,7 +119,7 @@ pub(crate) fn read_obj_string_parts(
     reader: &mut ObjReader,
     levels: u32,
 ) -> Result<Parts, ObjFault>
-    ensures exact { Reads (λ x. x) result (parts_at (object_at levels classes.now) (slots_of t_obj_string) reader.old) reader.new }
+    ensures exact { ReadsAs (λ x. x) result (parts_at (object_at levels classes.now) (slots_of t_obj_string) reader.old) reader.new }
     ensures goes { GoesOn reader.old.at reader.new.at }
 {
     read_obj_string(alloc, classes, reader, levels)

@@ -1,7 +1,7 @@
 //! Numbers, and lists of them.
 ghost use Rattle.std.specs.Prelude.{◌≡◌, ◌<◌, ◌^◌, IfOk};
 ghost use Rattle.rio_num.specs.At.{GoesOn};
-ghost use Rattle.rio_format.specs.Objects.{Reads, chars_at, count_at, counted_at, filled_at, number_value_at, numbers_at, text_value_at, times_at};
+ghost use Rattle.rio_format.specs.Objects.{ReadsAs, chars_at, count_at, counted_at, filled_at, number_value_at, numbers_at, text_value_at, times_at};
 ghost use Rattle.rio_format.specs.Prims.{width_of};
 
 use rio_buffer::{ObjFault, ObjReader};
@@ -25,7 +25,7 @@ pub(crate) fn width_of(of: Prim) -> u64
 
 #[tactic(auto, unfolding(rio_format::specs::Objects::number_value_at))]
 pub(crate) fn read_number(reader: &mut ObjReader, of: Prim) -> Result<Value, ObjFault>
-    ensures exact { Reads (λ x. x) result (number_value_at of reader.old) reader.new }
+    ensures exact { ReadsAs (λ x. x) result (number_value_at of reader.old) reader.new }
     ensures goes { GoesOn reader.old.at reader.new.at }
 {
     match of {
@@ -49,7 +49,7 @@ fn read_times(
     of: Prim,
     count: u32,
 ) -> Result<Values, ObjFault>
-    ensures exact { Reads (λ x. x) result (times_at count (number_value_at of) reader.old) reader.new }
+    ensures exact { ReadsAs (λ x. x) result (times_at count (number_value_at of) reader.old) reader.new }
     ensures goes { GoesOn reader.old.at reader.new.at }
 {
     let mut values = Values::new(alloc);
@@ -67,7 +67,7 @@ pub(crate) fn read_numbers(
     of: Prim,
     count: u32,
 ) -> Result<Value, ObjFault>
-    ensures exact { Reads (λ x. x) result (numbers_at of count reader.old) reader.new }
+    ensures exact { ReadsAs (λ x. x) result (numbers_at of count reader.old) reader.new }
     ensures goes { GoesOn reader.old.at reader.new.at }
 {
     Ok(Value::List(read_times(alloc, reader, of, count)?))
@@ -77,7 +77,7 @@ pub(crate) fn read_numbers(
 #[tactic(auto, unfolding(rio_format::specs::Objects::count_at))]
 pub(crate) fn read_count(reader: &mut ObjReader, width: u64) -> Result<u32, ObjFault>
     requires { 0 < width }
-    ensures exact { Reads (λ x. x) result (count_at width reader.old) reader.new }
+    ensures exact { ReadsAs (λ x. x) result (count_at width reader.old) reader.new }
     ensures goes { GoesOn reader.old.at reader.new.at }
 {
     let place = reader.place();
@@ -96,7 +96,7 @@ fn read_filled(
     place: u64,
     count: i32,
 ) -> Result<Value, ObjFault>
-    ensures exact { Reads (λ x. x) result (filled_at of place count reader.old) reader.new }
+    ensures exact { ReadsAs (λ x. x) result (filled_at of place count reader.old) reader.new }
     ensures goes { GoesOn reader.old.at reader.new.at }
 {
     if count < 0 {
@@ -113,7 +113,7 @@ pub(crate) fn read_counted(
     of: Prim,
     count: i32,
 ) -> Result<Value, ObjFault>
-    ensures exact { Reads (λ x. x) result (counted_at of count reader.old) reader.new }
+    ensures exact { ReadsAs (λ x. x) result (counted_at of count reader.old) reader.new }
     ensures goes { GoesOn reader.old.at reader.new.at }
 {
     let place = reader.place();
@@ -125,7 +125,7 @@ pub(crate) fn read_counted(
 }
 
 pub(crate) fn read_name(alloc: Global, reader: &mut ObjReader) -> Result<Name, ObjFault>
-    ensures exact { Reads (λ x. x) result (chars_at reader.old) reader.new }
+    ensures exact { ReadsAs (λ x. x) result (chars_at reader.old) reader.new }
     ensures goes { GoesOn reader.old.at reader.new.at }
 {
     let text = reader.take_text()?;
@@ -134,7 +134,7 @@ pub(crate) fn read_name(alloc: Global, reader: &mut ObjReader) -> Result<Name, O
 
 #[tactic(auto, unfolding(rio_format::specs::Objects::text_value_at))]
 pub(crate) fn read_text(alloc: Global, reader: &mut ObjReader) -> Result<Value, ObjFault>
-    ensures exact { Reads (λ x. x) result (text_value_at reader.old) reader.new }
+    ensures exact { ReadsAs (λ x. x) result (text_value_at reader.old) reader.new }
     ensures goes { GoesOn reader.old.at reader.new.at }
 {
     Ok(Value::Text(read_name(alloc, reader)?))

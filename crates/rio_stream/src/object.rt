@@ -3,7 +3,7 @@
 ghost use Rattle.std.specs.Prelude.{◌≡◌, [], ◌∷◌};
 ghost use Rattle.rio_num.specs.At.{GoesOn};
 ghost use Rattle.rio_format.specs.Bodies.{base_slot, form_of, body_of, slots_of, t_named, t_obj_string};
-ghost use Rattle.rio_format.specs.Objects.{Reads, array_parts_at, body_at, each_at, formed_at, headed_at, kind_at, link_at, list_parts_at, member_at, object_at, parts_at, pointer_at, times_at};
+ghost use Rattle.rio_format.specs.Objects.{ReadsAs, array_parts_at, body_at, each_at, formed_at, headed_at, kind_at, link_at, list_parts_at, member_at, object_at, parts_at, pointer_at, times_at};
 ghost use Rattle.rio_buffer.specs.Reader.{IsCounted};
 ghost use Rattle.rio_stream.specs.Members.{ReadsWithin, members_at};
 
@@ -31,7 +31,7 @@ pub(crate) fn read_object(
     class: &[u8],
     levels: u32,
 ) -> Result<Value, ObjFault>
-    ensures exact { Reads (λ x. x) result (object_at levels classes.now class.now reader.old) reader.new }
+    ensures exact { ReadsAs (λ x. x) result (object_at levels classes.now class.now reader.old) reader.new }
     ensures goes { GoesOn reader.old.at reader.new.at }
 {
     if levels == 0 {
@@ -51,7 +51,7 @@ fn read_formed(
     class: &[u8],
     levels: u32,
 ) -> Result<Value, ObjFault>
-    ensures exact { Reads (λ x. x) result (formed_at (object_at levels classes.now) classes.now class.now (form_of class.now) reader.old) reader.new }
+    ensures exact { ReadsAs (λ x. x) result (formed_at (object_at levels classes.now) classes.now class.now (form_of class.now) reader.old) reader.new }
     ensures goes { GoesOn reader.old.at reader.new.at }
 {
     match shape_of(class) {
@@ -70,7 +70,7 @@ fn read_headed(
     class: &[u8],
     levels: u32,
 ) -> Result<Value, ObjFault>
-    ensures exact { Reads (λ x. x) result (headed_at (object_at levels classes.now) classes.now class.now reader.old) reader.new }
+    ensures exact { ReadsAs (λ x. x) result (headed_at (object_at levels classes.now) classes.now class.now reader.old) reader.new }
     ensures goes { GoesOn reader.old.at reader.new.at }
 {
     let header = reader.header()?;
@@ -88,7 +88,7 @@ fn read_body(
     levels: u32,
 ) -> Result<Value, ObjFault>
     requires { IsCounted header.place header.end reader.old }
-    ensures exact { Reads (λ x. x) result (body_at (object_at levels classes.now) class.now header (body_of classes.now class.now header.version header.sum) reader.old) reader.new }
+    ensures exact { ReadsAs (λ x. x) result (body_at (object_at levels classes.now) class.now header (body_of classes.now class.now header.version header.sum) reader.old) reader.new }
     ensures goes { GoesOn reader.old.at reader.new.at }
 {
     match body_of(classes, class, &header) {
@@ -125,7 +125,7 @@ fn read_parts(
     described: &ClassDef,
     levels: u32,
 ) -> Result<Parts, ObjFault>
-    ensures exact { Reads (λ x. x) result (parts_at (object_at levels classes.now) (slots_of described.now) reader.old) reader.new }
+    ensures exact { ReadsAs (λ x. x) result (parts_at (object_at levels classes.now) (slots_of described.now) reader.old) reader.new }
     ensures goes { GoesOn reader.old.at reader.new.at }
 {
     let bases = described.bases.as_slice();
@@ -178,7 +178,7 @@ fn read_members(
     members: &[Member],
     levels: u32,
 ) -> Result<Parts, ObjFault>
-    ensures exact { Reads (λ x. x) result (members_at (object_at levels classes.now) parts members.now reader.old) reader.new }
+    ensures exact { ReadsAs (λ x. x) result (members_at (object_at levels classes.now) parts members.now reader.old) reader.new }
     ensures goes { GoesOn reader.old.at reader.new.at }
 {
     let mut counters = Counters::new(alloc);
@@ -221,7 +221,7 @@ fn read_kind(
     counters: &Counters,
     levels: u32,
 ) -> Result<Value, ObjFault>
-    ensures exact { Reads (λ x. x) result (kind_at (object_at levels classes.now) counters.now kind.now reader.old) reader.new }
+    ensures exact { ReadsAs (λ x. x) result (kind_at (object_at levels classes.now) counters.now kind.now reader.old) reader.new }
     ensures goes { GoesOn reader.old.at reader.new.at }
 {
     match kind {
@@ -248,7 +248,7 @@ fn read_pointer(
     reader: &mut ObjReader,
     levels: u32,
 ) -> Result<Value, ObjFault>
-    ensures exact { Reads (λ x. x) result (pointer_at (object_at levels classes.now) reader.old) reader.new }
+    ensures exact { ReadsAs (λ x. x) result (pointer_at (object_at levels classes.now) reader.old) reader.new }
     ensures goes { GoesOn reader.old.at reader.new.at }
 {
     match reader.pointer()? {
@@ -279,7 +279,7 @@ fn read_list_parts(
     reader: &mut ObjReader,
     levels: u32,
 ) -> Result<Parts, ObjFault>
-    ensures exact { Reads (λ x. x) result (list_parts_at (object_at levels classes.now) reader.old) reader.new }
+    ensures exact { ReadsAs (λ x. x) result (list_parts_at (object_at levels classes.now) reader.old) reader.new }
     ensures goes { GoesOn reader.old.at reader.new.at }
 {
     let base = read_base(alloc, classes, reader, levels)?;
@@ -297,7 +297,7 @@ fn read_links(
     count: u32,
     levels: u32,
 ) -> Result<Values, ObjFault>
-    ensures exact { Reads (λ x. x) result (times_at count (link_at (object_at levels classes.now)) reader.old) reader.new }
+    ensures exact { ReadsAs (λ x. x) result (times_at count (link_at (object_at levels classes.now)) reader.old) reader.new }
     ensures goes { GoesOn reader.old.at reader.new.at }
 {
     let mut links = Values::new(alloc);
@@ -316,7 +316,7 @@ fn read_link(
     reader: &mut ObjReader,
     levels: u32,
 ) -> Result<Value, ObjFault>
-    ensures exact { Reads (λ x. x) result (link_at (object_at levels classes.now) reader.old) reader.new }
+    ensures exact { ReadsAs (λ x. x) result (link_at (object_at levels classes.now) reader.old) reader.new }
     ensures goes { GoesOn reader.old.at reader.new.at }
 {
     let pointer = read_pointer(alloc, classes, reader, levels)?;
@@ -333,7 +333,7 @@ fn read_array_parts(
     reader: &mut ObjReader,
     levels: u32,
 ) -> Result<Parts, ObjFault>
-    ensures exact { Reads (λ x. x) result (array_parts_at (object_at levels classes.now) reader.old) reader.new }
+    ensures exact { ReadsAs (λ x. x) result (array_parts_at (object_at levels classes.now) reader.old) reader.new }
     ensures goes { GoesOn reader.old.at reader.new.at }
 {
     let base = read_base(alloc, classes, reader, levels)?;
@@ -352,7 +352,7 @@ fn read_pointers(
     count: u32,
     levels: u32,
 ) -> Result<Values, ObjFault>
-    ensures exact { Reads (λ x. x) result (times_at count (pointer_at (object_at levels classes.now)) reader.old) reader.new }
+    ensures exact { ReadsAs (λ x. x) result (times_at count (pointer_at (object_at levels classes.now)) reader.old) reader.new }
     ensures goes { GoesOn reader.old.at reader.new.at }
 {
     let mut pointers = Values::new(alloc);

@@ -1,6 +1,6 @@
 ghost use Rattle.std.specs.Prelude.{◌≡◌, ℕ, ◌+◌, ◌<◌, ◌^◌, List, ◌++◌, length, Ok, IfOk, IsTrue};
 ghost use Rattle.rio_num.specs.At.{GoesOn};
-ghost use Rattle.rio_format.specs.Objects.{Reads, depth_limit, object_at, value_at};
+ghost use Rattle.rio_format.specs.Objects.{ReadsAs, depth_limit, object_at, value_at};
 ghost use Rattle.rio_format.specs.Spelling.{Spells};
 ghost use Rattle.rio_value.specs.declared.value.Value.{Value as Spelled};
 ghost use Rattle.rio_stream.specs.Reading.{Answers, is_small_builtin};
@@ -24,7 +24,8 @@ pub fn read_object(
     bytes: &[u8],
     start: u64,
 ) -> Result<Value, ObjFault>
-    requires { start + length bytes.now < 2 ^ 32 }
+    requires places { start + length bytes.now < 2 ^ 64 }
+    requires size { length bytes.now < 2 ^ 32 }
     // What is read is spelled by the front of the data.
     ensures found { IfOk result (λ v. (front : List ℕ) × (rest : List ℕ) × (bytes.now ≡ front ++ rest) × Spells classes.now start class.now v front) }
     // What the front of the data spells is read, unless memory runs out.
@@ -42,7 +43,8 @@ fn read_first(
     bytes: &[u8],
     start: u64,
 ) -> Result<Value, ObjFault>
-    requires { start + length bytes.now < 2 ^ 32 }
+    requires places { start + length bytes.now < 2 ^ 64 }
+    requires size { length bytes.now < 2 ^ 32 }
     ensures { Answers result (value_at classes.now class.now start bytes.now) }
 {
     let mut reader = ObjReader::new(alloc, bytes, start);
@@ -58,7 +60,7 @@ pub fn read_builtin(
     class: &[u8],
 ) -> Result<Value, ObjFault>
     requires { IsTrue (is_small_builtin class.now) }
-    ensures exact { Reads (λ x. x) result (object_at depth_limit classes.now class.now reader.old) reader.new }
+    ensures exact { ReadsAs (λ x. x) result (object_at depth_limit classes.now class.now reader.old) reader.new }
     ensures goes { GoesOn reader.old.at reader.new.at }
 {
     object::read_object(alloc, classes, reader, class, DEPTH_LIMIT)

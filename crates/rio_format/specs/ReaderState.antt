@@ -7,25 +7,25 @@ use Rattle.rio_num.specs.At.{At}
 
 -- The places of the count words of pointed objects, in order: an object's label is its number in this list. And the class
 -- names by the places of the class words that spell them out.
-pub record Words : Type 0 where
+pub record WordsMet : Type 0 where
   pub labels : List ℕ
   pub names : List (ℕ × List ℕ)
 
-abbrev pub no_words : Words
+abbrev pub no_words : WordsMet
 no_words = record { labels = []; names = [] }
 
 -- one more object, whose count word stands at the place
-abbrev pub with_label : Words → ℕ → Words
+abbrev pub with_label : WordsMet → ℕ → WordsMet
 with_label t place = record t { labels = insert_key nat_eq t.labels place }
 
 -- one more name, whose class word stands at the place
-abbrev pub with_name : Words → ℕ → List ℕ → Words
+abbrev pub with_name : WordsMet → ℕ → List ℕ → WordsMet
 with_name t place name = record t { names = insert_entry nat_eq t.names place name }
 
-pub record State : Type 0 where
+pub record ReaderState : Type 0 where
   pub at : At
-  pub words : Words
+  pub words : WordsMet
 
 -- reading stands at a place, before the bytes, behind the words
-abbrev pub standing : ℕ → List ℕ → Words → State
+abbrev pub standing : ℕ → List ℕ → WordsMet → ReaderState
 standing place rest t = record { at = record { place = place; rest = rest }; words = t }
