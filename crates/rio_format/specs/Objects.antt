@@ -340,11 +340,3 @@ only_value (Err e) = Err e
 -- the value that a prefix of the data spells, or the first fault
 abbrev pub value_at : List ClassDef → List ℕ → ℕ → List ℕ → Result Value ObjFault
 value_at classes class start bytes = only_value (first_at classes class start bytes)
-
--- the first fault of data that spell no value: all before it is spelled, and it breaks
-abbrev pub IsFirstFault : List ClassDef → List ℕ → ℕ → List ℕ → ObjFault → Type 0
-IsFirstFault classes class start bytes fault = value_at classes class start bytes ≡ Err fault
-
-abbrev pub Gives : Result Value ObjFault → Result Value ObjFault → Type 0
-Gives (Ok v) read = read ≡ Ok v
-Gives (Err e) read = Fails e read
