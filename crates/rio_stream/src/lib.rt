@@ -5,11 +5,13 @@ mod bare;
 mod body;
 mod builtin;
 mod counters;
+mod derive;
 mod member;
 mod numbers;
 mod object;
 mod read;
 mod shape;
+mod slot;
 #[cfg(test)]
 mod tests;
 mod whole;
