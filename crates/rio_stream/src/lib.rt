@@ -6,6 +6,7 @@ mod body;
 mod builtin;
 mod counters;
 mod derive;
+mod fit_numbers;
 mod member;
 mod numbers;
 mod object;
