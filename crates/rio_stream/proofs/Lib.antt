@@ -1,3 +1,4 @@
+pub mod BaseLaws
 pub mod Closed
 pub mod CounterLaws
 pub mod Counts

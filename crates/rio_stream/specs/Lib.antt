@@ -1,4 +1,5 @@
 pub mod Bodies
+pub mod Fitting
 pub mod Lists
 pub mod Members
 pub mod Reading

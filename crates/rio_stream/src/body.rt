@@ -4,11 +4,13 @@ ghost use Rattle.std.specs.Str.{bytes_eq};
 ghost use Rattle.std.specs.List.{list_any};
 ghost use Rattle.std.specs.Option.{option_copied, option_map};
 ghost use Rattle.rio_format.specs.Bodies.{body_of, built_in, by_description, can_read, can_read_all, is_counter, picked, stated_version};
+ghost use Rattle.rio_format.specs.Slots.{declared_body};
 ghost use Rattle.rio_stream.specs.Bodies.{body_as, counters_in};
 
 use rio_buffer::Header;
 use rio_types::{ClassDef, Classes, Kind, Member};
 
+#[derive(Clone, Copy)]
 pub(crate) enum Body<'a> {
     /// The bases and members of this class.
     Described(&'a ClassDef),
@@ -120,5 +122,22 @@ pub(crate) fn body_of<'a>(classes: &'a Classes, class: &[u8], header: &Header) -
     match built_in(class, stated_version(classes, class, version, sum)) {
         Some(body) => body,
         None => by_description(picked(classes, class, version, sum)),
+    }
+}
+
+/// The body that a class has in a version, if it is built in or described in it.
+pub(crate) fn declared_body<'a>(
+    classes: &'a Classes,
+    class: &[u8],
+    version: i32,
+) -> Option<Body<'a>>
+    ensures { option_map body_as result ≡ declared_body classes.now class.now version }
+{
+    match built_in(class, version) {
+        Some(body) => Some(body),
+        None => match classes.find(class, version) {
+            Some(class) => Some(Body::Described(class)),
+            None => None,
+        },
     }
 }

@@ -19,6 +19,7 @@ impl Model for Counters {
 
 impl Counters {
     ghost use Rattle.std.specs.Prelude.{◌≡◌, [], ◌∷◌, find, OnOk};
+    ghost use Rattle.std.specs.Map.{lookup};
     ghost use Rattle.std.specs.Option.{option_copied};
     ghost use Rattle.std.specs.Str.{bytes_eq};
     ghost use Rattle.rio_format.specs.Bodies.{count_by};
@@ -43,9 +44,16 @@ impl Counters {
     pub(crate) fn count_by(&self, name: &[u8]) -> i32
         ensures { result ≡ count_by name.now self.now }
     {
+        self.said(name).unwrap_or(0)
+    }
+
+    /// What the last counter of the name says, if there is one.
+    pub(crate) fn said(&self, name: &[u8]) -> Option<i32>
+        ensures { result ≡ lookup (bytes_eq name.now) self.now }
+    {
         match self.last_of(name) {
-            Some((_, said)) => *said,
-            None => 0,
+            Some((_, said)) => Some(*said),
+            None => None,
         }
     }
 

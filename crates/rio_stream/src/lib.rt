@@ -5,11 +5,14 @@ mod bare;
 mod body;
 mod builtin;
 mod counters;
+mod derive;
+mod fit_numbers;
 mod member;
 mod numbers;
 mod object;
 mod read;
 mod shape;
+mod slot;
 #[cfg(test)]
 mod tests;
 mod whole;
