@@ -76,20 +76,21 @@ body_bases (Some listed) = t_object_base ∷ []
 body_bases (Some arrayed) = t_object_base ∷ []
 body_bases (Some opaque) = []
 
--- the bases of objects of this form: those without a header have none, whatever a class list says of their class
-abbrev pub form_bases : List Base → Form → List Base
-form_bases bases bare = []
-form_bases bases (numbers of) = []
-form_bases bases headed = bases
+-- objects of this form begin with a header
+abbrev pub is_headed : Form → Bool
+is_headed bare = false
+is_headed (numbers of) = false
+is_headed headed = true
 
-abbrev pub bases_of : List ClassDef → List ℕ → ℤ → List Base
-bases_of classes class version = form_bases (body_bases (declared_body classes class version)) (form_of class)
+-- the body of a class's objects that begin with a header; others have no bases, whatever a class list says of their class
+abbrev pub headed_body : List ClassDef → List ℕ → ℤ → Option Body
+headed_body classes class version = if is_headed (form_of class) then declared_body classes class version else None
 
 -- whether a class has another among its bases, at most so many levels deep
 unfoldable pub has_base : ℕ → List ClassDef → List ℕ → List ℕ → ℤ → Bool
 has_base zero classes target class version = false
 has_base (suc levels) classes target class version =
-    list_any (λ b. bytes_eq b.name target || has_base levels classes target b.name b.version) (bases_of classes class version)
+    list_any (λ b. bytes_eq b.name target || has_base levels classes target b.name b.version) (body_bases (headed_body classes class version))
 
 -- Whether it is the other class or has that among its bases at any depth: a way through the bases that meets no description
 -- twice is no longer than the list and one built-in class.
@@ -99,12 +100,6 @@ derives_from classes target class version = bytes_eq class target || has_base (l
 -- a class word can spell the name
 abbrev pub is_word : List ℕ → Bool
 is_word class = not (list_any (λ b. b == 0) class)
-
--- objects of this form begin with a header
-abbrev pub is_headed : Form → Bool
-is_headed bare = false
-is_headed (numbers of) = false
-is_headed headed = true
 
 -- whether a put can have an object of this class as its value
 abbrev pub can_be_put : List ClassDef → List ℕ → Bool

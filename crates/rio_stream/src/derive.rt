@@ -3,13 +3,14 @@ ghost use Rattle.std.specs.Prelude.{◌≡◌, ◌==◌, ◌∷◌, [], ◌||◌
 ghost use Rattle.std.specs.Str.{bytes_eq};
 ghost use Rattle.std.specs.List.{list_any};
 ghost use Rattle.std.specs.Option.{option_map};
-ghost use Rattle.rio_format.specs.Bodies.{t_object_base};
-ghost use Rattle.rio_format.specs.Slots.{body_bases, can_be_put, derives_from, has_base, is_word};
+ghost use Rattle.rio_format.specs.Bodies.{form_of, t_object_base};
+ghost use Rattle.rio_format.specs.Slots.{body_bases, can_be_put, derives_from, has_base, headed_body, is_headed, is_word};
 ghost use Rattle.rio_format.specs.Fits.{is_pointer, may_point};
 ghost use Rattle.rio_stream.specs.Bodies.{body_as};
 ghost use Rattle.rio_stream.specs.Fitting.{slot_as};
 
 use crate::body::{Body, declared_body};
+use crate::shape::{Shape, shape_of};
 use crate::slot::Slot;
 use rio_types::{Base, Classes};
 
@@ -26,11 +27,29 @@ fn is_word(class: &[u8]) -> bool
     !has_zero(class)
 }
 
+// Whether objects of the class begin with a header.
+fn is_headed(class: &[u8]) -> bool
+    ensures { result ≡ is_headed (form_of class.now) }
+{
+    matches!(shape_of(class), Shape::Headed)
+}
+
+// The body of a class's objects that begin with a header.
+fn headed_body<'a>(classes: &'a Classes, class: &[u8], version: i32) -> Option<Body<'a>>
+    ensures { option_map body_as result ≡ headed_body classes.now class.now version }
+{
+    if is_headed(class) {
+        declared_body(classes, class, version)
+    } else {
+        None
+    }
+}
+
 /// Whether a put can have an object of this class as its value.
 fn can_be_put(classes: &Classes, class: &[u8]) -> bool
     ensures { result ≡ can_be_put classes.now class.now }
 {
-    classes.newest(class).is_some()
+    (is_headed(class) && classes.newest(class).is_some())
         || class == b"TNamed".as_slice()
         || class == b"TObjString".as_slice()
         || class == b"TList".as_slice()
@@ -46,7 +65,7 @@ fn has_base(classes: &Classes, target: &[u8], class: &[u8], version: i32, levels
     if levels == 0 {
         return false;
     }
-    let body = declared_body(classes, class, version);
+    let body = headed_body(classes, class, version);
     has_in_body(classes, target, body, levels - 1)
 }
 
