@@ -113,7 +113,14 @@ fn has_object(classes: &Classes, target: &[u8], levels: usize) -> bool
 fn derives_from(classes: &Classes, target: &[u8], class: &[u8], version: i32) -> bool
     ensures { result ≡ derives_from classes.now target.now class.now version }
 {
-    class == target || has_base(classes, target, class, version, classes.as_slice().len() + 1)
+    class == target
+        || has_base(
+            classes,
+            target,
+            class,
+            version,
+            classes.as_slice().len() + 1,
+        )
 }
 
 /// Whether a pointer in the slot may point to an object of this class and version.
@@ -121,9 +128,7 @@ pub(crate) fn may_point(classes: &Classes, class: &[u8], version: i32, slot: Slo
     ensures { result ≡ may_point classes.now (class.now, version) (slot_as slot.entry) }
 {
     match slot {
-        Slot::Pointer(target) => {
-            is_word(class) && derives_from(classes, target, class, version)
-        }
+        Slot::Pointer(target) => { is_word(class) && derives_from(classes, target, class, version) }
         Slot::AnyPointer => is_word(class) && can_be_put(classes, class),
         _ => false,
     }
