@@ -101,10 +101,7 @@ fn base_fields<'a>(alloc: Global, bases: &'a [Base]) -> Result<Fields<'a>, NoMem
 }
 
 // The members, behind the fields that are given.
-fn with_members<'a>(
-    mut fields: Fields<'a>,
-    members: &'a [Member],
-) -> Result<Fields<'a>, NoMemory>
+fn with_members<'a>(mut fields: Fields<'a>, members: &'a [Member]) -> Result<Fields<'a>, NoMemory>
     ensures { IfOk result (λ fs. map field_as fs ≡ map field_as fields.entry ++ map member_field members.now) }
 {
     for member in members {
@@ -126,11 +123,7 @@ fn bare_field<'a>(name: &'a [u8], slot: Slot<'a>) -> Field<'a>
     Field { name, slot }
 }
 
-fn one_field<'a>(
-    alloc: Global,
-    name: &'a [u8],
-    slot: Slot<'a>,
-) -> Result<Fields<'a>, NoMemory>
+fn one_field<'a>(alloc: Global, name: &'a [u8], slot: Slot<'a>) -> Result<Fields<'a>, NoMemory>
     ensures { IfOk result (λ fs. map field_as fs ≡ field name.now (slot_as slot.entry) ∷ []) }
 {
     let mut fields = Fields::new(alloc);
@@ -156,10 +149,7 @@ fn text_field<'a>(name: &'a [u8]) -> Field<'a>
     bare_field(name, Slot::Text)
 }
 
-fn body_fields<'a>(
-    alloc: Global,
-    body: Option<Body<'a>>,
-) -> Result<Option<Fields<'a>>, NoMemory>
+fn body_fields<'a>(alloc: Global, body: Option<Body<'a>>) -> Result<Option<Fields<'a>>, NoMemory>
     ensures { IfOk result (λ o. option_map (map field_as) o ≡ body_fields (option_map body_as body.entry)) }
 {
     match body {

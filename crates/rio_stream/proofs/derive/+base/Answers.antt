@@ -1,4 +1,4 @@
-use Rattle.std.proofs.Common.{ℕ, ◌-◌, suc, ◌≡◌, ◌∙◌, arith}
+use Rattle.std.proofs.Common.{◌-◌, suc, ◌≡◌, ◌∙◌, arith}
 use Rattle.std.proofs.lemmas.Int.{to_z-of_z}
 use Rattle.rio_stream.proofs.BaseLaws.{has_base-more}
 use Rattle.rio_stream.proofs.derive.+base.Goals as goal
