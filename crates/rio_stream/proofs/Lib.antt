@@ -3,5 +3,6 @@ pub mod Closed
 pub mod CounterLaws
 pub mod Counts
 pub mod Each
+pub mod FitLaws
 pub mod Parts
 pub mod ReadLaws

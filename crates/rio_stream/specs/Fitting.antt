@@ -1,5 +1,5 @@
 -- Whether values fit, as the code tells it.
-use Rattle.std.specs.Prelude.{◌≡◌, ℕ, ℤ, List, Bool, true, false, Option, Some, None, Result, Ok, Err, if◌then◌else◌}
+use Rattle.std.specs.Prelude.{◌≡◌, ℕ, ℤ, List, ◌∷◌, Bool, true, false, Option, Some, None, Result, Ok, Err, if◌then◌else◌}
 use Rattle.std.specs.Option.{option_map}
 use Rattle.std.specs.Str.{bytes_eq}
 use Rattle.rio_num.specs.declared.no_memory.NoMemory.{NoMemory}
@@ -52,3 +52,7 @@ part_fits f y counters labels =
 abbrev pub IsCounterValue : Option ℤ → Fitting → Type 0
 IsCounterValue (Some said) f = (f.number ≡ said) × ((labels : Labels) → f.fits (kinded CounterKind) labels ≡ Some labels)
 IsCounterValue None f = (labels : Labels) → f.fits (kinded CounterKind) labels ≡ None
+
+-- a counter fits, which counts by the name from then on
+abbrev pub counter_fits : List ℕ → Fitting → Counters → Labels → Option (Labels × Counters)
+counter_fits name f counters labels = option_map (λ after. (after, (name, f.number) ∷ counters)) (f.fits (kinded CounterKind) labels)

@@ -12,6 +12,7 @@ ghost use Rattle.rio_stream.specs.Fitting.{slot_as};
 use crate::body::{Body, declared_body};
 use crate::shape::{Shape, shape_of};
 use crate::slot::Slot;
+use rio_num::Name;
 use rio_types::{Base, Classes};
 
 fn has_zero(bytes: &[u8]) -> bool
@@ -123,12 +124,16 @@ fn derives_from(classes: &Classes, target: &[u8], class: &[u8], version: i32) ->
         )
 }
 
+/// The class of an object, and its version.
+pub(crate) type Owner = (Name, i32);
+
 /// Whether a pointer in the slot may point to an object of this class and version.
-pub(crate) fn may_point(classes: &Classes, class: &[u8], version: i32, slot: Slot) -> bool
-    ensures { result ≡ may_point classes.now (class.now, version) (slot_as slot.entry) }
+pub(crate) fn may_point(classes: &Classes, owner: &Owner, slot: Slot) -> bool
+    ensures { result ≡ may_point classes.now owner.now (slot_as slot.entry) }
 {
+    let (class, version) = (owner.0.as_slice(), owner.1);
     match slot {
-        Slot::Pointer(target) => { is_word(class) && derives_from(classes, target, class, version) }
+        Slot::Pointer(target) => is_word(class) && derives_from(classes, target, class, version),
         Slot::AnyPointer => is_word(class) && can_be_put(classes, class),
         _ => false,
     }

@@ -19,7 +19,7 @@ fn fits_16(n: i128) -> bool
     -0x8000 <= n && n < 0x8000
 }
 
-fn fits_32(n: i128) -> bool
+pub(crate) fn fits_32(n: i128) -> bool
     ensures { result ≡ fits_signed 32 n }
 {
     -0x8000_0000 <= n && n < 0x8000_0000

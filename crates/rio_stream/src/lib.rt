@@ -6,6 +6,7 @@ mod body;
 mod builtin;
 mod counters;
 mod derive;
+mod fit;
 mod fit_numbers;
 mod member;
 mod numbers;
@@ -17,4 +18,5 @@ mod slot;
 mod tests;
 mod whole;
 
+pub use fit::fits;
 pub use read::{read_builtin, read_object};
