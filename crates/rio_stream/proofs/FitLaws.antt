@@ -113,21 +113,3 @@ module _ {X Y : Type 0} (g : X → Field) (h : Y → List ℕ × Fitting) (field
           let some : 0 < length (drop k parts) = simp length-drop (omega arith) in
           let one : fields_fit (map g (drop k fields)) (map h (drop k parts)) met labels ≡ None = rw none (no_more h (drop k parts) met labels some) in
           rw e (sym so_far ∙ one)
-
--- ---- pointers
-
-and_false : (b : Bool) → (b && false) ≡ false
-and_false true = refl
-and_false false = refl
-
-module _ (classes : List ClassDef) (label : ℕ) (f : Fitting) (own : List ℕ × ℤ) (slot : Slot) (labels : Labels) where
-  pub pointed_to : label ≡ length labels → may_point classes own slot ≡ true → pointed_fits classes label f (Some own) slot labels ≡ f.fits (kinded (Inline own.0)) (labels ++ own ∷ [])
-  pointed_to l m =
-      let same : (label == length labels) ≡ true = true_from_ne_false (label == length labels) (λ no. eqb-false label (length labels) no l) in
-      rw (same, m) refl
-
-  pub of_another_label : (label ≡ length labels → ⊥) → pointed_fits classes label f (Some own) slot labels ≡ None
-  of_another_label l = let other : (label == length labels) ≡ false = ne_eqb label (length labels) l in rw other refl
-
-  pub of_another_class : may_point classes own slot ≡ false → pointed_fits classes label f (Some own) slot labels ≡ None
-  of_another_class m = rw (m, and_false) refl

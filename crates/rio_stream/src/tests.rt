@@ -3,7 +3,7 @@
 mod classes;
 mod printed;
 
-use crate::{read_builtin, read_object};
+use crate::{fits, read_builtin, read_object};
 use classes::{classes_of_rows, hex_bytes};
 use printed::put_value;
 use rio_buffer::{ObjFault, ObjReader};
@@ -301,6 +301,75 @@ fn refuses(rt: HostRuntime) -> Result<(), Fail> {
         let mut printed = Bytes::new(rt.alloc());
         let read = printed_object(rt.alloc(), class, bytes, &mut printed);
         assert_eq!(rt; read, Err(*fault), "{bytes}");
+    }
+    Ok(())
+}
+
+// What an object is read of, the class that it is to fit, and whether it does.
+static FIT: [(&str, &str, &str, bool); 13] = [
+    (
+        "Node",
+        "40000033 0001 00000001 40000029 FFFFFFFF 4E6F646500 4000001C 0001 00000002 40000012 80000032 4000000A 0001 00000003 00000000",
+        "Node",
+        true,
+    ),
+    (
+        "Node",
+        "40000021 0001 00000001 40000017 FFFFFFFF 4E6F646500 4000000A 0001 00000002 0000002E",
+        "Node",
+        true,
+    ),
+    ("Node", "4000000A 0001 00000001 00000000", "Counts", false),
+    ("Counts", "40000009 0001 00000002 01 07FF", "Counts", true),
+    // The counter says another number.
+    ("Counts", "40000007 0001 00000002 00", "Counts", false),
+    ("TObject", "0001 00000005 00000000", "TObject", true),
+    ("TObject", "0001 00000005 00000010 0007", "TObject", false),
+    (
+        "TNamed",
+        "40000011 0001 0001 00000000 00000000 01 61 02 6263",
+        "TNamed",
+        true,
+    ),
+    (
+        "Holds",
+        "4000005D 0001 40000057 FFFFFFFF 544C69737400 40000049 0005 0001 00000000 00000000 00 00000001 40000033 FFFFFFFF 544F626A417272617900 40000021 0003 0001 00000000 00000000 00 00000003 00000000 0000002A 0000004D 00000000 00",
+        "Holds",
+        true,
+    ),
+    // A pointer to an object of a class without the member's class among its bases.
+    (
+        "Holds",
+        "40000021 0001 4000001B FFFFFFFF 4E6F646500 4000000E 0000 12345678 00000005 00000000",
+        "Holds",
+        false,
+    ),
+    // The same class is among the bases.
+    (
+        "Points",
+        "40000028 0001 40000022 FFFFFFFF 544F626A537472696E6700 4000000F 0001 0001 00000000 00000000 02 6869",
+        "Points",
+        true,
+    ),
+    ("TArrayC", "00000002 07FF", "TArrayC", true),
+    ("Nobody", "40000002 0001", "Nobody", false),
+];
+
+fn read_fits(alloc: Global, class: &str, bytes: &str, wanted: &str) -> Result<bool, ObjFault> {
+    let bytes = hex_bytes(alloc, bytes)?;
+    if bytes.len() > 10_000 {
+        return Err(ObjFault::NoMemory);
+    }
+    let classes = classes_of_rows(alloc)?;
+    let value = read_object(alloc, &classes, class.as_bytes(), bytes.as_slice(), 34)?;
+    Ok(fits(alloc, &classes, wanted.as_bytes(), &value)?)
+}
+
+#[test]
+fn tells_what_fits(rt: HostRuntime) -> Result<(), Fail> {
+    for (class, bytes, wanted, expected) in &FIT {
+        let told = read_fits(rt.alloc(), class, bytes, wanted);
+        assert_eq!(rt; told, Ok(*expected), "{wanted} {bytes}");
     }
     Ok(())
 }

@@ -69,6 +69,15 @@ fn holds(alloc: Global) -> Result<ClassDef, NoMemory> {
     class(alloc, "Holds", Bases::new(alloc), members)
 }
 
+fn points(alloc: Global) -> Result<ClassDef, NoMemory> {
+    let mut members = Members::new(alloc);
+    let object = Kind::Pointer {
+        class: Name::from_slice(alloc, b"TObject")?,
+    };
+    members.push(member(alloc, "p", object)?)?;
+    class(alloc, "Points", Bases::new(alloc), members)
+}
+
 // A class with a base, and a member of each other kind.
 fn all(alloc: Global) -> Result<ClassDef, NoMemory> {
     let mut bases = Bases::new(alloc);
@@ -98,6 +107,7 @@ pub(crate) fn classes_of_rows(alloc: Global) -> Result<Classes, NoMemory> {
     classes.push(late(alloc)?)?;
     classes.push(odd(alloc)?)?;
     classes.push(holds(alloc)?)?;
+    classes.push(points(alloc)?)?;
     classes.push(all(alloc)?)?;
     Ok(classes)
 }
