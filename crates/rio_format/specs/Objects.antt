@@ -95,7 +95,7 @@ count_at width s = do
 
 -- ---- headers
 
--- the end that a header's word gives; with both upper bits it counts more than any data have
+-- the end that a header's word gives; with both upper bits there is no count that could be right
 abbrev pub header_end_at : ℕ → ℕ → ReaderState → Step ℕ
 header_end_at place w s =
     if is_count w then end_at place w s else if nat_le (3 * 2 ^ 30) w then Err (BadCount place) else Err (NoCount place)

@@ -1,15 +1,17 @@
 -- What is read of data, and what spells it.
-use Rattle.std.proofs.Common.{◌≡◌, ℕ, List, ◌++◌, Result, Ok, Err, refl, ap, IfOk}
+use Rattle.std.proofs.Common.{◌≡◌, ℕ, ◌+◌, List, ◌++◌, length, Result, Ok, Err, refl, ap, subst, IfOk, arith}
 use Rattle.rio_types.specs.declared.class.ClassDef.{ClassDef}
 use Rattle.rio_value.specs.declared.value.Value.{Value}
 use Rattle.rio_format.specs.Laws.{AreBytes}
-use Rattle.rio_format.specs.Objects.{Step, first_at, only_value, value_at}
-use Rattle.rio_format.specs.Spelling.{Spells}
-use Rattle.rio_format.specs.ReaderState.{ReaderState}
+use Rattle.rio_format.specs.Objects.{Step, ReadsAs, depth_limit, first_at, object_at, only_value, value_at}
+use Rattle.rio_format.specs.Spelling.{Spells, SpellsObject}
+use Rattle.rio_format.specs.ReaderState.{ReaderState, WordsMet, standing}
 use Rattle.rio_format.specs.declared.fault.ObjFault.{ObjFault}
+use Rattle.rio_format.proofs.AgainObjects.{object_again}
+use Rattle.rio_format.proofs.FoundObjects.{object_found}
 use Rattle.rio_format.proofs.ObjectLaws.{read_is_spelled, spelled_is_read}
 use Rattle.rio_num.proofs.ReadLaws.{ok_is}
-use Rattle.rio_stream.specs.Reading.{Answers}
+use Rattle.rio_stream.specs.Reading.{Answers, IsRead, IsSpelled}
 
 read_at : (read : Step Value) (v : Value) → only_value read ≡ Ok v → (s : ReaderState) × (read ≡ Ok (v, s))
 read_at (Ok x) v e = (x.1, ap (λ (w : Value). let r : Step Value = Ok (w, x.1) in r) (ok_is {E = ObjFault} x.0 v e))
@@ -27,3 +29,16 @@ module _ (classes : List ClassDef) (class : List ℕ) (start : ℕ) (bytes : Lis
   is_only v front rest e spelled =
       let read = spelled_is_read classes class start v front rest spelled in
       rw (e, read.1) refl
+
+module _ (classes : List ClassDef) (class : List ℕ) (old new : ReaderState) where
+  pub is_spelled : (read : Result Value ObjFault) → AreBytes old.at.rest → ReadsAs (λ (x : Value). x) read (object_at depth_limit classes class old) new → IfOk read (λ v. IsSpelled classes class v old new)
+  is_spelled (Ok v) fits e =
+      let f = object_found depth_limit classes class old v new fits e in
+      record { front = f.bytes; parts = f.took.parts; place = f.took.place; spelled = f.spelled }
+  is_spelled (Err d) fits e = tt
+
+  pub is_read : (read : Result Value ObjFault) → ReadsAs (λ (x : Value). x) read (object_at depth_limit classes class old) new → IsRead classes class read old new
+  is_read read e v front rest words parts spelled =
+      let again : object_at depth_limit classes class (standing old.at.place old.at.rest old.words) ≡ Ok (v, standing (old.at.place + length front) rest words) =
+      rw parts (object_again depth_limit classes class old.at.place old.words v front words rest spelled) in
+      subst (λ (r : Step Value). ReadsAs (λ (x : Value). x) read r new) again e

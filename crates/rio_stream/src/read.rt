@@ -1,9 +1,10 @@
 ghost use Rattle.std.specs.Prelude.{◌≡◌, ℕ, ◌+◌, ◌<◌, ◌^◌, List, ◌++◌, length, Ok, IfOk, IsTrue};
 ghost use Rattle.rio_num.specs.At.{GoesOn};
+ghost use Rattle.rio_format.specs.Laws.{AreBytes};
 ghost use Rattle.rio_format.specs.Objects.{ReadsAs, depth_limit, object_at, value_at};
 ghost use Rattle.rio_format.specs.Spelling.{Spells};
 ghost use Rattle.rio_value.specs.declared.value.Value.{Value as Spelled};
-ghost use Rattle.rio_stream.specs.Reading.{Answers, is_small_builtin};
+ghost use Rattle.rio_stream.specs.Reading.{Answers, IsRead, IsSpelled, is_small_builtin};
 
 use crate::object;
 use rio_buffer::{ObjFault, ObjReader};
@@ -60,6 +61,11 @@ pub fn read_builtin(
     class: &[u8],
 ) -> Result<Value, ObjFault>
     requires { IsTrue (is_small_builtin class.now) }
+    // What is read is spelled by the bytes that were passed.
+    ensures found { AreBytes reader.old.at.rest → IfOk result (λ v. IsSpelled classes.now class.now v reader.old reader.new) }
+    // What the front of the bytes spells is read, unless memory runs out.
+    ensures only { IsRead classes.now class.now result reader.old reader.new }
+    // Which value it is, or which fault.
     ensures exact { ReadsAs (λ x. x) result (object_at depth_limit classes.now class.now reader.old) reader.new }
     ensures goes { GoesOn reader.old.at reader.new.at }
 {

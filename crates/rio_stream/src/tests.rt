@@ -19,7 +19,7 @@ struct Row {
 }
 
 // Objects whose first byte has the place 34.
-static READ: [Row; 21] = [
+static READ: [Row; 24] = [
     Row {
         class: "Node",
         bytes: "40000033 0001 00000001 40000029 FFFFFFFF 4E6F646500 4000001C 0001 00000002 40000012 80000032 4000000A 0001 00000003 00000000 000000",
@@ -111,6 +111,24 @@ static READ: [Row; 21] = [
         bytes: "4000000A 0007 00000005 00000000",
         text: "opaque(Node, 10)",
     },
+    // The checksum is no description's.
+    Row {
+        class: "Node",
+        bytes: "4000000E 0000 12345679 00000005 00000000",
+        text: "opaque(Node, 14)",
+    },
+    // A base and a member that aren't read, and what stands behind them.
+    Row {
+        class: "Mixed",
+        bytes: "40000011 0001 40000002 0001 40000003 0001 FF FFFE",
+        text: "Mixed#1{opaque(Nobody, 2), o: opaque(Nobody, 3), i: -2}",
+    },
+    // An object behind a pointer that isn't read, and another pointer.
+    Row {
+        class: "TObjArray",
+        bytes: "4000002E 0003 0001 00000000 00000000 00 00000002 00000000 40000011 FFFFFFFF 4E6F626F647900 40000002 0001 00000000",
+        text: "TObjArray#3{TObject#1{fUniqueID: 0, fBits: 0}, fName: \"\", fLowerBound: 0, items: [@0=opaque(Nobody, 2), null]}",
+    },
     // The class isn't.
     Row {
         class: "Nobody",
@@ -131,7 +149,7 @@ static READ: [Row; 21] = [
     },
 ];
 
-static REFUSED: [(&str, &str, ObjFault); 20] = [
+static REFUSED: [(&str, &str, ObjFault); 23] = [
     (
         "Node",
         "",
@@ -199,6 +217,23 @@ static REFUSED: [(&str, &str, ObjFault); 20] = [
             word: 69,
         },
     ),
+    // One off the count word, and the object that begins the data.
+    (
+        "Node",
+        "40000021 0001 00000001 40000017 FFFFFFFF 4E6F646500 4000000A 0001 00000002 0000002F",
+        ObjFault::UnknownRef {
+            place: 67,
+            word: 47,
+        },
+    ),
+    (
+        "Node",
+        "4000000A 0001 00000001 00000024",
+        ObjFault::UnknownRef {
+            place: 44,
+            word: 36,
+        },
+    ),
     (
         "Node",
         "4000000A 0001 00000001 00000001",
@@ -213,6 +248,14 @@ static REFUSED: [(&str, &str, ObjFault); 20] = [
         "Counts",
         "40000009 0001 FFFFFFFF 01 07FF",
         ObjFault::BadCount { place: 44 },
+    ),
+    (
+        "Counts",
+        "40000009 0001 7FFFFFFF 01 07FF",
+        ObjFault::Short {
+            place: 47,
+            wanted: 1,
+        },
     ),
     (
         "Counts",
@@ -417,6 +460,15 @@ fn reads_as_deep_as_it_may(rt: HostRuntime) -> Result<(), Fail> {
         depth_of_chain(rt.alloc(), 257),
         Err(ObjFault::TooDeep { place: 4647 })
     );
+    Ok(())
+}
+
+#[test]
+fn refuses_a_built_in_one(rt: HostRuntime) -> Result<(), Fail> {
+    let classes = classes_of_rows(rt.alloc()).ok().ok_or("classes")?;
+    let mut reader = ObjReader::new(rt.alloc(), b"\0\x02\0\0\0\0\0\0\0\0", 7);
+    let object = read_builtin(rt.alloc(), &classes, &mut reader, b"TObject");
+    assert!(rt; matches!(object, Err(ObjFault::NoCount { place: 7 })));
     Ok(())
 }
 

@@ -100,6 +100,22 @@ fn all(alloc: Global) -> Result<ClassDef, NoMemory> {
     class(alloc, "All", bases, members)
 }
 
+// A base and a member of a class that isn't described.
+fn mixed(alloc: Global) -> Result<ClassDef, NoMemory> {
+    let mut bases = Bases::new(alloc);
+    bases.push(Base {
+        name: Name::from_slice(alloc, b"Nobody")?,
+        version: 1,
+    })?;
+    let mut members = Members::new(alloc);
+    let nobody = Kind::Inline {
+        class: Name::from_slice(alloc, b"Nobody")?,
+    };
+    members.push(member(alloc, "o", nobody)?)?;
+    members.push(member(alloc, "i", Kind::Plain { of: Prim::I16 })?)?;
+    class(alloc, "Mixed", bases, members)
+}
+
 pub(crate) fn classes_of_rows(alloc: Global) -> Result<Classes, NoMemory> {
     let mut classes = Classes::new(alloc);
     classes.push(node(alloc)?)?;
@@ -109,6 +125,7 @@ pub(crate) fn classes_of_rows(alloc: Global) -> Result<Classes, NoMemory> {
     classes.push(holds(alloc)?)?;
     classes.push(points(alloc)?)?;
     classes.push(all(alloc)?)?;
+    classes.push(mixed(alloc)?)?;
     Ok(classes)
 }
 
