@@ -1,16 +1,14 @@
 -- Whether the parts of an object fit, one after the other.
-use Rattle.std.proofs.Common.{◌≡◌, ◌≤◌, ◌<◌, ℕ, ◌+◌, List, [], ◌∷◌, ◌++◌, length, drop, map, Bool, true, false, Option, Some, None, if◌then◌else◌, ◌&&◌, ◌==◌, not, refl, sym, ap, ◌∙◌, slice_index_or, Ok, arith, inl, inr, length-drop}
+use Rattle.std.proofs.Common.{◌≡◌, ◌≤◌, ◌<◌, ℕ, ◌+◌, List, [], ◌∷◌, length, drop, map, Bool, true, false, Option, Some, None, if◌then◌else◌, not, refl, sym, ap, ◌∙◌, slice_index_or, Ok, arith, inl, inr, length-drop}
 use Rattle.std.specs.Prelude.{ℤ, nat_le, option_and_then, unwrap_or}
 use Rattle.std.specs.Option.{option_map}
 use Rattle.std.specs.Str.{bytes_eq}
-use Rattle.std.proofs.lemmas.Bool.{eqb-false, ne_eqb, true_from_ne_false}
 use Rattle.std.proofs.lemmas.Bool.Decides.{leb_tells}
 use Rattle.std.proofs.lemmas.List.{drop_more, drop_all}
-use Rattle.rio_types.specs.declared.class.ClassDef.{ClassDef}
-use Rattle.rio_types.specs.declared.kind.Kind.TheVariants.{Counter, Inline}
+use Rattle.rio_types.specs.declared.kind.Kind.TheVariants.{Counter}
 use Rattle.rio_format.specs.Bodies.{Counters}
-use Rattle.rio_format.specs.Fits.{Fitting, Labels, counted_slot, counted_so_far, fields_fit, may_point, pointed_fits}
-use Rattle.rio_format.specs.Slots.{Field, Slot, kinded}
+use Rattle.rio_format.specs.Fits.{Fitting, Labels, counted_slot, counted_so_far, fields_fit}
+use Rattle.rio_format.specs.Slots.{Field, kinded}
 use Rattle.rio_stream.specs.Fitting.{Tells, counter_fits, part_fits}
 
 -- ---- one part
