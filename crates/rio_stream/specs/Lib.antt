@@ -1,3 +1,4 @@
+pub mod Bases
 pub mod Bodies
 pub mod Fitting
 pub mod Lists

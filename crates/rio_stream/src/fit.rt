@@ -245,7 +245,7 @@ fn labelled_fits(
     if label as usize != owners.len() {
         return Ok(false);
     }
-    if !may_point(classes, &owner, slot) {
+    if !may_point(alloc, classes, &owner, slot)? {
         return Ok(false);
     }
     let class = owner.0.copy()?;
@@ -259,12 +259,18 @@ fn labelled_fits(
     )
 }
 
-fn back_fits(classes: &Classes, label: u32, slot: Slot, owners: &Owners) -> bool
-    ensures { result ≡ back_fits classes.now (slice_get owners.now label) (slot_as slot.entry) }
+fn back_fits(
+    alloc: Global,
+    classes: &Classes,
+    label: u32,
+    slot: Slot,
+    owners: &Owners,
+) -> Result<bool, NoMemory>
+    ensures { IfOk result (λ b. b ≡ back_fits classes.now (slice_get owners.now label) (slot_as slot.entry)) }
 {
     match owners.get(label as usize) {
-        Some(owner) => may_point(classes, owner, slot),
-        None => false,
+        Some(owner) => may_point(alloc, classes, owner, slot),
+        None => Ok(false),
     }
 }
 
@@ -300,7 +306,7 @@ fn value_fits(
             pointed_fits(alloc, classes, *label, object.get(), slot, owners)
         }
         Value::Null => Ok(is_pointer(slot)),
-        Value::Back(label) => Ok(back_fits(classes, *label, slot, owners)),
+        Value::Back(label) => back_fits(alloc, classes, *label, slot, owners),
         Value::Opaque { .. } => Ok(false),
     }
 }
