@@ -1,11 +1,11 @@
 -- What is read of data, and what spells it.
-use Rattle.std.proofs.Common.{◌≡◌, ℕ, ◌+◌, List, ◌++◌, length, Result, Ok, Err, refl, ap, subst, IfOk, arith}
+use Rattle.std.proofs.Common.{◌≡◌, ℕ, ◌+◌, List, ◌++◌, length, Result, Ok, Err, refl, ap, subst, IfOk}
 use Rattle.rio_types.specs.declared.class.ClassDef.{ClassDef}
 use Rattle.rio_value.specs.declared.value.Value.{Value}
 use Rattle.rio_format.specs.Laws.{AreBytes}
 use Rattle.rio_format.specs.Objects.{Step, ReadsAs, depth_limit, first_at, object_at, only_value, value_at}
-use Rattle.rio_format.specs.Spelling.{Spells, SpellsObject}
-use Rattle.rio_format.specs.ReaderState.{ReaderState, WordsMet, standing}
+use Rattle.rio_format.specs.Spelling.{Spells}
+use Rattle.rio_format.specs.ReaderState.{ReaderState, standing}
 use Rattle.rio_format.specs.declared.fault.ObjFault.{ObjFault}
 use Rattle.rio_format.proofs.AgainObjects.{object_again}
 use Rattle.rio_format.proofs.FoundObjects.{object_found}
