@@ -6,6 +6,10 @@ use Rattle.std.specs.List.{flat_map, list_all}
 abbrev pub hex_digit : ℕ → ℕ
 hex_digit n = if nat_lt n 10 then 48 + n else 87 + n
 
+-- two digits for each byte, the one of its upper half first
+unfoldable pub hex_text : List ℕ → List ℕ
+hex_text bytes = flat_map (λ b. hex_digit (b / 16) ∷ hex_digit (b % 16) ∷ []) bytes
+
 -- a byte within a string
 abbrev pub escaped : ℕ → List ℕ
 escaped b =

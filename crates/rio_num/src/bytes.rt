@@ -2,6 +2,7 @@ ghost use Rattle.std.specs.Prelude.{◌≡◌, ◌+◌, ◌≤◌, ◌++◌, len
 ghost use Rattle.byteorder.specs.Endian.{big_bytes};
 
 use crate::NoMemory;
+use crate::printed::hex_of;
 use itoa::Buffer;
 use std::alloc::Global;
 use std::marker::Model;
@@ -27,9 +28,10 @@ impl Model for Bytes {
 impl Bytes {
     ghost use Rattle.std.specs.Prelude.{◌≡◌, ◌+◌, ◌<◌, ◌≤◌, ◌^◌, ◌↔◌, [], ◌∷◌, ◌++◌, max, length, slice_get, IsTrue, OnOk, OnErr, IfOk};
     ghost use Rattle.std.specs.Option.{option_copied};
-    ghost use Rattle.std.specs.Fmt.{decimal};
+    ghost use Rattle.std.specs.Fmt.{decimal, signed_decimal};
     ghost use Rattle.byteorder.specs.Endian.{big_bytes};
     ghost use Rattle.rio_num.specs.Room.{Appends, room_of, padding};
+    ghost use Rattle.rio_num.specs.Printed.{hex_text};
     ghost use Rattle.rio_num.specs.Text.{text_bytes};
 
     /// No bytes.
@@ -77,6 +79,11 @@ impl Bytes {
         self.items.as_slice()
     }
 
+    /// Where the bytes take their memory from.
+    pub fn allocator(&self) -> Global {
+        *self.items.allocator()
+    }
+
     /// Equal bytes, with as many spare.
     pub fn copy(&self) -> Result<Bytes, NoMemory>
         ensures { IfOk result (λ b. b ≡ self.now) }
@@ -101,6 +108,20 @@ impl Bytes {
         self.items.reserve(n as usize)?;
         self.spare = n as usize;
         Ok(())
+    }
+
+    // The same for a number that may be above every memory's.
+    pub(crate) fn reserve_wide(&mut self, n: u128) -> Result<(), NoMemory>
+        ensures ok { OnOk result (self.new ≡ record self.old { spare = max self.old.spare n }) }
+        ensures err { OnErr result ((self.new ≡ self.old) × (self.old.spare < n)) }
+    {
+        if n <= self.spare as u128 {
+            return Ok(());
+        }
+        if n > u128::from(u64::MAX) {
+            return Err(NoMemory);
+        }
+        self.reserve(n as u64)
     }
 
     /// Puts a byte at the end.
@@ -177,6 +198,28 @@ impl Bytes {
         self.put(Buffer::new().format(v).as_bytes())
     }
 
+    /// Puts an integer at the end in decimal digits, behind a `-` where it is negative.
+    pub fn put_integer(&mut self, v: i128) -> Result<(), NoMemory>
+        ensures { Appends self.old self.new (signed_decimal v) result }
+    {
+        self.put(Buffer::new().format(v).as_bytes())
+    }
+
+    /// Puts the bits of a number at the end: 8 hexadecimal digits, in lower case.
+    pub fn put_hex8(&mut self, v: u32) -> Result<(), NoMemory>
+        ensures { Appends self.old self.new (hex_text (big_bytes 4 v)) result }
+    {
+        self.put(&hex_of(v.to_be_bytes()))
+    }
+
+    /// Puts the bits of a number at the end: 16 hexadecimal digits, in lower case.
+    pub fn put_hex16(&mut self, v: u64) -> Result<(), NoMemory>
+        ensures { Appends self.old self.new (hex_text (big_bytes 8 v)) result }
+    {
+        let [a, b, c, d, e, f, g, h] = v.to_be_bytes();
+        self.put_both(&hex_of([a, b, c, d]), &hex_of([e, f, g, h]))
+    }
+
     /// Puts zero bytes at the end, up to a length that is a multiple of four.
     pub fn pad4(&mut self) -> Result<(), NoMemory>
         ensures { Appends self.old self.new (padding self.old.bytes) result }
@@ -200,4 +243,30 @@ pub fn patch_u32(bytes: &mut [u8], place: usize, v: u32)
     ensures { bytes.new ≡ take place bytes.old ++ (big_bytes 4 v ++ drop (place + 4) bytes.old) }
 {
     bytes[place..place + 4].copy_from_slice(&v.to_be_bytes());
+}
+
+#[cfg(test)]
+mod tests {
+    use super::*;
+    use std::test::Fail;
+
+    #[test]
+    fn prints(rt: HostRuntime) -> Result<(), Fail> {
+        let mut text = Bytes::new(rt.alloc());
+        text.put_integer(-170141183460469231731687303715884105728)?;
+        text.push(b' ')?;
+        text.put_integer(70000)?;
+        text.put(b" 0x")?;
+        text.put_hex8(0x3f80000a)?;
+        text.put(b" 0x")?;
+        text.put_hex16(0x9)?;
+        text.push(b' ')?;
+        text.put_name(b"a+b")?;
+        text.push(b' ')?;
+        text.put_name(b"a;\"\\\n\t\x00\x7f\xff")?;
+        let expected =
+            br#"-170141183460469231731687303715884105728 70000 0x3f80000a 0x0000000000000009 a+b "a;\"\\\n\t\x00\x7f\xff""#;
+        assert!(rt; text.as_slice() == expected.as_slice());
+        Ok(())
+    }
 }

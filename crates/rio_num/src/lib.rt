@@ -8,6 +8,7 @@ mod items;
 mod name;
 mod no_memory;
 mod printed;
+mod word;
 
 pub use boxed::Boxed;
 pub use bytes::{Bytes, patch_u32};
@@ -16,6 +17,7 @@ pub use items::Items;
 pub use name::Name;
 pub use no_memory::NoMemory;
 pub use printed::{printed_name, printed_string};
+pub use word::{is_item, is_name};
 
 /// A list of names, as the words of a command line.
 pub type Words = Items<Name>;

@@ -1,8 +1,9 @@
-ghost use Rattle.std.specs.Prelude.{◌≡◌, [], ◌∷◌, ◌++◌, ◌<◌, IfOk, OnOk};
+ghost use Rattle.std.specs.Prelude.{◌≡◌, [], ◌∷◌, ◌++◌, ◌<◌, length, IfOk, OnOk};
 ghost use Rattle.std.specs.List.{list_all};
-ghost use Rattle.rio_num.specs.Printed.{escaped, hex_digit, is_bare, is_bare_name, name_text, string_text};
+ghost use Rattle.rio_num.specs.Room.{Appends};
+ghost use Rattle.rio_num.specs.Printed.{escaped, hex_digit, hex_text, is_bare, is_bare_name, name_text, string_text};
 
-use crate::{Name, NoMemory};
+use crate::{Bytes, Name, NoMemory};
 use std::alloc::Global;
 
 fn hex_digit_of(n: u8) -> u8
@@ -10,6 +11,24 @@ fn hex_digit_of(n: u8) -> u8
     ensures { result ≡ hex_digit n }
 {
     if n < 10 { 48 + n } else { 87 + n }
+}
+
+// Two digits for each byte, the one of its upper half first.
+#[tactic(auto, unfolding(crate::specs::Printed::hex_text))]
+pub(crate) fn hex_of(bytes: [u8; 4]) -> [u8; 8]
+    ensures { result ≡ hex_text bytes }
+{
+    let [a, b, c, d] = bytes;
+    [
+        hex_digit_of(a / 16),
+        hex_digit_of(a % 16),
+        hex_digit_of(b / 16),
+        hex_digit_of(b % 16),
+        hex_digit_of(c / 16),
+        hex_digit_of(c % 16),
+        hex_digit_of(d / 16),
+        hex_digit_of(d % 16),
+    ]
 }
 
 // Puts a byte of a string at the end, escaped where it has to be.
@@ -79,5 +98,73 @@ pub fn printed_name(alloc: Global, name: &[u8]) -> Result<Name, NoMemory>
         Name::from_slice(alloc, name)
     } else {
         printed_string(alloc, name)
+    }
+}
+
+// How many bytes the text is printed in as a string.
+#[tactic(auto, unfolding(crate::specs::Printed::string_text))]
+fn string_length(text: &[u8]) -> u128
+    ensures { result ≡ length (string_text text.now) }
+{
+    let mut n: u128 = 2;
+    for byte in text {
+        n += u128::from(escaped_length(*byte));
+    }
+    n
+}
+
+fn escaped_length(byte: u8) -> u8
+    ensures { result ≡ length (escaped byte) }
+{
+    match byte {
+        b'"' | b'\\' | b'\n' | b'\t' => 2,
+        0x20..=0x7e => 1,
+        _ => 4,
+    }
+}
+
+impl Bytes {
+    // Puts a byte of a string at the end, escaped where it has to be.
+    fn put_escaped(&mut self, byte: u8) -> Result<(), NoMemory>
+        ensures { Appends self.old self.new (escaped byte) result }
+    {
+        match byte {
+            b'"' => self.put(b"\\\""),
+            b'\\' => self.put(b"\\\\"),
+            b'\n' => self.put(b"\\n"),
+            b'\t' => self.put(b"\\t"),
+            0x20..=0x7e => self.push(byte),
+            _ => self.put(&[
+                b'\\',
+                b'x',
+                hex_digit_of(byte / 16),
+                hex_digit_of(byte % 16),
+            ]),
+        }
+    }
+
+    /// Puts a text at the end as it is printed in double quotes, as `printed_string` says.
+    #[tactic(auto, unfolding(crate::specs::Printed::string_text))]
+    pub fn put_string(&mut self, text: &[u8]) -> Result<(), NoMemory>
+        ensures { Appends self.old self.new (string_text text.now) result }
+    {
+        self.reserve_wide(string_length(text))?;
+        self.push(b'"')?;
+        for byte in text {
+            self.put_escaped(*byte)?;
+        }
+        self.push(b'"')
+    }
+
+    /// Puts a name of a file at the end as it is printed, as `printed_name` says.
+    #[tactic(auto, unfolding(crate::specs::Printed::name_text))]
+    pub fn put_name(&mut self, name: &[u8]) -> Result<(), NoMemory>
+        ensures { Appends self.old self.new (name_text name.now) result }
+    {
+        if is_bare_text(name) {
+            self.put(name)
+        } else {
+            self.put_string(name)
+        }
     }
 }

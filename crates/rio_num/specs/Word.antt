@@ -1,0 +1,25 @@
+-- Names and items: words of scripts and of command lines. Both have at most 100 bytes.
+use Rattle.std.specs.Prelude.{ℕ, List, [], ◌∷◌, Bool, false, length, nat_le, ◌==◌, ◌&&◌, ◌||◌, not}
+use Rattle.std.specs.Char.{is_ascii_alphabetic, is_ascii_alphanumeric}
+use Rattle.std.specs.List.{list_all}
+
+-- a letter or _
+abbrev pub begins_name : ℕ → Bool
+begins_name b = is_ascii_alphabetic b || (b == 95)
+
+-- a letter, a digit or _
+abbrev pub goes_on_name : ℕ → Bool
+goes_on_name b = is_ascii_alphanumeric b || (b == 95)
+
+-- the name of a class, a member or a leaf
+abbrev pub is_name_text : List ℕ → Bool
+is_name_text [] = false
+is_name_text (b ∷ bs) = begins_name b && list_all goes_on_name bs && nat_le (length (b ∷ bs)) 100
+
+-- a letter, a digit, or one of _ . - +
+abbrev pub is_item_byte : ℕ → Bool
+is_item_byte b = is_ascii_alphanumeric b || (b == 95) || (b == 46) || (b == 45) || (b == 43)
+
+-- the name of an object or a tree
+abbrev pub is_item_text : List ℕ → Bool
+is_item_text text = not (length text == 0) && list_all is_item_byte text && nat_le (length text) 100

@@ -1,0 +1,72 @@
+ghost use Rattle.std.specs.Prelude.{◌≡◌};
+ghost use Rattle.std.specs.List.{list_all};
+ghost use Rattle.rio_num.specs.Word.{goes_on_name, is_item_byte, is_item_text, is_name_text};
+
+fn goes_on(byte: u8) -> bool
+    ensures { result ≡ goes_on_name byte }
+{
+    byte.is_ascii_alphanumeric() || byte == b'_'
+}
+
+fn all_go_on(bytes: &[u8]) -> bool
+    ensures { result ≡ list_all goes_on_name bytes.now }
+{
+    bytes.iter().all(|byte| goes_on(*byte))
+}
+
+/// Whether the text is a name, as of a class, a member or a leaf: a letter or `_`, and then letters,
+/// digits and `_`, of at most 100 bytes in all.
+pub fn is_name(text: &[u8]) -> bool
+    ensures { result ≡ is_name_text text.now }
+{
+    match text {
+        [] => false,
+        [first, rest @ ..] => {
+            (first.is_ascii_alphabetic() || *first == b'_') && all_go_on(rest) && text.len() <= 100
+        }
+    }
+}
+
+fn is_of_item(byte: u8) -> bool
+    ensures { result ≡ is_item_byte byte }
+{
+    byte.is_ascii_alphanumeric() || byte == b'_' || byte == b'.' || byte == b'-' || byte == b'+'
+}
+
+fn all_of_item(bytes: &[u8]) -> bool
+    ensures { result ≡ list_all is_item_byte bytes.now }
+{
+    bytes.iter().all(|byte| is_of_item(*byte))
+}
+
+/// Whether the text is an item, which names an object or a tree: letters, digits and `_ . - +`, of at
+/// least one byte and at most 100.
+pub fn is_item(text: &[u8]) -> bool
+    ensures { result ≡ is_item_text text.now }
+{
+    !text.is_empty() && all_of_item(text) && text.len() <= 100
+}
+
+#[cfg(test)]
+mod tests {
+    use super::*;
+
+    #[test]
+    fn tells_names(rt: HostRuntime) {
+        assert!(rt; is_name(b"_val2"));
+        assert!(rt; is_name(&[b'Z'; 100]));
+        assert!(rt; !is_name(&[b'Z'; 101]));
+        assert!(rt; !is_name(b"2val"));
+        assert!(rt; !is_name(b"A-B"));
+        assert!(rt; !is_name(b""));
+    }
+
+    #[test]
+    fn tells_items(rt: HostRuntime) {
+        assert!(rt; is_item(b"7.run-a+b_c"));
+        assert!(rt; is_item(&[b'+'; 100]));
+        assert!(rt; !is_item(&[b'+'; 101]));
+        assert!(rt; !is_item(b"a;1"));
+        assert!(rt; !is_item(b""));
+    }
+}
