@@ -14,7 +14,8 @@ use Rattle.rio_types.specs.declared.kind.Primitive.{Primitive}
 use Rattle.rio_types.specs.declared.kind.Primitive.TheVariants.{I8, I16, I32, I64, F32, F64}
 use Rattle.rio_value.specs.declared.value.Value.{Value, Object}
 use Rattle.rio_value.specs.declared.value.Part.{Part}
-use Rattle.rio_format.specs.Bodies.{Form, bare, numbers, headed, form_of, Body, described, listed, arrayed, opaque, t_named, t_obj_string, built_in, by_description, can_read_all}
+use Rattle.rio_format.specs.Bodies.{Form, bare, numbers, headed, form_of, Body, described, listed, arrayed, opaque, t_named, t_obj_string, built_in, by_description}
+use Rattle.rio_types.specs.Members.{can_read_all}
 use Rattle.rio_format.specs.Fits.{Labels, Fitting, fields_fit, parts_fit}
 use Rattle.rio_format.specs.Slots.{Field, field, kinded, many, body_fields, form_fields}
 use Rattle.rio_format.specs.Spelling.{Spellings, SpellsBody, SpellsForm, SpellsVersion, IsBare, IsArray}

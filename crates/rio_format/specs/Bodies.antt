@@ -1,16 +1,16 @@
 -- What stands in an object of a class: the classes with a body of their own, and the parts of a class that is described.
-use Rattle.std.specs.Prelude.{ℕ, ℤ, pos, List, [], ◌∷◌, ◌++◌, map, codes, Bool, true, false, ◌&&◌, Option, Some, None, unwrap_or, if◌then◌else◌}
+use Rattle.std.specs.Prelude.{ℕ, ℤ, pos, List, [], ◌∷◌, ◌++◌, map, codes, ◌&&◌, Option, Some, None, unwrap_or, if◌then◌else◌}
 use Rattle.std.specs.Str.{bytes_eq}
-use Rattle.std.specs.List.{list_any}
 use Rattle.std.specs.Map.{lookup}
 use Rattle.std.specs.Option.{option_map_or}
 use Rattle.std.specs.Ordering.{int_eq}
 use Rattle.rio_types.specs.Classes.{find_in, find_sum_in}
+use Rattle.rio_types.specs.Members.{is_counter, can_read_all}
 use Rattle.rio_types.specs.declared.class.Base.{Base}
 use Rattle.rio_types.specs.declared.class.ClassDef.{ClassDef}
 use Rattle.rio_types.specs.declared.class.Member.{Member}
 use Rattle.rio_types.specs.declared.kind.Kind.{Kind}
-use Rattle.rio_types.specs.declared.kind.Kind.TheVariants.{Plain, Counter, Fixed, Counted, Text, Inline, Pointer, Other}
+use Rattle.rio_types.specs.declared.kind.Kind.TheVariants.{Text, Inline}
 use Rattle.rio_types.specs.declared.kind.Primitive.{Primitive}
 use Rattle.rio_types.specs.declared.kind.Primitive.TheVariants.{I8, I16, I32, I64, F32, F64}
 use Rattle.rio_value.specs.declared.value.Value.{Value, out-Value}
@@ -80,35 +80,6 @@ picked classes class version (Some sum) = find_sum_in classes class sum
 abbrev pub stated_version : List ClassDef → List ℕ → ℤ → Option ℕ → ℤ
 stated_version classes class version None = version
 stated_version classes class version (Some sum) = option_map_or (λ c. c.version) (find_sum_in classes class sum) (pos 0)
-
--- a member can be read behind counters of these names
-abbrev pub can_read : List (List ℕ) → Kind → Bool
-can_read counters (Plain of) = true
-can_read counters Counter = true
-can_read counters (Fixed of count) = true
-can_read counters (Counted of counter) = list_any (bytes_eq counter) counters
-can_read counters Text = true
-can_read counters (Inline class) = true
-can_read counters (Pointer class) = true
-can_read counters (Other code) = false
-
-abbrev pub is_counter : Kind → Bool
-is_counter (Plain of) = false
-is_counter Counter = true
-is_counter (Fixed of count) = false
-is_counter (Counted of counter) = false
-is_counter Text = false
-is_counter (Inline class) = false
-is_counter (Pointer class) = false
-is_counter (Other code) = false
-
-abbrev pub names_with : Member → List (List ℕ) → List (List ℕ)
-names_with m counters = if is_counter m.kind then m.name ∷ counters else counters
-
--- none is of a kind that can't be read, and each counter stands before the member that it counts
-abbrev pub can_read_all : List (List ℕ) → List Member → Bool
-can_read_all counters [] = true
-can_read_all counters (m ∷ ms) = can_read counters m.kind && can_read_all (names_with m counters) ms
 
 abbrev pub by_description : Option ClassDef → Body
 by_description None = opaque

@@ -1,5 +1,5 @@
 -- How reading, spelling and writing of objects belong together.
-use Rattle.std.specs.Prelude.{◌≡◌, ◌≤◌, ◌<◌, ℕ, ◌+◌, ◌-◌, ◌^◌, pos, int_le, Bool, true, ◌&&◌, List, ◌++◌, length, slice_index, Ok, Err, IsTrue}
+use Rattle.std.specs.Prelude.{◌≡◌, ◌≤◌, ◌<◌, ℕ, ◌+◌, ◌-◌, ◌^◌, ℤ, pos, int_le, Bool, true, ◌&&◌, List, ◌++◌, length, slice_index, Ok, Err, IsTrue}
 use Rattle.std.specs.List.{list_all}
 use Rattle.rio_types.specs.declared.class.ClassDef.{ClassDef}
 use Rattle.rio_value.specs.Depth.{depth_of}
@@ -8,6 +8,7 @@ use Rattle.rio_value.specs.declared.value.Value.TheOpen.{Value-F, Int, Bits32, B
 use Rattle.rio_value.specs.declared.value.Value.TheFolds.{fold-Value}
 use Rattle.rio_format.specs.Fits.{Fits}
 use Rattle.rio_format.specs.Objects.{first_at, depth_limit}
+use Rattle.rio_format.specs.Slots.{has_base}
 use Rattle.rio_format.specs.Spelling.{Spells}
 use Rattle.rio_format.specs.ReaderState.{ReaderState}
 use Rattle.rio_format.specs.Written.{written_form}
@@ -59,3 +60,8 @@ has_versions = fold-Value Bool Bool versions_step (λ p. p.value)
 abbrev pub WrittenIsSpelled : Type 0
 WrittenIsSpelled = (classes : List ClassDef) (class : List ℕ) (start : ℕ) (v : Value) → Fits classes class v → depth_of v ≤ depth_limit → IsTrue (has_versions v) → start + length (written_form classes start v) ≤ 2 ^ 30 - 2
     → Spells classes start class v (written_form classes start v)
+
+-- more levels than there are classes and one more find no further base
+abbrev pub NoBaseIsDeeper : Type 0
+NoBaseIsDeeper = (classes : List ClassDef) (target class : List ℕ) (version : ℤ) (levels : ℕ) → length classes + 1 ≤ levels
+    → has_base levels classes target class version ≡ has_base (length classes + 1) classes target class version

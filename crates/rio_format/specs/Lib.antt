@@ -1,4 +1,7 @@
 pub mod Bodies
+pub mod ClassList
+pub mod Descriptions
+pub mod Elements
 pub mod Fits
 pub mod Laws
 pub mod Objects
@@ -6,4 +9,5 @@ pub mod Prims
 pub mod ReaderState
 pub mod Slots
 pub mod Spelling
+pub mod ValueParts
 pub mod Written

@@ -1,4 +1,4 @@
-ghost use Rattle.rio_format.specs.Laws.{FaultIsNotSpelled, IsSpelledOnce, ReadIsSpelled, SpelledIsRead, WrittenIsSpelled};
+ghost use Rattle.rio_format.specs.Laws.{FaultIsNotSpelled, IsSpelledOnce, NoBaseIsDeeper, ReadIsSpelled, SpelledIsRead, WrittenIsSpelled};
 
 /// What spells an object is read as it, whatever follows, and reading stands behind it.
 pub fn spelled_is_read()
@@ -24,4 +24,9 @@ pub fn fault_is_not_spelled()
 /// can be written and its places are below 2^30 - 2.
 pub fn written_is_spelled()
     ensures { WrittenIsSpelled }
+{}
+
+/// A class that has another among its bases has it within as many levels as there are classes and one more.
+pub fn no_base_is_deeper()
+    ensures { NoBaseIsDeeper }
 {}

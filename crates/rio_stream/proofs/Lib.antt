@@ -1,8 +1,13 @@
 pub mod BaseLaws
 pub mod Closed
-pub mod CounterLaws
 pub mod Counts
 pub mod Each
 pub mod FitLaws
+pub mod MeasureLaws
+pub mod MeasureParts
+pub mod MeasureValues
 pub mod Parts
 pub mod ReadLaws
+pub mod WriteLaws
+pub mod WriteParts
+pub mod WriteValues

@@ -1,9 +1,8 @@
 -- What the code's own types stand for.
-use Rattle.std.specs.Prelude.{ℕ, List, [], ◌∷◌, Option, Some, None, fold}
+use Rattle.std.specs.Prelude.{ℕ, List, [], ◌∷◌, Option, Some, None}
 use Rattle.rio_value.specs.declared.value.Part.{Part}
-use Rattle.rio_format.specs.Bodies.{Form, bare, numbers, headed, Body, described, listed, arrayed, opaque, names_with, t_named, t_obj_string}
+use Rattle.rio_format.specs.Bodies.{Form, bare, numbers, headed, Body, described, listed, arrayed, opaque, t_named, t_obj_string}
 use Rattle.rio_format.specs.Objects.{pid_part}
-use Rattle.rio_types.specs.declared.class.Member.{Member}
 use Rattle.rio_stream.specs.declared.body.Body.{Body as Behind}
 use Rattle.rio_stream.specs.declared.body.Body.TheVariants.{Described, Named, ObjString, Listed, Arrayed, Opaque}
 use Rattle.rio_stream.specs.declared.shape.Shape.{Shape}
@@ -26,7 +25,3 @@ body_as ObjString = described t_obj_string
 body_as Listed = listed
 body_as Arrayed = arrayed
 body_as Opaque = opaque
-
--- the names of the counters among members, the last one first
-abbrev pub counters_in : List Member → List (List ℕ)
-counters_in members = fold (λ counters m. names_with m counters) [] members

@@ -1,14 +1,14 @@
 //! What stands behind the header of an object.
-ghost use Rattle.std.specs.Prelude.{◌≡◌, ◌&&◌, []};
-ghost use Rattle.std.specs.Str.{bytes_eq};
-ghost use Rattle.std.specs.List.{list_any};
-ghost use Rattle.std.specs.Option.{option_copied, option_map};
-ghost use Rattle.rio_format.specs.Bodies.{body_of, built_in, by_description, can_read, can_read_all, is_counter, picked, stated_version};
+ghost use Rattle.std.specs.Prelude.{◌≡◌, Option};
+ghost use Rattle.std.specs.Option.{option_map};
+ghost use Rattle.rio_format.specs.Bodies.{body_of, built_in, by_description, picked, stated_version};
 ghost use Rattle.rio_format.specs.Slots.{declared_body};
-ghost use Rattle.rio_stream.specs.Bodies.{body_as, counters_in};
+ghost use Rattle.rio_stream.specs.Bodies.{body_as};
+ghost use Rattle.rio_types.specs.Classes.{judged};
+ghost use Rattle.rio_types.specs.declared.class.ClassDef.{ClassDef as Class};
 
 use rio_buffer::Header;
-use rio_types::{ClassDef, Classes, Kind, Member};
+use rio_types::{ClassDef, Classes};
 
 #[derive(Clone, Copy)]
 pub(crate) enum Body<'a> {
@@ -26,46 +26,11 @@ pub(crate) enum Body<'a> {
     Opaque,
 }
 
-fn is_counter(kind: &Kind) -> bool
-    ensures { result ≡ is_counter kind.now }
+fn by_description<'a>(found: Option<(&'a ClassDef, bool)>) -> Body<'a>
+    ensures { (class : Option Class) → option_map (λ p. (p.0.now, p.1)) found.entry ≡ option_map judged class → body_as result ≡ by_description class }
 {
-    matches!(kind, Kind::Counter)
-}
-
-// Whether one of the members is a counter of the name.
-fn has_counter(members: &[Member], name: &[u8]) -> bool
-    ensures { result ≡ list_any (λ m. is_counter m.kind && bytes_eq name.now m.name) members.now }
-{
-    members.iter().any(|member| is_counter(&member.kind) && name == member.name.as_slice())
-}
-
-// Whether a member of the kind can be read behind these members.
-fn can_read(before: &[Member], kind: &Kind) -> bool
-    ensures { result ≡ can_read (counters_in before.now) kind.now }
-{
-    match kind {
-        Kind::Counted { counter, .. } => has_counter(before, counter.as_slice()),
-        Kind::Other { .. } => false,
-        _ => true,
-    }
-}
-
-fn can_read_all(members: &[Member]) -> bool
-    ensures { result ≡ can_read_all [] members.now }
-{
-    for (k, member) in members.iter().enumerate() {
-        if !can_read(&members[..k], &member.kind) {
-            return false;
-        }
-    }
-    true
-}
-
-fn by_description<'a>(class: Option<&'a ClassDef>) -> Body<'a>
-    ensures { body_as result ≡ by_description (option_copied class.entry) }
-{
-    match class {
-        Some(class) if can_read_all(class.members.as_slice()) => Body::Described(class),
+    match found {
+        Some((class, true)) => Body::Described(class),
         _ => Body::Opaque,
     }
 }
@@ -99,18 +64,18 @@ fn stated_version(classes: &Classes, class: &[u8], version: i32, sum: Option<u32
     }
 }
 
-// The description that a header picks.
+// The description that a header picks, and whether its members can be read.
 fn picked<'a>(
     classes: &'a Classes,
     class: &[u8],
     version: i32,
     sum: Option<u32>,
-) -> Option<&'a ClassDef>
-    ensures { option_copied result ≡ picked classes.now class.now version sum }
+) -> Option<(&'a ClassDef, bool)>
+    ensures { option_map (λ p. (p.0.now, p.1)) result ≡ option_map judged (picked classes.now class.now version sum) }
 {
     match sum {
-        Some(sum) => classes.find_sum(class, sum),
-        None => classes.find(class, version),
+        Some(sum) => classes.find_sum_judged(class, sum),
+        None => classes.find_judged(class, version),
     }
 }
 

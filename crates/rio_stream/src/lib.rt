@@ -2,6 +2,7 @@
 #![tactic(auto)]
 
 mod bare;
+mod bases;
 mod body;
 mod builtin;
 mod counters;
@@ -17,6 +18,11 @@ mod slot;
 #[cfg(test)]
 mod tests;
 mod whole;
+mod write;
+mod write_length;
+mod write_numbers;
 
 pub use fit::fits;
 pub use read::{read_builtin, read_object};
+pub use write::write_object;
+pub use write_length::written_length;

@@ -2,6 +2,7 @@
 
 mod classes;
 mod printed;
+mod written;
 
 use crate::{fits, read_builtin, read_object};
 use classes::{classes_of_rows, hex_bytes};

@@ -1,7 +1,8 @@
 -- Looking classes up in a list of them.
-use Rattle.std.specs.Prelude.{ℕ, ℤ, List, [], ◌∷◌, Option, Some, None, ◌==◌, ◌&&◌, int_le, find, if◌then◌else◌}
+use Rattle.std.specs.Prelude.{ℕ, ℤ, Bool, List, [], ◌∷◌, Option, Some, None, ◌==◌, ◌&&◌, int_le, find, if◌then◌else◌}
 use Rattle.std.specs.Str.{bytes_eq}
 use Rattle.std.specs.Ordering.{int_eq}
+use Rattle.rio_types.specs.Members.{can_read_all}
 use Rattle.rio_types.specs.declared.class.ClassDef.{ClassDef}
 
 -- the first of that name and version
@@ -17,12 +18,15 @@ abbrev pub newer_of : ClassDef → Option ClassDef → ClassDef
 newer_of c None = c
 newer_of c (Some d) = if int_le d.version c.version then c else d
 
--- a class, if it is newer than the one before it, if there is one
-abbrev pub newer_than : Option ClassDef → ClassDef → ClassDef
-newer_than None c = c
-newer_than (Some b) c = newer_of b (Some c)
-
 -- the first of those of that name than which none is newer
 abbrev pub newest_in : List ClassDef → List ℕ → Option ClassDef
 newest_in [] name = None
 newest_in (c ∷ cs) name = if bytes_eq c.name name then Some (newer_of c (newest_in cs name)) else newest_in cs name
+
+-- its members can be read
+abbrev pub is_readable : ClassDef → Bool
+is_readable c = can_read_all [] c.members
+
+-- a class, and whether its members can be read
+abbrev pub judged : ClassDef → ClassDef × Bool
+judged c = (c, is_readable c)

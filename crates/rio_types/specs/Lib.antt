@@ -1,1 +1,4 @@
 pub mod Classes
+pub mod CounterSet
+pub mod Index
+pub mod Members

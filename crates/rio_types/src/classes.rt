@@ -1,38 +1,45 @@
-ghost use Rattle.std.specs.Prelude.{◌≡◌};
-ghost use Rattle.std.specs.Option.{option_copied};
-ghost use Rattle.rio_types.specs.Classes.{find_in, find_sum_in, newest_in, newer_than};
-
 use crate::ClassDef;
-use rio_num::{Items, NoMemory};
+use crate::index::Index;
+use crate::members::can_read_all;
+use rio_num::NoMemory;
 use std::alloc::Global;
 use std::marker::Model;
 
 /// The classes that are known, in order. A class may stand in several versions, and more than once in one.
 #[derive(Debug, Drop)]
 pub struct Classes {
-    items: Items<ClassDef>,
+    items: Vec<ClassDef>,
+    // Of each class, whether its members can be read.
+    readable: Vec<bool>,
+    index: Index,
 }
 
 impl Model for Classes {
-    ghost use Rattle.std.specs.Prelude.{List};
+    ghost use Rattle.std.specs.Prelude.{◌≡◌, List, map};
+    ghost use Rattle.rio_types.specs.Classes.{is_readable};
+    ghost use Rattle.rio_types.specs.Index.{IsIndexOf};
     ghost use Rattle.rio_types.specs.declared.class.ClassDef.{ClassDef as Class};
 
     ghost Value = { List Class };
 
-    ghost view = { λ classes. classes.items };
+    ghost view = { λ classes. classes.items.items };
+
+    ghost invariant = { λ classes. (classes.readable.items ≡ map is_readable classes.items.items) × IsIndexOf classes.items.items classes.index };
 }
 
 impl Classes {
-    ghost use Rattle.std.specs.Prelude.{◌≡◌, [], ◌∷◌, ◌++◌, ◌↔◌, length, slice_get, IsTrue, OnOk, OnErr};
-    ghost use Rattle.std.specs.Option.{option_copied};
-    ghost use Rattle.rio_types.specs.Classes.{find_in, find_sum_in, newest_in};
+    ghost use Rattle.std.specs.Prelude.{◌≡◌, ◌-◌, [], ◌∷◌, ◌++◌, ◌↔◌, length, slice_get, take, IsTrue, OnOk, OnErr};
+    ghost use Rattle.std.specs.Option.{option_copied, option_map};
+    ghost use Rattle.rio_types.specs.Classes.{find_in, find_sum_in, judged, newest_in};
 
     /// No classes.
     pub fn new(alloc: Global) -> Classes
         ensures { result ≡ [] }
     {
         Classes {
-            items: Items::new(alloc),
+            items: Vec::new(alloc),
+            readable: Vec::new(alloc),
+            index: Index::new(alloc),
         }
     }
 
@@ -41,7 +48,25 @@ impl Classes {
         ensures ok { OnOk result (self.new ≡ self.old ++ class ∷ []) }
         ensures err { OnErr result (self.new ≡ self.old) }
     {
-        self.items.push(class)
+        let alloc = *self.items.allocator();
+        let readable = can_read_all(alloc, class.members.as_slice())?;
+        self.items.reserve(1)?;
+        self.readable.reserve(1)?;
+        self.index.put(alloc, self.items.as_slice(), &class)?;
+        self.items.push(class)?;
+        self.readable.push(readable)?;
+        Ok(())
+    }
+
+    /// Takes the last class out, if there is one. This takes no memory.
+    pub fn remove_last(&mut self)
+        ensures { self.new ≡ take (length self.old - 1) self.old }
+    {
+        let Some(class) = self.items.pop() else {
+            return;
+        };
+        let _ = self.readable.pop();
+        self.index.forget(self.items.as_slice(), &class);
     }
 
     pub fn len(&self) -> usize
@@ -73,65 +98,47 @@ impl Classes {
     pub fn find(&self, name: &[u8], version: i32) -> Option<&ClassDef>
         ensures { option_copied result ≡ find_in self.now name.now version }
     {
-        find(self.items.as_slice(), name, version)
+        self.items
+            .get(self.index.find(self.items.as_slice(), name, version)?)
     }
 
     /// The first class of that name that states this checksum.
     pub fn find_sum(&self, name: &[u8], sum: u32) -> Option<&ClassDef>
         ensures { option_copied result ≡ find_sum_in self.now name.now sum }
     {
-        find_sum(self.items.as_slice(), name, sum)
+        self.items
+            .get(self.index.find_sum(self.items.as_slice(), name, sum)?)
     }
 
     /// The class of that name in its greatest version. Of several of this version the first is given.
     pub fn newest(&self, name: &[u8]) -> Option<&ClassDef>
         ensures { option_copied result ≡ newest_in self.now name.now }
     {
-        newest(self.items.as_slice(), name)
+        self.items
+            .get(self.index.newest(self.items.as_slice(), name)?)
     }
-}
 
-fn find<'a>(classes: &'a [ClassDef], name: &[u8], version: i32) -> Option<&'a ClassDef>
-    ensures { option_copied result ≡ find_in classes.now name.now version }
-{
-    for class in classes {
-        if class.name.as_slice() == name && class.version == version {
-            return Some(class);
-        }
+    /// The first class of that name and version, and whether its members can all be read: none is of a kind that isn't
+    /// read, and each counter stands before the members that it counts.
+    pub fn find_judged(&self, name: &[u8], version: i32) -> Option<(&ClassDef, bool)>
+        ensures { option_map (λ p. (p.0.now, p.1)) result ≡ option_map judged (find_in self.now name.now version) }
+    {
+        self.judged(self.index.find(self.items.as_slice(), name, version)?)
     }
-    None
-}
 
-fn find_sum<'a>(classes: &'a [ClassDef], name: &[u8], sum: u32) -> Option<&'a ClassDef>
-    ensures { option_copied result ≡ find_sum_in classes.now name.now sum }
-{
-    for class in classes {
-        if class.name.as_slice() == name && class.sum == sum {
-            return Some(class);
-        }
+    /// The first class of that name that states this checksum, and whether its members can all be read.
+    pub fn find_sum_judged(&self, name: &[u8], sum: u32) -> Option<(&ClassDef, bool)>
+        ensures { option_map (λ p. (p.0.now, p.1)) result ≡ option_map judged (find_sum_in self.now name.now sum) }
+    {
+        self.judged(self.index.find_sum(self.items.as_slice(), name, sum)?)
     }
-    None
-}
 
-fn newest<'a>(classes: &'a [ClassDef], name: &[u8]) -> Option<&'a ClassDef>
-    ensures { option_copied result ≡ newest_in classes.now name.now }
-{
-    let mut newest: Option<&ClassDef> = None;
-    for class in classes {
-        if class.name.as_slice() == name {
-            newest = Some(newer(newest, class));
-        }
-    }
-    newest
-}
-
-// The newest so far, or the class if that is newer.
-fn newer<'a>(newest: Option<&'a ClassDef>, class: &'a ClassDef) -> &'a ClassDef
-    ensures { result.now ≡ newer_than (option_copied newest.entry) class.now }
-{
-    match newest {
-        Some(best) if class.version <= best.version => best,
-        _ => class,
+    fn judged(&self, k: usize) -> Option<(&ClassDef, bool)>
+        ensures { option_map (λ p. (p.0.now, p.1)) result ≡ option_map judged (slice_get self.now k) }
+    {
+        let class = self.items.get(k)?;
+        let readable = self.readable.get(k)?;
+        Some((class, *readable))
     }
 }
 

@@ -3,7 +3,10 @@
 
 mod class;
 mod classes;
+mod forget;
+mod index;
 mod kind;
+mod members;
 
 pub use class::{Base, Bases, ClassDef, Member, Members};
 pub use classes::Classes;

@@ -1,0 +1,282 @@
+ghost use Rattle.std.specs.Prelude.{◌≡◌, ◌≤◌, ◌-◌, ◌^◌, ◌<◌, [], ◌∷◌, ◌++◌, length, nat_eq, IfOk};
+ghost use Rattle.indexmap.specs.IndexMap.{insert_entry, spare};
+ghost use Rattle.indexmap.specs.IndexSet.{insert_key, spare as spare_keys};
+ghost use Rattle.std.specs.List.{find};
+ghost use Rattle.std.specs.Option.{option_map};
+ghost use Rattle.std.specs.Str.{bytes_eq};
+ghost use Rattle.rio_num.specs.Room.{with_more};
+ghost use Rattle.rio_buffer.specs.Writer.{Opens};
+ghost use Rattle.std.specs.Map.Iter.{deref_pair};
+ghost use Rattle.byteorder.specs.Endian.{big_bytes};
+
+use indexmap::{IndexMap, IndexSet};
+use rio_num::{Bytes, Name, NoMemory};
+use std::alloc::Global;
+use std::collections::VecDeque;
+use std::marker::Model;
+
+/// An object that was begun and not ended, which contracts see as the place of its count word among the
+/// bytes. It may be dropped where the writer is given up.
+#[derive(Debug, Drop)]
+pub struct Open {
+    place: usize,
+}
+
+impl Model for Open {
+    ghost use Rattle.std.specs.Prelude.{ℕ};
+
+    ghost Value = { ℕ };
+
+    ghost view = { λ o. o.place };
+}
+
+/// Bytes of objects that grow, with the classes and the pointed objects that they name.
+#[derive(Drop)]
+pub struct ObjWriter {
+    alloc: Global,
+    start: u64,
+    bytes: Bytes,
+    // Where the count words stand that are open, the innermost first.
+    opened: VecDeque<usize>,
+    // The places of the count words of pointed objects, in order of their labels.
+    labels: IndexSet<u64>,
+    // The names of classes, by the places of the class words that spell them out.
+    names: IndexMap<u64, Name>,
+}
+
+impl Model for ObjWriter {
+    ghost use Rattle.std.specs.Prelude.{◌≡◌, ◌+◌, ◌-◌, ◌<◌, ◌≤◌, ◌^◌, length, All};
+    ghost use Rattle.rio_buffer.specs.Writer.{WriterState};
+
+    ghost Value = { WriterState };
+
+    ghost view = { λ w. record { start = w.start; bytes = w.bytes.bytes; opened = w.opened.items; words = record { labels = w.labels.keys; names = w.names.entries } } };
+
+    ghost invariant = { λ w.
+        (w.bytes.spare ≡ 0) × All (λ place. place + 4 ≤ length w.bytes.bytes) w.opened.items
+        × All (λ place. place < 2 ^ 30 - 2) w.labels.keys × All (λ e. e.0 < 2 ^ 30 + 2) w.names.entries };
+}
+
+impl ObjWriter {
+    ghost use Rattle.std.specs.Prelude.{◌≡◌, ◌+◌, ◌-◌, ◌<◌, ◌≤◌, ◌^◌, ◌↔◌, [], ◌∷◌, ◌++◌, length, slice_index, Some, None, IsTrue, IfSome};
+    ghost use Rattle.std.specs.List.{find};
+    ghost use Rattle.std.specs.Option.{option_map};
+    ghost use Rattle.std.specs.Str.{bytes_eq};
+    ghost use Rattle.byteorder.specs.Endian.{big_bytes};
+    ghost use Rattle.rio_num.specs.Room.{room_of};
+    ghost use Rattle.rio_num.specs.Text.{text_bytes};
+    ghost use Rattle.rio_buffer.specs.Writer.{Begins, Puts, begun, begun_pointer, counted_from, ended, innermost, next_place, nothing_written};
+
+    /// No bytes yet. The first one will have the place `start`.
+    pub fn new(alloc: Global, start: u64) -> ObjWriter
+        ensures { result ≡ nothing_written start }
+    {
+        ObjWriter {
+            alloc,
+            start,
+            bytes: Bytes::new(alloc),
+            opened: VecDeque::new(alloc),
+            labels: IndexSet::new(alloc),
+            names: IndexMap::new(alloc),
+        }
+    }
+
+    pub fn put_u8(&mut self, v: u8) -> Result<(), NoMemory>
+        ensures { Puts (big_bytes 1 v) result self.old self.new }
+    {
+        self.bytes.put_u8(v)
+    }
+
+    pub fn put_u16(&mut self, v: u16) -> Result<(), NoMemory>
+        ensures { Puts (big_bytes 2 v) result self.old self.new }
+    {
+        self.bytes.put_u16(v)
+    }
+
+    pub fn put_u32(&mut self, v: u32) -> Result<(), NoMemory>
+        ensures { Puts (big_bytes 4 v) result self.old self.new }
+    {
+        self.bytes.put_u32(v)
+    }
+
+    pub fn put_u64(&mut self, v: u64) -> Result<(), NoMemory>
+        ensures { Puts (big_bytes 8 v) result self.old self.new }
+    {
+        self.bytes.put_u64(v)
+    }
+
+    /// Puts a text at the end: its length, and its bytes.
+    pub fn put_text(&mut self, t: &[u8]) -> Result<(), NoMemory>
+        requires { length t.now < 2 ^ 32 }
+        ensures { Puts (text_bytes t.now) result self.old self.new }
+    {
+        self.bytes.put_text(t)
+    }
+
+    /// Begins an object of a class in this version: its header, whose count is open.
+    pub fn begin(&mut self, version: u16) -> Result<Open, NoMemory>
+        ensures { Begins (begun (big_bytes 2 version)) result self.old self.new }
+    {
+        open_count(&mut self.bytes, &mut self.opened, &version.to_be_bytes())
+    }
+
+    // The place of the next byte.
+    fn place(&self) -> u64
+        requires { next_place self.now < 2 ^ 64 }
+        ensures { result ≡ next_place self.now }
+    {
+        self.start + self.bytes.len() as u64
+    }
+
+    // Where the class word stands that spells out the class.
+    fn place_of(&self, class: &[u8]) -> Option<u64>
+        ensures value { result ≡ option_map (λ e. e.0) (find (λ e. bytes_eq e.1 class.now) self.now.words.names) }
+        ensures low { IfSome result (λ place. place < 2 ^ 30 + 2) }
+    {
+        match named(&self.names, class) {
+            Some((place, _)) => Some(*place),
+            None => None,
+        }
+    }
+
+    // Begins an object of a class that an earlier class word spells out.
+    fn begin_known(&mut self, class: &[u8], class_place: u64) -> Result<Open, NoMemory>
+        requires place { next_place self.old < 2 ^ 30 - 2 }
+        requires low { class_place < 2 ^ 30 + 2 }
+        requires met { option_map (λ e. e.0) (find (λ e. bytes_eq e.1 class.now) self.old.words.names) ≡ Some class_place }
+        ensures { Begins (begun_pointer class.now) result self.old self.new }
+    {
+        let place = self.place();
+        let word = class_place as u32 + 0x8000_0002;
+        self.labels.reserve(1)?;
+        let begun = open_count(&mut self.bytes, &mut self.opened, &word.to_be_bytes())?;
+        keep_label(&mut self.labels, place);
+        Ok(begun)
+    }
+
+    // Begins an object of a class that no earlier class word spells out.
+    fn begin_new(&mut self, class: &[u8]) -> Result<Open, NoMemory>
+        requires place { next_place self.old < 2 ^ 30 - 2 }
+        requires new { option_map (λ e. e.0) (find (λ e. bytes_eq e.1 class.now) self.old.words.names) ≡ None }
+        ensures { Begins (begun_pointer class.now) result self.old self.new }
+    {
+        let place = self.place();
+        let name = Name::from_slice(self.alloc, class)?;
+        self.labels.reserve(1)?;
+        self.names.reserve(1)?;
+        let word = spelled_word(self.alloc, class)?;
+        let begun = open_count(&mut self.bytes, &mut self.opened, word.as_slice())?;
+        keep_name(&mut self.names, place + 4, name);
+        keep_label(&mut self.labels, place);
+        Ok(begun)
+    }
+
+    /// Begins an object that a pointer points to: a count word, which is open, and a class word. It spells
+    /// out the class where that is named for the first time, and refers to the earlier word else. The
+    /// object has the next label. Behind it the object itself is written, with its own header.
+    pub fn begin_pointer(&mut self, class: &[u8]) -> Result<Open, NoMemory>
+        requires { next_place self.old < 2 ^ 30 - 2 }
+        ensures { Begins (begun_pointer class.now) result self.old self.new }
+    {
+        match self.place_of(class) {
+            Some(class_place) => self.begin_known(class, class_place),
+            None => self.begin_new(class),
+        }
+    }
+
+    /// Ends the innermost object: its count is that of the bytes behind its count word.
+    pub fn end(&mut self, begun: Open)
+        requires innermost { innermost self.old.opened ≡ Some begun }
+        requires size { counted_from begun self.old.bytes < 2 ^ 30 }
+        ensures { self.new ≡ ended begun self.old }
+    {
+        let count = self.bytes.len() - (begun.place + 4);
+        self.opened.pop_front();
+        self.bytes
+            .patch_u32(begun.place, count as u32 + 0x4000_0000);
+    }
+
+    /// Whether an object has the label.
+    pub fn has_label(&self, label: u32) -> bool
+        ensures { IsTrue result ↔ (label < length self.now.words.labels) }
+    {
+        (label as usize) < self.labels.len()
+    }
+
+    /// A reference to the earlier object of the label.
+    pub fn back(&mut self, label: u32) -> Result<(), NoMemory>
+        requires { label < length self.old.words.labels }
+        ensures { Puts (big_bytes 4 (slice_index self.old.words.labels label + 2)) result self.old self.new }
+    {
+        let place = *self.labels.get_index(label as usize).unwrap();
+        self.put_u32(place as u32 + 2)
+    }
+
+    /// The bytes of all objects.
+    pub fn into_bytes(self) -> Bytes
+        requires { self.opened ≡ [] }
+        ensures { result ≡ room_of self.bytes }
+    {
+        self.bytes
+    }
+}
+
+// Puts a count word at the end, which is open, and these bytes.
+fn open_count(
+    bytes: &mut Bytes,
+    opened: &mut VecDeque<usize>,
+    more: &[u8],
+) -> Result<Open, NoMemory>
+    ensures { Opens more.now result bytes.old bytes.new opened.old.items opened.new.items }
+{
+    let place = bytes.len();
+    opened.reserve(1)?;
+    bytes.reserve(more.len() as u64 + 4)?;
+    put_reserved(bytes, &[0; 4]);
+    put_reserved(bytes, more);
+    opened.push_front(place).unwrap();
+    Ok(Open { place })
+}
+
+// Puts these bytes at the end, which are spare.
+fn put_reserved(bytes: &mut Bytes, more: &[u8])
+    requires { length more.now ≤ bytes.old.spare }
+    ensures { bytes.new ≡ with_more bytes.old more.now }
+{
+    bytes.put(more).unwrap();
+}
+
+// The first of the names that is the class, with the place of its class word.
+fn named<'a>(names: &'a IndexMap<u64, Name>, class: &[u8]) -> Option<(&'a u64, &'a Name)>
+    ensures { option_map deref_pair result ≡ find (λ e. bytes_eq e.1 class.now) names.now.entries }
+{
+    names.iter().find(|entry| entry.1.as_slice() == class)
+}
+
+// Keeps the place of one more object.
+fn keep_label(labels: &mut IndexSet<u64>, place: u64)
+    requires { 0 < spare_keys labels.old }
+    ensures { labels.new.keys ≡ insert_key nat_eq labels.old.keys place }
+{
+    labels.insert(place).unwrap();
+}
+
+// Keeps the name of one more class, whose class word stands at the place.
+fn keep_name(names: &mut IndexMap<u64, Name>, place: u64, name: Name)
+    requires { 0 < spare names.old }
+    ensures { names.new.entries ≡ insert_entry nat_eq names.old.entries place name }
+{
+    names.insert(place, name).unwrap();
+}
+
+// The class word that spells out the class.
+fn spelled_word(alloc: Global, class: &[u8]) -> Result<Bytes, NoMemory>
+    ensures { IfOk result (λ word. word.bytes ≡ big_bytes 4 (2 ^ 32 - 1) ++ (class.now ++ 0 ∷ [])) }
+{
+    let mut word = Bytes::new(alloc);
+    word.reserve(class.len() as u64 + 5)?;
+    word.put_u32(u32::MAX)?;
+    word.put(class)?;
+    word.push(0)?;
+    Ok(word)
+}

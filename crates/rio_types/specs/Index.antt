@@ -1,0 +1,72 @@
+-- Where classes stand in a list of them, by name and by name and number.
+use Rattle.std.specs.Prelude.{◌≡◌, ℕ, suc, ℤ, pos, Bool, false, List, [], ◌∷◌, length, Option, Some, None, ◌&&◌, if◌then◌else◌, slice_get, int_le, true}
+use Rattle.std.specs.BTreeMap.{BTreeMap, get, get_by}
+use Rattle.std.specs.Cmp.Lexicographic.{slice_cmp}
+use Rattle.std.specs.Option.{option_and_then, option_map, option_map_or}
+use Rattle.std.specs.Ordering.{int_cmp, int_eq, nat_cmp, ordering_then}
+use Rattle.std.specs.Str.{bytes_eq}
+use Rattle.std.specs.declared.vec.Vec.{Vec}
+use Rattle.rio_types.specs.Classes.{newer_of, newest_in}
+use Rattle.rio_types.specs.declared.class.ClassDef.{ClassDef}
+use Rattle.rio_types.specs.declared.index.Index.{Index}
+
+-- the place of the first class that passes
+abbrev pub place : (ClassDef → Bool) → List ClassDef → Option ℕ
+place test [] = None
+place test (c ∷ cs) = if test c then Some 0 else option_map suc (place test cs)
+
+-- a place, if a class that passes stands there
+abbrev pub passing : (ClassDef → Bool) → List ClassDef → Option ℕ → Option ℕ
+passing test classes None = None
+passing test classes (Some k) = if option_map_or test (slice_get classes k) false then Some k else None
+
+abbrev pub is_named : List ℕ → ClassDef → Bool
+is_named name c = bytes_eq c.name name
+
+abbrev pub version_of : ClassDef → ℤ
+version_of c = c.version
+
+abbrev pub sum_of : ClassDef → ℤ
+sum_of c = pos c.sum
+
+-- it has the name and the number
+abbrev pub has_number : (ClassDef → ℤ) → List ℕ → ℤ → ClassDef → Bool
+has_number number name n c = bytes_eq c.name name && int_eq (number c) n
+
+-- ---- what the maps give
+
+abbrev pub name_at : {A : Type 0} → BTreeMap (Vec ℕ A) ℕ → List ℕ → Option ℕ
+name_at names name = get_by (λ k. slice_cmp nat_cmp name k.items) names
+
+abbrev pub number_at : BTreeMap (ℕ × ℤ) ℕ → ℕ → ℤ → Option ℕ
+number_at numbers first n = get (λ x y. ordering_then (nat_cmp x.0 y.0) (int_cmp x.1 y.1)) numbers (first, n)
+
+-- the name of each class leads to the first class of that name
+abbrev pub NamesLead : List ClassDef → (List ℕ → Option ℕ) → Type 0
+NamesLead classes at = (k : ℕ) (c : ClassDef) → slice_get classes k ≡ Some c → at c.name ≡ place (is_named c.name) classes
+
+-- the first class of its name and the number of each class lead to the first class of that name and number
+abbrev pub NumbersLead : (ClassDef → ℤ) → List ClassDef → (ℕ → ℤ → Option ℕ) → Type 0
+NumbersLead number classes at = (k : ℕ) (c : ClassDef) (first : ℕ) → slice_get classes k ≡ Some c → place (is_named c.name) classes ≡ Some first → at first (number c) ≡ place (has_number number c.name (number c)) classes
+
+-- the first class of each name leads to the newest of that name
+abbrev pub NewestLead : List ClassDef → List ℕ → Type 0
+NewestLead classes newest = (name : List ℕ) (first : ℕ) → place (is_named name) classes ≡ Some first → option_and_then (slice_get classes) (slice_get newest first) ≡ newest_in classes name
+
+-- a class, if it is newer than the one before it, if there is one
+abbrev pub newer_than : Option ClassDef → ClassDef → ClassDef
+newer_than None c = c
+newer_than (Some b) c = newer_of b (Some c)
+
+-- ---- an index
+
+-- the place of the newest of a name, once a class of that name comes behind the others: best is the newest before it, if there is one
+abbrev pub newest_place : List ClassDef → ClassDef → ℕ → ℕ
+newest_place classes c best = if option_map_or (λ d. int_le c.version d.version) (slice_get classes best) true then best else length classes
+
+pub record IsIndexOf (classes : List ClassDef) (index : Index) : Type 0 where
+  pub names_lead : NamesLead classes (name_at index.names)
+  pub versions_lead : NumbersLead version_of classes (number_at index.versions)
+  pub sums_lead : NumbersLead sum_of classes (number_at index.sums)
+  pub newest_lead : NewestLead classes index.newest.items
+  pub one_each : length index.newest.items ≡ length classes
