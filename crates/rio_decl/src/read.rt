@@ -1,0 +1,238 @@
+ghost use Rattle.std.specs.Prelude.{◌≡◌, ◌<◌, ◌^◌, ◌&&◌, not, length, IfOk};
+ghost use Rattle.rio_num.specs.Word.{is_name_text};
+ghost use Rattle.rio_token.specs.Reading.{Answers, Reads, Takes, list_at, more_at, some_at, word_that_at};
+ghost use Rattle.rio_model.specs.ClassGrammar.{base_at, bases_at, class_at, class_in, counting_kind, counts_by, has_base, has_member, is_counted_by, member_at, with_counters, with_sum};
+
+use crate::checksum;
+use crate::read_kind::{may_count, read_kind};
+use rio_num::{Name, NoMemory, is_name};
+use rio_token::{TextFault, Tokens};
+use rio_types::{Base, Bases, ClassDef, Kind, Member, Members};
+use std::alloc::Global;
+
+/// The class that the text declares from `place` on, where the word `class` stands, up to its end. Its
+/// bases have the version 0, its titles are empty, and its checksum is that of its text. `BadText` names
+/// the first token that can't stand in a declaration.
+pub fn read_class(alloc: Global, text: &[u8], place: u32) -> Result<ClassDef, TextFault>
+    requires { length text.now < 2 ^ 32 }
+    ensures { Answers result (class_in text.now place) }
+{
+    let mut tokens = Tokens::new(text, place);
+    read_declaration(alloc, &mut tokens)
+}
+
+#[tactic(auto, unfolding(rio_model::specs::ClassGrammar::class_at))]
+fn read_declaration(alloc: Global, tokens: &mut Tokens) -> Result<ClassDef, TextFault>
+    ensures { Reads (λ c. c) result (class_at tokens.old) tokens.new }
+{
+    tokens.expect_word(b"class")?;
+    let name = tokens.take_name()?;
+    let version = tokens.take_num_between(1, 32767)?;
+    let bases = read_bases(alloc, tokens)?;
+    let members = read_members(alloc, tokens)?;
+    tokens.expect_end()?;
+    let class = ClassDef {
+        name: Name::from_slice(alloc, name)?,
+        version: version as i32,
+        sum: 0,
+        bases,
+        members: with_counting(alloc, members.as_slice())?,
+    };
+    Ok(with_checksum(alloc, class)?)
+}
+
+fn with_checksum(alloc: Global, mut class: ClassDef) -> Result<ClassDef, NoMemory>
+    ensures { IfOk result (λ summed. summed ≡ with_sum class) }
+{
+    class.sum = checksum(alloc, &class)?;
+    Ok(class)
+}
+
+pub(crate) fn is_base_of(bases: &[Base], name: &[u8]) -> bool
+    ensures { result ≡ has_base bases.now name.now }
+{
+    for base in bases {
+        if base.name.as_slice() == name {
+            return true;
+        }
+    }
+    false
+}
+
+pub(crate) fn is_member_of(members: &[Member], name: &[u8]) -> bool
+    ensures { result ≡ has_member members.now name.now }
+{
+    for member in members {
+        if member.name.as_slice() == name {
+            return true;
+        }
+    }
+    false
+}
+
+// A base's name, which none before has.
+#[tactic(auto, unfolding(rio_token::specs::Reading::word_that_at))]
+fn take_base_name<'a>(tokens: &mut Tokens<'a>, before: &[Base]) -> Result<&'a [u8], TextFault>
+    ensures { Takes (λ word. word.now) result (word_that_at (λ word. is_name_text word && not (has_base before.now word)) tokens.old) tokens.old tokens.new }
+{
+    match tokens.peek_word() {
+        Some(word) if is_name(word) && !is_base_of(before, word) => {
+            tokens.pass();
+            Ok(word)
+        }
+        _ => Err(tokens.bad()),
+    }
+}
+
+// A member's name, which none before has.
+#[tactic(auto, unfolding(rio_token::specs::Reading::word_that_at))]
+fn take_member_name<'a>(tokens: &mut Tokens<'a>, before: &[Member]) -> Result<&'a [u8], TextFault>
+    ensures { Takes (λ word. word.now) result (word_that_at (λ word. is_name_text word && not (has_member before.now word)) tokens.old) tokens.old tokens.new }
+{
+    match tokens.peek_word() {
+        Some(word) if is_name(word) && !is_member_of(before, word) => {
+            tokens.pass();
+            Ok(word)
+        }
+        _ => Err(tokens.bad()),
+    }
+}
+
+#[tactic(auto, unfolding(rio_model::specs::ClassGrammar::base_at))]
+fn read_base(alloc: Global, tokens: &mut Tokens, before: &[Base]) -> Result<Base, TextFault>
+    ensures { Reads (λ b. b) result (base_at before.now tokens.old) tokens.new }
+{
+    let name = take_base_name(tokens, before)?;
+    Ok(Base {
+        name: Name::from_slice(alloc, name)?,
+        version: 0,
+    })
+}
+
+// The bases, if there are any, and the opening brace.
+#[tactic(auto, unfolding(rio_model::specs::ClassGrammar::bases_at))]
+fn read_bases(alloc: Global, tokens: &mut Tokens) -> Result<Bases, TextFault>
+    ensures { Reads (λ b. b) result (bases_at tokens.old) tokens.new }
+{
+    if tokens.take_mark(b':') {
+        return read_some_bases(alloc, tokens);
+    }
+    tokens.expect_mark(b'{')?;
+    Ok(Bases::new(alloc))
+}
+
+#[tactic(auto, unfolding(rio_token::specs::Reading::some_at))]
+fn read_some_bases(alloc: Global, tokens: &mut Tokens) -> Result<Bases, TextFault>
+    ensures { Reads (λ b. b) result (some_at 123 base_at tokens.old) tokens.new }
+{
+    let mut bases = Bases::new(alloc);
+    bases.push(read_base(alloc, tokens, &[])?)?;
+    read_more_bases(alloc, tokens, bases)
+}
+
+fn read_more_bases(alloc: Global, tokens: &mut Tokens, mut bases: Bases) -> Result<Bases, TextFault>
+    ensures { Reads (λ b. b) result (more_at (length tokens.old.rest) 123 base_at bases tokens.old) tokens.new }
+{
+    for _done in 0..tokens.left() {
+        if tokens.take_mark(b'{') {
+            return Ok(bases);
+        }
+        tokens.expect_mark(b',')?;
+        let base = read_base(alloc, tokens, bases.as_slice())?;
+        bases.push(base)?;
+    }
+    Err(tokens.bad())
+}
+
+#[tactic(auto, unfolding(rio_model::specs::ClassGrammar::member_at))]
+fn read_member(alloc: Global, tokens: &mut Tokens, before: &[Member]) -> Result<Member, TextFault>
+    ensures { Reads (λ m. m) result (member_at before.now tokens.old) tokens.new }
+{
+    let name = take_member_name(tokens, before)?;
+    tokens.expect_mark(b':')?;
+    let kind = read_kind(alloc, tokens, before)?;
+    Ok(Member {
+        name: Name::from_slice(alloc, name)?,
+        kind,
+        title: Name::new(alloc),
+    })
+}
+
+// The members, and the closing brace.
+#[tactic(auto, unfolding(rio_token::specs::Reading::list_at, rio_token::specs::Reading::some_at))]
+fn read_members(alloc: Global, tokens: &mut Tokens) -> Result<Members, TextFault>
+    ensures { Reads (λ m. m) result (list_at 125 member_at tokens.old) tokens.new }
+{
+    let mut members = Members::new(alloc);
+    if tokens.take_mark(b'}') {
+        return Ok(members);
+    }
+    members.push(read_member(alloc, tokens, &[])?)?;
+    read_more_members(alloc, tokens, members)
+}
+
+fn read_more_members(
+    alloc: Global,
+    tokens: &mut Tokens,
+    mut members: Members,
+) -> Result<Members, TextFault>
+    ensures { Reads (λ m. m) result (more_at (length tokens.old.rest) 125 member_at members tokens.old) tokens.new }
+{
+    for _done in 0..tokens.left() {
+        if tokens.take_mark(b'}') {
+            return Ok(members);
+        }
+        tokens.expect_mark(b',')?;
+        let member = read_member(alloc, tokens, members.as_slice())?;
+        members.push(member)?;
+    }
+    Err(tokens.bad())
+}
+
+fn is_counted(kind: &Kind, name: &[u8]) -> bool
+    ensures { result ≡ counts_by kind.now name.now }
+{
+    match kind {
+        Kind::Counted { counter, .. } => counter.as_slice() == name,
+        _ => false,
+    }
+}
+
+/// Whether one of the members is counted by the name.
+pub(crate) fn counts(members: &[Member], name: &[u8]) -> bool
+    ensures { result ≡ is_counted_by members.now name.now }
+{
+    for member in members {
+        if is_counted(&member.kind, name) {
+            return true;
+        }
+    }
+    false
+}
+
+// A member's kind: a counter, where it is an `i32` that counts.
+fn kind_among(members: &[Member], member: &Member) -> Result<Kind, NoMemory>
+    ensures { IfOk result (λ kind. kind ≡ counting_kind members.now member.now) }
+{
+    if may_count(&member.kind) && counts(members, member.name.as_slice()) {
+        Ok(Kind::Counter)
+    } else {
+        member.kind.copy()
+    }
+}
+
+// The members, with those that count as counters.
+#[tactic(auto, unfolding(rio_model::specs::ClassGrammar::with_counters))]
+fn with_counting(alloc: Global, members: &[Member]) -> Result<Members, NoMemory>
+    ensures { IfOk result (λ counting. counting ≡ with_counters members.now) }
+{
+    let mut counting = Members::new(alloc);
+    for member in members {
+        counting.push(Member {
+            name: member.name.copy()?,
+            kind: kind_among(members, member)?,
+            title: member.title.copy()?,
+        })?;
+    }
+    Ok(counting)
+}

@@ -1,0 +1,12 @@
+pub mod ClassLines
+pub mod OneLineLaws
+pub mod ReadAlike
+pub mod ReadClasses
+pub mod ReadDeclarations
+pub mod ReadKinds
+pub mod ReadLayers
+pub mod ReadMembers
+pub mod ReadValues
+pub mod ReadWords
+pub mod ValueLines
+pub mod ValueTextLaws

@@ -1,0 +1,9 @@
+pub mod ClassGrammar
+pub mod ClassText
+pub mod Declaring
+pub mod Lists
+pub mod OneLine
+pub mod Readable
+pub mod Stated
+pub mod ValueGrammar
+pub mod ValueText

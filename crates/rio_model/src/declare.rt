@@ -1,0 +1,37 @@
+ghost use Rattle.rio_model.specs.Declaring.{FaultRefuses, OneFault, SomeAnswer};
+
+use rio_num::NoMemory;
+use thiserror::Error;
+
+/// Why a class can't be declared: the first rule that it breaks.
+#[derive(Clone, Copy, Debug, PartialEq, Eq, Error)]
+pub enum DeclareFault {
+    #[error("a base or a member is of a class that isn't declared")]
+    NoSuchClass,
+    #[error("the class is declared in this version")]
+    SameVersion,
+    #[error("the class would hold itself")]
+    HoldsItself,
+    #[error("too many classes are declared")]
+    TooMany,
+    #[error("no memory")]
+    NoMemory,
+}
+
+impl From<NoMemory> for DeclareFault {
+    ghost use Rattle.std.specs.Prelude.{◌≡◌};
+    ghost use Rattle.rio_model.specs.declared.declare.DeclareFault.TheVariants.{NoMemory as OutOfMemory};
+
+    ghost from_gives = { λ _ fault. fault ≡ OutOfMemory };
+
+    fn from(_e: NoMemory) -> DeclareFault {
+        DeclareFault::NoMemory
+    }
+}
+
+/// A class can be declared, or is refused for one fault: one of these answers is right, and no second one.
+pub fn has_one_answer()
+    ensures some { SomeAnswer }
+    ensures one { OneFault }
+    ensures apart { FaultRefuses }
+{}

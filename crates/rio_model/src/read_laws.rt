@@ -1,0 +1,13 @@
+ghost use Rattle.rio_model.specs.Readable.{ValuesAreRead};
+ghost use Rattle.rio_model.specs.Stated.{ClassesAreRead};
+
+/// The text of a value is read as the value, wherever it stands, if it says everything of the value.
+pub fn printed_values_are_read()
+    ensures { ValuesAreRead }
+{}
+
+/// The declaration of a class is read as the class with version 0 in its bases, if a declaration can give
+/// the class at all.
+pub fn printed_classes_are_read()
+    ensures { ClassesAreRead }
+{}

@@ -1,0 +1,13 @@
+//! The classes that are declared, and which may follow them.
+#![tactic(auto)]
+
+mod judge;
+mod names;
+mod newest;
+mod reach;
+mod registry;
+#[cfg(test)]
+mod tests;
+
+pub use registry::Registry;
+pub use rio_model::DeclareFault;

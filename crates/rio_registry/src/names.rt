@@ -1,0 +1,83 @@
+//! Which classes a declaration may name.
+ghost use Rattle.std.specs.Prelude.{◌≡◌};
+ghost use Rattle.rio_model.specs.Declaring.{is_built_in_base, is_built_in_target, is_declared, is_known, knows_all, knows_base, knows_kind};
+ghost use Rattle.std.specs.List.{list_all};
+
+use rio_types::{Base, ClassDef, Classes, Kind, Member};
+
+fn is_declared(classes: &Classes, name: &[u8]) -> bool
+    ensures { result ≡ is_declared classes.now name.now }
+{
+    classes.newest(name).is_some()
+}
+
+// Declared, or the class that is being declared.
+fn is_known(classes: &Classes, class: &ClassDef, name: &[u8]) -> bool
+    ensures { result ≡ is_known classes.now class.now name.now }
+{
+    is_declared(classes, name) || class.name.as_slice() == name
+}
+
+fn is_built_in_base(name: &[u8]) -> bool
+    ensures { result ≡ is_built_in_base name.now }
+{
+    name == b"TObject".as_slice() || name == b"TNamed".as_slice()
+}
+
+fn is_built_in_target(name: &[u8]) -> bool
+    ensures { result ≡ is_built_in_target name.now }
+{
+    is_built_in_base(name)
+        || name == b"TObjString".as_slice()
+        || name == b"TList".as_slice()
+        || name == b"TObjArray".as_slice()
+}
+
+fn knows_base(classes: &Classes, class: &ClassDef, base: &Base) -> bool
+    ensures { result ≡ knows_base classes.now class.now base.now }
+{
+    let name = base.name.as_slice();
+    is_known(classes, class, name) || is_built_in_base(name)
+}
+
+fn knows_kind(classes: &Classes, class: &ClassDef, kind: &Kind) -> bool
+    ensures { result ≡ knows_kind classes.now class.now kind.now }
+{
+    match kind {
+        Kind::Inline { class: name } => is_known(classes, class, name.as_slice()),
+        Kind::Pointer { class: name } => {
+            is_known(classes, class, name.as_slice()) || is_built_in_target(name.as_slice())
+        }
+        _ => true,
+    }
+}
+
+fn knows_bases(classes: &Classes, class: &ClassDef, bases: &[Base]) -> bool
+    ensures { result ≡ list_all (knows_base classes.now class.now) bases.now }
+{
+    for base in bases {
+        if !knows_base(classes, class, base) {
+            return false;
+        }
+    }
+    true
+}
+
+fn knows_members(classes: &Classes, class: &ClassDef, members: &[Member]) -> bool
+    ensures { result ≡ list_all (λ m. knows_kind classes.now class.now m.kind) members.now }
+{
+    for member in members {
+        if !knows_kind(classes, class, &member.kind) {
+            return false;
+        }
+    }
+    true
+}
+
+/// Whether each class that a base or a member names may stand there. The class's own name counts as declared.
+pub(crate) fn knows_all(classes: &Classes, class: &ClassDef) -> bool
+    ensures { result ≡ knows_all classes.now class.now }
+{
+    knows_bases(classes, class, class.bases.as_slice())
+        && knows_members(classes, class, class.members.as_slice())
+}

@@ -1,0 +1,7 @@
+pub mod DecimalLaws
+pub mod ListLaws
+pub mod NumberLaws
+pub mod SeparatedLaws
+pub mod StandLaws
+pub mod StringLaws
+pub mod TokenLaws

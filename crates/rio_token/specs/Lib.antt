@@ -1,0 +1,5 @@
+pub mod Laws
+pub mod Quoted
+pub mod Reading
+pub mod Tokens
+pub mod Words

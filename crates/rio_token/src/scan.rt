@@ -1,0 +1,106 @@
+ghost use Rattle.std.specs.Prelude.{◌≡◌, ◌+◌, ◌<◌, ◌≤◌, ◌^◌, length, take, drop};
+ghost use Rattle.std.specs.List.{prefix_len};
+ghost use Rattle.rio_num.specs.Word.{is_item_byte};
+ghost use Rattle.rio_token.specs.Quoted.{quoted};
+ghost use Rattle.rio_token.specs.declared.quoted.Within.TheVariants.{Between};
+ghost use Rattle.rio_token.specs.Tokens.{IsScan, is_blank, scan_from, scan_of, string_scan};
+
+use crate::Token;
+use crate::quoted::{Ending, ending_in};
+
+/// The next token, and how many bytes stand before it and before its end.
+#[derive(Clone, Copy)]
+pub(crate) struct Scanned {
+    pub(crate) token: Token,
+    pub(crate) start: usize,
+    pub(crate) stop: usize,
+}
+
+// How many blanks stand at the front.
+fn blanks(bytes: &[u8]) -> usize
+    ensures value { result ≡ prefix_len is_blank bytes.now }
+    ensures within { result ≤ length bytes.now }
+{
+    bytes
+        .iter()
+        .take_while(|byte| **byte == b' ' || **byte == b'\t')
+        .count()
+}
+
+fn is_of_word(byte: u8) -> bool
+    ensures { result ≡ is_item_byte byte }
+{
+    byte.is_ascii_alphanumeric() || byte == b'_' || byte == b'.' || byte == b'-' || byte == b'+'
+}
+
+// How many bytes of a word stand at the front.
+fn word_length(bytes: &[u8]) -> usize
+    ensures value { result ≡ prefix_len is_item_byte bytes.now }
+    ensures within { result ≤ length bytes.now }
+{
+    bytes.iter().take_while(|byte| is_of_word(**byte)).count()
+}
+
+/// The next token.
+#[tactic(auto, unfolding(crate::specs::Tokens::scan_of))]
+pub(crate) fn scan(bytes: &[u8]) -> Scanned
+    ensures exact { IsScan result (scan_of bytes.now) }
+    ensures within { result.stop ≤ length bytes.now }
+    ensures forward { result.start ≤ result.stop }
+{
+    let start = blanks(bytes);
+    scan_from(&bytes[start..], start)
+}
+
+// The token at the front, behind so many blanks.
+fn scan_from(bytes: &[u8], start: usize) -> Scanned
+    requires { start + length bytes.now < 2 ^ 64 }
+    ensures exact { IsScan result (scan_from start bytes.now) }
+    ensures within { result.stop ≤ start + length bytes.now }
+    ensures forward { result.start ≤ result.stop }
+{
+    match bytes {
+        [] => Scanned {
+            token: Token::End,
+            start,
+            stop: start,
+        },
+        [first, ..] if is_of_word(*first) => Scanned {
+            token: Token::Word,
+            start,
+            stop: start + word_length(bytes),
+        },
+        [b'"', string @ ..] => scan_string(string, start),
+        [first, ..] => Scanned {
+            token: Token::Mark(*first),
+            start,
+            stop: start + 1,
+        },
+    }
+}
+
+// A string, whose opening quote stands before these bytes.
+fn scan_string(bytes: &[u8], start: usize) -> Scanned
+    requires { start + 1 + length bytes.now < 2 ^ 64 }
+    ensures exact { IsScan result (string_scan start (length bytes.now) (quoted Between bytes.now).text (quoted Between bytes.now).ending) }
+    ensures within { result.stop ≤ start + 1 + length bytes.now }
+    ensures forward { result.start ≤ result.stop }
+{
+    match ending_in(bytes) {
+        Ending::Closed(length) => Scanned {
+            token: Token::Text,
+            start,
+            stop: start + 1 + length,
+        },
+        Ending::Broken => Scanned {
+            token: Token::Bad,
+            start,
+            stop: start,
+        },
+        Ending::Unended => Scanned {
+            token: Token::Cut,
+            start: start + 1 + bytes.len(),
+            stop: start + 1 + bytes.len(),
+        },
+    }
+}

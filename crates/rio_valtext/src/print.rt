@@ -1,0 +1,164 @@
+ghost use Rattle.std.specs.Prelude.{◌≡◌, ◌++◌, codes, OnOk, OnErr};
+ghost use Rattle.std.specs.Fmt.{decimal};
+ghost use Rattle.rio_num.specs.Printed.{name_text};
+ghost use Rattle.rio_num.specs.Room.{with_more};
+ghost use Rattle.rio_model.specs.Lists.{separated};
+ghost use Rattle.rio_model.specs.ValueText.{bits_text, class_text, label_text, text_of_part, text_of_value, truth_text};
+
+use rio_num::{Bytes, NoMemory};
+use rio_value::{Part, Value};
+
+fn put_bits32(text: &mut Bytes, bits: u32) -> Result<(), NoMemory>
+    ensures { OnOk result (text.new.bytes ≡ text.old.bytes ++ bits_text 4 bits) }
+{
+    text.put(b"0x")?;
+    text.put_hex8(bits)
+}
+
+fn put_bits64(text: &mut Bytes, bits: u64) -> Result<(), NoMemory>
+    ensures { OnOk result (text.new.bytes ≡ text.old.bytes ++ bits_text 8 bits) }
+{
+    text.put(b"0x")?;
+    text.put_hex16(bits)
+}
+
+fn put_truth(text: &mut Bytes, truth: bool) -> Result<(), NoMemory>
+    ensures { OnOk result (text.new.bytes ≡ text.old.bytes ++ truth_text truth) }
+{
+    if truth {
+        text.put(b"true")
+    } else {
+        text.put(b"false")
+    }
+}
+
+fn put_class(text: &mut Bytes, class: &[u8], version: i32) -> Result<(), NoMemory>
+    ensures { OnOk result (text.new.bytes ≡ text.old.bytes ++ class_text class.now version) }
+{
+    text.put_name(class)?;
+    text.put(b"#")?;
+    text.put_integer(i128::from(version))
+}
+
+fn put_label(text: &mut Bytes, label: u32) -> Result<(), NoMemory>
+    ensures { OnOk result (text.new.bytes ≡ text.old.bytes ++ label_text label) }
+{
+    text.put(b"@")?;
+    text.put_decimal(u64::from(label))
+}
+
+fn put_opaque(text: &mut Bytes, class: &[u8], length: u32) -> Result<(), NoMemory>
+    ensures { OnOk result (text.new.bytes ≡ text.old.bytes ++ (codes "opaque(" ++ name_text class.now ++ codes ", " ++ decimal length ++ codes ")")) }
+{
+    text.put(b"opaque(")?;
+    text.put_name(class)?;
+    text.put(b", ")?;
+    text.put_decimal(u64::from(length))?;
+    text.put(b")")
+}
+
+#[cycle(put)]
+#[tactic(auto, unfolding(rio_model::specs::ValueText::text_of_value))]
+fn put_value(text: &mut Bytes, value: &Value) -> Result<(), NoMemory>
+    ensures { OnOk result (text.new.bytes ≡ text.old.bytes ++ text_of_value value.now) }
+{
+    match value {
+        Value::Int(n) => text.put_integer(*n),
+        Value::Bits32(bits) => put_bits32(text, *bits),
+        Value::Bits64(bits) => put_bits64(text, *bits),
+        Value::Bool(truth) => put_truth(text, *truth),
+        Value::Text(string) => text.put_string(string.as_slice()),
+        Value::List(items) => put_list(text, items.as_slice()),
+        Value::Object {
+            class,
+            version,
+            parts,
+        } => put_object(text, class.as_slice(), *version, parts.as_slice()),
+        Value::Pointed { label, object } => put_pointed(text, *label, object.get()),
+        Value::Null => text.put(b"null"),
+        Value::Back(label) => put_label(text, *label),
+        Value::Opaque { class, length } => put_opaque(text, class.as_slice(), *length),
+    }
+}
+
+#[cycle(put)]
+fn put_list(text: &mut Bytes, items: &[Value]) -> Result<(), NoMemory>
+    ensures { OnOk result (text.new.bytes ≡ text.old.bytes ++ (codes "[" ++ separated text_of_value items.now ++ codes "]")) }
+{
+    text.put(b"[")?;
+    put_items(text, items)?;
+    text.put(b"]")
+}
+
+#[cycle(put)]
+fn put_items(text: &mut Bytes, items: &[Value]) -> Result<(), NoMemory>
+    ensures { OnOk result (text.new.bytes ≡ text.old.bytes ++ separated text_of_value items.now) }
+{
+    if let [first, rest @ ..] = items {
+        put_value(text, first)?;
+        for item in rest {
+            text.put(b", ")?;
+            put_value(text, item)?;
+        }
+    }
+    Ok(())
+}
+
+#[cycle(put)]
+fn put_object(text: &mut Bytes, class: &[u8], version: i32, parts: &[Part]) -> Result<(), NoMemory>
+    ensures { OnOk result (text.new.bytes ≡ text.old.bytes ++ (class_text class.now version ++ codes "{" ++ separated text_of_part parts.now ++ codes "}")) }
+{
+    put_class(text, class, version)?;
+    text.put(b"{")?;
+    put_parts(text, parts)?;
+    text.put(b"}")
+}
+
+#[cycle(put)]
+fn put_parts(text: &mut Bytes, parts: &[Part]) -> Result<(), NoMemory>
+    ensures { OnOk result (text.new.bytes ≡ text.old.bytes ++ separated text_of_part parts.now) }
+{
+    if let [first, rest @ ..] = parts {
+        put_part(text, first)?;
+        for part in rest {
+            text.put(b", ")?;
+            put_part(text, part)?;
+        }
+    }
+    Ok(())
+}
+
+#[cycle(put)]
+fn put_part(text: &mut Bytes, part: &Part) -> Result<(), NoMemory>
+    ensures { OnOk result (text.new.bytes ≡ text.old.bytes ++ text_of_part part.now) }
+{
+    if !part.name.is_empty() {
+        text.put_name(part.name.as_slice())?;
+        text.put(b": ")?;
+    }
+    put_value(text, &part.value)
+}
+
+#[cycle(put)]
+fn put_pointed(text: &mut Bytes, label: u32, object: &Value) -> Result<(), NoMemory>
+    ensures { OnOk result (text.new.bytes ≡ text.old.bytes ++ (label_text label ++ codes "=" ++ text_of_value object.now)) }
+{
+    put_label(text, label)?;
+    text.put(b"=")?;
+    put_value(text, object)
+}
+
+/// Puts a value at the end as it is printed, on one line: integers in decimal, the bits of a
+/// floating-point number as `0x` and 8 or 16 hexadecimal digits, texts in double quotes as
+/// `printed_string` says, lists as `[VALUE, VALUE]`, objects as `CLASS#VERSION{NAME: VALUE, NAME: VALUE}`,
+/// where a base is its value alone, pointers as `null`, `@LABEL=OBJECT` where the object begins and
+/// `@LABEL` back to it, and an object that isn't read as `opaque(CLASS, LENGTH)`. Names are printed as
+/// `printed_name` says. It goes as deep as the value. Without memory nothing is put.
+pub fn print_value(value: &Value, into: &mut Bytes) -> Result<(), NoMemory>
+    ensures ok { OnOk result (into.new ≡ with_more into.old (text_of_value value.now)) }
+    ensures err { OnErr result (into.new ≡ into.old) }
+{
+    let mut text = Bytes::new(into.allocator());
+    put_value(&mut text, value)?;
+    into.put(text.as_slice())
+}

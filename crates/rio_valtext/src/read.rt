@@ -1,0 +1,285 @@
+//! Values are read from left to right. A call reads a value with at most `levels` brackets within one
+//! another.
+ghost use Rattle.std.specs.Prelude.{◌≡◌, ◌<◌, ◌^◌, length, pos};
+ghost use Rattle.rio_num.specs.Word.{is_name_text};
+ghost use Rattle.rio_token.specs.Reading.{Answers, Reads, list_at, more_at};
+ghost use Rattle.rio_token.specs.Words.{bits_of, number_of};
+ghost use Rattle.rio_model.specs.ValueGrammar.{class_version_at, enclosed_at, listed, marked_value_at, named_object_at, number_or, bits_value, object_at, object_of, opens_object, part_at, pointer_at, text_value_at, value_and_end, value_at, value_in, word_value, word_value_at};
+
+use rio_num::{Boxed, Name, is_name};
+use rio_token::{Bits, TextFault, Token, Tokens, parse_bits, parse_number};
+use rio_value::{Part, Parts, Value, Values};
+use std::alloc::Global;
+
+/// How many brackets may stand within one another.
+const BRACKET_LIMIT: u32 = 1024;
+
+/// The value that the text spells from `place` on, and the place behind its last byte. Behind it anything
+/// may stand. `BadText` names the first token that can't stand in a value.
+pub fn read_value(alloc: Global, text: &[u8], place: u32) -> Result<(Value, u32), TextFault>
+    requires { length text.now < 2 ^ 32 }
+    ensures { Answers result (value_and_end (value_in text.now place)) }
+{
+    let mut tokens = Tokens::new(text, place);
+    let value = read_next(alloc, &mut tokens, BRACKET_LIMIT)?;
+    Ok((value, tokens.place()))
+}
+
+#[cycle(value)]
+#[tactic(auto, unfolding(rio_model::specs::ValueGrammar::value_at))]
+fn read_next(alloc: Global, tokens: &mut Tokens, levels: u32) -> Result<Value, TextFault>
+    ensures { Reads (λ v. v) result (value_at (enclosed_at levels) tokens.old) tokens.new }
+{
+    match tokens.peek() {
+        Token::Word => read_word(alloc, tokens, levels),
+        Token::Text => read_text(alloc, tokens),
+        Token::Mark(mark) => read_marked(alloc, tokens, mark, levels),
+        _ => Err(tokens.bad()),
+    }
+}
+
+#[tactic(auto, unfolding(rio_model::specs::ValueGrammar::text_value_at))]
+fn read_text(alloc: Global, tokens: &mut Tokens) -> Result<Value, TextFault>
+    ensures { Reads (λ v. v) result (text_value_at tokens.old) tokens.new }
+{
+    Ok(Value::Text(tokens.take_text(alloc)?))
+}
+
+#[cycle(value)]
+fn read_marked(
+    alloc: Global,
+    tokens: &mut Tokens,
+    mark: u8,
+    levels: u32,
+) -> Result<Value, TextFault>
+    ensures { Reads (λ v. v) result (marked_value_at (enclosed_at levels) mark tokens.old) tokens.new }
+{
+    match mark {
+        b'[' => read_list(alloc, tokens, levels),
+        b'@' => {
+            tokens.pass();
+            read_pointer(alloc, tokens, levels)
+        }
+        _ => Err(tokens.bad()),
+    }
+}
+
+// The value that a word is by itself.
+#[tactic(auto, unfolding(rio_model::specs::ValueGrammar::word_value))]
+fn value_of_word(word: &[u8]) -> Option<Value>
+    ensures { result ≡ word_value word.now }
+{
+    match word {
+        b"true" => Some(Value::Bool(true)),
+        b"false" => Some(Value::Bool(false)),
+        b"null" => Some(Value::Null),
+        _ => value_of_number(word),
+    }
+}
+
+fn value_of_number(word: &[u8]) -> Option<Value>
+    ensures { result ≡ number_or (number_of word.now) (bits_value (bits_of word.now)) }
+{
+    match (parse_number(word), parse_bits(word)) {
+        (Some(n), _) => Some(Value::Int(n)),
+        (None, Some(Bits::Four(n))) => Some(Value::Bits32(n)),
+        (None, Some(Bits::Eight(n))) => Some(Value::Bits64(n)),
+        (None, None) => None,
+    }
+}
+
+// Whether an object goes on behind its class.
+fn goes_on(tokens: &Tokens) -> bool
+    ensures { result ≡ opens_object tokens.now }
+{
+    matches!(tokens.peek(), Token::Mark(b'{' | b'#'))
+}
+
+#[cycle(value)]
+#[tactic(auto, unfolding(rio_model::specs::ValueGrammar::word_value_at))]
+fn read_word(alloc: Global, tokens: &mut Tokens, levels: u32) -> Result<Value, TextFault>
+    ensures { Reads (λ v. v) result (word_value_at (enclosed_at levels) tokens.old) tokens.new }
+{
+    let bad_word = tokens.bad();
+    let word = tokens.take_word()?;
+    if is_name(word) && goes_on(tokens) {
+        return read_object(alloc, tokens, word, levels);
+    }
+    match value_of_word(word) {
+        Some(value) => Ok(value),
+        None if is_name(word) => Err(tokens.bad()),
+        None => Err(bad_word),
+    }
+}
+
+// The version behind a class, or 0 where none stands there.
+#[tactic(auto, unfolding(rio_model::specs::ValueGrammar::class_version_at))]
+fn read_version(tokens: &mut Tokens) -> Result<i32, TextFault>
+    ensures { Reads (λ n. n) result (class_version_at tokens.old) tokens.new }
+{
+    if tokens.take_mark(b'#') {
+        let version = tokens.take_num_between(1, 32767)?;
+        Ok(version as i32)
+    } else {
+        Ok(0)
+    }
+}
+
+// An object, behind its class.
+#[cycle(value)]
+#[tactic(auto, unfolding(rio_model::specs::ValueGrammar::object_at))]
+fn read_object(
+    alloc: Global,
+    tokens: &mut Tokens,
+    class: &[u8],
+    levels: u32,
+) -> Result<Value, TextFault>
+    ensures { Reads (λ v. v) result (object_at (enclosed_at levels) class.now tokens.old) tokens.new }
+{
+    let version = read_version(tokens)?;
+    read_braces(alloc, tokens, class, version, levels)
+}
+
+#[cycle(value)]
+#[tactic(auto, unfolding(rio_model::specs::ValueGrammar::named_object_at))]
+fn read_named_object(alloc: Global, tokens: &mut Tokens, levels: u32) -> Result<Value, TextFault>
+    ensures { Reads (λ v. v) result (named_object_at (enclosed_at levels) tokens.old) tokens.new }
+{
+    let class = tokens.take_name()?;
+    read_object(alloc, tokens, class, levels)
+}
+
+// A pointer, behind its `@`.
+#[cycle(value)]
+#[tactic(auto, unfolding(rio_model::specs::ValueGrammar::pointer_at))]
+fn read_pointer(alloc: Global, tokens: &mut Tokens, levels: u32) -> Result<Value, TextFault>
+    ensures { Reads (λ v. v) result (pointer_at (enclosed_at levels) tokens.old) tokens.new }
+{
+    let label = tokens.take_num()?;
+    if !tokens.take_mark(b'=') {
+        return Ok(Value::Back(label));
+    }
+    let object = read_named_object(alloc, tokens, levels)?;
+    Ok(Value::Pointed {
+        label,
+        object: Boxed::new(alloc, object)?,
+    })
+}
+
+#[cycle(value)]
+#[tactic(auto, unfolding(rio_model::specs::ValueGrammar::enclosed_at, rio_model::specs::ValueGrammar::enclosed_by))]
+fn read_list(alloc: Global, tokens: &mut Tokens, levels: u32) -> Result<Value, TextFault>
+    ensures { Reads (λ v. v) result (enclosed_at levels listed tokens.old) tokens.new }
+{
+    if levels == 0 {
+        return Err(tokens.bad());
+    }
+    tokens.expect_mark(b'[')?;
+    Ok(Value::List(read_items(alloc, tokens, levels - 1)?))
+}
+
+// The values of a list and its closing bracket.
+#[cycle(value)]
+#[tactic(auto, unfolding(rio_token::specs::Reading::list_at, rio_token::specs::Reading::some_at))]
+fn read_items(alloc: Global, tokens: &mut Tokens, levels: u32) -> Result<Values, TextFault>
+    ensures { Reads (λ v. v) result (list_at 93 (λ before. value_at (enclosed_at levels)) tokens.old) tokens.new }
+{
+    let mut items = Values::new(alloc);
+    if tokens.take_mark(b']') {
+        return Ok(items);
+    }
+    items.push(read_next(alloc, tokens, levels)?)?;
+    read_more_items(alloc, tokens, items, levels)
+}
+
+#[cycle(value)]
+fn read_more_items(
+    alloc: Global,
+    tokens: &mut Tokens,
+    mut items: Values,
+    levels: u32,
+) -> Result<Values, TextFault>
+    ensures { Reads (λ v. v) result (more_at (length tokens.old.rest) 93 (λ before. value_at (enclosed_at levels)) items tokens.old) tokens.new }
+{
+    for _done in 0..tokens.left() {
+        if tokens.take_mark(b']') {
+            return Ok(items);
+        }
+        tokens.expect_mark(b',')?;
+        items.push(read_next(alloc, tokens, levels)?)?;
+    }
+    Err(tokens.bad())
+}
+
+// What stands in an object's braces.
+#[cycle(value)]
+#[tactic(auto, unfolding(rio_model::specs::ValueGrammar::enclosed_at, rio_model::specs::ValueGrammar::enclosed_by))]
+fn read_braces(
+    alloc: Global,
+    tokens: &mut Tokens,
+    class: &[u8],
+    version: i32,
+    levels: u32,
+) -> Result<Value, TextFault>
+    ensures { Reads (λ v. v) result (enclosed_at levels (object_of class.now version) tokens.old) tokens.new }
+{
+    if levels == 0 {
+        return Err(tokens.bad());
+    }
+    tokens.expect_mark(b'{')?;
+    let parts = read_parts(alloc, tokens, levels - 1)?;
+    Ok(Value::Object {
+        class: Name::from_slice(alloc, class)?,
+        version,
+        parts,
+    })
+}
+
+// The parts of an object and its closing brace.
+#[cycle(value)]
+#[tactic(auto, unfolding(rio_token::specs::Reading::list_at, rio_token::specs::Reading::some_at))]
+fn read_parts(alloc: Global, tokens: &mut Tokens, levels: u32) -> Result<Parts, TextFault>
+    ensures { Reads (λ v. v) result (list_at 125 (λ before. part_at (enclosed_at levels)) tokens.old) tokens.new }
+{
+    let mut parts = Parts::new(alloc);
+    if tokens.take_mark(b'}') {
+        return Ok(parts);
+    }
+    parts.push(read_part(alloc, tokens, levels)?)?;
+    read_more_parts(alloc, tokens, parts, levels)
+}
+
+#[cycle(value)]
+fn read_more_parts(
+    alloc: Global,
+    tokens: &mut Tokens,
+    mut parts: Parts,
+    levels: u32,
+) -> Result<Parts, TextFault>
+    ensures { Reads (λ v. v) result (more_at (length tokens.old.rest) 125 (λ before. part_at (enclosed_at levels)) parts tokens.old) tokens.new }
+{
+    for _done in 0..tokens.left() {
+        if tokens.take_mark(b'}') {
+            return Ok(parts);
+        }
+        tokens.expect_mark(b',')?;
+        parts.push(read_part(alloc, tokens, levels)?)?;
+    }
+    Err(tokens.bad())
+}
+
+#[cycle(value)]
+#[tactic(auto, unfolding(rio_model::specs::ValueGrammar::part_at))]
+fn read_part(alloc: Global, tokens: &mut Tokens, levels: u32) -> Result<Part, TextFault>
+    ensures { Reads (λ p. p) result (part_at (enclosed_at levels) tokens.old) tokens.new }
+{
+    let name = tokens.take_name()?;
+    if tokens.take_mark(b':') {
+        let value = read_next(alloc, tokens, levels)?;
+        let name = Name::from_slice(alloc, name)?;
+        return Ok(Part { name, value });
+    }
+    let value = read_object(alloc, tokens, name, levels)?;
+    let name = Name::new(alloc);
+    Ok(Part { name, value })
+}

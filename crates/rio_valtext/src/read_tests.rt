@@ -1,0 +1,193 @@
+use crate::{TextFault, read_value};
+use rio_num::{Name, NoMemory};
+use rio_value::Value;
+use std::alloc::Global;
+use std::test::Fail;
+
+fn bad(place: u32) -> Result<u32, TextFault> {
+    Err(TextFault::BadText { place })
+}
+
+// Where the value ends that begins at the place.
+fn end_from(alloc: Global, text: &[u8], place: u32) -> Result<u32, TextFault> {
+    if text.len() >= 0x1_0000_0000 {
+        return Err(TextFault::NoMemory);
+    }
+    let (_value, end) = read_value(alloc, text, place)?;
+    Ok(end)
+}
+
+fn end_of(alloc: Global, text: &[u8]) -> Result<u32, TextFault> {
+    end_from(alloc, text, 0)
+}
+
+#[test]
+fn cut_object(rt: HostRuntime) {
+    assert_eq!(rt; end_from(rt.alloc(), b"put s TObjString{", 6), bad(17));
+    assert_eq!(rt; end_from(rt.alloc(), b"put s TObjString{ }, 5", 6), Ok(19));
+}
+
+#[test]
+fn single_values(rt: HostRuntime) {
+    assert_eq!(rt; end_of(rt.alloc(), b" true"), Ok(5));
+    assert_eq!(rt; end_of(rt.alloc(), b"false ]"), Ok(5));
+    assert_eq!(rt; end_of(rt.alloc(), b"null"), Ok(4));
+    assert_eq!(rt; end_of(rt.alloc(), b"18446744073709551615"), Ok(20));
+    assert_eq!(rt; end_of(rt.alloc(), b"18446744073709551616"), bad(0));
+    assert_eq!(rt; end_of(rt.alloc(), b"-9223372036854775808"), Ok(20));
+    assert_eq!(rt; end_of(rt.alloc(), b" -9223372036854775809"), bad(1));
+    assert_eq!(rt; end_of(rt.alloc(), b"-0"), bad(0));
+    assert_eq!(rt; end_of(rt.alloc(), b"007"), bad(0));
+    assert_eq!(rt; end_of(rt.alloc(), b"0x3f800000"), Ok(10));
+    assert_eq!(rt; end_of(rt.alloc(), b"0x3F800000"), bad(0));
+    assert_eq!(rt; end_of(rt.alloc(), b"@4294967295"), Ok(11));
+    assert_eq!(rt; end_of(rt.alloc(), b"@ 4294967296"), bad(2));
+    assert_eq!(rt; end_of(rt.alloc(), b"@"), bad(1));
+    assert_eq!(rt; end_of(rt.alloc(), b"nul"), bad(3));
+    assert_eq!(rt; end_of(rt.alloc(), b"nul ]"), bad(4));
+    assert_eq!(rt; end_of(rt.alloc(), b""), bad(0));
+}
+
+#[test]
+fn strings(rt: HostRuntime) {
+    assert_eq!(rt; end_of(rt.alloc(), b"\"a\\n\""), Ok(5));
+    assert_eq!(rt; end_of(rt.alloc(), b"[\"a\\N\"]"), bad(1));
+    assert_eq!(rt; end_of(rt.alloc(), b"[\"a\\"), bad(4));
+}
+
+#[test]
+fn lists(rt: HostRuntime) {
+    assert_eq!(rt; end_of(rt.alloc(), b"[]"), Ok(2));
+    assert_eq!(rt; end_of(rt.alloc(), b"[1,\t2 , [] ]"), Ok(12));
+    assert_eq!(rt; end_of(rt.alloc(), b"[1 2]"), bad(3));
+    assert_eq!(rt; end_of(rt.alloc(), b"[1,]"), bad(3));
+    assert_eq!(rt; end_of(rt.alloc(), b"[,1]"), bad(1));
+    assert_eq!(rt; end_of(rt.alloc(), b"[1"), bad(2));
+    assert_eq!(rt; end_of(rt.alloc(), b"[1}"), bad(2));
+}
+
+#[test]
+fn objects(rt: HostRuntime) {
+    assert_eq!(rt;
+        end_of(
+            rt.alloc(),
+            b"Node { val : 1 , next:@0=Node#1{val: 2, next: @1} }"
+        ),
+        Ok(51)
+    );
+    assert_eq!(rt; end_of(rt.alloc(), b"A#32767{}"), Ok(9));
+    assert_eq!(rt; end_of(rt.alloc(), b"A#32768{}"), bad(2));
+    assert_eq!(rt; end_of(rt.alloc(), b"A#0{}"), bad(2));
+    assert_eq!(rt; end_of(rt.alloc(), b"A-B{}"), bad(0));
+    assert_eq!(rt; end_of(rt.alloc(), b"A{a 1}"), bad(4));
+    assert_eq!(rt; end_of(rt.alloc(), b"A{a: 1,}"), bad(7));
+    assert_eq!(rt; end_of(rt.alloc(), b"A{1}"), bad(2));
+    assert_eq!(rt; end_of(rt.alloc(), b"A{a: }"), bad(5));
+    assert_eq!(rt; end_of(rt.alloc(), b"A{B{}, c: 0}"), Ok(12));
+    assert_eq!(rt; end_of(rt.alloc(), b"A{@0}"), bad(2));
+    assert_eq!(rt; end_of(rt.alloc(), b"@0=[]"), bad(3));
+    assert_eq!(rt; end_of(rt.alloc(), b"@0=true{}"), Ok(9));
+    assert_eq!(rt; end_of(rt.alloc(), b"null#1{}"), Ok(8));
+    assert_eq!(rt; end_of(rt.alloc(), b"null#1"), bad(6));
+}
+
+// So many names' bytes and braces behind them.
+fn long_name(alloc: Global, length: usize) -> Result<Name, NoMemory> {
+    let mut text = Name::new(alloc);
+    for _byte in 0..length {
+        text.push(b'Z')?;
+    }
+    text.push(b'{')?;
+    text.push(b'}')?;
+    Ok(text)
+}
+
+#[test]
+fn long_names(rt: HostRuntime) -> Result<(), Fail> {
+    let text = long_name(rt.alloc(), 100).ok().ok_or("a text")?;
+    assert_eq!(rt; end_of(rt.alloc(), text.as_slice()), Ok(102));
+    let text = long_name(rt.alloc(), 101).ok().ok_or("a text")?;
+    assert_eq!(rt; end_of(rt.alloc(), text.as_slice()), bad(0));
+    Ok(())
+}
+
+// A list within an object's member, and so on, with so many brackets.
+fn nested(alloc: Global, brackets: usize) -> Result<Name, NoMemory> {
+    let mut text = Name::new(alloc);
+    text.push(b'[')?;
+    for _level in 1..brackets {
+        text.push(b'[')?;
+    }
+    for _level in 0..brackets {
+        text.push(b']')?;
+    }
+    Ok(text)
+}
+
+#[test]
+fn brackets(rt: HostRuntime) -> Result<(), Fail> {
+    let text = nested(rt.alloc(), 1024).ok().ok_or("a text")?;
+    assert_eq!(rt; end_of(rt.alloc(), text.as_slice()), Ok(2048));
+    let text = nested(rt.alloc(), 1025).ok().ok_or("a text")?;
+    assert_eq!(rt; end_of(rt.alloc(), text.as_slice()), bad(1024));
+    Ok(())
+}
+
+// A string's text, or nothing.
+fn text_in(value: &Value) -> &[u8] {
+    match value {
+        Value::Text(text) => text.as_slice(),
+        _ => b"",
+    }
+}
+
+#[test]
+fn spelled_bytes(rt: HostRuntime) -> Result<(), Fail> {
+    let read = read_value(rt.alloc(), b"\"\\\"\\\\\\n\\t\\x00\\xe9 ~\"", 0);
+    let (value, end) = read.ok().ok_or("a value")?;
+    assert_eq!(rt; end, 20);
+    assert_eq!(rt; text_in(&value), b"\"\\\n\t\x00\xe9 ~".as_slice());
+    Ok(())
+}
+
+#[test]
+fn members_and_bases(rt: HostRuntime) -> Result<(), Fail> {
+    let text = b"C#7{B{}, n: 2, w: [0x3f800000, -7]}";
+    let (value, _end) = read_value(rt.alloc(), text, 0).ok().ok_or("a value")?;
+    match &value {
+        Value::Object {
+            class,
+            version,
+            parts,
+        } => {
+            assert_eq!(rt; class.as_slice(), b"C".as_slice());
+            assert_eq!(rt; *version, 7);
+            assert_eq!(rt; parts.len(), 3);
+            assert_eq!(rt; parts.get(0).map(|part| part.name.len()), Some(0));
+            assert!(rt;
+                parts.get(0).is_some_and(|part| matches!(
+                    &part.value,
+                    Value::Object { version: 0, .. }
+                ))
+            );
+            assert!(rt;
+                parts
+                    .get(1)
+                    .is_some_and(|part| matches!(&part.value, Value::Int(2)))
+            );
+            assert!(rt; parts.get(2).is_some_and(|part| is_the_list(&part.value)));
+        }
+        _ => assert!(rt; false),
+    }
+    Ok(())
+}
+
+fn is_the_list(value: &Value) -> bool {
+    match value {
+        Value::List(items) => match items.as_slice() {
+            [Value::Bits32(n), Value::Int(m)] => *n == 0x3f80_0000 && *m == -7,
+            _ => false,
+        },
+        _ => false,
+    }
+}
