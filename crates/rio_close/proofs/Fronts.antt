@@ -6,13 +6,13 @@ use Rattle.rio_num.specs.Reading.{◌>>=◌}
 use Rattle.rio_num.specs.declared.cursor.Short.{Short}
 use Rattle.rio_head.specs.declared.head.FileHead.{FileHead}
 use Rattle.rio_head.specs.declared.dir.DirRecord.{DirRecord}
-use Rattle.rio_head.specs.declared.fault.FileFault.TheVariants.{NotClosed}
+use Rattle.rio_head.specs.declared.fault.FileFault.TheVariants.{NotClosed, BadDir}
 use Rattle.rio_head.specs.declared.fault.HeadFault.{HeadFault}
 use Rattle.rio_head.specs.Head.{fault_at, head_at}
 use Rattle.rio_head.specs.Dir.{dir_at}
 use Rattle.rio_head.proofs.HeadCut.{head_in_front}
 use Rattle.rio_head.proofs.DirCut.{dir_in_front_lem}
-use Rattle.rio_meaning.specs.Closed.{closed_head, closed_dir, or_bad_dir}
+use Rattle.rio_meaning.specs.Closed.{closed_head, closed_dir, or_fault}
 
 abbrev Headed : Type 0
 Headed = Result FileHead HeadFault
@@ -40,5 +40,5 @@ abbrev in_front : ℕ → List ℕ → At
 in_front place front = record { place = place; rest = front }
 
 module _ (file : List ℕ) (place : ℕ) (front : List ℕ) (is : front ≡ take 60 (drop place file)) where
-  pub dir_same : (read : Result DirRecord Short) → read ≡ dir_at (record { place = place; rest = front }) → closed_dir file place ≡ or_bad_dir place read
-  dir_same read e = ap (or_bad_dir place) (sym (dir_in_front_lem place (drop place file)) ∙ ap (λ (b : List ℕ). dir_at (in_front place b)) (sym is) ∙ sym e)
+  pub dir_same : (read : Result DirRecord Short) → read ≡ dir_at (record { place = place; rest = front }) → closed_dir file place ≡ or_fault (fault_at place BadDir) read
+  dir_same read e = ap (or_fault (fault_at place BadDir)) (sym (dir_in_front_lem place (drop place file)) ∙ ap (λ (b : List ℕ). dir_at (in_front place b)) (sym is) ∙ sym e)

@@ -25,6 +25,14 @@ IsTested BadKeyList = Unit {0}
 IsTested Compressed = ⊥
 IsTested BadInfo = ⊥
 
+-- a call that tests every rule
+abbrev pub AnyKind : FileFault → Type 0
+AnyKind kind = Unit {0}
+
+-- a call that tests none
+abbrev pub NoKind : FileFault → Type 0
+NoKind kind = ⊥
+
 -- a call that tests nothing of what it reads
 abbrev pub IsCallCause : {X : Type 0} → View → View → Result X ReportFault → Type 0
 IsCallCause old new (Ok x) = NoDiskFault old new
@@ -33,26 +41,36 @@ IsCallCause old new (Err NoMemory) = NoDiskFault old new
 IsCallCause old new (Err HostFault) = Rose old.disk_faults new.disk_faults
 IsCallCause old new (Err SayFault) = ⊥
 
--- a function that calls no host
+-- a function that calls no host, and tests these kinds of fault
+abbrev pub IsOwnCauseOf : {X : Type 0} → (FileFault → Type 0) → Result X ReportFault → Type 0
+IsOwnCauseOf tested (Ok x) = Unit {0}
+IsOwnCauseOf tested (Err (BadFile place kind)) = tested kind
+IsOwnCauseOf tested (Err NoMemory) = Unit {0}
+IsOwnCauseOf tested (Err HostFault) = ⊥
+IsOwnCauseOf tested (Err SayFault) = ⊥
+
+-- a call that reads and tests these kinds of fault, and says nothing
+abbrev pub IsHostCauseOf : {X : Type 0} → (FileFault → Type 0) → View → View → Result X ReportFault → Type 0
+IsHostCauseOf tested old new (Ok x) = NoDiskFault old new
+IsHostCauseOf tested old new (Err (BadFile place kind)) = tested kind × NoDiskFault old new
+IsHostCauseOf tested old new (Err NoMemory) = NoDiskFault old new
+IsHostCauseOf tested old new (Err HostFault) = Rose old.disk_faults new.disk_faults
+IsHostCauseOf tested old new (Err SayFault) = ⊥
+
+-- a call that reads and tests these kinds of fault, and then says a text
+abbrev pub IsSayCauseOf : {X : Type 0} → (FileFault → Type 0) → View → View → Result X ReportFault → Type 0
+IsSayCauseOf tested old new (Ok x) = NoDiskFault old new × NoSayFault old new
+IsSayCauseOf tested old new (Err (BadFile place kind)) = tested kind × NoDiskFault old new × NoSayFault old new
+IsSayCauseOf tested old new (Err NoMemory) = NoDiskFault old new × NoSayFault old new
+IsSayCauseOf tested old new (Err HostFault) = Rose old.disk_faults new.disk_faults × NoSayFault old new
+IsSayCauseOf tested old new (Err SayFault) = NoDiskFault old new × Rose old.say_faults new.say_faults
+
+-- the same for what reads header, directory record and key list alone
 abbrev pub IsOwnCause : {X : Type 0} → Result X ReportFault → Type 0
-IsOwnCause (Ok x) = Unit {0}
-IsOwnCause (Err (BadFile place kind)) = IsTested kind
-IsOwnCause (Err NoMemory) = Unit {0}
-IsOwnCause (Err HostFault) = ⊥
-IsOwnCause (Err SayFault) = ⊥
+IsOwnCause result = IsOwnCauseOf IsTested result
 
--- a call that reads and tests, and says nothing
 abbrev pub IsHostCause : {X : Type 0} → View → View → Result X ReportFault → Type 0
-IsHostCause old new (Ok x) = NoDiskFault old new
-IsHostCause old new (Err (BadFile place kind)) = IsTested kind × NoDiskFault old new
-IsHostCause old new (Err NoMemory) = NoDiskFault old new
-IsHostCause old new (Err HostFault) = Rose old.disk_faults new.disk_faults
-IsHostCause old new (Err SayFault) = ⊥
+IsHostCause old new result = IsHostCauseOf IsTested old new result
 
--- a call that reads and tests, and then says a text
 abbrev pub IsSayCause : {X : Type 0} → View → View → Result X ReportFault → Type 0
-IsSayCause old new (Ok x) = NoDiskFault old new × NoSayFault old new
-IsSayCause old new (Err (BadFile place kind)) = IsTested kind × NoDiskFault old new × NoSayFault old new
-IsSayCause old new (Err NoMemory) = NoDiskFault old new × NoSayFault old new
-IsSayCause old new (Err HostFault) = Rose old.disk_faults new.disk_faults × NoSayFault old new
-IsSayCause old new (Err SayFault) = NoDiskFault old new × Rose old.say_faults new.say_faults
+IsSayCause old new result = IsSayCauseOf IsTested old new result

@@ -2,12 +2,13 @@
 use Rattle.std.specs.Prelude.{◌≡◌, ◌⊎◌, ℕ, ◌+◌, ◌<◌, ◌≤◌, ◌^◌, List, length, take, drop, Option, Some, None, Result, Ok, Err}
 use Rattle.byteorder.specs.Endian.{big_number}
 use Rattle.rio_num.specs.Reading.{◌>>=◌}
+use Rattle.rio_num.specs.At.{At}
 use Rattle.rio_key.specs.declared.head.KeyHead.{KeyHead}
 use Rattle.rio_key.specs.Key.{key_at}
-use Rattle.rio_key.specs.KeyList.{key_list_at}
+use Rattle.rio_head.specs.declared.fault.FileFault.TheVariants.{BadKeyList}
 use Rattle.rio_head.specs.declared.fault.HeadFault.{HeadFault}
 use Rattle.rio_head.specs.Head.{fault_at}
-use Rattle.rio_meaning.specs.Closed.{or_bad_key, or_bad_list}
+use Rattle.rio_meaning.specs.Closed.{heads_of, or_fault}
 use Rattle.rio_host.specs.Host.{View}
 use Rattle.rio_close.specs.declared.fault.ReportFault.{ReportFault}
 use Rattle.rio_close.specs.declared.fault.ReportFault.TheVariants.{BadFile, NoMemory, HostFault, SayFault}
@@ -24,11 +25,15 @@ Opens (Err SayFault) read = Unit {0}
 abbrev pub OpensTold : {X : Type 0} → View → Result X ReportFault → (List ℕ → Result X HeadFault) → Type 0
 OpensTold old result read = (file : List ℕ) → old.holds ≡ Some file → Opens result (read file)
 
--- the heads of the key list that is all of these bytes, the first of which stands at a place
+-- what is read of the record that is all of these bytes, the first of which stands at a place
+abbrev pub record_in : {A : Type 0} → HeadFault → (KeyHead → At → Result A HeadFault) → ℕ → List ℕ → Result A HeadFault
+record_in fault read place bytes = do
+  key ← or_fault fault (key_at (record { place = place; rest = bytes }))
+  read key (record { place = place + key.keylen; rest = drop key.keylen bytes })
+
+-- the heads of the key list that is such a record
 unfoldable pub listed_in : ℕ → List ℕ → Result (List KeyHead) HeadFault
-listed_in place bytes = do
-  key ← or_bad_key place (key_at (record { place = place; rest = bytes }))
-  or_bad_list place (key_list_at (record { place = place + key.keylen; rest = drop key.keylen bytes }))
+listed_in place bytes = record_in (fault_at place BadKeyList) (heads_of place) place bytes
 
 -- The record that begins the bytes, as far as they go: none where its length isn't whole or is negative.
 abbrev pub IsRecordAt : List ℕ → Option (List ℕ) → Type 0

@@ -3,5 +3,6 @@ pub mod Images
 pub mod Kept
 pub mod Looks
 pub mod Moments
+pub mod PiecesLaws
 pub mod RangeLaws
 pub mod ReadsLaws

@@ -4,7 +4,6 @@ use Rattle.std.proofs.lemmas.Bool.{le-ltb, ltb-false, eq-eqb, ne_eqb, eqb-true, 
 use Rattle.std.specs.Int.{w32, cast_unsigned}
 use Rattle.rio_num.specs.At.{At}
 use Rattle.rio_num.specs.Reading.{◌>>=◌}
-use Rattle.rio_num.specs.declared.cursor.Short.{Short}
 use Rattle.rio_num.proofs.ReadLaws.{IsBytes, IsBytes-drop, IsBytes-take, bind_is, bind_ok, guard_ok, ok_is}
 use Rattle.rio_key.specs.declared.head.KeyHead.{KeyHead}
 use Rattle.rio_key.specs.declared.fault.KeyFault.{KeyFault}
@@ -18,14 +17,14 @@ use Rattle.rio_key.proofs.KeyListLaws.{key_list_again, key_list_found}
 use Rattle.rio_head.specs.declared.head.FileHead.{FileHead}
 use Rattle.rio_head.specs.declared.dir.DirRecord.{DirRecord}
 use Rattle.rio_head.specs.declared.fault.HeadFault.{HeadFault}
-use Rattle.rio_head.specs.declared.fault.FileFault.TheVariants.{NotClosed}
+use Rattle.rio_head.specs.declared.fault.FileFault.TheVariants.{NotClosed, BadDir, BadKeyList}
 use Rattle.rio_head.specs.Head.{fault_at, head_at, BeginsAsHead}
 use Rattle.rio_head.specs.Dir.{dir_at}
 use Rattle.rio_head.proofs.HeadAgain.{head_only}
 use Rattle.rio_head.proofs.HeadFound.{header_found}
 use Rattle.rio_head.proofs.DirLaws.{dir_found, dir_only}
 use Rattle.rio_meaning.specs.declared.closed.Closed.{Closed}
-use Rattle.rio_meaning.specs.Closed.{file_at, dir_place, closed_head, closed_dir, closed_keys, closed_file, data_at, listed_at, or_bad_dir, or_bad_key, or_bad_list}
+use Rattle.rio_meaning.specs.Closed.{file_at, dir_place, closed_head, closed_dir, closed_keys, closed_file, data_at, heads_of, listed_at, or_bad_list, or_fault}
 use Rattle.rio_meaning.specs.Grammar.{IsKeyList, HasKeys, IsClosedFile, ReadIsSpelled, SpelledIsRead, IsListedOnce}
 use Rattle.rio_meaning.specs.Listing.{key_lines}
 
@@ -50,9 +49,9 @@ keys_again file place keys (inl none) =
     rw (zero, none.1) refl
 keys_again file place keys (inr is) =
     let some : eqb place 0 ≡ false = ne_eqb place 0 is.somewhere in
-    let key = ap (or_bad_key place) (key_there place (drop place file) is.key is.key_spelled) in
+    let key = ap (or_fault (fault_at place BadKeyList)) (key_there place (drop place file) is.key is.key_spelled) in
     let behind = data_at file place is.key in
-    rw some (bind_is (or_bad_key place (key_at (file_at file place))) is.key (λ k. or_bad_list place (key_list_at (data_at file place k))) key ∙ list_there place behind.place behind.rest keys is.list_spelled)
+    rw some (bind_is (or_fault (fault_at place BadKeyList) (key_at (file_at file place))) is.key (λ k. heads_of place k (data_at file place k)) key ∙ list_there place behind.place behind.rest keys is.list_spelled)
 
 abbrev Read : Type 0
 Read = Result Closed HeadFault
@@ -71,7 +70,7 @@ unfolding closed_file
 spelled_is_read file closed is =
     let place = dir_place closed.head in
     bind_is (closed_head file) closed.head (to_dir file) (head_again file closed.head is.head is.end)
-    ∙ bind_is (closed_dir file place) closed.dir (to_keys file closed.head) (ap (or_bad_dir place) (dir_only closed.dir place (drop place file) is.dir))
+    ∙ bind_is (closed_dir file place) closed.dir (to_keys file closed.head) (ap (or_fault (fault_at place BadDir)) (dir_only closed.dir place (drop place file) is.dir))
     ∙ bind_is (closed_keys file closed.dir.seek_keys) closed.keys (to_end closed.head closed.dir) (keys_again file closed.dir.seek_keys closed.keys is.keys)
 
 -- ---- what is read is spelled
@@ -88,13 +87,9 @@ head_is file h fits e =
     let made : IsHeadOf file x.0 = record { begins = header_found (file_at file 0) x.0 fits x.1; within = ltb-false _ _ g.0 } in
     subst (IsHeadOf file) g.1 made
 
-dir_ok : (place : ℕ) (r : Result DirRecord Short) (d : DirRecord) → or_bad_dir place r ≡ Ok d → r ≡ Ok d
-dir_ok place (Ok x) d e = ap (λ (y : DirRecord). let read : Result DirRecord Short = Ok y in read) (ok_is {E = HeadFault} x d e)
-dir_ok place (Err f) d e = absurd cc
-
-key_ok : (place : ℕ) (r : Result KeyHead KeyFault) (h : KeyHead) → or_bad_key place r ≡ Ok h → r ≡ Ok h
-key_ok place (Ok x) h e = ap (λ (y : KeyHead). let read : Result KeyHead KeyFault = Ok y in read) (ok_is {E = HeadFault} x h e)
-key_ok place (Err f) h e = absurd cc
+or_fault_ok : {A E : Type 0} (fault : HeadFault) (r : Result A E) (x : A) → or_fault fault r ≡ Ok x → r ≡ Ok x
+or_fault_ok {A} {E} fault (Ok y) x e = ap (λ (z : A). let read : Result A E = Ok z in read) (ok_is {E = HeadFault} y x e)
+or_fault_ok fault (Err f) x e = absurd cc
 
 list_ok : (place : ℕ) (r : Result (List KeyHead × At) ListFault) (hs : List KeyHead) → or_bad_list place r ≡ Ok hs → (t : At) × (r ≡ Ok (hs, t))
 list_ok place (Ok x) hs e = (x.1, ap (λ (y : List KeyHead). let read : Result (List KeyHead × At) ListFault = Ok (y, x.1) in read) (ok_is {E = HeadFault} x.0 hs e))
@@ -107,8 +102,8 @@ value_is (Err f) h e = absurd cc
 listed_is : (file : List ℕ) (place : ℕ) (keys : List KeyHead) → IsBytes file → place ≢ 0 → listed_at file place ≡ Ok keys → IsKeyList file place keys
 unfolding listed_at
 listed_is file place keys fits somewhere e =
-    let k = bind_ok (or_bad_key place (key_at (file_at file place))) (λ key. or_bad_list place (key_list_at (data_at file place key))) keys e in
-    let v = value_is (key_head_at (file_at file place)) k.0 (key_ok place (key_at (file_at file place)) k.0 k.1) in
+    let k = bind_ok (or_fault (fault_at place BadKeyList) (key_at (file_at file place))) (λ key. heads_of place key (data_at file place key)) keys e in
+    let v = value_is (key_head_at (file_at file place)) k.0 (or_fault_ok (fault_at place BadKeyList) (key_at (file_at file place)) k.0 k.1) in
     let l = list_ok place (key_list_at (data_at file place k.0)) keys k.2 in
     let in_file = IsBytes-drop place file fits in
     let in_record = IsBytes-drop k.0.keylen _ (IsBytes-take (cast_unsigned w32 k.0.nbytes) (drop place file) in_file) in
@@ -136,7 +131,7 @@ read_is_spelled file closed fits e =
     let made : IsClosedFile file (record { head = h.0; dir = d.0; keys = k.0 }) = record {
       head = head.begins;
       end = head.within;
-      dir = dir_found (file_at file place) d.0 (IsBytes-drop place file fits) (dir_ok place (dir_at (file_at file place)) d.0 d.1);
+      dir = dir_found (file_at file place) d.0 (IsBytes-drop place file fits) (or_fault_ok (fault_at place BadDir) (dir_at (file_at file place)) d.0 d.1);
       keys = keys_by file d.0.seek_keys k.0 (eqb d.0.seek_keys 0) fits refl k.1;
     } in
     subst (IsClosedFile file) (ok_is {E = HeadFault} _ closed k.2) made

@@ -4,9 +4,7 @@ use Rattle.std.specs.Option.{unwrap_or}
 use Rattle.std.specs.Int.{w32, cast_unsigned}
 use Rattle.rio_num.specs.At.{At}
 use Rattle.rio_num.specs.Reading.{◌>>=◌}
-use Rattle.rio_num.specs.declared.cursor.Short.{Short}
 use Rattle.rio_key.specs.declared.head.KeyHead.{KeyHead}
-use Rattle.rio_key.specs.declared.fault.KeyFault.{KeyFault}
 use Rattle.rio_key.specs.declared.fault.ListFault.{ListFault}
 use Rattle.rio_key.specs.Key.{key_at}
 use Rattle.rio_key.specs.KeyList.{key_list_at}
@@ -32,32 +30,37 @@ closed_head file = do
   head ← head_at file
   if nat_lt (length file) head.end then Err (fault_at 12 NotClosed) else Ok head
 
-abbrev pub or_bad_dir : ℕ → Result DirRecord Short → Result DirRecord HeadFault
-or_bad_dir place (Ok dir) = Ok dir
-or_bad_dir place (Err e) = Err (fault_at place BadDir)
+-- what has no reading is this fault
+abbrev pub or_fault : {A E : Type 0} → HeadFault → Result A E → Result A HeadFault
+or_fault fault (Ok x) = Ok x
+or_fault fault (Err e) = Err fault
 
 -- the directory record, whole in the file
 abbrev pub closed_dir : List ℕ → ℕ → Result DirRecord HeadFault
-closed_dir file place = or_bad_dir place (dir_at (file_at file place))
+closed_dir file place = or_fault (fault_at place BadDir) (dir_at (file_at file place))
 
 -- The data of the record at a place: from KeyLen on, and up to Nbytes or the end of the file.
 abbrev pub data_at : List ℕ → ℕ → KeyHead → At
 data_at file place key = record { place = place + key.keylen; rest = drop key.keylen (take (cast_unsigned w32 key.nbytes) (drop place file)) }
+
+-- What is read of the record at a place: its key, or this fault, and then its data.
+abbrev pub record_at : {A : Type 0} → HeadFault → (KeyHead → At → Result A HeadFault) → List ℕ → ℕ → Result A HeadFault
+record_at fault read file place = do
+  key ← or_fault fault (key_at (file_at file place))
+  read key (data_at file place key)
 
 -- a list that is unreadable: at its head's place, and at the place of the list's key for the count
 abbrev pub or_bad_list : {A : Type 0} → ℕ → Result (List KeyHead × A) ListFault → Result (List KeyHead) HeadFault
 or_bad_list place (Ok x) = Ok x.0
 or_bad_list place (Err e) = Err (fault_at (unwrap_or e.head place) BadKeyList)
 
-abbrev pub or_bad_key : ℕ → Result KeyHead KeyFault → Result KeyHead HeadFault
-or_bad_key place (Ok key) = Ok key
-or_bad_key place (Err e) = Err (fault_at place BadKeyList)
+-- the heads in the data of the key list whose key stands at a place
+abbrev pub heads_of : ℕ → KeyHead → At → Result (List KeyHead) HeadFault
+heads_of place key contents = or_bad_list place (key_list_at contents)
 
--- the heads of the key list whose key stands at a place
+-- the heads of the key list at a place
 unfoldable pub listed_at : List ℕ → ℕ → Result (List KeyHead) HeadFault
-listed_at file place = do
-  key ← or_bad_key place (key_at (file_at file place))
-  or_bad_list place (key_list_at (data_at file place key))
+listed_at file place = record_at (fault_at place BadKeyList) (heads_of place) file place
 
 -- place 0 stands for no key list
 abbrev pub closed_keys : List ℕ → ℕ → Result (List KeyHead) HeadFault

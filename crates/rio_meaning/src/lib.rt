@@ -3,7 +3,9 @@
 #![tactic(auto)]
 
 mod closed;
+mod item;
 mod laws;
 
-pub use closed::Closed;
+pub use closed::{Closed, Described};
+pub use item::{Item, Missing};
 pub use laws::{closed_file_is_spelled, one_listing};

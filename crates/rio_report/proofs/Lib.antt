@@ -1,1 +1,4 @@
+pub mod Dumps
+pub mod Infos
+pub mod LineByLine
 pub mod Lines

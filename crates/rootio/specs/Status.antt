@@ -1,9 +1,12 @@
 -- The ways in which a run ends: exit status, text and cause.
-use Rattle.std.specs.Prelude.{ℕ, List, [], ◌++◌, codes}
+use Rattle.std.specs.Prelude.{ℕ, List, [], ◌++◌, codes, Result, Ok, Err}
 use Rattle.std.specs.Fmt.{decimal}
 use Rattle.rio_head.specs.FaultName.{name_of}
 use Rattle.rio_host.specs.Host.{View, Rose}
-use Rattle.rio_close.specs.Causes.{IsTested, NoDiskFault, NoSayFault}
+use Rattle.rio_head.specs.declared.fault.FileFault.{FileFault}
+use Rattle.rio_close.specs.Causes.{NoDiskFault, NoSayFault}
+use Rattle.rio_close.specs.declared.fault.ReportFault.{ReportFault}
+use Rattle.rio_close.specs.declared.fault.ReportFault.TheVariants.{BadFile as FileBad, NoMemory as OutOfMemory, HostFault, SayFault as NotSaid}
 use Rattle.rootio.specs.declared.status.Status.{Status}
 use Rattle.rootio.specs.declared.status.Status.TheVariants.{Done, Usage, BadFile, DiskFault, NoMemory, SayFault}
 
@@ -23,11 +26,19 @@ status_text DiskFault = codes "rootio: disk fault"
 status_text NoMemory = codes "rootio: no memory"
 status_text SayFault = codes "rootio: output fault"
 
--- Why a run ended so: the counts of faults rose where it says so, and only there.
-abbrev pub IsCause : View → View → Status → Type 0
-IsCause old new Done = NoDiskFault old new × NoSayFault old new
-IsCause old new Usage = NoDiskFault old new × NoSayFault old new
-IsCause old new (BadFile place kind) = IsTested kind × NoDiskFault old new × NoSayFault old new
-IsCause old new DiskFault = Rose old.disk_faults new.disk_faults × NoSayFault old new
-IsCause old new NoMemory = NoDiskFault old new × NoSayFault old new
-IsCause old new SayFault = NoDiskFault old new × Rose old.say_faults new.say_faults
+-- Why a run that tests these kinds of fault ended so: the counts of faults rose where it says so, and only there.
+abbrev pub IsCause : (FileFault → Type 0) → View → View → Status → Type 0
+IsCause tested old new Done = NoDiskFault old new × NoSayFault old new
+IsCause tested old new Usage = NoDiskFault old new × NoSayFault old new
+IsCause tested old new (BadFile place kind) = tested kind × NoDiskFault old new × NoSayFault old new
+IsCause tested old new DiskFault = Rose old.disk_faults new.disk_faults × NoSayFault old new
+IsCause tested old new NoMemory = NoDiskFault old new × NoSayFault old new
+IsCause tested old new SayFault = NoDiskFault old new × Rose old.say_faults new.say_faults
+
+-- how a run ended that told a listing
+abbrev pub status_of : Result (Unit {0}) ReportFault → Status
+status_of (Ok x) = Done
+status_of (Err (FileBad place kind)) = BadFile place kind
+status_of (Err OutOfMemory) = NoMemory
+status_of (Err HostFault) = DiskFault
+status_of (Err NotSaid) = SayFault

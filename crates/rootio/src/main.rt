@@ -1,6 +1,7 @@
 //! Reads and writes CERN's ROOT files: `rootio VERB FILE ARG...`.
 #![tactic(auto)]
 
+mod item_word;
 #[cfg(test)]
 mod rows;
 mod status;

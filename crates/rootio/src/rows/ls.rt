@@ -1,77 +1,11 @@
 //! Rows of `ls`.
+use super::hand::HAND;
 use super::images::{COMPRESSED, EMPTY, LARGE, ODD_NAMES, ONE, TWO};
+use super::runs::{changed, decode, ran, ran_with, words_of};
 use crate::status::{Status, code, fault_text};
-use crate::top::run;
 use rio_head::FileFault;
-use rio_host::{MemHost, SureSource};
-use rio_num::{Bytes, Name, NoMemory, Numbers, Words};
-use std::alloc::Global;
+use rio_num::{Bytes, Name};
 use std::test::Fail;
-
-// Bytes in hexadecimal.
-fn decode(alloc: Global, lines: &[&str]) -> Result<Bytes, NoMemory> {
-    let mut bytes = Bytes::new(alloc);
-    for line in lines {
-        for pair in line.as_bytes().chunks_exact(2) {
-            bytes.push(nibble(pair[0]).wrapping_mul(16) | nibble(pair[1]))?;
-        }
-    }
-    Ok(bytes)
-}
-
-fn nibble(digit: u8) -> u8 {
-    match digit {
-        b'0'..=b'9' => digit - b'0',
-        b'A'..=b'F' => digit - b'A' + 10,
-        _ => 0,
-    }
-}
-
-// The front of the bytes, with some words written over.
-fn changed(
-    alloc: Global,
-    bytes: &[u8],
-    length: usize,
-    words: &[(usize, u32)],
-) -> Result<Bytes, NoMemory> {
-    let mut image = Bytes::from_slice(alloc, &bytes[..length.min(bytes.len())])?;
-    for (place, word) in words {
-        if *place < image.len() && 4 <= image.len() - *place {
-            image.patch_u32(*place, *word);
-        }
-    }
-    Ok(image)
-}
-
-fn words_of(alloc: Global, words: &[&str]) -> Result<Words, NoMemory> {
-    let mut all = Words::new(alloc);
-    for word in words {
-        all.push(Name::from_slice(alloc, word.as_bytes())?)?;
-    }
-    Ok(all)
-}
-
-// What a run over a file answers and says, where these calls of its host fail.
-fn ran(
-    alloc: Global,
-    words: &[&str],
-    image: Bytes,
-    failing: &[u64],
-) -> Result<(Status, Name), NoMemory> {
-    ran_with(alloc, &words_of(alloc, words)?, image, failing)
-}
-
-fn ran_with(
-    alloc: Global,
-    words: &Words,
-    image: Bytes,
-    failing: &[u64],
-) -> Result<(Status, Name), NoMemory> {
-    let mut host = MemHost::new(alloc, image, Numbers::from_slice(alloc, failing)?);
-    let mut input = SureSource::new(Bytes::new(alloc));
-    let status = run(alloc, words, &mut host, &mut input);
-    Ok((status, Name::from_slice(alloc, host.said().as_slice())?))
-}
 
 static WORDS: [&str; 2] = ["ls", "a.root"];
 
@@ -83,6 +17,7 @@ enum File {
     OddNames,
     Compressed,
     Large,
+    Hand,
 }
 
 impl File {
@@ -94,6 +29,7 @@ impl File {
             File::OddNames => &ODD_NAMES,
             File::Compressed => &COMPRESSED,
             File::Large => &LARGE,
+            File::Hand => &HAND,
         }
     }
 }
@@ -110,7 +46,7 @@ struct Row {
 
 const WHOLE: usize = usize::MAX;
 
-static ROWS: [Row; 30] = [
+static ROWS: [Row; 32] = [
     Row {
         name: "one object",
         file: File::One,
@@ -397,6 +333,22 @@ static ROWS: [Row; 30] = [
         words: &[],
         status: Status::Done,
         said: "c;1 TObjString compressed\nd;1 TObjString\n",
+    },
+    Row {
+        name: "a length one above",
+        file: File::One,
+        length: WHOLE,
+        words: &[(318, 0x00000015)],
+        status: Status::Done,
+        said: "s;1 TObjString compressed\n",
+    },
+    Row {
+        name: "a file of another maker",
+        file: File::Hand,
+        length: WHOLE,
+        words: &[],
+        status: Status::Done,
+        said: "s;2 TObjString\ns;1 TObjString\nL;1 Node\nc;1 Node\na;1 C\no;1 Odd\nT;1 TTree\nz;1 TObjString compressed\n\"deep name\";7 TObjString\n",
     },
     Row {
         name: "the large form",

@@ -1,0 +1,37 @@
+-- The classes that a file describes, and the first fault of the verbs that read them.
+use Rattle.std.specs.Prelude.{ℕ, ◌==◌, List, [], Option, Result, Ok, Err, if◌then◌else◌}
+use Rattle.rio_num.specs.At.{At}
+use Rattle.rio_num.specs.Reading.{◌>>=◌}
+use Rattle.rio_types.specs.declared.class.ClassDef.{ClassDef}
+use Rattle.rio_key.specs.declared.head.KeyHead.{KeyHead}
+use Rattle.rio_key.specs.Key.{is_compressed}
+use Rattle.rio_head.specs.declared.fault.FileFault.TheVariants.{BadInfo, Compressed}
+use Rattle.rio_head.specs.declared.fault.HeadFault.{HeadFault}
+use Rattle.rio_head.specs.Head.{fault_at}
+use Rattle.rio_format.specs.ClassList.{class_list_at}
+use Rattle.rio_meaning.specs.declared.closed.Described.{Described}
+use Rattle.rio_meaning.specs.Closed.{closed_file, fault_of, or_fault, record_at}
+
+-- The classes in the data of the class list whose key stands at a place: a compressed one isn't read. Places in the data count
+-- from the key's first byte.
+abbrev pub classes_in : ℕ → KeyHead → At → Result (List ClassDef) HeadFault
+classes_in place key contents = if is_compressed key then Err (fault_at place Compressed) else or_fault (fault_at place BadInfo) (class_list_at key.keylen contents.rest)
+
+-- the class list at a place
+unfoldable pub info_at : List ℕ → ℕ → Result (List ClassDef) HeadFault
+info_at file place = record_at (fault_at place BadInfo) (classes_in place) file place
+
+-- place 0 stands for no class list
+abbrev pub described_at : List ℕ → ℕ → Result (List ClassDef) HeadFault
+described_at file place = if place == 0 then Ok [] else info_at file place
+
+-- the file and the classes that it describes, or the first rule that it breaks and the place where
+unfoldable pub described_file : List ℕ → Result Described HeadFault
+described_file file = do
+  closed ← closed_file file
+  classes ← described_at file closed.head.seek_info
+  Ok (record { closed = closed; classes = classes })
+
+-- the first fault of the rules that a verb tests which reads the classes
+abbrev pub first_described_fault : List ℕ → Option HeadFault
+first_described_fault file = fault_of (described_file file)

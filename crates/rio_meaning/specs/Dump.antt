@@ -1,0 +1,96 @@
+-- What the verb dump says of a file.
+use Rattle.std.specs.Prelude.{ℕ, Bool, ◌++◌, List, [], codes, Option, Some, None, Result, Ok, Err, if◌then◌else◌}
+use Rattle.std.specs.List.{flat_map}
+use Rattle.std.specs.Str.{bytes_eq}
+use Rattle.std.specs.Fmt.{decimal}
+use Rattle.rio_num.specs.Printed.{name_text}
+use Rattle.rio_num.specs.Reading.{◌>>=◌}
+use Rattle.rio_types.specs.declared.class.ClassDef.{ClassDef}
+use Rattle.rio_value.specs.declared.value.Value.{Value}
+use Rattle.rio_key.specs.declared.head.KeyHead.{KeyHead}
+use Rattle.rio_key.specs.Key.{is_compressed}
+use Rattle.rio_head.specs.declared.fault.HeadFault.{HeadFault}
+use Rattle.rio_format.specs.Objects.{value_at}
+use Rattle.rio_format.specs.declared.fault.ObjFault.{ObjFault}
+use Rattle.rio_format.specs.declared.fault.ObjFault.TheVariants.{Short, BadCount, UnknownClassWord, UnknownRef, NoCount, BadFlag, CountMismatch, TooDeep, NoMemory}
+use Rattle.rio_model.specs.ValueText.{text_of_value}
+use Rattle.rio_model.specs.ClassText.{text_of_class}
+use Rattle.rio_meaning.specs.declared.closed.Described.{Described}
+use Rattle.rio_meaning.specs.declared.item.Item.{Item}
+use Rattle.rio_meaning.specs.declared.item.Missing.{Missing}
+use Rattle.rio_meaning.specs.declared.item.Missing.TheVariants.{NoSuchName, NoSuchCycle}
+use Rattle.rio_meaning.specs.Closed.{data_at}
+use Rattle.rio_meaning.specs.Described.{described_file}
+use Rattle.rio_meaning.specs.Item.{found_item}
+
+-- a word and the numbers behind it
+abbrev pub with_number : List ℕ → ℕ → List ℕ
+with_number text n = text ++ codes " " ++ decimal n
+
+-- the kind of a fault, and its numbers in the order of its fields
+abbrev pub object_fault_text : ObjFault → List ℕ
+object_fault_text (Short place wanted) = with_number (with_number (codes "Short") place) wanted
+object_fault_text (BadCount place) = with_number (codes "BadCount") place
+object_fault_text (UnknownClassWord place word) = with_number (with_number (codes "UnknownClassWord") place) word
+object_fault_text (UnknownRef place word) = with_number (with_number (codes "UnknownRef") place) word
+object_fault_text (NoCount place) = with_number (codes "NoCount") place
+object_fault_text (BadFlag place) = with_number (codes "BadFlag") place
+object_fault_text (CountMismatch place said used) = with_number (with_number (with_number (codes "CountMismatch") place) said) used
+object_fault_text (TooDeep place) = with_number (codes "TooDeep") place
+object_fault_text NoMemory = codes "NoMemory"
+
+-- The value of a key: its record is at SeekKey and Nbytes long, as far as the file goes, and places count from its first byte.
+abbrev pub stored_value : List ℕ → List ClassDef → KeyHead → Result Value ObjFault
+stored_value file classes key = value_at classes key.class key.keylen (data_at file key.seek key).rest
+
+abbrev pub value_or_fault : Result Value ObjFault → List ℕ
+value_or_fault (Ok v) = text_of_value v
+value_or_fault (Err e) = codes "fault " ++ object_fault_text e
+
+abbrev pub is_tree : KeyHead → Bool
+is_tree key = bytes_eq key.class (codes "TTree")
+
+-- what is said of what a key holds: the values of trees aren't
+abbrev pub content_text : List ℕ → List ClassDef → KeyHead → List ℕ
+content_text file classes key =
+    if is_compressed key then codes "compressed"
+    else if is_tree key then codes "TTree"
+    else value_or_fault (stored_value file classes key)
+
+-- NAME;CYCLE and what the key holds
+abbrev pub stored_line : List ℕ → List ClassDef → KeyHead → List ℕ
+stored_line file classes key = name_text key.name ++ codes ";" ++ decimal key.cycle ++ codes " " ++ content_text file classes key ++ codes "\n"
+
+abbrev pub class_line : ClassDef → List ℕ
+class_line class = text_of_class class ++ codes "\n"
+
+-- all classes in the file's order, and then all keys in the key list's
+unfoldable pub dump_lines : List ℕ → List ClassDef → List KeyHead → List ℕ
+dump_lines file classes keys = flat_map class_line classes ++ flat_map (stored_line file classes) keys
+
+abbrev pub missing_line : Missing → List ℕ
+missing_line NoSuchName = codes "no 3 NoSuchName\n"
+missing_line NoSuchCycle = codes "no 4 NoSuchCycle\n"
+
+-- the line of one key, or what is missing
+abbrev pub item_line : List ℕ → List ClassDef → Result KeyHead Missing → List ℕ
+item_line file classes (Ok key) = stored_line file classes key
+item_line file classes (Err missing) = missing_line missing
+
+abbrev pub dump_text : List ℕ → Option Item → Described → List ℕ
+dump_text file None described = dump_lines file described.classes described.closed.keys
+dump_text file (Some item) described = item_line file described.classes (found_item item described.closed.keys)
+
+-- what is said of a file, or the first rule that it breaks
+unfoldable pub dumped_file : Option Item → List ℕ → Result (List ℕ) HeadFault
+dumped_file item file = do
+  described ← described_file file
+  Ok (dump_text file item described)
+
+-- what is said, and nothing of a file that breaks a rule
+abbrev pub text_of_dump : Result (List ℕ) HeadFault → List ℕ
+text_of_dump (Ok text) = text
+text_of_dump (Err e) = []
+
+abbrev pub dump_listing : Option Item → List ℕ → List ℕ
+dump_listing item file = text_of_dump (dumped_file item file)

@@ -1,0 +1,164 @@
+//! The line of a key, and what its record holds.
+ghost use Rattle.std.specs.Prelude.{◌≡◌, ◌++◌, ◌+◌, ◌<◌, ◌^◌, drop, length, codes, Bool, ℕ, List, Some, OnOk, IfOk};
+ghost use Rattle.std.specs.Fmt.{decimal};
+ghost use Rattle.rio_num.specs.Printed.{name_text};
+ghost use Rattle.rio_format.specs.Objects.{value_at};
+ghost use Rattle.rio_host.specs.Host.{IsLength};
+ghost use Rattle.rio_host.specs.OnlyReads.{OnlyReads};
+ghost use Rattle.rio_meaning.specs.Dump.{content_text, is_tree, object_fault_text, stored_line, value_or_fault, with_number};
+ghost use Rattle.rio_close.specs.Causes.{IsCallCause};
+
+use rio_buffer::ObjFault;
+use rio_close::{ReportFault, data_of, read_up_to};
+use rio_host::Host;
+use rio_key::KeyHead;
+use rio_num::{Bytes, NoMemory};
+use rio_stream::read_object;
+use rio_types::Classes;
+use rio_valtext::print_value;
+use std::alloc::Global;
+
+// Puts a space and a number at the end.
+fn put_number(text: &mut Bytes, n: u64) -> Result<(), NoMemory>
+    ensures { OnOk result (text.new.bytes ≡ text.old.bytes ++ (codes " " ++ decimal n)) }
+{
+    text.put(b" ")?;
+    text.put_decimal(n)
+}
+
+// Puts a word and a number at the end.
+fn put_word(text: &mut Bytes, word: &[u8], n: u64) -> Result<(), NoMemory>
+    ensures { OnOk result (text.new.bytes ≡ text.old.bytes ++ with_number word.now n) }
+{
+    text.put(word)?;
+    put_number(text, n)
+}
+
+fn put_two(text: &mut Bytes, word: &[u8], n: u64, m: u64) -> Result<(), NoMemory>
+    ensures { OnOk result (text.new.bytes ≡ text.old.bytes ++ with_number (with_number word.now n) m) }
+{
+    put_word(text, word, n)?;
+    put_number(text, m)
+}
+
+fn put_unknown(text: &mut Bytes, kind: &[u8], place: u64, word: u32) -> Result<(), NoMemory>
+    ensures { OnOk result (text.new.bytes ≡ text.old.bytes ++ with_number (with_number kind.now place) word) }
+{
+    put_two(text, kind, place, u64::from(word))
+}
+
+fn put_mismatch(text: &mut Bytes, place: u64, said: u32, used: u32) -> Result<(), NoMemory>
+    ensures { OnOk result (text.new.bytes ≡ text.old.bytes ++ object_fault_text (ObjFault.CountMismatch place said used)) }
+{
+    put_two(text, b"CountMismatch", place, u64::from(said))?;
+    put_number(text, u64::from(used))
+}
+
+// Puts the kind of a fault at the end, and its numbers.
+fn put_object_fault(text: &mut Bytes, fault: &ObjFault) -> Result<(), NoMemory>
+    ensures { OnOk result (text.new.bytes ≡ text.old.bytes ++ object_fault_text fault.now) }
+{
+    match fault {
+        ObjFault::Short { place, wanted } => put_two(text, b"Short", *place, *wanted),
+        ObjFault::BadCount { place } => put_word(text, b"BadCount", *place),
+        ObjFault::UnknownClassWord { place, word } => {
+            put_unknown(text, b"UnknownClassWord", *place, *word)
+        }
+        ObjFault::UnknownRef { place, word } => put_unknown(text, b"UnknownRef", *place, *word),
+        ObjFault::NoCount { place } => put_word(text, b"NoCount", *place),
+        ObjFault::BadFlag { place } => put_word(text, b"BadFlag", *place),
+        ObjFault::CountMismatch { place, said, used } => put_mismatch(text, *place, *said, *used),
+        ObjFault::TooDeep { place } => put_word(text, b"TooDeep", *place),
+        ObjFault::NoMemory => text.put(b"NoMemory"),
+    }
+}
+
+// Puts the value at the end that the bytes of the key's record spell, or its fault.
+fn put_value(
+    alloc: Global,
+    text: &mut Bytes,
+    classes: &Classes,
+    key: &KeyHead,
+    bytes: &[u8],
+) -> Result<(), NoMemory>
+    requires { length bytes.now < 2 ^ 32 }
+    ensures { OnOk result (text.new.bytes ≡ text.old.bytes ++ value_or_fault (value_at classes.now key.now.class key.now.keylen (drop key.now.keylen bytes.now))) }
+{
+    let contents = data_of(key, bytes);
+    match read_object(
+        alloc,
+        classes,
+        key.class.as_slice(),
+        contents,
+        u64::from(key.keylen),
+    ) {
+        Ok(value) => print_value(&value, text),
+        Err(ObjFault::NoMemory) => Err(NoMemory),
+        Err(fault) => {
+            text.put(b"fault ")?;
+            put_object_fault(text, &fault)
+        }
+    }
+}
+
+fn is_tree(key: &KeyHead) -> bool
+    ensures { result ≡ is_tree key.now }
+{
+    key.class.as_slice() == b"TTree".as_slice()
+}
+
+// Puts what the key's record holds at the end. The record isn't read where it is compressed, or a tree.
+fn put_content<H: Host>(
+    alloc: Global,
+    host: &mut H,
+    file_length: u64,
+    classes: &Classes,
+    key: &KeyHead,
+    text: &mut Bytes,
+) -> Result<(), ReportFault>
+    requires { IsLength (H.view host.old) file_length }
+    ensures content { OnOk result ((file : List ℕ) → (H.view host.old).holds ≡ Some file → text.new.bytes ≡ text.old.bytes ++ content_text file classes.now key.now) }
+    ensures calls { OnlyReads (H.view host.old) (H.view host.new) }
+    ensures cause { IsCallCause (H.view host.old) (H.view host.new) result }
+{
+    if key.is_compressed() {
+        text.put(b"compressed")?;
+        return Ok(());
+    }
+    if is_tree(key) {
+        text.put(b"TTree")?;
+        return Ok(());
+    }
+    let bytes = read_up_to(
+        alloc,
+        host,
+        file_length,
+        key.seek,
+        key.nbytes.cast_unsigned(),
+    )?;
+    put_value(alloc, text, classes, key, &bytes)?;
+    Ok(())
+}
+
+/// The key's line: `NAME;CYCLE` and what its record holds.
+pub(crate) fn key_line<H: Host>(
+    alloc: Global,
+    host: &mut H,
+    file_length: u64,
+    classes: &Classes,
+    key: &KeyHead,
+) -> Result<Bytes, ReportFault>
+    requires { IsLength (H.view host.old) file_length }
+    ensures line { IfOk result (λ line. (file : List ℕ) → (H.view host.old).holds ≡ Some file → line.bytes ≡ stored_line file classes.now key.now) }
+    ensures calls { OnlyReads (H.view host.old) (H.view host.new) }
+    ensures cause { IsCallCause (H.view host.old) (H.view host.new) result }
+{
+    let mut line = Bytes::new(alloc);
+    line.put_name(key.name.as_slice())?;
+    line.put(b";")?;
+    line.put_decimal(u64::from(key.cycle))?;
+    line.put(b" ")?;
+    put_content(alloc, host, file_length, classes, key, &mut line)?;
+    line.put(b"\n")?;
+    Ok(line)
+}

@@ -1,0 +1,72 @@
+//! Looking a key up by name and cycle.
+ghost use Rattle.std.specs.Prelude.{◌≡◌, Some, Ok, Err, MatchResult};
+ghost use Rattle.std.specs.List.{list_any};
+ghost use Rattle.std.specs.Option.{option_copied};
+ghost use Rattle.rio_meaning.specs.Item.{found_item, has_name, key_of_item, with_greatest_cycle, with_cycle};
+ghost use Rattle.rio_report.specs.GreatestCycle.{greatest_cycle_of};
+
+use rio_key::KeyHead;
+use rio_meaning::{Item, Missing};
+
+fn has_name(key: &KeyHead, name: &[u8]) -> bool
+    ensures { result ≡ has_name name.now key.now }
+{
+    key.name.as_slice() == name
+}
+
+// The one with the greater cycle, where there are two: the first of equal ones.
+fn greater_cycle<'a>(best: Option<&'a KeyHead>, key: &'a KeyHead) -> Option<&'a KeyHead>
+    ensures { option_copied result ≡ greatest_cycle_of (option_copied best.entry) (Some key.now) }
+{
+    match best {
+        Some(best) if key.cycle <= best.cycle => Some(best),
+        _ => Some(key),
+    }
+}
+
+// The key of the name with the greatest cycle, the first of several.
+fn with_greatest_cycle<'a>(keys: &'a [KeyHead], name: &[u8]) -> Option<&'a KeyHead>
+    ensures { option_copied result ≡ with_greatest_cycle name.now keys.now }
+{
+    let mut best: Option<&KeyHead> = None;
+    for key in keys {
+        if has_name(key, name) {
+            best = greater_cycle(best, key);
+        }
+    }
+    best
+}
+
+// The first key of the name and cycle.
+fn with_cycle<'a>(keys: &'a [KeyHead], name: &[u8], cycle: u32) -> Option<&'a KeyHead>
+    ensures { option_copied result ≡ with_cycle name.now cycle keys.now }
+{
+    keys.iter()
+        .find(|key| has_name(key, name) && u32::from(key.cycle) == cycle)
+}
+
+fn has_any(keys: &[KeyHead], name: &[u8]) -> bool
+    ensures { result ≡ list_any (has_name name.now) keys.now }
+{
+    keys.iter().any(|key| has_name(key, name))
+}
+
+fn key_of<'a>(keys: &'a [KeyHead], item: &Item) -> Option<&'a KeyHead>
+    ensures { option_copied result ≡ key_of_item item.now keys.now }
+{
+    match item.cycle {
+        None => with_greatest_cycle(keys, item.name.as_slice()),
+        Some(cycle) => with_cycle(keys, item.name.as_slice(), cycle),
+    }
+}
+
+/// The key of an item, or what is missing. Where the item has no cycle, it is the greatest of the name.
+pub(crate) fn found_item<'a>(keys: &'a [KeyHead], item: &Item) -> Result<&'a KeyHead, Missing>
+    ensures { MatchResult result (λ key. found_item item.now keys.now ≡ Ok key.now) (λ missing. found_item item.now keys.now ≡ Err missing) }
+{
+    match key_of(keys, item) {
+        Some(key) => Ok(key),
+        None if has_any(keys, item.name.as_slice()) => Err(Missing::NoSuchCycle),
+        None => Err(Missing::NoSuchName),
+    }
+}
