@@ -1,6 +1,7 @@
 //! Classes as the text of their declarations.
 #![tactic(auto)]
 
+mod known;
 mod print;
 mod read;
 mod read_kind;

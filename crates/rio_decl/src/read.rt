@@ -1,9 +1,12 @@
-ghost use Rattle.std.specs.Prelude.{◌≡◌, ◌<◌, ◌^◌, ◌&&◌, not, length, IfOk};
+ghost use Rattle.std.specs.Prelude.{◌≡◌, ◌<◌, ◌^◌, List, ◌&&◌, not, length, IfOk};
 ghost use Rattle.rio_num.specs.Word.{is_name_text};
 ghost use Rattle.rio_token.specs.Reading.{Answers, Reads, Takes, list_at, more_at, some_at, word_that_at};
-ghost use Rattle.rio_model.specs.ClassGrammar.{base_at, bases_at, class_at, class_in, counting_kind, counts_by, has_base, has_member, is_counted_by, member_at, with_counters, with_sum};
+ghost use Rattle.rio_model.specs.ClassGrammar.{base, base_at, bases_at, class_at, class_in, counting_kind, has_base, has_member, member, member_at, with_counters, with_sum};
+ghost use Rattle.rio_types.specs.declared.class.Member.{Member};
+ghost use Rattle.rio_decl.specs.Known.{KnowsCounters};
 
 use crate::checksum;
+use crate::known::{KnownBases, KnownMembers, Names, NewMember, counters_of};
 use crate::read_kind::{may_count, read_kind};
 use rio_num::{Name, NoMemory, is_name};
 use rio_token::{TextFault, Tokens};
@@ -48,35 +51,13 @@ fn with_checksum(alloc: Global, mut class: ClassDef) -> Result<ClassDef, NoMemor
     Ok(class)
 }
 
-pub(crate) fn is_base_of(bases: &[Base], name: &[u8]) -> bool
-    ensures { result ≡ has_base bases.now name.now }
-{
-    for base in bases {
-        if base.name.as_slice() == name {
-            return true;
-        }
-    }
-    false
-}
-
-pub(crate) fn is_member_of(members: &[Member], name: &[u8]) -> bool
-    ensures { result ≡ has_member members.now name.now }
-{
-    for member in members {
-        if member.name.as_slice() == name {
-            return true;
-        }
-    }
-    false
-}
-
 // A base's name, which none before has.
 #[tactic(auto, unfolding(rio_token::specs::Reading::word_that_at))]
-fn take_base_name<'a>(tokens: &mut Tokens<'a>, before: &[Base]) -> Result<&'a [u8], TextFault>
+fn take_base_name<'a>(tokens: &mut Tokens<'a>, before: &KnownBases) -> Result<&'a [u8], TextFault>
     ensures { Takes (λ word. word.now) result (word_that_at (λ word. is_name_text word && not (has_base before.now word)) tokens.old) tokens.old tokens.new }
 {
     match tokens.peek_word() {
-        Some(word) if is_name(word) && !is_base_of(before, word) => {
+        Some(word) if is_name(word) && !before.has_base(word) => {
             tokens.pass();
             Ok(word)
         }
@@ -86,11 +67,14 @@ fn take_base_name<'a>(tokens: &mut Tokens<'a>, before: &[Base]) -> Result<&'a [u
 
 // A member's name, which none before has.
 #[tactic(auto, unfolding(rio_token::specs::Reading::word_that_at))]
-fn take_member_name<'a>(tokens: &mut Tokens<'a>, before: &[Member]) -> Result<&'a [u8], TextFault>
+fn take_member_name<'a>(
+    tokens: &mut Tokens<'a>,
+    before: &KnownMembers,
+) -> Result<&'a [u8], TextFault>
     ensures { Takes (λ word. word.now) result (word_that_at (λ word. is_name_text word && not (has_member before.now word)) tokens.old) tokens.old tokens.new }
 {
     match tokens.peek_word() {
-        Some(word) if is_name(word) && !is_member_of(before, word) => {
+        Some(word) if is_name(word) && !before.has_member(word) => {
             tokens.pass();
             Ok(word)
         }
@@ -98,15 +82,13 @@ fn take_member_name<'a>(tokens: &mut Tokens<'a>, before: &[Member]) -> Result<&'
     }
 }
 
+// A base's name.
 #[tactic(auto, unfolding(rio_model::specs::ClassGrammar::base_at))]
-fn read_base(alloc: Global, tokens: &mut Tokens, before: &[Base]) -> Result<Base, TextFault>
-    ensures { Reads (λ b. b) result (base_at before.now tokens.old) tokens.new }
+fn read_base<'a>(tokens: &mut Tokens<'a>, before: &KnownBases) -> Result<&'a [u8], TextFault>
+    ensures { Reads (λ name. base name.now) result (base_at before.now tokens.old) tokens.new }
 {
     let name = take_base_name(tokens, before)?;
-    Ok(Base {
-        name: Name::from_slice(alloc, name)?,
-        version: 0,
-    })
+    Ok(name)
 }
 
 // The bases, if there are any, and the opening brace.
@@ -125,37 +107,42 @@ fn read_bases(alloc: Global, tokens: &mut Tokens) -> Result<Bases, TextFault>
 fn read_some_bases(alloc: Global, tokens: &mut Tokens) -> Result<Bases, TextFault>
     ensures { Reads (λ b. b) result (some_at 123 base_at tokens.old) tokens.new }
 {
-    let mut bases = Bases::new(alloc);
-    bases.push(read_base(alloc, tokens, &[])?)?;
-    read_more_bases(alloc, tokens, bases)
+    let none = KnownBases::new(alloc);
+    let base = read_base(tokens, &none)?;
+    let first = none.with(alloc, base)?;
+    read_more_bases(alloc, tokens, first)
 }
 
-fn read_more_bases(alloc: Global, tokens: &mut Tokens, mut bases: Bases) -> Result<Bases, TextFault>
-    ensures { Reads (λ b. b) result (more_at (length tokens.old.rest) 123 base_at bases tokens.old) tokens.new }
+fn read_more_bases<'a>(
+    alloc: Global,
+    tokens: &mut Tokens<'a>,
+    mut bases: KnownBases<'a>,
+) -> Result<Bases, TextFault>
+    ensures { Reads (λ b. b) result (more_at (length tokens.old.rest) 123 base_at bases.entry tokens.old) tokens.new }
 {
     for _done in 0..tokens.left() {
         if tokens.take_mark(b'{') {
-            return Ok(bases);
+            return Ok(bases.into_bases());
         }
         tokens.expect_mark(b',')?;
-        let base = read_base(alloc, tokens, bases.as_slice())?;
-        bases.push(base)?;
+        let base = read_base(tokens, &bases)?;
+        bases = bases.with(alloc, base)?;
     }
     Err(tokens.bad())
 }
 
 #[tactic(auto, unfolding(rio_model::specs::ClassGrammar::member_at))]
-fn read_member(alloc: Global, tokens: &mut Tokens, before: &[Member]) -> Result<Member, TextFault>
-    ensures { Reads (λ m. m) result (member_at before.now tokens.old) tokens.new }
+fn read_member<'a>(
+    alloc: Global,
+    tokens: &mut Tokens<'a>,
+    before: &KnownMembers,
+) -> Result<NewMember<'a>, TextFault>
+    ensures { Reads (λ m. member m.name.now m.kind) result (member_at before.now tokens.old) tokens.new }
 {
     let name = take_member_name(tokens, before)?;
     tokens.expect_mark(b':')?;
     let kind = read_kind(alloc, tokens, before)?;
-    Ok(Member {
-        name: Name::from_slice(alloc, name)?,
-        kind,
-        title: Name::new(alloc),
-    })
+    Ok(NewMember { name, kind })
 }
 
 // The members, and the closing brace.
@@ -163,58 +150,38 @@ fn read_member(alloc: Global, tokens: &mut Tokens, before: &[Member]) -> Result<
 fn read_members(alloc: Global, tokens: &mut Tokens) -> Result<Members, TextFault>
     ensures { Reads (λ m. m) result (list_at 125 member_at tokens.old) tokens.new }
 {
-    let mut members = Members::new(alloc);
+    let none = KnownMembers::new(alloc);
     if tokens.take_mark(b'}') {
-        return Ok(members);
+        return Ok(none.into_members());
     }
-    members.push(read_member(alloc, tokens, &[])?)?;
-    read_more_members(alloc, tokens, members)
+    let member = read_member(alloc, tokens, &none)?;
+    let first = none.with(alloc, member)?;
+    read_more_members(alloc, tokens, first)
 }
 
-fn read_more_members(
+fn read_more_members<'a>(
     alloc: Global,
-    tokens: &mut Tokens,
-    mut members: Members,
+    tokens: &mut Tokens<'a>,
+    mut members: KnownMembers<'a>,
 ) -> Result<Members, TextFault>
-    ensures { Reads (λ m. m) result (more_at (length tokens.old.rest) 125 member_at members tokens.old) tokens.new }
+    ensures { Reads (λ m. m) result (more_at (length tokens.old.rest) 125 member_at members.entry tokens.old) tokens.new }
 {
     for _done in 0..tokens.left() {
         if tokens.take_mark(b'}') {
-            return Ok(members);
+            return Ok(members.into_members());
         }
         tokens.expect_mark(b',')?;
-        let member = read_member(alloc, tokens, members.as_slice())?;
-        members.push(member)?;
+        let member = read_member(alloc, tokens, &members)?;
+        members = members.with(alloc, member)?;
     }
     Err(tokens.bad())
 }
 
-fn is_counted(kind: &Kind, name: &[u8]) -> bool
-    ensures { result ≡ counts_by kind.now name.now }
-{
-    match kind {
-        Kind::Counted { counter, .. } => counter.as_slice() == name,
-        _ => false,
-    }
-}
-
-/// Whether one of the members is counted by the name.
-pub(crate) fn counts(members: &[Member], name: &[u8]) -> bool
-    ensures { result ≡ is_counted_by members.now name.now }
-{
-    for member in members {
-        if is_counted(&member.kind, name) {
-            return true;
-        }
-    }
-    false
-}
-
 // A member's kind: a counter, where it is an `i32` that counts.
-fn kind_among(members: &[Member], member: &Member) -> Result<Kind, NoMemory>
-    ensures { IfOk result (λ kind. kind ≡ counting_kind members.now member.now) }
+fn kind_among(counters: &Names, member: &Member) -> Result<Kind, NoMemory>
+    ensures { (members : List Member) → KnowsCounters members counters.now → IfOk result (λ kind. kind ≡ counting_kind members member.now) }
 {
-    if may_count(&member.kind) && counts(members, member.name.as_slice()) {
+    if may_count(&member.kind) && counters.contains(member.name.as_slice()) {
         Ok(Kind::Counter)
     } else {
         member.kind.copy()
@@ -226,11 +193,12 @@ fn kind_among(members: &[Member], member: &Member) -> Result<Kind, NoMemory>
 fn with_counting(alloc: Global, members: &[Member]) -> Result<Members, NoMemory>
     ensures { IfOk result (λ counting. counting ≡ with_counters members.now) }
 {
+    let counters = counters_of(alloc, members)?;
     let mut counting = Members::new(alloc);
     for member in members {
         counting.push(Member {
             name: member.name.copy()?,
-            kind: kind_among(members, member)?,
+            kind: kind_among(&counters, member)?,
             title: member.title.copy()?,
         })?;
     }

@@ -1,11 +1,12 @@
 //! The kinds of members, each in knowledge of the members before it.
 ghost use Rattle.std.specs.Prelude.{◌≡◌, IfOk};
 ghost use Rattle.rio_token.specs.Reading.{Reads, next_word, taken_at};
-ghost use Rattle.rio_model.specs.ClassGrammar.{and_then, dimension_of, has_i32, is_i32, is_i32_of, kind_at, plain_at, primitive_at, primitive_of, sized_at};
+ghost use Rattle.rio_model.specs.ClassGrammar.{and_then, dimension_of, is_i32, is_i32_of, kind_at, plain_at, primitive_at, primitive_of, sized_at};
 
+use crate::known::KnownMembers;
 use rio_num::{Name, NoMemory};
 use rio_token::{TextFault, Tokens, parse_num_between};
-use rio_types::{Kind, Member, Prim};
+use rio_types::{Kind, Prim};
 use std::alloc::Global;
 
 /// The kind of single values that a word names.
@@ -45,23 +46,11 @@ pub(crate) fn may_count(kind: &Kind) -> bool
     }
 }
 
-// Whether one of the members has the name, and is an `i32`.
-fn has_counter(members: &[Member], name: &[u8]) -> bool
-    ensures { result ≡ has_i32 members.now name.now }
-{
-    for member in members {
-        if member.name.as_slice() == name && may_count(&member.kind) {
-            return true;
-        }
-    }
-    false
-}
-
 // What a word in square brackets says: how many values there are, or which member before counts them.
 #[tactic(auto, unfolding(rio_model::specs::ClassGrammar::dimension_of))]
 fn dimension(
     alloc: Global,
-    before: &[Member],
+    before: &KnownMembers,
     of: Prim,
     word: &[u8],
 ) -> Result<Option<Kind>, NoMemory>
@@ -70,7 +59,7 @@ fn dimension(
     if let Some(count) = parse_num_between(word, 1, 100_000) {
         return Ok(Some(Kind::Fixed { of, count }));
     }
-    if has_counter(before, word) {
+    if before.has_integer(word) {
         let counter = Name::from_slice(alloc, word)?;
         return Ok(Some(Kind::Counted { of, counter }));
     }
@@ -80,7 +69,7 @@ fn dimension(
 fn read_dimension(
     alloc: Global,
     tokens: &mut Tokens,
-    before: &[Member],
+    before: &KnownMembers,
     of: Prim,
 ) -> Result<Kind, TextFault>
     ensures { Reads (λ k. k) result (taken_at (and_then (dimension_of before.now of) (next_word tokens.old)) tokens.old) tokens.new }
@@ -102,7 +91,7 @@ fn read_dimension(
 fn read_sized(
     alloc: Global,
     tokens: &mut Tokens,
-    before: &[Member],
+    before: &KnownMembers,
     of: Prim,
 ) -> Result<Kind, TextFault>
     ensures { Reads (λ k. k) result (sized_at before.now of tokens.old) tokens.new }
@@ -115,7 +104,7 @@ fn read_sized(
 fn read_primitive(
     alloc: Global,
     tokens: &mut Tokens,
-    before: &[Member],
+    before: &KnownMembers,
     of: Prim,
 ) -> Result<Kind, TextFault>
     ensures { Reads (λ k. k) result (primitive_at before.now of tokens.old) tokens.new }
@@ -131,7 +120,7 @@ fn read_primitive(
 fn read_plain(
     alloc: Global,
     tokens: &mut Tokens,
-    before: &[Member],
+    before: &KnownMembers,
     word: &[u8],
 ) -> Result<Kind, TextFault>
     ensures { Reads (λ k. k) result (plain_at before.now word.now (primitive_of word.now) tokens.old) tokens.new }
@@ -150,7 +139,7 @@ fn read_plain(
 pub(crate) fn read_kind(
     alloc: Global,
     tokens: &mut Tokens,
-    before: &[Member],
+    before: &KnownMembers,
 ) -> Result<Kind, TextFault>
     ensures { Reads (λ k. k) result (kind_at before.now tokens.old) tokens.new }
 {

@@ -114,6 +114,10 @@ fn names_twice(rt: HostRuntime) {
         bad_place(rt.alloc(), b"class D 1 { a: i8, a: i8 }"),
         Some(19)
     );
+    assert_eq!(rt;
+        bad_place(rt.alloc(), b"class D 1 { a: i8, b: i8, a: i8 }"),
+        Some(26)
+    );
     assert_eq!(rt; bad_place(rt.alloc(), b"class D 1 : A, A { }"), Some(15));
     assert_eq!(rt; bad_place(rt.alloc(), b"class D 1 : A, B, A { }"), Some(18));
 }

@@ -1,8 +1,12 @@
-ghost use Rattle.std.specs.Prelude.{◌≡◌, ◌++◌, [], ◌∷◌, IfOk};
-ghost use Rattle.rio_model.specs.Stated.{are_stated_bases, are_stated_members, has_counter, has_stated_parts, is_class_version, is_class_word, is_counter, is_stated_base, is_stated_class, is_stated_kind, is_stated_member};
+ghost use Rattle.std.specs.Prelude.{◌≡◌, ◌++◌, List, [], ◌∷◌, ◌&&◌, not, IfOk, OnOk};
+ghost use Rattle.rio_num.specs.Word.{is_name_text};
+ghost use Rattle.rio_types.specs.declared.class.Base.{Base};
+ghost use Rattle.rio_types.specs.declared.class.Member.{Member};
+ghost use Rattle.rio_model.specs.Stated.{are_stated_bases, are_stated_members, has_stated_parts, is_class_version, is_class_word, is_counter, is_stated_base, is_stated_class};
+ghost use Rattle.rio_decl.specs.Known.{KnowsBases, KnowsPassed, has_name, is_known_kind, is_known_member};
 
 use crate::checksum;
-use crate::read::{counts, is_base_of, is_member_of};
+use crate::known::{Names, counters_of, put_name};
 use crate::read_kind::{is_i32_primitive, primitive};
 use rio_num::{NoMemory, is_name};
 use rio_types::{Base, ClassDef, Kind, Member};
@@ -14,18 +18,6 @@ fn is_counter_kind(kind: &Kind) -> bool
     matches!(kind, Kind::Counter)
 }
 
-// Whether one of the members is a counter of the name.
-fn is_counter_of(members: &[Member], name: &[u8]) -> bool
-    ensures { result ≡ has_counter members.now name.now }
-{
-    for member in members {
-        if member.name.as_slice() == name && is_counter_kind(&member.kind) {
-            return true;
-        }
-    }
-    false
-}
-
 // Whether the word is no kind of its own, and so the class of an object.
 fn names_class(word: &[u8]) -> bool
     ensures { result ≡ is_class_word word.now }
@@ -33,15 +25,15 @@ fn names_class(word: &[u8]) -> bool
     is_name(word) && primitive(word).is_none() && word != b"text".as_slice()
 }
 
-// The kind of a member of the name, between the members before and those after.
-fn kind_is_stated(before: &[Member], name: &[u8], after: &[Member], kind: &Kind) -> bool
-    ensures { result ≡ is_stated_kind before.now name.now after.now kind.now }
+// A kind behind these counters, of a member that counts or doesn't.
+fn kind_is_stated(counters: &Names, counts: bool, kind: &Kind) -> bool
+    ensures { result ≡ is_known_kind (has_name counters.now) counts kind.now }
 {
     match kind {
-        Kind::Plain { of } => !(is_i32_primitive(*of) && counts(after, name)),
-        Kind::Counter => counts(after, name),
+        Kind::Plain { of } => !(is_i32_primitive(*of) && counts),
+        Kind::Counter => counts,
         Kind::Fixed { count, .. } => 1 <= *count && *count <= 100_000,
-        Kind::Counted { counter, .. } => is_counter_of(before, counter.as_slice()),
+        Kind::Counted { counter, .. } => counters.contains(counter.as_slice()),
         Kind::Text => true,
         Kind::Inline { class } => names_class(class.as_slice()),
         Kind::Pointer { class } => is_name(class.as_slice()),
@@ -49,43 +41,70 @@ fn kind_is_stated(before: &[Member], name: &[u8], after: &[Member], kind: &Kind)
     }
 }
 
-fn member_is_stated(before: &[Member], member: &Member, after: &[Member]) -> bool
-    ensures { result ≡ is_stated_member before.now member.now after.now }
+// A name that is none of these.
+fn is_new(passed: &Names, name: &[u8]) -> bool
+    ensures { result ≡ (is_name_text name.now && not (has_name passed.now name.now)) }
+{
+    is_name(name) && !passed.contains(name)
+}
+
+// A member behind those of these names, among them these counters, where these names count.
+fn member_is_stated(passed: &Names, counters: &Names, counting: &Names, member: &Member) -> bool
+    ensures { result ≡ is_known_member (has_name passed.now) (has_name counters.now) (has_name counting.now) member.now }
 {
     let name = member.name.as_slice();
-    is_name(name)
-        && !is_member_of(before, name)
-        && kind_is_stated(before, name, after, &member.kind)
-        && member.title.is_empty()
+    let kind = kind_is_stated(counters, counting.contains(name), &member.kind);
+    is_new(passed, name) && kind && member.title.is_empty()
 }
 
-fn members_are_stated(members: &[Member]) -> bool
-    ensures { result ≡ are_stated_members [] members.now }
+// Puts a member's name among the others, and among those of the counters, if it is one.
+fn pass_member<'a>(
+    passed: &mut Names<'a>,
+    counters: &mut Names<'a>,
+    member: &'a Member,
+) -> Result<(), NoMemory>
+    ensures { OnOk result ((before : List Member) → KnowsPassed before passed.old counters.old → KnowsPassed (before ++ member.now ∷ []) passed.new counters.new) }
 {
-    for (i, member) in members.iter().enumerate() {
-        if !member_is_stated(&members[..i], member, &members[i + 1..]) {
-            return false;
-        }
+    let name = member.name.as_slice();
+    if is_counter_kind(&member.kind) {
+        put_name(counters, name)?;
     }
-    true
+    put_name(passed, name)
 }
 
-fn base_is_stated(before: &[Base], base: &Base) -> bool
-    ensures { result ≡ is_stated_base before.now base.now }
+fn members_are_stated(alloc: Global, members: &[Member]) -> Result<bool, NoMemory>
+    ensures { IfOk result (λ stated. stated ≡ are_stated_members [] members.now) }
 {
-    let name = base.name.as_slice();
-    is_name(name) && !is_base_of(before, name)
-}
-
-fn bases_are_stated(bases: &[Base]) -> bool
-    ensures { result ≡ are_stated_bases [] bases.now }
-{
-    for (i, base) in bases.iter().enumerate() {
-        if !base_is_stated(&bases[..i], base) {
-            return false;
+    let counting = counters_of(alloc, members)?;
+    let mut passed = Names::new(alloc);
+    let mut counters = Names::new(alloc);
+    for member in members {
+        if !member_is_stated(&passed, &counters, &counting, member) {
+            return Ok(false);
         }
+        pass_member(&mut passed, &mut counters, member)?;
     }
-    true
+    Ok(true)
+}
+
+// A base behind those of these names.
+fn base_is_stated(passed: &Names, base: &Base) -> bool
+    ensures { (before : List Base) → KnowsBases before passed.now → result ≡ is_stated_base before base.now }
+{
+    is_new(passed, base.name.as_slice())
+}
+
+fn bases_are_stated(alloc: Global, bases: &[Base]) -> Result<bool, NoMemory>
+    ensures { IfOk result (λ stated. stated ≡ are_stated_bases [] bases.now) }
+{
+    let mut passed = Names::new(alloc);
+    for base in bases {
+        if !base_is_stated(&passed, base) {
+            return Ok(false);
+        }
+        put_name(&mut passed, base.name.as_slice())?;
+    }
+    Ok(true)
 }
 
 fn version_is_stated(version: i32) -> bool
@@ -94,13 +113,15 @@ fn version_is_stated(version: i32) -> bool
     1 <= version && version <= 32767
 }
 
-fn parts_are_stated(class: &ClassDef) -> bool
-    ensures { result ≡ has_stated_parts class.now }
+fn parts_are_stated(alloc: Global, class: &ClassDef) -> Result<bool, NoMemory>
+    ensures { IfOk result (λ stated. stated ≡ has_stated_parts class.now) }
 {
-    is_name(class.name.as_slice())
-        && version_is_stated(class.version)
-        && bases_are_stated(class.bases.as_slice())
-        && members_are_stated(class.members.as_slice())
+    Ok(
+        is_name(class.name.as_slice())
+            && version_is_stated(class.version)
+            && bases_are_stated(alloc, class.bases.as_slice())?
+            && members_are_stated(alloc, class.members.as_slice())?,
+    )
 }
 
 /// Whether `read_class` can give the class, whatever versions its bases have: names are names, none
@@ -112,7 +133,7 @@ fn parts_are_stated(class: &ClassDef) -> bool
 pub fn is_stated(alloc: Global, class: &ClassDef) -> Result<bool, NoMemory>
     ensures { IfOk result (λ stated. stated ≡ is_stated_class class.now) }
 {
-    if !parts_are_stated(class) {
+    if !parts_are_stated(alloc, class)? {
         return Ok(false);
     }
     let sum = checksum(alloc, class)?;

@@ -8,5 +8,9 @@ pub mod ReadLayers
 pub mod ReadMembers
 pub mod ReadValues
 pub mod ReadWords
+pub mod StatedClasses
+pub mod StatedKinds
+pub mod StatedMembers
+pub mod StatedParts
 pub mod ValueLines
 pub mod ValueTextLaws

@@ -81,3 +81,7 @@ with_plain_bases class = record class { bases = map (λ b. base b.name) class.ba
 -- the declaration of such a class is read as the class, wherever it stands
 abbrev pub ClassesAreRead : Type 0
 ClassesAreRead = (front : List ℕ) (class : ClassDef) → is_stated_class class ≡ true → class_in (front ++ text_of_class class) (length front) ≡ Ok (with_plain_bases class)
+
+-- what a text declares, wherever it stands, is such a class, with version 0 in its bases
+abbrev pub ReadClassesAreStated : Type 0
+ReadClassesAreStated = (text : List ℕ) (place : ℕ) (class : ClassDef) → class_in text place ≡ Ok class → (is_stated_class class ≡ true) × (with_plain_bases class ≡ class)

@@ -8,4 +8,4 @@ mod read_laws;
 
 pub use declare::{DeclareFault, has_one_answer};
 pub use laws::texts_are_one_line;
-pub use read_laws::{printed_classes_are_read, printed_values_are_read};
+pub use read_laws::{printed_classes_are_read, printed_values_are_read, read_classes_are_stated};

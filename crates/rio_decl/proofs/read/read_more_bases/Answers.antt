@@ -1,12 +1,11 @@
-use Rattle.std.proofs.Common.{ap, sym, ◌∙◌}
 use Rattle.std.proofs.lemmas.Result.{err_from_is_err_and}
 use Rattle.rio_token.proofs.ListLaws.{more_closes, more_goes_on, more_is_cut, more_wants_comma, more_wants_item}
-use Rattle.rio_model.specs.ClassGrammar.{base_at}
+use Rattle.rio_model.specs.ClassGrammar.{base, base_at}
 use Rattle.rio_decl.proofs.read.read_more_bases.Goals as goal
 
 pub returns-then-take_mark : goal.returns-then-take_mark
 returns-then-take_mark c =
-    more_closes 123 base_at c.left-done-end.result c.loop-done._done c.loop-done.bases c.loop-done.tokens _ c.take_mark.result c.take_mark.new.self c.take_mark.ensures.value c.take_mark.ensures.state c.loop-done-test.true c.if-take_mark.true c.loop-done.invariant
+    rw c.into_bases.ensures (more_closes 123 base_at c.left-done-end.result c.loop-done._done c.loop-done.bases c.loop-done.tokens _ c.take_mark.result c.take_mark.new.self c.take_mark.ensures.value c.take_mark.ensures.state c.loop-done-test.true c.if-take_mark.true c.loop-done.invariant)
 
 pub returns-in_err-expect_mark : goal.returns-in_err-expect_mark
 returns-in_err-expect_mark c =
@@ -16,11 +15,11 @@ returns-in_err-expect_mark c =
 pub returns-in_err-base : goal.returns-in_err-base
 returns-in_err-base c =
     let p = err_from_is_err_and c.from_residual-in_err-base.result c.from_residual-in_err-base.ensures.1 in
-    rw (p.1, p.2) (λ ne. more_wants_item 123 base_at c.left-done-end.result c.loop-done._done c.loop-done.bases c.loop-done.tokens _ c.take_mark.result c.take_mark.new.self c.take_mark.ensures.value c.take_mark.ensures.state c.expect_mark.new.self c.loop-done-test.true c.if-take_mark.false c.in_ok-expect_mark.ensures c.in_err-base.field-0.0 (rw c.as_slice.ensures at (c.in_err-base.ensures ne)) c.loop-done.invariant)
+    rw (p.1, p.2) (λ ne. more_wants_item 123 base_at c.left-done-end.result c.loop-done._done c.loop-done.bases c.loop-done.tokens _ c.take_mark.result c.take_mark.new.self c.take_mark.ensures.value c.take_mark.ensures.state c.expect_mark.new.self c.loop-done-test.true c.if-take_mark.false c.in_ok-expect_mark.ensures c.in_err-base.field-0.0 (c.in_err-base.ensures ne) c.loop-done.invariant)
 
 pub loop-done-preserved : goal.loop-done-preserved
 loop-done-preserved c =
-    rw c.in_ok-push.ensures.ok (more_goes_on 123 base_at c.left-done-end.result c.loop-done._done c.loop-done.bases c.loop-done.tokens _ c.take_mark.result c.take_mark.new.self c.take_mark.ensures.value c.take_mark.ensures.state c.expect_mark.new.self c.loop-done-test.true c.if-take_mark.false c.in_ok-expect_mark.ensures c.in_ok-base.base c.read_base.new.tokens (rw c.as_slice.ensures at c.in_ok-base.ensures) c.loop-done.invariant)
+    rw c.in_ok-bases.ensures (more_goes_on 123 base_at c.left-done-end.result c.loop-done._done c.loop-done.bases c.loop-done.tokens _ c.take_mark.result c.take_mark.new.self c.take_mark.ensures.value c.take_mark.ensures.state c.expect_mark.new.self c.loop-done-test.true c.if-take_mark.false c.in_ok-expect_mark.ensures (base c.in_ok-base.base.now) c.read_base.new.tokens c.in_ok-base.ensures c.loop-done.invariant)
 
 pub returns : goal.returns
 returns c =

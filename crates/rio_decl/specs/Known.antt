@@ -1,0 +1,51 @@
+-- What is kept beside members and bases, so that each look-up is a search.
+use Rattle.std.specs.Prelude.{◌≡◌, ℕ, List, length, nat_le, Bool, true, false, ◌==◌, ◌&&◌, not}
+use Rattle.std.specs.Borrow.{Bor}
+use Rattle.std.specs.BTreeSet.{BTreeSet, contains_by}
+use Rattle.std.specs.Cmp.Lexicographic.{slice_cmp}
+use Rattle.std.specs.Ordering.{nat_cmp}
+use Rattle.rio_num.specs.Word.{is_name_text}
+use Rattle.rio_types.specs.declared.class.Base.{Base}
+use Rattle.rio_types.specs.declared.class.Member.{Member}
+use Rattle.rio_types.specs.declared.kind.Kind.{Kind}
+use Rattle.rio_types.specs.declared.kind.Kind.TheVariants.{Plain, Counter, Fixed, Counted, Text, Inline, Pointer, Other}
+use Rattle.rio_model.specs.ClassGrammar.{has_base, has_i32, has_member, is_counted_by, is_i32_of}
+use Rattle.rio_model.specs.Stated.{has_counter, is_class_word}
+
+-- whether the set has the name
+abbrev pub has_name : BTreeSet (Bor (List ℕ)) → List ℕ → Bool
+has_name set name = contains_by (λ k. slice_cmp nat_cmp name k.now) set
+
+-- the sets have the names of the members, and of those that may count
+pub record KnowsMembers (members : List Member) (names integers : BTreeSet (Bor (List ℕ))) : Type 0 where
+  pub all : (name : List ℕ) → has_name names name ≡ has_member members name
+  pub may_count : (name : List ℕ) → has_name integers name ≡ has_i32 members name
+
+-- the set has the names of the bases
+abbrev pub KnowsBases : List Base → BTreeSet (Bor (List ℕ)) → Type 0
+KnowsBases bases set = (name : List ℕ) → has_name set name ≡ has_base bases name
+
+-- the sets have the names of the members, and of the counters among them
+pub record KnowsPassed (members : List Member) (names counters : BTreeSet (Bor (List ℕ))) : Type 0 where
+  pub all : (name : List ℕ) → has_name names name ≡ has_member members name
+  pub count : (name : List ℕ) → has_name counters name ≡ has_counter members name
+
+-- the set has the names that count some of the members
+abbrev pub KnowsCounters : List Member → BTreeSet (Bor (List ℕ)) → Type 0
+KnowsCounters members set = (name : List ℕ) → has_name set name ≡ is_counted_by members name
+
+-- a kind behind counters of these names, of a member that counts or doesn't
+abbrev pub is_known_kind : (List ℕ → Bool) → Bool → Kind → Bool
+is_known_kind counters counts (Plain of) = not (is_i32_of of && counts)
+is_known_kind counters counts Counter = counts
+is_known_kind counters counts (Fixed of count) = nat_le 1 count && nat_le count 100000
+is_known_kind counters counts (Counted of counter) = counters counter
+is_known_kind counters counts Text = true
+is_known_kind counters counts (Inline class) = is_class_word class
+is_known_kind counters counts (Pointer class) = is_name_text class
+is_known_kind counters counts (Other code) = false
+
+-- a member behind members of these names, among them these counters, where these names count
+abbrev pub is_known_member : (List ℕ → Bool) → (List ℕ → Bool) → (List ℕ → Bool) → Member → Bool
+is_known_member passed counters counting m =
+    is_name_text m.name && not (passed m.name) && is_known_kind counters (counting m.name) m.kind && (length m.title == 0)
