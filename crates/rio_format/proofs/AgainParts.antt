@@ -116,7 +116,7 @@ array_again class of p t v bytes t' more c =
 -- ---- lists and arrays of pointers
 
 -- reading stands within the parts of an object
-abbrev within : ℕ → List ℕ → WordsMet × Counters → Within
+abbrev pub within : ℕ → List ℕ → WordsMet × Counters → Within
 within p rest s = (standing p rest s.0, s.1)
 
 -- the items of an array have room behind its lower bound
@@ -127,7 +127,7 @@ array_room spells count p t items bytes t' lower more each =
     (le-div_iff_mul-le some).1 (omega (arith, room, length-append lower (bytes ++ more)))
 
 module _ (object : Reader) (spells : Spellings) (again : (class : List ℕ) → IsReadAgain (object class) (spells class)) where
-  link_again : IsReadAgain (link_at object) (λ p t v bytes t'. IsLink spells p t v bytes t')
+  pub link_again : IsReadAgain (link_at object) (λ p t v bytes t'. IsLink spells p t v bytes t')
   unfolding link_at
   link_again p t v bytes t' more c =
       let whole : bytes ++ more ≡ c.pointer_bytes ++ (c.option_bytes ++ more) = ap (λ (b : List ℕ). b ++ more) c.spelled ∙ append_assoc c.pointer_bytes c.option_bytes more in
@@ -185,7 +185,7 @@ module _ (object : Reader) (spells : Spellings) (again : (class : List ℕ) → 
   kind_again counters (Pointer class) p t v bytes t' more c = pointer_again object spells again p t v bytes t' more c
   kind_again counters (Other code) p t v bytes t' more c = absurd c
 
-  member_again : (m : Member) → IsReadBy within (member_at object m) (IsPart spells m)
+  pub member_again : (m : Member) → IsReadBy within (member_at object m) (IsPart spells m)
   unfolding member_at
   member_again m p s y bytes s' more c =
       let value = kind_again s.1 m.kind p s.0 c.v bytes s'.0 more c.value in

@@ -73,7 +73,7 @@ member_read m counters v = Ok (part m.name v.0, (v.1, counters_with m v.0 counte
 
 -- ---- what spells them
 
-abbrev SpellsLink : Spellings → Spelling Value
+abbrev pub SpellsLink : Spellings → Spelling Value
 SpellsLink spells p t v bytes t' = IsLink spells p t v bytes t'
 
 abbrev pub SpellsListParts : Spellings → Spelling (List Part)
@@ -86,10 +86,10 @@ abbrev pub SpellsParts : Spellings → ClassDef → Spelling (List Part)
 SpellsParts spells c p t v bytes t' = IsParts spells c p t v bytes t'
 
 -- where reading stands within the parts of an object
-abbrev at_within : Within → At
+abbrev pub at_within : Within → At
 at_within s = s.0.at
 
-abbrev words_within : Within → WordsMet × Counters
+abbrev pub words_within : Within → WordsMet × Counters
 words_within s = (s.0.words, s.1)
 
 -- the base, the name and the count, which both have
@@ -105,7 +105,7 @@ record IsListFront (spells : Spellings) (base : Value) (name : List ℕ) (count 
   same : s'.words ≡ t1
 
 module _ (object : Reader) (spells : Spellings) (found : (class : List ℕ) → IsFound (object class) (spells class)) where
-  link_found : IsFound (link_at object) (SpellsLink spells)
+  pub link_found : IsFound (link_at object) (SpellsLink spells)
   unfolding link_at
   link_found s v s' fits e =
       let p = bind_ok (pointer_at object s) (λ pointer. chars_at pointer.1 >>= to_link pointer.0) (v, s') e in
@@ -244,7 +244,7 @@ module _ (object : Reader) (spells : Spellings) (found : (class : List ℕ) → 
   kind_found counters (Pointer class) s v s' fits e = let f = pointer_found object spells found s v s' fits e in record { bytes = f.bytes; took = f.took; spelled = f.spelled }
   kind_found counters (Other code) s v s' fits e = absurd cc
 
-  member_found : (m : Member) → IsFoundBy at_within words_within (member_at object m) (IsPart spells m)
+  pub member_found : (m : Member) → IsFoundBy at_within words_within (member_at object m) (IsPart spells m)
   unfolding member_at
   member_found m s y s' fits e =
       let k = bind_ok (kind_at object s.1 m.kind s.0) (member_read m s.1) (y, s') e in

@@ -53,10 +53,10 @@ module _ {Z : Type 0} (y : Z) where
 -- ---- names
 
 -- how many bytes stand before the first that is 0
-abbrev before_zero : List ℕ → ℕ
+abbrev pub before_zero : List ℕ → ℕ
 before_zero xs = position_or_len (λ b. b == 0) xs
 
-plain_front : (xs : List ℕ) → IsPlain (take (before_zero xs) xs)
+pub plain_front : (xs : List ℕ) → IsPlain (take (before_zero xs) xs)
 plain_front [] = tt
 plain_front (x ∷ xs) = by (x == 0) refl (plain_front xs)
   where
@@ -143,7 +143,7 @@ known_class_found s w x (Some known) false name s' look t old word e =
     } in
     given SpellsClass s known w name s' e made
 
-class_found : IsFound class_at SpellsClass
+pub class_found : IsFound class_at SpellsClass
 unfolding class_at
 class_found s name s' fits e =
     let w = bind_ok (word_at 4 s) (λ w. cond (w.0 == 2 ^ 32 - 1) (new_class_at s.at.place w.1) (known_class_at s.at.place w.0 w.1)) (name, s') e in

@@ -1,0 +1,10 @@
+pub mod AgainNumbers
+pub mod AgainObjects
+pub mod AgainParts
+pub mod AgainPointers
+pub mod OneAnswer
+pub mod ToldNumbers
+pub mod ToldObjects
+pub mod ToldParts
+pub mod ToldPointers
+pub mod ToldTexts
