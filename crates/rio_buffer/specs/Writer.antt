@@ -1,6 +1,8 @@
 -- What is written of objects.
-use Rattle.std.specs.Prelude.{◌≡◌, ℕ, ◌+◌, ◌-◌, ◌^◌, List, [], ◌∷◌, ◌++◌, length, take, drop, Option, Some, None, Result, Ok, Err}
+use Rattle.std.specs.Prelude.{◌≡◌, ℕ, ◌+◌, ◌-◌, ◌^◌, List, [], ◌∷◌, ◌++◌, length, map, take, drop, Option, Some, None, Result, Ok, Err}
+use Rattle.std.specs.declared.vec.Vec.{Vec}
 use Rattle.byteorder.specs.Endian.{big_bytes}
+use Rattle.indexmap.specs.IndexMap.{IndexMap}
 use Rattle.rio_num.specs.Room.{Room}
 use Rattle.rio_num.specs.declared.no_memory.NoMemory.{NoMemory}
 use Rattle.rio_format.specs.ReaderState.{WordsMet, no_words, with_label}
@@ -15,6 +17,10 @@ pub record WriterState : Type 0 where
   pub opened : List ℕ
   -- the labels and class names so far
   pub words : WordsMet
+
+-- the names that have a place, each with the place of the class word that spells it out
+abbrev pub spelled : {A S : Type 0} → IndexMap (Vec ℕ A) ℕ S → List (ℕ × List ℕ)
+spelled names = map (λ e. (e.1, e.0.items)) names.entries
 
 abbrev pub nothing_written : ℕ → WriterState
 nothing_written start = record { start = start; bytes = []; opened = []; words = no_words }

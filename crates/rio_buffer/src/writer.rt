@@ -1,16 +1,15 @@
-ghost use Rattle.std.specs.Prelude.{◌≡◌, ◌≤◌, ◌-◌, ◌^◌, ◌<◌, [], ◌∷◌, ◌++◌, length, nat_eq, IfOk};
+ghost use Rattle.std.specs.Prelude.{◌≡◌, ◌≤◌, ◌-◌, ◌^◌, ◌<◌, [], ◌∷◌, ◌++◌, length, nat_eq, All, None, IfOk};
 ghost use Rattle.indexmap.specs.IndexMap.{insert_entry, spare};
 ghost use Rattle.indexmap.specs.IndexSet.{insert_key, spare as spare_keys};
 ghost use Rattle.std.specs.List.{find};
 ghost use Rattle.std.specs.Option.{option_map};
 ghost use Rattle.std.specs.Str.{bytes_eq};
 ghost use Rattle.rio_num.specs.Room.{with_more};
-ghost use Rattle.rio_buffer.specs.Writer.{Opens};
-ghost use Rattle.std.specs.Map.Iter.{deref_pair};
+ghost use Rattle.rio_buffer.specs.Writer.{Opens, spelled};
 ghost use Rattle.byteorder.specs.Endian.{big_bytes};
 
 use indexmap::{IndexMap, IndexSet};
-use rio_num::{Bytes, Name, NoMemory};
+use rio_num::{Bytes, NoMemory};
 use std::alloc::Global;
 use std::collections::VecDeque;
 use std::marker::Model;
@@ -40,21 +39,22 @@ pub struct ObjWriter {
     opened: VecDeque<usize>,
     // The places of the count words of pointed objects, in order of their labels.
     labels: IndexSet<u64>,
-    // The names of classes, by the places of the class words that spell them out.
-    names: IndexMap<u64, Name>,
+    // The places of the class words that spell out the names of classes, by these names in order of first use.
+    names: IndexMap<Vec<u8>, u64>,
 }
 
 impl Model for ObjWriter {
     ghost use Rattle.std.specs.Prelude.{◌≡◌, ◌+◌, ◌-◌, ◌<◌, ◌≤◌, ◌^◌, length, All};
-    ghost use Rattle.rio_buffer.specs.Writer.{WriterState};
+    ghost use Rattle.rio_buffer.specs.Writer.{WriterState, spelled};
 
     ghost Value = { WriterState };
 
-    ghost view = { λ w. record { start = w.start; bytes = w.bytes.bytes; opened = w.opened.items; words = record { labels = w.labels.keys; names = w.names.entries } } };
+    ghost view = { λ w. record { start = w.start; bytes = w.bytes.bytes; opened = w.opened.items; words = record { labels = w.labels.keys; names = spelled w.names } } };
 
     ghost invariant = { λ w.
         (w.bytes.spare ≡ 0) × All (λ place. place + 4 ≤ length w.bytes.bytes) w.opened.items
-        × All (λ place. place < 2 ^ 30 - 2) w.labels.keys × All (λ e. e.0 < 2 ^ 30 + 2) w.names.entries };
+        × All (λ place. place < 2 ^ 30 - 2) w.labels.keys × All (λ e. e.0 < 2 ^ 30 + 2) (spelled w.names)
+        × All (λ e. e.0 < w.start + length w.bytes.bytes) (spelled w.names) };
 }
 
 impl ObjWriter {
@@ -133,10 +133,7 @@ impl ObjWriter {
         ensures value { result ≡ option_map (λ e. e.0) (find (λ e. bytes_eq e.1 class.now) self.now.words.names) }
         ensures low { IfSome result (λ place. place < 2 ^ 30 + 2) }
     {
-        match named(&self.names, class) {
-            Some((place, _)) => Some(*place),
-            None => None,
-        }
+        self.names.get(class).copied()
     }
 
     // Begins an object of a class that an earlier class word spells out.
@@ -161,12 +158,12 @@ impl ObjWriter {
         ensures { Begins (begun_pointer class.now) result self.old self.new }
     {
         let place = self.place();
-        let name = Name::from_slice(self.alloc, class)?;
+        let name = Vec::from_slice(self.alloc, class)?;
         self.labels.reserve(1)?;
         self.names.reserve(1)?;
         let word = spelled_word(self.alloc, class)?;
         let begun = open_count(&mut self.bytes, &mut self.opened, word.as_slice())?;
-        keep_name(&mut self.names, place + 4, name);
+        keep_name(&mut self.names, name, place + 4);
         keep_label(&mut self.labels, place);
         Ok(begun)
     }
@@ -246,13 +243,6 @@ fn put_reserved(bytes: &mut Bytes, more: &[u8])
     bytes.put(more).unwrap();
 }
 
-// The first of the names that is the class, with the place of its class word.
-fn named<'a>(names: &'a IndexMap<u64, Name>, class: &[u8]) -> Option<(&'a u64, &'a Name)>
-    ensures { option_map deref_pair result ≡ find (λ e. bytes_eq e.1 class.now) names.now.entries }
-{
-    names.iter().find(|entry| entry.1.as_slice() == class)
-}
-
 // Keeps the place of one more object.
 fn keep_label(labels: &mut IndexSet<u64>, place: u64)
     requires { 0 < spare_keys labels.old }
@@ -262,11 +252,13 @@ fn keep_label(labels: &mut IndexSet<u64>, place: u64)
 }
 
 // Keeps the name of one more class, whose class word stands at the place.
-fn keep_name(names: &mut IndexMap<u64, Name>, place: u64, name: Name)
-    requires { 0 < spare names.old }
-    ensures { names.new.entries ≡ insert_entry nat_eq names.old.entries place name }
+fn keep_name(names: &mut IndexMap<Vec<u8>, u64>, name: Vec<u8>, place: u64)
+    requires room { 0 < spare names.old }
+    requires new { option_map (λ e. e.0) (find (λ e. bytes_eq e.1 name.items) (spelled names.old)) ≡ None }
+    requires later { All (λ e. e.0 < place) (spelled names.old) }
+    ensures { spelled names.new ≡ insert_entry nat_eq (spelled names.old) place name.items }
 {
-    names.insert(place, name).unwrap();
+    names.insert(name, place).unwrap();
 }
 
 // The class word that spells out the class.

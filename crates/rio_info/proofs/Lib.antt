@@ -1,2 +1,2 @@
 pub mod MemberLaws
-pub mod NameSets
+pub mod WrittenLists

@@ -3,8 +3,8 @@ ghost use Rattle.std.specs.Prelude.{◌≡◌, IfOk};
 ghost use Rattle.rio_format.specs.Elements.{counted_kind, counted_of, fixed_kind, fixed_of, kind_of, own_kind, primitive_of, without_star};
 ghost use Rattle.rio_types.specs.declared.kind.Kind.TheVariants.{Inline as InlineKind, Pointer as PointerKind};
 
-use crate::counters::Counters;
 use crate::element::Element;
+use rio_names::Names;
 use rio_num::{Name, NoMemory};
 use rio_types::{Kind, Prim};
 use std::alloc::Global;
@@ -54,7 +54,7 @@ fn fixed_kind(element: &Element) -> Option<Kind>
 // An array that one of these counters counts.
 fn counted_kind(
     alloc: Global,
-    counters: &Counters,
+    counters: &Names,
     element: &Element,
 ) -> Result<Option<Kind>, NoMemory>
     ensures { IfOk result (λ kind. kind ≡ counted_kind counters.now element.now) }
@@ -84,7 +84,7 @@ fn pointer(alloc: Global, class: &[u8]) -> Result<Option<Kind>, NoMemory>
     }))
 }
 
-// Counters, texts, objects and pointers.
+// Names, texts, objects and pointers.
 #[tactic(auto, unfolding(rio_format::specs::Elements::own_kind))]
 fn own_kind(alloc: Global, element: &Element) -> Result<Option<Kind>, NoMemory>
     ensures { IfOk result (λ kind. kind ≡ own_kind element.now) }
@@ -102,11 +102,7 @@ fn own_kind(alloc: Global, element: &Element) -> Result<Option<Kind>, NoMemory>
 
 /// The kind of a member behind these counters. With a code that stands for none it isn't read.
 #[tactic(auto, unfolding(rio_format::specs::Elements::kind_of))]
-pub(crate) fn kind_of(
-    alloc: Global,
-    counters: &Counters,
-    element: &Element,
-) -> Result<Kind, NoMemory>
+pub(crate) fn kind_of(alloc: Global, counters: &Names, element: &Element) -> Result<Kind, NoMemory>
     ensures { IfOk result (λ kind. kind ≡ kind_of counters.now element.now) }
 {
     if let Some(of) = primitive_of(i64::from(element.code)) {

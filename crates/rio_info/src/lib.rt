@@ -1,9 +1,7 @@
-//! Class lists: the classes that a file describes.
+//! Class lists in bytes, read and written: the classes that a file describes.
 #![tactic(auto)]
 
 mod classes;
-mod counters;
-mod descriptions;
 mod element;
 mod kind;
 mod members;
@@ -11,6 +9,8 @@ mod parts;
 mod read;
 #[cfg(test)]
 mod tests;
+mod write;
 
-pub use descriptions::description_classes;
 pub use read::read_info;
+pub use rio_describe::description_classes;
+pub use write::{info_length, write_info};

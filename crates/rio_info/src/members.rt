@@ -4,9 +4,9 @@ ghost use Rattle.std.specs.List.{list_any};
 ghost use Rattle.std.specs.Str.{bytes_eq};
 ghost use Rattle.rio_format.specs.Elements.{base_of, bases_of, counters_behind, element_of, member_of, members_of};
 
-use crate::counters::Counters;
 use crate::element::{Element, element_of};
 use crate::kind::kind_of;
+use rio_names::Names;
 use rio_num::{Name, NoMemory};
 use rio_types::{Base, Bases, Kind, Member, Members};
 use rio_value::Value;
@@ -73,11 +73,7 @@ fn unread(alloc: Global) -> Result<Member, NoMemory>
     })
 }
 
-fn member_of(
-    alloc: Global,
-    counters: &Counters,
-    element: &Option<Element>,
-) -> Result<Member, NoMemory>
+fn member_of(alloc: Global, counters: &Names, element: &Option<Element>) -> Result<Member, NoMemory>
     ensures { IfOk result (λ member. member ≡ member_of counters.now element.now) }
 {
     match element {
@@ -91,10 +87,7 @@ fn member_of(
 }
 
 // A counter may count the members behind it.
-fn note_counter<'a>(
-    counters: &mut Counters<'a>,
-    element: &Option<Element<'a>>,
-) -> Result<(), NoMemory>
+fn note_counter<'a>(counters: &mut Names<'a>, element: &Option<Element<'a>>) -> Result<(), NoMemory>
     ensures { OnOk result ((other : List ℕ) → list_any (bytes_eq other) counters.new ≡ list_any (bytes_eq other) (counters_behind element.now counters.old)) }
 {
     match element {
@@ -108,7 +101,7 @@ pub(crate) fn members_of(alloc: Global, items: &[Value]) -> Result<Members, NoMe
     ensures { IfOk result (λ members. members ≡ members_of [] (map element_of items.now)) }
 {
     let mut members = Members::new(alloc);
-    let mut counters = Counters::new(alloc);
+    let mut counters = Names::new(alloc);
     for item in items {
         let element = element_of(item);
         if !is_base(&element) {

@@ -3,11 +3,11 @@ ghost use Rattle.rio_format.specs.ClassList.{class_list_at, classes_of};
 ghost use Rattle.rio_format.specs.Descriptions.{description_classes};
 ghost use Rattle.rio_format.specs.Spelling.{Spells};
 ghost use Rattle.rio_value.specs.declared.value.Value.{Value as Spelled};
-ghost use Rattle.rio_stream.specs.Reading.{Answers};
+ghost use Rattle.rio_read.specs.Reading.{Answers};
 
 use crate::classes::classes_of;
-use crate::descriptions::description_classes;
 use rio_buffer::ObjFault;
+use rio_describe::description_classes;
 use rio_stream::read_object;
 use rio_types::Classes;
 use std::alloc::Global;

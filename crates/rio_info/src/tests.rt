@@ -1,6 +1,7 @@
 //! Rows of class lists in bytes, with the classes or the fault that they stand for.
 
 mod printed;
+mod written;
 
 use crate::read_info;
 use printed::{hex_bytes, printed_classes};

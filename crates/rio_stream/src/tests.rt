@@ -1,5 +1,6 @@
 //! Rows of objects in bytes, with the values or faults that they stand for.
 
+mod builtin;
 mod classes;
 mod printed;
 mod written;

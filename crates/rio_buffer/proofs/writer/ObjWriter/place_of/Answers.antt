@@ -1,9 +1,16 @@
-use Rattle.std.proofs.Common.{ℕ, ◌+◌, ◌^◌, ◌<◌, List}
+use Rattle.std.proofs.Common.{◌≡◌, ℕ, ◌+◌, ◌^◌, ◌<◌, ap, ◌∙◌}
+use Rattle.std.specs.List.{find}
+use Rattle.std.specs.Option.{option_map}
 use Rattle.std.specs.Str.{bytes_eq}
-use Rattle.rio_buffer.proofs.Found.{found_holds}
+use Rattle.rio_buffer.specs.Writer.{WriterState, spelled}
+use Rattle.rio_buffer.proofs.Spelled.{place_found, place_holds}
 use Rattle.rio_buffer.proofs.writer.ObjWriter.place_of.Goals as goal
 
-pub returns-in-Some-clause-low : goal.returns-in-Some-clause-low
-returns-in-Some-clause-low c =
-    let e = rw c.in-Some.is at c.named.ensures in
-    found_holds (λ (e : ℕ × List ℕ). e.0 < 2 ^ 30 + 2) (λ e. bytes_eq e.1 c.args.class.now) c.self.inside.names.entries (c.in-Some.place.now, c.in-Some.field-0-1.now) e c.self.invariant.3
+pub returns : goal.returns
+returns c =
+    let names = spelled c.self.inside.names in
+    let found : c.copied.result ≡ option_map (λ e. e.0) (find (λ e. bytes_eq e.1 c.args.class.now) names) = c.copied.ensures ∙ c.get.ensures.value ∙ place_found c.args.class.now c.self.inside.names.entries in
+    record {
+      value = found ∙ ap (λ (w : WriterState). option_map (λ e. e.0) (find (λ e. bytes_eq e.1 c.args.class.now) w.words.names)) c.self.view_is;
+      low = rw found (place_holds (λ (place : ℕ). place < 2 ^ 30 + 2) (λ e. bytes_eq e.1 c.args.class.now) names c.self.invariant.3);
+    }

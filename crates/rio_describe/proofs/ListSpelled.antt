@@ -1,0 +1,28 @@
+-- The bytes of the class list spell it, and are read as it.
+use Rattle.std.proofs.Common.{codes, Result, refl, ap}
+use Rattle.rio_value.specs.declared.value.Value.{Value}
+use Rattle.rio_format.specs.Descriptions.{description_classes}
+use Rattle.rio_format.specs.Objects.{only_value}
+use Rattle.rio_format.specs.ReaderState.{ReaderState}
+use Rattle.rio_format.specs.declared.fault.ObjFault.{ObjFault}
+use Rattle.rio_format.proofs.ObjectLaws.{spelled_is_read}
+use Rattle.rio_format.proofs.WrittenValues.{written_is_spelled}
+use Rattle.rio_describe.specs.ListLaws.{WrittenBytesAreRead, WrittenClassesAreRead, WrittenListIsSpelled, class_list_bytes}
+use Rattle.rio_describe.specs.WrittenList.{class_list_value}
+use Rattle.rio_describe.proofs.DescribedClasses.{written_list_read}
+use Rattle.rio_describe.proofs.ListDepth.{written_list_has_versions, written_list_is_shallow}
+use Rattle.rio_describe.proofs.ListFits.{written_list_fits}
+use Rattle.rio_describe.proofs.ListNumbers.{described_have_numbers}
+
+pub written_list_is_spelled : WrittenListIsSpelled
+written_list_is_spelled classes start numbers room =
+    written_is_spelled description_classes (codes "TList") start (class_list_value classes) (written_list_fits classes numbers) (written_list_is_shallow classes) (written_list_has_versions classes) room
+
+pub written_bytes_are_read : WrittenBytesAreRead
+written_bytes_are_read classes start more numbers room =
+    let read = spelled_is_read description_classes (codes "TList") start (class_list_value classes) (class_list_bytes start classes) more (written_list_is_spelled classes start numbers room) in
+    ap (λ (r : Result (Value × ReaderState) ObjFault). only_value r) read.1
+
+pub written_classes_are_read : WrittenClassesAreRead
+written_classes_are_read classes start more described room =
+    rw (written_bytes_are_read classes start more (described_have_numbers classes described) room, written_list_read classes described) refl

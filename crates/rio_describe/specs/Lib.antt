@@ -1,0 +1,5 @@
+pub mod Laws
+pub mod ListLaws
+pub mod TreeClasses
+pub mod WrittenElements
+pub mod WrittenList

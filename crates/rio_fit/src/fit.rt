@@ -1,0 +1,320 @@
+//! Which values fit where.
+ghost use Rattle.rio_types.specs.declared.class.ClassDef.{ClassDef as Class};
+ghost use Rattle.std.specs.Prelude.{◌≡◌, ℕ, List, ◌∷◌, [], map, Some, None, IfOk};
+ghost use Rattle.std.specs.Option.{option_map};
+ghost use Rattle.rio_format.specs.Fits.{Labels, all_fit, back_fits, counted_slot, counted_so_far, fields_fit, fits, fitting_of, link_fits, list_fits, object_may_stand, parts_fit, pointed_fits};
+ghost use Rattle.rio_format.specs.Slots.{fields_of, kinded};
+ghost use Rattle.rio_types.specs.declared.kind.Kind.TheVariants.{Inline};
+ghost use Rattle.rio_value.specs.declared.value.Value.{Value as Given};
+ghost use Rattle.std.specs.Prelude.{slice_get};
+ghost use Rattle.rio_layout.specs.Fields.{field_as, slot_as};
+ghost use Rattle.rio_fit.specs.Fitting.{IsCounterValue, counter_fits, Tells, part_fits, part_fitting};
+
+use crate::derive::{Owner, is_pointer, may_point};
+use crate::fit_numbers::{bits32_fits, bits64_fits, int_fits, text_fits, truth_fits};
+use rio_layout::{Counters, Field, Slot, fields_of};
+use rio_num::{Items, Name, NoMemory};
+use rio_types::Classes;
+use rio_value::{Part, Value};
+use std::alloc::Global;
+
+/// The classes and versions of the objects that have a label, by label.
+type Owners = Items<Owner>;
+
+// The slot with the count that its counter says.
+fn counted_slot<'a>(counters: &Counters, slot: Slot<'a>) -> Slot<'a>
+    ensures { slot_as result ≡ counted_slot counters.now (slot_as slot.entry) }
+{
+    match slot {
+        Slot::Counted(of, counter) => match counters.said(counter) {
+            Some(count) if count >= 0 => Slot::Fixed(of, count as u32),
+            _ => Slot::Other(0),
+        },
+        _ => slot,
+    }
+}
+
+// What a counter says, where the value is one.
+fn counter_in(value: &Value) -> Option<i32>
+    ensures { (classes : List Class) → IsCounterValue result (fitting_of classes value.now) }
+{
+    match value {
+        Value::Int(n) => i32::try_from(*n).ok(),
+        _ => None,
+    }
+}
+
+// The class and version of an object.
+fn owner_of(value: &Value) -> Result<Option<Owner>, NoMemory>
+    ensures { IfOk result (λ o. (classes : List Class) → o ≡ (fitting_of classes value.now).class) }
+{
+    match value {
+        Value::Object { class, version, .. } => Ok(Some((class.copy()?, *version))),
+        _ => Ok(None),
+    }
+}
+
+fn object_may_stand(class: &[u8], version: i32, slot: Slot) -> bool
+    ensures { result ≡ object_may_stand class.now version (slot_as slot.entry) }
+{
+    match slot {
+        Slot::Inline(wanted) => class == wanted,
+        Slot::Based(wanted, in_version) => class == wanted && version == in_version,
+        _ => false,
+    }
+}
+
+// Whether a value is a counter, which counts by the name from then on.
+fn counter_fits(
+    alloc: Global,
+    name: &[u8],
+    value: &Value,
+    counters: &mut Counters,
+) -> Result<bool, NoMemory>
+    ensures { (classes : List Class) (owners : Labels) → Tells result (counter_fits name.now (fitting_of classes value.now) counters.old owners) (owners, counters.new) }
+{
+    match counter_in(value) {
+        Some(said) => {
+            counters.note(Name::from_slice(alloc, name)?, said)?;
+            Ok(true)
+        }
+        None => Ok(false),
+    }
+}
+
+// Whether a part fits in the field, behind these counters.
+#[cycle(fit)]
+fn part_fits(
+    alloc: Global,
+    classes: &Classes,
+    field: &Field,
+    part: &Part,
+    counters: &mut Counters,
+    owners: &mut Owners,
+) -> Result<bool, NoMemory>
+    ensures { Tells result (part_fits (field_as field.now) (part_fitting classes.now part.now) counters.old owners.old) (owners.new, counters.new) }
+{
+    if part.name.as_slice() != field.name {
+        return Ok(false);
+    }
+    match field.slot {
+        Slot::Counter => counter_fits(alloc, field.name, &part.value, counters),
+        slot => {
+            let slot = counted_slot(counters, slot);
+            value_fits(alloc, classes, &part.value, slot, owners)
+        }
+    }
+}
+
+// Whether each part fits in the field of its number, and no more are there.
+#[cycle(fit)]
+fn parts_fit(
+    alloc: Global,
+    classes: &Classes,
+    fields: &[Field],
+    parts: &[Part],
+    owners: &mut Owners,
+) -> Result<bool, NoMemory>
+    ensures { Tells result (fields_fit (map field_as fields.now) (map (part_fitting classes.now) parts.now) [] owners.old) owners.new }
+{
+    let mut counters = Counters::new(alloc);
+    for (k, field) in fields.iter().enumerate() {
+        let Some(part) = parts.get(k) else {
+            return Ok(false);
+        };
+        if !part_fits(alloc, classes, field, part, &mut counters, owners)? {
+            return Ok(false);
+        }
+    }
+    Ok(parts.len() <= fields.len())
+}
+
+#[cycle(fit)]
+fn object_fits(
+    alloc: Global,
+    classes: &Classes,
+    class: &[u8],
+    version: i32,
+    parts: &[Part],
+    owners: &mut Owners,
+) -> Result<bool, NoMemory>
+    ensures { Tells result (parts_fit (fields_of classes.now class.now version) (map (part_fitting classes.now) parts.now) owners.old) owners.new }
+{
+    match fields_of(alloc, classes, class, version)? {
+        Some(fields) => parts_fit(alloc, classes, fields.as_slice(), parts, owners),
+        None => Ok(false),
+    }
+}
+
+// Whether each item fits in the slot.
+#[cycle(fit)]
+fn all_fit(
+    alloc: Global,
+    classes: &Classes,
+    items: &[Value],
+    slot: Slot,
+    owners: &mut Owners,
+) -> Result<bool, NoMemory>
+    ensures { Tells result (all_fit (slot_as slot.entry) (map (fitting_of classes.now) items.now) owners.old) owners.new }
+{
+    for item in items {
+        if !value_fits(alloc, classes, item, slot, owners)? {
+            return Ok(false);
+        }
+    }
+    Ok(true)
+}
+
+// Whether the items are a pointer to an object that can be put, and a text.
+#[cycle(fit)]
+fn link_fits(
+    alloc: Global,
+    classes: &Classes,
+    items: &[Value],
+    owners: &mut Owners,
+) -> Result<bool, NoMemory>
+    ensures { Tells result (link_fits (map (fitting_of classes.now) items.now) owners.old) owners.new }
+{
+    match items {
+        [pointer, text] => {
+            if !value_fits(alloc, classes, pointer, Slot::AnyPointer, owners)? {
+                return Ok(false);
+            }
+            value_fits(alloc, classes, text, Slot::Text, owners)
+        }
+        _ => Ok(false),
+    }
+}
+
+#[cycle(fit)]
+fn list_fits(
+    alloc: Global,
+    classes: &Classes,
+    items: &[Value],
+    slot: Slot,
+    owners: &mut Owners,
+) -> Result<bool, NoMemory>
+    ensures { Tells result (list_fits (map (fitting_of classes.now) items.now) (slot_as slot.entry) owners.old) owners.new }
+{
+    match slot {
+        Slot::Fixed(of, count) => {
+            if items.len() != count as usize {
+                return Ok(false);
+            }
+            all_fit(alloc, classes, items, Slot::Plain(of), owners)
+        }
+        Slot::Link => link_fits(alloc, classes, items, owners),
+        Slot::Numbers(of) => all_fit(alloc, classes, items, Slot::Plain(of), owners),
+        Slot::Pointers => all_fit(alloc, classes, items, Slot::AnyPointer, owners),
+        Slot::Links => all_fit(alloc, classes, items, Slot::Link, owners),
+        _ => Ok(false),
+    }
+}
+
+// Whether the object may have this label, and fits its own class.
+#[cycle(fit)]
+fn pointed_fits(
+    alloc: Global,
+    classes: &Classes,
+    label: u32,
+    object: &Value,
+    slot: Slot,
+    owners: &mut Owners,
+) -> Result<bool, NoMemory>
+    ensures { let f = fitting_of classes.now object.now in Tells result (pointed_fits classes.now label f f.class (slot_as slot.entry) owners.old) owners.new }
+{
+    match owner_of(object)? {
+        Some(owner) => labelled_fits(alloc, classes, label, owner, object, slot, owners),
+        None => Ok(false),
+    }
+}
+
+// The same for an object of this class and version.
+#[cycle(fit)]
+fn labelled_fits(
+    alloc: Global,
+    classes: &Classes,
+    label: u32,
+    owner: Owner,
+    object: &Value,
+    slot: Slot,
+    owners: &mut Owners,
+) -> Result<bool, NoMemory>
+    ensures { let f = fitting_of classes.now object.now in Tells result (pointed_fits classes.now label f (Some owner) (slot_as slot.entry) owners.old) owners.new }
+{
+    if label as usize != owners.len() {
+        return Ok(false);
+    }
+    if !may_point(alloc, classes, &owner, slot)? {
+        return Ok(false);
+    }
+    let class = owner.0.copy()?;
+    owners.push(owner)?;
+    value_fits(
+        alloc,
+        classes,
+        object,
+        Slot::Inline(class.as_slice()),
+        owners,
+    )
+}
+
+fn back_fits(
+    alloc: Global,
+    classes: &Classes,
+    label: u32,
+    slot: Slot,
+    owners: &Owners,
+) -> Result<bool, NoMemory>
+    ensures { IfOk result (λ b. b ≡ back_fits classes.now (slice_get owners.now label) (slot_as slot.entry)) }
+{
+    match owners.get(label as usize) {
+        Some(owner) => may_point(alloc, classes, owner, slot),
+        None => Ok(false),
+    }
+}
+
+#[cycle(fit)]
+fn value_fits(
+    alloc: Global,
+    classes: &Classes,
+    value: &Value,
+    slot: Slot,
+    owners: &mut Owners,
+) -> Result<bool, NoMemory>
+    ensures { Tells result ((fitting_of classes.now value.now).fits (slot_as slot.entry) owners.old) owners.new }
+{
+    match value {
+        Value::Int(n) => Ok(int_fits(*n, slot)),
+        Value::Bits32(bits) => Ok(bits32_fits(*bits, slot)),
+        Value::Bits64(bits) => Ok(bits64_fits(*bits, slot)),
+        Value::Bool(_) => Ok(truth_fits(slot)),
+        Value::Text(_) => Ok(text_fits(slot)),
+        Value::List(items) => list_fits(alloc, classes, items.as_slice(), slot, owners),
+        Value::Object {
+            class,
+            version,
+            parts,
+        } => {
+            let (class, parts) = (class.as_slice(), parts.as_slice());
+            if !object_may_stand(class, *version, slot) {
+                return Ok(false);
+            }
+            object_fits(alloc, classes, class, *version, parts, owners)
+        }
+        Value::Pointed { label, object } => {
+            pointed_fits(alloc, classes, *label, object.get(), slot, owners)
+        }
+        Value::Null => Ok(is_pointer(slot)),
+        Value::Back(label) => back_fits(alloc, classes, *label, slot, owners),
+        Value::Opaque { .. } => Ok(false),
+    }
+}
+
+/// Whether the value is an object of the class that fits it.
+pub fn fits(alloc: Global, classes: &Classes, class: &[u8], value: &Value) -> Result<bool, NoMemory>
+    ensures { IfOk result (λ b. b ≡ fits classes.now class.now value.now) }
+{
+    let mut owners = Owners::new(alloc);
+    value_fits(alloc, classes, value, Slot::Inline(class), &mut owners)
+}

@@ -1,0 +1,4 @@
+pub mod Bases
+pub mod Bodies
+pub mod Counts
+pub mod Fields

@@ -1,0 +1,16 @@
+//! What objects of a class consist of: their shapes, bodies and parts, and which classes are among their bases.
+#![tactic(auto)]
+
+mod bases;
+mod body;
+mod counters;
+mod shape;
+mod slot;
+mod width;
+
+pub use bases::{has_base, is_headed};
+pub use body::{Body, body_of, declared_body};
+pub use counters::Counters;
+pub use shape::{Shape, shape_of};
+pub use slot::{Field, Fields, Slot, fields_of};
+pub use width::width_of;

@@ -1,0 +1,6 @@
+//! Sets of names.
+#![tactic(auto)]
+
+mod names;
+
+pub use names::Names;

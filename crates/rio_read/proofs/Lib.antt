@@ -1,0 +1,4 @@
+pub mod Closed
+pub mod Each
+pub mod Parts
+pub mod ReadLaws

@@ -1,0 +1,126 @@
+//! The parts of built-in classes with a header.
+ghost use Rattle.std.specs.Prelude.{◌≡◌, [], ◌∷◌, codes, IfOk};
+ghost use Rattle.rio_num.specs.At.{GoesOn};
+ghost use Rattle.rio_format.specs.Bodies.{part, slots_of, t_named, t_obj_string};
+ghost use Rattle.rio_format.specs.Objects.{ReadsAs, object_at, parts_at};
+ghost use Rattle.rio_value.specs.declared.value.Value.{Text, List as Listing};
+ghost use Rattle.rio_read.specs.Members.{named_parts_at, obj_string_parts_at};
+
+use crate::bare::read_base;
+use crate::member::part_with;
+use crate::numbers::read_name;
+use rio_buffer::{ObjFault, ObjReader};
+use rio_num::{Name, NoMemory};
+use rio_types::Classes;
+use rio_value::{Parts, Value, Values};
+use std::alloc::Global;
+
+fn named_parts(alloc: Global, base: Value, name: Name, title: Name) -> Result<Parts, NoMemory>
+    ensures { IfOk result (λ parts. parts ≡ part [] base ∷ part (codes "fName") (Text name) ∷ part (codes "fTitle") (Text title) ∷ []) }
+{
+    let mut parts = Parts::new(alloc);
+    parts.push(part_with(alloc, b"", base)?)?;
+    parts.push(part_with(alloc, b"fName", Value::Text(name))?)?;
+    parts.push(part_with(alloc, b"fTitle", Value::Text(title))?)?;
+    Ok(parts)
+}
+
+fn obj_string_parts(alloc: Global, base: Value, text: Name) -> Result<Parts, NoMemory>
+    ensures { IfOk result (λ parts. parts ≡ part [] base ∷ part (codes "fString") (Text text) ∷ []) }
+{
+    let mut parts = Parts::new(alloc);
+    parts.push(part_with(alloc, b"", base)?)?;
+    parts.push(part_with(alloc, b"fString", Value::Text(text))?)?;
+    Ok(parts)
+}
+
+/// The parts of a TList.
+pub(crate) fn list_parts(
+    alloc: Global,
+    base: Value,
+    name: Name,
+    items: Values,
+) -> Result<Parts, NoMemory>
+    ensures { IfOk result (λ parts. parts ≡ part [] base ∷ part (codes "fName") (Text name) ∷ part (codes "items") (Listing items) ∷ []) }
+{
+    let mut parts = Parts::new(alloc);
+    parts.push(part_with(alloc, b"", base)?)?;
+    parts.push(part_with(alloc, b"fName", Value::Text(name))?)?;
+    parts.push(part_with(alloc, b"items", Value::List(items))?)?;
+    Ok(parts)
+}
+
+/// The parts of a TObjArray.
+pub(crate) fn array_parts(
+    alloc: Global,
+    base: Value,
+    name: Name,
+    lower: Value,
+    items: Values,
+) -> Result<Parts, NoMemory>
+    ensures { IfOk result (λ parts. parts ≡ part [] base ∷ part (codes "fName") (Text name) ∷ part (codes "fLowerBound") lower ∷ part (codes "items") (Listing items) ∷ []) }
+{
+    let mut parts = Parts::new(alloc);
+    parts.push(part_with(alloc, b"", base)?)?;
+    parts.push(part_with(alloc, b"fName", Value::Text(name))?)?;
+    parts.push(part_with(alloc, b"fLowerBound", lower)?)?;
+    parts.push(part_with(alloc, b"items", Value::List(items))?)?;
+    Ok(parts)
+}
+
+#[tactic(auto, unfolding(crate::specs::Members::named_parts_at))]
+fn read_named(
+    alloc: Global,
+    classes: &Classes,
+    reader: &mut ObjReader,
+    levels: u32,
+) -> Result<Parts, ObjFault>
+    ensures exact { ReadsAs (λ x. x) result (named_parts_at (object_at levels classes.now) reader.old) reader.new }
+    ensures goes { GoesOn reader.old.at reader.new.at }
+{
+    let base = read_base(alloc, classes, reader, levels)?;
+    let name = read_name(alloc, reader)?;
+    let title = read_name(alloc, reader)?;
+    Ok(named_parts(alloc, base, name, title)?)
+}
+
+#[tactic(auto, unfolding(crate::specs::Members::obj_string_parts_at))]
+fn read_obj_string(
+    alloc: Global,
+    classes: &Classes,
+    reader: &mut ObjReader,
+    levels: u32,
+) -> Result<Parts, ObjFault>
+    ensures exact { ReadsAs (λ x. x) result (obj_string_parts_at (object_at levels classes.now) reader.old) reader.new }
+    ensures goes { GoesOn reader.old.at reader.new.at }
+{
+    let base = read_base(alloc, classes, reader, levels)?;
+    let text = read_name(alloc, reader)?;
+    Ok(obj_string_parts(alloc, base, text)?)
+}
+
+/// The parts of a TNamed.
+pub(crate) fn read_named_parts(
+    alloc: Global,
+    classes: &Classes,
+    reader: &mut ObjReader,
+    levels: u32,
+) -> Result<Parts, ObjFault>
+    ensures exact { ReadsAs (λ x. x) result (parts_at (object_at levels classes.now) (slots_of t_named) reader.old) reader.new }
+    ensures goes { GoesOn reader.old.at reader.new.at }
+{
+    read_named(alloc, classes, reader, levels)
+}
+
+/// The parts of a TObjString.
+pub(crate) fn read_obj_string_parts(
+    alloc: Global,
+    classes: &Classes,
+    reader: &mut ObjReader,
+    levels: u32,
+) -> Result<Parts, ObjFault>
+    ensures exact { ReadsAs (λ x. x) result (parts_at (object_at levels classes.now) (slots_of t_obj_string) reader.old) reader.new }
+    ensures goes { GoesOn reader.old.at reader.new.at }
+{
+    read_obj_string(alloc, classes, reader, levels)
+}

@@ -1,0 +1,50 @@
+//! Parts of objects and items of lists.
+ghost use Rattle.std.specs.Prelude.{◌≡◌, [], ◌∷◌, IfOk};
+ghost use Rattle.rio_num.specs.At.{GoesOn};
+ghost use Rattle.rio_format.specs.Bodies.{part};
+ghost use Rattle.rio_value.specs.declared.value.Value.{Text, List as Listing};
+ghost use Rattle.rio_read.specs.Members.{ReadsWithin, counter_at};
+
+use rio_buffer::{ObjFault, ObjReader};
+use rio_layout::Counters;
+use rio_num::{Name, NoMemory};
+use rio_value::{Part, Value, Values};
+use std::alloc::Global;
+
+/// A part of this name.
+pub(crate) fn part_with(alloc: Global, name: &[u8], value: Value) -> Result<Part, NoMemory>
+    ensures { IfOk result (λ p. p ≡ part name.now value) }
+{
+    Ok(Part {
+        name: Name::from_slice(alloc, name)?,
+        value,
+    })
+}
+
+/// An item of a TList: a pointer and an option.
+pub(crate) fn link(alloc: Global, pointer: Value, option: Name) -> Result<Value, NoMemory>
+    ensures { IfOk result (λ v. v ≡ Listing (pointer ∷ Text option ∷ [])) }
+{
+    let mut pair = Values::new(alloc);
+    pair.push(pointer)?;
+    pair.push(Value::Text(option))?;
+    Ok(Value::List(pair))
+}
+
+/// A counter of this name, which counts from then on.
+#[tactic(auto, unfolding(crate::specs::Members::counter_at))]
+pub(crate) fn read_counter(
+    reader: &mut ObjReader,
+    name: &Name,
+    counters: &mut Counters,
+) -> Result<Part, ObjFault>
+    ensures exact { ReadsWithin result (counter_at name.now (reader.old, counters.old)) reader.new counters.new }
+    ensures goes { GoesOn reader.old.at reader.new.at }
+{
+    let said = reader.take_u32()?.cast_signed();
+    counters.note(name.copy()?, said)?;
+    Ok(Part {
+        name: name.copy()?,
+        value: Value::Int(i128::from(said)),
+    })
+}

@@ -1,0 +1,127 @@
+//! Numbers, and lists of them.
+ghost use Rattle.std.specs.Prelude.{◌≡◌, ◌<◌, ◌^◌, IfOk};
+ghost use Rattle.rio_num.specs.At.{GoesOn};
+ghost use Rattle.rio_format.specs.Objects.{ReadsAs, chars_at, count_at, counted_at, filled_at, number_value_at, numbers_at, text_value_at, times_at};
+
+use rio_buffer::{ObjFault, ObjReader};
+use rio_num::Name;
+use rio_types::Prim;
+use rio_value::{Value, Values};
+use std::alloc::Global;
+
+#[tactic(auto, unfolding(rio_format::specs::Objects::number_value_at))]
+pub(crate) fn read_number(reader: &mut ObjReader, of: Prim) -> Result<Value, ObjFault>
+    ensures exact { ReadsAs (λ x. x) result (number_value_at of reader.old) reader.new }
+    ensures goes { GoesOn reader.old.at reader.new.at }
+{
+    match of {
+        Prim::I8 => Ok(Value::Int(i128::from(reader.take_u8()?.cast_signed()))),
+        Prim::I16 => Ok(Value::Int(i128::from(reader.take_u16()?.cast_signed()))),
+        Prim::I32 => Ok(Value::Int(i128::from(reader.take_u32()?.cast_signed()))),
+        Prim::I64 => Ok(Value::Int(i128::from(reader.take_u64()?.cast_signed()))),
+        Prim::U8 => Ok(Value::Int(i128::from(reader.take_u8()?))),
+        Prim::U16 => Ok(Value::Int(i128::from(reader.take_u16()?))),
+        Prim::U32 => Ok(Value::Int(i128::from(reader.take_u32()?))),
+        Prim::U64 => Ok(Value::Int(i128::from(reader.take_u64()?))),
+        Prim::Bool => Ok(Value::Bool(reader.take_u8()? != 0)),
+        Prim::F32 => Ok(Value::Bits32(reader.take_u32()?)),
+        Prim::F64 => Ok(Value::Bits64(reader.take_u64()?)),
+    }
+}
+
+fn read_times(
+    alloc: Global,
+    reader: &mut ObjReader,
+    of: Prim,
+    count: u32,
+) -> Result<Values, ObjFault>
+    ensures exact { ReadsAs (λ x. x) result (times_at count (number_value_at of) reader.old) reader.new }
+    ensures goes { GoesOn reader.old.at reader.new.at }
+{
+    let mut values = Values::new(alloc);
+    for _done in 0..count {
+        values.push(read_number(reader, of)?)?;
+    }
+    Ok(values)
+}
+
+/// A list of `count` numbers.
+#[tactic(auto, unfolding(rio_format::specs::Objects::numbers_at))]
+pub(crate) fn read_numbers(
+    alloc: Global,
+    reader: &mut ObjReader,
+    of: Prim,
+    count: u32,
+) -> Result<Value, ObjFault>
+    ensures exact { ReadsAs (λ x. x) result (numbers_at of count reader.old) reader.new }
+    ensures goes { GoesOn reader.old.at reader.new.at }
+{
+    Ok(Value::List(read_times(alloc, reader, of, count)?))
+}
+
+/// A count of items of at least `width` bytes each, which are behind it.
+#[tactic(auto, unfolding(rio_format::specs::Objects::count_at))]
+pub(crate) fn read_count(reader: &mut ObjReader, width: u64) -> Result<u32, ObjFault>
+    requires { 0 < width }
+    ensures exact { ReadsAs (λ x. x) result (count_at width reader.old) reader.new }
+    ensures goes { GoesOn reader.old.at reader.new.at }
+{
+    let place = reader.place();
+    let count = reader.take_u32()?;
+    if count >= 0x8000_0000 || reader.left() / width < u64::from(count) {
+        return Err(ObjFault::BadCount { place });
+    }
+    Ok(count)
+}
+
+// As many values as a counter said, behind the byte 1 at the place.
+fn read_filled(
+    alloc: Global,
+    reader: &mut ObjReader,
+    of: Prim,
+    place: u64,
+    count: i32,
+) -> Result<Value, ObjFault>
+    ensures exact { ReadsAs (λ x. x) result (filled_at of place count reader.old) reader.new }
+    ensures goes { GoesOn reader.old.at reader.new.at }
+{
+    if count < 0 {
+        return Err(ObjFault::BadCount { place });
+    }
+    read_numbers(alloc, reader, of, count as u32)
+}
+
+/// The byte 0 for nothing, or the byte 1 and `count` values.
+#[tactic(auto, unfolding(rio_format::specs::Objects::counted_at))]
+pub(crate) fn read_counted(
+    alloc: Global,
+    reader: &mut ObjReader,
+    of: Prim,
+    count: i32,
+) -> Result<Value, ObjFault>
+    ensures exact { ReadsAs (λ x. x) result (counted_at of count reader.old) reader.new }
+    ensures goes { GoesOn reader.old.at reader.new.at }
+{
+    let place = reader.place();
+    match reader.take_u8()? {
+        0 => Ok(Value::List(Values::new(alloc))),
+        1 => read_filled(alloc, reader, of, place, count),
+        _ => Err(ObjFault::BadFlag { place }),
+    }
+}
+
+pub(crate) fn read_name(alloc: Global, reader: &mut ObjReader) -> Result<Name, ObjFault>
+    ensures exact { ReadsAs (λ x. x) result (chars_at reader.old) reader.new }
+    ensures goes { GoesOn reader.old.at reader.new.at }
+{
+    let text = reader.take_text()?;
+    Ok(Name::from_slice(alloc, text)?)
+}
+
+#[tactic(auto, unfolding(rio_format::specs::Objects::text_value_at))]
+pub(crate) fn read_text(alloc: Global, reader: &mut ObjReader) -> Result<Value, ObjFault>
+    ensures exact { ReadsAs (λ x. x) result (text_value_at reader.old) reader.new }
+    ensures goes { GoesOn reader.old.at reader.new.at }
+{
+    Ok(Value::Text(read_name(alloc, reader)?))
+}

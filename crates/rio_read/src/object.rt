@@ -1,0 +1,361 @@
+//! Objects of the classes that a file describes. A call reads an object with at most `levels` levels of
+//! objects inside.
+ghost use Rattle.std.specs.Prelude.{◌≡◌, [], ◌∷◌};
+ghost use Rattle.rio_num.specs.At.{GoesOn};
+ghost use Rattle.rio_format.specs.Bodies.{base_slot, form_of, body_of, slots_of, t_named, t_obj_string};
+ghost use Rattle.rio_format.specs.Objects.{ReadsAs, array_parts_at, body_at, each_at, formed_at, headed_at, kind_at, link_at, list_parts_at, member_at, object_at, parts_at, pointer_at, times_at};
+ghost use Rattle.rio_buffer.specs.Reader.{IsCounted};
+ghost use Rattle.rio_read.specs.Members.{ReadsWithin, members_at};
+
+use crate::bare::{read_array, read_bare, read_base};
+use crate::builtin::{array_parts, list_parts, read_named_parts, read_obj_string_parts};
+use crate::member::{link, part_with, read_counter};
+use crate::numbers::{read_count, read_counted, read_name, read_number, read_numbers, read_text};
+use crate::whole::{read_opaque, whole, whole_described};
+use rio_buffer::{Header, ObjFault, ObjReader, PointerWord};
+use rio_layout::{Body, Counters, Shape, body_of, shape_of};
+use rio_num::Boxed;
+use rio_types::{Base, ClassDef, Classes, Kind, Member, Prim};
+use rio_value::{Part, Parts, Value, Values};
+use std::alloc::Global;
+
+/// An object of the class.
+#[cycle(object)]
+#[tactic(auto, unfolding(rio_format::specs::Objects::object_at))]
+pub(crate) fn read_object(
+    alloc: Global,
+    classes: &Classes,
+    reader: &mut ObjReader,
+    class: &[u8],
+    levels: u32,
+) -> Result<Value, ObjFault>
+    ensures exact { ReadsAs (λ x. x) result (object_at levels classes.now class.now reader.old) reader.new }
+    ensures goes { GoesOn reader.old.at reader.new.at }
+{
+    if levels == 0 {
+        return Err(ObjFault::TooDeep {
+            place: reader.place(),
+        });
+    }
+    read_formed(alloc, classes, reader, class, levels - 1)
+}
+
+#[cycle(object)]
+#[tactic(auto, unfolding(rio_format::specs::Objects::formed_at))]
+fn read_formed(
+    alloc: Global,
+    classes: &Classes,
+    reader: &mut ObjReader,
+    class: &[u8],
+    levels: u32,
+) -> Result<Value, ObjFault>
+    ensures exact { ReadsAs (λ x. x) result (formed_at (object_at levels classes.now) classes.now class.now (form_of class.now) reader.old) reader.new }
+    ensures goes { GoesOn reader.old.at reader.new.at }
+{
+    match shape_of(class) {
+        Shape::Bare => read_bare(alloc, reader),
+        Shape::Numbers(of) => read_array(alloc, reader, class, of),
+        Shape::Headed => read_headed(alloc, classes, reader, class, levels),
+    }
+}
+
+#[cycle(object)]
+#[tactic(auto, unfolding(rio_format::specs::Objects::headed_at))]
+fn read_headed(
+    alloc: Global,
+    classes: &Classes,
+    reader: &mut ObjReader,
+    class: &[u8],
+    levels: u32,
+) -> Result<Value, ObjFault>
+    ensures exact { ReadsAs (λ x. x) result (headed_at (object_at levels classes.now) classes.now class.now reader.old) reader.new }
+    ensures goes { GoesOn reader.old.at reader.new.at }
+{
+    let header = reader.header()?;
+    read_body(alloc, classes, reader, class, header, levels)
+}
+
+#[cycle(object)]
+#[tactic(auto, unfolding(rio_format::specs::Objects::body_at, rio_format::specs::Objects::whole_at))]
+fn read_body(
+    alloc: Global,
+    classes: &Classes,
+    reader: &mut ObjReader,
+    class: &[u8],
+    header: Header,
+    levels: u32,
+) -> Result<Value, ObjFault>
+    requires { IsCounted header.place header.end reader.old }
+    ensures exact { ReadsAs (λ x. x) result (body_at (object_at levels classes.now) class.now header (body_of classes.now class.now header.version header.sum) reader.old) reader.new }
+    ensures goes { GoesOn reader.old.at reader.new.at }
+{
+    match body_of(classes, class, &header) {
+        Body::Described(described) => {
+            let parts = read_parts(alloc, classes, reader, described, levels)?;
+            whole_described(alloc, reader, class, described, header, parts)
+        }
+        Body::Named => {
+            let parts = read_named_parts(alloc, classes, reader, levels)?;
+            whole(alloc, reader, class, 1, header, parts)
+        }
+        Body::ObjString => {
+            let parts = read_obj_string_parts(alloc, classes, reader, levels)?;
+            whole(alloc, reader, class, 1, header, parts)
+        }
+        Body::Listed => {
+            let parts = read_list_parts(alloc, classes, reader, levels)?;
+            whole(alloc, reader, class, 5, header, parts)
+        }
+        Body::Arrayed => {
+            let parts = read_array_parts(alloc, classes, reader, levels)?;
+            whole(alloc, reader, class, 3, header, parts)
+        }
+        Body::Opaque => read_opaque(alloc, reader, class, header),
+    }
+}
+
+// The bases and then the members of a class.
+#[cycle(object)]
+fn read_parts(
+    alloc: Global,
+    classes: &Classes,
+    reader: &mut ObjReader,
+    described: &ClassDef,
+    levels: u32,
+) -> Result<Parts, ObjFault>
+    ensures exact { ReadsAs (λ x. x) result (parts_at (object_at levels classes.now) (slots_of described.now) reader.old) reader.new }
+    ensures goes { GoesOn reader.old.at reader.new.at }
+{
+    let bases = described.bases.as_slice();
+    let parts = read_bases(alloc, classes, reader, bases, levels)?;
+    let members = described.members.as_slice();
+    read_members(alloc, classes, reader, parts, members, levels)
+}
+
+#[cycle(object)]
+fn read_bases(
+    alloc: Global,
+    classes: &Classes,
+    reader: &mut ObjReader,
+    bases: &[Base],
+    levels: u32,
+) -> Result<Parts, ObjFault>
+    ensures exact { ReadsWithin result (each_at (λ b. member_at (object_at levels classes.now) (base_slot b)) bases.now (reader.old, [])) reader.new [] }
+    ensures goes { GoesOn reader.old.at reader.new.at }
+{
+    let mut parts = Parts::new(alloc);
+    for base in bases {
+        parts.push(read_base_part(alloc, classes, reader, base, levels)?)?;
+    }
+    Ok(parts)
+}
+
+#[cycle(object)]
+#[tactic(auto, unfolding(rio_format::specs::Objects::member_at, rio_format::specs::Objects::kind_at))]
+fn read_base_part(
+    alloc: Global,
+    classes: &Classes,
+    reader: &mut ObjReader,
+    base: &Base,
+    levels: u32,
+) -> Result<Part, ObjFault>
+    ensures exact { ReadsWithin result (member_at (object_at levels classes.now) (base_slot base.now) (reader.old, [])) reader.new [] }
+    ensures goes { GoesOn reader.old.at reader.new.at }
+{
+    let value = read_object(alloc, classes, reader, base.name.as_slice(), levels)?;
+    Ok(part_with(alloc, b"", value)?)
+}
+
+// The members, behind the parts that are given.
+#[cycle(object)]
+fn read_members(
+    alloc: Global,
+    classes: &Classes,
+    reader: &mut ObjReader,
+    mut parts: Parts,
+    members: &[Member],
+    levels: u32,
+) -> Result<Parts, ObjFault>
+    ensures exact { ReadsAs (λ x. x) result (members_at (object_at levels classes.now) parts members.now reader.old) reader.new }
+    ensures goes { GoesOn reader.old.at reader.new.at }
+{
+    let mut counters = Counters::new(alloc);
+    for member in members {
+        parts.push(read_member(alloc, classes, reader, member, &mut counters, levels)?)?;
+    }
+    Ok(parts)
+}
+
+#[cycle(object)]
+#[tactic(auto, unfolding(rio_format::specs::Objects::member_at))]
+fn read_member(
+    alloc: Global,
+    classes: &Classes,
+    reader: &mut ObjReader,
+    member: &Member,
+    counters: &mut Counters,
+    levels: u32,
+) -> Result<Part, ObjFault>
+    ensures exact { ReadsWithin result (member_at (object_at levels classes.now) member.now (reader.old, counters.old)) reader.new counters.new }
+    ensures goes { GoesOn reader.old.at reader.new.at }
+{
+    match &member.kind {
+        Kind::Counter => read_counter(reader, &member.name, counters),
+        kind => {
+            let value = read_kind(alloc, classes, reader, kind, counters, levels)?;
+            Ok(part_with(alloc, member.name.as_slice(), value)?)
+        }
+    }
+}
+
+// A value of the kind, behind these counters.
+#[cycle(object)]
+#[tactic(auto, unfolding(rio_format::specs::Objects::kind_at))]
+fn read_kind(
+    alloc: Global,
+    classes: &Classes,
+    reader: &mut ObjReader,
+    kind: &Kind,
+    counters: &Counters,
+    levels: u32,
+) -> Result<Value, ObjFault>
+    ensures exact { ReadsAs (λ x. x) result (kind_at (object_at levels classes.now) counters.now kind.now reader.old) reader.new }
+    ensures goes { GoesOn reader.old.at reader.new.at }
+{
+    match kind {
+        Kind::Plain { of } => read_number(reader, *of),
+        Kind::Counter => read_number(reader, Prim::I32),
+        Kind::Fixed { of, count } => read_numbers(alloc, reader, *of, *count),
+        Kind::Counted { of, counter } => {
+            read_counted(alloc, reader, *of, counters.count_by(counter.as_slice()))
+        }
+        Kind::Text => read_text(alloc, reader),
+        Kind::Inline { class } => read_object(alloc, classes, reader, class.as_slice(), levels),
+        Kind::Pointer { .. } => read_pointer(alloc, classes, reader, levels),
+        Kind::Other { .. } => Err(ObjFault::NoCount {
+            place: reader.place(),
+        }),
+    }
+}
+
+#[cycle(object)]
+#[tactic(auto, unfolding(rio_format::specs::Objects::pointer_at, rio_format::specs::Objects::pointed_at))]
+fn read_pointer(
+    alloc: Global,
+    classes: &Classes,
+    reader: &mut ObjReader,
+    levels: u32,
+) -> Result<Value, ObjFault>
+    ensures exact { ReadsAs (λ x. x) result (pointer_at (object_at levels classes.now) reader.old) reader.new }
+    ensures goes { GoesOn reader.old.at reader.new.at }
+{
+    match reader.pointer()? {
+        PointerWord::Null => Ok(Value::Null),
+        PointerWord::Back { label } => Ok(Value::Back(label)),
+        PointerWord::New {
+            label,
+            place,
+            end,
+            class,
+        } => {
+            let object = read_object(alloc, classes, reader, class.as_slice(), levels)?;
+            reader.finish(place, end)?;
+            Ok(Value::Pointed {
+                label,
+                object: Boxed::new(alloc, object)?,
+            })
+        }
+    }
+}
+
+// The parts of a TList.
+#[cycle(object)]
+#[tactic(auto, unfolding(rio_format::specs::Objects::list_parts_at))]
+fn read_list_parts(
+    alloc: Global,
+    classes: &Classes,
+    reader: &mut ObjReader,
+    levels: u32,
+) -> Result<Parts, ObjFault>
+    ensures exact { ReadsAs (λ x. x) result (list_parts_at (object_at levels classes.now) reader.old) reader.new }
+    ensures goes { GoesOn reader.old.at reader.new.at }
+{
+    let base = read_base(alloc, classes, reader, levels)?;
+    let name = read_name(alloc, reader)?;
+    let count = read_count(reader, 4)?;
+    let items = read_links(alloc, classes, reader, count, levels)?;
+    Ok(list_parts(alloc, base, name, items)?)
+}
+
+#[cycle(object)]
+fn read_links(
+    alloc: Global,
+    classes: &Classes,
+    reader: &mut ObjReader,
+    count: u32,
+    levels: u32,
+) -> Result<Values, ObjFault>
+    ensures exact { ReadsAs (λ x. x) result (times_at count (link_at (object_at levels classes.now)) reader.old) reader.new }
+    ensures goes { GoesOn reader.old.at reader.new.at }
+{
+    let mut links = Values::new(alloc);
+    for _done in 0..count {
+        links.push(read_link(alloc, classes, reader, levels)?)?;
+    }
+    Ok(links)
+}
+
+// An item of a TList.
+#[cycle(object)]
+#[tactic(auto, unfolding(rio_format::specs::Objects::link_at))]
+fn read_link(
+    alloc: Global,
+    classes: &Classes,
+    reader: &mut ObjReader,
+    levels: u32,
+) -> Result<Value, ObjFault>
+    ensures exact { ReadsAs (λ x. x) result (link_at (object_at levels classes.now) reader.old) reader.new }
+    ensures goes { GoesOn reader.old.at reader.new.at }
+{
+    let pointer = read_pointer(alloc, classes, reader, levels)?;
+    let option = read_name(alloc, reader)?;
+    Ok(link(alloc, pointer, option)?)
+}
+
+// The parts of a TObjArray.
+#[cycle(object)]
+#[tactic(auto, unfolding(rio_format::specs::Objects::array_parts_at))]
+fn read_array_parts(
+    alloc: Global,
+    classes: &Classes,
+    reader: &mut ObjReader,
+    levels: u32,
+) -> Result<Parts, ObjFault>
+    ensures exact { ReadsAs (λ x. x) result (array_parts_at (object_at levels classes.now) reader.old) reader.new }
+    ensures goes { GoesOn reader.old.at reader.new.at }
+{
+    let base = read_base(alloc, classes, reader, levels)?;
+    let name = read_name(alloc, reader)?;
+    let count = read_count(reader, 4)?;
+    let lower = read_number(reader, Prim::I32)?;
+    let items = read_pointers(alloc, classes, reader, count, levels)?;
+    Ok(array_parts(alloc, base, name, lower, items)?)
+}
+
+#[cycle(object)]
+fn read_pointers(
+    alloc: Global,
+    classes: &Classes,
+    reader: &mut ObjReader,
+    count: u32,
+    levels: u32,
+) -> Result<Values, ObjFault>
+    ensures exact { ReadsAs (λ x. x) result (times_at count (pointer_at (object_at levels classes.now)) reader.old) reader.new }
+    ensures goes { GoesOn reader.old.at reader.new.at }
+{
+    let mut pointers = Values::new(alloc);
+    for _done in 0..count {
+        pointers.push(read_pointer(alloc, classes, reader, levels)?)?;
+    }
+    Ok(pointers)
+}

@@ -1,5 +1,0 @@
-use Rattle.rio_stream.specs.Bases.{Expanded}
-use Rattle.rio_stream.proofs.bases.expand_round.Given as goal
-
-abbrev pub invariant-loop-k : goal.invariant-loop-k
-invariant-loop-k l = Expanded l.classes l.target l.levels l.fn.visits l.visits l.k

@@ -1,0 +1,81 @@
+-- Which forms and bodies the small built-in classes have.
+use Rattle.std.proofs.Common.{◌≡◌, ◌⊎◌, inl, inr, ℕ, ℤ, pos, Bool, true, false, cond, ◌&&◌, ◌||◌, IsTrue, List, [], codes, Option, Some, None, refl, sym, subst}
+use Rattle.std.proofs.lemmas.Slice.Eq.{bytes_eq-Decides}
+use Rattle.std.specs.Ordering.{int_eq}
+use Rattle.std.specs.Str.{bytes_eq}
+use Rattle.rio_types.specs.declared.class.ClassDef.{ClassDef}
+use Rattle.rio_types.specs.declared.kind.Primitive.TheVariants.{I8, I16, I32, I64, F32, F64}
+use Rattle.rio_format.specs.Bodies.{Body, Form, arrayed, bare, built_in, described, form_of, headed, listed, numbers, t_named, t_obj_string}
+use Rattle.rio_format.specs.Fits.{Fitting, Labels, parts_fit}
+use Rattle.rio_format.specs.Slots.{body_fields, declared_body, fields_of}
+use Rattle.rio_write.specs.Writing.{FitsSomewhere, is_small_builtin}
+
+pub refuted : {P : Type 0} (after : Labels) → None ≡ Some after → P
+refuted after e = absurd cc
+
+-- ---- the class by its form
+
+module _ (class : List ℕ) where
+  abbrev form_by : Bool → Bool → Bool → Bool → Bool → Bool → Bool → Form
+  form_by o c s i l f d =
+      cond o bare (cond c (numbers I8) (cond s (numbers I16) (cond i (numbers I32) (cond l (numbers I64) (cond f (numbers F32) (cond d (numbers F64) headed))))))
+
+  either : (o n t c s i l f d : Bool) → bytes_eq class (codes "TNamed") ≡ n → bytes_eq class (codes "TObjString") ≡ t → IsTrue (o || n || t || c || s || i || l || f || d) → form_by o c s i l f d ≡ headed
+      → (class ≡ codes "TNamed") ⊎ (class ≡ codes "TObjString")
+  either o true t c s i l f d en et is form = inl ((bytes_eq-Decides class (codes "TNamed")).0 en)
+  either o false true c s i l f d en et is form = inr ((bytes_eq-Decides class (codes "TObjString")).0 et)
+  either true false false c s i l f d en et is form = absurd cc
+  either false false false true s i l f d en et is form = absurd cc
+  either false false false false true i l f d en et is form = absurd cc
+  either false false false false false true l f d en et is form = absurd cc
+  either false false false false false false true f d en et is form = absurd cc
+  either false false false false false false false true d en et is form = absurd cc
+  either false false false false false false false false true en et is form = absurd cc
+  either false false false false false false false false false en et is form = absurd cc
+
+  pub which : IsTrue (is_small_builtin class) → form_of class ≡ headed → (class ≡ codes "TNamed") ⊎ (class ≡ codes "TObjString")
+  which is form =
+      either (bytes_eq class (codes "TObject")) (bytes_eq class (codes "TNamed")) (bytes_eq class (codes "TObjString")) (bytes_eq class (codes "TArrayC")) (bytes_eq class (codes "TArrayS")) (bytes_eq class (codes "TArrayI"))
+      (bytes_eq class (codes "TArrayL64")) (bytes_eq class (codes "TArrayF")) (bytes_eq class (codes "TArrayD")) refl refl is form
+
+-- ---- the body by its class
+
+module _ (ys : List (List ℕ × Fitting)) (version : ℤ) where
+  named_body : (b : Bool) → int_eq version (pos 1) ≡ b → FitsSomewhere (parts_fit (fields_of [] (codes "TNamed") version) ys) → (classes : List ClassDef) → declared_body classes (codes "TNamed") version ≡ built_in (codes "TNamed") (pos 1)
+  named_body true e fits classes = rw e refl
+  named_body false e fits classes =
+      let none : None ≡ Some fits.1 = rw e at fits.2 in
+      refuted fits.1 none
+
+  string_body : (b : Bool) → int_eq version (pos 1) ≡ b → FitsSomewhere (parts_fit (fields_of [] (codes "TObjString") version) ys) → (classes : List ClassDef) → declared_body classes (codes "TObjString") version ≡ built_in (codes "TObjString") (pos 1)
+  string_body true e fits classes = rw e refl
+  string_body false e fits classes =
+      let none : None ≡ Some fits.1 = rw e at fits.2 in
+      refuted fits.1 none
+
+  by_class : (class : List ℕ) → (class ≡ codes "TNamed") ⊎ (class ≡ codes "TObjString") → FitsSomewhere (parts_fit (fields_of [] class version) ys) → (classes : List ClassDef) → declared_body classes class version ≡ built_in class (pos 1)
+  by_class class (inl e) fits classes =
+      subst (λ (k : List ℕ). declared_body classes k version ≡ built_in k (pos 1)) (sym e) (named_body (int_eq version (pos 1)) refl (subst (λ (k : List ℕ). FitsSomewhere (parts_fit (fields_of [] k version) ys)) e fits) classes)
+  by_class class (inr e) fits classes =
+      subst (λ (k : List ℕ). declared_body classes k version ≡ built_in k (pos 1)) (sym e) (string_body (int_eq version (pos 1)) refl (subst (λ (k : List ℕ). FitsSomewhere (parts_fit (fields_of [] k version) ys)) e fits) classes)
+
+  pub body_is : (class : List ℕ) → IsTrue (is_small_builtin class) → form_of class ≡ headed → FitsSomewhere (parts_fit (fields_of [] class version) ys) → (classes : List ClassDef) → declared_body classes class version ≡ built_in class (pos 1)
+  body_is class is form fits classes = by_class class (which class is form) fits classes
+
+-- ---- a body that isn't a TNamed's
+
+module _ (class : List ℕ) (ys : List (List ℕ × Fitting)) where
+  abbrev body_by : Bool → Bool → Bool → Bool → Option Body
+  body_by n t l a =
+      cond (n && int_eq (pos 1) (pos 1)) (Some (described t_named)) (cond (t && int_eq (pos 1) (pos 1)) (Some (described t_obj_string)) (cond (l && int_eq (pos 1) (pos 5)) (Some listed) (cond (a && int_eq (pos 1) (pos 3)) (Some arrayed) None)))
+
+  other : (n t l a : Bool) → n ≡ false → FitsSomewhere (parts_fit (body_fields (body_by n t l a)) ys) → body_by n t l a ≡ Some (described t_obj_string)
+  other true t l a e fits = absurd cc
+  other false true l a e fits = refl
+  other false false true true e fits = refuted fits.1 fits.2
+  other false false true false e fits = refuted fits.1 fits.2
+  other false false false true e fits = refuted fits.1 fits.2
+  other false false false false e fits = refuted fits.1 fits.2
+
+  pub other_body : bytes_eq class (codes "TNamed") ≡ false → FitsSomewhere (parts_fit (body_fields (built_in class (pos 1))) ys) → built_in class (pos 1) ≡ Some (described t_obj_string)
+  other_body e fits = other (bytes_eq class (codes "TNamed")) (bytes_eq class (codes "TObjString")) (bytes_eq class (codes "TList")) (bytes_eq class (codes "TObjArray")) e fits

@@ -1,0 +1,11 @@
+pub mod BuiltinBodies
+pub mod BuiltinParts
+pub mod MeasureLaws
+pub mod MeasureParts
+pub mod MeasureValues
+pub mod SmallLaws
+pub mod SmallObjects
+pub mod SmallValues
+pub mod WriteLaws
+pub mod WriteParts
+pub mod WriteValues

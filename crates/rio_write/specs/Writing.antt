@@ -1,0 +1,55 @@
+-- What the writers of objects do.
+use Rattle.std.specs.Prelude.{◌≡◌, ◌<◌, ◌≤◌, ◌^◌, ℕ, ◌+◌, ◌-◌, ◌%◌, suc, ℤ, pos, negsuc, List, [], ◌++◌, length, codes, Bool, ◌||◌, IsTrue, Option, Some, Result, Ok, Err}
+use Rattle.std.specs.Str.{bytes_eq}
+use Rattle.rio_num.specs.declared.no_memory.NoMemory.{NoMemory}
+use Rattle.rio_types.specs.declared.class.ClassDef.{ClassDef}
+use Rattle.rio_value.specs.declared.value.Part.{Part}
+use Rattle.rio_value.specs.declared.value.Value.{Value}
+use Rattle.rio_format.specs.Fits.{Fits, Fitting, Labels, fitting_of}
+use Rattle.rio_format.specs.Written.{Writer, Writing, writing_of}
+use Rattle.rio_buffer.specs.Writer.{WriterState, next_place}
+
+-- what is written at the next place stands at the end
+unfoldable pub with_written : Writer → WriterState → WriterState
+with_written write s = let a = write (next_place s) s.words in record s { bytes = s.bytes ++ a.0; words = a.1 }
+
+-- It was written, or memory ran out.
+abbrev pub Writes : Writer → Result (Unit {0}) NoMemory → WriterState → WriterState → Type 0
+Writes write (Ok x) old new = new ≡ with_written write old
+Writes write (Err e) old new = Unit {0}
+
+-- all its places can be referred to
+unfoldable pub HasRoom : Writer → WriterState → Type 0
+HasRoom write s = next_place s + length (write (next_place s) s.words).0 < 2 ^ 30 - 2
+
+abbrev pub part_writing : List ClassDef → Part → Writing
+part_writing classes p = writing_of classes p.value
+
+-- the bits of a number in two's complement, in an unsigned type of this size; a number below all that it can hold is 0
+abbrev pub bits_within : ℕ → ℤ → ℕ
+bits_within size (pos n) = n % size
+bits_within size (negsuc n) = (size - suc n) % size
+
+-- ---- built-in classes
+
+-- TObject, TNamed, TObjString and the TArrays
+abbrev pub is_small_builtin : List ℕ → Bool
+is_small_builtin class =
+    bytes_eq class (codes "TObject") || bytes_eq class (codes "TNamed") || bytes_eq class (codes "TObjString")
+    || bytes_eq class (codes "TArrayC") || bytes_eq class (codes "TArrayS") || bytes_eq class (codes "TArrayI")
+    || bytes_eq class (codes "TArrayL64") || bytes_eq class (codes "TArrayF") || bytes_eq class (codes "TArrayD")
+
+-- an object of one of these classes that fits it
+abbrev pub IsSmallBuiltin : Value → Type 0
+IsSmallBuiltin v = (class : List ℕ) × IsTrue (is_small_builtin class) × Fits [] class v
+
+-- it has at most so many bytes as an object may have
+unfoldable pub IsShort : Writer → WriterState → Type 0
+IsShort write s = length (write (next_place s) s.words).0 ≤ 16777216
+
+-- it fits behind some labels
+abbrev pub FitsSomewhere : (Labels → Option Labels) → Type 0
+FitsSomewhere fits = (before : Labels) × (after : Labels) × (fits before ≡ Some after)
+
+abbrev pub part_fitting : Part → List ℕ × Fitting
+part_fitting p = (p.name, fitting_of [] p.value)

@@ -1,0 +1,13 @@
+//! Objects are written, by the classes that a file describes.
+#![tactic(auto)]
+
+mod builtin;
+mod laws;
+mod write;
+mod write_length;
+mod write_numbers;
+
+pub use builtin::write_builtin;
+pub use laws::small_builtins_are_alike;
+pub use write::write_object;
+pub use write_length::written_length;
