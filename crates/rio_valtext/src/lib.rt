@@ -1,13 +1,19 @@
 //! Values as text.
 #![tactic(auto)]
 
+mod laws;
 mod print;
 mod read;
 #[cfg(test)]
 mod read_tests;
+mod resolving;
+#[cfg(test)]
+mod resolving_tests;
 #[cfg(test)]
 mod tests;
 
+pub use laws::stored_values_are_read;
 pub use print::print_value;
 pub use read::read_value;
+pub use resolving::{ResolveFault, resolve, resolved_has_versions, resolved_stays};
 pub use rio_token::TextFault;

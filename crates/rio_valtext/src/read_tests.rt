@@ -1,5 +1,5 @@
 use crate::{TextFault, read_value};
-use rio_num::{Name, NoMemory};
+use rio_num::{Bytes, Name, NoMemory};
 use rio_value::Value;
 use std::alloc::Global;
 use std::test::Fail;
@@ -91,7 +91,7 @@ fn objects(rt: HostRuntime) {
     assert_eq!(rt; end_of(rt.alloc(), b"null#1"), bad(6));
 }
 
-// So many names' bytes and braces behind them.
+// An object whose class has a name of so many letters.
 fn long_name(alloc: Global, length: usize) -> Result<Name, NoMemory> {
     let mut text = Name::new(alloc);
     for _byte in 0..length {
@@ -111,7 +111,7 @@ fn long_names(rt: HostRuntime) -> Result<(), Fail> {
     Ok(())
 }
 
-// A list within an object's member, and so on, with so many brackets.
+// A list within a list, and so on, so many in all.
 fn nested(alloc: Global, brackets: usize) -> Result<Name, NoMemory> {
     let mut text = Name::new(alloc);
     text.push(b'[')?;
@@ -130,6 +130,28 @@ fn brackets(rt: HostRuntime) -> Result<(), Fail> {
     assert_eq!(rt; end_of(rt.alloc(), text.as_slice()), Ok(2048));
     let text = nested(rt.alloc(), 1025).ok().ok_or("a text")?;
     assert_eq!(rt; end_of(rt.alloc(), text.as_slice()), bad(1024));
+    Ok(())
+}
+
+// An object within an object, and so on, so many in all.
+fn nested_objects(alloc: Global, objects: usize) -> Result<Bytes, NoMemory> {
+    let mut text = Bytes::new(alloc);
+    for _level in 1..objects {
+        text.put(b"A{a:")?;
+    }
+    text.put(b"A{}")?;
+    for _level in 1..objects {
+        text.push(b'}')?;
+    }
+    Ok(text)
+}
+
+#[test]
+fn brackets_of_objects(rt: HostRuntime) -> Result<(), Fail> {
+    let text = nested_objects(rt.alloc(), 1024).ok().ok_or("a text")?;
+    assert_eq!(rt; end_of(rt.alloc(), text.as_slice()), Ok(5118));
+    let text = nested_objects(rt.alloc(), 1025).ok().ok_or("a text")?;
+    assert_eq!(rt; end_of(rt.alloc(), text.as_slice()), bad(4097));
     Ok(())
 }
 

@@ -1,0 +1,294 @@
+//! Values with the versions that their text leaves open.
+ghost use Rattle.std.specs.Prelude.{◌≡◌, [], map, option_and_then, IfOk, IfErr};
+ghost use Rattle.rio_valtext.specs.Resolving.{ResolvedHasVersions, ResolvedStays, Resolves, base_version, bases_as, bases_of, built_in_version, each_resolved, is_known, meant_version, newest_version, object_resolved, resolved, resolved_version, resolving_of, resolving_of_part};
+
+use rio_layout::{Body, declared_body, is_headed};
+use rio_num::{Boxed, Name, NoMemory};
+use rio_types::{Base, Classes};
+use rio_value::{Part, Parts, Value, Values};
+use std::alloc::Global;
+use thiserror::Error;
+
+/// Why a value can't be resolved.
+#[derive(Clone, Copy, Debug, PartialEq, Eq, Error)]
+pub enum ResolveFault {
+    #[error("an object is of a class or version that isn't declared")]
+    NoSuchClass,
+    #[error("no memory")]
+    NoMemory,
+}
+
+impl From<NoMemory> for ResolveFault {
+    ghost use Rattle.std.specs.Prelude.{◌≡◌};
+    ghost use Rattle.rio_valtext.specs.declared.resolving.ResolveFault.TheVariants.{NoMemory as OutOfMemory};
+
+    ghost from_gives = { λ _ fault. fault ≡ OutOfMemory };
+
+    fn from(_e: NoMemory) -> ResolveFault {
+        ResolveFault::NoMemory
+    }
+}
+
+/// The bases of a class.
+#[derive(Clone, Copy)]
+enum ClassBases<'a> {
+    /// These, in order.
+    Listed(&'a [Base]),
+    /// TObject alone.
+    TObject,
+}
+
+fn built_in_version(class: &[u8]) -> Option<i32>
+    ensures { result ≡ built_in_version class.now }
+{
+    if class == b"TList".as_slice() {
+        Some(5)
+    } else if class == b"TObjArray".as_slice() {
+        Some(3)
+    } else if class == b"TNamed".as_slice()
+        || class == b"TObjString".as_slice()
+        || !is_headed(class)
+    {
+        Some(1)
+    } else {
+        None
+    }
+}
+
+fn newest_version(classes: &Classes, class: &[u8]) -> Option<i32>
+    ensures { result ≡ newest_version classes.now class.now }
+{
+    match classes.newest(class) {
+        Some(newest) => Some(newest.version),
+        None => built_in_version(class),
+    }
+}
+
+// The bases that the class has in the version.
+fn bases_of<'a>(classes: &'a Classes, class: &[u8], version: i32) -> ClassBases<'a>
+    ensures { bases_as result ≡ bases_of classes.now class.now version }
+{
+    if !is_headed(class) {
+        return ClassBases::Listed(&[]);
+    }
+    match declared_body(classes, class, version) {
+        Some(Body::Described(found)) => ClassBases::Listed(found.bases.as_slice()),
+        Some(Body::Named | Body::ObjString | Body::Listed | Body::Arrayed) => ClassBases::TObject,
+        Some(Body::Opaque) | None => ClassBases::Listed(&[]),
+    }
+}
+
+// The version of the base of that name.
+fn base_version(bases: ClassBases, class: &[u8]) -> Option<i32>
+    ensures { result ≡ base_version (bases_as bases.entry) class.now }
+{
+    match bases {
+        ClassBases::Listed(bases) => listed_version(bases, class),
+        ClassBases::TObject if class == b"TObject".as_slice() => Some(1),
+        ClassBases::TObject => None,
+    }
+}
+
+fn listed_version(bases: &[Base], class: &[u8]) -> Option<i32>
+    ensures { result ≡ base_version bases.now class.now }
+{
+    for base in bases {
+        if base.name.as_slice() == class {
+            return Some(base.version);
+        }
+    }
+    None
+}
+
+// The version that an object means.
+fn meant_version(classes: &Classes, bases: ClassBases, class: &[u8], version: i32) -> Option<i32>
+    ensures { result ≡ meant_version classes.now (bases_as bases.entry) class.now version }
+{
+    if version != 0 {
+        return Some(version);
+    }
+    match base_version(bases, class) {
+        Some(version) => Some(version),
+        None => newest_version(classes, class),
+    }
+}
+
+// Whether the class is declared or built in in the version.
+fn is_known(classes: &Classes, class: &[u8], version: i32) -> bool
+    ensures { result ≡ is_known classes.now class.now version }
+{
+    classes.find(class, version).is_some() || built_in_version(class) == Some(version)
+}
+
+// The version that an object means, if its class is known in it.
+fn resolved_version(
+    classes: &Classes,
+    bases: ClassBases,
+    class: &[u8],
+    version: i32,
+) -> Result<i32, ResolveFault>
+    ensures { Resolves result (resolved_version classes.now (bases_as bases.entry) class.now version) }
+{
+    match meant_version(classes, bases, class, version) {
+        Some(version) if is_known(classes, class, version) => Ok(version),
+        _ => Err(ResolveFault::NoSuchClass),
+    }
+}
+
+// The value, which is a base of a class with these bases if it stands in one.
+#[cycle(resolve)]
+fn resolve_value(
+    alloc: Global,
+    classes: &Classes,
+    bases: ClassBases,
+    value: &Value,
+) -> Result<Value, ResolveFault>
+    ensures { Resolves result (resolving_of classes.now value.now (bases_as bases.entry)) }
+{
+    match value {
+        Value::Int(n) => Ok(Value::Int(*n)),
+        Value::Bits32(n) => Ok(Value::Bits32(*n)),
+        Value::Bits64(n) => Ok(Value::Bits64(*n)),
+        Value::Bool(b) => Ok(Value::Bool(*b)),
+        Value::Text(text) => Ok(Value::Text(text.copy()?)),
+        Value::List(items) => Ok(Value::List(resolve_items(alloc, classes, items.as_slice())?)),
+        Value::Object {
+            class,
+            version,
+            parts,
+        } => resolve_object(
+            alloc,
+            classes,
+            bases,
+            class.as_slice(),
+            *version,
+            parts.as_slice(),
+        ),
+        Value::Pointed { label, object } => {
+            let object = resolve_value(alloc, classes, ClassBases::Listed(&[]), object.get())?;
+            Ok(Value::Pointed {
+                label: *label,
+                object: Boxed::new(alloc, object)?,
+            })
+        }
+        Value::Null => Ok(Value::Null),
+        Value::Back(label) => Ok(Value::Back(*label)),
+        Value::Opaque { class, length } => Ok(Value::Opaque {
+            class: class.copy()?,
+            length: *length,
+        }),
+    }
+}
+
+#[cycle(resolve)]
+fn resolve_object(
+    alloc: Global,
+    classes: &Classes,
+    bases: ClassBases,
+    class: &[u8],
+    version: i32,
+    parts: &[Part],
+) -> Result<Value, ResolveFault>
+    ensures { Resolves result (option_and_then (object_resolved classes.now class.now (map (resolving_of_part classes.now) parts.now)) (resolved_version classes.now (bases_as bases.entry) class.now version)) }
+{
+    let version = resolved_version(classes, bases, class, version)?;
+    resolve_in_version(alloc, classes, class, version, parts)
+}
+
+// The object of the class in this version.
+#[cycle(resolve)]
+fn resolve_in_version(
+    alloc: Global,
+    classes: &Classes,
+    class: &[u8],
+    version: i32,
+    parts: &[Part],
+) -> Result<Value, ResolveFault>
+    ensures { Resolves result (object_resolved classes.now class.now (map (resolving_of_part classes.now) parts.now) version) }
+{
+    let bases = bases_of(classes, class, version);
+    let parts = resolve_parts(alloc, classes, bases, parts)?;
+    Ok(Value::Object {
+        class: Name::from_slice(alloc, class)?,
+        version,
+        parts,
+    })
+}
+
+#[cycle(resolve)]
+fn resolve_items(alloc: Global, classes: &Classes, items: &[Value]) -> Result<Values, ResolveFault>
+    ensures { Resolves result (each_resolved [] (map (resolving_of classes.now) items.now)) }
+{
+    let mut resolved = Values::new(alloc);
+    for item in items {
+        resolved.push(resolve_value(alloc, classes, ClassBases::Listed(&[]), item)?)?;
+    }
+    Ok(resolved)
+}
+
+// The parts of an object whose class has these bases.
+#[cycle(resolve)]
+fn resolve_parts(
+    alloc: Global,
+    classes: &Classes,
+    bases: ClassBases,
+    parts: &[Part],
+) -> Result<Parts, ResolveFault>
+    ensures { Resolves result (each_resolved (bases_as bases.entry) (map (resolving_of_part classes.now) parts.now)) }
+{
+    let mut resolved = Parts::new(alloc);
+    for part in parts {
+        resolved.push(resolve_part(alloc, classes, bases, part)?)?;
+    }
+    Ok(resolved)
+}
+
+#[cycle(resolve)]
+fn resolve_part(
+    alloc: Global,
+    classes: &Classes,
+    bases: ClassBases,
+    part: &Part,
+) -> Result<Part, ResolveFault>
+    ensures { Resolves result (resolving_of_part classes.now part.now (bases_as bases.entry)) }
+{
+    let bases = if part.name.len() == 0 {
+        bases
+    } else {
+        ClassBases::Listed(&[])
+    };
+    let value = resolve_value(alloc, classes, bases, &part.value)?;
+    Ok(Part {
+        name: part.name.copy()?,
+        value,
+    })
+}
+
+/// The value with a version in each object. One of version 0 gets the newest version in which its class is declared, or
+/// else the version in which it is built in. As a base it gets the version in which the class of the object around it has
+/// the base, if that class has one of the name. All else stays. `NoSuchClass` says that an object's class is neither
+/// declared nor built in in its version. On an error the value is handed back as it was. It goes as deep as the value.
+pub fn resolve(
+    alloc: Global,
+    classes: &Classes,
+    value: Value,
+) -> Result<Value, (ResolveFault, Value)>
+    ensures ok { IfOk result (λ v. resolved classes.now value ≡ Some v) }
+    ensures unchanged { IfErr result (λ e. e.1 ≡ value) }
+    ensures none { IfErr result (λ e. e.0 ≡ ResolveFault.NoSuchClass → resolved classes.now value ≡ None) }
+{
+    match resolve_value(alloc, classes, ClassBases::Listed(&[]), &value) {
+        Ok(resolved) => Ok(resolved),
+        Err(fault) => Err((fault, value)),
+    }
+}
+
+/// Resolving changes nothing in a value that is resolved.
+pub fn resolved_stays()
+    ensures { ResolvedStays }
+{}
+
+/// A value that is resolved leaves no version open, where no class is declared in version 0.
+pub fn resolved_has_versions()
+    ensures { ResolvedHasVersions }
+{}
