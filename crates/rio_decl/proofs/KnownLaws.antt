@@ -1,6 +1,6 @@
 -- What is known by name of the members before a member, and of what counts, decides whether it can be declared.
-use Rattle.std.proofs.Common.{◌≡◌, ℕ, ◌+◌, ◌<◌, List, [], ◌∷◌, ◌++◌, length, get_or, drop, Bool, true, false, ◌==◌, ◌&&◌, ◌||◌, not, refl, sym, ap, ◌∙◌, append_assoc, Bor}
-use Rattle.std.specs.BTreeSet.{BTreeSet}
+use Rattle.std.proofs.Common.{◌≡◌, ℕ, ◌+◌, ◌<◌, List, [], ◌∷◌, ◌++◌, length, get_or, drop, Bool, true, false, ◌==◌, ◌&&◌, ◌||◌, not, refl, sym, ap, ◌∙◌, append_assoc}
+use Rattle.std.specs.List.{list_any}
 use Rattle.std.proofs.lemmas.Bool.{and_parts, false_from_ne_true}
 use Rattle.std.proofs.lemmas.List.{drop_more}
 use Rattle.std.proofs.lemmas.List.Folds.{list_any-append}
@@ -29,7 +29,7 @@ same_kind before name after (Inline class) counters counts has e = refl
 same_kind before name after (Pointer class) counters counts has e = refl
 same_kind before name after (Other code) counters counts has e = refl
 
-module _ (before : List Member) (m : Member) (after all : List Member) (parts : before ++ m ∷ after ≡ all) (known : Known before) (passed counters counting : BTreeSet (Bor (List ℕ))) (knows : KnowsPassed before passed counters) (counts : KnowsCounters all counting) where
+module _ (before : List Member) (m : Member) (after all : List Member) (parts : before ++ m ∷ after ≡ all) (known : Known before) (passed counters counting : List (List ℕ)) (knows : KnowsPassed before passed counters) (counts : KnowsCounters all counting) where
   counted_behind : not (has_member before m.name) ≡ true → has_name counting m.name ≡ (counts_by m.kind m.name || is_counted_by after m.name)
   counted_behind new =
       let none : is_counted_by before m.name ≡ false = false_from_ne_true (is_counted_by before m.name) (λ t. let clash : true ≡ false = sym (known.counted m.name t) ∙ not_true (has_member before m.name) new in cc) in
@@ -71,3 +71,24 @@ module _ (members : List Member) (k : ℕ) (m : Member) (lt : k < length members
   pub not_stated : (before : List Member) (total : Bool) → is_stated_member before m (drop (k + 1) members) ≡ false → are_stated_members before (drop k members) ≡ total → false ≡ total
   not_stated before total h so_far =
       ap (λ (b : Bool). b && are_stated_members (before ++ m ∷ []) (drop (k + 1) members)) (sym h) ∙ ap (are_stated_members before) (sym member_split) ∙ so_far
+
+-- ---- a test's answer of one item more
+
+or_last : (a b : Bool) → (a || b) ≡ (b || (a || false))
+or_last true true = refl
+or_last true false = refl
+or_last false true = refl
+or_last false false = refl
+
+pub true_and : (a b : Bool) → b ≡ true → a ≡ (a && b)
+true_and true b h = sym h
+true_and false b h = refl
+
+pub false_and : (a b : Bool) → b ≡ false → false ≡ (a && b)
+false_and true b h = sym h
+false_and false b h = refl
+
+module _ {X : Type 0} (p : X → Bool) (xs more : List X) (x : X) where
+  pub with_last : (b c : Bool) → more ≡ xs ++ x ∷ [] → b ≡ (p x || c) → c ≡ list_any p xs → b ≡ list_any p more
+  with_last b c is told before =
+      told ∙ ap (λ (d : Bool). p x || d) before ∙ or_last (p x) (list_any p xs) ∙ sym (list_any-append p xs (x ∷ [])) ∙ ap (list_any p) (sym is)

@@ -1,9 +1,7 @@
--- What is kept beside members and bases, so that each look-up is a search.
+-- The names that are kept beside members and bases, so that no look-up goes through these.
 use Rattle.std.specs.Prelude.{◌≡◌, ℕ, List, length, nat_le, Bool, true, false, ◌==◌, ◌&&◌, not}
-use Rattle.std.specs.Borrow.{Bor}
-use Rattle.std.specs.BTreeSet.{BTreeSet, contains_by}
-use Rattle.std.specs.Cmp.Lexicographic.{slice_cmp}
-use Rattle.std.specs.Ordering.{nat_cmp}
+use Rattle.std.specs.List.{list_any}
+use Rattle.std.specs.Str.{bytes_eq}
 use Rattle.rio_num.specs.Word.{is_name_text}
 use Rattle.rio_types.specs.declared.class.Base.{Base}
 use Rattle.rio_types.specs.declared.class.Member.{Member}
@@ -12,27 +10,27 @@ use Rattle.rio_types.specs.declared.kind.Kind.TheVariants.{Plain, Counter, Fixed
 use Rattle.rio_model.specs.ClassGrammar.{has_base, has_i32, has_member, is_counted_by, is_i32_of}
 use Rattle.rio_model.specs.Stated.{has_counter, is_class_word}
 
--- whether the set has the name
-abbrev pub has_name : BTreeSet (Bor (List ℕ)) → List ℕ → Bool
-has_name set name = contains_by (λ k. slice_cmp nat_cmp name k.now) set
+-- whether the name is among these
+abbrev pub has_name : List (List ℕ) → List ℕ → Bool
+has_name names name = list_any (bytes_eq name) names
 
--- the sets have the names of the members, and of those that may count
-pub record KnowsMembers (members : List Member) (names integers : BTreeSet (Bor (List ℕ))) : Type 0 where
+-- the names of the members, and of those that may count
+pub record KnowsMembers (members : List Member) (names integers : List (List ℕ)) : Type 0 where
   pub all : (name : List ℕ) → has_name names name ≡ has_member members name
   pub may_count : (name : List ℕ) → has_name integers name ≡ has_i32 members name
 
--- the set has the names of the bases
-abbrev pub KnowsBases : List Base → BTreeSet (Bor (List ℕ)) → Type 0
-KnowsBases bases set = (name : List ℕ) → has_name set name ≡ has_base bases name
+-- the names of the bases
+abbrev pub KnowsBases : List Base → List (List ℕ) → Type 0
+KnowsBases bases names = (name : List ℕ) → has_name names name ≡ has_base bases name
 
--- the sets have the names of the members, and of the counters among them
-pub record KnowsPassed (members : List Member) (names counters : BTreeSet (Bor (List ℕ))) : Type 0 where
+-- the names of the members, and of the counters among them
+pub record KnowsPassed (members : List Member) (names counters : List (List ℕ)) : Type 0 where
   pub all : (name : List ℕ) → has_name names name ≡ has_member members name
   pub count : (name : List ℕ) → has_name counters name ≡ has_counter members name
 
--- the set has the names that count some of the members
-abbrev pub KnowsCounters : List Member → BTreeSet (Bor (List ℕ)) → Type 0
-KnowsCounters members set = (name : List ℕ) → has_name set name ≡ is_counted_by members name
+-- the names that count some of the members
+abbrev pub KnowsCounters : List Member → List (List ℕ) → Type 0
+KnowsCounters members names = (name : List ℕ) → has_name names name ≡ is_counted_by members name
 
 -- a kind behind counters of these names, of a member that counts or doesn't
 abbrev pub is_known_kind : (List ℕ → Bool) → Bool → Kind → Bool

@@ -1,33 +1,21 @@
-//! Members and bases that were read, with their names kept in order beside them.
+//! Members and bases that were read, with their names kept beside them.
 ghost use Rattle.std.specs.Prelude.{◌≡◌, ℕ, List, ◌||◌, IfOk, OnOk};
-ghost use Rattle.std.specs.Str.{bytes_eq};
 ghost use Rattle.rio_decl.specs.Known.{KnowsCounters, has_name};
 ghost use Rattle.rio_model.specs.ClassGrammar.{counts_by};
 
 use crate::read_kind::may_count;
+use rio_names::Names;
 use rio_num::{Name, NoMemory};
 use rio_types::{Base, Bases, Kind, Member, Members};
 use std::alloc::Global;
-use std::collections::BTreeSet;
 use std::marker::Model;
-
-/// Names in order.
-pub(crate) type Names<'a> = BTreeSet<&'a [u8]>;
-
-/// Puts a name among others.
-pub(crate) fn put_name<'a>(names: &mut Names<'a>, name: &'a [u8]) -> Result<(), NoMemory>
-    ensures { OnOk result ((other : List ℕ) → has_name names.new other ≡ (bytes_eq name.now other || has_name names.old other)) }
-{
-    names.insert(name)?;
-    Ok(())
-}
 
 // Puts the name of what counts a value of the kind among others, if something does.
 fn put_counter<'a>(counters: &mut Names<'a>, kind: &'a Kind) -> Result<(), NoMemory>
     ensures { OnOk result ((name : List ℕ) → has_name counters.new name ≡ (counts_by kind.now name || has_name counters.old name)) }
 {
     match kind {
-        Kind::Counted { counter, .. } => put_name(counters, counter.as_slice()),
+        Kind::Counted { counter, .. } => counters.note(counter.as_slice()),
         _ => Ok(()),
     }
 }
@@ -89,14 +77,14 @@ impl<'a> KnownMembers<'a> {
     pub(crate) fn has_member(&self, name: &[u8]) -> bool
         ensures { result ≡ has_member self.now name.now }
     {
-        self.all.contains(name)
+        self.all.has(name)
     }
 
     /// Whether one of the members has the name, and is an `i32`.
     pub(crate) fn has_integer(&self, name: &[u8]) -> bool
         ensures { result ≡ has_i32 self.now name.now }
     {
-        self.integers.contains(name)
+        self.integers.has(name)
     }
 
     /// The members with one more at the end.
@@ -114,9 +102,9 @@ impl<'a> KnownMembers<'a> {
         } = self;
         let NewMember { name, kind } = next;
         if may_count(&kind) {
-            put_name(&mut integers, name)?;
+            integers.note(name)?;
         }
-        put_name(&mut all, name)?;
+        all.note(name)?;
         members.push(Member {
             name: Name::from_slice(alloc, name)?,
             kind,
@@ -175,7 +163,7 @@ impl<'a> KnownBases<'a> {
     pub(crate) fn has_base(&self, name: &[u8]) -> bool
         ensures { result ≡ has_base self.now name.now }
     {
-        self.names.contains(name)
+        self.names.has(name)
     }
 
     /// The bases with one more at the end, of version 0.
@@ -186,7 +174,7 @@ impl<'a> KnownBases<'a> {
             mut bases,
             mut names,
         } = self;
-        put_name(&mut names, name)?;
+        names.note(name)?;
         bases.push(Base {
             name: Name::from_slice(alloc, name)?,
             version: 0,

@@ -6,8 +6,9 @@ ghost use Rattle.rio_types.specs.declared.class.Member.{Member};
 ghost use Rattle.rio_decl.specs.Known.{KnowsCounters};
 
 use crate::checksum;
-use crate::known::{KnownBases, KnownMembers, Names, NewMember, counters_of};
+use crate::known::{KnownBases, KnownMembers, NewMember, counters_of};
 use crate::read_kind::{may_count, read_kind};
+use rio_names::Names;
 use rio_num::{Name, NoMemory, is_name};
 use rio_token::{TextFault, Tokens};
 use rio_types::{Base, Bases, ClassDef, Kind, Member, Members};
@@ -181,7 +182,7 @@ fn read_more_members<'a>(
 fn kind_among(counters: &Names, member: &Member) -> Result<Kind, NoMemory>
     ensures { (members : List Member) → KnowsCounters members counters.now → IfOk result (λ kind. kind ≡ counting_kind members member.now) }
 {
-    if may_count(&member.kind) && counters.contains(member.name.as_slice()) {
+    if may_count(&member.kind) && counters.has(member.name.as_slice()) {
         Ok(Kind::Counter)
     } else {
         member.kind.copy()

@@ -2,12 +2,14 @@ ghost use Rattle.std.specs.Prelude.{◌≡◌, ◌++◌, List, [], ◌∷◌, �
 ghost use Rattle.rio_num.specs.Word.{is_name_text};
 ghost use Rattle.rio_types.specs.declared.class.Base.{Base};
 ghost use Rattle.rio_types.specs.declared.class.Member.{Member};
-ghost use Rattle.rio_model.specs.Stated.{are_stated_bases, are_stated_members, has_stated_parts, is_class_version, is_class_word, is_counter, is_stated_base, is_stated_class};
+ghost use Rattle.rio_types.specs.Members.{is_counter};
+ghost use Rattle.rio_model.specs.Stated.{are_stated_bases, are_stated_members, has_stated_parts, is_class_version, is_class_word, is_stated_base, is_stated_class};
 ghost use Rattle.rio_decl.specs.Known.{KnowsBases, KnowsPassed, has_name, is_known_kind, is_known_member};
 
 use crate::checksum;
-use crate::known::{Names, counters_of, put_name};
+use crate::known::counters_of;
 use crate::read_kind::{is_i32_primitive, primitive};
+use rio_names::Names;
 use rio_num::{NoMemory, is_name};
 use rio_types::{Base, ClassDef, Kind, Member};
 use std::alloc::Global;
@@ -33,7 +35,7 @@ fn kind_is_stated(counters: &Names, counts: bool, kind: &Kind) -> bool
         Kind::Plain { of } => !(is_i32_primitive(*of) && counts),
         Kind::Counter => counts,
         Kind::Fixed { count, .. } => 1 <= *count && *count <= 100_000,
-        Kind::Counted { counter, .. } => counters.contains(counter.as_slice()),
+        Kind::Counted { counter, .. } => counters.has(counter.as_slice()),
         Kind::Text => true,
         Kind::Inline { class } => names_class(class.as_slice()),
         Kind::Pointer { class } => is_name(class.as_slice()),
@@ -45,7 +47,7 @@ fn kind_is_stated(counters: &Names, counts: bool, kind: &Kind) -> bool
 fn is_new(passed: &Names, name: &[u8]) -> bool
     ensures { result ≡ (is_name_text name.now && not (has_name passed.now name.now)) }
 {
-    is_name(name) && !passed.contains(name)
+    is_name(name) && !passed.has(name)
 }
 
 // A member behind those of these names, among them these counters, where these names count.
@@ -53,7 +55,7 @@ fn member_is_stated(passed: &Names, counters: &Names, counting: &Names, member: 
     ensures { result ≡ is_known_member (has_name passed.now) (has_name counters.now) (has_name counting.now) member.now }
 {
     let name = member.name.as_slice();
-    let kind = kind_is_stated(counters, counting.contains(name), &member.kind);
+    let kind = kind_is_stated(counters, counting.has(name), &member.kind);
     is_new(passed, name) && kind && member.title.is_empty()
 }
 
@@ -67,9 +69,9 @@ fn pass_member<'a>(
 {
     let name = member.name.as_slice();
     if is_counter_kind(&member.kind) {
-        put_name(counters, name)?;
+        counters.note(name)?;
     }
-    put_name(passed, name)
+    passed.note(name)
 }
 
 fn members_are_stated(alloc: Global, members: &[Member]) -> Result<bool, NoMemory>
@@ -102,7 +104,7 @@ fn bases_are_stated(alloc: Global, bases: &[Base]) -> Result<bool, NoMemory>
         if !base_is_stated(&passed, base) {
             return Ok(false);
         }
-        put_name(&mut passed, base.name.as_slice())?;
+        passed.note(base.name.as_slice())?;
     }
     Ok(true)
 }

@@ -14,10 +14,11 @@ use Rattle.rio_types.specs.declared.kind.Kind.{Kind}
 use Rattle.rio_types.specs.declared.kind.Kind.TheVariants.{Plain, Counter, Fixed, Counted, Text, Inline, Pointer, Other}
 use Rattle.rio_types.specs.declared.kind.Primitive.{Primitive}
 use Rattle.rio_types.specs.declared.kind.Primitive.TheVariants.{I8, I16, I32, I64, U8, U16, U32, U64, Bool as Boolean, F32, F64}
+use Rattle.rio_types.specs.Members.{is_counter}
 use Rattle.rio_format.specs.Descriptions.{is_element}
 use Rattle.rio_format.specs.Elements.{Element, base_of, bases_of, counters_behind, element_of, kind_of, member_of, members_of}
 use Rattle.rio_format.specs.Fits.{fits_signed}
-use Rattle.rio_model.specs.Stated.{are_stated_members, has_counter, is_counter, is_none, is_stated_kind, is_stated_member}
+use Rattle.rio_model.specs.Stated.{are_stated_members, has_counter, is_none, is_stated_kind, is_stated_member}
 use Rattle.rio_model.specs.ClassGrammar.{has_member, primitive_of}
 use Rattle.rio_describe.specs.WrittenElements.{counted_element, fixed_element, inline_element, kind_element, member_element, plain_element, pointer_element, primitive_code, reaches_object}
 use Rattle.rio_describe.specs.WrittenList.{element_object, pointers_from}

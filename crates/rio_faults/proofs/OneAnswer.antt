@@ -15,7 +15,7 @@ use Rattle.rio_faults.proofs.ToldObjects.{fault_is_broken}
 err_is : {A E : Type 0} (x y : E) → (let r : Result A E = Err x in r) ≡ Err y → x ≡ y
 err_is x y e = cc
 
-not_both : {A E : Type 0} (r : Result A E) (e : E) (x : A) → r ≡ Err e → r ≡ Ok x → ⊥
+pub not_both : {A E : Type 0} (r : Result A E) (e : E) (x : A) → r ≡ Err e → r ≡ Ok x → ⊥
 not_both (Ok y) e x a b = absurd cc
 not_both (Err d) e x a b = absurd cc
 

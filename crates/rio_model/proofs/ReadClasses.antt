@@ -12,10 +12,11 @@ use Rattle.rio_types.specs.declared.class.Member.{Member}
 use Rattle.rio_types.specs.declared.kind.Kind.{Kind}
 use Rattle.rio_types.specs.declared.kind.Kind.TheVariants.{Plain, Counter, Fixed, Counted, Text, Inline, Pointer, Other}
 use Rattle.rio_types.specs.declared.kind.Primitive.TheVariants.{I32}
+use Rattle.rio_types.specs.Members.{is_counter}
 use Rattle.rio_token.proofs.SeparatedLaws.{AllBack}
 use Rattle.rio_model.specs.ClassGrammar.{base, base_at, counting, counts_by, has_base, has_i32, has_member, is_counted_by, is_i32, is_i32_of, member, member_at, with_counters}
 use Rattle.rio_model.specs.ClassText.{base_text, kind_text, member_text}
-use Rattle.rio_model.specs.Stated.{are_stated_bases, are_stated_members, has_counter, is_counter, is_stated_base, is_stated_kind, is_stated_member}
+use Rattle.rio_model.specs.Stated.{are_stated_bases, are_stated_members, has_counter, is_stated_base, is_stated_kind, is_stated_member}
 use Rattle.rio_model.proofs.ReadKinds.{IsEnd, is_read_kind, not_true}
 use Rattle.rio_model.proofs.ReadMembers.{base_back, member_back}
 

@@ -9,18 +9,9 @@ use Rattle.rio_types.specs.declared.class.Member.{Member}
 use Rattle.rio_types.specs.declared.kind.Kind.{Kind}
 use Rattle.rio_types.specs.declared.kind.Kind.TheVariants.{Plain, Counter, Fixed, Counted, Text, Inline, Pointer, Other}
 use Rattle.rio_types.specs.declared.kind.Primitive.{Primitive}
+use Rattle.rio_types.specs.Members.{is_counter}
 use Rattle.rio_model.specs.ClassText.{text_of_class}
 use Rattle.rio_model.specs.ClassGrammar.{base, checksum_of, class_in, has_base, has_member, is_counted_by, is_i32_of, primitive_of}
-
-abbrev pub is_counter : Kind → Bool
-is_counter (Plain of) = false
-is_counter Counter = true
-is_counter (Fixed of count) = false
-is_counter (Counted of counter) = false
-is_counter Text = false
-is_counter (Inline class) = false
-is_counter (Pointer class) = false
-is_counter (Other code) = false
 
 -- whether one of the members is a counter of the name
 abbrev pub has_counter : List Member → List ℕ → Bool

@@ -1,5 +1,5 @@
-//! What the commands of a session mean, and what the program says: the rules of declarations, and the texts of values
-//! and of classes. Definitions that contracts cite, in `specs/`, laws about them, and the types that they speak of.
+//! The texts of values and of classes, printed and read, and which classes may be declared. Definitions that contracts
+//! cite, in `specs/`, laws about them, and the fault that a declaration is refused for.
 #![tactic(auto)]
 
 mod declare;

@@ -10,6 +10,7 @@ use Rattle.rio_format.specs.declared.fault.ObjFault.{ObjFault}
 use Rattle.rio_format.specs.declared.fault.ObjFault.TheVariants.{NoMemory}
 use Rattle.rio_faults.specs.ObjectFaults.{BreaksFirst, BreaksObject}
 use Rattle.rio_faults.proofs.AgainObjects.{broken_is_fault, object_fault}
+use Rattle.rio_faults.proofs.OneAnswer.{not_both}
 use Rattle.rio_faults.proofs.ToldObjects.{fault_is_broken, object_told}
 use Rattle.rio_format.proofs.AgainObjects.{object_again}
 use Rattle.rio_format.proofs.FoundObjects.{object_found}
@@ -20,10 +21,6 @@ use Rattle.rio_read.specs.Reading.{Answers, IsRead, IsSpelled}
 read_at : (read : Step Value) (v : Value) → only_value read ≡ Ok v → (s : ReaderState) × (read ≡ Ok (v, s))
 read_at (Ok x) v e = (x.1, ap (λ (w : Value). let r : Step Value = Ok (w, x.1) in r) (ok_is {E = ObjFault} x.0 v e))
 read_at (Err d) v e = absurd cc
-
-not_both : {A E : Type 0} (r : Result A E) (e : E) (x : A) → r ≡ Err e → r ≡ Ok x → ⊥
-not_both (Ok y) e x a b = absurd cc
-not_both (Err d) e x a b = absurd cc
 
 module _ (classes : List ClassDef) (class : List ℕ) (start : ℕ) (bytes : List ℕ) where
   pub is_found : (read : Result Value ObjFault) → AreBytes bytes → Answers read (value_at classes class start bytes) → IfOk read (λ v. (front : List ℕ) × (rest : List ℕ) × (bytes ≡ front ++ rest) × Spells classes start class v front)

@@ -5,6 +5,7 @@ mod judge;
 mod names;
 mod newest;
 mod reach;
+mod reached;
 mod registry;
 #[cfg(test)]
 mod tests;

@@ -3,52 +3,32 @@ ghost use Rattle.std.specs.Prelude.{◌≡◌, [], ◌∷◌, ◌++◌, ◌↔�
 ghost use Rattle.std.specs.List.{IsDistinct, list_any};
 ghost use Rattle.std.specs.Str.{bytes_eq};
 ghost use Rattle.rio_model.specs.Declaring.{Reaches, has_within, holds, is_inline};
-ghost use Rattle.rio_registry.specs.Reaching.{ComesTo, IsGrown, is_among};
+ghost use Rattle.rio_registry.specs.Reaching.{ComesTo, IsGrown};
 
-use rio_num::{Name, NoMemory, Words};
+use crate::reached::ReachedNames;
+use rio_num::NoMemory;
 use rio_types::{Base, ClassDef, Classes, Kind, Member};
 
-fn is_among(names: &Words, name: &[u8]) -> bool
-    ensures { result ≡ is_among names.now name.now }
-{
-    for other in names.as_slice() {
-        if name == other.as_slice() {
-            return true;
-        }
-    }
-    false
-}
-
-// Puts the name at the end, unless it is there.
-fn add_name(names: &mut Words, name: &[u8]) -> Result<(), NoMemory>
-    ensures { OnOk result (IsGrown names.old names.new (λ n. bytes_eq n name.now)) }
-{
-    if is_among(names, name) {
-        return Ok(());
-    }
-    names.push(Name::from_slice(names.allocator(), name)?)
-}
-
-fn add_bases(names: &mut Words, bases: &[Base]) -> Result<(), NoMemory>
+fn add_bases<'a>(names: &mut ReachedNames<'a>, bases: &'a [Base]) -> Result<(), NoMemory>
     ensures { OnOk result (IsGrown names.old names.new (λ n. list_any (λ b. bytes_eq n b.name) bases.now)) }
 {
     for base in bases {
-        add_name(names, base.name.as_slice())?;
+        names.add(base.name.as_slice())?;
     }
     Ok(())
 }
 
 // Puts the class of a member by value at the end, unless it is there.
-fn add_inline(names: &mut Words, kind: &Kind) -> Result<(), NoMemory>
+fn add_inline<'a>(names: &mut ReachedNames<'a>, kind: &'a Kind) -> Result<(), NoMemory>
     ensures { OnOk result (IsGrown names.old names.new (λ n. is_inline n kind.now)) }
 {
     match kind {
-        Kind::Inline { class } => add_name(names, class.as_slice()),
+        Kind::Inline { class } => names.add(class.as_slice()),
         _ => Ok(()),
     }
 }
 
-fn add_members(names: &mut Words, members: &[Member]) -> Result<(), NoMemory>
+fn add_members<'a>(names: &mut ReachedNames<'a>, members: &'a [Member]) -> Result<(), NoMemory>
     ensures { OnOk result (IsGrown names.old names.new (λ n. list_any (λ m. is_inline n m.kind) members.now)) }
 {
     for member in members {
@@ -58,7 +38,7 @@ fn add_members(names: &mut Words, members: &[Member]) -> Result<(), NoMemory>
 }
 
 // Puts the names that the class has within at the end, but for those that are there.
-fn add_within(names: &mut Words, class: &ClassDef) -> Result<(), NoMemory>
+fn add_within<'a>(names: &mut ReachedNames<'a>, class: &'a ClassDef) -> Result<(), NoMemory>
     ensures { OnOk result (IsGrown names.old names.new (has_within class.now)) }
 {
     add_bases(names, class.bases.as_slice())?;
@@ -66,7 +46,11 @@ fn add_within(names: &mut Words, class: &ClassDef) -> Result<(), NoMemory>
 }
 
 // Puts the names that the classes of this name hold at the end, but for those that are there.
-fn add_held(names: &mut Words, classes: &[ClassDef], outer: &[u8]) -> Result<(), NoMemory>
+fn add_held<'a>(
+    names: &mut ReachedNames<'a>,
+    classes: &'a [ClassDef],
+    outer: &[u8],
+) -> Result<(), NoMemory>
     ensures { OnOk result (IsGrown names.old names.new (holds classes.now outer.now)) }
 {
     for class in classes {
@@ -78,17 +62,20 @@ fn add_held(names: &mut Words, classes: &[ClassDef], outer: &[u8]) -> Result<(),
 }
 
 // Whether the last name is one of these, or one of these reaches it. Each name that is met is followed once.
-fn comes_to(mut names: Words, classes: &Classes, last: &[u8]) -> Result<bool, NoMemory>
+fn comes_to<'a>(
+    mut names: ReachedNames<'a>,
+    classes: &'a Classes,
+    last: &[u8],
+) -> Result<bool, NoMemory>
     requires { IsDistinct bytes_eq names }
-    ensures { IfOk result (λ b. IsTrue b ↔ ComesTo classes.now names last.now) }
+    ensures { IfOk result (λ b. IsTrue b ↔ ComesTo classes.now names.entry last.now) }
 {
     let mut index: usize = 0;
     while let Some(name) = names.get(index) {
-        if last == name.as_slice() {
+        if last == name {
             return Ok(true);
         }
-        let name = name.copy()?;
-        add_held(&mut names, classes.as_slice(), name.as_slice())?;
+        add_held(&mut names, classes.as_slice(), name)?;
         index += 1;
     }
     Ok(false)
@@ -99,7 +86,7 @@ pub(crate) fn holds_itself(classes: &Classes, class: &ClassDef) -> Result<bool, 
     ensures { IfOk result (λ b. IsTrue b ↔ Reaches (classes.now ++ class.now ∷ []) class.now.name class.now.name) }
 {
     let own = class.name.as_slice();
-    let mut names = Words::new(class.bases.allocator());
+    let mut names = ReachedNames::new(class.bases.allocator());
     add_within(&mut names, class)?;
     add_held(&mut names, classes.as_slice(), own)?;
     comes_to(names, classes, own)

@@ -33,6 +33,7 @@ impl Registry {
         }
     }
 
+    /// The declared classes, in order of declaration.
     pub fn classes(&self) -> &Classes
         ensures { result.now ≡ self.now }
     {
@@ -50,7 +51,8 @@ impl Registry {
     /// - TooMany: 4,096 classes are declared.
     ///
     /// Bases and members by value are followed once for each name that is reached, and each time all declared classes
-    /// are looked through for the name.
+    /// are looked through for the name. The names that are reached stand in a set: none is copied, and each name that
+    /// is met is looked up there once.
     pub fn declare(&mut self, class: ClassDef) -> Result<(), DeclareFault>
         ensures ok { OnOk result (IsDeclarable self.old class × (self.new ≡ self.old ++ declared self.old class ∷ [])) }
         ensures err { OnErr result (self.new ≡ self.old) }
@@ -61,6 +63,7 @@ impl Registry {
         self.classes.push(class)?;
         Ok(())
     }
+
     /// Takes the last class out. This takes no memory.
     pub fn forget_last(&mut self)
         requires { 0 < length self.old }

@@ -1,7 +1,19 @@
-use Rattle.std.proofs.Common.{rules, ◌≡◌, ◌+◌, ◌<◌, ◌++◌, ◌∷◌, [], true, false, length, drop, sym, ◌∙◌}
+use Rattle.std.proofs.Common.{rules, ◌≡◌, ◌+◌, ◌<◌, ◌++◌, ◌∷◌, [], true, false, length, drop, refl, sym, ap, ◌∙◌}
+use Rattle.std.specs.List.{list_any}
+use Rattle.std.specs.Str.{bytes_eq}
 use Rattle.rio_model.specs.Stated.{are_stated_members, is_stated_member}
+use Rattle.rio_model.proofs.ReadClasses.{known_none}
 use Rattle.rio_decl.proofs.KnownLaws.{known_stated, not_stated, parts_here, parts_more, same_member, stated_more}
 use Rattle.rio_decl.proofs.stated.members_are_stated.Goals as goal
+
+pub loop-member-init : goal.loop-member-init
+loop-member-init c = (
+  [],
+  known_none,
+  record { all = λ name. ap (list_any (bytes_eq name)) c.new-passed.ensures; count = λ name. ap (list_any (bytes_eq name)) c.new-counters.ensures },
+  refl,
+  refl,
+)
 
 pub returns-then-not-member_is_stated : goal.returns-then-not-member_is_stated
 returns-then-not-member_is_stated c =
