@@ -74,6 +74,7 @@ impl<'a> ObjReader<'a> {
         self.cursor.left()
     }
 
+    /// The next byte.
     pub fn take_u8(&mut self) -> Result<u8, ObjFault>
         ensures exact { Takes (λ x. x) result (word_at 1 self.old) self.old self.new }
         ensures goes { GoesOn self.old.at self.new.at }
@@ -81,6 +82,7 @@ impl<'a> ObjReader<'a> {
         Ok(self.cursor.take_u8()?)
     }
 
+    /// The number in the next two bytes, in big-endian order.
     pub fn take_u16(&mut self) -> Result<u16, ObjFault>
         ensures exact { Takes (λ x. x) result (word_at 2 self.old) self.old self.new }
         ensures goes { GoesOn self.old.at self.new.at }
@@ -88,6 +90,7 @@ impl<'a> ObjReader<'a> {
         Ok(self.cursor.take_u16()?)
     }
 
+    /// The number in the next four bytes, in big-endian order.
     pub fn take_u32(&mut self) -> Result<u32, ObjFault>
         ensures exact { Takes (λ x. x) result (word_at 4 self.old) self.old self.new }
         ensures goes { GoesOn self.old.at self.new.at }
@@ -95,6 +98,7 @@ impl<'a> ObjReader<'a> {
         Ok(self.cursor.take_u32()?)
     }
 
+    /// The number in the next eight bytes, in big-endian order.
     pub fn take_u64(&mut self) -> Result<u64, ObjFault>
         ensures exact { Takes (λ x. x) result (word_at 8 self.old) self.old self.new }
         ensures goes { GoesOn self.old.at self.new.at }

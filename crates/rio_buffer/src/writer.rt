@@ -1,9 +1,10 @@
-ghost use Rattle.std.specs.Prelude.{◌≡◌, ◌≤◌, ◌-◌, ◌^◌, ◌<◌, [], ◌∷◌, ◌++◌, length, nat_eq, All, None, IfOk};
+ghost use Rattle.std.specs.Prelude.{◌≡◌, ◌≤◌, ◌+◌, ◌-◌, ◌^◌, ◌<◌, [], ◌∷◌, ◌++◌, length, max, nat_eq, All, None, OnOk, OnErr};
 ghost use Rattle.indexmap.specs.IndexMap.{insert_entry, spare};
 ghost use Rattle.indexmap.specs.IndexSet.{insert_key, spare as spare_keys};
 ghost use Rattle.std.specs.List.{find};
 ghost use Rattle.std.specs.Option.{option_map};
 ghost use Rattle.std.specs.Str.{bytes_eq};
+ghost use Rattle.std.specs.VecDeque.{deque_capacity, deque_len};
 ghost use Rattle.rio_num.specs.Room.{with_more};
 ghost use Rattle.rio_buffer.specs.Writer.{Opens, spelled};
 ghost use Rattle.byteorder.specs.Endian.{big_bytes};
@@ -81,28 +82,39 @@ impl ObjWriter {
         }
     }
 
+    /// Puts a byte at the end.
     pub fn put_u8(&mut self, v: u8) -> Result<(), NoMemory>
         ensures { Puts (big_bytes 1 v) result self.old self.new }
     {
         self.bytes.put_u8(v)
     }
 
+    /// Puts a number at the end, in big-endian order.
     pub fn put_u16(&mut self, v: u16) -> Result<(), NoMemory>
         ensures { Puts (big_bytes 2 v) result self.old self.new }
     {
         self.bytes.put_u16(v)
     }
 
+    /// Puts a number at the end, in big-endian order.
     pub fn put_u32(&mut self, v: u32) -> Result<(), NoMemory>
         ensures { Puts (big_bytes 4 v) result self.old self.new }
     {
         self.bytes.put_u32(v)
     }
 
+    /// Puts a number at the end, in big-endian order.
     pub fn put_u64(&mut self, v: u64) -> Result<(), NoMemory>
         ensures { Puts (big_bytes 8 v) result self.old self.new }
     {
         self.bytes.put_u64(v)
+    }
+
+    /// Puts these bytes at the end.
+    pub fn put_bytes(&mut self, more: &[u8]) -> Result<(), NoMemory>
+        ensures { Puts more.now result self.old self.new }
+    {
+        self.bytes.put(more)
     }
 
     /// Puts a text at the end: its length, and its bytes.
@@ -161,8 +173,7 @@ impl ObjWriter {
         let name = Vec::from_slice(self.alloc, class)?;
         self.labels.reserve(1)?;
         self.names.reserve(1)?;
-        let word = spelled_word(self.alloc, class)?;
-        let begun = open_count(&mut self.bytes, &mut self.opened, word.as_slice())?;
+        let begun = open_spelled(&mut self.bytes, &mut self.opened, class)?;
         keep_name(&mut self.names, name, place + 4);
         keep_label(&mut self.labels, place);
         Ok(begun)
@@ -226,13 +237,55 @@ fn open_count(
 ) -> Result<Open, NoMemory>
     ensures { Opens more.now result bytes.old bytes.new opened.old.items opened.new.items }
 {
-    let place = bytes.len();
-    opened.reserve(1)?;
-    bytes.reserve(more.len() as u64 + 4)?;
-    put_reserved(bytes, &[0; 4]);
+    reserve_count(bytes, opened, more.len() as u64)?;
+    let begun = put_count(bytes, opened);
     put_reserved(bytes, more);
+    Ok(begun)
+}
+
+// Puts a count word at the end, which is open, and the class word that spells out the class.
+fn open_spelled(
+    bytes: &mut Bytes,
+    opened: &mut VecDeque<usize>,
+    class: &[u8],
+) -> Result<Open, NoMemory>
+    ensures { Opens (big_bytes 4 (2 ^ 32 - 1) ++ (class.now ++ 0 ∷ [])) result bytes.old bytes.new opened.old.items opened.new.items }
+{
+    reserve_count(bytes, opened, class.len() as u64 + 5)?;
+    let begun = put_count(bytes, opened);
+    put_reserved(bytes, &u32::MAX.to_be_bytes());
+    put_reserved(bytes, class);
+    put_reserved(bytes, &[0]);
+    Ok(begun)
+}
+
+// Makes room for a count word and so many bytes behind it.
+fn reserve_count(
+    bytes: &mut Bytes,
+    opened: &mut VecDeque<usize>,
+    behind: u64,
+) -> Result<(), NoMemory>
+    requires { behind + 4 < 2 ^ 64 }
+    ensures same { opened.new.items ≡ opened.old.items }
+    ensures ok { OnOk result ((bytes.new ≡ record bytes.old { spare = max bytes.old.spare (behind + 4) }) × (deque_len opened.new < deque_capacity opened.new)) }
+    ensures err { OnErr result (bytes.new ≡ bytes.old) }
+{
+    opened.reserve(1)?;
+    bytes.reserve(behind + 4)
+}
+
+// Puts a count word at the end, which is open, where there is room.
+fn put_count(bytes: &mut Bytes, opened: &mut VecDeque<usize>) -> Open
+    requires spare { 4 ≤ bytes.old.spare }
+    requires room { deque_len opened.old < deque_capacity opened.old }
+    ensures place { result ≡ length bytes.old.bytes }
+    ensures word { bytes.new ≡ with_more bytes.old (big_bytes 4 0) }
+    ensures opened { opened.new.items ≡ length bytes.old.bytes ∷ opened.old.items }
+{
+    let place = bytes.len();
+    put_reserved(bytes, &[0; 4]);
     opened.push_front(place).unwrap();
-    Ok(Open { place })
+    Open { place }
 }
 
 // Puts these bytes at the end, which are spare.
@@ -259,16 +312,4 @@ fn keep_name(names: &mut IndexMap<Vec<u8>, u64>, name: Vec<u8>, place: u64)
     ensures { spelled names.new ≡ insert_entry nat_eq (spelled names.old) place name.items }
 {
     names.insert(name, place).unwrap();
-}
-
-// The class word that spells out the class.
-fn spelled_word(alloc: Global, class: &[u8]) -> Result<Bytes, NoMemory>
-    ensures { IfOk result (λ word. word.bytes ≡ big_bytes 4 (2 ^ 32 - 1) ++ (class.now ++ 0 ∷ [])) }
-{
-    let mut word = Bytes::new(alloc);
-    word.reserve(class.len() as u64 + 5)?;
-    word.put_u32(u32::MAX)?;
-    word.put(class)?;
-    word.push(0)?;
-    Ok(word)
 }

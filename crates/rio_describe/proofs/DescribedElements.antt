@@ -8,7 +8,7 @@ use Rattle.rio_format.specs.Elements.{Element, element_of, element_parts as part
 use Rattle.rio_format.specs.Fits.{fits_signed}
 use Rattle.rio_format.specs.ValueParts.{base_parts, part_of, signed_in, text_in}
 use Rattle.rio_describe.specs.WrittenList.{element_object, element_parts, named_object, plain_object}
-use Rattle.rio_describe.specs.declared.element.Element.{Element as Written}
+use Rattle.rio_describe.specs.WrittenElements.{WrittenElement as Written}
 use Rattle.rio_describe.proofs.DescribedValues.{element_back, object_back, pointer_back, signed_back, text_back}
 
 abbrev pub said : Written → Element

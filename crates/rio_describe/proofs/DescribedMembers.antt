@@ -22,7 +22,7 @@ use Rattle.rio_model.specs.Stated.{are_stated_members, has_counter, is_none, is_
 use Rattle.rio_model.specs.ClassGrammar.{has_member, primitive_of}
 use Rattle.rio_describe.specs.WrittenElements.{counted_element, fixed_element, inline_element, kind_element, member_element, plain_element, pointer_element, primitive_code, reaches_object}
 use Rattle.rio_describe.specs.WrittenList.{element_object, pointers_from}
-use Rattle.rio_describe.specs.declared.element.Element.{Element as Written}
+use Rattle.rio_describe.specs.WrittenElements.{WrittenElement as Written}
 use Rattle.rio_describe.proofs.DescribedElements.{element_said, said}
 use Rattle.rio_describe.proofs.DescribedKinds.{counted_kind_back, counter_kind, fixed_kind_back, inline_kind, plain_kind, pointer_kind, text_kind}
 

@@ -15,7 +15,7 @@ use Rattle.rio_format.proofs.ValueCases.{Each, fold_Int, fold_Text, fold_List, f
 use Rattle.rio_describe.specs.ListLaws.{WrittenListIsShallow, WrittenListHasVersions}
 use Rattle.rio_describe.specs.WrittenElements.{base_element, inline_element, kind_element, member_element, pointer_element, reaches_object, written_elements}
 use Rattle.rio_describe.specs.WrittenList.{array_object, class_links, class_list_value, class_pointer, element_object, element_parts, info_object, label_count, list_object, named_object, plain_object, pointers_from}
-use Rattle.rio_describe.specs.declared.element.Element.{Element}
+use Rattle.rio_describe.specs.WrittenElements.{WrittenElement}
 
 -- it is at most so deep, and the versions of its objects can be written
 abbrev IsWithin : ℕ → Value → Type 0
@@ -94,7 +94,7 @@ named_within : (name : List ℕ) → IsWithin 2 (named_object name)
 unfolding named_object
 named_within name = object_within 1 (codes "TNamed") (pos 1) _ refl (plain_within, (text_within 1 name, (text_within 1 [], tt)))
 
-element_within : (e : Element) → AreWithin 3 (element_parts e)
+element_within : (e : WrittenElement) → AreWithin 3 (element_parts e)
 unfolding element_parts
 element_within e =
     let zero_within = int_within 3 (pos 0) in
@@ -119,10 +119,10 @@ element_within e =
     )
 
 -- its version can be written, and what it adds isn't deep
-abbrev IsShallow : Element → Type 0
+abbrev IsShallow : WrittenElement → Type 0
 IsShallow e = (is_version e.version ≡ true) × AreWithin 4 e.added
 
-element_object_within : (e : Element) → IsShallow e → IsWithin 5 (element_object e)
+element_object_within : (e : WrittenElement) → IsShallow e → IsWithin 5 (element_object e)
 unfolding element_object
 element_object_within e shallow =
     object_within 4 e.class e.version _ shallow.0 (object_within 3 (codes "TStreamerElement") (pos 4) (element_parts e) refl (element_within e), shallow.1)
@@ -150,7 +150,7 @@ kind_is_shallow classes owner name (Other code) = (refl, tt)
 
 -- ---- classes
 
-bases_shallow : (bases : List Base) (rest : List Element) → Each IsShallow rest → Each IsShallow (map base_element bases ++ rest)
+bases_shallow : (bases : List Base) (rest : List WrittenElement) → Each IsShallow rest → Each IsShallow (map base_element bases ++ rest)
 bases_shallow [] rest each = each
 bases_shallow (b ∷ bs) rest each = (base_is_shallow b, bases_shallow bs rest each)
 
@@ -158,7 +158,7 @@ members_shallow : (classes : List ClassDef) (owner : ClassDef) (members : List M
 members_shallow classes owner [] = tt
 members_shallow classes owner (m ∷ ms) = (kind_is_shallow classes owner m.name m.kind, members_shallow classes owner ms)
 
-pointers_within : (label : ℕ) (es : List Element) → Each IsShallow es → Each (IsWithin 5) (pointers_from label (map element_object es))
+pointers_within : (label : ℕ) (es : List WrittenElement) → Each IsShallow es → Each (IsWithin 5) (pointers_from label (map element_object es))
 unfolding pointers_from
 pointers_within label [] each = tt
 pointers_within label (e ∷ es) each = (pointed_within 5 label (element_object e) (element_object_within e each.0), pointers_within (label + 1) es each.1)

@@ -23,21 +23,21 @@ use Rattle.rio_describe.specs.Laws.{is_base_number}
 use Rattle.rio_describe.specs.ListLaws.{kind_has_numbers, member_has_numbers}
 use Rattle.rio_describe.specs.WrittenElements.{base_element, counted_element, inline_element, kind_element, member_element, pointer_element, primitive_code, reaches_object}
 use Rattle.rio_describe.specs.WrittenList.{element_object, element_parts, pointers_from}
-use Rattle.rio_describe.specs.declared.element.Element.{Element}
+use Rattle.rio_describe.specs.WrittenElements.{WrittenElement}
 use Rattle.rio_describe.proofs.ListParts.{FitsIn, fitting, index_list_fits, int_fits, named_fits, pointer_fits, text_fits}
 
 -- its numbers are i32
-record HasWords (e : Element) : Type 0 where
+record HasWords (e : WrittenElement) : Type 0 where
   code : fits_signed 32 e.code ≡ true
   size : fits_signed 32 (pos e.size) ≡ true
   count : fits_signed 32 (pos e.count) ≡ true
   dimensions : fits_signed 32 (pos e.dimensions) ≡ true
 
 -- what all elements say
-abbrev common : Element → Value
+abbrev common : WrittenElement → Value
 common e = Object (codes "TStreamerElement") (pos 4) (element_parts e)
 
-common_fits : (e : Element) (labels : Labels) → HasWords e → FitsIn (based (codes "TStreamerElement") (pos 4)) (common e) labels labels
+common_fits : (e : WrittenElement) (labels : Labels) → HasWords e → FitsIn (based (codes "TStreamerElement") (pos 4)) (common e) labels labels
 unfolding element_parts description_classes
 common_fits e labels h =
     rw (
@@ -54,20 +54,20 @@ common_fits e labels h =
 -- ---- pointers to elements
 
 -- the label of the element's object
-abbrev pub own_label : Element → List ℕ × ℤ
+abbrev pub own_label : WrittenElement → List ℕ × ℤ
 own_label e = (e.class, e.version)
 
 -- a new pointer to it fits
-abbrev pub ElementFits : Element → Type 0
+abbrev pub ElementFits : WrittenElement → Type 0
 ElementFits e = (label : ℕ) (labels : Labels) → label ≡ length labels → FitsIn any_pointer (Pointed label (element_object e)) labels (labels ++ own_label e ∷ [])
 
 -- it may be pointed to, and its object has the parts of its class
-record IsDescribed (e : Element) : Type 0 where
+record IsDescribed (e : WrittenElement) : Type 0 where
   may : may_point description_classes (own_label e) any_pointer ≡ true
   inside : (labels : Labels) → FitsIn (based (codes "TStreamerElement") (pos 4)) (common e) labels labels
       → (object_fitting description_classes e.class e.version (part [] (common e) ∷ e.added)).fits (kinded (Inline e.class)) labels ≡ Some labels
 
-element_fits : (e : Element) → HasWords e → IsDescribed e → ElementFits e
+element_fits : (e : WrittenElement) → HasWords e → IsDescribed e → ElementFits e
 unfolding element_object
 element_fits e words described label labels next =
     let own : Labels = labels ++ own_label e ∷ [] in
@@ -170,7 +170,7 @@ kind_fits classes owner name (Other code) v e =
 
 -- ---- all elements of a class
 
-pub bases_fit : (bases : List Base) (rest : List Element) → list_all is_base_number bases ≡ true → Each ElementFits rest → Each ElementFits (map base_element bases ++ rest)
+pub bases_fit : (bases : List Base) (rest : List WrittenElement) → list_all is_base_number bases ≡ true → Each ElementFits rest → Each ElementFits (map base_element bases ++ rest)
 bases_fit [] rest e each = each
 bases_fit (b ∷ bs) rest e each = let h = both_true (is_base_number b) (list_all is_base_number bs) e in (base_fits b h.0, bases_fit bs rest h.1 each)
 
@@ -181,7 +181,7 @@ members_fit classes owner (m ∷ ms) v e =
     (kind_fits classes owner m.name m.kind v h.0, members_fit classes owner ms v h.1)
 
 -- pointers to elements fit one behind the other
-pub pointers_fit : (es : List Element) → Each ElementFits es → (label : ℕ) (labels : Labels) → label ≡ length labels
+pub pointers_fit : (es : List WrittenElement) → Each ElementFits es → (label : ℕ) (labels : Labels) → label ≡ length labels
     → all_fit any_pointer (map fitting (pointers_from label (map element_object es))) labels ≡ Some (labels ++ map own_label es)
 unfolding pointers_from
 pointers_fit [] each label labels next = ap (λ (l : Labels). Some l) (sym (append-nil labels))

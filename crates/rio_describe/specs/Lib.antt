@@ -1,3 +1,4 @@
+pub mod ElementViews
 pub mod Laws
 pub mod ListLaws
 pub mod TreeClasses

@@ -4,8 +4,7 @@ use Rattle.rio_types.specs.declared.class.ClassDef.{ClassDef}
 use Rattle.rio_value.specs.declared.value.Part.{Part}
 use Rattle.rio_value.specs.declared.value.Value.{Value, Int, Text, List as Items, Object, Pointed}
 use Rattle.rio_format.specs.Bodies.{part}
-use Rattle.rio_describe.specs.WrittenElements.{written_elements}
-use Rattle.rio_describe.specs.declared.element.Element.{Element}
+use Rattle.rio_describe.specs.WrittenElements.{WrittenElement, written_elements}
 
 -- ---- the bases that all of them have
 
@@ -27,13 +26,13 @@ abbrev pub index_list : ℕ → Value
 index_list count = Items (Int (pos count) ∷ Int (pos 0) ∷ Int (pos 0) ∷ Int (pos 0) ∷ Int (pos 0) ∷ [])
 
 -- what an element says as a TStreamerElement
-unfoldable pub element_parts : Element → List Part
+unfoldable pub element_parts : WrittenElement → List Part
 element_parts e =
     part [] (named_object e.name) ∷ part (codes "fType") (Int e.code) ∷ number_part (codes "fSize") e.size ∷ number_part (codes "fArrayLength") e.count
     ∷ number_part (codes "fArrayDim") e.dimensions ∷ part (codes "fMaxIndex") (index_list e.count) ∷ part (codes "fTypeName") (Text e.type_name) ∷ []
 
 -- an object of the element's own class, with what that class adds
-unfoldable pub element_object : Element → Value
+unfoldable pub element_object : WrittenElement → Value
 element_object e = Object e.class e.version (part [] (Object (codes "TStreamerElement") (pos 4) (element_parts e)) ∷ e.added)
 
 -- pointers to objects that have the labels from this one on

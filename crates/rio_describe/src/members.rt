@@ -1,15 +1,17 @@
 //! Elements of the bases and members of a class.
 ghost use Rattle.std.specs.Prelude.{◌≡◌, IfOk};
+ghost use Rattle.rio_layout.specs.Lists.{listed};
+ghost use Rattle.rio_describe.specs.ElementViews.{element_as};
 ghost use Rattle.rio_describe.specs.WrittenElements.{base_code, base_element, inline_element, kind_element, member_element, pointer_element, text_element};
 
-use crate::element::Element;
+use crate::element::{Element, ElementClass, TypeName};
 use crate::numbers::{
-    basic_element, counted_element, counter_element, element, fixed_element, plain_element, starred,
+    basic_element, counted_element, counter_element, fixed_element, plain_element,
 };
 use crate::reach::reaches_object;
-use rio_num::{Name, NoMemory};
-use rio_types::{Base, ClassDef, Classes, Kind, Member};
-use rio_value::{Part, Value};
+use rio_layout::ClassLists;
+use rio_num::NoMemory;
+use rio_types::{Base, ClassDef, Kind, Member};
 use std::alloc::Global;
 
 // ---- bases
@@ -26,105 +28,113 @@ fn base_code(class: &[u8]) -> u8
     }
 }
 
-pub(crate) fn base_element(alloc: Global, base: &Base) -> Result<Element, NoMemory>
-    ensures { IfOk result (λ e. e ≡ base_element base.now) }
+/// What is written for a base of a class.
+pub fn base_element<'a>(base: &'a Base) -> Element<'a>
+    ensures { element_as result ≡ base_element base.now }
 {
-    let code = i32::from(base_code(base.name.as_slice()));
-    let type_name = Name::from_slice(alloc, b"BASE")?;
-    let mut element = element(alloc, b"TStreamerBase", 3, &base.name, code, 0, type_name)?;
-    element.added.push(Part {
-        name: Name::from_slice(alloc, b"fBaseVersion")?,
-        value: Value::Int(i128::from(base.version)),
-    })?;
-    Ok(element)
+    let name = base.name.as_slice();
+    Element {
+        class: ElementClass::Base {
+            version: base.version,
+        },
+        name,
+        code: i32::from(base_code(name)),
+        size: 0,
+        array: None,
+        type_name: TypeName::Value(b"BASE"),
+    }
 }
 
 // ---- members
 
-fn text_element(alloc: Global, name: &Name) -> Result<Element, NoMemory>
-    ensures { IfOk result (λ e. e ≡ text_element name.now) }
+fn text_element<'a>(name: &'a [u8]) -> Element<'a>
+    ensures { element_as result ≡ text_element name.now }
 {
-    let type_name = Name::from_slice(alloc, b"TString")?;
-    element(alloc, b"TStreamerString", 2, name, 65, 0, type_name)
+    Element {
+        class: ElementClass::Text,
+        name,
+        code: 65,
+        size: 0,
+        array: None,
+        type_name: TypeName::Value(b"TString"),
+    }
 }
 
 // An object within the object, by whether it reaches TObject.
-fn inline_element(
-    alloc: Global,
-    reaches: bool,
-    name: &Name,
-    class: &Name,
-) -> Result<Element, NoMemory>
-    ensures { IfOk result (λ e. e ≡ inline_element reaches name.now class.now) }
+fn inline_element<'a>(reaches: bool, name: &'a [u8], class: &'a [u8]) -> Element<'a>
+    ensures { element_as result ≡ inline_element reaches name.now class.now }
 {
-    let type_name = class.copy()?;
-    if reaches {
-        element(alloc, b"TStreamerObject", 2, name, 61, 0, type_name)
+    let (own, code) = if reaches {
+        (ElementClass::Object, 61)
     } else {
-        element(alloc, b"TStreamerObjectAny", 2, name, 62, 0, type_name)
+        (ElementClass::ObjectAny, 62)
+    };
+    Element {
+        class: own,
+        name,
+        code,
+        size: 0,
+        array: None,
+        type_name: TypeName::Value(class),
     }
 }
 
 // A pointer, by whether its class reaches TObject.
-fn pointer_element(
-    alloc: Global,
-    reaches: bool,
-    name: &Name,
-    class: &Name,
-) -> Result<Element, NoMemory>
-    ensures { IfOk result (λ e. e ≡ pointer_element reaches name.now class.now) }
+fn pointer_element<'a>(reaches: bool, name: &'a [u8], class: &'a [u8]) -> Element<'a>
+    ensures { element_as result ≡ pointer_element reaches name.now class.now }
 {
-    let type_name = starred(alloc, class.as_slice())?;
-    if reaches {
-        element(alloc, b"TStreamerObjectPointer", 2, name, 64, 0, type_name)
+    let (own, code) = if reaches {
+        (ElementClass::ObjectPointer, 64)
     } else {
-        element(
-            alloc,
-            b"TStreamerObjectAnyPointer",
-            1,
-            name,
-            69,
-            0,
-            type_name,
-        )
+        (ElementClass::ObjectAnyPointer, 69)
+    };
+    Element {
+        class: own,
+        name,
+        code,
+        size: 0,
+        array: None,
+        type_name: TypeName::Pointer(class),
     }
 }
 
 // A member of the class, among these classes.
-fn kind_element(
+fn kind_element<'a>(
     alloc: Global,
-    classes: &Classes,
-    owner: &ClassDef,
-    name: &Name,
-    kind: &Kind,
-) -> Result<Element, NoMemory>
-    ensures { IfOk result (λ e. e ≡ kind_element classes.now owner.now name.now kind.now) }
+    classes: &ClassLists<'a>,
+    owner: &'a ClassDef,
+    name: &'a [u8],
+    kind: &'a Kind,
+) -> Result<Element<'a>, NoMemory>
+    ensures { IfOk result (λ e. element_as e ≡ kind_element (listed classes.now) owner.now name.now kind.now) }
 {
-    match kind {
-        Kind::Plain { of } => plain_element(alloc, name, *of),
-        Kind::Counter => counter_element(alloc, name),
-        Kind::Fixed { of, count } => fixed_element(alloc, name, *of, *count),
-        Kind::Counted { of, counter } => counted_element(alloc, owner, name, *of, counter),
-        Kind::Text => text_element(alloc, name),
+    Ok(match kind {
+        Kind::Plain { of } => plain_element(name, *of),
+        Kind::Counter => counter_element(name),
+        Kind::Fixed { of, count } => fixed_element(name, *of, *count),
+        Kind::Counted { of, counter } => counted_element(owner, name, *of, counter.as_slice()),
+        Kind::Text => text_element(name),
         Kind::Inline { class } => {
-            let reaches = reaches_object(alloc, classes, class.as_slice())?;
-            inline_element(alloc, reaches, name, class)
+            let class = class.as_slice();
+            inline_element(reaches_object(alloc, classes, class)?, name, class)
         }
         Kind::Pointer { class } => {
-            let reaches = reaches_object(alloc, classes, class.as_slice())?;
-            pointer_element(alloc, reaches, name, class)
+            let class = class.as_slice();
+            pointer_element(reaches_object(alloc, classes, class)?, name, class)
         }
-        Kind::Other { code } => basic_element(alloc, name, *code, 0, b""),
-    }
+        Kind::Other { code } => basic_element(name, *code, 0, b""),
+    })
 }
 
-pub(crate) fn member_element(
+/// What is written for a member of the class `owner`. Whether an object or a pointer is one of TObject, or of a class
+/// that has it among its bases, is looked up in the classes that are given.
+pub fn member_element<'a>(
     alloc: Global,
-    classes: &Classes,
-    owner: &ClassDef,
-    member: &Member,
-) -> Result<Element, NoMemory>
-    ensures { IfOk result (λ e. e ≡ member_element classes.now owner.now member.now) }
+    classes: &ClassLists<'a>,
+    owner: &'a ClassDef,
+    member: &'a Member,
+) -> Result<Element<'a>, NoMemory>
+    ensures { IfOk result (λ e. element_as e ≡ member_element (listed classes.now) owner.now member.now) }
 {
-    kind_element(alloc, classes, owner, &member.name, &member.kind)
+    kind_element(alloc, classes, owner, member.name.as_slice(), &member.kind)
 }

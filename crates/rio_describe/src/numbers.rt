@@ -1,48 +1,12 @@
 //! Elements of numbers, single ones and arrays of them.
-ghost use Rattle.std.specs.Prelude.{◌≡◌, ◌*◌, IfOk};
+ghost use Rattle.std.specs.Prelude.{◌≡◌, ◌*◌};
 ghost use Rattle.rio_format.specs.Prims.{width_of};
-ghost use Rattle.rio_describe.specs.WrittenElements.{basic_element, count_parts, counted_element, counter_element, element, fixed_element, plain_element, primitive_code, primitive_name, starred};
+ghost use Rattle.rio_describe.specs.ElementViews.{element_as};
+ghost use Rattle.rio_describe.specs.WrittenElements.{basic_element, counted_element, counter_element, fixed_element, plain_element, primitive_code, primitive_name};
 
-use crate::element::Element;
+use crate::element::{Element, ElementClass, TypeName};
 use rio_layout::width_of;
-use rio_num::{Name, NoMemory};
 use rio_types::{ClassDef, Prim};
-use rio_value::{Part, Parts, Value};
-use std::alloc::Global;
-
-/// An element of this class and version that is no array and says nothing else.
-pub(crate) fn element(
-    alloc: Global,
-    class: &[u8],
-    version: i32,
-    name: &Name,
-    code: i32,
-    size: u64,
-    type_name: Name,
-) -> Result<Element, NoMemory>
-    ensures { IfOk result (λ e. e ≡ element class.now version name.now code size type_name) }
-{
-    Ok(Element {
-        class: Name::from_slice(alloc, class)?,
-        version,
-        name: name.copy()?,
-        code,
-        size,
-        count: 0,
-        dimensions: 0,
-        type_name,
-        added: Parts::new(alloc),
-    })
-}
-
-/// The name of a pointer's type.
-pub(crate) fn starred(alloc: Global, name: &[u8]) -> Result<Name, NoMemory>
-    ensures { IfOk result (λ n. n ≡ starred name.now) }
-{
-    let mut type_name = Name::from_slice(alloc, name)?;
-    type_name.push(b'*')?;
-    Ok(type_name)
-}
 
 // The code of single values.
 fn primitive_code(of: Prim) -> u8
@@ -82,30 +46,35 @@ fn primitive_name(of: Prim) -> &'static [u8]
 }
 
 /// An element with a type of C++ itself.
-pub(crate) fn basic_element(
-    alloc: Global,
-    name: &Name,
+pub(crate) fn basic_element<'a>(
+    name: &'a [u8],
     code: i32,
     size: u64,
-    type_name: &[u8],
-) -> Result<Element, NoMemory>
-    ensures { IfOk result (λ e. e ≡ basic_element name.now code size type_name.now) }
+    type_name: &'static [u8],
+) -> Element<'a>
+    ensures { element_as result ≡ basic_element name.now code size type_name.now }
 {
-    let type_name = Name::from_slice(alloc, type_name)?;
-    element(alloc, b"TStreamerBasicType", 2, name, code, size, type_name)
+    Element {
+        class: ElementClass::BasicType,
+        name,
+        code,
+        size,
+        array: None,
+        type_name: TypeName::Value(type_name),
+    }
 }
 
-pub(crate) fn plain_element(alloc: Global, name: &Name, of: Prim) -> Result<Element, NoMemory>
-    ensures { IfOk result (λ e. e ≡ plain_element name.now of) }
+pub(crate) fn plain_element<'a>(name: &'a [u8], of: Prim) -> Element<'a>
+    ensures { element_as result ≡ plain_element name.now of }
 {
     let code = i32::from(primitive_code(of));
-    basic_element(alloc, name, code, width_of(of), primitive_name(of))
+    basic_element(name, code, width_of(of), primitive_name(of))
 }
 
-pub(crate) fn counter_element(alloc: Global, name: &Name) -> Result<Element, NoMemory>
-    ensures { IfOk result (λ e. e ≡ counter_element name.now) }
+pub(crate) fn counter_element<'a>(name: &'a [u8]) -> Element<'a>
+    ensures { element_as result ≡ counter_element name.now }
 {
-    basic_element(alloc, name, 6, 4, b"int")
+    basic_element(name, 6, 4, b"int")
 }
 
 // How many bytes so many values have.
@@ -116,56 +85,34 @@ fn fixed_size(of: Prim, count: u32) -> u64
 }
 
 /// An array of so many values.
-pub(crate) fn fixed_element(
-    alloc: Global,
-    name: &Name,
-    of: Prim,
-    count: u32,
-) -> Result<Element, NoMemory>
-    ensures { IfOk result (λ e. e ≡ fixed_element name.now of count) }
+pub(crate) fn fixed_element<'a>(name: &'a [u8], of: Prim, count: u32) -> Element<'a>
+    ensures { element_as result ≡ fixed_element name.now of count }
 {
-    let code = i32::from(primitive_code(of)) + 20;
-    let size = fixed_size(of, count);
-    let mut element = basic_element(alloc, name, code, size, primitive_name(of))?;
-    element.count = count;
-    element.dimensions = 1;
-    Ok(element)
-}
-
-// Which member of which class counts the values.
-fn count_parts(alloc: Global, owner: &ClassDef, counter: &Name) -> Result<Parts, NoMemory>
-    ensures { IfOk result (λ parts. parts ≡ count_parts owner.now counter.now) }
-{
-    let mut parts = Parts::new(alloc);
-    parts.push(Part {
-        name: Name::from_slice(alloc, b"fCountVersion")?,
-        value: Value::Int(i128::from(owner.version)),
-    })?;
-    parts.push(Part {
-        name: Name::from_slice(alloc, b"fCountName")?,
-        value: Value::Text(counter.copy()?),
-    })?;
-    parts.push(Part {
-        name: Name::from_slice(alloc, b"fCountClass")?,
-        value: Value::Text(owner.name.copy()?),
-    })?;
-    Ok(parts)
+    Element {
+        class: ElementClass::BasicType,
+        name,
+        code: i32::from(primitive_code(of)) + 20,
+        size: fixed_size(of, count),
+        array: Some(count),
+        type_name: TypeName::Value(primitive_name(of)),
+    }
 }
 
 /// An array of the class that another member counts.
-pub(crate) fn counted_element(
-    alloc: Global,
-    owner: &ClassDef,
-    name: &Name,
+pub(crate) fn counted_element<'a>(
+    owner: &'a ClassDef,
+    name: &'a [u8],
     of: Prim,
-    counter: &Name,
-) -> Result<Element, NoMemory>
-    ensures { IfOk result (λ e. e ≡ counted_element owner.now name.now of counter.now) }
+    counter: &'a [u8],
+) -> Element<'a>
+    ensures { element_as result ≡ counted_element owner.now name.now of counter.now }
 {
-    let code = i32::from(primitive_code(of)) + 40;
-    let type_name = starred(alloc, primitive_name(of))?;
-    let class = b"TStreamerBasicPointer";
-    let mut element = element(alloc, class, 2, name, code, 0, type_name)?;
-    element.added = count_parts(alloc, owner, counter)?;
-    Ok(element)
+    Element {
+        class: ElementClass::BasicPointer { owner, counter },
+        name,
+        code: i32::from(primitive_code(of)) + 40,
+        size: 0,
+        array: None,
+        type_name: TypeName::Pointer(primitive_name(of)),
+    }
 }

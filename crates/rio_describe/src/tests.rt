@@ -1,13 +1,12 @@
-//! Elements and class lists as text.
+//! Elements as text.
 
 mod printed;
 
-use crate::members::{base_element, member_element};
-use crate::{class_list_value, written_classes};
-use printed::{printed_element, put_value};
+use crate::{base_element, member_element, tree_classes};
+use printed::printed_element;
+use rio_layout::ClassLists;
 use rio_num::{Bytes, Name, NoMemory};
 use rio_types::{Base, Bases, ClassDef, Classes, Kind, Member, Members, Prim};
-use rio_value::{Value, Values};
 use std::alloc::Global;
 use std::test::Fail;
 
@@ -23,102 +22,78 @@ enum Holds {
     Pointer(&'static [u8]),
 }
 
-// Members of Node, version 3, with class and version, code, size, values and dimensions, and type of their elements.
+// Members of Node, version 3, with class and version, code, size, array, and type of their elements, and what these add.
 static ROWS: [(Holds, &str); 26] = [
-    (
-        Holds::Plain(Prim::I8),
-        "TStreamerBasicType 2 1 1 0 0 char{}",
-    ),
-    (
-        Holds::Plain(Prim::I16),
-        "TStreamerBasicType 2 2 2 0 0 short{}",
-    ),
-    (
-        Holds::Plain(Prim::I32),
-        "TStreamerBasicType 2 3 4 0 0 int{}",
-    ),
+    (Holds::Plain(Prim::I8), "TStreamerBasicType 2 1 1 - char"),
+    (Holds::Plain(Prim::I16), "TStreamerBasicType 2 2 2 - short"),
+    (Holds::Plain(Prim::I32), "TStreamerBasicType 2 3 4 - int"),
     (
         Holds::Plain(Prim::I64),
-        "TStreamerBasicType 2 16 8 0 0 Long64_t{}",
+        "TStreamerBasicType 2 16 8 - Long64_t",
     ),
     (
         Holds::Plain(Prim::U8),
-        "TStreamerBasicType 2 11 1 0 0 unsigned char{}",
+        "TStreamerBasicType 2 11 1 - unsigned char",
     ),
     (
         Holds::Plain(Prim::U16),
-        "TStreamerBasicType 2 12 2 0 0 unsigned short{}",
+        "TStreamerBasicType 2 12 2 - unsigned short",
     ),
     (
         Holds::Plain(Prim::U32),
-        "TStreamerBasicType 2 13 4 0 0 unsigned int{}",
+        "TStreamerBasicType 2 13 4 - unsigned int",
     ),
     (
         Holds::Plain(Prim::U64),
-        "TStreamerBasicType 2 17 8 0 0 ULong64_t{}",
+        "TStreamerBasicType 2 17 8 - ULong64_t",
     ),
-    (
-        Holds::Plain(Prim::Bool),
-        "TStreamerBasicType 2 18 1 0 0 bool{}",
-    ),
-    (
-        Holds::Plain(Prim::F32),
-        "TStreamerBasicType 2 5 4 0 0 float{}",
-    ),
-    (
-        Holds::Plain(Prim::F64),
-        "TStreamerBasicType 2 8 8 0 0 double{}",
-    ),
-    (Holds::Counter, "TStreamerBasicType 2 6 4 0 0 int{}"),
+    (Holds::Plain(Prim::Bool), "TStreamerBasicType 2 18 1 - bool"),
+    (Holds::Plain(Prim::F32), "TStreamerBasicType 2 5 4 - float"),
+    (Holds::Plain(Prim::F64), "TStreamerBasicType 2 8 8 - double"),
+    (Holds::Counter, "TStreamerBasicType 2 6 4 - int"),
     (
         Holds::Fixed(Prim::U16, 7),
-        "TStreamerBasicType 2 32 14 7 1 unsigned short{}",
+        "TStreamerBasicType 2 32 14 7 unsigned short",
     ),
     (
         Holds::Counted(Prim::F64),
-        "TStreamerBasicPointer 2 48 0 0 0 double*{fCountVersion:3,fCountName:\"n\",fCountClass:\"Node\",}",
+        "TStreamerBasicPointer 2 48 0 - double*, count 3 n Node",
     ),
-    (Holds::Text, "TStreamerString 2 65 0 0 0 TString{}"),
+    (Holds::Text, "TStreamerString 2 65 0 - TString"),
     // Node reaches TObject, and Heir through it.
-    (Holds::Inline(b"Node"), "TStreamerObject 2 61 0 0 0 Node{}"),
-    (Holds::Inline(b"Heir"), "TStreamerObject 2 61 0 0 0 Heir{}"),
+    (Holds::Inline(b"Node"), "TStreamerObject 2 61 0 - Node"),
+    (Holds::Inline(b"Heir"), "TStreamerObject 2 61 0 - Heir"),
     (
         Holds::Pointer(b"Heir"),
-        "TStreamerObjectPointer 2 64 0 0 0 Heir*{}",
+        "TStreamerObjectPointer 2 64 0 - Heir*",
     ),
     (
         Holds::Pointer(b"TLeafI"),
-        "TStreamerObjectPointer 2 64 0 0 0 TLeafI*{}",
+        "TStreamerObjectPointer 2 64 0 - TLeafI*",
     ),
     // Free doesn't, and Late doesn't in its newest version.
-    (
-        Holds::Inline(b"Free"),
-        "TStreamerObjectAny 2 62 0 0 0 Free{}",
-    ),
-    (
-        Holds::Inline(b"Late"),
-        "TStreamerObjectAny 2 62 0 0 0 Late{}",
-    ),
+    (Holds::Inline(b"Free"), "TStreamerObjectAny 2 62 0 - Free"),
+    (Holds::Inline(b"Late"), "TStreamerObjectAny 2 62 0 - Late"),
     (
         Holds::Pointer(b"Free"),
-        "TStreamerObjectAnyPointer 1 69 0 0 0 Free*{}",
+        "TStreamerObjectAnyPointer 1 69 0 - Free*",
     ),
     // Classes that are built in.
     (
         Holds::Inline(b"TObjArray"),
-        "TStreamerObject 2 61 0 0 0 TObjArray{}",
+        "TStreamerObject 2 61 0 - TObjArray",
     ),
     (
         Holds::Inline(b"TArrayI"),
-        "TStreamerObjectAny 2 62 0 0 0 TArrayI{}",
+        "TStreamerObjectAny 2 62 0 - TArrayI",
     ),
     (
         Holds::Pointer(b"TObject"),
-        "TStreamerObjectPointer 2 64 0 0 0 TObject*{}",
+        "TStreamerObjectPointer 2 64 0 - TObject*",
     ),
     (
         Holds::Pointer(b"TList"),
-        "TStreamerObjectPointer 2 64 0 0 0 TList*{}",
+        "TStreamerObjectPointer 2 64 0 - TList*",
     ),
 ];
 
@@ -182,22 +157,31 @@ fn declared(alloc: Global) -> Result<Classes, NoMemory> {
     Ok(classes)
 }
 
-fn element_text(alloc: Global, classes: &Classes, holds: Holds) -> Result<Bytes, NoMemory> {
-    let Some(owner) = classes.newest(b"Node") else {
+// The element of a member of Node, among the classes of trees and the declared ones.
+fn element_text(
+    alloc: Global,
+    trees: &Classes,
+    declared: &Classes,
+    holds: Holds,
+) -> Result<Bytes, NoMemory> {
+    let classes = ClassLists::Two(trees, declared);
+    let Some(owner) = declared.newest(b"Node") else {
         return Ok(Bytes::new(alloc));
     };
     let member = member(alloc, b"x", holds)?;
-    let element = member_element(alloc, classes, owner, &member)?;
+    let element = member_element(alloc, &classes, owner, &member)?;
     printed_element(alloc, &element)
 }
 
 #[test]
 fn writes_members(rt: HostRuntime) -> Result<(), Fail> {
     let alloc = rt.alloc();
-    let classes = declared(alloc).ok().ok_or("classes")?;
-    let classes = written_classes(alloc, &classes).ok().ok_or("all classes")?;
+    let trees = tree_classes(alloc).ok().ok_or("classes of trees")?;
+    let declared = declared(alloc).ok().ok_or("classes")?;
     for (holds, wanted) in &ROWS {
-        let text = element_text(alloc, &classes, *holds).ok().ok_or(*wanted)?;
+        let text = element_text(alloc, &trees, &declared, *holds)
+            .ok()
+            .ok_or(*wanted)?;
         assert!(rt; text.as_slice() == wanted.as_bytes(), "{}", wanted);
     }
     Ok(())
@@ -205,13 +189,14 @@ fn writes_members(rt: HostRuntime) -> Result<(), Fail> {
 
 // Bases in version 5, with their elements.
 static BASES: [(&str, &str); 3] = [
-    ("TObject", "TStreamerBase 3 66 0 0 0 BASE{fBaseVersion:5,}"),
-    ("TNamed", "TStreamerBase 3 67 0 0 0 BASE{fBaseVersion:5,}"),
-    ("Node", "TStreamerBase 3 0 0 0 0 BASE{fBaseVersion:5,}"),
+    ("TObject", "TStreamerBase 3 66 0 - BASE, base 5"),
+    ("TNamed", "TStreamerBase 3 67 0 - BASE, base 5"),
+    ("Node", "TStreamerBase 3 0 0 - BASE, base 5"),
 ];
 
 fn base_text(alloc: Global, name: &[u8]) -> Result<Bytes, NoMemory> {
-    let element = base_element(alloc, &base(alloc, name, 5)?)?;
+    let base = base(alloc, name, 5)?;
+    let element = base_element(&base);
     printed_element(alloc, &element)
 }
 
@@ -221,48 +206,5 @@ fn writes_bases(rt: HostRuntime) -> Result<(), Fail> {
         let text = base_text(rt.alloc(), name.as_bytes()).ok().ok_or(*wanted)?;
         assert!(rt; text.as_slice() == wanted.as_bytes(), "{}", wanted);
     }
-    Ok(())
-}
-
-// The item for Node behind the classes of trees, which take 55 labels.
-static NODE: &str =
-    "[@55=TStreamerInfo#9{:TNamed#1{:TObject#1{fUniqueID:0,fBits:0,},fName:\"Node\",fTitle:\"\",},fCheckSum:7,fClassVersion:1,fElements:@56=TObjArray#3{:TObject#1{fUniqueID:0,fBits:0,},fName:\"\",fLowerBound:0,items:[@57=TStreamerBasicType#2{:TStreamerElement#4{:TNamed#1{:TObject#1{fUniqueID:0,fBits:0,},fName:\"val\",fTitle:\"\",},fType:3,fSize:4,fArrayLength:0,fArrayDim:0,fMaxIndex:[0,0,0,0,0,],fTypeName:\"int\",},},@58=TStreamerObjectAnyPointer#1{:TStreamerElement#4{:TNamed#1{:TObject#1{fUniqueID:0,fBits:0,},fName:\"next\",fTitle:\"\",},fType:69,fSize:0,fArrayLength:0,fArrayDim:0,fMaxIndex:[0,0,0,0,0,],fTypeName:\"Node*\",},},],},},\"\",]";
-
-fn node_list(alloc: Global) -> Result<Value, NoMemory> {
-    let mut node = class(alloc, b"Node", 1, Bases::new(alloc))?;
-    node.members
-        .push(member(alloc, b"val", Holds::Plain(Prim::I32))?)?;
-    node.members
-        .push(member(alloc, b"next", Holds::Pointer(b"Node"))?)?;
-    let mut classes = Classes::new(alloc);
-    classes.push(node)?;
-    class_list_value(alloc, &written_classes(alloc, &classes)?)
-}
-
-fn items_of(value: &Value) -> Option<&Values> {
-    let Value::Object { parts, .. } = value else {
-        return None;
-    };
-    match &parts.get(2)?.value {
-        Value::List(items) => Some(items),
-        _ => None,
-    }
-}
-
-fn last_item_text(alloc: Global, items: &Values) -> Result<Bytes, NoMemory> {
-    let mut printed = Bytes::new(alloc);
-    if let Some(item) = items.as_slice().last() {
-        put_value(&mut printed, item)?;
-    }
-    Ok(printed)
-}
-
-#[test]
-fn writes_a_list(rt: HostRuntime) -> Result<(), Fail> {
-    let list = node_list(rt.alloc()).ok().ok_or("a list")?;
-    let items = items_of(&list).ok_or("items")?;
-    assert_eq!(rt; items.len(), 13);
-    let text = last_item_text(rt.alloc(), items).ok().ok_or("a text")?;
-    assert!(rt; text.as_slice() == NODE.as_bytes());
     Ok(())
 }

@@ -1,7 +1,7 @@
 //! The classes of trees.
 ghost use Rattle.std.specs.Prelude.{◌≡◌, [], ◌∷◌, ◌++◌, codes, IfOk, OnOk};
 ghost use Rattle.rio_types.specs.declared.kind.Kind.TheVariants.{Counted, Inline};
-ghost use Rattle.rio_describe.specs.TreeClasses.{array_member, branch_base, branch_class, branch_members, i32_member, i64_member, kind_leaf, leaf_base, leaf_class, leaf_members, object_branch_class, object_branch_members, of_baskets, tree_class, tree_classes, tree_members, written_classes};
+ghost use Rattle.rio_describe.specs.TreeClasses.{array_member, branch_base, branch_class, branch_members, i32_member, i64_member, kind_leaf, leaf_base, leaf_class, leaf_members, object_branch_class, object_branch_members, of_baskets, tree_class, tree_classes, tree_members};
 
 use crate::class::{describing, named_base, push};
 use rio_num::{Name, NoMemory};
@@ -192,16 +192,5 @@ pub fn tree_classes(alloc: Global) -> Result<Classes, NoMemory>
     classes.push(kind_leaf(alloc, b"TLeafD", 2_198_351_604)?)?;
     classes.push(kind_leaf(alloc, b"TLeafO", 2_671_865_535)?)?;
     classes.push(kind_leaf(alloc, b"TLeafC", 2_155_304_883)?)?;
-    Ok(classes)
-}
-
-/// The classes that are written with these declared ones: those of trees, and then the declared ones in order.
-pub fn written_classes(alloc: Global, declared: &Classes) -> Result<Classes, NoMemory>
-    ensures { IfOk result (λ classes. classes ≡ written_classes declared.now) }
-{
-    let mut classes = tree_classes(alloc)?;
-    for class in declared.as_slice() {
-        classes.push(class.copy()?)?;
-    }
     Ok(classes)
 }

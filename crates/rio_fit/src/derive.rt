@@ -1,11 +1,11 @@
 //! Which classes may be pointed to.
 ghost use Rattle.std.specs.Prelude.{◌≡◌, ◌==◌, IfOk};
 ghost use Rattle.std.specs.List.{list_any};
-ghost use Rattle.rio_format.specs.Slots.{can_be_put, derives_from, is_word};
+ghost use Rattle.rio_format.specs.Slots.{can_be_put, is_word};
 ghost use Rattle.rio_format.specs.Fits.{is_pointer, may_point};
 ghost use Rattle.rio_layout.specs.Fields.{slot_as};
 
-use rio_layout::{Slot, has_base, is_headed};
+use rio_layout::{ClassLists, Slot, derives_from, is_headed};
 use rio_num::{Name, NoMemory};
 use rio_types::Classes;
 use std::alloc::Global;
@@ -34,22 +34,6 @@ fn can_be_put(classes: &Classes, class: &[u8]) -> bool
         || class == b"TObjArray".as_slice()
 }
 
-fn derives_from(
-    alloc: Global,
-    classes: &Classes,
-    target: &[u8],
-    class: &[u8],
-    version: i32,
-) -> Result<bool, NoMemory>
-    ensures { IfOk result (λ b. b ≡ derives_from classes.now target.now class.now version) }
-{
-    if class == target {
-        return Ok(true);
-    }
-    let levels = classes.as_slice().len() + 1;
-    has_base(alloc, classes, target, class, version, levels)
-}
-
 /// The class of an object, and its version.
 pub(crate) type Owner = (Name, i32);
 
@@ -67,7 +51,9 @@ pub(crate) fn may_point(
         return Ok(false);
     }
     match slot {
-        Slot::Pointer(target) => derives_from(alloc, classes, target, class, version),
+        Slot::Pointer(target) => {
+            derives_from(alloc, &ClassLists::One(classes), target, class, version)
+        }
         Slot::AnyPointer => Ok(can_be_put(classes, class)),
         _ => Ok(false),
     }

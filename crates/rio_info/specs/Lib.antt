@@ -1,1 +1,2 @@
 pub mod WrittenBytes
+pub mod WrittenParts

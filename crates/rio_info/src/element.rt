@@ -34,7 +34,7 @@ impl<'a> Model for Element<'a> {
     ghost view = { λ e. record { name = e.name.now; title = e.title.now; code = e.code; count = e.count; type_name = e.type_name.now; base_version = e.base_version; counter = option_copied e.counter } };
 }
 
-// Whether it is the class of this name in this version.
+// Whether a class in a version is the known one of this name.
 fn is_class(class: &[u8], version: i32, name: &[u8], known: i32) -> bool
     ensures { result ≡ (bytes_eq name.now class.now && int_eq known version) }
 {

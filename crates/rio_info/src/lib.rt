@@ -4,13 +4,17 @@
 mod classes;
 mod element;
 mod kind;
+mod length;
 mod members;
 mod parts;
 mod read;
 #[cfg(test)]
 mod tests;
 mod write;
+mod write_class;
+mod write_element;
 
+pub use length::info_length;
 pub use read::read_info;
 pub use rio_describe::description_classes;
-pub use write::{info_length, write_info};
+pub use write::write_info;

@@ -36,7 +36,7 @@ pub(crate) fn object_behind(pointer: &Value) -> Option<&Value>
     }
 }
 
-/// The parts of such an object, where it begins behind a pointer.
+/// The parts of an object of the class in the version, where it begins behind a pointer.
 pub(crate) fn parts_behind<'a>(class: &[u8], version: i32, pointer: &'a Value) -> Option<&'a [Part]>
     ensures { option_copied result ≡ parts_behind class.now version pointer.now }
 {

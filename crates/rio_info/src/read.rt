@@ -8,7 +8,7 @@ ghost use Rattle.rio_read.specs.Reading.{Answers};
 use crate::classes::classes_of;
 use rio_buffer::ObjFault;
 use rio_describe::description_classes;
-use rio_stream::read_object;
+use rio_read::read_object;
 use rio_types::Classes;
 use std::alloc::Global;
 

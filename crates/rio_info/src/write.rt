@@ -1,36 +1,65 @@
 //! Class lists are written.
-ghost use Rattle.std.specs.Prelude.{◌≡◌, ◌≤◌, ◌+◌, ◌++◌, ℕ, List, true, length, min, Ok, IfOk};
+ghost use Rattle.std.specs.Prelude.{◌≡◌, ◌≤◌, ◌++◌, ℕ, List, true, length, map, Ok, IfOk};
 ghost use Rattle.std.specs.List.{list_all};
 ghost use Rattle.rio_num.specs.Room.{room_of};
 ghost use Rattle.rio_format.specs.ClassList.{class_list_at};
+ghost use Rattle.rio_format.specs.Slots.{link};
+ghost use Rattle.rio_format.specs.Written.{all, just};
+ghost use Rattle.rio_types.specs.declared.class.ClassDef.{ClassDef as Class};
 ghost use Rattle.rio_describe.specs.Laws.{is_described};
 ghost use Rattle.rio_describe.specs.TreeClasses.{written_classes};
-ghost use Rattle.rio_describe.specs.WrittenList.{class_list_value};
+ghost use Rattle.rio_write.specs.Writing.{HasRoom, Writes};
 ghost use Rattle.rio_info.specs.WrittenBytes.{length_limit, written_list};
+ghost use Rattle.rio_info.specs.WrittenParts.{class_writing, list_front, list_writer};
 
-use rio_describe::{class_list_value, description_classes, written_classes};
+use crate::write_class::write_classes;
+use crate::write_element::{write_count, write_plain};
+use rio_buffer::ObjWriter;
+use rio_describe::tree_classes;
+use rio_layout::ClassLists;
 use rio_num::{Bytes, NoMemory};
-use rio_stream::{write_object, written_length};
 use rio_types::Classes;
-use rio_value::Value;
 use std::alloc::Global;
 
-// The list that describes the classes of trees and these.
-fn list_of(alloc: Global, classes: &Classes) -> Result<Value, NoMemory>
-    ensures { IfOk result (λ list. list ≡ class_list_value (written_classes classes.now)) }
+// What stands before the items in the TList.
+fn write_list_head(writer: &mut ObjWriter, count: usize) -> Result<(), NoMemory>
+    ensures { Writes (just (list_front count)) result writer.old writer.new }
 {
-    let all = written_classes(alloc, classes)?;
-    class_list_value(alloc, &all)
+    write_plain(writer)?;
+    writer.put_text(b"")?;
+    write_count(writer, count)
 }
 
-/// The length of the class list that is written for these declared classes, or 16,777,217 where it is more than
-/// 16,777,216. Nothing is written.
-pub fn info_length(alloc: Global, classes: &Classes) -> Result<u64, NoMemory>
-    ensures { IfOk result (λ n. (start : ℕ) → n ≡ min (length (written_list start classes.now)) (length_limit + 1)) }
+// The items of both lists, one behind the other.
+fn write_both<'a>(
+    alloc: Global,
+    writer: &mut ObjWriter,
+    first: &'a Classes,
+    second: &'a Classes,
+) -> Result<(), NoMemory>
+    requires { HasRoom (all link (map (class_writing (first.now ++ second.now)) (first.now ++ second.now))) writer.old }
+    ensures { Writes (all link (map (class_writing (first.now ++ second.now)) (first.now ++ second.now))) result writer.old writer.new }
 {
-    let descriptions = description_classes(alloc)?;
-    let list = list_of(alloc, classes)?;
-    written_length(alloc, &descriptions, &list)
+    let classes = ClassLists::Two(first, second);
+    write_classes(alloc, &classes, writer, first.as_slice())?;
+    write_classes(alloc, &classes, writer, second.as_slice())
+}
+
+// The TList of both lists of classes.
+fn write_list<'a>(
+    alloc: Global,
+    writer: &mut ObjWriter,
+    first: &'a Classes,
+    second: &'a Classes,
+) -> Result<(), NoMemory>
+    requires { HasRoom (list_writer (first.now ++ second.now)) writer.old }
+    ensures { Writes (list_writer (first.now ++ second.now)) result writer.old writer.new }
+{
+    let begun = writer.begin(5)?;
+    write_list_head(writer, ClassLists::Two(first, second).len())?;
+    write_both(alloc, writer, first, second)?;
+    writer.end(begun);
+    Ok(())
 }
 
 /// The class list that is written for these declared classes: it describes the classes of trees and then these. Its
@@ -42,7 +71,8 @@ pub fn write_info(alloc: Global, classes: &Classes, start: u64) -> Result<Bytes,
     // It is read as the classes of trees and these, whatever follows, if declarations can give these.
     ensures read { list_all is_described classes.now ≡ true → IfOk result (λ b. (more : List ℕ) → class_list_at start (b.bytes ++ more) ≡ Ok (written_classes classes.now)) }
 {
-    let descriptions = description_classes(alloc)?;
-    let list = list_of(alloc, classes)?;
-    write_object(alloc, &descriptions, &list, start)
+    let trees = tree_classes(alloc)?;
+    let mut writer = ObjWriter::new(alloc, start);
+    write_list(alloc, &mut writer, &trees, classes)?;
+    Ok(writer.into_bytes())
 }

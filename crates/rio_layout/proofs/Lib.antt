@@ -1,1 +1,3 @@
 pub mod BaseLaws
+mod ListLaws
+mod VisitLaws

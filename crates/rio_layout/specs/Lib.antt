@@ -1,4 +1,7 @@
 pub mod Bases
 pub mod Bodies
+pub mod BuiltIn
 pub mod Counts
 pub mod Fields
+pub mod Lists
+pub mod Visits

@@ -1,12 +1,15 @@
 //! What stands behind the header of an object.
 ghost use Rattle.std.specs.Prelude.{◌≡◌, Option};
-ghost use Rattle.std.specs.Option.{option_map};
-ghost use Rattle.rio_format.specs.Bodies.{body_of, built_in, by_description, picked, stated_version};
+ghost use Rattle.std.specs.Option.{option_copied, option_map};
+ghost use Rattle.rio_format.specs.Bodies.{body_of, built_in, by_description, described, picked, stated_version};
 ghost use Rattle.rio_format.specs.Slots.{declared_body};
 ghost use Rattle.rio_layout.specs.Bodies.{body_as};
+ghost use Rattle.rio_layout.specs.BuiltIn.{headed_version};
+ghost use Rattle.rio_layout.specs.Lists.{listed};
 ghost use Rattle.rio_types.specs.Classes.{judged};
 ghost use Rattle.rio_types.specs.declared.class.ClassDef.{ClassDef as Class};
 
+use crate::lists::ClassLists;
 use rio_format::Header;
 use rio_types::{ClassDef, Classes};
 
@@ -91,15 +94,48 @@ pub fn body_of<'a>(classes: &'a Classes, class: &[u8], header: &Header) -> Body<
     }
 }
 
+// The body of a class that is described.
+fn described<'a>(found: Option<&'a ClassDef>) -> Option<Body<'a>>
+    ensures { option_map body_as result ≡ option_map described (option_copied found.entry) }
+{
+    match found {
+        Some(class) => Some(Body::Described(class)),
+        None => None,
+    }
+}
+
 /// The body that a class has in a version, if it is built in or described in it.
 pub fn declared_body<'a>(classes: &'a Classes, class: &[u8], version: i32) -> Option<Body<'a>>
     ensures { option_map body_as result ≡ declared_body classes.now class.now version }
 {
+    listed_body(&ClassLists::One(classes), class, version)
+}
+
+/// The same where the classes stand in one list or in two.
+pub(crate) fn listed_body<'a>(
+    classes: &ClassLists<'a>,
+    class: &[u8],
+    version: i32,
+) -> Option<Body<'a>>
+    ensures { option_map body_as result ≡ declared_body (listed classes.now) class.now version }
+{
     match built_in(class, version) {
         Some(body) => Some(body),
-        None => match classes.find(class, version) {
-            Some(class) => Some(Body::Described(class)),
-            None => None,
-        },
+        None => described(classes.find(class, version)),
+    }
+}
+
+/// The one version of a built-in class with a header.
+pub fn headed_version(class: &[u8]) -> Option<i32>
+    ensures { result ≡ headed_version class.now }
+{
+    if class == b"TNamed".as_slice() || class == b"TObjString".as_slice() {
+        Some(1)
+    } else if class == b"TList".as_slice() {
+        Some(5)
+    } else if class == b"TObjArray".as_slice() {
+        Some(3)
+    } else {
+        None
     }
 }

@@ -4,13 +4,16 @@
 mod bases;
 mod body;
 mod counters;
+mod lists;
 mod shape;
 mod slot;
+mod visits;
 mod width;
 
-pub use bases::{has_base, is_headed};
-pub use body::{Body, body_of, declared_body};
+pub use bases::{derives_from, is_headed};
+pub use body::{Body, body_of, declared_body, headed_version};
 pub use counters::Counters;
+pub use lists::ClassLists;
 pub use shape::{Shape, shape_of};
 pub use slot::{Field, Fields, Slot, fields_of};
 pub use width::width_of;

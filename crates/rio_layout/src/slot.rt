@@ -26,6 +26,7 @@ pub enum Slot<'a> {
     Fixed(Prim, u32),
     /// As many numbers as the counter of the name says.
     Counted(Prim, &'a [u8]),
+    /// A text.
     Text,
     /// An object of the class.
     Inline(&'a [u8]),
@@ -52,7 +53,9 @@ pub enum Slot<'a> {
 /// A part of an object: its name, and what may stand there.
 #[derive(Clone, Copy)]
 pub struct Field<'a> {
+    /// The name, which a base doesn't have.
     pub name: &'a [u8],
+    /// What may stand there.
     pub slot: Slot<'a>,
 }
 

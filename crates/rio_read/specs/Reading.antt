@@ -1,6 +1,5 @@
 -- What the readers of objects answer.
-use Rattle.std.specs.Prelude.{◌≡◌, ℕ, ◌+◌, List, ◌++◌, length, codes, Result, Ok, Err, Bool, ◌||◌}
-use Rattle.std.specs.Str.{bytes_eq}
+use Rattle.std.specs.Prelude.{◌≡◌, ℕ, ◌+◌, List, ◌++◌, length, Result, Ok, Err}
 use Rattle.rio_types.specs.declared.class.ClassDef.{ClassDef}
 use Rattle.rio_value.specs.declared.value.Value.{Value}
 use Rattle.rio_format.specs.Objects.{Fails, ReadsAs, depth_limit}
@@ -12,13 +11,6 @@ use Rattle.rio_format.specs.declared.fault.ObjFault.{ObjFault}
 abbrev pub Answers : {Y : Type 0} → Result Y ObjFault → Result Y ObjFault → Type 0
 Answers (Ok v) read = read ≡ Ok v
 Answers (Err e) read = Fails e read
-
--- TObject, TNamed, TObjString and the TArrays
-abbrev pub is_small_builtin : List ℕ → Bool
-is_small_builtin class =
-    bytes_eq class (codes "TObject") || bytes_eq class (codes "TNamed") || bytes_eq class (codes "TObjString")
-    || bytes_eq class (codes "TArrayC") || bytes_eq class (codes "TArrayS") || bytes_eq class (codes "TArrayI")
-    || bytes_eq class (codes "TArrayL64") || bytes_eq class (codes "TArrayF") || bytes_eq class (codes "TArrayD")
 
 -- The bytes that reading passed spell the object, behind the words met before.
 pub record IsSpelled (classes : List ClassDef) (class : List ℕ) (v : Value) (old new : ReaderState) : Type 0 where

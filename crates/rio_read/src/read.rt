@@ -6,7 +6,8 @@ ghost use Rattle.rio_format.specs.Objects.{ReadsAs, depth_limit, object_at, valu
 ghost use Rattle.rio_format.specs.Spelling.{Spells};
 ghost use Rattle.rio_format.specs.declared.fault.ObjFault.{ObjFault as Fault};
 ghost use Rattle.rio_value.specs.declared.value.Value.{Value as Spelled};
-ghost use Rattle.rio_read.specs.Reading.{Answers, IsRead, IsSpelled, is_small_builtin};
+ghost use Rattle.rio_layout.specs.BuiltIn.{is_small_builtin};
+ghost use Rattle.rio_read.specs.Reading.{Answers, IsRead, IsSpelled};
 
 use crate::object;
 use rio_buffer::{ObjFault, ObjReader};

@@ -13,7 +13,7 @@ use rio_close::{ReportFault, data_of, read_up_to};
 use rio_host::Host;
 use rio_key::KeyHead;
 use rio_num::{Bytes, NoMemory};
-use rio_stream::read_object;
+use rio_read::read_object;
 use rio_types::Classes;
 use rio_valtext::print_value;
 use std::alloc::Global;

@@ -1,7 +1,7 @@
 -- What is resolved leaves no version open.
 use Rattle.std.proofs.Common.{◌≡◌, ◌&&◌, ◌||◌, ℕ, ℤ, pos, List, [], ◌∷◌, Bool, true, false, not, cond, map, length, codes, ◌==◌, Some, None, is_some, if◌then◌else◌, refl, sym, ap, subst, ◌∙◌}
 use Rattle.std.specs.List.{list_all}
-use Rattle.std.specs.Option.{option_map, option_map_or}
+use Rattle.std.specs.Option.{option_map, option_map_or, option_or}
 use Rattle.std.specs.Ordering.{int_eq}
 use Rattle.std.specs.Str.{bytes_eq}
 use Rattle.std.proofs.lemmas.Bool.Decides.{Decides-int_eq}
@@ -41,15 +41,19 @@ found_closed (d ∷ ds) class version closed e =
     by own true t e rest = same_version d.version version own (both_true (bytes_eq d.name class) (int_eq d.version version) t).1
     by own false t e rest = rest e
 
-built_by : (version : ℤ) (list array named : Bool) → option_map_or (int_eq version) (if list then Some (pos 5) else if array then Some (pos 3) else if named then Some (pos 1) else None) false ≡ true → is_closed version ≡ true
-built_by version true array named e = own_version version (pos 5) refl e
-built_by version false true named e = own_version version (pos 3) refl e
-built_by version false false true e = own_version version (pos 1) refl e
-built_by version false false false e = absurd cc
+built_by : (version : ℤ) (named string list array headed : Bool)
+    → option_map_or (int_eq version) (option_or (if named then Some (pos 1) else if string then Some (pos 1) else if list then Some (pos 5) else if array then Some (pos 3) else None) (if headed then None else Some (pos 1))) false ≡ true
+    → is_closed version ≡ true
+built_by version true string list array headed e = own_version version (pos 1) refl e
+built_by version false true list array headed e = own_version version (pos 1) refl e
+built_by version false false true array headed e = own_version version (pos 5) refl e
+built_by version false false false true headed e = own_version version (pos 3) refl e
+built_by version false false false false true e = absurd cc
+built_by version false false false false false e = own_version version (pos 1) refl e
 
 built_closed : (class : List ℕ) (version : ℤ) → option_map_or (int_eq version) (built_in_version class) false ≡ true → is_closed version ≡ true
 built_closed class version e =
-    built_by version (bytes_eq class (codes "TList")) (bytes_eq class (codes "TObjArray")) (bytes_eq class (codes "TNamed") || bytes_eq class (codes "TObjString") || not (is_headed (form_of class))) e
+    built_by version (bytes_eq class (codes "TNamed")) (bytes_eq class (codes "TObjString")) (bytes_eq class (codes "TList")) (bytes_eq class (codes "TObjArray")) (is_headed (form_of class)) e
 
 one_of : (P : Type 0) (a b : Bool) → (a ≡ true → P) → (b ≡ true → P) → (a || b) ≡ true → P
 one_of P true b f g e = f refl

@@ -1,5 +1,5 @@
 -- Values with the versions that they leave open: an object of version 0 is of the version that its class has where it stands.
-use Rattle.std.specs.Prelude.{◌≡◌, ◌≢◌, ℕ, ℤ, pos, List, [], ◌∷◌, ◌++◌, length, codes, Bool, true, false, ◌==◌, ◌&&◌, ◌||◌, not, IsTrue, Option, Some, None, is_some, option_and_then, Result, Ok, Err, find, if◌then◌else◌}
+use Rattle.std.specs.Prelude.{◌≡◌, ◌≢◌, ℕ, ℤ, pos, List, [], ◌∷◌, ◌++◌, length, Bool, true, false, ◌==◌, ◌&&◌, ◌||◌, not, IsTrue, Option, Some, None, is_some, option_and_then, Result, Ok, Err, find, if◌then◌else◌}
 use Rattle.std.specs.List.{list_all}
 use Rattle.std.specs.Option.{option_map, option_map_or, option_or}
 use Rattle.std.specs.Ordering.{int_eq}
@@ -14,6 +14,7 @@ use Rattle.rio_value.specs.declared.value.Value.TheOpen.{Value-F, Int, Bits32, B
 use Rattle.rio_value.specs.declared.value.Value.TheFolds.{fold-Value}
 use Rattle.rio_format.specs.Bodies.{form_of, part, t_object_base}
 use Rattle.rio_format.specs.Slots.{body_bases, headed_body, is_headed}
+use Rattle.rio_layout.specs.BuiltIn.{headed_version}
 use Rattle.rio_valtext.specs.declared.resolving.ClassBases.{ClassBases}
 use Rattle.rio_valtext.specs.declared.resolving.ClassBases.TheVariants.{Listed, TObject}
 use Rattle.rio_valtext.specs.declared.resolving.ResolveFault.{ResolveFault}
@@ -23,11 +24,7 @@ use Rattle.rio_valtext.specs.declared.resolving.ResolveFault.TheVariants.{NoMemo
 
 -- the one version of a built-in class, none of another class
 abbrev pub built_in_version : List ℕ → Option ℤ
-built_in_version class =
-    if bytes_eq class (codes "TList") then Some (pos 5)
-    else if bytes_eq class (codes "TObjArray") then Some (pos 3)
-    else if bytes_eq class (codes "TNamed") || bytes_eq class (codes "TObjString") || not (is_headed (form_of class)) then Some (pos 1)
-    else None
+built_in_version class = option_or (headed_version class) (if is_headed (form_of class) then None else Some (pos 1))
 
 -- the newest version in which a class is declared, or else its built-in one
 abbrev pub newest_version : List ClassDef → List ℕ → Option ℤ

@@ -2,7 +2,7 @@
 ghost use Rattle.std.specs.Prelude.{◌≡◌, [], map, option_and_then, IfOk, IfErr};
 ghost use Rattle.rio_valtext.specs.Resolving.{ResolvedHasVersions, ResolvedStays, Resolves, base_version, bases_as, bases_of, built_in_version, each_resolved, is_known, meant_version, newest_version, object_resolved, resolved, resolved_version, resolving_of, resolving_of_part};
 
-use rio_layout::{Body, declared_body, is_headed};
+use rio_layout::{Body, declared_body, headed_version, is_headed};
 use rio_num::{Boxed, Name, NoMemory};
 use rio_types::{Base, Classes};
 use rio_value::{Part, Parts, Value, Values};
@@ -38,20 +38,14 @@ enum ClassBases<'a> {
     TObject,
 }
 
+// The one version of a built-in class.
 fn built_in_version(class: &[u8]) -> Option<i32>
     ensures { result ≡ built_in_version class.now }
 {
-    if class == b"TList".as_slice() {
-        Some(5)
-    } else if class == b"TObjArray".as_slice() {
-        Some(3)
-    } else if class == b"TNamed".as_slice()
-        || class == b"TObjString".as_slice()
-        || !is_headed(class)
-    {
-        Some(1)
-    } else {
-        None
+    match headed_version(class) {
+        Some(version) => Some(version),
+        None if is_headed(class) => None,
+        None => Some(1),
     }
 }
 

@@ -8,7 +8,8 @@ use Rattle.rio_types.specs.declared.kind.Primitive.TheVariants.{I8, I16, I32, I6
 use Rattle.rio_format.specs.Bodies.{Body, Form, arrayed, bare, built_in, described, form_of, headed, listed, numbers, t_named, t_obj_string}
 use Rattle.rio_format.specs.Fits.{Fitting, Labels, parts_fit}
 use Rattle.rio_format.specs.Slots.{body_fields, declared_body, fields_of}
-use Rattle.rio_write.specs.Writing.{FitsSomewhere, is_small_builtin}
+use Rattle.rio_layout.specs.BuiltIn.{is_small_builtin}
+use Rattle.rio_write.specs.Writing.{FitsSomewhere}
 
 pub refuted : {P : Type 0} (after : Labels) → None ≡ Some after → P
 refuted after e = absurd cc

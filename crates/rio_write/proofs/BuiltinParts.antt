@@ -20,7 +20,8 @@ use Rattle.rio_format.specs.Written.{Writer, Writing, all, body_bytes, both, jus
 use Rattle.rio_format.proofs.ValueCases.{fold_List, fold_Object, fold_Text}
 use Rattle.rio_format.proofs.WrittenBodies.{count_of_list, first_fits}
 use Rattle.rio_buffer.specs.Writer.{WriterState}
-use Rattle.rio_write.specs.Writing.{FitsSomewhere, IsShort, IsSmallBuiltin, Writes, is_small_builtin, part_fitting, part_writing, with_written}
+use Rattle.rio_layout.specs.BuiltIn.{is_small_builtin}
+use Rattle.rio_write.specs.Writing.{FitsSomewhere, IsShort, IsSmallBuiltin, Writes, part_fitting, part_writing, with_written}
 use Rattle.rio_write.proofs.WriteLaws.{both_writes, short_first, short_then, text_short}
 use Rattle.rio_write.proofs.WriteParts.{two_are, three_are}
 

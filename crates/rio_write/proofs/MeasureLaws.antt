@@ -8,8 +8,9 @@ use Rattle.byteorder.specs.Endian.{big_bytes}
 use Rattle.indexmap.specs.IndexMap.{insert_entry}
 use Rattle.rio_num.specs.declared.no_memory.NoMemory.{NoMemory}
 use Rattle.rio_format.specs.ReaderState.{WordsMet, no_words, with_label}
-use Rattle.rio_format.specs.Written.{Writer, back_bytes, both, class_by, class_bytes, counted, headed_bytes, just, labelled}
+use Rattle.rio_format.specs.Written.{Writer, back_bytes, both, class_by, class_bytes, headed_bytes, just}
 use Rattle.rio_write.specs.Measuring.{AreBelow, Follows, Grows, Measured, Measures, longer, nothing_measured, too_long}
+use Rattle.rio_write.specs.Writing.{pointer_to}
 
 -- ---- places
 
@@ -35,6 +36,10 @@ module _ (bytes : List ℕ) (old : Measured) where
 
   pub just_grows : (new : Measured) → new ≡ longer (length bytes) old → Grows (just bytes) old new
   just_grows new e = subst (Grows (just bytes) old) (sym e) grown
+
+  -- the same by their number, as that of a text's bytes
+  pub number_grows : (n : ℕ) (new : Measured) → n ≡ length bytes → new ≡ longer n old → Grows (just bytes) old new
+  number_grows n new len e = just_grows new (e ∙ ap (λ (n : ℕ). longer n old) len)
 
 pub nothing_grows : (m : Measured) → Grows (just []) m m
 unfolding Grows
@@ -122,12 +127,8 @@ module _ (class : List ℕ) where
 
 -- ---- count words
 
--- the same behind a count word, and behind a place for a label
-abbrev pub pointer_to : List ℕ → Writer → Writer
-pointer_to class object p t = counted (both (class_bytes class) (labelled p object) (p + 4) t)
-
 module _ (version : ℤ) (body : Writer) (m0 m1 m2 : Measured) (e : m1 ≡ longer 6 m0) where
-  headed_grows : Grows body m1 m2 → Grows (headed_bytes version body) m0 m2
+  pub headed_grows : Grows body m1 m2 → Grows (headed_bytes version body) m0 m2
   unfolding Grows
   headed_grows h = λ p t f.
       let first : Follows (longer 6 m0) (p + 4 + 2) t = record { names = f.names; below = below_more p (p + 4 + 2) t.names (omega arith) f.below; small = omega arith } in
@@ -141,7 +142,7 @@ module _ (version : ℤ) (body : Writer) (m0 m1 m2 : Measured) (e : m1 ≡ longe
   headed_measured (Err x) h = tt
 
 module _ (class : List ℕ) (object : Writer) (m0 m1 m2 m3 : Measured) (e : m1 ≡ longer 4 m0) (w : Grows (class_bytes class) m1 m2) where
-  pointed_grows : Grows object m2 m3 → Grows (pointer_to class object) m0 m3
+  pub pointed_grows : Grows object m2 m3 → Grows (pointer_to class object) m0 m3
   unfolding Grows
   pointed_grows h = λ p t f.
       let first : Follows (longer 4 m0) (p + 4) t = record { names = f.names; below = below_more p (p + 4) t.names (omega arith) f.below; small = omega arith } in

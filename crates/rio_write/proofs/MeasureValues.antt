@@ -8,7 +8,7 @@ use Rattle.rio_format.specs.Slots.{Slot}
 use Rattle.rio_format.specs.Written.{Writing, int_bytes, truth_byte, writing_of, writing_step}
 use Rattle.rio_format.proofs.ValueCases.{fold_Int, fold_Bits32, fold_Bits64, fold_Bool, fold_Text, fold_Null, fold_Back, fold_Opaque}
 use Rattle.rio_write.specs.Measuring.{Grows, Measured, longer}
-use Rattle.rio_write.proofs.MeasureLaws.{just_grows, back_grows, nothing_grows}
+use Rattle.rio_write.proofs.MeasureLaws.{just_grows, number_grows, back_grows, nothing_grows}
 
 module _ (classes : List ClassDef) (slot : Slot) (v : Value) (old : Measured) where
   -- the value's layer gives what is written for it
@@ -17,7 +17,7 @@ module _ (classes : List ClassDef) (slot : Slot) (v : Value) (old : Measured) wh
 
   module _ (new : Measured) where
     pub int_grows : (z : ℤ) (n : ℕ) → v ≡ Int z → n ≡ length (int_bytes z slot) → new ≡ longer n old → Grows ((writing_of classes v).bytes slot) old new
-    int_grows z n e len g = grows_as (Int z) _ new e (fold_Int (writing_step classes) (λ p. p.value) z) (just_grows (int_bytes z slot) old new (g ∙ ap (λ (n : ℕ). longer n old) len))
+    int_grows z n e len g = grows_as (Int z) _ new e (fold_Int (writing_step classes) (λ p. p.value) z) (number_grows (int_bytes z slot) old n new len g)
 
     pub bits32_grows : (n : ℕ) → v ≡ Bits32 n → new ≡ longer 4 old → Grows ((writing_of classes v).bytes slot) old new
     bits32_grows n e g = grows_as (Bits32 n) _ new e (fold_Bits32 (writing_step classes) (λ p. p.value) n) (just_grows (big_bytes 4 n) old new g)
@@ -29,7 +29,7 @@ module _ (classes : List ClassDef) (slot : Slot) (v : Value) (old : Measured) wh
     bool_grows b e g = grows_as (Truth b) _ new e (fold_Bool (writing_step classes) (λ p. p.value) b) (just_grows (truth_byte b ∷ []) old new g)
 
     pub text_grows : (text : List ℕ) (n : ℕ) → v ≡ Text text → n ≡ length (text_bytes text) → new ≡ longer n old → Grows ((writing_of classes v).bytes slot) old new
-    text_grows text n e len g = grows_as (Text text) _ new e (fold_Text (writing_step classes) (λ p. p.value) text) (just_grows (text_bytes text) old new (g ∙ ap (λ (n : ℕ). longer n old) len))
+    text_grows text n e len g = grows_as (Text text) _ new e (fold_Text (writing_step classes) (λ p. p.value) text) (number_grows (text_bytes text) old n new len g)
 
     pub null_grows : v ≡ Null → new ≡ longer 4 old → Grows ((writing_of classes v).bytes slot) old new
     null_grows e g = grows_as Null _ new e (fold_Null (writing_step classes) (λ p. p.value)) (just_grows (big_bytes 4 0) old new g)

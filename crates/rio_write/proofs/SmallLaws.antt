@@ -16,7 +16,8 @@ use Rattle.rio_format.proofs.ValueCases.{Steps, by_cases, fold_Int, fold_Bits32,
 use Rattle.rio_format.proofs.WrittenLists.{part_fitting}
 use Rattle.rio_buffer.specs.Writer.{WriterState, next_place}
 use Rattle.rio_write.specs.Small.{SmallBuiltinsAreAlike, SmallBuiltinsStandAnywhere}
-use Rattle.rio_write.specs.Writing.{IsShort, IsSmallBuiltin, is_small_builtin}
+use Rattle.rio_layout.specs.BuiltIn.{is_small_builtin}
+use Rattle.rio_write.specs.Writing.{IsShort, IsSmallBuiltin}
 use Rattle.rio_write.proofs.BuiltinBodies.{body_is, which}
 use Rattle.rio_write.proofs.SmallObjects.{HasItsBody, form_stays}
 use Rattle.rio_write.proofs.SmallValues.{FitIn, Steady, chosen, fit_pair, object_fits, placed}

@@ -16,7 +16,8 @@ use Rattle.rio_format.specs.Written.{Writer, Writing, array_bytes, body_bytes, c
 use Rattle.rio_format.proofs.ValueCases.{Each, Steps, by_cases, fold_Int, fold_Bits32, fold_Bits64, fold_Bool, fold_Text, fold_List, fold_Object, fold_Pointed, fold_Null, fold_Back, fold_Opaque}
 use Rattle.rio_format.proofs.WrittenBodies.{first_fits}
 use Rattle.rio_format.proofs.WrittenLists.{part_fitting}
-use Rattle.rio_write.specs.Writing.{is_small_builtin, part_writing}
+use Rattle.rio_layout.specs.BuiltIn.{is_small_builtin}
+use Rattle.rio_write.specs.Writing.{part_writing}
 use Rattle.rio_write.proofs.BuiltinBodies.{refuted, which}
 use Rattle.rio_write.proofs.SmallValues.{FitIn, FitParts, FormStays, IsAlike, Named, Steady, bare_parts, bare_steady, base, fields_alike, is_alike, numbers, part_value, parts_stay, steady_both, steady_just, text}
 

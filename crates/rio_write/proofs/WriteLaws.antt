@@ -9,9 +9,9 @@ use Rattle.rio_num.specs.Text.{text_bytes, short_form, long_form}
 use Rattle.rio_num.specs.declared.no_memory.NoMemory.{NoMemory}
 use Rattle.rio_format.specs.ReaderState.{WordsMet, no_words, with_label}
 use Rattle.rio_format.specs.Slots.{Slot, Field}
-use Rattle.rio_format.specs.Written.{Writer, Writing, just, both, all, class_bytes, counted, fields_bytes, headed_bytes, labelled}
-use Rattle.rio_buffer.specs.Writer.{WriterState, next_place, nothing_written, ended, with_count, counted_from, innermost}
-use Rattle.rio_write.specs.Writing.{HasRoom, IsShort, Writes, with_written}
+use Rattle.rio_format.specs.Written.{Writer, Writing, just, both, all, class_bytes, counted, fields_bytes, headed_bytes}
+use Rattle.rio_buffer.specs.Writer.{Puts, WriterState, next_place, nothing_written, ended, with_count, counted_from, innermost}
+use Rattle.rio_write.specs.Writing.{HasRoom, IsShort, Writes, pointer_to, with_written}
 
 -- ---- single values
 
@@ -26,6 +26,12 @@ text_room text s room = omega (arith, room, text_length text (ltb (length text) 
 pub text_short : (text : List ℕ) (s : WriterState) → IsShort (just (text_bytes text)) s → length text < 2 ^ 32
 unfolding IsShort
 text_short text s short = omega (arith, short, text_length text (ltb (length text) 255))
+
+-- bytes that were put at the end are what is written
+pub just_writes : (bytes : List ℕ) (old new : WriterState) (r : Result (Unit {0}) NoMemory) → Puts bytes r old new → Writes (just bytes) r old new
+unfolding with_written
+just_writes bytes old new (Ok x) h = h
+just_writes bytes old new (Err x) h = tt
 
 pub place_room : (f : Writer) (s : WriterState) → HasRoom f s → next_place s < 2 ^ 30 - 2
 unfolding HasRoom
@@ -43,7 +49,7 @@ module _ (f g : Writer) (s : WriterState) where
   behind : s.start + length (s.bytes ++ (f (next_place s) s.words).0) ≡ next_place s + length (f (next_place s) s.words).0
   behind = omega (arith, length-append s.bytes (f (next_place s) s.words).0)
 
-  both_after : with_written (both f g) s ≡ with_written g (with_written f s)
+  pub both_after : with_written (both f g) s ≡ with_written g (with_written f s)
   unfolding with_written
   both_after = rw (behind, append_assoc) refl
 
@@ -219,14 +225,11 @@ module _ (class : List ℕ) (object : Writer) (s : WriterState) where
   abbrev pub word : List ℕ × WordsMet
   word = class_bytes class (next_place s + 4) s.words
 
-  abbrev pub pointer_to : Writer
-  pointer_to p t = counted (both (class_bytes class) (labelled p object) (p + 4) t)
-
-  pub pointer_room : HasRoom pointer_to s → next_place s + 4 + length word.0 + length (inside s word.0 (with_label word.1 (next_place s)) object).0 < 2 ^ 30 - 2
+  pub pointer_room : HasRoom (pointer_to class object) s → next_place s + 4 + length word.0 + length (inside s word.0 (with_label word.1 (next_place s)) object).0 < 2 ^ 30 - 2
   unfolding HasRoom
   pointer_room room = omega (arith, room, length-append word.0 (inside s word.0 (with_label word.1 (next_place s)) object).0)
 
-  pub pointer_is : (s1 s2 s3 : WriterState) → s1 ≡ opened_at s word.0 (with_label word.1 (next_place s)) → s2 ≡ with_written object s1 → s3 ≡ ended (length s.bytes) s2 → s3 ≡ with_written pointer_to s
+  pub pointer_is : (s1 s2 s3 : WriterState) → s1 ≡ opened_at s word.0 (with_label word.1 (next_place s)) → s2 ≡ with_written object s1 → s3 ≡ ended (length s.bytes) s2 → s3 ≡ with_written (pointer_to class object) s
   unfolding with_written
   pointer_is s1 s2 s3 opens w e = e ∙ closed_is s word.0 (with_label word.1 (next_place s)) object s1 s2 opens w
 

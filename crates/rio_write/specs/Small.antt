@@ -8,7 +8,8 @@ use Rattle.rio_format.specs.Fits.{Fits}
 use Rattle.rio_format.specs.ReaderState.{WordsMet}
 use Rattle.rio_format.specs.Slots.{kinded}
 use Rattle.rio_format.specs.Written.{writing_of, written_form}
-use Rattle.rio_write.specs.Writing.{IsSmallBuiltin, is_small_builtin}
+use Rattle.rio_layout.specs.BuiltIn.{is_small_builtin}
+use Rattle.rio_write.specs.Writing.{IsSmallBuiltin}
 
 -- it is an object in this version
 abbrev pub HasVersion : ℤ → Value → Type 0

@@ -1,13 +1,13 @@
 -- What the writers of objects do.
-use Rattle.std.specs.Prelude.{◌≡◌, ◌<◌, ◌≤◌, ◌^◌, ℕ, ◌+◌, ◌-◌, ◌%◌, suc, ℤ, pos, negsuc, List, [], ◌++◌, length, codes, Bool, ◌||◌, IsTrue, Option, Some, Result, Ok, Err}
-use Rattle.std.specs.Str.{bytes_eq}
+use Rattle.std.specs.Prelude.{◌≡◌, ◌<◌, ◌≤◌, ◌^◌, ℕ, ◌+◌, ◌-◌, ◌%◌, suc, ℤ, pos, negsuc, List, [], ◌++◌, length, IsTrue, Option, Some, Result, Ok, Err}
 use Rattle.rio_num.specs.declared.no_memory.NoMemory.{NoMemory}
 use Rattle.rio_types.specs.declared.class.ClassDef.{ClassDef}
 use Rattle.rio_value.specs.declared.value.Part.{Part}
 use Rattle.rio_value.specs.declared.value.Value.{Value}
 use Rattle.rio_format.specs.Fits.{Fits, Fitting, Labels, fitting_of}
-use Rattle.rio_format.specs.Written.{Writer, Writing, writing_of}
+use Rattle.rio_format.specs.Written.{Writer, Writing, both, class_bytes, counted, labelled, writing_of}
 use Rattle.rio_buffer.specs.Writer.{WriterState, next_place}
+use Rattle.rio_layout.specs.BuiltIn.{is_small_builtin}
 
 -- what is written at the next place stands at the end
 unfoldable pub with_written : Writer → WriterState → WriterState
@@ -22,6 +22,10 @@ Writes write (Err e) old new = Unit {0}
 unfoldable pub HasRoom : Writer → WriterState → Type 0
 HasRoom write s = next_place s + length (write (next_place s) s.words).0 < 2 ^ 30 - 2
 
+-- a pointer to an object that is written there: a count word, the class word, and the object, which has the next label
+abbrev pub pointer_to : List ℕ → Writer → Writer
+pointer_to class object p t = counted (both (class_bytes class) (labelled p object) (p + 4) t)
+
 abbrev pub part_writing : List ClassDef → Part → Writing
 part_writing classes p = writing_of classes p.value
 
@@ -31,13 +35,6 @@ bits_within size (pos n) = n % size
 bits_within size (negsuc n) = (size - suc n) % size
 
 -- ---- built-in classes
-
--- TObject, TNamed, TObjString and the TArrays
-abbrev pub is_small_builtin : List ℕ → Bool
-is_small_builtin class =
-    bytes_eq class (codes "TObject") || bytes_eq class (codes "TNamed") || bytes_eq class (codes "TObjString")
-    || bytes_eq class (codes "TArrayC") || bytes_eq class (codes "TArrayS") || bytes_eq class (codes "TArrayI")
-    || bytes_eq class (codes "TArrayL64") || bytes_eq class (codes "TArrayF") || bytes_eq class (codes "TArrayD")
 
 -- an object of one of these classes that fits it
 abbrev pub IsSmallBuiltin : Value → Type 0

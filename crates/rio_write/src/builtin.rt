@@ -7,7 +7,8 @@ ghost use Rattle.rio_format.specs.Bodies.{bare, built_in, described, form_of, he
 ghost use Rattle.rio_format.specs.Fits.{all_fit, fitting_of, parts_fit};
 ghost use Rattle.rio_format.specs.Slots.{based, body_fields, declared_body, fields_of, flags, form_fields, kinded, many};
 ghost use Rattle.rio_format.specs.Written.{all, array_bytes, bare_bytes, body_bytes, both, form_bytes, headed_bytes, just, writing_of, written_form};
-ghost use Rattle.rio_write.specs.Writing.{FitsSomewhere, IsShort, IsSmallBuiltin, Writes, is_small_builtin, part_fitting, part_writing};
+ghost use Rattle.rio_layout.specs.BuiltIn.{is_small_builtin};
+ghost use Rattle.rio_write.specs.Writing.{FitsSomewhere, IsShort, IsSmallBuiltin, Writes, part_fitting, part_writing};
 
 use crate::write_numbers::{
     bits_16, write_bool, write_count, write_int, write_short, write_u32, write_u64, write_version,

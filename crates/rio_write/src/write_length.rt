@@ -1,6 +1,5 @@
 //! How long the written bytes of a value are.
 ghost use Rattle.std.specs.Prelude.{◌≡◌, ℕ, ℤ, List, length, map, min, IfOk};
-ghost use Rattle.rio_num.specs.Text.{text_bytes};
 ghost use Rattle.rio_types.specs.declared.class.ClassDef.{ClassDef as Class};
 ghost use Rattle.rio_format.specs.Bodies.{form_of, headed};
 ghost use Rattle.rio_format.specs.Slots.{declared_body, fields_of};
@@ -9,78 +8,13 @@ ghost use Rattle.rio_layout.specs.Fields.{field_as, slot_as};
 ghost use Rattle.rio_write.specs.Measuring.{Measures, too_long};
 ghost use Rattle.rio_write.specs.Writing.{part_writing};
 
+use crate::measure::{COUNT_WORD, HEADER, Measure, text_length};
 use crate::write::class_of;
 use rio_layout::{Body, Field, Shape, Slot, declared_body, fields_of, shape_of, width_of};
-use rio_names::Names;
 use rio_num::NoMemory;
 use rio_types::{Classes, Prim};
 use rio_value::{Part, Value};
 use std::alloc::Global;
-use std::marker::Model;
-
-/// The greatest length that is told.
-const LIMIT: u64 = 16_777_216;
-
-/// A word that counts the bytes behind it.
-const COUNT_WORD: u64 = 4;
-
-// How many bytes are written so far, or one more than the limit, and the classes that they spell out.
-#[derive(Drop)]
-struct Measure<'a> {
-    total: u64,
-    names: Names<'a>,
-}
-
-impl<'a> Model for Measure<'a> {
-    ghost use Rattle.rio_write.specs.Measuring.{Measured};
-
-    ghost Value = { Measured };
-
-    ghost view = { λ m. record { total = m.total; names = m.names } };
-}
-
-impl<'a> Measure<'a> {
-    ghost use Rattle.std.specs.Prelude.{◌≡◌};
-    ghost use Rattle.std.specs.List.{list_any};
-    ghost use Rattle.std.specs.Str.{bytes_eq};
-    ghost use Rattle.rio_format.specs.Written.{class_bytes};
-    ghost use Rattle.rio_write.specs.Measuring.{Measures, longer, nothing_measured};
-
-    fn new(alloc: Global) -> Measure<'a>
-        ensures { result ≡ nothing_measured }
-    {
-        Measure {
-            total: 0,
-            names: Names::new(alloc),
-        }
-    }
-
-    // So many more bytes.
-    fn add(&mut self, n: u64)
-        ensures { self.new ≡ longer n self.old }
-    {
-        self.total = self.total.saturating_add(n).min(LIMIT + 1);
-    }
-
-    fn knows(&self, class: &[u8]) -> bool
-        ensures { result ≡ list_any (bytes_eq class.now) self.now.names }
-    {
-        self.names.has(class)
-    }
-
-    // A class word.
-    fn add_class(&mut self, class: &'a [u8]) -> Result<(), NoMemory>
-        ensures { Measures (class_bytes class.now) result self.old self.new }
-    {
-        if self.knows(class) {
-            self.add(4);
-            return Ok(());
-        }
-        self.names.note(class)?;
-        self.add(class.len() as u64 + 5);
-        Ok(())
-    }
-}
 
 fn int_length(slot: Slot) -> u64
     ensures { (n : ℤ) → result ≡ length (int_bytes n (slot_as slot.entry)) }
@@ -91,13 +25,6 @@ fn int_length(slot: Slot) -> u64
         Slot::Flags => 4,
         _ => 0,
     }
-}
-
-fn text_length(text: &[u8]) -> u64
-    ensures { result ≡ length (text_bytes text.now) }
-{
-    let len = text.len() as u64;
-    if len < 255 { len + 1 } else { len + 5 }
 }
 
 // The items, one behind the other.
@@ -361,7 +288,7 @@ fn measure_headed<'a>(
     requires { form_of class.now ≡ headed }
     ensures { Measures (headed_bytes version (body_bytes (declared_body classes.now class.now version) (map (part_writing classes.now) parts.now))) result measure.old measure.new }
 {
-    measure.add(COUNT_WORD + 2);
+    measure.add(HEADER);
     measure_body(alloc, classes, measure, class, version, parts)
 }
 
@@ -425,5 +352,5 @@ pub fn written_length(alloc: Global, classes: &Classes, value: &Value) -> Result
     let mut measure = Measure::new(alloc);
     let class = class_of(value);
     measure_value(alloc, classes, &mut measure, value, Slot::Inline(class))?;
-    Ok(measure.total)
+    Ok(measure.total())
 }

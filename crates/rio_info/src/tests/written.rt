@@ -63,10 +63,11 @@ fn pointer_to(alloc: Global, class: &[u8]) -> Result<Kind, NoMemory> {
     Ok(Kind::Pointer { class })
 }
 
-fn node(alloc: Global) -> Result<ClassDef, NoMemory> {
+// A class with a number and a pointer to this class.
+fn node(alloc: Global, next: &[u8]) -> Result<ClassDef, NoMemory> {
     let mut members = Members::new(alloc);
     push_member(&mut members, b"val", Kind::Plain { of: Prim::I32 })?;
-    push_member(&mut members, b"next", pointer_to(alloc, b"Node")?)?;
+    push_member(&mut members, b"next", pointer_to(alloc, next)?)?;
     Ok(ClassDef {
         name: Name::from_slice(alloc, b"Node")?,
         version: 1,
@@ -174,21 +175,21 @@ fn has_within(bytes: &[u8], part: &[u8]) -> bool {
     false
 }
 
-fn declared_node(alloc: Global) -> Result<Classes, NoMemory> {
+fn declared_node(alloc: Global, next: &[u8]) -> Result<Classes, NoMemory> {
     let mut classes = Classes::new(alloc);
-    classes.push(node(alloc)?)?;
+    classes.push(node(alloc, next)?)?;
     Ok(classes)
 }
 
 fn declared_both(alloc: Global) -> Result<Classes, NoMemory> {
-    let mut classes = declared_node(alloc)?;
+    let mut classes = declared_node(alloc, b"Node")?;
     classes.push(all(alloc)?)?;
     Ok(classes)
 }
 
 #[test]
 fn writes_the_classes_of_trees_and_a_declared_one(rt: HostRuntime) -> Result<(), Fail> {
-    let classes = declared_node(rt.alloc()).ok().ok_or("a class")?;
+    let classes = declared_node(rt.alloc(), b"Node").ok().ok_or("a class")?;
     let bytes = written(rt.alloc(), &classes)
         .ok()
         .ok_or("memory")?
@@ -214,5 +215,20 @@ fn writes_each_kind_of_member(rt: HostRuntime) -> Result<(), Fail> {
     let text = read(rt.alloc(), bytes.as_slice()).ok().ok_or("read")?;
     let wanted = all_classes(rt.alloc()).ok().ok_or("a row")?;
     assert!(rt; text.as_slice() == wanted.as_slice());
+    Ok(())
+}
+
+// The list for Node has 4 bytes of a count word, and the 0x1098 that it counts: 4,252. Its last text, `Node*`, takes 6
+// of them. With an asterisk behind a name of 254 bytes it is a text of 255 bytes, which takes 260: 254 more.
+#[test]
+fn writes_a_long_name_of_a_type(rt: HostRuntime) -> Result<(), Fail> {
+    let classes = declared_node(rt.alloc(), &[b'N'; 254])
+        .ok()
+        .ok_or("a class")?;
+    let bytes = written(rt.alloc(), &classes)
+        .ok()
+        .ok_or("memory")?
+        .ok_or("the length")?;
+    assert_eq!(rt; bytes.len(), 4506);
     Ok(())
 }

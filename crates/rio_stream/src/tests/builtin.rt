@@ -1,5 +1,5 @@
 ghost use Rattle.std.specs.Prelude.{IsTrue};
-ghost use Rattle.rio_write.specs.Writing.{is_small_builtin};
+ghost use Rattle.rio_layout.specs.BuiltIn.{is_small_builtin};
 
 use crate::tests::classes::hex_bytes;
 use crate::{fits, write_builtin, written_length};

@@ -3,4 +3,4 @@ use Rattle.rio_layout.specs.Bases.{Pushed}
 use Rattle.rio_layout.proofs.bases.push_bases.Given as goal
 
 abbrev pub invariant-loop-base : goal.invariant-loop-base
-invariant-loop-base l = Pushed l.target l.levels (take l.base-index l.bases) l.fn.visits l.visits
+invariant-loop-base l = Pushed l.target (take l.base-index l.bases) l.fn.visits l.visits

@@ -9,8 +9,8 @@ use Rattle.rio_format.specs.Written.{body_bytes, writing_of}
 use Rattle.rio_format.specs.ReaderState.{with_label}
 use Rattle.rio_buffer.specs.Writer.{next_place}
 use Rattle.rio_layout.specs.Fields.{field_as, slot_as}
-use Rattle.rio_write.specs.Writing.{HasRoom, part_writing, with_written}
-use Rattle.rio_write.proofs.WriteLaws.{item_room, items_room, items_go_on, items_done, part_room, parts_room, parts_go_on, parts_missing, parts_done, place_room, opened_at, inside_room, still_innermost, count_room, header, word, pointer_to, header_room, headed_is, pointer_room, pointer_is}
+use Rattle.rio_write.specs.Writing.{HasRoom, part_writing, pointer_to, with_written}
+use Rattle.rio_write.proofs.WriteLaws.{item_room, items_room, items_go_on, items_done, part_room, parts_room, parts_go_on, parts_missing, parts_done, place_room, opened_at, inside_room, still_innermost, count_room, header, word, header_room, headed_is, pointer_room, pointer_is}
 use Rattle.rio_write.proofs.WriteParts.{nothing, link_room, link_text_room, link_writes, no_link, counted_room, counted_writes, array_room, array_writes, no_array, id_room, bits_room, bare_writes, no_bare, list_base_room, list_name_room, links_room, listed_writes, no_listed, array_base_room, array_name_room, lower_room, pointers_room, arrayed_writes, no_arrayed}
 use Rattle.rio_write.proofs.WriteValues.{int_is, object_is, opaque_is}
 use Rattle.rio_write.proofs.write.+write.Goals as goal
@@ -162,7 +162,7 @@ write_pointed-write_value-requires t c =
     let class = c.class_of-class.result.now in
     let object = known.bytes (kinded (Inline class)) in
     let same : class ≡ known.class = c.class_of-class.ensures c.args.classes.now in
-    let room : HasRoom (pointer_to class object c.args.writer.now) c.args.writer.now = subst (λ (k : List ℕ). HasRoom (pointer_to k (known.bytes (kinded (Inline k))) c.args.writer.now) c.args.writer.now) (sym same) c.requires in
+    let room : HasRoom (pointer_to class object) c.args.writer.now = subst (λ (k : List ℕ). HasRoom (pointer_to k (known.bytes (kinded (Inline k)))) c.args.writer.now) (sym same) c.requires in
     let first = word class object c.args.writer.now in
     let opens : c.begin_pointer.new.self ≡ opened_at c.args.writer.now first.0 (with_label first.1 (next_place c.args.writer.now)) = c.in_ok-begun.ensures.1 in
     (search (rules, the_lemmas), inside_room c.args.writer.now first.0 (with_label first.1 (next_place c.args.writer.now)) object c.begin_pointer.new.self opens (pointer_room class object c.args.writer.now room))
@@ -173,7 +173,7 @@ write_pointed-end-requires-clause-innermost t c =
     let class = c.class_of-class.result.now in
     let object = known.bytes (kinded (Inline class)) in
     let same : class ≡ known.class = c.class_of-class.ensures c.args.classes.now in
-    let room : HasRoom (pointer_to class object c.args.writer.now) c.args.writer.now = subst (λ (k : List ℕ). HasRoom (pointer_to k (known.bytes (kinded (Inline k))) c.args.writer.now) c.args.writer.now) (sym same) c.requires in
+    let room : HasRoom (pointer_to class object) c.args.writer.now = subst (λ (k : List ℕ). HasRoom (pointer_to k (known.bytes (kinded (Inline k)))) c.args.writer.now) (sym same) c.requires in
     let first = word class object c.args.writer.now in
     let opens : c.begin_pointer.new.self ≡ opened_at c.args.writer.now first.0 (with_label first.1 (next_place c.args.writer.now)) = c.in_ok-begun.ensures.1 in
     let written = c.in_ok-write_value.ensures in
@@ -185,7 +185,7 @@ write_pointed-end-requires-clause-size t c =
     let class = c.class_of-class.result.now in
     let object = known.bytes (kinded (Inline class)) in
     let same : class ≡ known.class = c.class_of-class.ensures c.args.classes.now in
-    let room : HasRoom (pointer_to class object c.args.writer.now) c.args.writer.now = subst (λ (k : List ℕ). HasRoom (pointer_to k (known.bytes (kinded (Inline k))) c.args.writer.now) c.args.writer.now) (sym same) c.requires in
+    let room : HasRoom (pointer_to class object) c.args.writer.now = subst (λ (k : List ℕ). HasRoom (pointer_to k (known.bytes (kinded (Inline k)))) c.args.writer.now) (sym same) c.requires in
     let first = word class object c.args.writer.now in
     let opens : c.begin_pointer.new.self ≡ opened_at c.args.writer.now first.0 (with_label first.1 (next_place c.args.writer.now)) = c.in_ok-begun.ensures.1 in
     let written = c.in_ok-write_value.ensures in
@@ -197,11 +197,11 @@ write_pointed-returns t c =
     let class = c.class_of-class.result.now in
     let object = known.bytes (kinded (Inline class)) in
     let same : class ≡ known.class = c.class_of-class.ensures c.args.classes.now in
-    let room : HasRoom (pointer_to class object c.args.writer.now) c.args.writer.now = subst (λ (k : List ℕ). HasRoom (pointer_to k (known.bytes (kinded (Inline k))) c.args.writer.now) c.args.writer.now) (sym same) c.requires in
+    let room : HasRoom (pointer_to class object) c.args.writer.now = subst (λ (k : List ℕ). HasRoom (pointer_to k (known.bytes (kinded (Inline k)))) c.args.writer.now) (sym same) c.requires in
     let first = word class object c.args.writer.now in
     let opens : c.begin_pointer.new.self ≡ opened_at c.args.writer.now first.0 (with_label first.1 (next_place c.args.writer.now)) = c.in_ok-begun.ensures.1 in
     let written = c.in_ok-write_value.ensures in
-    subst (λ (k : List ℕ). c.end.new.self ≡ with_written (pointer_to k (known.bytes (kinded (Inline k))) c.args.writer.now) c.args.writer.now) same
+    subst (λ (k : List ℕ). c.end.new.self ≡ with_written (pointer_to k (known.bytes (kinded (Inline k)))) c.args.writer.now) same
     (pointer_is class object c.args.writer.now c.begin_pointer.new.self c.write_value.new.writer c.end.new.self opens written (rw c.in_ok-begun.ensures.0 at c.end.ensures))
 
 pub write_value-write_parts-requires : goal.write_value-write_parts-requires

@@ -5,8 +5,8 @@ use Rattle.rio_format.specs.Slots.{declared_body, kinded}
 use Rattle.rio_format.specs.Written.{all, body_bytes, class_bytes, fields_bytes, writing_of}
 use Rattle.rio_layout.specs.Fields.{field_as, slot_as}
 use Rattle.rio_write.specs.Measuring.{Grows, Measured, Measures}
-use Rattle.rio_write.specs.Writing.{part_writing}
-use Rattle.rio_write.proofs.MeasureLaws.{headed_measured, pointed_measured, pointer_to}
+use Rattle.rio_write.specs.Writing.{part_writing, pointer_to}
+use Rattle.rio_write.proofs.MeasureLaws.{headed_measured, pointed_measured}
 use Rattle.rio_write.proofs.MeasureParts.{items_grow, items_grown, parts_grow, parts_missing, parts_grown, link_measured, no_link_grows, counted_measured, array_measured, no_array_grows, bare_measured, no_bare_grows, listed_measured, no_listed_grows, arrayed_measured, no_arrayed_grows}
 use Rattle.rio_write.proofs.MeasureValues.{int_grows, bits32_grows, bits64_grows, bool_grows, text_grows, null_grows, reference_grows, opaque_grows}
 use Rattle.rio_write.proofs.WriteValues.{object_is}

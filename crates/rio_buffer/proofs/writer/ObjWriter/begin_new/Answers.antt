@@ -1,6 +1,5 @@
-use Rattle.std.proofs.Common.{rules, ◌≡◌, ℕ, ◌<◌, ◌≤◌, ◌^◌, ◌+◌, ◌-◌, ◌++◌, [], ◌∷◌, length, nat_eq, arith}
+use Rattle.std.proofs.Common.{rules, ◌≡◌, ℕ, ◌<◌, ◌≤◌, ◌^◌, ◌+◌, ◌-◌, length, nat_eq, arith}
 use Rattle.std.proofs.lemmas.List.{length-append}
-use Rattle.byteorder.specs.Endian.{big_bytes}
 use Rattle.indexmap.specs.IndexMap.{insert_entry}
 use Rattle.indexmap.specs.IndexSet.{insert_key}
 use Rattle.rio_buffer.specs.Writer.{spelled}
@@ -13,14 +12,13 @@ invariant_of-self-2 c =
     let before = spelled c.self.inside.names in
     let next = c.place-place.result in
     let old_end = length c.self.inside.bytes.bytes in
-    let new_end = length c.open_count.new.bytes.bytes in
+    let new_end = length c.open_spelled.new.bytes.bytes in
     let labels : c.keep_label.new.labels.keys ≡ insert_key nat_eq c.self.inside.labels.keys next = search rules in
     let names : spelled c.keep_name.new.names ≡ insert_entry nat_eq before (next + 4) c.in_ok-name.name.items = search rules in
     let place : next < 2 ^ 30 - 2 = search rules in
     let is_next : next ≡ c.self.inside.start + old_end = search rules in
     let class_place : next + 4 < 2 ^ 30 + 2 = omega arith in
-    let word : c.as_slice.result.now ≡ big_bytes 4 (2 ^ 32 - 1) ++ (c.args.class.now ++ 0 ∷ []) = search rules in
-    let longer : old_end + 8 ≤ new_end = rw (opens.1, word) (simp length-append (omega arith)) in
+    let longer : old_end + 8 ≤ new_end = rw opens.1 (simp length-append (omega arith)) in
     let within : next + 4 < c.self.inside.start + new_end = omega (arith, is_next, longer) in
     let q = key_kept (λ (p : ℕ). p < 2 ^ 30 - 2) nat_eq c.self.inside.labels.keys next c.self.invariant.2 place in
     let r = entry_kept (λ (p : ℕ). p < 2 ^ 30 + 2) nat_eq before (next + 4) c.in_ok-name.name.items c.self.invariant.3 class_place in

@@ -1,0 +1,12 @@
+use Rattle.std.proofs.Common.{◌≡◌, map, drop}
+use Rattle.rio_format.specs.Slots.{link}
+use Rattle.rio_format.specs.Written.{all}
+use Rattle.rio_layout.specs.Lists.{listed}
+use Rattle.rio_write.specs.Writing.{HasRoom, with_written}
+use Rattle.rio_info.specs.WrittenParts.{class_writing}
+use Rattle.rio_info.proofs.write_class.write_classes.Given as goal
+
+abbrev pub invariant-loop-class : goal.invariant-loop-class
+invariant-loop-class l =
+    (with_written (all link (map (class_writing (listed l.classes)) (drop l.class-index l.part))) l.writer ≡ with_written (all link (map (class_writing (listed l.classes)) l.part)) l.fn.writer)
+    × HasRoom (all link (map (class_writing (listed l.classes)) (drop l.class-index l.part))) l.writer

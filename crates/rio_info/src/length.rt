@@ -1,0 +1,210 @@
+//! How long class lists are, without writing them.
+ghost use Rattle.std.specs.Prelude.{◌≡◌, ◌+◌, ◌++◌, ℕ, length, map, min, codes, IfOk};
+ghost use Rattle.rio_num.specs.Text.{text_bytes};
+ghost use Rattle.rio_format.specs.Slots.{any_pointer, link};
+ghost use Rattle.rio_format.specs.Written.{all};
+ghost use Rattle.rio_layout.specs.Lists.{listed};
+ghost use Rattle.rio_describe.specs.ElementViews.{element_as, type_name_as};
+ghost use Rattle.rio_describe.specs.WrittenElements.{base_element, member_element, written_elements};
+ghost use Rattle.rio_write.specs.Measuring.{Measures, longer};
+ghost use Rattle.rio_write.specs.Writing.{pointer_to};
+ghost use Rattle.rio_info.specs.WrittenBytes.{length_limit, written_list};
+ghost use Rattle.rio_info.specs.WrittenParts.{class_writing, element_writing, elements_writer, info_writer, list_writer, named_bytes, own_bytes, stated_bytes};
+
+use rio_describe::{Element, ElementClass, TypeName, base_element, member_element, tree_classes};
+use rio_layout::ClassLists;
+use rio_num::NoMemory;
+use rio_types::{Base, ClassDef, Classes, Member};
+use rio_write::{COUNT_WORD, HEADER, Measure, text_length, text_length_of};
+use std::alloc::Global;
+
+/// A TObject: its version, its number and its flags.
+const PLAIN: u64 = 10;
+/// A text of no bytes.
+const EMPTY: u64 = 1;
+/// A number.
+const WORD: u64 = 4;
+
+// ---- elements
+
+// A TNamed without a title.
+fn add_named(measure: &mut Measure, name: &[u8])
+    ensures { measure.new ≡ longer (length (named_bytes name.now)) measure.old }
+{
+    measure.add(HEADER + PLAIN);
+    measure.add(text_length(name));
+    measure.add(EMPTY);
+}
+
+// The name of an element's type.
+fn add_type(measure: &mut Measure, type_name: TypeName)
+    ensures { measure.new ≡ longer (length (text_bytes (type_name_as type_name.entry))) measure.old }
+{
+    match type_name {
+        TypeName::Value(name) => measure.add(text_length(name)),
+        // An asterisk stands behind the name.
+        TypeName::Pointer(name) => measure.add(text_length_of(name.len() as u64 + 1)),
+    }
+}
+
+// What an element says as a TStreamerElement.
+fn add_stated(measure: &mut Measure, element: &Element)
+    ensures { measure.new ≡ longer (length (stated_bytes (element_as element.now))) measure.old }
+{
+    measure.add(HEADER);
+    add_named(measure, element.name);
+    measure.add(9 * WORD);
+    add_type(measure, element.type_name);
+}
+
+// What the class of an element adds.
+fn add_own(measure: &mut Measure, class: ElementClass)
+    ensures { measure.new ≡ longer (length (own_bytes class.entry)) measure.old }
+{
+    match class {
+        ElementClass::Base { .. } => measure.add(WORD),
+        ElementClass::BasicPointer { owner, counter } => {
+            measure.add(WORD);
+            measure.add(text_length(counter));
+            measure.add(text_length(owner.name.as_slice()));
+        }
+        _ => measure.add(0),
+    }
+}
+
+// A pointer to the object of an element.
+fn measure_element(measure: &mut Measure, element: &Element) -> Result<(), NoMemory>
+    ensures { Measures ((element_writing (element_as element.now)).bytes any_pointer) result measure.old measure.new }
+{
+    measure.add(COUNT_WORD);
+    measure.add_class(element.class.name())?;
+    measure.add(HEADER);
+    add_stated(measure, element);
+    add_own(measure, element.class);
+    Ok(())
+}
+
+// ---- classes
+
+fn measure_bases(measure: &mut Measure, bases: &[Base]) -> Result<(), NoMemory>
+    ensures { Measures (all any_pointer (map (λ b. element_writing (base_element b)) bases.now)) result measure.old measure.new }
+{
+    for base in bases {
+        measure_element(measure, &base_element(base))?;
+    }
+    Ok(())
+}
+
+fn measure_members<'a>(
+    alloc: Global,
+    classes: &ClassLists<'a>,
+    measure: &mut Measure,
+    owner: &'a ClassDef,
+    members: &'a [Member],
+) -> Result<(), NoMemory>
+    ensures { Measures (all any_pointer (map (λ m. element_writing (member_element (listed classes.now) owner.now m)) members.now)) result measure.old measure.new }
+{
+    for member in members {
+        let element = member_element(alloc, classes, owner, member)?;
+        measure_element(measure, &element)?;
+    }
+    Ok(())
+}
+
+fn measure_elements<'a>(
+    alloc: Global,
+    classes: &ClassLists<'a>,
+    measure: &mut Measure,
+    class: &'a ClassDef,
+) -> Result<(), NoMemory>
+    ensures { Measures (all any_pointer (map element_writing (written_elements (listed classes.now) class.now))) result measure.old measure.new }
+{
+    measure_bases(measure, class.bases.as_slice())?;
+    measure_members(alloc, classes, measure, class, class.members.as_slice())
+}
+
+// A pointer to the TObjArray of the elements.
+fn measure_array<'a>(
+    alloc: Global,
+    classes: &ClassLists<'a>,
+    measure: &mut Measure,
+    class: &'a ClassDef,
+) -> Result<(), NoMemory>
+    ensures { Measures (elements_writer (listed classes.now) class.now) result measure.old measure.new }
+{
+    measure.add(COUNT_WORD);
+    measure.add_class(b"TObjArray")?;
+    measure.add(HEADER + PLAIN + EMPTY + 2 * WORD);
+    measure_elements(alloc, classes, measure, class)
+}
+
+// A pointer to the TStreamerInfo of the class.
+fn measure_info<'a>(
+    alloc: Global,
+    classes: &ClassLists<'a>,
+    measure: &mut Measure,
+    class: &'a ClassDef,
+) -> Result<(), NoMemory>
+    ensures { Measures (pointer_to (codes "TStreamerInfo") (info_writer (listed classes.now) class.now)) result measure.old measure.new }
+{
+    measure.add(COUNT_WORD);
+    measure.add_class(b"TStreamerInfo")?;
+    measure.add(HEADER);
+    add_named(measure, class.name.as_slice());
+    measure.add(2 * WORD);
+    measure_array(alloc, classes, measure, class)
+}
+
+// For each class a pointer to its TStreamerInfo, and an option, which is empty.
+fn measure_classes<'a>(
+    alloc: Global,
+    classes: &ClassLists<'a>,
+    measure: &mut Measure,
+    part: &'a [ClassDef],
+) -> Result<(), NoMemory>
+    ensures { Measures (all link (map (class_writing (listed classes.now)) part.now)) result measure.old measure.new }
+{
+    for class in part {
+        measure_info(alloc, classes, measure, class)?;
+        measure.add(EMPTY);
+    }
+    Ok(())
+}
+
+// The items of both lists, one behind the other.
+fn measure_both<'a>(
+    alloc: Global,
+    measure: &mut Measure,
+    first: &'a Classes,
+    second: &'a Classes,
+) -> Result<(), NoMemory>
+    ensures { Measures (all link (map (class_writing (first.now ++ second.now)) (first.now ++ second.now))) result measure.old measure.new }
+{
+    let classes = ClassLists::Two(first, second);
+    measure_classes(alloc, &classes, measure, first.as_slice())?;
+    measure_classes(alloc, &classes, measure, second.as_slice())
+}
+
+// The TList of both lists of classes.
+fn measure_list<'a>(
+    alloc: Global,
+    measure: &mut Measure,
+    first: &'a Classes,
+    second: &'a Classes,
+) -> Result<(), NoMemory>
+    ensures { Measures (list_writer (first.now ++ second.now)) result measure.old measure.new }
+{
+    measure.add(HEADER + PLAIN + EMPTY + WORD);
+    measure_both(alloc, measure, first, second)
+}
+
+/// The length of the class list that is written for these declared classes, or 16,777,217 where it is more than
+/// 16,777,216. Nothing is written, and no class is copied: it goes over the classes of trees and these.
+pub fn info_length(alloc: Global, classes: &Classes) -> Result<u64, NoMemory>
+    ensures { IfOk result (λ n. (start : ℕ) → n ≡ min (length (written_list start classes.now)) (length_limit + 1)) }
+{
+    let trees = tree_classes(alloc)?;
+    let mut measure = Measure::new(alloc);
+    measure_list(alloc, &mut measure, &trees, classes)?;
+    Ok(measure.total())
+}
