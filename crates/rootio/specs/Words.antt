@@ -1,8 +1,9 @@
 -- The form of the words of the command line.
-use Rattle.std.specs.Prelude.{ℕ, ◌+◌, ◌-◌, ◌*◌, ◌^◌, List, [], ◌∷◌, length, take, drop, codes, Option, Some, None, option_map, Bool, true, false, not, nat_le, nat_lt, position, ◌==◌, ◌&&◌, if◌then◌else◌}
+use Rattle.std.specs.Prelude.{ℕ, ◌+◌, List, [], ◌∷◌, length, take, drop, codes, Option, Some, None, option_map, Bool, true, false, not, nat_le, position, ◌==◌, ◌&&◌, if◌then◌else◌}
 use Rattle.std.specs.List.{list_all}
 use Rattle.std.specs.Str.{bytes_eq}
 use Rattle.rio_num.specs.Word.{is_item_text}
+use Rattle.rio_token.specs.Words.{num_of}
 use Rattle.rio_meaning.specs.declared.item.Item.{Item}
 use Rattle.rootio.specs.declared.words.Form.{Form}
 use Rattle.rootio.specs.declared.words.Form.TheVariants.{Ls, Dump}
@@ -16,37 +17,13 @@ is_no_flag (b ∷ bs) = not (b == 45)
 abbrev pub is_file : List ℕ → Bool
 is_file word = is_no_flag word && not (length word == 0) && nat_le (length word) 200 && list_all (nat_le 32) word
 
-abbrev pub is_digit : ℕ → Bool
-is_digit b = nat_le 48 b && nat_le b 57
-
--- a zero with more behind it
-abbrev pub leads_zero : List ℕ → Bool
-leads_zero (b ∷ c ∷ bs) = b == 48
-leads_zero _ = false
-
--- 0, or digits without a leading zero
-abbrev pub is_decimal : List ℕ → Bool
-is_decimal word = not (length word == 0) && list_all is_digit word && not (leads_zero word)
-
--- the number that digits spell behind the digits of a number
-abbrev pub read_on : ℕ → List ℕ → ℕ
-read_on n [] = n
-read_on n (b ∷ bs) = read_on (10 * n + (b - 48)) bs
-
--- a number of 32 bits
-abbrev pub fits_word : ℕ → Option ℕ
-fits_word n = if nat_lt n (2 ^ 32) then Some n else None
-
-abbrev pub number_of : List ℕ → Option ℕ
-number_of word = if is_decimal word then fits_word (read_on 0 word) else None
-
 -- an item of this name, which is the greatest cycle
 abbrev pub newest_item : List ℕ → Option Item
 newest_item name = if is_item_text name then Some (record { name = name; cycle = None }) else None
 
 -- an item of this name and cycle
 abbrev pub cycle_item : List ℕ → List ℕ → Option Item
-cycle_item name cycle = if is_item_text name then option_map (λ n. record { name = name; cycle = Some n }) (number_of cycle) else None
+cycle_item name cycle = if is_item_text name then option_map (λ n. record { name = name; cycle = Some n }) (num_of cycle) else None
 
 -- the name of an item alone, or with a semicolon and its cycle behind it
 abbrev pub item_by : List ℕ → Option ℕ → Option Item

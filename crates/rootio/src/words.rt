@@ -1,11 +1,12 @@
 //! The words of the command line.
-ghost use Rattle.std.specs.Prelude.{◌≡◌, ◌<◌, ◌^◌, ◌==◌, [], ◌∷◌, nat_le, position};
+ghost use Rattle.std.specs.Prelude.{◌≡◌, ◌==◌, [], ◌∷◌, nat_le, position};
 ghost use Rattle.std.specs.Str.{bytes_eq};
 ghost use Rattle.std.specs.List.{list_all};
-ghost use Rattle.rootio.specs.Words.{cycle_item, fits_word, form_of, is_decimal, is_digit, is_file, is_no_flag, item_of, leads_zero, newest_item, number_of, read_on, verb_of};
+ghost use Rattle.rootio.specs.Words.{cycle_item, form_of, is_file, is_no_flag, item_of, newest_item, verb_of};
 
 use crate::item_word::ItemWord;
 use rio_num::{Name, Words, is_item};
+use rio_token::parse_num;
 
 /// What the words ask for, where they have a form.
 #[derive(Debug, Drop)]
@@ -39,52 +40,6 @@ fn names_file(word: &[u8]) -> bool
     is_plain(word) && !word.is_empty() && word.len() <= 200 && are_printable(word)
 }
 
-fn are_digits(word: &[u8]) -> bool
-    ensures { result ≡ list_all is_digit word.now }
-{
-    word.iter().all(|byte| byte.is_ascii_digit())
-}
-
-fn leads_zero(word: &[u8]) -> bool
-    ensures { result ≡ leads_zero word.now }
-{
-    match word {
-        [b'0', _, ..] => true,
-        _ => false,
-    }
-}
-
-// Whether the word is 0, or digits without a leading zero.
-fn is_decimal(word: &[u8]) -> bool
-    ensures { result ≡ is_decimal word.now }
-{
-    !word.is_empty() && are_digits(word) && !leads_zero(word)
-}
-
-// The number that digits spell: None where it takes more than 32 bits.
-fn value_of(digits: &[u8]) -> Option<u32>
-    ensures { result ≡ fits_word (read_on 0 digits.now) }
-{
-    let mut n: u64 = 0;
-    for byte in digits {
-        n = 10 * n + u64::from(byte.saturating_sub(b'0'));
-        if n >= 1 << 32 {
-            return None;
-        }
-    }
-    Some(n as u32)
-}
-
-fn number_of(word: &[u8]) -> Option<u32>
-    ensures { result ≡ number_of word.now }
-{
-    if is_decimal(word) {
-        value_of(word)
-    } else {
-        None
-    }
-}
-
 fn newest_item(name: &[u8]) -> Option<ItemWord<'_>>
     ensures { result ≡ newest_item name.now }
 {
@@ -97,7 +52,7 @@ fn cycle_item<'a>(name: &'a [u8], cycle: &[u8]) -> Option<ItemWord<'a>>
     if !is_item(name) {
         return None;
     }
-    match number_of(cycle) {
+    match parse_num(cycle) {
         Some(cycle) => Some(ItemWord {
             name,
             cycle: Some(cycle),
