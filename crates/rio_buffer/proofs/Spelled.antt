@@ -8,7 +8,7 @@ use Rattle.std.specs.Option.{option_map}
 use Rattle.std.specs.Str.{bytes_eq}
 use Rattle.std.specs.declared.vec.Vec.{Vec}
 use Rattle.indexmap.specs.IndexMap.{insert_entry}
-use Rattle.rio_types.proofs.NameLaws.{bytes_eq-sym}
+use Rattle.rio_num.proofs.BytesEq.{bytes_eq-sym}
 use Rattle.rio_buffer.proofs.Found.{found_holds}
 
 -- what holds of each place holds of one that is found

@@ -1,2 +1,4 @@
+pub mod Frames
 pub mod Reader
+pub mod ReaderState
 pub mod Writer

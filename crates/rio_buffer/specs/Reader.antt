@@ -1,10 +1,10 @@
 -- What a call of a reader of objects did.
 use Rattle.std.specs.Prelude.{◌≡◌, ◌≤◌, ◌<◌, ◌^◌, ℕ, ◌+◌, List, Result, Ok, Err}
-use Rattle.rio_format.specs.Objects.{Step, Fails, data_end}
-use Rattle.rio_format.specs.ReaderState.{ReaderState, with_name}
-use Rattle.rio_format.specs.declared.fault.ObjFault.{ObjFault}
-use Rattle.rio_format.specs.declared.words.PointerWord.{PointerWord}
-use Rattle.rio_format.specs.declared.words.PointerWord.TheVariants.{Null, New, Back}
+use Rattle.rio_buffer.specs.Frames.{Step, Fails, data_end}
+use Rattle.rio_buffer.specs.ReaderState.{ReaderState, with_name}
+use Rattle.rio_buffer.specs.declared.fault.ObjFault.{ObjFault}
+use Rattle.rio_buffer.specs.declared.words.PointerWord.{PointerWord}
+use Rattle.rio_buffer.specs.declared.words.PointerWord.TheVariants.{Null, New, Back}
 use Rattle.rio_buffer.specs.declared.reader.ClassWord.{ClassWord}
 use Rattle.rio_buffer.specs.declared.reader.ClassWord.TheVariants.{Spelled, Earlier}
 

@@ -1,12 +1,12 @@
 -- What is written of objects.
-use Rattle.std.specs.Prelude.{◌≡◌, ℕ, ◌+◌, ◌-◌, ◌^◌, List, [], ◌∷◌, ◌++◌, length, map, take, drop, Option, Some, None, Result, Ok, Err}
+use Rattle.std.specs.Prelude.{◌≡◌, ℕ, ◌+◌, ◌-◌, ◌^◌, List, [], ◌∷◌, ◌++◌, length, map, take, drop, Option, Some, None, Result, Ok, Err, find}
+use Rattle.std.specs.Str.{bytes_eq}
 use Rattle.std.specs.declared.vec.Vec.{Vec}
 use Rattle.byteorder.specs.Endian.{big_bytes}
 use Rattle.indexmap.specs.IndexMap.{IndexMap}
 use Rattle.rio_num.specs.Room.{Room}
 use Rattle.rio_num.specs.declared.no_memory.NoMemory.{NoMemory}
-use Rattle.rio_format.specs.ReaderState.{WordsMet, no_words, with_label}
-use Rattle.rio_format.specs.Written.{class_bytes}
+use Rattle.rio_buffer.specs.ReaderState.{WordsMet, no_words, with_label, with_name}
 
 pub record WriterState : Type 0 where
   -- the place of the first byte
@@ -36,6 +36,20 @@ with_bytes more s = record s { bytes = s.bytes ++ more }
 abbrev pub Puts : List ℕ → Result (Unit {0}) NoMemory → WriterState → WriterState → Type 0
 Puts more (Ok x) old new = new ≡ with_bytes more old
 Puts more (Err e) old new = new ≡ old
+
+-- ---- class words
+
+-- what is written at a place behind these words, and the words behind it
+abbrev pub Writer : Type 0
+Writer = ℕ → WordsMet → List ℕ × WordsMet
+
+-- the name, where it stands for the first time, and else a reference to where it stood
+abbrev pub class_by : List ℕ → Option (ℕ × List ℕ) → Writer
+class_by class None p t = (big_bytes 4 (2 ^ 32 - 1) ++ (class ++ 0 ∷ []), with_name t p class)
+class_by class (Some e) p t = (big_bytes 4 (e.0 + (2 ^ 31 + 2)), t)
+
+abbrev pub class_bytes : List ℕ → Writer
+class_bytes class p t = class_by class (find (λ e. bytes_eq e.1 class) t.names) p t
 
 -- ---- objects
 

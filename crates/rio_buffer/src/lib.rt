@@ -1,9 +1,12 @@
 //! Reading and writing of objects: byte counts, class words and references.
 #![tactic(auto)]
 
+mod fault;
 mod reader;
+mod words;
 mod writer;
 
+pub use fault::ObjFault;
 pub use reader::ObjReader;
-pub use rio_format::{Header, ObjFault, PointerWord};
+pub use words::{Header, PointerWord};
 pub use writer::{ObjWriter, Open};

@@ -1,3 +1,4 @@
+//! Reading within the data of objects.
 ghost use Rattle.std.specs.Prelude.{◌≡◌, ◌==◌, ◌<◌, length, position, IfSome};
 
 use crate::{Header, ObjFault, PointerWord};
@@ -19,7 +20,7 @@ pub struct ObjReader<'a> {
 
 impl<'a> Model for ObjReader<'a> {
     ghost use Rattle.std.specs.Prelude.{◌+◌, ◌<◌, ◌≤◌, ◌^◌, length};
-    ghost use Rattle.rio_format.specs.ReaderState.{ReaderState};
+    ghost use Rattle.rio_buffer.specs.ReaderState.{ReaderState};
 
     ghost Value = { ReaderState };
 
@@ -37,10 +38,10 @@ enum ClassWord {
 
 impl<'a> ObjReader<'a> {
     ghost use Rattle.std.specs.Prelude.{◌≡◌, ◌+◌, ◌<◌, ◌≤◌, ◌^◌, length, IsTrue, IfOk, IfErr, OnErr, Ok, Err};
-    ghost use Rattle.rio_num.specs.At.{GoesOn};
+    ghost use Rattle.rio_num.specs.At.{AreBytes, GoesOn};
     ghost use Rattle.rio_num.specs.Reading.{skip_at};
-    ghost use Rattle.rio_format.specs.ReaderState.{standing, no_words, with_label, with_name};
-    ghost use Rattle.rio_format.specs.Objects.{ReadsAs, Fails, lifted, word_at, chars_at, is_count, data_end, end_at, finish_at, header_end_at, header_at, name_at, class_at, known_class_at, new_word_at, reference_at, pointer_word_at};
+    ghost use Rattle.rio_buffer.specs.ReaderState.{standing, no_words, with_label, with_name};
+    ghost use Rattle.rio_buffer.specs.Frames.{ReadsAs, Fails, lifted, word_at, chars_at, is_count, data_end, end_at, finish_at, header_end_at, header_at, name_at, class_at, known_class_at, new_word_at, reference_at, pointer_word_at};
     ghost use Rattle.rio_buffer.specs.Reader.{Takes, MayTake, IsCounted, IsPointerWithin, name_of, noted};
 
     /// Reads data whose first byte has the place `start`.
@@ -60,6 +61,7 @@ impl<'a> ObjReader<'a> {
     /// The place of the next byte.
     pub fn place(&self) -> u64
         ensures value { result ≡ self.now.at.place }
+        ensures bytes { AreBytes self.now.at.rest }
         ensures fits { data_end self.now < 2 ^ 64 }
         ensures size { length self.now.at.rest < 2 ^ 32 }
     {
@@ -116,7 +118,8 @@ impl<'a> ObjReader<'a> {
 
     /// Passes over the next `n` bytes.
     pub fn skip(&mut self, n: u64) -> Result<(), ObjFault>
-        ensures exact { Takes (λ _. tt) result (lifted self.old (skip_at n self.old.at)) self.old self.new }
+        ensures exact { Takes (λ _. tt) result (lifted self.old (skip_at n self.old.at)) self.old
+            self.new }
         ensures goes { GoesOn self.old.at self.new.at }
     {
         Ok(self.cursor.skip(n)?)
@@ -170,7 +173,8 @@ impl<'a> ObjReader<'a> {
     fn header_end(&self, place: u64, word: u32) -> Result<u64, ObjFault>
         requires behind { place + 4 ≤ self.now.at.place }
         requires near { data_end self.now < place + 2 ^ 32 }
-        ensures exact { Takes (λ x. x) result (header_end_at place word self.now) self.now self.now }
+        ensures exact { Takes (λ x. x) result
+            (header_end_at place word self.now) self.now self.now }
         ensures within { IfOk result (λ end. IsCounted place end self.now) }
     {
         if (0x4000_0000..0x8000_0000).contains(&word) {
@@ -183,7 +187,7 @@ impl<'a> ObjReader<'a> {
     }
 
     // The same as `header`, but where it refuses, reading may have gone on.
-    #[tactic(auto, unfolding(rio_format::specs::Objects::header_at))]
+    #[tactic(auto, unfolding(crate::specs::Frames::header_at))]
     fn read_header(&mut self) -> Result<Header, ObjFault>
         ensures ok { IfOk result (λ h. header_at self.old ≡ Ok (h, self.new)) }
         ensures err { IfErr result (λ e. header_at self.old ≡ Err e) }
@@ -257,9 +261,10 @@ impl<'a> ObjReader<'a> {
     }
 
     // A class word. A name that it spells out isn't kept yet.
-    #[tactic(auto, unfolding(rio_format::specs::Objects::class_at, rio_format::specs::Objects::new_class_at))]
+    #[tactic(auto, unfolding(crate::specs::Frames::class_at, crate::specs::Frames::new_class_at))]
     fn class_word(&mut self) -> Result<ClassWord, ObjFault>
-        ensures ok { IfOk result (λ c. class_at self.old ≡ Ok (name_of c, noted self.old.at.place c self.new)) }
+        ensures ok { IfOk result (λ c. class_at self.old
+            ≡ Ok (name_of c, noted self.old.at.place c self.new)) }
         ensures err { IfErr result (λ e. Fails e (class_at self.old)) }
         ensures words { self.new.words ≡ self.old.words }
         ensures goes { GoesOn self.old.at self.new.at }
@@ -275,7 +280,8 @@ impl<'a> ObjReader<'a> {
     // The next label, for the object whose count word stands at `place`.
     fn label(&mut self, place: u64) -> Result<u32, NoMemory>
         requires { length self.old.words.labels + length self.old.at.rest + 1 < 2 ^ 32 }
-        ensures ok { IfOk result (λ label. (label ≡ length self.old.words.labels) × (self.new ≡ record self.old { words = with_label self.old.words place })) }
+        ensures ok { IfOk result (λ label. (label ≡ length self.old.words.labels)
+            × (self.new ≡ record self.old { words = with_label self.old.words place })) }
         ensures err { OnErr result (self.new ≡ self.old) }
     {
         let label = self.labels.len();
@@ -286,7 +292,9 @@ impl<'a> ObjReader<'a> {
     // The next label, and the name that the class word at `class_place` spells out.
     fn label_and_name(&mut self, place: u64, class_place: u64, name: Name) -> Result<u32, NoMemory>
         requires { length self.old.words.labels + length self.old.at.rest + 1 < 2 ^ 32 }
-        ensures ok { IfOk result (λ label. (label ≡ length self.old.words.labels) × (self.new ≡ record self.old { words = with_label (with_name self.old.words class_place name) place })) }
+        ensures ok { IfOk result (λ label. (label ≡ length self.old.words.labels)
+            × (self.new ≡ record self.old
+            { words = with_label (with_name self.old.words class_place name) place })) }
         ensures err { OnErr result (self.new ≡ self.old) }
     {
         self.labels.reserve(1)?;
@@ -297,7 +305,7 @@ impl<'a> ObjReader<'a> {
     }
 
     // The object that begins behind the count word at `place`.
-    #[tactic(auto, unfolding(rio_format::specs::Objects::new_word_at))]
+    #[tactic(auto, unfolding(crate::specs::Frames::new_word_at))]
     fn new_object(&mut self, place: u64, word: u32) -> Result<PointerWord, ObjFault>
         requires count { IsTrue (is_count word) }
         requires behind { place + 4 ≤ self.old.at.place }
@@ -349,7 +357,7 @@ impl<'a> ObjReader<'a> {
     }
 
     // The same as `pointer`, but where it refuses, reading may have gone on.
-    #[tactic(auto, unfolding(rio_format::specs::Objects::pointer_word_at))]
+    #[tactic(auto, unfolding(crate::specs::Frames::pointer_word_at))]
     fn read_pointer(&mut self) -> Result<PointerWord, ObjFault>
         ensures exact { ReadsAs (λ x. x) result (pointer_word_at self.old) self.new }
         ensures within { IfOk result (λ w. IsPointerWithin w self.new) }

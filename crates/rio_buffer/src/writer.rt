@@ -1,3 +1,4 @@
+//! Writing of objects, with counts that are open until they end.
 ghost use Rattle.std.specs.Prelude.{◌≡◌, ◌≤◌, ◌+◌, ◌-◌, ◌^◌, ◌<◌, [], ◌∷◌, ◌++◌, length, max, nat_eq, All, None, OnOk, OnErr};
 ghost use Rattle.indexmap.specs.IndexMap.{insert_entry, spare};
 ghost use Rattle.indexmap.specs.IndexSet.{insert_key, spare as spare_keys};
@@ -142,7 +143,8 @@ impl ObjWriter {
 
     // Where the class word stands that spells out the class.
     fn place_of(&self, class: &[u8]) -> Option<u64>
-        ensures value { result ≡ option_map (λ e. e.0) (find (λ e. bytes_eq e.1 class.now) self.now.words.names) }
+        ensures value { result ≡ option_map (λ e. e.0)
+            (find (λ e. bytes_eq e.1 class.now) self.now.words.names) }
         ensures low { IfSome result (λ place. place < 2 ^ 30 + 2) }
     {
         self.names.get(class).copied()
@@ -152,7 +154,8 @@ impl ObjWriter {
     fn begin_known(&mut self, class: &[u8], class_place: u64) -> Result<Open, NoMemory>
         requires place { next_place self.old < 2 ^ 30 - 2 }
         requires low { class_place < 2 ^ 30 + 2 }
-        requires met { option_map (λ e. e.0) (find (λ e. bytes_eq e.1 class.now) self.old.words.names) ≡ Some class_place }
+        requires met { option_map (λ e. e.0)
+            (find (λ e. bytes_eq e.1 class.now) self.old.words.names) ≡ Some class_place }
         ensures { Begins (begun_pointer class.now) result self.old self.new }
     {
         let place = self.place();
@@ -166,7 +169,8 @@ impl ObjWriter {
     // Begins an object of a class that no earlier class word spells out.
     fn begin_new(&mut self, class: &[u8]) -> Result<Open, NoMemory>
         requires place { next_place self.old < 2 ^ 30 - 2 }
-        requires new { option_map (λ e. e.0) (find (λ e. bytes_eq e.1 class.now) self.old.words.names) ≡ None }
+        requires new { option_map (λ e. e.0)
+            (find (λ e. bytes_eq e.1 class.now) self.old.words.names) ≡ None }
         ensures { Begins (begun_pointer class.now) result self.old self.new }
     {
         let place = self.place();
@@ -214,7 +218,8 @@ impl ObjWriter {
     /// A reference to the earlier object of the label.
     pub fn back(&mut self, label: u32) -> Result<(), NoMemory>
         requires { label < length self.old.words.labels }
-        ensures { Puts (big_bytes 4 (slice_index self.old.words.labels label + 2)) result self.old self.new }
+        ensures { Puts (big_bytes 4 (slice_index self.old.words.labels label + 2)) result self.old
+            self.new }
     {
         let place = *self.labels.get_index(label as usize).unwrap();
         self.put_u32(place as u32 + 2)
@@ -249,7 +254,8 @@ fn open_spelled(
     opened: &mut VecDeque<usize>,
     class: &[u8],
 ) -> Result<Open, NoMemory>
-    ensures { Opens (big_bytes 4 (2 ^ 32 - 1) ++ (class.now ++ 0 ∷ [])) result bytes.old bytes.new opened.old.items opened.new.items }
+    ensures { Opens (big_bytes 4 (2 ^ 32 - 1) ++ (class.now ++ 0 ∷ [])) result bytes.old bytes.new
+        opened.old.items opened.new.items }
 {
     reserve_count(bytes, opened, class.len() as u64 + 5)?;
     let begun = put_count(bytes, opened);
@@ -267,7 +273,9 @@ fn reserve_count(
 ) -> Result<(), NoMemory>
     requires { behind + 4 < 2 ^ 64 }
     ensures same { opened.new.items ≡ opened.old.items }
-    ensures ok { OnOk result ((bytes.new ≡ record bytes.old { spare = max bytes.old.spare (behind + 4) }) × (deque_len opened.new < deque_capacity opened.new)) }
+    ensures ok { OnOk result ((bytes.new
+        ≡ record bytes.old { spare = max bytes.old.spare (behind + 4) })
+        × (deque_len opened.new < deque_capacity opened.new)) }
     ensures err { OnErr result (bytes.new ≡ bytes.old) }
 {
     opened.reserve(1)?;
@@ -307,7 +315,8 @@ fn keep_label(labels: &mut IndexSet<u64>, place: u64)
 // Keeps the name of one more class, whose class word stands at the place.
 fn keep_name(names: &mut IndexMap<Vec<u8>, u64>, name: Vec<u8>, place: u64)
     requires room { 0 < spare names.old }
-    requires new { option_map (λ e. e.0) (find (λ e. bytes_eq e.1 name.items) (spelled names.old)) ≡ None }
+    requires new { option_map (λ e. e.0) (find (λ e. bytes_eq e.1 name.items) (spelled names.old))
+        ≡ None }
     requires later { All (λ e. e.0 < place) (spelled names.old) }
     ensures { spelled names.new ≡ insert_entry nat_eq (spelled names.old) place name.items }
 {

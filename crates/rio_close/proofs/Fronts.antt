@@ -12,7 +12,7 @@ use Rattle.rio_head.specs.Head.{fault_at, head_at}
 use Rattle.rio_head.specs.Dir.{dir_at}
 use Rattle.rio_head.proofs.HeadCut.{head_in_front}
 use Rattle.rio_head.proofs.DirCut.{dir_in_front_lem}
-use Rattle.rio_meaning.specs.Closed.{closed_head, closed_dir, or_fault}
+use Rattle.rio_dir.specs.Closed.{closed_head, closed_dir, or_fault}
 
 abbrev Headed : Type 0
 Headed = Result FileHead HeadFault

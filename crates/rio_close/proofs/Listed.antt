@@ -9,7 +9,7 @@ use Rattle.rio_key.specs.Key.{key_at}
 use Rattle.rio_key.specs.KeyList.{key_list_at}
 use Rattle.rio_head.specs.declared.fault.FileFault.TheVariants.{BadKeyList}
 use Rattle.rio_head.specs.Head.{fault_at}
-use Rattle.rio_meaning.specs.Closed.{heads_of, or_bad_list, or_fault}
+use Rattle.rio_dir.specs.Closed.{heads_of, or_bad_list, or_fault}
 use Rattle.rio_close.specs.Opens.{listed_in}
 use Rattle.rio_close.proofs.Records.{Keyed, at}
 

@@ -9,7 +9,7 @@ use Rattle.rio_key.specs.Key.{key_at}
 use Rattle.rio_key.proofs.KeyFront.{key_in_front_lem, key_from_front_lem}
 use Rattle.rio_key.proofs.KeyRecord.{key_record, key_whole}
 use Rattle.rio_head.specs.declared.fault.HeadFault.{HeadFault}
-use Rattle.rio_meaning.specs.Closed.{data_at, file_at, or_fault, record_at}
+use Rattle.rio_dir.specs.Closed.{data_at, file_at, or_fault, record_at}
 use Rattle.rio_close.specs.Opens.{IsRecordAt, Opens, record_in}
 use Rattle.rio_close.specs.declared.fault.ReportFault.{ReportFault}
 

@@ -8,7 +8,7 @@ use Rattle.rio_key.specs.Key.{key_at}
 use Rattle.rio_head.specs.declared.fault.FileFault.TheVariants.{BadKeyList}
 use Rattle.rio_head.specs.declared.fault.HeadFault.{HeadFault}
 use Rattle.rio_head.specs.Head.{fault_at}
-use Rattle.rio_meaning.specs.Closed.{heads_of, or_fault}
+use Rattle.rio_dir.specs.Closed.{heads_of, or_fault}
 use Rattle.rio_host.specs.Host.{View}
 use Rattle.rio_close.specs.declared.fault.ReportFault.{ReportFault}
 use Rattle.rio_close.specs.declared.fault.ReportFault.TheVariants.{BadFile, NoMemory, HostFault, SayFault}

@@ -1,3 +1,4 @@
+//! Why a file's contents could not be told.
 use rio_head::{FileFault, HeadFault};
 use rio_host::Failed;
 use rio_num::NoMemory;

@@ -1,7 +1,8 @@
+//! The header and the directory record of a file.
 ghost use Rattle.std.specs.Prelude.{◌≡◌, ◌+◌, ◌<◌, ◌^◌};
 ghost use Rattle.rio_host.specs.Host.{IsLength};
 ghost use Rattle.rio_host.specs.OnlyReads.{OnlyReads};
-ghost use Rattle.rio_meaning.specs.Closed.{closed_dir, closed_head};
+ghost use Rattle.rio_dir.specs.Closed.{closed_dir, closed_head};
 ghost use Rattle.rio_close.specs.Causes.{IsHostCause};
 ghost use Rattle.rio_close.specs.Opens.{OpensTold};
 
@@ -11,7 +12,7 @@ use rio_head::{DirRecord, FileFault, FileHead, read_dir, read_head};
 use rio_host::Host;
 
 // The header, whose END is within the file.
-#[tactic(auto, unfolding(rio_meaning::specs::Closed::closed_head))]
+#[tactic(auto, unfolding(rio_dir::specs::Closed::closed_head))]
 pub(crate) fn open_head<H: Host>(host: &mut H, file_length: u64) -> Result<FileHead, ReportFault>
     requires { IsLength (H.view host.old) file_length }
     ensures exact { OpensTold (H.view host.old) result closed_head }

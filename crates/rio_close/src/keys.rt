@@ -1,7 +1,8 @@
+//! The heads of a key list.
 ghost use Rattle.std.specs.Prelude.{◌≡◌, ◌+◌, ◌<◌, ◌^◌, length, drop};
 ghost use Rattle.rio_host.specs.Host.{IsLength};
 ghost use Rattle.rio_host.specs.OnlyReads.{OnlyReads};
-ghost use Rattle.rio_meaning.specs.Closed.{closed_keys, listed_at};
+ghost use Rattle.rio_dir.specs.Closed.{closed_keys, listed_at};
 ghost use Rattle.rio_close.specs.Causes.{IsHostCause, IsOwnCause};
 ghost use Rattle.rio_close.specs.Opens.{Opens, OpensTold, listed_in};
 

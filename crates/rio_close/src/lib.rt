@@ -11,4 +11,4 @@ mod record;
 pub use fault::ReportFault;
 pub use open::{open_closed, read_closed};
 pub use record::{data_of, read_record, read_up_to};
-pub use rio_meaning::Closed;
+pub use rio_dir::Closed;

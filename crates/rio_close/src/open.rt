@@ -1,7 +1,8 @@
+//! A closed file is opened.
 ghost use Rattle.std.specs.Prelude.{◌≡◌};
 ghost use Rattle.rio_host.specs.Host.{IsLength};
 ghost use Rattle.rio_host.specs.OnlyReads.{OnlyReads};
-ghost use Rattle.rio_meaning.specs.Closed.{closed_file};
+ghost use Rattle.rio_dir.specs.Closed.{closed_file};
 ghost use Rattle.rio_close.specs.Causes.{IsHostCause};
 ghost use Rattle.rio_close.specs.Opens.{OpensTold};
 
@@ -24,7 +25,7 @@ pub fn open_closed<H: Host>(alloc: Global, host: &mut H) -> Result<Closed, Repor
 }
 
 /// The same, where the file's length was asked before: `file_length` is the host's answer to `length`.
-#[tactic(auto, unfolding(rio_meaning::specs::Closed::closed_file))]
+#[tactic(auto, unfolding(rio_dir::specs::Closed::closed_file))]
 pub fn read_closed<H: Host>(
     alloc: Global,
     host: &mut H,

@@ -1,3 +1,4 @@
+//! Bytes of a file from a place on.
 ghost use Rattle.std.specs.Prelude.{◌≡◌, ◌+◌, ◌-◌, min, ℕ, List, Some, length, take, drop, IfOk};
 ghost use Rattle.rio_host.specs.Host.{IsLength, IsWithin};
 ghost use Rattle.rio_host.specs.OnlyReads.{OnlyReads};
@@ -16,7 +17,8 @@ pub(crate) fn read_range<H: Host>(
 ) -> Result<Vec<u8>, ReportFault>
     requires { IsWithin (H.view host.old) (place + n) }
     ensures count { IfOk result (λ bytes. length bytes.items ≡ n) }
-    ensures bytes { IfOk result (λ bytes. (file : List ℕ) → (H.view host.old).holds ≡ Some file → bytes.items ≡ take n (drop place file)) }
+    ensures bytes { IfOk result (λ bytes. (file : List ℕ) → (H.view host.old).holds ≡ Some file
+        → bytes.items ≡ take n (drop place file)) }
     ensures calls { OnlyReads (H.view host.old) (H.view host.new) }
     ensures cause { IsCallCause (H.view host.old) (H.view host.new) result }
 {
@@ -35,7 +37,8 @@ pub(crate) fn read_front<H: Host>(
 ) -> Result<usize, ReportFault>
     requires { IsLength (H.view host.old) file_length }
     ensures count { IfOk result (λ n. n ≡ min (length into.old) (file_length - place)) }
-    ensures bytes { IfOk result (λ n. (file : List ℕ) → (H.view host.old).holds ≡ Some file → take n into.new ≡ take (length into.old) (drop place file)) }
+    ensures bytes { IfOk result (λ n. (file : List ℕ) → (H.view host.old).holds ≡ Some file
+        → take n into.new ≡ take (length into.old) (drop place file)) }
     ensures calls { OnlyReads (H.view host.old) (H.view host.new) }
     ensures cause { IsCallCause (H.view host.old) (H.view host.new) result }
 {

@@ -1,3 +1,4 @@
+//! Records of a file, and their data.
 ghost use Rattle.std.specs.Prelude.{◌≡◌, ◌⊎◌, ◌+◌, ◌<◌, ◌≤◌, ◌^◌, length, take, drop, ℕ, List, Some, IfOk, IfSome, MatchOption, option_map};
 ghost use Rattle.byteorder.specs.Endian.{big_number};
 ghost use Rattle.rio_host.specs.Host.{IsLength};
@@ -24,7 +25,8 @@ pub fn read_up_to<H: Host>(
     requires { IsLength (H.view host.old) file_length }
     ensures count { IfOk result (λ bytes. length bytes.items ≤ n) }
     ensures fits { IfOk result (λ bytes. place + length bytes.items < 2 ^ 64) }
-    ensures bytes { IfOk result (λ bytes. (file : List ℕ) → (H.view host.old).holds ≡ Some file → bytes.items ≡ take n (drop place file)) }
+    ensures bytes { IfOk result (λ bytes. (file : List ℕ) → (H.view host.old).holds ≡ Some file
+        → bytes.items ≡ take n (drop place file)) }
     ensures calls { OnlyReads (H.view host.old) (H.view host.new) }
     ensures cause { IsCallCause (H.view host.old) (H.view host.new) result }
 {
@@ -38,7 +40,10 @@ pub fn read_up_to<H: Host>(
 // How long the record is that begins with these bytes: None where its first word isn't whole or is
 // negative.
 fn record_length(bytes: &[u8]) -> Option<u32>
-    ensures { MatchOption result ((length bytes.now < 4) ⊎ ((2 ^ 31 ≤ big_number 4 bytes.now) × (big_number 4 bytes.now < 2 ^ 32))) (λ n. (4 ≤ length bytes.now) × (n ≡ big_number 4 bytes.now) × (n < 2 ^ 31)) }
+    ensures { MatchOption result
+        ((length bytes.now < 4)
+        ⊎ ((2 ^ 31 ≤ big_number 4 bytes.now) × (big_number 4 bytes.now < 2 ^ 32)))
+        (λ n. (4 ≤ length bytes.now) × (n ≡ big_number 4 bytes.now) × (n < 2 ^ 31)) }
 {
     match Cursor::new(bytes, 0).take_u32() {
         Ok(word) => (word < 0x8000_0000).then_some(word),
@@ -57,8 +62,10 @@ pub fn read_record<H: Host>(
 ) -> Result<Option<Vec<u8>>, ReportFault>
     requires { IsLength (H.view host.old) file_length }
     ensures count { IfOk result (λ found. IfSome found (λ bytes. length bytes.items < 2 ^ 31)) }
-    ensures fits { IfOk result (λ found. IfSome found (λ bytes. place + length bytes.items < 2 ^ 64)) }
-    ensures bytes { IfOk result (λ found. (file : List ℕ) → (H.view host.old).holds ≡ Some file → IsRecordAt (drop place file) (option_map (λ bytes. bytes.items) found)) }
+    ensures fits { IfOk result
+        (λ found. IfSome found (λ bytes. place + length bytes.items < 2 ^ 64)) }
+    ensures bytes { IfOk result (λ found. (file : List ℕ) → (H.view host.old).holds ≡ Some file
+        → IsRecordAt (drop place file) (option_map (λ bytes. bytes.items) found)) }
     ensures calls { OnlyReads (H.view host.old) (H.view host.new) }
     ensures cause { IsCallCause (H.view host.old) (H.view host.new) result }
 {

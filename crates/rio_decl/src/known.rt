@@ -4,15 +4,17 @@ ghost use Rattle.rio_decl.specs.Known.{KnowsCounters, has_name};
 ghost use Rattle.rio_model.specs.ClassGrammar.{counts_by};
 
 use crate::read_kind::may_count;
-use rio_names::Names;
-use rio_num::{Name, NoMemory};
+use rio_num::{Name, Names, NoMemory};
 use rio_types::{Base, Bases, Kind, Member, Members};
 use std::alloc::Global;
 use std::marker::Model;
 
 // Puts the name of what counts a value of the kind among others, if something does.
 fn put_counter<'a>(counters: &mut Names<'a>, kind: &'a Kind) -> Result<(), NoMemory>
-    ensures { OnOk result ((name : List ℕ) → has_name counters.new name ≡ (counts_by kind.now name || has_name counters.old name)) }
+    ensures { OnOk result
+        ((name : List ℕ) →
+        has_name counters.new name
+        ≡ (counts_by kind.now name || has_name counters.old name)) }
 {
     match kind {
         Kind::Counted { counter, .. } => counters.note(counter.as_slice()),
@@ -93,7 +95,8 @@ impl<'a> KnownMembers<'a> {
         alloc: Global,
         next: NewMember<'a>,
     ) -> Result<KnownMembers<'a>, NoMemory>
-        ensures { IfOk result (λ more. more ≡ self.entry ++ member next.entry.name.now next.entry.kind ∷ []) }
+        ensures { IfOk result
+            (λ more. more ≡ self.entry ++ member next.entry.name.now next.entry.kind ∷ []) }
     {
         let KnownMembers {
             mut members,

@@ -13,7 +13,7 @@ mod sum;
 mod tests;
 
 pub use print::print_class;
-pub use read::read_class;
+pub use read::{read_class, take_class};
 pub use rio_token::TextFault;
 pub use stated::is_stated;
 pub use sum::checksum;

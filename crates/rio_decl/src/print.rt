@@ -1,7 +1,6 @@
+//! Classes printed as their declarations.
 ghost use Rattle.std.specs.Prelude.{◌≡◌, ◌++◌, codes, OnOk, OnErr};
 ghost use Rattle.std.specs.List.{flat_map};
-ghost use Rattle.std.specs.Fmt.{decimal, signed_decimal};
-ghost use Rattle.rio_num.specs.Printed.{name_text};
 ghost use Rattle.rio_num.specs.Room.{with_more};
 ghost use Rattle.rio_model.specs.Lists.{separated};
 ghost use Rattle.rio_model.specs.ClassText.{base_text, bases_text, kind_text, member_text, members_text, primitive_text, text_of_class};
@@ -28,7 +27,7 @@ fn put_primitive(text: &mut Bytes, primitive: Prim) -> Result<(), NoMemory>
 }
 
 fn put_fixed(text: &mut Bytes, of: Prim, count: u32) -> Result<(), NoMemory>
-    ensures { OnOk result (text.new.bytes ≡ text.old.bytes ++ (primitive_text of ++ codes "[" ++ decimal count ++ codes "]")) }
+    ensures { OnOk result (text.new.bytes ≡ text.old.bytes ++ kind_text (Kind.Fixed of count)) }
 {
     put_primitive(text, of)?;
     text.put(b"[")?;
@@ -37,7 +36,8 @@ fn put_fixed(text: &mut Bytes, of: Prim, count: u32) -> Result<(), NoMemory>
 }
 
 fn put_counted(text: &mut Bytes, of: Prim, counter: &[u8]) -> Result<(), NoMemory>
-    ensures { OnOk result (text.new.bytes ≡ text.old.bytes ++ (primitive_text of ++ codes "[" ++ name_text counter.now ++ codes "]")) }
+    ensures { OnOk result (text.new.bytes
+        ≡ text.old.bytes ++ kind_text (Kind.Counted of counter.now)) }
 {
     put_primitive(text, of)?;
     text.put(b"[")?;
@@ -46,14 +46,14 @@ fn put_counted(text: &mut Bytes, of: Prim, counter: &[u8]) -> Result<(), NoMemor
 }
 
 fn put_pointer(text: &mut Bytes, class: &[u8]) -> Result<(), NoMemory>
-    ensures { OnOk result (text.new.bytes ≡ text.old.bytes ++ (name_text class.now ++ codes "*")) }
+    ensures { OnOk result (text.new.bytes ≡ text.old.bytes ++ kind_text (Kind.Pointer class.now)) }
 {
     text.put_name(class)?;
     text.put(b"*")
 }
 
 fn put_other(text: &mut Bytes, code: i32) -> Result<(), NoMemory>
-    ensures { OnOk result (text.new.bytes ≡ text.old.bytes ++ (codes "other(" ++ signed_decimal code ++ codes ")")) }
+    ensures { OnOk result (text.new.bytes ≡ text.old.bytes ++ kind_text (Kind.Other code)) }
 {
     text.put(b"other(")?;
     text.put_integer(i128::from(code))?;
@@ -85,7 +85,9 @@ fn put_member(text: &mut Bytes, member: &Member) -> Result<(), NoMemory>
 
 // A comma and a space, and then the member, for each of them.
 fn put_more_members(text: &mut Bytes, members: &[Member]) -> Result<(), NoMemory>
-    ensures { OnOk result (text.new.bytes ≡ text.old.bytes ++ flat_map (λ m. codes ", " ++ member_text m) members.now) }
+    ensures { OnOk result
+        (text.new.bytes
+        ≡ text.old.bytes ++ flat_map (λ m. codes ", " ++ member_text m) members.now) }
 {
     for member in members {
         text.put(b", ")?;
@@ -110,7 +112,8 @@ fn put_members(text: &mut Bytes, members: &[Member]) -> Result<(), NoMemory>
 
 // A comma and a space, and then the base, for each of them.
 fn put_more_bases(text: &mut Bytes, bases: &[Base]) -> Result<(), NoMemory>
-    ensures { OnOk result (text.new.bytes ≡ text.old.bytes ++ flat_map (λ b. codes ", " ++ base_text b) bases.now) }
+    ensures { OnOk result
+        (text.new.bytes ≡ text.old.bytes ++ flat_map (λ b. codes ", " ++ base_text b) bases.now) }
 {
     for base in bases {
         text.put(b", ")?;
@@ -150,7 +153,7 @@ fn put_class(text: &mut Bytes, class: &ClassDef) -> Result<(), NoMemory>
 /// bases, and `{ }` where there are no members. A kind is the word of a primitive, as `i32`, or that
 /// with its length, as `i32[5]`, or with its counter, as `u8[n]`; `text`; the class of an object; that
 /// with a `*` for a pointer; `other(CODE)` for what isn't read. A counter is an `i32`. Names are
-/// printed as `printed_name` says. Without memory nothing is put.
+/// printed as `put_name` of `Bytes` says. Without memory nothing is put.
 pub fn print_class(class: &ClassDef, into: &mut Bytes) -> Result<(), NoMemory>
     ensures ok { OnOk result (into.new ≡ with_more into.old (text_of_class class.now)) }
     ensures err { OnErr result (into.new ≡ into.old) }

@@ -1,15 +1,15 @@
-ghost use Rattle.std.specs.Prelude.{◌≡◌, ◌<◌, ◌^◌, List, ◌&&◌, not, length, IfOk};
-ghost use Rattle.rio_num.specs.Word.{is_name_text};
-ghost use Rattle.rio_token.specs.Reading.{Answers, Reads, Takes, list_at, more_at, some_at, word_that_at};
-ghost use Rattle.rio_model.specs.ClassGrammar.{base, base_at, bases_at, class_at, class_in, counting_kind, has_base, has_member, member, member_at, with_counters, with_sum};
+//! Classes read from the text of their declarations, from left to right.
+ghost use Rattle.std.specs.Prelude.{◌≡◌, ◌<◌, ◌^◌, List, length, IfOk};
+ghost use Rattle.rio_token.specs.Reading.{Answers, Reads, Takes, TakesInMemory, list_at, more_at, some_at, word_that_at};
+ghost use Rattle.rio_token.specs.Marks.{closing_brace, opening_brace};
+ghost use Rattle.rio_model.specs.ClassGrammar.{base, base_at, bases_at, class_at, class_in, counting_kind, is_new_base, is_new_member, member, member_at, with_counters, with_sum};
 ghost use Rattle.rio_types.specs.declared.class.Member.{Member};
 ghost use Rattle.rio_decl.specs.Known.{KnowsCounters};
 
 use crate::checksum;
 use crate::known::{KnownBases, KnownMembers, NewMember, counters_of};
 use crate::read_kind::{may_count, read_kind};
-use rio_names::Names;
-use rio_num::{Name, NoMemory, is_name};
+use rio_num::{Name, Names, NoMemory, is_name};
 use rio_token::{TextFault, Tokens};
 use rio_types::{Base, Bases, ClassDef, Kind, Member, Members};
 use std::alloc::Global;
@@ -22,7 +22,19 @@ pub fn read_class(alloc: Global, text: &[u8], place: u32) -> Result<ClassDef, Te
     ensures { Answers result (class_in text.now place) }
 {
     let mut tokens = Tokens::new(text, place);
-    read_declaration(alloc, &mut tokens)
+    take_class(alloc, &mut tokens)
+}
+
+/// The class that the next tokens declare, from the word `class` on up to the end of the text, as
+/// `read_class` gives it. `BadText` names the first token that can't stand in a declaration. A refused
+/// call leaves the tokens as they were.
+pub fn take_class(alloc: Global, tokens: &mut Tokens) -> Result<ClassDef, TextFault>
+    ensures { TakesInMemory (λ c. c) result (class_at tokens.old) tokens.old tokens.new }
+{
+    let mut ahead = tokens.copy();
+    let class = read_declaration(alloc, &mut ahead)?;
+    *tokens = ahead;
+    Ok(class)
 }
 
 #[tactic(auto, unfolding(rio_model::specs::ClassGrammar::class_at))]
@@ -55,7 +67,8 @@ fn with_checksum(alloc: Global, mut class: ClassDef) -> Result<ClassDef, NoMemor
 // A base's name, which none before has.
 #[tactic(auto, unfolding(rio_token::specs::Reading::word_that_at))]
 fn take_base_name<'a>(tokens: &mut Tokens<'a>, before: &KnownBases) -> Result<&'a [u8], TextFault>
-    ensures { Takes (λ word. word.now) result (word_that_at (λ word. is_name_text word && not (has_base before.now word)) tokens.old) tokens.old tokens.new }
+    ensures { Takes (λ word. word.now) result
+        (word_that_at (is_new_base before.now) tokens.old) tokens.old tokens.new }
 {
     match tokens.peek_word() {
         Some(word) if is_name(word) && !before.has_base(word) => {
@@ -72,7 +85,8 @@ fn take_member_name<'a>(
     tokens: &mut Tokens<'a>,
     before: &KnownMembers,
 ) -> Result<&'a [u8], TextFault>
-    ensures { Takes (λ word. word.now) result (word_that_at (λ word. is_name_text word && not (has_member before.now word)) tokens.old) tokens.old tokens.new }
+    ensures { Takes (λ word. word.now) result
+        (word_that_at (is_new_member before.now) tokens.old) tokens.old tokens.new }
 {
     match tokens.peek_word() {
         Some(word) if is_name(word) && !before.has_member(word) => {
@@ -106,7 +120,7 @@ fn read_bases(alloc: Global, tokens: &mut Tokens) -> Result<Bases, TextFault>
 
 #[tactic(auto, unfolding(rio_token::specs::Reading::some_at))]
 fn read_some_bases(alloc: Global, tokens: &mut Tokens) -> Result<Bases, TextFault>
-    ensures { Reads (λ b. b) result (some_at 123 base_at tokens.old) tokens.new }
+    ensures { Reads (λ b. b) result (some_at opening_brace base_at tokens.old) tokens.new }
 {
     let none = KnownBases::new(alloc);
     let base = read_base(tokens, &none)?;
@@ -119,7 +133,8 @@ fn read_more_bases<'a>(
     tokens: &mut Tokens<'a>,
     mut bases: KnownBases<'a>,
 ) -> Result<Bases, TextFault>
-    ensures { Reads (λ b. b) result (more_at (length tokens.old.rest) 123 base_at bases.entry tokens.old) tokens.new }
+    ensures { Reads (λ b. b) result
+        (more_at (length tokens.old.rest) opening_brace base_at bases.entry tokens.old) tokens.new }
 {
     for _done in 0..tokens.left() {
         if tokens.take_mark(b'{') {
@@ -138,7 +153,8 @@ fn read_member<'a>(
     tokens: &mut Tokens<'a>,
     before: &KnownMembers,
 ) -> Result<NewMember<'a>, TextFault>
-    ensures { Reads (λ m. member m.name.now m.kind) result (member_at before.now tokens.old) tokens.new }
+    ensures { Reads (λ m. member m.name.now m.kind) result
+        (member_at before.now tokens.old) tokens.new }
 {
     let name = take_member_name(tokens, before)?;
     tokens.expect_mark(b':')?;
@@ -149,7 +165,7 @@ fn read_member<'a>(
 // The members, and the closing brace.
 #[tactic(auto, unfolding(rio_token::specs::Reading::list_at, rio_token::specs::Reading::some_at))]
 fn read_members(alloc: Global, tokens: &mut Tokens) -> Result<Members, TextFault>
-    ensures { Reads (λ m. m) result (list_at 125 member_at tokens.old) tokens.new }
+    ensures { Reads (λ m. m) result (list_at closing_brace member_at tokens.old) tokens.new }
 {
     let none = KnownMembers::new(alloc);
     if tokens.take_mark(b'}') {
@@ -165,7 +181,9 @@ fn read_more_members<'a>(
     tokens: &mut Tokens<'a>,
     mut members: KnownMembers<'a>,
 ) -> Result<Members, TextFault>
-    ensures { Reads (λ m. m) result (more_at (length tokens.old.rest) 125 member_at members.entry tokens.old) tokens.new }
+    ensures { Reads (λ m. m) result
+        (more_at (length tokens.old.rest) closing_brace member_at members.entry tokens.old)
+        tokens.new }
 {
     for _done in 0..tokens.left() {
         if tokens.take_mark(b'}') {
@@ -180,7 +198,8 @@ fn read_more_members<'a>(
 
 // A member's kind: a counter, where it is an `i32` that counts.
 fn kind_among(counters: &Names, member: &Member) -> Result<Kind, NoMemory>
-    ensures { (members : List Member) → KnowsCounters members counters.now → IfOk result (λ kind. kind ≡ counting_kind members member.now) }
+    ensures { (members : List Member) → KnowsCounters members counters.now →
+        IfOk result (λ kind. kind ≡ counting_kind members member.now) }
 {
     if may_count(&member.kind) && counters.has(member.name.as_slice()) {
         Ok(Kind::Counter)

@@ -1,7 +1,7 @@
 //! The kinds of members, each in knowledge of the members before it.
 ghost use Rattle.std.specs.Prelude.{◌≡◌, IfOk};
-ghost use Rattle.rio_token.specs.Reading.{Reads, next_word, taken_at};
-ghost use Rattle.rio_model.specs.ClassGrammar.{and_then, dimension_of, is_i32, is_i32_of, kind_at, plain_at, primitive_at, primitive_of, sized_at};
+ghost use Rattle.rio_token.specs.Reading.{Reads};
+ghost use Rattle.rio_model.specs.ClassGrammar.{dimension_at, dimension_of, is_i32, is_i32_of, kind_at, plain_at, primitive_at, primitive_of, sized_at};
 
 use crate::known::KnownMembers;
 use rio_num::{Name, NoMemory};
@@ -72,7 +72,7 @@ fn read_dimension(
     before: &KnownMembers,
     of: Prim,
 ) -> Result<Kind, TextFault>
-    ensures { Reads (λ k. k) result (taken_at (and_then (dimension_of before.now of) (next_word tokens.old)) tokens.old) tokens.new }
+    ensures { Reads (λ k. k) result (dimension_at before.now of tokens.old) tokens.new }
 {
     let Some(word) = tokens.peek_word() else {
         return Err(tokens.bad());
@@ -123,7 +123,8 @@ fn read_plain(
     before: &KnownMembers,
     word: &[u8],
 ) -> Result<Kind, TextFault>
-    ensures { Reads (λ k. k) result (plain_at before.now word.now (primitive_of word.now) tokens.old) tokens.new }
+    ensures { Reads (λ k. k) result
+        (plain_at before.now word.now (primitive_of word.now) tokens.old) tokens.new }
 {
     match primitive(word) {
         Some(of) => read_primitive(alloc, tokens, before, of),

@@ -1,5 +1,7 @@
-use crate::{TextFault, checksum, is_stated, print_class, read_class};
+//! Declarations that are read, and the first token that can't stand in others.
+use crate::{TextFault, checksum, is_stated, print_class, read_class, take_class};
 use rio_num::{Bytes, Name, NoMemory};
+use rio_token::Tokens;
 use rio_types::{Base, ClassDef, Kind, Member, Prim};
 use std::alloc::Global;
 use std::test::Fail;
@@ -67,6 +69,19 @@ fn classes(rt: HostRuntime) {
         )
     );
     assert!(rt; stays(alloc, b"class A 1 { }"));
+}
+
+#[test]
+fn classes_within_a_line(rt: HostRuntime) -> Result<(), Fail> {
+    let mut tokens = Tokens::new(b" class A 1 { a: i8 } ", 0);
+    let class = take_class(rt.alloc(), &mut tokens)?;
+    assert_eq!(rt; class.members.len(), 1);
+    assert_eq!(rt; tokens.place(), 21);
+    let mut tokens = Tokens::new(b"no class A 1 { a }", 2);
+    let refused = take_class(rt.alloc(), &mut tokens).err();
+    assert_eq!(rt; refused, Some(TextFault::BadText { place: 17 }));
+    assert_eq!(rt; tokens.place(), 2);
+    Ok(())
 }
 
 #[test]
@@ -146,12 +161,20 @@ fn tokens_that_cannot_stand(rt: HostRuntime) {
     assert_eq!(rt; bad_place(rt.alloc(), b"class A-B 1 { }"), Some(6));
     assert_eq!(rt; bad_place(rt.alloc(), b"class D 1 {"), Some(11));
     assert_eq!(rt; bad_place(rt.alloc(), b"class D 1 { } x"), Some(14));
-    assert_eq!(rt; bad_place(rt.alloc(), b"class D 1 { } \"x"), Some(16));
     assert_eq!(rt; bad_place(rt.alloc(), b"class D 1 { , }"), Some(12));
     assert_eq!(rt; bad_place(rt.alloc(), b"class D 1 { a: i8, }"), Some(19));
     assert_eq!(rt; bad_place(rt.alloc(), b"class D 1 { a i8 }"), Some(14));
     assert_eq!(rt; bad_place(rt.alloc(), b"class D 1 : { }"), Some(12));
     assert_eq!(rt; bad_place(rt.alloc(), b"class D 1 { }\r"), Some(13));
+}
+
+// No string may stand in a declaration, so one that isn't ended is bad at its opening quote.
+#[test]
+fn strings_that_are_not_ended(rt: HostRuntime) {
+    assert_eq!(rt; bad_place(rt.alloc(), b"\""), Some(0));
+    assert_eq!(rt; bad_place(rt.alloc(), b"class \"abc"), Some(6));
+    assert_eq!(rt; bad_place(rt.alloc(), b"class C 1 { x: \"i"), Some(15));
+    assert_eq!(rt; bad_place(rt.alloc(), b"class D 1 { } \"x"), Some(14));
 }
 
 fn class_of_name(alloc: Global, length: usize) -> Result<Name, NoMemory> {

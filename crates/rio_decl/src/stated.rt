@@ -1,3 +1,4 @@
+//! Whether a declaration can give a class.
 ghost use Rattle.std.specs.Prelude.{◌≡◌, ◌++◌, List, [], ◌∷◌, ◌&&◌, not, IfOk, OnOk};
 ghost use Rattle.rio_num.specs.Word.{is_name_text};
 ghost use Rattle.rio_types.specs.declared.class.Base.{Base};
@@ -9,8 +10,7 @@ ghost use Rattle.rio_decl.specs.Known.{KnowsBases, KnowsPassed, has_name, is_kno
 use crate::checksum;
 use crate::known::counters_of;
 use crate::read_kind::{is_i32_primitive, primitive};
-use rio_names::Names;
-use rio_num::{NoMemory, is_name};
+use rio_num::{Names, NoMemory, is_name};
 use rio_types::{Base, ClassDef, Kind, Member};
 use std::alloc::Global;
 
@@ -52,7 +52,9 @@ fn is_new(passed: &Names, name: &[u8]) -> bool
 
 // A member behind those of these names, among them these counters, where these names count.
 fn member_is_stated(passed: &Names, counters: &Names, counting: &Names, member: &Member) -> bool
-    ensures { result ≡ is_known_member (has_name passed.now) (has_name counters.now) (has_name counting.now) member.now }
+    ensures { result
+        ≡ is_known_member (has_name passed.now) (has_name counters.now) (has_name counting.now)
+        member.now }
 {
     let name = member.name.as_slice();
     let kind = kind_is_stated(counters, counting.has(name), &member.kind);
@@ -65,7 +67,9 @@ fn pass_member<'a>(
     counters: &mut Names<'a>,
     member: &'a Member,
 ) -> Result<(), NoMemory>
-    ensures { OnOk result ((before : List Member) → KnowsPassed before passed.old counters.old → KnowsPassed (before ++ member.now ∷ []) passed.new counters.new) }
+    ensures { OnOk result
+        ((before : List Member) → KnowsPassed before passed.old counters.old →
+        KnowsPassed (before ++ member.now ∷ []) passed.new counters.new) }
 {
     let name = member.name.as_slice();
     if is_counter_kind(&member.kind) {
@@ -91,7 +95,8 @@ fn members_are_stated(alloc: Global, members: &[Member]) -> Result<bool, NoMemor
 
 // A base behind those of these names.
 fn base_is_stated(passed: &Names, base: &Base) -> bool
-    ensures { (before : List Base) → KnowsBases before passed.now → result ≡ is_stated_base before base.now }
+    ensures { (before : List Base) → KnowsBases before passed.now →
+        result ≡ is_stated_base before base.now }
 {
     is_new(passed, base.name.as_slice())
 }

@@ -1,3 +1,4 @@
+//! The checksum of a class.
 ghost use Rattle.std.specs.Prelude.{◌≡◌, IfOk};
 ghost use Rattle.std.specs.List.{fold};
 ghost use Rattle.rio_model.specs.ClassGrammar.{checksum_of, summed};

@@ -1,3 +1,4 @@
+//! Classes that are printed.
 use crate::print_class;
 use rio_num::{Bytes, Name, NoMemory};
 use rio_types::{Base, Bases, ClassDef, Kind, Member, Members, Prim};

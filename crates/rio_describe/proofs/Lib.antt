@@ -1,15 +1,2 @@
-pub mod DescribedBases
-pub mod DescribedClasses
-pub mod DescribedElements
-pub mod DescribedKinds
-pub mod DescribedMembers
-pub mod DescribedTrees
-pub mod DescribedValues
-pub mod DescriptionSums
-pub mod ListDepth
-pub mod ListElements
-pub mod ListFits
-pub mod ListNumbers
-pub mod ListParts
-pub mod ListSpelled
-pub mod PointerLaws
+mod HeirLaws
+mod HeirSet

@@ -3,7 +3,7 @@ use Rattle.std.specs.Prelude.{ℕ, pos, List, [], ◌∷◌, codes, Option, Some
 use Rattle.rio_value.specs.declared.value.Part.{Part}
 use Rattle.rio_value.specs.declared.value.Value.{Int}
 use Rattle.rio_format.specs.Bodies.{part}
-use Rattle.rio_describe.specs.WrittenElements.{WrittenElement, count_parts, starred}
+use Rattle.rio_format.specs.WrittenElements.{WrittenElement, count_parts, starred}
 use Rattle.rio_describe.specs.declared.element.Element.{Element}
 use Rattle.rio_describe.specs.declared.element.ElementClass.{ElementClass}
 use Rattle.rio_describe.specs.declared.element.ElementClass.TheVariants.{Base, BasicType, BasicPointer, Text, Object, ObjectAny, ObjectPointer, ObjectAnyPointer}

@@ -1,13 +1,13 @@
 //! What describes classes: the classes by which class lists are read and written, the classes of trees, and the elements
-//! that are written for the bases and members of a class. The list that is written for classes, a TList of TStreamerInfo
-//! objects, is defined here, with its laws.
+//! that are written for the bases and members of a class. `JudgedLists` are class lists of which it is known which of
+//! their classes have a TObject among their bases, so that the element of a member takes a look-up and no search.
 #![tactic(auto)]
 
 mod class;
 mod descriptions;
 mod element;
-mod laws;
-mod list_laws;
+mod heirs;
+mod judged;
 mod members;
 mod numbers;
 mod reach;
@@ -17,11 +17,6 @@ mod trees;
 
 pub use descriptions::description_classes;
 pub use element::{Element, ElementClass, TypeName};
-pub use laws::{descriptions_have_sums, tree_classes_are_stated, written_list_is_read};
-pub use list_laws::{
-    described_have_numbers, written_are_described, written_bytes_are_read,
-    written_classes_are_read, written_have_numbers, written_list_fits, written_list_has_versions,
-    written_list_is_shallow, written_list_is_spelled,
-};
+pub use judged::JudgedLists;
 pub use members::{base_element, member_element};
 pub use trees::tree_classes;

@@ -1,18 +1,16 @@
 //! Elements of the bases and members of a class.
-ghost use Rattle.std.specs.Prelude.{◌≡◌, IfOk};
-ghost use Rattle.rio_layout.specs.Lists.{listed};
+ghost use Rattle.std.specs.Prelude.{◌≡◌};
+ghost use Rattle.rio_format.specs.Lists.{listed};
 ghost use Rattle.rio_describe.specs.ElementViews.{element_as};
-ghost use Rattle.rio_describe.specs.WrittenElements.{base_code, base_element, inline_element, kind_element, member_element, pointer_element, text_element};
+ghost use Rattle.rio_format.specs.WrittenElements.{base_code, base_element, inline_element, kind_element, member_element, pointer_element, text_element};
 
 use crate::element::{Element, ElementClass, TypeName};
+use crate::judged::JudgedLists;
 use crate::numbers::{
     basic_element, counted_element, counter_element, fixed_element, plain_element,
 };
 use crate::reach::reaches_object;
-use rio_layout::ClassLists;
-use rio_num::NoMemory;
 use rio_types::{Base, ClassDef, Kind, Member};
-use std::alloc::Global;
 
 // ---- bases
 
@@ -100,15 +98,14 @@ fn pointer_element<'a>(reaches: bool, name: &'a [u8], class: &'a [u8]) -> Elemen
 
 // A member of the class, among these classes.
 fn kind_element<'a>(
-    alloc: Global,
-    classes: &ClassLists<'a>,
+    classes: &JudgedLists,
     owner: &'a ClassDef,
     name: &'a [u8],
     kind: &'a Kind,
-) -> Result<Element<'a>, NoMemory>
-    ensures { IfOk result (λ e. element_as e ≡ kind_element (listed classes.now) owner.now name.now kind.now) }
+) -> Element<'a>
+    ensures { element_as result ≡ kind_element (listed classes.now) owner.now name.now kind.now }
 {
-    Ok(match kind {
+    match kind {
         Kind::Plain { of } => plain_element(name, *of),
         Kind::Counter => counter_element(name),
         Kind::Fixed { of, count } => fixed_element(name, *of, *count),
@@ -116,25 +113,24 @@ fn kind_element<'a>(
         Kind::Text => text_element(name),
         Kind::Inline { class } => {
             let class = class.as_slice();
-            inline_element(reaches_object(alloc, classes, class)?, name, class)
+            inline_element(reaches_object(classes, class), name, class)
         }
         Kind::Pointer { class } => {
             let class = class.as_slice();
-            pointer_element(reaches_object(alloc, classes, class)?, name, class)
+            pointer_element(reaches_object(classes, class), name, class)
         }
         Kind::Other { code } => basic_element(name, *code, 0, b""),
-    })
+    }
 }
 
 /// What is written for a member of the class `owner`. Whether an object or a pointer is one of TObject, or of a class
-/// that has it among its bases, is looked up in the classes that are given.
+/// that has it among its bases, is known of the classes that are given.
 pub fn member_element<'a>(
-    alloc: Global,
-    classes: &ClassLists<'a>,
+    classes: &JudgedLists,
     owner: &'a ClassDef,
     member: &'a Member,
-) -> Result<Element<'a>, NoMemory>
-    ensures { IfOk result (λ e. element_as e ≡ member_element (listed classes.now) owner.now member.now) }
+) -> Element<'a>
+    ensures { element_as result ≡ member_element (listed classes.now) owner.now member.now }
 {
-    kind_element(alloc, classes, owner, member.name.as_slice(), &member.kind)
+    kind_element(classes, owner, member.name.as_slice(), &member.kind)
 }

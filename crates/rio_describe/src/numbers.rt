@@ -2,10 +2,10 @@
 ghost use Rattle.std.specs.Prelude.{◌≡◌, ◌*◌};
 ghost use Rattle.rio_format.specs.Prims.{width_of};
 ghost use Rattle.rio_describe.specs.ElementViews.{element_as};
-ghost use Rattle.rio_describe.specs.WrittenElements.{basic_element, counted_element, counter_element, fixed_element, plain_element, primitive_code, primitive_name};
+ghost use Rattle.rio_format.specs.WrittenElements.{basic_element, counted_element, counter_element, fixed_element, plain_element, primitive_code, primitive_name};
 
 use crate::element::{Element, ElementClass, TypeName};
-use rio_layout::width_of;
+use rio_format::width_of;
 use rio_types::{ClassDef, Prim};
 
 // The code of single values.

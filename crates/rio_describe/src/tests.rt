@@ -2,9 +2,9 @@
 
 mod printed;
 
-use crate::{base_element, member_element, tree_classes};
+use crate::{JudgedLists, base_element, member_element, tree_classes};
 use printed::printed_element;
-use rio_layout::ClassLists;
+use rio_format::ClassLists;
 use rio_num::{Bytes, Name, NoMemory};
 use rio_types::{Base, Bases, ClassDef, Classes, Kind, Member, Members, Prim};
 use std::alloc::Global;
@@ -164,12 +164,12 @@ fn element_text(
     declared: &Classes,
     holds: Holds,
 ) -> Result<Bytes, NoMemory> {
-    let classes = ClassLists::Two(trees, declared);
+    let classes = JudgedLists::new(alloc, ClassLists::Two(trees, declared))?;
     let Some(owner) = declared.newest(b"Node") else {
         return Ok(Bytes::new(alloc));
     };
     let member = member(alloc, b"x", holds)?;
-    let element = member_element(alloc, &classes, owner, &member)?;
+    let element = member_element(&classes, owner, &member);
     printed_element(alloc, &element)
 }
 

@@ -1,7 +1,7 @@
 //! The classes of trees.
 ghost use Rattle.std.specs.Prelude.{◌≡◌, [], ◌∷◌, ◌++◌, codes, IfOk, OnOk};
 ghost use Rattle.rio_types.specs.declared.kind.Kind.TheVariants.{Counted, Inline};
-ghost use Rattle.rio_describe.specs.TreeClasses.{array_member, branch_base, branch_class, branch_members, i32_member, i64_member, kind_leaf, leaf_base, leaf_class, leaf_members, object_branch_class, object_branch_members, of_baskets, tree_class, tree_classes, tree_members};
+ghost use Rattle.rio_format.specs.TreeClasses.{array_member, branch_base, branch_class, branch_members, i32_member, i64_member, kind_leaf, leaf_base, leaf_class, leaf_members, object_branch_class, object_branch_members, of_baskets, tree_class, tree_classes, tree_members};
 
 use crate::class::{describing, named_base, push};
 use rio_num::{Name, NoMemory};
@@ -60,7 +60,7 @@ fn push_of_baskets(
     push(alloc, members, name, kind)
 }
 
-#[tactic(auto, unfolding(crate::specs::TreeClasses::tree_members))]
+#[tactic(auto, unfolding(rio_format::specs::TreeClasses::tree_members))]
 fn tree_members(alloc: Global) -> Result<Members, NoMemory>
     ensures { IfOk result (λ members. members ≡ tree_members) }
 {
@@ -71,7 +71,7 @@ fn tree_members(alloc: Global) -> Result<Members, NoMemory>
     Ok(members)
 }
 
-#[tactic(auto, unfolding(crate::specs::TreeClasses::branch_members))]
+#[tactic(auto, unfolding(rio_format::specs::TreeClasses::branch_members))]
 fn branch_members(alloc: Global) -> Result<Members, NoMemory>
     ensures { IfOk result (λ members. members ≡ branch_members) }
 {
@@ -89,7 +89,7 @@ fn branch_members(alloc: Global) -> Result<Members, NoMemory>
     Ok(members)
 }
 
-#[tactic(auto, unfolding(crate::specs::TreeClasses::object_branch_members))]
+#[tactic(auto, unfolding(rio_format::specs::TreeClasses::object_branch_members))]
 fn object_branch_members(alloc: Global) -> Result<Members, NoMemory>
     ensures { IfOk result (λ members. members ≡ object_branch_members) }
 {
@@ -99,7 +99,7 @@ fn object_branch_members(alloc: Global) -> Result<Members, NoMemory>
     Ok(members)
 }
 
-#[tactic(auto, unfolding(crate::specs::TreeClasses::leaf_members))]
+#[tactic(auto, unfolding(rio_format::specs::TreeClasses::leaf_members))]
 fn leaf_members(alloc: Global) -> Result<Members, NoMemory>
     ensures { IfOk result (λ members. members ≡ leaf_members) }
 {
@@ -175,7 +175,7 @@ fn kind_leaf(alloc: Global, name: &[u8], sum: u32) -> Result<ClassDef, NoMemory>
 }
 
 /// The classes of trees, in the order in which they are written.
-#[tactic(auto, unfolding(crate::specs::TreeClasses::tree_classes))]
+#[tactic(auto, unfolding(rio_format::specs::TreeClasses::tree_classes))]
 pub fn tree_classes(alloc: Global) -> Result<Classes, NoMemory>
     ensures { IfOk result (λ classes. classes ≡ tree_classes) }
 {

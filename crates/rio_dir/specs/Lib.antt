@@ -1,1 +1,4 @@
+pub mod Closed
+pub mod Grammar
 pub mod KeyList
+pub mod Listing

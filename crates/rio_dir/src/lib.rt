@@ -1,29 +1,17 @@
-//! The key list of a file.
+//! What stands at the front of a closed file: its header, its directory record and its key list, what they
+//! are together, and the first rule that they break. The definitions stand in `specs/`: `Closed` (what is
+//! read of a file), `Grammar` (what stands where, and the laws that tie the two) and `Listing` (what `ls`
+//! says of it).
 #![tactic(auto)]
 
-ghost use Rattle.std.specs.Prelude.{◌≡◌, ◌+◌, ◌<◌, ◌^◌, ◌++◌, ℕ, List, length, IfOk};
-ghost use Rattle.rio_key.specs.Key.{Gives, IsReadAs};
-ghost use Rattle.rio_key.specs.KeyList.{key_list_at};
-ghost use Rattle.rio_key.specs.Spelling.{IsSpelledIn, SpellsKeyList};
-ghost use Rattle.rio_dir.specs.KeyList.{heads_in};
+mod closed;
+mod laws;
+mod list;
 
-use rio_key::KeyFault;
+pub use closed::Closed;
+pub use laws::{closed_file_is_spelled, one_listing};
+pub use list::read_key_list;
 pub use rio_key::{Heads, ListFault, read_heads};
-use std::alloc::Global;
 
-/// The key heads of a key list: its data are their count and so many heads, each ending with its
-/// title; bytes behind them have no meaning. `base` is the place of the first byte. The fault is the
-/// first one: Short at `base` where the count isn't whole, and else that of the first head that isn't
-/// readable.
-pub fn read_key_list(alloc: Global, bytes: &[u8], base: u64) -> Result<Heads, KeyFault>
-    requires { base + length bytes.now < 2 ^ 64 }
-    ensures exact { Gives result (heads_in (key_list_at (record { place = base; rest = bytes.now }))) }
-    // What is read is spelled so by a front of the bytes, and what is spelled so is read.
-    ensures found { IfOk result (λ heads. IsSpelledIn (SpellsKeyList heads) bytes.now) }
-    ensures only { (heads : List _) (front rest : List ℕ) → bytes.now ≡ front ++ rest → SpellsKeyList heads front → IsReadAs result heads }
-{
-    match read_heads(alloc, bytes, base) {
-        Ok(heads) => Ok(heads),
-        Err(fault) => Err(fault.fault),
-    }
-}
+#[cfg(test)]
+mod tests;

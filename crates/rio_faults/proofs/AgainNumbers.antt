@@ -7,12 +7,13 @@ use Rattle.byteorder.specs.Numbers.{big_number-reads_back, length-bytes_high_fir
 use Rattle.rio_num.specs.Reading.{◌>>=◌, short, text_at, text_head}
 use Rattle.rio_types.specs.declared.kind.Primitive.{Primitive}
 use Rattle.rio_value.specs.declared.value.Value.{Value, List as Items}
-use Rattle.rio_format.specs.Objects.{Step, word_at, chars_at, each_at, times_at, number_value_at, numbers_at, filled_at, counted_at, text_value_at}
+use Rattle.rio_buffer.specs.Frames.{Step, word_at, chars_at}
+use Rattle.rio_format.specs.Objects.{each_at, times_at, number_value_at, numbers_at, filled_at, counted_at, text_value_at}
 use Rattle.rio_format.specs.Prims.{width_of}
 use Rattle.rio_format.specs.Spelling.{Spelling, SpellsNumber}
-use Rattle.rio_format.specs.ReaderState.{ReaderState, WordsMet, standing}
-use Rattle.rio_format.specs.declared.fault.ObjFault.{ObjFault}
-use Rattle.rio_format.specs.declared.fault.ObjFault.TheVariants.{Short, BadFlag}
+use Rattle.rio_buffer.specs.ReaderState.{ReaderState, WordsMet, standing}
+use Rattle.rio_buffer.specs.declared.fault.ObjFault.{ObjFault}
+use Rattle.rio_buffer.specs.declared.fault.ObjFault.TheVariants.{Short, BadFlag}
 use Rattle.rio_format.proofs.AgainNumbers.{IsReadBy, IsReadAgain, word_again, number_value_again}
 use Rattle.rio_faults.specs.Faults.{Breaking, BreaksThen, BreaksEach, BreaksTimes, IsShort, SpellsWord, BreaksWord, BreaksNumber, BreaksNumbers, BreaksOwn, BreaksText, BreaksFilled, BreaksFlag, BreaksCounted}
 

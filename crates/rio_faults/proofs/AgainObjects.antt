@@ -4,12 +4,16 @@ use Rattle.std.proofs.lemmas.Bool.{le-ltb, lt-ltb, le-leb, lt-leb, ne_eqb}
 use Rattle.rio_num.specs.Reading.{◌>>=◌}
 use Rattle.rio_types.specs.declared.class.ClassDef.{ClassDef}
 use Rattle.rio_value.specs.declared.value.Value.{Value, Object}
-use Rattle.rio_format.specs.Bodies.{Form, bare, numbers, headed, form_of, Body, described, listed, arrayed, opaque, body_of, slots_of}
-use Rattle.rio_format.specs.Objects.{Step, Reader, word_at, end_at, header_end_at, header_at, body_at, whole_at, headed_at, formed_at, object_at, parts_at, list_parts_at, array_parts_at, only_value, depth_limit}
+use Rattle.rio_format.specs.Bodies.{form_of, Body, described, listed, arrayed, opaque, body_of, slots_of}
+use Rattle.rio_format.specs.declared.shape.Shape.{Shape as Form}
+use Rattle.rio_format.specs.declared.shape.Shape.TheVariants.{Bare as bare, Numbers as numbers, Headed as headed}
+use Rattle.rio_buffer.specs.Frames.{Step, header_end_at}
+use Rattle.rio_buffer.specs.Frames.{Step, word_at, end_at, header_end_at, header_at}
+use Rattle.rio_format.specs.Objects.{Reader, body_at, whole_at, headed_at, formed_at, object_at, parts_at, list_parts_at, array_parts_at, only_value, depth_limit}
 use Rattle.rio_format.specs.Spelling.{Spellings, SpellsObject, IsParts, IsListParts, IsArrayParts}
-use Rattle.rio_format.specs.ReaderState.{ReaderState, WordsMet, standing, no_words}
-use Rattle.rio_format.specs.declared.words.Header.{Header}
-use Rattle.rio_format.specs.declared.fault.ObjFault.{ObjFault}
+use Rattle.rio_buffer.specs.ReaderState.{ReaderState, WordsMet, standing, no_words}
+use Rattle.rio_buffer.specs.declared.words.Header.{Header}
+use Rattle.rio_buffer.specs.declared.fault.ObjFault.{ObjFault}
 use Rattle.rio_format.proofs.AgainNumbers.{IsReadAgain}
 use Rattle.rio_format.proofs.AgainParts.{parts_again, list_parts_again, array_parts_again}
 use Rattle.rio_format.proofs.AgainObjects.{object_again}

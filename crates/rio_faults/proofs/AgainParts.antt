@@ -11,12 +11,13 @@ use Rattle.rio_types.specs.declared.kind.Primitive.{Primitive}
 use Rattle.rio_types.specs.declared.kind.Primitive.TheVariants.{I32}
 use Rattle.rio_value.specs.declared.value.Value.{Value, Text, List as Items, Object}
 use Rattle.rio_format.specs.Bodies.{part, slots_of, Counters, count_by}
-use Rattle.rio_format.specs.Objects.{Step, Reader, word_at, chars_at, times_at, number_value_at, numbers_at, kind_at, member_at, parts_at, count_at, base_at, link_at, list_parts_at, array_parts_at, bare_at, bare_object, pid_part, array_at, pointer_at, has_pid}
+use Rattle.rio_buffer.specs.Frames.{Step, word_at, chars_at}
+use Rattle.rio_format.specs.Objects.{Reader, times_at, number_value_at, numbers_at, kind_at, member_at, parts_at, count_at, base_at, link_at, list_parts_at, array_parts_at, bare_at, bare_object, pid_part, array_at, pointer_at, has_pid}
 use Rattle.rio_format.specs.Prims.{width_of}
 use Rattle.rio_format.specs.Spelling.{Spellings, SpellsNumber, SpellsPointer, IsPart, IsLink}
-use Rattle.rio_format.specs.ReaderState.{ReaderState, WordsMet, standing}
-use Rattle.rio_format.specs.declared.fault.ObjFault.{ObjFault}
-use Rattle.rio_format.specs.declared.fault.ObjFault.TheVariants.{BadCount, NoCount}
+use Rattle.rio_buffer.specs.ReaderState.{ReaderState, WordsMet, standing}
+use Rattle.rio_buffer.specs.declared.fault.ObjFault.{ObjFault}
+use Rattle.rio_buffer.specs.declared.fault.ObjFault.TheVariants.{BadCount, NoCount}
 use Rattle.rio_format.proofs.AgainNumbers.{IsReadAgain, chars_again, number_value_again}
 use Rattle.rio_format.proofs.AgainPointers.{pointer_again}
 use Rattle.rio_format.proofs.AgainParts.{width_some, within, link_again, member_again}

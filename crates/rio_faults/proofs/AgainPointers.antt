@@ -4,13 +4,14 @@ use Rattle.std.proofs.lemmas.Bool.{lt-ltb, le-ltb, ne_eqb}
 use Rattle.std.specs.List.{position_or_len}
 use Rattle.rio_num.specs.Reading.{◌>>=◌}
 use Rattle.rio_value.specs.declared.value.Value.{Pointed}
-use Rattle.rio_format.specs.Objects.{Step, Reader, word_at, is_count, end_at, finish_at, name_at, class_at, new_class_at, known_class_at, new_word_at, reference_at, pointer_word_at, pointed_at, pointer_at}
+use Rattle.rio_buffer.specs.Frames.{Step, word_at, is_count, end_at, finish_at, name_at, class_at, new_class_at, known_class_at, new_word_at, reference_at, pointer_word_at}
+use Rattle.rio_format.specs.Objects.{Reader, pointed_at, pointer_at}
 use Rattle.rio_format.specs.Spelling.{Spelling, Spellings, SpellsClass, IsPlain}
-use Rattle.rio_format.specs.ReaderState.{ReaderState, WordsMet, standing, with_label}
-use Rattle.rio_format.specs.declared.words.PointerWord.{PointerWord}
-use Rattle.rio_format.specs.declared.words.PointerWord.TheVariants.{Null, New}
-use Rattle.rio_format.specs.declared.fault.ObjFault.{ObjFault}
-use Rattle.rio_format.specs.declared.fault.ObjFault.TheVariants.{Short, BadCount, UnknownClassWord, UnknownRef}
+use Rattle.rio_buffer.specs.ReaderState.{ReaderState, WordsMet, standing, with_label}
+use Rattle.rio_buffer.specs.declared.words.PointerWord.{PointerWord}
+use Rattle.rio_buffer.specs.declared.words.PointerWord.TheVariants.{Null, New}
+use Rattle.rio_buffer.specs.declared.fault.ObjFault.{ObjFault}
+use Rattle.rio_buffer.specs.declared.fault.ObjFault.TheVariants.{Short, BadCount, UnknownClassWord, UnknownRef}
 use Rattle.rio_format.proofs.AgainNumbers.{IsReadAgain}
 use Rattle.rio_format.proofs.AgainPointers.{count_is, end_again, class_again}
 use Rattle.rio_faults.specs.Faults.{Breaking, Breakings, IsCounting, BreaksWhole, IsUnknownClass, BreaksClassWord, BreaksClass, IsUnknownRef, BreaksPointed, BreaksNew, BreaksPointerWord, BreaksPointer}

@@ -2,6 +2,7 @@ pub mod AgainNumbers
 pub mod AgainObjects
 pub mod AgainParts
 pub mod AgainPointers
+pub mod Examples
 pub mod OneAnswer
 pub mod ToldNumbers
 pub mod ToldObjects

@@ -2,10 +2,11 @@
 use Rattle.std.proofs.Common.{◌≡◌, ◌⊎◌, inl, inr, ℕ, List, ◌++◌, Result, Ok, Err, refl, sym, ap, ◌∙◌}
 use Rattle.rio_types.specs.declared.class.ClassDef.{ClassDef}
 use Rattle.rio_value.specs.declared.value.Value.{Value}
-use Rattle.rio_format.specs.Laws.{AreBytes}
-use Rattle.rio_format.specs.Objects.{Step, first_at, only_value, value_at}
+use Rattle.rio_num.specs.At.{AreBytes}
+use Rattle.rio_buffer.specs.Frames.{Step}
+use Rattle.rio_format.specs.Objects.{first_at, only_value, value_at}
 use Rattle.rio_format.specs.Spelling.{Spells}
-use Rattle.rio_format.specs.declared.fault.ObjFault.{ObjFault}
+use Rattle.rio_buffer.specs.declared.fault.ObjFault.{ObjFault}
 use Rattle.rio_format.proofs.ObjectLaws.{read_is_spelled, spelled_is_read}
 use Rattle.rio_faults.specs.Laws.{BrokenIsNotSpelled, IsBrokenOnce, SpelledOrBroken}
 use Rattle.rio_faults.specs.ObjectFaults.{BreaksFirst}

@@ -8,12 +8,13 @@ use Rattle.rio_num.specs.Reading.{◌>>=◌, skip, short}
 use Rattle.rio_num.proofs.ReadLaws.{IsBytes, ReadsBack, back_1}
 use Rattle.rio_types.specs.declared.kind.Primitive.{Primitive}
 use Rattle.rio_value.specs.declared.value.Value.{Value, List as Items}
-use Rattle.rio_format.specs.Objects.{Step, lifted, word_at, each_at, times_at, number_value_at, numbers_at, filled_at, counted_at}
+use Rattle.rio_buffer.specs.Frames.{Step, lifted, word_at}
+use Rattle.rio_format.specs.Objects.{each_at, times_at, number_value_at, numbers_at, filled_at, counted_at}
 use Rattle.rio_format.specs.Prims.{width_of, value_of}
 use Rattle.rio_format.specs.Spelling.{Spelling, SpellsNumber}
-use Rattle.rio_format.specs.ReaderState.{ReaderState}
-use Rattle.rio_format.specs.declared.fault.ObjFault.{ObjFault}
-use Rattle.rio_format.specs.declared.fault.ObjFault.TheVariants.{BadFlag}
+use Rattle.rio_buffer.specs.ReaderState.{ReaderState}
+use Rattle.rio_buffer.specs.declared.fault.ObjFault.{ObjFault}
+use Rattle.rio_buffer.specs.declared.fault.ObjFault.TheVariants.{BadFlag}
 use Rattle.rio_format.proofs.FoundNumbers.{IsFoundAt, IsFoundBy, Found, IsFound, word_found, number_value_found}
 use Rattle.rio_faults.specs.Faults.{Breaking, BreaksThen, BreaksEach, BreaksTimes, IsShort, SpellsWord, BreaksWord, BreaksNumber, BreaksNumbers, BreaksFilled, BreaksFlag, BreaksCounted}
 

@@ -6,13 +6,16 @@ use Rattle.rio_num.proofs.ReadLaws.{IsBytes, back_2, back_4}
 use Rattle.rio_types.specs.declared.class.ClassDef.{ClassDef}
 use Rattle.rio_value.specs.declared.value.Value.{Value, Object, Opaque}
 use Rattle.rio_value.specs.declared.value.Part.{Part}
-use Rattle.rio_format.specs.Bodies.{Form, bare, numbers, headed, form_of, Body, described, listed, arrayed, opaque, body_of, slots_of}
-use Rattle.rio_format.specs.Objects.{Step, Reader, word_at, is_count, end_at, header_end_at, header_at, whole_at, body_at, headed_at, formed_at, object_at, parts_at, list_parts_at, array_parts_at, first_at, only_value, depth_limit}
+use Rattle.rio_format.specs.Bodies.{form_of, Body, described, listed, arrayed, opaque, body_of, slots_of}
+use Rattle.rio_format.specs.declared.shape.Shape.{Shape as Form}
+use Rattle.rio_format.specs.declared.shape.Shape.TheVariants.{Bare as bare, Numbers as numbers, Headed as headed}
+use Rattle.rio_buffer.specs.Frames.{Step, word_at, is_count, end_at, header_end_at, header_at}
+use Rattle.rio_format.specs.Objects.{Reader, whole_at, body_at, headed_at, formed_at, object_at, parts_at, list_parts_at, array_parts_at, first_at, only_value, depth_limit}
 use Rattle.rio_format.specs.Spelling.{Spelling, Spellings, SpellsObject}
-use Rattle.rio_format.specs.ReaderState.{ReaderState, standing, no_words}
-use Rattle.rio_format.specs.declared.words.Header.{Header}
-use Rattle.rio_format.specs.declared.fault.ObjFault.{ObjFault}
-use Rattle.rio_format.specs.declared.fault.ObjFault.TheVariants.{BadCount, NoCount, CountMismatch}
+use Rattle.rio_buffer.specs.ReaderState.{ReaderState, standing, no_words}
+use Rattle.rio_buffer.specs.declared.words.Header.{Header}
+use Rattle.rio_buffer.specs.declared.fault.ObjFault.{ObjFault}
+use Rattle.rio_buffer.specs.declared.fault.ObjFault.TheVariants.{BadCount, NoCount, CountMismatch}
 use Rattle.rio_format.proofs.FoundNumbers.{IsFound}
 use Rattle.rio_format.proofs.FoundLists.{SpellsParts, SpellsListParts, SpellsArrayParts, parts_found, list_parts_found, array_parts_found}
 use Rattle.rio_format.proofs.FoundObjects.{object_found}

@@ -13,12 +13,13 @@ use Rattle.rio_types.specs.declared.kind.Primitive.TheVariants.{I32}
 use Rattle.rio_value.specs.declared.value.Value.{Value, Text, List as Items, Object}
 use Rattle.rio_value.specs.declared.value.Part.{Part}
 use Rattle.rio_format.specs.Bodies.{part, slots_of, Counters, counters_with, count_by}
-use Rattle.rio_format.specs.Objects.{Step, Reader, Within, word_at, chars_at, times_at, each_at, number_value_at, numbers_at, kind_at, member_at, parts_at, count_at, link_at, list_parts_at, array_parts_at, bare_at, array_at, base_at, pointer_at, has_pid, bare_object, pid_part}
+use Rattle.rio_buffer.specs.Frames.{Step, word_at, chars_at}
+use Rattle.rio_format.specs.Objects.{Reader, Within, times_at, each_at, number_value_at, numbers_at, kind_at, member_at, parts_at, count_at, link_at, list_parts_at, array_parts_at, bare_at, array_at, base_at, pointer_at, has_pid, bare_object, pid_part}
 use Rattle.rio_format.specs.Prims.{width_of}
 use Rattle.rio_format.specs.Spelling.{Spellings, SpellsNumber, SpellsPointer, IsPart}
-use Rattle.rio_format.specs.ReaderState.{ReaderState}
-use Rattle.rio_format.specs.declared.fault.ObjFault.{ObjFault}
-use Rattle.rio_format.specs.declared.fault.ObjFault.TheVariants.{BadCount, NoCount}
+use Rattle.rio_buffer.specs.ReaderState.{ReaderState}
+use Rattle.rio_buffer.specs.declared.fault.ObjFault.{ObjFault}
+use Rattle.rio_buffer.specs.declared.fault.ObjFault.TheVariants.{BadCount, NoCount}
 use Rattle.rio_format.proofs.AgainParts.{width_some}
 use Rattle.rio_format.proofs.FoundNumbers.{IsFound, number_value_found}
 use Rattle.rio_format.proofs.FoundPointers.{pointer_found}

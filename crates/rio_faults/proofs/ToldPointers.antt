@@ -6,13 +6,14 @@ use Rattle.std.specs.Map.{lookup}
 use Rattle.rio_num.specs.Reading.{◌>>=◌}
 use Rattle.rio_num.proofs.ReadLaws.{IsBytes, back_4}
 use Rattle.rio_value.specs.declared.value.Value.{Value, Pointed}
-use Rattle.rio_format.specs.Objects.{Step, Reader, word_at, is_count, counted_end, data_end, end_at, finish_at, name_at, named, new_class_at, known_class, known_class_at, class_at, new_word_at, referred, reference_at, pointer_word_at, pointed_at, pointer_at}
+use Rattle.rio_buffer.specs.Frames.{Step, word_at, is_count, counted_end, data_end, end_at, finish_at, name_at, named, new_class_at, known_class, known_class_at, class_at, new_word_at, referred, reference_at, pointer_word_at}
+use Rattle.rio_format.specs.Objects.{Reader, pointed_at, pointer_at}
 use Rattle.rio_format.specs.Spelling.{Spelling, Spellings, IsPlain, SpellsClass}
-use Rattle.rio_format.specs.ReaderState.{ReaderState, with_name, with_label}
-use Rattle.rio_format.specs.declared.words.PointerWord.{PointerWord}
-use Rattle.rio_format.specs.declared.words.PointerWord.TheVariants.{Null, New}
-use Rattle.rio_format.specs.declared.fault.ObjFault.{ObjFault}
-use Rattle.rio_format.specs.declared.fault.ObjFault.TheVariants.{Short, BadCount, CountMismatch, UnknownClassWord, UnknownRef}
+use Rattle.rio_buffer.specs.ReaderState.{ReaderState, with_name, with_label}
+use Rattle.rio_buffer.specs.declared.words.PointerWord.{PointerWord}
+use Rattle.rio_buffer.specs.declared.words.PointerWord.TheVariants.{Null, New}
+use Rattle.rio_buffer.specs.declared.fault.ObjFault.{ObjFault}
+use Rattle.rio_buffer.specs.declared.fault.ObjFault.TheVariants.{Short, BadCount, CountMismatch, UnknownClassWord, UnknownRef}
 use Rattle.rio_format.proofs.FoundNumbers.{Found, IsFound}
 use Rattle.rio_format.proofs.FoundPointers.{count_found, before_zero, plain_front, class_found}
 use Rattle.rio_faults.specs.Faults.{Breaking, Breakings, IsCounting, IsMiscounted, BreaksWhole, IsUnknownClass, BreaksClassWord, BreaksClass, IsUnknownRef, BreaksPointed, BreaksNew, BreaksPointerWord, BreaksPointer}

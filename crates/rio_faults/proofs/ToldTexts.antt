@@ -7,10 +7,11 @@ use Rattle.byteorder.specs.Numbers.{big_from-lt}
 use Rattle.rio_num.specs.Reading.{skip, short, text_at}
 use Rattle.rio_num.proofs.ReadLaws.{IsBytes, back_1, back_4}
 use Rattle.rio_value.specs.declared.value.Value.{Text}
-use Rattle.rio_format.specs.Objects.{Step, lifted, chars_at, text_value_at}
-use Rattle.rio_format.specs.ReaderState.{ReaderState, WordsMet, standing}
-use Rattle.rio_format.specs.declared.fault.ObjFault.{ObjFault}
-use Rattle.rio_format.specs.declared.fault.ObjFault.TheVariants.{Short}
+use Rattle.rio_buffer.specs.Frames.{Step, lifted, chars_at}
+use Rattle.rio_format.specs.Objects.{text_value_at}
+use Rattle.rio_buffer.specs.ReaderState.{ReaderState, WordsMet, standing}
+use Rattle.rio_buffer.specs.declared.fault.ObjFault.{ObjFault}
+use Rattle.rio_buffer.specs.declared.fault.ObjFault.TheVariants.{Short}
 use Rattle.rio_format.proofs.FoundNumbers.{IsFound, chars_found}
 use Rattle.rio_faults.specs.Faults.{IsBehind, SpellsWord, SpellsChars, IsLongCut, BreaksOwn, BreaksText}
 use Rattle.rio_faults.proofs.ToldNumbers.{IsTold, pure_err}

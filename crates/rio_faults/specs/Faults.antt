@@ -5,12 +5,12 @@ use Rattle.byteorder.specs.Endian.{big_bytes}
 use Rattle.rio_num.specs.Text.{SpellsText}
 use Rattle.rio_types.specs.declared.kind.Primitive.{Primitive}
 use Rattle.rio_value.specs.declared.value.Value.{Value}
-use Rattle.rio_format.specs.Objects.{is_count}
+use Rattle.rio_buffer.specs.Frames.{is_count}
 use Rattle.rio_format.specs.Prims.{width_of}
-use Rattle.rio_format.specs.ReaderState.{WordsMet, with_label}
+use Rattle.rio_buffer.specs.ReaderState.{WordsMet, with_label}
 use Rattle.rio_format.specs.Spelling.{Spelling, Spellings, SpellsNumber, SpellsClass, IsPlain}
-use Rattle.rio_format.specs.declared.fault.ObjFault.{ObjFault}
-use Rattle.rio_format.specs.declared.fault.ObjFault.TheVariants.{Short, BadCount, UnknownClassWord, UnknownRef, BadFlag, CountMismatch}
+use Rattle.rio_buffer.specs.declared.fault.ObjFault.{ObjFault}
+use Rattle.rio_buffer.specs.declared.fault.ObjFault.TheVariants.{Short, BadCount, UnknownClassWord, UnknownRef, BadFlag, CountMismatch}
 
 -- The bytes from the place to the end of the data, behind these words, break with this fault.
 abbrev pub Breaking : Type 1

@@ -2,10 +2,10 @@
 use Rattle.std.specs.Prelude.{◌≡◌, ◌⊎◌, ℕ, List, ◌++◌, Err}
 use Rattle.rio_types.specs.declared.class.ClassDef.{ClassDef}
 use Rattle.rio_value.specs.declared.value.Value.{Value}
-use Rattle.rio_format.specs.Laws.{AreBytes}
+use Rattle.rio_num.specs.At.{AreBytes}
 use Rattle.rio_format.specs.Objects.{value_at}
 use Rattle.rio_format.specs.Spelling.{Spells}
-use Rattle.rio_format.specs.declared.fault.ObjFault.{ObjFault}
+use Rattle.rio_buffer.specs.declared.fault.ObjFault.{ObjFault}
 use Rattle.rio_faults.specs.ObjectFaults.{BreaksFirst}
 
 -- where reading gives a fault, the bytes break with it

@@ -6,13 +6,15 @@ use Rattle.rio_types.specs.declared.kind.Kind.{Kind}
 use Rattle.rio_types.specs.declared.kind.Kind.TheVariants.{Plain, Counter, Fixed, Counted, Text as Texted, Inline, Pointer, Other}
 use Rattle.rio_types.specs.declared.kind.Primitive.{Primitive}
 use Rattle.rio_types.specs.declared.kind.Primitive.TheVariants.{I32}
-use Rattle.rio_format.specs.Bodies.{Form, bare, numbers, headed, form_of, Body, described, listed, arrayed, opaque, body_of, slots_of, Counters, count_by}
+use Rattle.rio_format.specs.Bodies.{form_of, Body, described, listed, arrayed, opaque, body_of, slots_of, Counters, count_by}
+use Rattle.rio_format.specs.declared.shape.Shape.{Shape as Form}
+use Rattle.rio_format.specs.declared.shape.Shape.TheVariants.{Bare as bare, Numbers as numbers, Headed as headed}
 use Rattle.rio_format.specs.Objects.{has_pid, depth_limit}
 use Rattle.rio_format.specs.Prims.{width_of}
-use Rattle.rio_format.specs.ReaderState.{WordsMet, no_words}
+use Rattle.rio_buffer.specs.ReaderState.{WordsMet, no_words}
 use Rattle.rio_format.specs.Spelling.{Spellings, SpellsNumber, SpellsPointer, IsPart, IsParts, IsLink, IsListParts, IsArrayParts, SpellsObject}
-use Rattle.rio_format.specs.declared.fault.ObjFault.{ObjFault}
-use Rattle.rio_format.specs.declared.fault.ObjFault.TheVariants.{BadCount, NoCount, CountMismatch, TooDeep}
+use Rattle.rio_buffer.specs.declared.fault.ObjFault.{ObjFault}
+use Rattle.rio_buffer.specs.declared.fault.ObjFault.TheVariants.{BadCount, NoCount, CountMismatch, TooDeep}
 use Rattle.rio_faults.specs.Faults.{Breaking, Breakings, BreaksThen, BreaksEach, BreaksTimes, IsShort, BreaksWord, BreaksNumber, BreaksNumbers, SpellsChars, BreaksText, BreaksCounted, IsCounting, BreaksWhole, BreaksItems, BreaksPointer}
 
 -- ---- members

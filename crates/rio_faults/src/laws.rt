@@ -1,3 +1,4 @@
+//! Laws: the first fault of a spelling is the one that reading gives.
 ghost use Rattle.rio_faults.specs.Laws.{BrokenIsFault, BrokenIsNotSpelled, FaultIsBroken, IsBrokenOnce, SpelledOrBroken};
 
 /// Where reading gives a fault, every part before one is spelled, and this one breaks its rule with the fault at its place.

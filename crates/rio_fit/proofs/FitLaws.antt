@@ -73,28 +73,28 @@ no_more : {Y : Type 0} (h : Y → List ℕ × Fitting) (ys : List Y) (met : Coun
 no_more h [] met labels lt = absurd (omega arith)
 no_more h (y ∷ ys) met labels lt = refl
 
-no_part : {X : Type 0} (g : X → Field) (fs : List X) (met : Counters) (labels : Labels) → 0 < length fs → fields_fit (map g fs) [] met labels ≡ None
-no_part g [] met labels lt = absurd (omega arith)
-no_part g (f ∷ fs) met labels lt = refl
+no_part : (fs : List Field) (met : Counters) (labels : Labels) → 0 < length fs → fields_fit fs [] met labels ≡ None
+no_part [] met labels lt = absurd (omega arith)
+no_part (f ∷ fs) met labels lt = refl
 
-module _ {X Y : Type 0} (g : X → Field) (h : Y → List ℕ × Fitting) (fields : List X) (parts : List Y) (k : ℕ) (met : Counters) (labels : Labels) (total : Option Labels) (d : X) where
-  pub part_goes_on : (part : Y) (after : Labels) (met' : Counters) → k < length fields → k < length parts → part ≡ slice_index_or parts k part → part_fits (g (slice_index_or fields k d)) (h part) met labels ≡ Some (after, met') → fields_fit (map g (drop k fields)) (map h (drop k parts)) met labels ≡ total → fields_fit (map g (drop (k + 1) fields)) (map h (drop (k + 1) parts)) met' after ≡ total
-  part_goes_on part after met' lf lp e fit so_far =
-      let sf : drop k fields ≡ slice_index_or fields k d ∷ drop (k + 1) fields = drop_more fields k d lf in
+module _ {Y : Type 0} (h : Y → List ℕ × Fitting) (fields : List Field) (parts : List Y) (k : ℕ) (met : Counters) (labels : Labels) (total : Option Labels) where
+  pub part_goes_on : (field : Field) (part : Y) (after : Labels) (met' : Counters) → k < length fields → k < length parts → field ≡ slice_index_or fields k field → part ≡ slice_index_or parts k part → part_fits field (h part) met labels ≡ Some (after, met') → fields_fit (drop k fields) (map h (drop k parts)) met labels ≡ total → fields_fit (drop (k + 1) fields) (map h (drop (k + 1) parts)) met' after ≡ total
+  part_goes_on field part after met' lf lp f e fit so_far =
+      let sf : drop k fields ≡ field ∷ drop (k + 1) fields = drop_more fields k field lf ∙ ap (λ (z : Field). z ∷ drop (k + 1) fields) (sym f) in
       let sp : drop k parts ≡ part ∷ drop (k + 1) parts = drop_more parts k part lp ∙ ap (λ (z : Y). z ∷ drop (k + 1) parts) (sym e) in
-      let one : fields_fit (map g (drop k fields)) (map h (drop k parts)) met labels ≡ fields_fit (map g (drop (k + 1) fields)) (map h (drop (k + 1) parts)) met' after =
-      rw (sf, sp) (one_more (g (slice_index_or fields k d)) (h part) (map g (drop (k + 1) fields)) (map h (drop (k + 1) parts)) met labels after met' fit) in
+      let one : fields_fit (drop k fields) (map h (drop k parts)) met labels ≡ fields_fit (drop (k + 1) fields) (map h (drop (k + 1) parts)) met' after =
+      rw (sf, sp) (one_more field (h part) (drop (k + 1) fields) (map h (drop (k + 1) parts)) met labels after met' fit) in
       sym one ∙ so_far
 
-module _ {X Y : Type 0} (g : X → Field) (h : Y → List ℕ × Fitting) (fields : List X) (parts : List Y) (k : ℕ) (met : Counters) (labels : Labels) (total : Option Labels) where
-  pub part_missing : k < length fields → length parts ≤ k → fields_fit (map g (drop k fields)) (map h (drop k parts)) met labels ≡ total → total ≡ None
+module _ {Y : Type 0} (h : Y → List ℕ × Fitting) (fields : List Field) (parts : List Y) (k : ℕ) (met : Counters) (labels : Labels) (total : Option Labels) where
+  pub part_missing : k < length fields → length parts ≤ k → fields_fit (drop k fields) (map h (drop k parts)) met labels ≡ total → total ≡ None
   part_missing lf lp so_far =
       let some : 0 < length (drop k fields) = simp length-drop (omega arith) in
       let none : drop k parts ≡ [] = drop_all k parts lp in
-      let one : fields_fit (map g (drop k fields)) (map h (drop k parts)) met labels ≡ None = rw none (no_part g (drop k fields) met labels some) in
+      let one : fields_fit (drop k fields) (map h (drop k parts)) met labels ≡ None = rw none (no_part (drop k fields) met labels some) in
       sym so_far ∙ one
 
-  pub parts_done : length fields ≤ k → k ≤ length fields → fields_fit (map g (drop k fields)) (map h (drop k parts)) met labels ≡ total → Tells (Ok (nat_le (length parts) (length fields))) total labels
+  pub parts_done : length fields ≤ k → k ≤ length fields → fields_fit (drop k fields) (map h (drop k parts)) met labels ≡ total → Tells (Ok (nat_le (length parts) (length fields))) total labels
   parts_done le ge so_far = elim (leb_tells (length parts) (length fields)) [ inl w ↦ enough w.0 w.1 | inr w ↦ too_many w.0 w.1 ]
     where
       none : drop k fields ≡ []
@@ -103,11 +103,11 @@ module _ {X Y : Type 0} (g : X → Field) (h : Y → List ℕ × Fitting) (field
       enough : nat_le (length parts) (length fields) ≡ true → length parts ≤ length fields → Tells (Ok (nat_le (length parts) (length fields))) total labels
       enough e lp =
           let sp : drop k parts ≡ [] = drop_all k parts (omega arith) in
-          let one : fields_fit (map g (drop k fields)) (map h (drop k parts)) met labels ≡ Some labels = rw (none, sp) refl in
+          let one : fields_fit (drop k fields) (map h (drop k parts)) met labels ≡ Some labels = rw (none, sp) refl in
           rw e (sym so_far ∙ one)
 
       too_many : nat_le (length parts) (length fields) ≡ false → length fields < length parts → Tells (Ok (nat_le (length parts) (length fields))) total labels
       too_many e lt =
           let some : 0 < length (drop k parts) = simp length-drop (omega arith) in
-          let one : fields_fit (map g (drop k fields)) (map h (drop k parts)) met labels ≡ None = rw none (no_more h (drop k parts) met labels some) in
+          let one : fields_fit (drop k fields) (map h (drop k parts)) met labels ≡ None = rw none (no_more h (drop k parts) met labels some) in
           rw e (sym so_far ∙ one)

@@ -3,12 +3,12 @@ ghost use Rattle.std.specs.Prelude.{◌≡◌, ◌==◌, IfOk};
 ghost use Rattle.std.specs.List.{list_any};
 ghost use Rattle.rio_format.specs.Slots.{can_be_put, is_word};
 ghost use Rattle.rio_format.specs.Fits.{is_pointer, may_point};
-ghost use Rattle.rio_layout.specs.Fields.{slot_as};
 
-use rio_layout::{ClassLists, Slot, derives_from, is_headed};
-use rio_num::{Name, NoMemory};
+use rio_format::{ClassLists, Slot, SlotKind, derives_from, is_headed};
+use rio_num::NoMemory;
 use rio_types::Classes;
 use std::alloc::Global;
+use std::marker::Model;
 
 fn has_zero(bytes: &[u8]) -> bool
     ensures { result ≡ list_any (λ b. b == 0) bytes.now }
@@ -23,8 +23,9 @@ fn is_word(class: &[u8]) -> bool
     !has_zero(class)
 }
 
-/// Whether a put can have an object of this class as its value.
-fn can_be_put(classes: &Classes, class: &[u8]) -> bool
+/// Whether a put can have an object of this class as its value: one whose objects begin with a header and
+/// that is described, or TNamed, TObjString, TList or TObjArray.
+pub fn can_be_put(classes: &Classes, class: &[u8]) -> bool
     ensures { result ≡ can_be_put classes.now class.now }
 {
     (is_headed(class) && classes.newest(class).is_some())
@@ -35,32 +36,44 @@ fn can_be_put(classes: &Classes, class: &[u8]) -> bool
 }
 
 /// The class of an object, and its version.
-pub(crate) type Owner = (Name, i32);
+#[derive(Drop)]
+pub(crate) struct Owner<'a> {
+    pub(crate) class: &'a [u8],
+    pub(crate) version: i32,
+}
+
+impl<'a> Model for Owner<'a> {
+    ghost use Rattle.std.specs.Prelude.{ℕ, ℤ, List};
+
+    ghost Value = { List ℕ × ℤ };
+
+    ghost view = { λ owner. (owner.class.now, owner.version) };
+}
 
 /// Whether a pointer in the slot may point to an object of this class and version.
 pub(crate) fn may_point(
     alloc: Global,
     classes: &Classes,
     owner: &Owner,
-    slot: Slot,
+    slot: &Slot,
 ) -> Result<bool, NoMemory>
-    ensures { IfOk result (λ b. b ≡ may_point classes.now owner.now (slot_as slot.entry)) }
+    ensures { IfOk result (λ b. b ≡ may_point classes.now owner.now slot.now) }
 {
-    let (class, version) = (owner.0.as_slice(), owner.1);
+    let (class, version) = (owner.class, owner.version);
     if !is_word(class) {
         return Ok(false);
     }
-    match slot {
-        Slot::Pointer(target) => {
+    match slot.0 {
+        SlotKind::Pointer(target) => {
             derives_from(alloc, &ClassLists::One(classes), target, class, version)
         }
-        Slot::AnyPointer => Ok(can_be_put(classes, class)),
+        SlotKind::AnyPointer => Ok(can_be_put(classes, class)),
         _ => Ok(false),
     }
 }
 
-pub(crate) fn is_pointer(slot: Slot) -> bool
-    ensures { result ≡ is_pointer (slot_as slot.entry) }
+pub(crate) fn is_pointer(slot: &Slot) -> bool
+    ensures { result ≡ is_pointer slot.now }
 {
-    matches!(slot, Slot::Pointer(_) | Slot::AnyPointer)
+    matches!(slot.0, SlotKind::Pointer(_) | SlotKind::AnyPointer)
 }

@@ -7,31 +7,31 @@ ghost use Rattle.rio_format.specs.Slots.{fields_of, kinded};
 ghost use Rattle.rio_types.specs.declared.kind.Kind.TheVariants.{Inline};
 ghost use Rattle.rio_value.specs.declared.value.Value.{Value as Given};
 ghost use Rattle.std.specs.Prelude.{slice_get};
-ghost use Rattle.rio_layout.specs.Fields.{field_as, slot_as};
 ghost use Rattle.rio_fit.specs.Fitting.{IsCounterValue, counter_fits, Tells, part_fits, part_fitting};
 
 use crate::derive::{Owner, is_pointer, may_point};
 use crate::fit_numbers::{bits32_fits, bits64_fits, int_fits, text_fits, truth_fits};
-use rio_layout::{Counters, Field, Slot, fields_of};
+use rio_format::{Counters, Field, Slot, SlotKind, fields_of};
 use rio_num::{Items, Name, NoMemory};
 use rio_types::Classes;
 use rio_value::{Part, Value};
 use std::alloc::Global;
 
 /// The classes and versions of the objects that have a label, by label.
-type Owners = Items<Owner>;
+type Owners<'a> = Items<Owner<'a>>;
 
 // The slot with the count that its counter says.
-fn counted_slot<'a>(counters: &Counters, slot: Slot<'a>) -> Slot<'a>
-    ensures { slot_as result ≡ counted_slot counters.now (slot_as slot.entry) }
+fn counted_slot<'a>(counters: &Counters, slot: &Slot<'a>) -> Slot<'a>
+    ensures { result ≡ counted_slot counters.now slot.now }
 {
-    match slot {
-        Slot::Counted(of, counter) => match counters.said(counter) {
-            Some(count) if count >= 0 => Slot::Fixed(of, count as u32),
-            _ => Slot::Other(0),
+    let kind = match slot.0 {
+        SlotKind::Counted(of, counter) => match counters.said(counter) {
+            Some(count) if count >= 0 => SlotKind::Fixed(of, count as u32),
+            _ => SlotKind::Other(0),
         },
-        _ => slot,
-    }
+        kind => kind,
+    };
+    Slot(kind)
 }
 
 // What a counter says, where the value is one.
@@ -45,21 +45,24 @@ fn counter_in(value: &Value) -> Option<i32>
 }
 
 // The class and version of an object.
-fn owner_of(value: &Value) -> Result<Option<Owner>, NoMemory>
-    ensures { IfOk result (λ o. (classes : List Class) → o ≡ (fitting_of classes value.now).class) }
+fn owner_of<'a>(value: &'a Value) -> Option<Owner<'a>>
+    ensures { (classes : List Class) → result ≡ (fitting_of classes value.now).class }
 {
     match value {
-        Value::Object { class, version, .. } => Ok(Some((class.copy()?, *version))),
-        _ => Ok(None),
+        Value::Object { class, version, .. } => Some(Owner {
+            class: class.as_slice(),
+            version: *version,
+        }),
+        _ => None,
     }
 }
 
-fn object_may_stand(class: &[u8], version: i32, slot: Slot) -> bool
-    ensures { result ≡ object_may_stand class.now version (slot_as slot.entry) }
+fn object_may_stand(class: &[u8], version: i32, slot: &Slot) -> bool
+    ensures { result ≡ object_may_stand class.now version slot.now }
 {
-    match slot {
-        Slot::Inline(wanted) => class == wanted,
-        Slot::Based(wanted, in_version) => class == wanted && version == in_version,
+    match slot.0 {
+        SlotKind::Inline(wanted) => class == wanted,
+        SlotKind::Based(wanted, in_version) => class == wanted && version == in_version,
         _ => false,
     }
 }
@@ -71,7 +74,9 @@ fn counter_fits(
     value: &Value,
     counters: &mut Counters,
 ) -> Result<bool, NoMemory>
-    ensures { (classes : List Class) (owners : Labels) → Tells result (counter_fits name.now (fitting_of classes value.now) counters.old owners) (owners, counters.new) }
+    ensures { (classes : List Class) (owners : Labels) →
+        Tells result (counter_fits name.now (fitting_of classes value.now) counters.old owners)
+        (owners, counters.new) }
 {
     match counter_in(value) {
         Some(said) => {
@@ -84,38 +89,43 @@ fn counter_fits(
 
 // Whether a part fits in the field, behind these counters.
 #[cycle(fit)]
-fn part_fits(
+fn part_fits<'a>(
     alloc: Global,
     classes: &Classes,
     field: &Field,
-    part: &Part,
+    part: &'a Part,
     counters: &mut Counters,
-    owners: &mut Owners,
+    owners: &mut Owners<'a>,
 ) -> Result<bool, NoMemory>
-    ensures { Tells result (part_fits (field_as field.now) (part_fitting classes.now part.now) counters.old owners.old) (owners.new, counters.new) }
+    ensures { Tells result
+        (part_fits field.now (part_fitting classes.now part.now) counters.old owners.old)
+        (owners.new, counters.new) }
 {
     if part.name.as_slice() != field.name {
         return Ok(false);
     }
-    match field.slot {
-        Slot::Counter => counter_fits(alloc, field.name, &part.value, counters),
-        slot => {
+    let slot = &field.slot;
+    match slot.0 {
+        SlotKind::Counter => counter_fits(alloc, field.name, &part.value, counters),
+        _ => {
             let slot = counted_slot(counters, slot);
-            value_fits(alloc, classes, &part.value, slot, owners)
+            value_fits(alloc, classes, &part.value, &slot, owners)
         }
     }
 }
 
 // Whether each part fits in the field of its number, and no more are there.
 #[cycle(fit)]
-fn parts_fit(
+fn parts_fit<'a>(
     alloc: Global,
     classes: &Classes,
     fields: &[Field],
-    parts: &[Part],
-    owners: &mut Owners,
+    parts: &'a [Part],
+    owners: &mut Owners<'a>,
 ) -> Result<bool, NoMemory>
-    ensures { Tells result (fields_fit (map field_as fields.now) (map (part_fitting classes.now) parts.now) [] owners.old) owners.new }
+    ensures { Tells result
+        (fields_fit fields.now (map (part_fitting classes.now) parts.now) [] owners.old)
+        owners.new }
 {
     let mut counters = Counters::new(alloc);
     for (k, field) in fields.iter().enumerate() {
@@ -130,15 +140,17 @@ fn parts_fit(
 }
 
 #[cycle(fit)]
-fn object_fits(
+fn object_fits<'a>(
     alloc: Global,
     classes: &Classes,
     class: &[u8],
     version: i32,
-    parts: &[Part],
-    owners: &mut Owners,
+    parts: &'a [Part],
+    owners: &mut Owners<'a>,
 ) -> Result<bool, NoMemory>
-    ensures { Tells result (parts_fit (fields_of classes.now class.now version) (map (part_fitting classes.now) parts.now) owners.old) owners.new }
+    ensures { Tells result
+        (parts_fit (fields_of classes.now class.now version)
+        (map (part_fitting classes.now) parts.now) owners.old) owners.new }
 {
     match fields_of(alloc, classes, class, version)? {
         Some(fields) => parts_fit(alloc, classes, fields.as_slice(), parts, owners),
@@ -148,14 +160,15 @@ fn object_fits(
 
 // Whether each item fits in the slot.
 #[cycle(fit)]
-fn all_fit(
+fn all_fit<'a>(
     alloc: Global,
     classes: &Classes,
-    items: &[Value],
-    slot: Slot,
-    owners: &mut Owners,
+    items: &'a [Value],
+    slot: &Slot,
+    owners: &mut Owners<'a>,
 ) -> Result<bool, NoMemory>
-    ensures { Tells result (all_fit (slot_as slot.entry) (map (fitting_of classes.now) items.now) owners.old) owners.new }
+    ensures { Tells result (all_fit slot.now (map (fitting_of classes.now) items.now) owners.old)
+        owners.new }
 {
     for item in items {
         if !value_fits(alloc, classes, item, slot, owners)? {
@@ -167,63 +180,67 @@ fn all_fit(
 
 // Whether the items are a pointer to an object that can be put, and a text.
 #[cycle(fit)]
-fn link_fits(
+fn link_fits<'a>(
     alloc: Global,
     classes: &Classes,
-    items: &[Value],
-    owners: &mut Owners,
+    items: &'a [Value],
+    owners: &mut Owners<'a>,
 ) -> Result<bool, NoMemory>
-    ensures { Tells result (link_fits (map (fitting_of classes.now) items.now) owners.old) owners.new }
+    ensures { Tells result
+        (link_fits (map (fitting_of classes.now) items.now) owners.old)
+        owners.new }
 {
     match items {
         [pointer, text] => {
-            if !value_fits(alloc, classes, pointer, Slot::AnyPointer, owners)? {
+            if !value_fits(alloc, classes, pointer, &Slot(SlotKind::AnyPointer), owners)? {
                 return Ok(false);
             }
-            value_fits(alloc, classes, text, Slot::Text, owners)
+            value_fits(alloc, classes, text, &Slot(SlotKind::Text), owners)
         }
         _ => Ok(false),
     }
 }
 
 #[cycle(fit)]
-fn list_fits(
+fn list_fits<'a>(
     alloc: Global,
     classes: &Classes,
-    items: &[Value],
-    slot: Slot,
-    owners: &mut Owners,
+    items: &'a [Value],
+    slot: &Slot,
+    owners: &mut Owners<'a>,
 ) -> Result<bool, NoMemory>
-    ensures { Tells result (list_fits (map (fitting_of classes.now) items.now) (slot_as slot.entry) owners.old) owners.new }
+    ensures { Tells result (list_fits (map (fitting_of classes.now) items.now) slot.now owners.old)
+        owners.new }
 {
-    match slot {
-        Slot::Fixed(of, count) => {
+    match slot.0 {
+        SlotKind::Fixed(of, count) => {
             if items.len() != count as usize {
                 return Ok(false);
             }
-            all_fit(alloc, classes, items, Slot::Plain(of), owners)
+            all_fit(alloc, classes, items, &Slot(SlotKind::Plain(of)), owners)
         }
-        Slot::Link => link_fits(alloc, classes, items, owners),
-        Slot::Numbers(of) => all_fit(alloc, classes, items, Slot::Plain(of), owners),
-        Slot::Pointers => all_fit(alloc, classes, items, Slot::AnyPointer, owners),
-        Slot::Links => all_fit(alloc, classes, items, Slot::Link, owners),
+        SlotKind::Link => link_fits(alloc, classes, items, owners),
+        SlotKind::Numbers(of) => all_fit(alloc, classes, items, &Slot(SlotKind::Plain(of)), owners),
+        SlotKind::Pointers => all_fit(alloc, classes, items, &Slot(SlotKind::AnyPointer), owners),
+        SlotKind::Links => all_fit(alloc, classes, items, &Slot(SlotKind::Link), owners),
         _ => Ok(false),
     }
 }
 
 // Whether the object may have this label, and fits its own class.
 #[cycle(fit)]
-fn pointed_fits(
+fn pointed_fits<'a>(
     alloc: Global,
     classes: &Classes,
     label: u32,
-    object: &Value,
-    slot: Slot,
-    owners: &mut Owners,
+    object: &'a Value,
+    slot: &Slot,
+    owners: &mut Owners<'a>,
 ) -> Result<bool, NoMemory>
-    ensures { let f = fitting_of classes.now object.now in Tells result (pointed_fits classes.now label f f.class (slot_as slot.entry) owners.old) owners.new }
+    ensures { let f = fitting_of classes.now object.now in
+        Tells result (pointed_fits classes.now label f f.class slot.now owners.old) owners.new }
 {
-    match owner_of(object)? {
+    match owner_of(object) {
         Some(owner) => labelled_fits(alloc, classes, label, owner, object, slot, owners),
         None => Ok(false),
     }
@@ -231,16 +248,19 @@ fn pointed_fits(
 
 // The same for an object of this class and version.
 #[cycle(fit)]
-fn labelled_fits(
+fn labelled_fits<'a>(
     alloc: Global,
     classes: &Classes,
     label: u32,
-    owner: Owner,
-    object: &Value,
-    slot: Slot,
-    owners: &mut Owners,
+    owner: Owner<'a>,
+    object: &'a Value,
+    slot: &Slot,
+    owners: &mut Owners<'a>,
 ) -> Result<bool, NoMemory>
-    ensures { let f = fitting_of classes.now object.now in Tells result (pointed_fits classes.now label f (Some owner) (slot_as slot.entry) owners.old) owners.new }
+    ensures { let f = fitting_of classes.now object.now in
+        Tells result
+        (pointed_fits classes.now label f (Some owner.entry) slot.now owners.old)
+        owners.new }
 {
     if label as usize != owners.len() {
         return Ok(false);
@@ -248,25 +268,19 @@ fn labelled_fits(
     if !may_point(alloc, classes, &owner, slot)? {
         return Ok(false);
     }
-    let class = owner.0.copy()?;
+    let slot = Slot(SlotKind::Inline(owner.class));
     owners.push(owner)?;
-    value_fits(
-        alloc,
-        classes,
-        object,
-        Slot::Inline(class.as_slice()),
-        owners,
-    )
+    value_fits(alloc, classes, object, &slot, owners)
 }
 
 fn back_fits(
     alloc: Global,
     classes: &Classes,
     label: u32,
-    slot: Slot,
+    slot: &Slot,
     owners: &Owners,
 ) -> Result<bool, NoMemory>
-    ensures { IfOk result (λ b. b ≡ back_fits classes.now (slice_get owners.now label) (slot_as slot.entry)) }
+    ensures { IfOk result (λ b. b ≡ back_fits classes.now (slice_get owners.now label) slot.now) }
 {
     match owners.get(label as usize) {
         Some(owner) => may_point(alloc, classes, owner, slot),
@@ -275,14 +289,16 @@ fn back_fits(
 }
 
 #[cycle(fit)]
-fn value_fits(
+fn value_fits<'a>(
     alloc: Global,
     classes: &Classes,
-    value: &Value,
-    slot: Slot,
-    owners: &mut Owners,
+    value: &'a Value,
+    slot: &Slot,
+    owners: &mut Owners<'a>,
 ) -> Result<bool, NoMemory>
-    ensures { Tells result ((fitting_of classes.now value.now).fits (slot_as slot.entry) owners.old) owners.new }
+    ensures { Tells result
+        ((fitting_of classes.now value.now).fits slot.now owners.old)
+        owners.new }
 {
     match value {
         Value::Int(n) => Ok(int_fits(*n, slot)),
@@ -316,5 +332,11 @@ pub fn fits(alloc: Global, classes: &Classes, class: &[u8], value: &Value) -> Re
     ensures { IfOk result (λ b. b ≡ fits classes.now class.now value.now) }
 {
     let mut owners = Owners::new(alloc);
-    value_fits(alloc, classes, value, Slot::Inline(class), &mut owners)
+    value_fits(
+        alloc,
+        classes,
+        value,
+        &Slot(SlotKind::Inline(class)),
+        &mut owners,
+    )
 }

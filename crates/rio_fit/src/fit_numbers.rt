@@ -2,57 +2,56 @@
 ghost use Rattle.std.specs.Prelude.{◌≡◌};
 ghost use Rattle.rio_format.specs.Fits.{bits32_fits, bits64_fits, fits_prim, fits_signed, fits_unsigned, int_fits, text_fits, truth_fits};
 ghost use Rattle.rio_format.specs.Slots.{flags};
-ghost use Rattle.rio_layout.specs.Fields.{slot_as};
 
-use rio_layout::Slot;
+use rio_format::{Slot, SlotKind};
 use rio_types::Prim;
 
 fn fits_8(n: i128) -> bool
     ensures { result ≡ fits_signed 8 n }
 {
-    -0x80 <= n && n < 0x80
+    i8::try_from(n).is_ok()
 }
 
 fn fits_16(n: i128) -> bool
     ensures { result ≡ fits_signed 16 n }
 {
-    -0x8000 <= n && n < 0x8000
+    i16::try_from(n).is_ok()
 }
 
 pub(crate) fn fits_32(n: i128) -> bool
     ensures { result ≡ fits_signed 32 n }
 {
-    -0x8000_0000 <= n && n < 0x8000_0000
+    i32::try_from(n).is_ok()
 }
 
 fn fits_64(n: i128) -> bool
     ensures { result ≡ fits_signed 64 n }
 {
-    -0x8000_0000_0000_0000 <= n && n < 0x8000_0000_0000_0000
+    i64::try_from(n).is_ok()
 }
 
 fn fits_u8(n: i128) -> bool
     ensures { result ≡ fits_unsigned 8 n }
 {
-    0 <= n && n < 0x100
+    u8::try_from(n).is_ok()
 }
 
 fn fits_u16(n: i128) -> bool
     ensures { result ≡ fits_unsigned 16 n }
 {
-    0 <= n && n < 0x1_0000
+    u16::try_from(n).is_ok()
 }
 
 fn fits_u32(n: i128) -> bool
     ensures { result ≡ fits_unsigned 32 n }
 {
-    0 <= n && n < 0x1_0000_0000
+    u32::try_from(n).is_ok()
 }
 
 fn fits_u64(n: i128) -> bool
     ensures { result ≡ fits_unsigned 64 n }
 {
-    0 <= n && n < 0x1_0000_0000_0000_0000
+    u64::try_from(n).is_ok()
 }
 
 fn fits_prim(of: Prim, n: i128) -> bool
@@ -83,37 +82,37 @@ fn fits_flags(n: i128) -> bool
     }
 }
 
-pub(crate) fn int_fits(n: i128, slot: Slot) -> bool
-    ensures { result ≡ int_fits n (slot_as slot.entry) }
+pub(crate) fn int_fits(n: i128, slot: &Slot) -> bool
+    ensures { result ≡ int_fits n slot.now }
 {
-    match slot {
-        Slot::Plain(of) => fits_prim(of, n),
-        Slot::Counter => fits_32(n),
-        Slot::Flags => fits_flags(n),
+    match slot.0 {
+        SlotKind::Plain(of) => fits_prim(of, n),
+        SlotKind::Counter => fits_32(n),
+        SlotKind::Flags => fits_flags(n),
         _ => false,
     }
 }
 
-pub(crate) fn bits32_fits(bits: u32, slot: Slot) -> bool
-    ensures { result ≡ bits32_fits bits (slot_as slot.entry) }
+pub(crate) fn bits32_fits(bits: u32, slot: &Slot) -> bool
+    ensures { result ≡ bits32_fits bits slot.now }
 {
-    matches!(slot, Slot::Plain(Prim::F32))
+    matches!(slot.0, SlotKind::Plain(Prim::F32))
 }
 
-pub(crate) fn bits64_fits(bits: u64, slot: Slot) -> bool
-    ensures { result ≡ bits64_fits bits (slot_as slot.entry) }
+pub(crate) fn bits64_fits(bits: u64, slot: &Slot) -> bool
+    ensures { result ≡ bits64_fits bits slot.now }
 {
-    matches!(slot, Slot::Plain(Prim::F64))
+    matches!(slot.0, SlotKind::Plain(Prim::F64))
 }
 
-pub(crate) fn truth_fits(slot: Slot) -> bool
-    ensures { result ≡ truth_fits (slot_as slot.entry) }
+pub(crate) fn truth_fits(slot: &Slot) -> bool
+    ensures { result ≡ truth_fits slot.now }
 {
-    matches!(slot, Slot::Plain(Prim::Bool))
+    matches!(slot.0, SlotKind::Plain(Prim::Bool))
 }
 
-pub(crate) fn text_fits(slot: Slot) -> bool
-    ensures { result ≡ text_fits (slot_as slot.entry) }
+pub(crate) fn text_fits(slot: &Slot) -> bool
+    ensures { result ≡ text_fits slot.now }
 {
-    matches!(slot, Slot::Text)
+    matches!(slot.0, SlotKind::Text)
 }

@@ -5,4 +5,5 @@ mod derive;
 mod fit;
 mod fit_numbers;
 
+pub use derive::can_be_put;
 pub use fit::fits;

@@ -7,10 +7,11 @@ use Rattle.rio_num.specs.Text.{SpellsText}
 use Rattle.rio_num.proofs.ReadLaws.{number_again, text_again}
 use Rattle.rio_types.specs.declared.kind.Primitive.{Primitive}
 use Rattle.rio_value.specs.declared.value.Value.{Value}
-use Rattle.rio_format.specs.Objects.{Step, lifted, word_at, chars_at, each_at, times_at, number_value_at, numbers_at, counted_at, text_value_at}
+use Rattle.rio_buffer.specs.Frames.{Step, lifted, word_at, chars_at}
+use Rattle.rio_format.specs.Objects.{each_at, times_at, number_value_at, numbers_at, counted_at, text_value_at}
 use Rattle.rio_format.specs.Prims.{width_of}
 use Rattle.rio_format.specs.Spelling.{Spelling, SpellsEach, SpellsTimes, SpellsNumber, SpellsNumbers, SpellsCounted, IsText}
-use Rattle.rio_format.specs.ReaderState.{ReaderState, WordsMet, standing}
+use Rattle.rio_buffer.specs.ReaderState.{ReaderState, WordsMet, standing}
 
 -- what a relation says is spelled is read, from where reading stands
 abbrev pub IsReadBy : {S W Y E : Type 0} → (ℕ → List ℕ → W → S) → (S → Result (Y × S) E) → (ℕ → W → Y → List ℕ → W → Type 0) → Type 0

@@ -7,10 +7,11 @@ use Rattle.rio_types.specs.declared.class.ClassDef.{ClassDef}
 use Rattle.rio_value.specs.declared.value.Value.{Value}
 use Rattle.rio_value.specs.declared.value.Part.{Part}
 use Rattle.rio_format.specs.Bodies.{Form, bare, numbers, headed, form_of, Body, described, listed, arrayed, opaque, body_of, slots_of}
-use Rattle.rio_format.specs.Objects.{Step, Reader, header_at, body_at, whole_at, headed_at, formed_at, object_at, parts_at, list_parts_at, array_parts_at, first_at, depth_limit}
+use Rattle.rio_buffer.specs.Frames.{Step, header_at}
+use Rattle.rio_format.specs.Objects.{Reader, body_at, whole_at, headed_at, formed_at, object_at, parts_at, list_parts_at, array_parts_at, first_at, depth_limit}
 use Rattle.rio_format.specs.Spelling.{Spelling, Spellings, SpellsVersion, SpellsBody, SpellsForm, SpellsObject, IsWhole, IsHeaded, IsParts, IsListParts, IsArrayParts, Spells}
-use Rattle.rio_format.specs.ReaderState.{ReaderState, WordsMet, standing, no_words}
-use Rattle.rio_format.specs.declared.words.Header.{Header}
+use Rattle.rio_buffer.specs.ReaderState.{ReaderState, WordsMet, standing, no_words}
+use Rattle.rio_buffer.specs.declared.words.Header.{Header}
 use Rattle.rio_format.proofs.AgainNumbers.{IsReadAgain, word_again}
 use Rattle.rio_format.proofs.AgainPointers.{count_is, end_again, finish_again}
 use Rattle.rio_format.proofs.AgainParts.{bare_again, array_again, parts_again, list_parts_again, array_parts_again}

@@ -16,7 +16,7 @@ use Rattle.rio_format.specs.Bodies.{slots_of, Counters, count_by}
 use Rattle.rio_format.specs.Objects.{Reader, Within, kind_at, member_at, parts_at, count_at, link_at, list_parts_at, array_parts_at, bare_at, array_at, pointer_at, has_pid}
 use Rattle.rio_format.specs.Prims.{width_of}
 use Rattle.rio_format.specs.Spelling.{Spelling, Spellings, SpellsEach, SpellsTimes, SpellsKind, SpellsNumber, SpellsPointer, SpellsPid, IsPart, IsParts, IsLink, IsListParts, IsArrayParts, IsBare, IsArray}
-use Rattle.rio_format.specs.ReaderState.{WordsMet, standing}
+use Rattle.rio_buffer.specs.ReaderState.{WordsMet, standing}
 use Rattle.rio_format.proofs.AgainNumbers.{IsReadBy, IsReadAgain, each_again, times_again, word_again, chars_again, number_value_again, numbers_again, counted_again, text_value_again}
 use Rattle.rio_format.proofs.AgainPointers.{pointer_again}
 

@@ -4,9 +4,10 @@ use Rattle.std.proofs.lemmas.Bool.{le-ltb, lt-ltb, le-leb, ne_eqb, eq-eqb}
 use Rattle.std.proofs.lemmas.List.{take_at, drop_at, length-append}
 use Rattle.std.specs.List.{position_or_len}
 use Rattle.byteorder.specs.Endian.{big_bytes}
-use Rattle.rio_format.specs.Objects.{Reader, is_count, end_at, finish_at, name_at, class_at, new_class_at, new_word_at, pointer_word_at, pointed_at, pointer_at}
+use Rattle.rio_buffer.specs.Frames.{is_count, end_at, finish_at, name_at, class_at, new_class_at, new_word_at, pointer_word_at}
+use Rattle.rio_format.specs.Objects.{Reader, pointed_at, pointer_at}
 use Rattle.rio_format.specs.Spelling.{Spellings, SpellsClass, SpellsPointer, IsNull, IsBack, IsNew, IsPlain}
-use Rattle.rio_format.specs.ReaderState.{ReaderState, WordsMet, standing, with_label}
+use Rattle.rio_buffer.specs.ReaderState.{ReaderState, WordsMet, standing, with_label}
 use Rattle.rio_format.proofs.AgainNumbers.{IsReadAgain, word_again}
 
 -- ---- byte counts

@@ -11,12 +11,13 @@ use Rattle.rio_format.specs.Bodies.{part, member}
 use Rattle.rio_format.specs.Fits.{fits, fitting_step}
 use Rattle.rio_value.specs.declared.value.Value.TheOpen as layer
 use Rattle.rio_format.specs.Slots.{kinded}
-use Rattle.rio_format.specs.ReaderState.{no_words}
+use Rattle.rio_buffer.specs.ReaderState.{no_words}
 use Rattle.rio_format.specs.Written.{Writing, written_form, writing_step, writing_of}
 use Rattle.rio_format.proofs.ValueCases.{fold_Int, fold_Pointed, fold_Back}
 use Rattle.rio_format.proofs.WrittenValues.{fit_object, write_object}
-use Rattle.rio_format.specs.Objects.{value_at, object_at, formed_at, headed_at, body_at, header_at, whole_at, parts_at, member_at, each_at, kind_at, number_value_at, count_at, text_value_at, pointer_at, pointer_word_at, pointed_at, new_word_at, class_at, new_class_at, bare_at, list_parts_at, link_at}
-use Rattle.rio_format.specs.declared.fault.ObjFault.TheVariants.{CountMismatch}
+use Rattle.rio_buffer.specs.Frames.{header_at, pointer_word_at, new_word_at, class_at, new_class_at}
+use Rattle.rio_format.specs.Objects.{value_at, object_at, formed_at, headed_at, body_at, whole_at, parts_at, member_at, each_at, kind_at, number_value_at, count_at, text_value_at, pointer_at, pointed_at, bare_at, list_parts_at, link_at}
+use Rattle.rio_buffer.specs.declared.fault.ObjFault.TheVariants.{CountMismatch}
 
 node_class : ClassDef
 node_class = record { name = codes "Node"; version = pos 1; sum = 0; bases = []; members = member (codes "val") (Plain I32) ∷ member (codes "next") (Pointer (codes "Node")) ∷ [] }

@@ -13,10 +13,11 @@ use Rattle.rio_types.specs.declared.kind.Primitive.TheVariants.{I32}
 use Rattle.rio_value.specs.declared.value.Value.{Value, Text, List as Items}
 use Rattle.rio_value.specs.declared.value.Part.{Part}
 use Rattle.rio_format.specs.Bodies.{part, slots_of, Counters, counters_with, count_by}
-use Rattle.rio_format.specs.Objects.{Step, Reader, Within, chars_at, times_at, each_at, number_value_at, kind_at, member_at, parts_at, count_at, link_at, list_parts_at, array_parts_at, base_at, pointer_at}
+use Rattle.rio_buffer.specs.Frames.{Step, chars_at}
+use Rattle.rio_format.specs.Objects.{Reader, Within, times_at, each_at, number_value_at, kind_at, member_at, parts_at, count_at, link_at, list_parts_at, array_parts_at, base_at, pointer_at}
 use Rattle.rio_format.specs.Spelling.{Spelling, Spellings, SpellsTimes, SpellsKind, SpellsNumber, SpellsPointer, IsPart, IsParts, IsLink, IsListParts, IsArrayParts}
-use Rattle.rio_format.specs.ReaderState.{ReaderState, WordsMet}
-use Rattle.rio_format.specs.declared.fault.ObjFault.{ObjFault}
+use Rattle.rio_buffer.specs.ReaderState.{ReaderState, WordsMet}
+use Rattle.rio_buffer.specs.declared.fault.ObjFault.{ObjFault}
 use Rattle.rio_format.proofs.FoundNumbers.{IsFoundAt, IsFoundBy, Found, IsFound, IsChars, chars_found, given_at, given, moved, each_found, times_found, number_value_found, numbers_found, counted_found, text_value_found}
 use Rattle.rio_format.proofs.FoundPointers.{pointer_found}
 use Rattle.rio_format.proofs.FoundParts.{IsCount, count_found_at}

@@ -10,12 +10,13 @@ use Rattle.rio_num.proofs.ReadLaws.{IsBytes, Took, Took-then, ReadsBack, back_1,
 use Rattle.rio_types.specs.declared.kind.Primitive.{Primitive}
 use Rattle.rio_types.specs.declared.kind.Primitive.TheVariants.{I8, I16, I32, I64, U8, U16, U32, U64, Bool as Boolean, F32, F64}
 use Rattle.rio_value.specs.declared.value.Value.{Value, Text, List as Items}
-use Rattle.rio_format.specs.Objects.{Step, lifted, word_at, chars_at, each_at, times_at, number_value_at, numbers_at, filled_at, counted_at, text_value_at}
+use Rattle.rio_buffer.specs.Frames.{Step, lifted, word_at, chars_at}
+use Rattle.rio_format.specs.Objects.{each_at, times_at, number_value_at, numbers_at, filled_at, counted_at, text_value_at}
 use Rattle.rio_format.specs.Prims.{width_of, value_of}
 use Rattle.rio_format.specs.Spelling.{Spelling, SpellsEach, SpellsTimes, SpellsNumber, SpellsNumbers, SpellsCounted, IsText}
-use Rattle.rio_format.specs.ReaderState.{ReaderState}
-use Rattle.rio_format.specs.declared.fault.ObjFault.{ObjFault}
-use Rattle.rio_format.specs.declared.fault.ObjFault.TheVariants.{BadFlag}
+use Rattle.rio_buffer.specs.ReaderState.{ReaderState}
+use Rattle.rio_buffer.specs.declared.fault.ObjFault.{ObjFault}
+use Rattle.rio_buffer.specs.declared.fault.ObjFault.TheVariants.{BadFlag}
 
 -- what was read, the bytes that it took, and that they spell it
 pub record IsFoundAt {S W Y : Type 0} (at : S → At) (words : S → W) (spells : ℕ → W → Y → List ℕ → W → Type 0) (s : S) (y : Y) (s' : S) : Type 0 where

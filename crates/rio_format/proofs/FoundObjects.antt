@@ -10,12 +10,13 @@ use Rattle.rio_types.specs.declared.class.ClassDef.{ClassDef}
 use Rattle.rio_value.specs.declared.value.Value.{Value, Object, Opaque}
 use Rattle.rio_value.specs.declared.value.Part.{Part}
 use Rattle.rio_format.specs.Bodies.{Form, bare, numbers, headed, form_of, Body, described, listed, arrayed, opaque, body_of, slots_of}
-use Rattle.rio_format.specs.Objects.{Step, Reader, word_at, is_count, counted_end, data_end, end_at, finish_at, header_end_at, header_at, whole_at, body_at, headed_at, formed_at, object_at, parts_at, list_parts_at, array_parts_at, first_at, depth_limit}
+use Rattle.rio_buffer.specs.Frames.{Step, word_at, is_count, counted_end, data_end, end_at, finish_at, header_end_at, header_at}
+use Rattle.rio_format.specs.Objects.{Reader, whole_at, body_at, headed_at, formed_at, object_at, parts_at, list_parts_at, array_parts_at, first_at, depth_limit}
 use Rattle.rio_format.specs.Spelling.{Spelling, Spellings, SpellsVersion, SpellsBody, SpellsForm, SpellsObject, IsWhole, IsHeaded, Spells}
-use Rattle.rio_format.specs.ReaderState.{ReaderState, standing, no_words}
-use Rattle.rio_format.specs.declared.words.Header.{Header}
-use Rattle.rio_format.specs.declared.fault.ObjFault.{ObjFault}
-use Rattle.rio_format.specs.declared.fault.ObjFault.TheVariants.{BadCount, NoCount, CountMismatch}
+use Rattle.rio_buffer.specs.ReaderState.{ReaderState, standing, no_words}
+use Rattle.rio_buffer.specs.declared.words.Header.{Header}
+use Rattle.rio_buffer.specs.declared.fault.ObjFault.{ObjFault}
+use Rattle.rio_buffer.specs.declared.fault.ObjFault.TheVariants.{BadCount, NoCount, CountMismatch}
 use Rattle.rio_format.proofs.FoundNumbers.{Found, IsFound, IsWord, word4, word2, moved, read_so}
 use Rattle.rio_format.proofs.FoundPointers.{count_found, end_found, finish_found}
 use Rattle.rio_format.proofs.FoundParts.{bare_found, array_found}

@@ -7,12 +7,13 @@ use Rattle.rio_num.proofs.ReadLaws.{IsBytes, Took, Took-then, bind_ok, chosen, o
 use Rattle.rio_types.specs.declared.kind.Primitive.{Primitive}
 use Rattle.rio_value.specs.declared.value.Value.{Value, Object}
 use Rattle.rio_format.specs.Bodies.{part}
-use Rattle.rio_format.specs.Objects.{Step, word_at, numbers_at, count_at, bare_at, array_at, has_pid, bare_object, pid_part}
+use Rattle.rio_buffer.specs.Frames.{Step, word_at}
+use Rattle.rio_format.specs.Objects.{numbers_at, count_at, bare_at, array_at, has_pid, bare_object, pid_part}
 use Rattle.rio_format.specs.Prims.{width_of}
 use Rattle.rio_format.specs.Spelling.{Spelling, SpellsNumbers, SpellsPid, IsBare, IsArray}
-use Rattle.rio_format.specs.ReaderState.{ReaderState}
-use Rattle.rio_format.specs.declared.fault.ObjFault.{ObjFault}
-use Rattle.rio_format.specs.declared.fault.ObjFault.TheVariants.{BadCount, NoCount}
+use Rattle.rio_buffer.specs.ReaderState.{ReaderState}
+use Rattle.rio_buffer.specs.declared.fault.ObjFault.{ObjFault}
+use Rattle.rio_buffer.specs.declared.fault.ObjFault.TheVariants.{BadCount, NoCount}
 use Rattle.rio_format.proofs.FoundNumbers.{Found, IsFound, IsWord, word4, word2, given, moved, numbers_found}
 
 -- ---- counts of items

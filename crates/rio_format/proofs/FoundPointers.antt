@@ -8,13 +8,14 @@ use Rattle.byteorder.specs.Endian.{big_bytes}
 use Rattle.rio_num.specs.Reading.{◌>>=◌, skip}
 use Rattle.rio_num.proofs.ReadLaws.{IsBytes, IsBytes-drop, Took, Took-then, bind_ok, chosen, ok_is}
 use Rattle.rio_value.specs.declared.value.Value.{Value, Pointed, Null as Nothing, Back as Earlier}
-use Rattle.rio_format.specs.Objects.{Step, Reader, word_at, is_count, counted_end, data_end, end_at, finish_at, name_at, named, new_class_at, known_class, known_class_at, class_at, new_word_at, referred, reference_at, pointer_word_at, pointed_at, pointer_at}
+use Rattle.rio_buffer.specs.Frames.{Step, word_at, is_count, counted_end, data_end, end_at, finish_at, name_at, named, new_class_at, known_class, known_class_at, class_at, new_word_at, referred, reference_at, pointer_word_at}
+use Rattle.rio_format.specs.Objects.{Reader, pointed_at, pointer_at}
 use Rattle.rio_format.specs.Spelling.{Spellings, IsPlain, SpellsClass, SpellsPointer, IsNew}
-use Rattle.rio_format.specs.ReaderState.{ReaderState, WordsMet, with_name, with_label}
-use Rattle.rio_format.specs.declared.words.PointerWord.{PointerWord}
-use Rattle.rio_format.specs.declared.words.PointerWord.TheVariants.{Null, New, Back}
-use Rattle.rio_format.specs.declared.fault.ObjFault.{ObjFault}
-use Rattle.rio_format.specs.declared.fault.ObjFault.TheVariants.{BadCount, CountMismatch, UnknownClassWord, UnknownRef}
+use Rattle.rio_buffer.specs.ReaderState.{ReaderState, WordsMet, with_name, with_label}
+use Rattle.rio_buffer.specs.declared.words.PointerWord.{PointerWord}
+use Rattle.rio_buffer.specs.declared.words.PointerWord.TheVariants.{Null, New, Back}
+use Rattle.rio_buffer.specs.declared.fault.ObjFault.{ObjFault}
+use Rattle.rio_buffer.specs.declared.fault.ObjFault.TheVariants.{BadCount, CountMismatch, UnknownClassWord, UnknownRef}
 use Rattle.rio_format.proofs.Tests.{both_true}
 use Rattle.rio_format.proofs.FoundNumbers.{Found, IsFound, IsWord, word4, given, moved, read_so}
 

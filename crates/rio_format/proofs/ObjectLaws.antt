@@ -5,8 +5,8 @@ use Rattle.rio_num.proofs.ReadLaws.{ok_is}
 use Rattle.rio_value.specs.declared.value.Value.{Value}
 use Rattle.rio_format.specs.Laws.{SpelledIsRead, IsSpelledOnce, FaultIsNotSpelled, ReadIsSpelled}
 use Rattle.rio_format.specs.Objects.{first_at}
-use Rattle.rio_format.specs.ReaderState.{ReaderState}
-use Rattle.rio_format.specs.declared.fault.ObjFault.{ObjFault}
+use Rattle.rio_buffer.specs.ReaderState.{ReaderState}
+use Rattle.rio_buffer.specs.declared.fault.ObjFault.{ObjFault}
 use Rattle.rio_format.proofs.AgainObjects.{first_again}
 use Rattle.rio_format.proofs.FoundObjects.{first_found}
 

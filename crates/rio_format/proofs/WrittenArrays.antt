@@ -12,7 +12,7 @@ use Rattle.rio_format.specs.Bodies.{part, Counters}
 use Rattle.rio_format.specs.Fits.{Labels, Fitting, fields_fit, counted_slot, counted_so_far}
 use Rattle.rio_format.specs.Slots.{Slot, kinded, based, any_pointer, link, many, Field, field}
 use Rattle.rio_format.specs.Spelling.{Spellings, SpellsTimes, SpellsPointer, IsListParts, IsArrayParts, IsLink}
-use Rattle.rio_format.specs.ReaderState.{WordsMet}
+use Rattle.rio_buffer.specs.ReaderState.{WordsMet}
 use Rattle.rio_format.specs.Written.{listed_bytes, arrayed_bytes, writing_of}
 use Rattle.rio_format.proofs.AgainParts.{pointer_long, link_long}
 use Rattle.rio_format.proofs.WrittenPlaces.{Stands, stands_more}

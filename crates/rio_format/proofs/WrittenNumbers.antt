@@ -10,7 +10,7 @@ use Rattle.rio_value.specs.declared.value.Value.{Int, Bits32, Bits64, Bool as Tr
 use Rattle.rio_format.specs.Fits.{fits_prim, fits_signed, fits_unsigned}
 use Rattle.rio_format.specs.Prims.{width_of, value_of}
 use Rattle.rio_format.specs.Spelling.{IsNumber}
-use Rattle.rio_format.specs.ReaderState.{WordsMet}
+use Rattle.rio_buffer.specs.ReaderState.{WordsMet}
 use Rattle.rio_format.specs.Written.{bits_of, truth_byte}
 
 signed_8 : (z : ℤ) → fits_signed 8 z ≡ true → cast_signed w8 (cast_unsigned w8 z) ≡ z

@@ -9,7 +9,7 @@ use Rattle.std.specs.Str.{bytes_eq}
 use Rattle.indexmap.specs.IndexMap.{insert_entry}
 use Rattle.indexmap.specs.IndexSet.{insert_key}
 use Rattle.rio_format.specs.Fits.{Labels}
-use Rattle.rio_format.specs.ReaderState.{WordsMet, no_words, with_label, with_name}
+use Rattle.rio_buffer.specs.ReaderState.{WordsMet, no_words, with_label, with_name}
 
 -- ---- places in order
 

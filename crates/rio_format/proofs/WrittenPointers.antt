@@ -16,8 +16,9 @@ use Rattle.rio_value.specs.declared.value.Part.{Part}
 use Rattle.rio_format.specs.Fits.{Labels, Fitting, pass, may_point, back_fits, pointed_fits, fitting_step, fitting_of}
 use Rattle.rio_format.specs.Slots.{kinded, any_pointer, is_word}
 use Rattle.rio_format.specs.Spelling.{Spellings, IsPlain, SpellsClass, SpellsPointer, IsNew}
-use Rattle.rio_format.specs.ReaderState.{WordsMet, with_label}
-use Rattle.rio_format.specs.Written.{Writing, class_by, class_bytes, labelled, counted, both, writing_step, writing_of}
+use Rattle.rio_buffer.specs.ReaderState.{WordsMet, with_label}
+use Rattle.rio_buffer.specs.Writer.{class_by, class_bytes}
+use Rattle.rio_format.specs.Written.{Writing, labelled, counted, both, writing_step, writing_of}
 use Rattle.rio_format.proofs.Tests.{both_true, named_as}
 use Rattle.rio_format.proofs.WrittenPlaces.{Stands, stands_more, stands_name, stands_label, named_before}
 use Rattle.rio_format.proofs.WrittenWays.{Way, in_slot, fit_slot, SpellsWay, last_place, IsWrittenAt, IsWritten}

@@ -19,7 +19,7 @@ use Rattle.rio_format.specs.Laws.{versions_step, has_versions, WrittenIsSpelled}
 use Rattle.rio_format.specs.Objects.{depth_limit}
 use Rattle.rio_format.specs.Slots.{kinded, based, fields_of}
 use Rattle.rio_format.specs.Spelling.{Spellings, SpellsObject, Spells}
-use Rattle.rio_format.specs.ReaderState.{WordsMet, no_words}
+use Rattle.rio_buffer.specs.ReaderState.{WordsMet, no_words}
 use Rattle.rio_format.specs.Written.{Writing, form_bytes, writing_step, writing_of}
 use Rattle.rio_format.proofs.Tests.{both_true, named_as}
 use Rattle.rio_format.proofs.ValueCases.{Each, Steps, by_cases, fold_Int, fold_Bits32, fold_Bits64, fold_Bool, fold_Text, fold_List, fold_Object, fold_Pointed, fold_Null, fold_Back, fold_Opaque}

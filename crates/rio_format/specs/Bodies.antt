@@ -1,4 +1,6 @@
 -- What stands in an object of a class: the classes with a body of their own, and the parts of a class that is described.
+pub use Rattle.rio_format.specs.declared.shape.Shape.{Shape as Form}
+pub use Rattle.rio_format.specs.declared.shape.Shape.TheVariants.{Bare as bare, Numbers as numbers, Headed as headed}
 use Rattle.std.specs.Prelude.{ℕ, ℤ, pos, List, [], ◌∷◌, ◌++◌, map, codes, ◌&&◌, Option, Some, None, unwrap_or, if◌then◌else◌}
 use Rattle.std.specs.Str.{bytes_eq}
 use Rattle.std.specs.Map.{lookup}
@@ -24,12 +26,6 @@ abbrev pub member : List ℕ → Kind → Member
 member name kind = record { name = name; kind = kind; title = [] }
 
 -- ---- classes without a header
-
--- how an object of a class begins
-pub data Form : Type 0 where
-  bare : Form
-  numbers : Primitive → Form
-  headed : Form
 
 -- TObject has no byte count; a TArray is a count and numbers; any other object begins with a header
 abbrev pub form_of : List ℕ → Form

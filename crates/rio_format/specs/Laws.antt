@@ -1,6 +1,7 @@
 -- How reading, spelling and writing of objects belong together.
-use Rattle.std.specs.Prelude.{◌≡◌, ◌≤◌, ◌<◌, ℕ, ◌+◌, ◌-◌, ◌^◌, ℤ, pos, int_le, Bool, true, ◌&&◌, List, ◌++◌, length, slice_index, Ok, Err, IsTrue}
+use Rattle.std.specs.Prelude.{◌≡◌, ◌≤◌, ℕ, ◌+◌, ◌-◌, ◌^◌, ℤ, pos, int_le, Bool, true, ◌&&◌, List, ◌++◌, length, Ok, Err, IsTrue}
 use Rattle.std.specs.List.{list_all}
+use Rattle.rio_num.specs.At.{AreBytes}
 use Rattle.rio_types.specs.declared.class.ClassDef.{ClassDef}
 use Rattle.rio_value.specs.Depth.{depth_of}
 use Rattle.rio_value.specs.declared.value.Value.{Value}
@@ -10,13 +11,9 @@ use Rattle.rio_format.specs.Fits.{Fits}
 use Rattle.rio_format.specs.Objects.{first_at, depth_limit}
 use Rattle.rio_format.specs.Slots.{has_base}
 use Rattle.rio_format.specs.Spelling.{Spells}
-use Rattle.rio_format.specs.ReaderState.{ReaderState}
+use Rattle.rio_buffer.specs.ReaderState.{ReaderState}
 use Rattle.rio_format.specs.Written.{written_form}
-use Rattle.rio_format.specs.declared.fault.ObjFault.{ObjFault}
-
--- numbers from 0 to 255
-abbrev pub AreBytes : List ℕ → Type 0
-AreBytes bytes = (i : ℕ) → slice_index bytes i < 256
+use Rattle.rio_buffer.specs.declared.fault.ObjFault.{ObjFault}
 
 -- what is read is spelled by the bytes before the place where reading stands
 abbrev pub ReadIsSpelled : Type 0

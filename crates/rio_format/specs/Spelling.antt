@@ -12,9 +12,10 @@ use Rattle.rio_types.specs.declared.kind.Primitive.TheVariants.{I32}
 use Rattle.rio_value.specs.declared.value.Value.{Value, Text, List as Items, Object, Pointed, Null, Back, Opaque}
 use Rattle.rio_value.specs.declared.value.Part.{Part}
 use Rattle.rio_format.specs.Bodies.{part, Form, bare, numbers, headed, form_of, Body, described, listed, arrayed, opaque, body_of, slots_of, Counters, counters_with, count_by}
-use Rattle.rio_format.specs.Objects.{is_count, has_pid, bare_object, pid_part, depth_limit}
+use Rattle.rio_buffer.specs.Frames.{is_count}
+use Rattle.rio_format.specs.Objects.{has_pid, bare_object, pid_part, depth_limit}
 use Rattle.rio_format.specs.Prims.{width_of, value_of}
-use Rattle.rio_format.specs.ReaderState.{WordsMet, no_words, with_label, with_name}
+use Rattle.rio_buffer.specs.ReaderState.{WordsMet, no_words, with_label, with_name}
 
 -- Bytes whose first has the place, behind these words, spell this value, and these words stand before what follows.
 abbrev pub Spelling : Type 0 → Type 1

@@ -1,7 +1,6 @@
 -- The one spelling that is written for a value that fits.
-use Rattle.std.specs.Prelude.{ℕ, ◌+◌, ◌-◌, ◌^◌, ℤ, pos, List, [], ◌∷◌, ◌++◌, length, slice_index, codes, Bool, true, false, Option, Some, None, find}
+use Rattle.std.specs.Prelude.{ℕ, ◌+◌, ◌-◌, ◌^◌, ℤ, pos, List, [], ◌∷◌, ◌++◌, length, slice_index, codes, Bool, true, false, Option, Some, None}
 use Rattle.std.specs.Int.{Width, w8, w16, w32, w64, cast_unsigned}
-use Rattle.std.specs.Str.{bytes_eq}
 use Rattle.byteorder.specs.Endian.{big_bytes}
 use Rattle.rio_num.specs.Text.{text_bytes}
 use Rattle.rio_types.specs.declared.class.ClassDef.{ClassDef}
@@ -14,11 +13,8 @@ use Rattle.rio_value.specs.declared.value.Value.TheFolds.{fold-Value}
 use Rattle.rio_format.specs.Bodies.{Form, bare, numbers, headed, form_of, Body, described, listed, arrayed, opaque}
 use Rattle.rio_format.specs.Prims.{width_of}
 use Rattle.rio_format.specs.Slots.{Slot, kinded, based, flags, any_pointer, link, many, Field, declared_body, body_fields}
-use Rattle.rio_format.specs.ReaderState.{WordsMet, no_words, with_label, with_name}
-
--- what is written at a place behind these words, and the words behind it
-abbrev pub Writer : Type 0
-Writer = ℕ → WordsMet → List ℕ × WordsMet
+use Rattle.rio_buffer.specs.ReaderState.{WordsMet, no_words, with_label}
+use Rattle.rio_buffer.specs.Writer.{Writer, class_bytes}
 
 -- what is to be known of a value: what is written for it in a slot
 pub record Writing : Type 0 where
@@ -81,14 +77,6 @@ list_bytes items other = just []
 
 -- ---- pointers
 
--- the name, where it stands for the first time, and else a reference to where it stood
-abbrev pub class_by : List ℕ → Option (ℕ × List ℕ) → Writer
-class_by class None p t = (big_bytes 4 (2 ^ 32 - 1) ++ (class ++ 0 ∷ []), with_name t p class)
-class_by class (Some e) p t = (big_bytes 4 (e.0 + (2 ^ 31 + 2)), t)
-
-abbrev pub class_bytes : List ℕ → Writer
-class_bytes class p t = class_by class (find (λ e. bytes_eq e.1 class) t.names) p t
-
 abbrev pub labelled : ℕ → Writer → Writer
 labelled place f p t = f p (with_label t place)
 
@@ -134,9 +122,11 @@ body_bytes (Some listed) parts = listed_bytes parts
 body_bytes (Some arrayed) parts = arrayed_bytes parts
 body_bytes (Some opaque) parts = just []
 
--- the version, without a byte count
+-- the version, without a byte count, and the parts: fPid only where it is one of them
 abbrev pub bare_bytes : List Writing → Writer
 bare_bytes (id ∷ bits ∷ []) = both (just (big_bytes 2 1)) (both (id.bytes (kinded (Plain U32))) (bits.bytes flags))
+bare_bytes (id ∷ bits ∷ pid ∷ []) =
+    both (just (big_bytes 2 1)) (both (id.bytes (kinded (Plain U32))) (both (bits.bytes flags) (pid.bytes (kinded (Plain U16)))))
 bare_bytes other = just []
 
 abbrev pub array_bytes : Primitive → List Writing → Writer

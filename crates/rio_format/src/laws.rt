@@ -1,3 +1,4 @@
+//! Laws: how reading, spelling and writing of objects belong together.
 ghost use Rattle.rio_format.specs.Laws.{FaultIsNotSpelled, IsSpelledOnce, NoBaseIsDeeper, ReadIsSpelled, SpelledIsRead, WrittenIsSpelled};
 
 /// What spells an object is read as it, whatever follows, and reading stands behind it.

@@ -1,13 +1,27 @@
 //! What bytes of a file mean: definitions that contracts cite, laws about them, and the types that they speak of.
+//! Beside them stands what objects of a class consist of: their shapes, bodies and parts, and which classes are
+//! among their bases.
 #![tactic(auto)]
 
-mod fault;
+mod bases;
+mod body;
+mod counters;
 mod laws;
-mod words;
+mod lists;
+mod shape;
+mod slot;
+mod visits;
+mod width;
 
-pub use fault::ObjFault;
+pub use bases::{derives_from, is_headed};
+pub use body::{Body, BodyKind, body_of, declared_body, headed_version};
+pub use counters::Counters;
 pub use laws::{
     fault_is_not_spelled, is_spelled_once, no_base_is_deeper, read_is_spelled, spelled_is_read,
     written_is_spelled,
 };
-pub use words::{Header, PointerWord};
+pub use lists::ClassLists;
+pub use rio_buffer::{Header, ObjFault, PointerWord};
+pub use shape::{Shape, shape_of};
+pub use slot::{Field, Fields, Slot, SlotKind, body_fields, fields_of};
+pub use width::width_of;

@@ -1,3 +1,4 @@
+//! The directory record is read.
 ghost use Rattle.std.specs.Prelude.{◌≡◌, ◌+◌, ◌<◌, ◌^◌, length, IfOk};
 ghost use Rattle.rio_head.specs.Dir.{BeginsAsDir, dir_at};
 ghost use Rattle.rio_head.specs.declared.dir.DirRecord.{DirRecord as Directory};

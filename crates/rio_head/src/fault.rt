@@ -1,3 +1,4 @@
+//! The kinds of file faults, and the fault of a header or directory.
 use rio_num::Short;
 use thiserror::Error;
 

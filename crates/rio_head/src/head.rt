@@ -1,3 +1,4 @@
+//! The file header is read.
 ghost use Rattle.std.specs.Prelude.{◌≡◌, IfErr, IfOk};
 ghost use Rattle.rio_head.specs.Form.{place_len};
 ghost use Rattle.rio_head.specs.Head.{BeginsAsHead, IsHeaderKind, behind_at, head_at, header_at, units_place_of};

@@ -1,3 +1,4 @@
+//! Laws of headers and directory records.
 ghost use Rattle.rio_head.specs.Laws.{DirInFront, HeadInFront, OneDir, OneHead};
 
 /// A header is read from the first 100 bytes of a file alone.

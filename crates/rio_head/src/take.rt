@@ -1,3 +1,4 @@
+//! Fields that both forms have: places and the UUID.
 ghost use Rattle.std.specs.Prelude.{◌≡◌};
 ghost use Rattle.rio_num.specs.Reading.{Takes, bytes_at, number_at};
 ghost use Rattle.rio_head.specs.Form.{place_len};
@@ -6,7 +7,8 @@ use rio_num::{Cursor, Short};
 
 // A place in the file, as long as the form has it.
 pub(crate) fn take_place(cursor: &mut Cursor, is_large: bool) -> Result<u64, Short>
-    ensures { Takes (λ x. x) result (number_at (place_len is_large) cursor.old) cursor.old cursor.new }
+    ensures { Takes (λ x. x) result (number_at (place_len is_large) cursor.old) cursor.old
+        cursor.new }
 {
     if is_large {
         cursor.take_u64()

@@ -1,4 +1,5 @@
-use crate::{FileFault, read_dir, read_head};
+//! The header and the directory of an empty file.
+use crate::{FileFault, HeadFault, read_dir, read_head};
 use std::test::Fail;
 
 // The header of an empty file `a.root`, and the record of its directory.
@@ -68,5 +69,19 @@ fn reads_a_directory(rt: HostRuntime) -> Result<(), Fail> {
         [100, 0, 208]
     );
     assert_eq!(rt; FileFault::BadKeyList.name(), "BadKeyList");
+    Ok(())
+}
+
+#[test]
+fn tells_where_a_file_breaks_a_rule(rt: HostRuntime) -> Result<(), Fail> {
+    let fault = HeadFault {
+        place: 174,
+        kind: FileFault::BadDir,
+    };
+    let text = format!(in rt.alloc(); "{fault}")?;
+    assert_eq!(rt;
+        text.as_str(),
+        "at 174: the record of the directory isn't whole"
+    );
     Ok(())
 }

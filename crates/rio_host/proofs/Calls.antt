@@ -8,7 +8,9 @@ use Rattle.rio_host.specs.Host.{View, Elapses, After, OnDisk, Speaking, IsQuiet}
 use Rattle.rio_host.specs.Flight.{Flies, SaysInParts}
 use Rattle.rio_host.specs.declared.call.Call.{Call}
 use Rattle.rio_host.specs.declared.call.Call.TheVariants.{Sync, Saying, Said}
-use Rattle.rio_host.specs.Replay.{Change, Makes, Flown, Disk, at_first, step, replay, MayLeave, Memory, and_then, disk_of, IsStill}
+use Rattle.rio_host.specs.declared.change.Change.{Change}
+use Rattle.rio_host.specs.declared.disk.Disk.{Disk}
+use Rattle.rio_host.specs.Replay.{Makes, Flown, at_first, step, replay, MayLeave, Memory, and_then, disk_of, IsStill}
 use Rattle.rio_host.specs.ReplayLaws.{flown_push, flown_back, sound, left_now, now_left}
 use Rattle.rio_host.specs.Memory.{mem_view, text_now}
 use Rattle.rio_host.proofs.Kept.{disk_of-and_then}

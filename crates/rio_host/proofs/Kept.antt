@@ -3,7 +3,8 @@ use Rattle.std.proofs.Common.{◌≡◌, ℕ, List, [], ◌∷◌, ◌++◌, sym
 use Rattle.byteorder.specs.Endian.{big_bytes}
 use Rattle.rio_host.specs.declared.call.Call.{Call}
 use Rattle.rio_host.specs.declared.call.Call.TheVariants.{Write, Word, FailedWrite, FailedWord, Sync, Saying, Said}
-use Rattle.rio_host.specs.Replay.{put_at, Disk, at_first, step, replay, Memory, and_then, disk_of}
+use Rattle.rio_host.specs.declared.disk.Disk.{Disk}
+use Rattle.rio_host.specs.Replay.{put_at, at_first, step, replay, Memory, and_then, disk_of}
 use Rattle.rio_host.specs.ReplayLaws.{replay_push}
 use Rattle.rio_host.specs.Memory.{IsKept}
 
@@ -28,8 +29,8 @@ module _ (first : List ℕ) (calls : List Call) (held text : List ℕ) (kept : I
   pub kept_word : (place word : ℕ) (held' : List ℕ) → calls' ≡ calls ++ Word place word ∷ [] → held' ≡ put_at (disk_of before).contents place (big_bytes 4 word) → IsKept after held' text
   kept_word place word held' is put = kept_call (Word place word) held' text is put kept.said
 
-  pub kept_failed_write : (place n : ℕ) → calls' ≡ calls ++ FailedWrite place n ∷ [] → IsKept after held text
-  kept_failed_write place n is = kept_call (FailedWrite place n) held text is kept.contents kept.said
+  pub kept_failed_write : (place : ℕ) (bytes : List ℕ) → calls' ≡ calls ++ FailedWrite place bytes ∷ [] → IsKept after held text
+  kept_failed_write place bytes is = kept_call (FailedWrite place bytes) held text is kept.contents kept.said
 
   pub kept_failed_word : (place word : ℕ) → calls' ≡ calls ++ FailedWord place word ∷ [] → IsKept after held text
   kept_failed_word place word is = kept_call (FailedWord place word) held text is kept.contents kept.said

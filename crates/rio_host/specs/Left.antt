@@ -15,7 +15,7 @@ written = Write 3 (1 ∷ 2 ∷ 3 ∷ []) ∷ []
 
 -- the same, but it failed
 abbrev pub failed : List Call
-failed = FailedWrite 3 3 ∷ []
+failed = FailedWrite 3 (1 ∷ 2 ∷ 3 ∷ []) ∷ []
 
 -- the word 01020304 at place 0
 abbrev pub worded : List Call

@@ -13,3 +13,4 @@ pub mod Silent
 pub mod Source
 pub mod SourceTold
 pub mod Sources
+pub mod Stops

@@ -20,9 +20,9 @@ mem_view m disk_faults say_faults reads = record {
 }
 
 -- what reads give: the first image until a write is done
-abbrev pub held_bytes : Room → Option Room → List ℕ
+abbrev pub held_bytes : Room → Option (List ℕ) → List ℕ
 held_bytes first None = first.bytes
-held_bytes first (Some held) = held.bytes
+held_bytes first (Some held) = held
 
 -- the bytes and the text that are kept are those of the disk
 pub record IsKept (m : Memory) (held text : List ℕ) : Type 0 where

@@ -2,16 +2,15 @@
 use Rattle.std.specs.Prelude.{◌≡◌, ℕ, ◌+◌, ◌≤◌, nat_le, if◌then◌else◌, List, [], ◌∷◌, ◌++◌, length, take, drop}
 use Rattle.byteorder.specs.Endian.{big_bytes}
 use Rattle.rio_host.specs.Image.{Torn, PutOrNot}
+use Rattle.rio_host.specs.declared.change.Change.{Change}
+use Rattle.rio_host.specs.declared.change.Change.TheVariants.{Range, Whole}
+use Rattle.rio_host.specs.declared.disk.Disk.{Disk}
 use Rattle.rio_host.specs.declared.call.Call.{Call}
 use Rattle.rio_host.specs.declared.call.Call.TheVariants.{Write, Word, FailedWrite, FailedWord, Sync, Saying, Said}
 
--- a write in flight: any bytes in a range, or a word
-pub data Change : Type 0 where
-  Range : (place n : ℕ) → Change
-  Whole : (place : ℕ) (bytes : List ℕ) → Change
-
+-- a stop may leave the first file as the second, by a write in flight
 abbrev pub Makes : Change → List ℕ → List ℕ → Type 0
-Makes (Range place n) = Torn place n
+Makes (Range place bytes) = Torn place (length bytes)
 Makes (Whole place bytes) = PutOrNot place bytes
 
 -- an image that these changes may make of the base, the first of them first
@@ -23,25 +22,19 @@ Flown base (change ∷ changes) image = (next : List ℕ) × Makes change base n
 abbrev pub put_at : List ℕ → ℕ → List ℕ → List ℕ
 put_at file place bytes = if nat_le place (length file) then take place file ++ (bytes ++ drop (place + length bytes) file) else file
 
-pub record Disk : Type 0 where
-  -- the file as the last sync left it
-  pub base : List ℕ
-  -- the writes in flight since then, the first of them first
-  pub flight : List Change
-  -- what reads give
-  pub contents : List ℕ
-  -- the text that was said
-  pub text : List ℕ
-  -- the bytes that are being said
-  pub speaking : List ℕ
-
 abbrev pub at_first : List ℕ → Disk
 at_first first = record { base = first; flight = []; contents = first; text = []; speaking = [] }
 
 abbrev pub step : Disk → Call → Disk
-step d (Write place bytes) = record d { flight = d.flight ++ Range place (length bytes) ∷ []; contents = put_at d.contents place bytes }
-step d (Word place word) = record d { flight = d.flight ++ Whole place (big_bytes 4 word) ∷ []; contents = put_at d.contents place (big_bytes 4 word) }
-step d (FailedWrite place n) = record d { flight = d.flight ++ Range place n ∷ [] }
+step d (Write place bytes) = record d {
+  flight = d.flight ++ Range place bytes ∷ [];
+  contents = put_at d.contents place bytes;
+}
+step d (Word place word) = record d {
+  flight = d.flight ++ Whole place (big_bytes 4 word) ∷ [];
+  contents = put_at d.contents place (big_bytes 4 word);
+}
+step d (FailedWrite place bytes) = record d { flight = d.flight ++ Range place bytes ∷ [] }
 step d (FailedWord place word) = record d { flight = d.flight ++ Whole place (big_bytes 4 word) ∷ [] }
 step d Sync = record d { base = d.contents; flight = [] }
 step d (Saying bytes) = record d { speaking = bytes }

@@ -9,7 +9,10 @@ use Rattle.rio_host.specs.ImageLaws.{spliced, spliced_put}
 use Rattle.rio_host.specs.Image.{Torn, Put, PutOrNot}
 use Rattle.rio_host.specs.declared.call.Call.{Call}
 use Rattle.rio_host.specs.declared.call.Call.TheVariants.{Write, Word, FailedWrite, FailedWord, Sync, Saying, Said}
-use Rattle.rio_host.specs.Replay.{Change, Range, Whole, Makes, Flown, put_at, Disk, at_first, step, replay, MayLeave, Memory, disk_of, LeftSince}
+use Rattle.rio_host.specs.declared.change.Change.{Change}
+use Rattle.rio_host.specs.declared.change.Change.TheVariants.{Range, Whole}
+use Rattle.rio_host.specs.declared.disk.Disk.{Disk}
+use Rattle.rio_host.specs.Replay.{Makes, Flown, put_at, at_first, step, replay, MayLeave, Memory, disk_of, LeftSince}
 
 -- one change more
 pub flown_push : (base : List ℕ) (changes : List Change) (change : Change) (next image : List ℕ) → Flown base changes next → Makes change next image → Flown base (changes ++ change ∷ []) image
@@ -36,12 +39,12 @@ put_at_put file place bytes le = subst (λ (l : List ℕ). Put place bytes file 
 
 -- each change may leave the file as it was
 pub makes_same : (change : Change) (file : List ℕ) → Makes change file file
-makes_same (Range place n) file = record { outside = λ i x out at. at; no_shorter = omega arith; no_longer = omega arith }
+makes_same (Range place bytes) file = record { outside = λ i x out at. at; no_shorter = omega arith; no_longer = omega arith }
 makes_same (Whole place bytes) file = inl refl
 
 pub put_at_torn : (file : List ℕ) (place : ℕ) (bytes : List ℕ) → Torn place (length bytes) file (put_at file place bytes)
 put_at_torn file place bytes = elim (cases_lt (length file) place) [
-  | inl past ↦ subst (λ (l : List ℕ). Torn place (length bytes) file l) (sym (put_at_past file place bytes past)) (makes_same (Range place (length bytes)) file)
+  | inl past ↦ subst (λ (l : List ℕ). Torn place (length bytes) file l) (sym (put_at_past file place bytes past)) (makes_same (Range place bytes) file)
   | inr within ↦
       let put = put_at_put file place bytes within in record { outside = put.outside; no_shorter = omega (arith, put.length_is); no_longer = omega (arith, put.length_is) }
 ]
@@ -54,9 +57,9 @@ put_at_whole file place bytes = elim (cases_lt (length file) place) [
 
 -- what reads give is one of the images
 sound_step : (d : Disk) (call : Call) → Flown d.base d.flight d.contents → Flown (step d call).base (step d call).flight (step d call).contents
-sound_step d (Write place bytes) sound = flown_push d.base d.flight (Range place (length bytes)) d.contents (put_at d.contents place bytes) sound (put_at_torn d.contents place bytes)
+sound_step d (Write place bytes) sound = flown_push d.base d.flight (Range place bytes) d.contents (put_at d.contents place bytes) sound (put_at_torn d.contents place bytes)
 sound_step d (Word place word) sound = flown_push d.base d.flight (Whole place (big_bytes 4 word)) d.contents (put_at d.contents place (big_bytes 4 word)) sound (put_at_whole d.contents place (big_bytes 4 word))
-sound_step d (FailedWrite place n) sound = flown_push d.base d.flight (Range place n) d.contents d.contents sound (makes_same (Range place n) d.contents)
+sound_step d (FailedWrite place bytes) sound = flown_push d.base d.flight (Range place bytes) d.contents d.contents sound (makes_same (Range place bytes) d.contents)
 sound_step d (FailedWord place word) sound = flown_push d.base d.flight (Whole place (big_bytes 4 word)) d.contents d.contents sound (inl refl)
 sound_step d Sync sound = refl
 sound_step d (Saying bytes) sound = sound

@@ -1,3 +1,4 @@
+//! The calls that a host in memory remembers.
 use rio_num::Items;
 
 /// What a host in memory remembers of the calls that changed it.
@@ -8,7 +9,7 @@ pub enum Call {
     /// A word that reads give.
     Word { place: u64, word: u32 },
     /// A write that failed. Reads give nothing of it, and yet it is in flight.
-    FailedWrite { place: u64, length: u64 },
+    FailedWrite { place: u64, bytes: Items<u8> },
     /// A word that failed. Reads give nothing of it, and yet it is in flight.
     FailedWord { place: u64, word: u32 },
     /// A sync that succeeded.

@@ -1,18 +1,26 @@
+//! A file of the system that is opened at its first use.
+ghost use Rattle.std.specs.Prelude.{◌≡◌, IsTrue, IsErr, OnErr};
+
 use rio_num::Name;
-use std::fs::{OpenFile, OpenOptions};
-use std::io;
+use std::fs::{FileType, OpenFile, OpenOptions};
 use std::io::{ErrorKind, Read, Seek, SeekFrom, Write};
+use std::os::unix::fs::FileTypeExt;
 use std::path::Path;
 use std::rt::Files;
+use std::{fs, io};
 
 /// A file that is opened at its first use.
+///
+/// After a sync that failed every call fails: what the system had still to bring to the disk may be
+/// lost, and a later sync needn't tell.
 #[derive(Drop)]
 pub struct LateFile<'a, R: Files> {
     rt: &'a R,
     path: Name,
     writes: bool,
     file: Option<R::File>,
-    is_new: bool,
+    has_synced_folder: bool,
+    has_failed_sync: bool,
 }
 
 // The folder that a path leads into.
@@ -33,6 +41,31 @@ fn as_text(path: &Name) -> io::Result<&str> {
     }
 }
 
+// A file that has places. A pipe has none, and whoever opens it waits for another program.
+fn has_places(kind: FileType) -> bool {
+    kind.is_file() || kind.is_block_device() || kind.is_char_device()
+}
+
+// Opens what is there. A file that is written is made where nothing is there.
+fn open_file<R: Files>(rt: &R, path: &str, writes: bool) -> io::Result<R::File> {
+    let mut options = OpenOptions::new();
+    options.read(true).write(writes);
+    match fs::metadata(rt, path) {
+        Ok(metadata) => {
+            if !has_places(metadata.file_type()) {
+                return Err(io::Error::from(ErrorKind::InvalidInput));
+            }
+        }
+        Err(error) => {
+            if !writes || error.kind() != ErrorKind::NotFound {
+                return Err(error);
+            }
+            options.create(true);
+        }
+    }
+    options.open(rt, path)
+}
+
 impl<'a, R: Files> LateFile<'a, R> {
     /// The file at this path, not opened yet. Where it `writes`, it is made if it isn't there.
     pub fn new(rt: &'a R, path: Name, writes: bool) -> LateFile<'a, R> {
@@ -41,33 +74,29 @@ impl<'a, R: Files> LateFile<'a, R> {
             path,
             writes,
             file: None,
-            is_new: false,
+            has_synced_folder: false,
+            has_failed_sync: false,
         }
     }
 
-    fn open(&mut self) -> io::Result<()> {
-        if self.file.is_some() {
-            return Ok(());
+    fn open(&mut self) -> io::Result<()>
+        ensures lost { IsTrue self.old.has_failed_sync → IsErr result }
+        ensures same { self.new.has_failed_sync ≡ self.old.has_failed_sync }
+    {
+        if self.has_failed_sync {
+            return Err(io::Error::from(ErrorKind::Other));
         }
-        let path = as_text(&self.path)?;
-        let mut options = OpenOptions::new();
-        options.read(true).write(self.writes);
-        match options.open(self.rt, path) {
-            Ok(file) => self.file = Some(file),
-            Err(error) => {
-                if !self.writes || error.kind() != ErrorKind::NotFound {
-                    return Err(error);
-                }
-                options.create(true);
-                self.file = Some(options.open(self.rt, path)?);
-                self.is_new = true;
-            }
+        if self.file.is_none() {
+            self.file = Some(open_file(self.rt, as_text(&self.path)?, self.writes)?);
         }
         Ok(())
     }
 
     /// The file's length.
-    pub fn length(&mut self) -> io::Result<u64> {
+    pub fn length(&mut self) -> io::Result<u64>
+        ensures lost { IsTrue self.old.has_failed_sync → IsErr result }
+        ensures same { self.new.has_failed_sync ≡ self.old.has_failed_sync }
+    {
         self.open()?;
         match &mut self.file {
             Some(file) => file.seek(SeekFrom::End(0)),
@@ -76,7 +105,10 @@ impl<'a, R: Files> LateFile<'a, R> {
     }
 
     /// Fills `into` from `place` on. It fails where the file ends before.
-    pub fn read(&mut self, place: u64, into: &mut [u8]) -> io::Result<()> {
+    pub fn read(&mut self, place: u64, into: &mut [u8]) -> io::Result<()>
+        ensures lost { IsTrue self.old.has_failed_sync → IsErr result }
+        ensures same { self.new.has_failed_sync ≡ self.old.has_failed_sync }
+    {
         self.open()?;
         match &mut self.file {
             Some(file) => {
@@ -88,7 +120,10 @@ impl<'a, R: Files> LateFile<'a, R> {
     }
 
     /// Puts these bytes at `place`.
-    pub fn write(&mut self, place: u64, bytes: &[u8]) -> io::Result<()> {
+    pub fn write(&mut self, place: u64, bytes: &[u8]) -> io::Result<()>
+        ensures lost { IsTrue self.old.has_failed_sync → IsErr result }
+        ensures same { self.new.has_failed_sync ≡ self.old.has_failed_sync }
+    {
         self.open()?;
         match &mut self.file {
             Some(file) => {
@@ -99,20 +134,32 @@ impl<'a, R: Files> LateFile<'a, R> {
         }
     }
 
-    /// Brings the file to the disk, and its name too where it was made.
-    pub fn sync(&mut self) -> io::Result<()> {
+    /// Brings the file to the disk, and the first time the folder too that it stands in, where it
+    /// `writes`: the file may be new there, also where another process made it.
+    pub fn sync(&mut self) -> io::Result<()>
+        ensures lost { IsTrue self.old.has_failed_sync → IsErr result }
+        ensures failed { OnErr result (IsTrue self.new.has_failed_sync) }
+    {
+        let answer = self.bring_to_disk();
+        if answer.is_err() {
+            self.has_failed_sync = true;
+        }
+        answer
+    }
+
+    fn bring_to_disk(&mut self) -> io::Result<()>
+        ensures lost { IsTrue self.old.has_failed_sync → IsErr result }
+    {
         self.open()?;
         match &self.file {
             Some(file) => file.sync_all()?,
             None => return Err(io::Error::from(ErrorKind::NotFound)),
         }
-        if self.is_new {
+        if self.writes && !self.has_synced_folder {
             let folder = folder_of(as_text(&self.path)?);
-            OpenOptions::new()
-                .read(true)
-                .open(self.rt, folder)?
-                .sync_all()?;
-            self.is_new = false;
+            let folder = OpenOptions::new().read(true).open(self.rt, folder)?;
+            folder.sync_all()?;
+            self.has_synced_folder = true;
         }
         Ok(())
     }

@@ -1,3 +1,4 @@
+//! The host in memory.
 ghost use Rattle.std.specs.Prelude.{◌≡◌, ◌≤◌, ◌<◌, ◌+◌, ◌%◌, ◌^◌, ◌↔◌, ℕ, List, [], Some, length, IfOk, OnOk, OnErr, IsErr, IsOk, IsTrue, Contains};
 ghost use Rattle.byteorder.specs.Endian.{big_bytes};
 ghost use Rattle.rio_host.specs.Failing.{next_count, FailsByNumber, FailsOrRunsShort};
@@ -7,15 +8,18 @@ ghost use Rattle.rio_host.specs.Image.{Has, Torn, Put, PutOrNot, Same};
 ghost use Rattle.rio_host.specs.Memory.{mem_view, mem_lawful};
 ghost use Rattle.rio_host.specs.Replay.{IsStill};
 
+use crate::change::{Left, Remains};
 use crate::count::{is_next_failing, raised};
 use crate::recording::Recording;
 use crate::{Failed, Host};
 use rio_num::{Bytes, NoMemory, Numbers};
 use std::alloc::Global;
 
-/// A file and a text in memory. It remembers all calls that changed it, and answers for every moment.
+/// A file and a text in memory. It remembers all calls that changed it, and answers for every
+/// moment.
 ///
-/// A call that finds no memory for what it has to keep fails, and leaves file and text as they were.
+/// A call that finds no memory for what it has to keep fails, and leaves file and text as they
+/// were. A write that failed so is not in flight.
 #[derive(Drop)]
 pub struct MemHost {
     recording: Recording,
@@ -25,17 +29,20 @@ pub struct MemHost {
     disk_faults: u64,
     say_faults: u64,
     reads: u64,
+    writes: Numbers,
     ghost still: { IsStill recording },
 }
 
 impl MemHost {
-    ghost use Rattle.std.specs.Prelude.{◌≡◌, [], Some};
+    ghost use Rattle.std.specs.Prelude.{◌≡◌, [], Some, IfOk, min};
     ghost use Rattle.rio_host.specs.Failing.{Tally};
     ghost use Rattle.rio_host.specs.Host.{IsQuiet};
-    ghost use Rattle.rio_host.specs.MemHost.{view_of, tally_of};
+    ghost use Rattle.rio_host.specs.MemHost.{memory_of, view_of, tally_of, write_numbers_of};
+    ghost use Rattle.rio_host.specs.Replay.{disk_after};
+    ghost use Rattle.rio_host.specs.Stops.{IsLeft};
 
-    /// A file with this image, all of it on the disk, and no text. The numbers are those of the calls
-    /// that fail, counted from 0.
+    /// A file with this image, all of it on the disk, and no text. The numbers are those of the
+    /// calls that fail, counted from 0.
     pub fn new(alloc: Global, image: Bytes, failing: Numbers) -> MemHost
         ensures holds { (view_of result).holds ≡ Some image.bytes }
         ensures said { (view_of result).said ≡ Some [] }
@@ -44,6 +51,7 @@ impl MemHost {
         ensures say_faults { (view_of result).say_faults ≡ 0 }
         ensures reads { (view_of result).reads ≡ 0 }
         ensures counts { tally_of result ≡ record { made = 0; failing = failing; shortages = 0 } }
+        ensures noted { write_numbers_of result ≡ [] }
     {
         MemHost {
             recording: Recording::new(alloc, image),
@@ -53,12 +61,13 @@ impl MemHost {
             disk_faults: 0,
             say_faults: 0,
             reads: 0,
+            writes: Numbers::new(alloc),
         }
     }
 
     /// What reads give.
-    pub fn image(&self) -> &Bytes
-        ensures { (view_of self.now).holds ≡ Some result.now.bytes }
+    pub fn image(&self) -> &[u8]
+        ensures { (view_of self.now).holds ≡ Some result.now }
     {
         self.recording.image()
     }
@@ -69,10 +78,41 @@ impl MemHost {
     {
         self.recording.text()
     }
+
+    /// The numbers of the calls that were writes or words, counted from 0 over all calls: those
+    /// that a later host may be told to fail. One that found no memory to be noted is not among
+    /// them.
+    pub fn writes(&self) -> &[u64]
+        ensures { result.now ≡ write_numbers_of self.now }
+    {
+        self.writes.as_slice()
+    }
+
+    /// The moment: how many calls changed the file or the text. A write that failed is one, for a
+    /// stop may leave it, and a say is two: between them its bytes are being said.
+    pub fn moment(&self) -> u64
+        ensures { result ≡ (view_of self.now).now }
+    {
+        self.recording.len()
+    }
+
+    /// What a stop at this moment leaves, or one now where the moment is still to come: of each
+    /// write that was in flight then, the first of them first, what the choice says, and of the
+    /// bytes that were being said the front of this length. Nothing is left of a write for which
+    /// there is no choice.
+    pub fn left(&self, moment: u64, remains: &[Remains], front: u64) -> Result<Left, NoMemory>
+        ensures exact { IfOk result (λ left. IsLeft
+            (disk_after moment (memory_of self.now)) remains.now front
+            left.image.bytes left.said.bytes) }
+        ensures allowed { IfOk result (λ left. (view_of self.now).left_since
+            (min moment (view_of self.now).now) left.image.bytes left.said.bytes) }
+    {
+        self.recording.left(moment, remains, front)
+    }
 }
 
 impl Host for MemHost {
-    ghost use Rattle.rio_host.specs.MemHost.{view_of, tally_of};
+    ghost use Rattle.rio_host.specs.MemHost.{view_of, tally_of, write_numbers_of, NotesWrite};
 
     ghost view = { λ h. mem_view h.recording h.disk_faults h.say_faults h.reads };
 
@@ -83,9 +123,12 @@ impl Host for MemHost {
         ensures disk { OnDisk Same (view_of self.old) (view_of self.new) }
         ensures holds { (view_of self.new).holds ≡ (view_of self.old).holds }
         ensures reads { Rose (view_of self.old).reads (view_of self.new).reads }
-        ensures counted { IsOk result → (view_of self.new).disk_faults ≡ (view_of self.old).disk_faults }
-        ensures cause { IsErr result → Rose (view_of self.old).disk_faults (view_of self.new).disk_faults }
+        ensures counted { IsOk result
+            → (view_of self.new).disk_faults ≡ (view_of self.old).disk_faults }
+        ensures cause { IsErr result
+            → Rose (view_of self.old).disk_faults (view_of self.new).disk_faults }
 
+        ensures noted { write_numbers_of self.new ≡ write_numbers_of self.old }
         ensures fails { FailsByNumber (tally_of self.old) (tally_of self.new) result }
         ensures flies { Flies Same (view_of self.old) (view_of self.new) }
     {
@@ -104,9 +147,12 @@ impl Host for MemHost {
         ensures disk { OnDisk Same (view_of self.old) (view_of self.new) }
         ensures holds { (view_of self.new).holds ≡ (view_of self.old).holds }
         ensures reads { Rose (view_of self.old).reads (view_of self.new).reads }
-        ensures counted { IsOk result → (view_of self.new).disk_faults ≡ (view_of self.old).disk_faults }
-        ensures cause { IsErr result → Rose (view_of self.old).disk_faults (view_of self.new).disk_faults }
+        ensures counted { IsOk result
+            → (view_of self.new).disk_faults ≡ (view_of self.old).disk_faults }
+        ensures cause { IsErr result
+            → Rose (view_of self.old).disk_faults (view_of self.new).disk_faults }
 
+        ensures noted { write_numbers_of self.new ≡ write_numbers_of self.old }
         ensures fails { FailsByNumber (tally_of self.old) (tally_of self.new) result }
         ensures flies { Flies Same (view_of self.old) (view_of self.new) }
     {
@@ -115,7 +161,7 @@ impl Host for MemHost {
             self.disk_faults = raised(self.disk_faults);
             return Err(Failed);
         }
-        let image = self.recording.image().as_slice();
+        let image = self.recording.image();
         let from = place as usize;
         into.copy_from_slice(&image[from..from + into.len()]);
         Ok(())
@@ -126,19 +172,29 @@ impl Host for MemHost {
         requires fits { place + length bytes.now < 2 ^ 64 }
         ensures written { OnOk result
             (Becomes (Put place bytes.now) (view_of self.old).holds (view_of self.new).holds) }
-        ensures disk { OnDisk (Torn place (length bytes.now)) (view_of self.old) (view_of self.new) }
+        ensures disk { OnDisk (Torn place (length bytes.now))
+            (view_of self.old) (view_of self.new) }
         ensures reads { (view_of self.new).reads ≡ (view_of self.old).reads }
-        ensures counted { IsOk result → (view_of self.new).disk_faults ≡ (view_of self.old).disk_faults }
-        ensures cause { IsErr result → Rose (view_of self.old).disk_faults (view_of self.new).disk_faults }
+        ensures counted { IsOk result
+            → (view_of self.new).disk_faults ≡ (view_of self.old).disk_faults }
+        ensures cause { IsErr result
+            → Rose (view_of self.old).disk_faults (view_of self.new).disk_faults }
 
         ensures failed { OnErr result ((view_of self.new).holds ≡ (view_of self.old).holds) }
+        ensures noted { NotesWrite self.old self.new }
         ensures fails { FailsOrRunsShort
             (Flies (Torn place (length bytes.now)) (view_of self.old) (view_of self.new))
             (tally_of self.old) (tally_of self.new) result }
     {
+        if self.writes.push(self.made).is_err() {
+            self.made = raised(self.made);
+            self.shortages = raised(self.shortages);
+            self.disk_faults = raised(self.disk_faults);
+            return Err(Failed);
+        }
         if is_next_failing(&mut self.made, self.failing.as_slice()) {
             self.disk_faults = raised(self.disk_faults);
-            return match self.recording.fail_write(place, bytes.len() as u64) {
+            return match self.recording.fail_write(place, bytes) {
                 Ok(()) => Err(Failed),
                 Err(NoMemory) => {
                     self.shortages = raised(self.shortages);
@@ -160,17 +216,28 @@ impl Host for MemHost {
         requires within { IsWithin (view_of self.old) place }
         requires aligned { place % 4 ≡ 0 }
         ensures written { OnOk result
-            (Becomes (Put place (big_bytes 4 word)) (view_of self.old).holds (view_of self.new).holds) }
-        ensures disk { OnDisk (PutOrNot place (big_bytes 4 word)) (view_of self.old) (view_of self.new) }
+            (Becomes (Put place (big_bytes 4 word))
+            (view_of self.old).holds (view_of self.new).holds) }
+        ensures disk { OnDisk (PutOrNot place (big_bytes 4 word))
+            (view_of self.old) (view_of self.new) }
         ensures reads { (view_of self.new).reads ≡ (view_of self.old).reads }
-        ensures counted { IsOk result → (view_of self.new).disk_faults ≡ (view_of self.old).disk_faults }
-        ensures cause { IsErr result → Rose (view_of self.old).disk_faults (view_of self.new).disk_faults }
+        ensures counted { IsOk result
+            → (view_of self.new).disk_faults ≡ (view_of self.old).disk_faults }
+        ensures cause { IsErr result
+            → Rose (view_of self.old).disk_faults (view_of self.new).disk_faults }
 
         ensures failed { OnErr result ((view_of self.new).holds ≡ (view_of self.old).holds) }
+        ensures noted { NotesWrite self.old self.new }
         ensures fails { FailsOrRunsShort
             (Flies (PutOrNot place (big_bytes 4 word)) (view_of self.old) (view_of self.new))
             (tally_of self.old) (tally_of self.new) result }
     {
+        if self.writes.push(self.made).is_err() {
+            self.made = raised(self.made);
+            self.shortages = raised(self.shortages);
+            self.disk_faults = raised(self.disk_faults);
+            return Err(Failed);
+        }
         if is_next_failing(&mut self.made, self.failing.as_slice()) {
             self.disk_faults = raised(self.disk_faults);
             return match self.recording.fail_word(place, word) {
@@ -196,10 +263,13 @@ impl Host for MemHost {
         ensures disk { OnDisk Same (view_of self.old) (view_of self.new) }
         ensures holds { (view_of self.new).holds ≡ (view_of self.old).holds }
         ensures reads { (view_of self.new).reads ≡ (view_of self.old).reads }
-        ensures counted { IsOk result → (view_of self.new).disk_faults ≡ (view_of self.old).disk_faults }
-        ensures cause { IsErr result → Rose (view_of self.old).disk_faults (view_of self.new).disk_faults }
+        ensures counted { IsOk result
+            → (view_of self.new).disk_faults ≡ (view_of self.old).disk_faults }
+        ensures cause { IsErr result
+            → Rose (view_of self.old).disk_faults (view_of self.new).disk_faults }
 
         ensures failed { OnErr result (Flies Same (view_of self.old) (view_of self.new)) }
+        ensures noted { write_numbers_of self.new ≡ write_numbers_of self.old }
         ensures fails { FailsOrRunsShort (Unit {0}) (tally_of self.old) (tally_of self.new) result }
     {
         if is_next_failing(&mut self.made, self.failing.as_slice()) {
@@ -218,17 +288,22 @@ impl Host for MemHost {
 
     /// A say that fails says the half.
     fn say(&mut self, bytes: &[u8]) -> Result<(), Failed>
-        ensures said { OnOk result (Becomes (Longer bytes.now) (view_of self.old).said (view_of self.new).said) }
+        ensures said { OnOk result
+            (Becomes (Longer bytes.now) (view_of self.old).said (view_of self.new).said) }
         ensures failed { OnErr result
             (Becomes (LongerByPart bytes.now) (view_of self.old).said (view_of self.new).said) }
-        ensures time { Elapses (view_of self.old) (view_of self.new) (Speaking bytes.now (view_of self.old)) }
+        ensures time { Elapses (view_of self.old) (view_of self.new)
+            (Speaking bytes.now (view_of self.old)) }
         ensures holds { (view_of self.new).holds ≡ (view_of self.old).holds }
         ensures reads { (view_of self.new).reads ≡ (view_of self.old).reads }
         ensures disk_faults { (view_of self.new).disk_faults ≡ (view_of self.old).disk_faults }
         ensures say_faults { (view_of self.old).say_faults ≤ (view_of self.new).say_faults }
-        ensures counted { IsOk result → (view_of self.new).say_faults ≡ (view_of self.old).say_faults }
-        ensures cause { IsErr result → Rose (view_of self.old).say_faults (view_of self.new).say_faults }
+        ensures counted { IsOk result
+            → (view_of self.new).say_faults ≡ (view_of self.old).say_faults }
+        ensures cause { IsErr result
+            → Rose (view_of self.old).say_faults (view_of self.new).say_faults }
 
+        ensures noted { write_numbers_of self.new ≡ write_numbers_of self.old }
         ensures fails { FailsOrRunsShort (SaysInParts (view_of self.old) (view_of self.new))
             (tally_of self.old) (tally_of self.new) result }
     {
@@ -258,6 +333,37 @@ mod tests {
     use super::*;
     use std::test::Fail;
 
+    // The file of eight bytes: a word whole or not, bytes in part, a hole where the file was not
+    // made longer.
+    #[test]
+    fn leaves_what_the_choices_say(rt: HostRuntime) -> Result<(), Fail> {
+        let image = Bytes::from_slice(rt.alloc(), b"abcdefgh")?;
+        let failing = Numbers::from_slice(rt.alloc(), &[2])?;
+        let mut host = MemHost::new(rt.alloc(), image, failing);
+        host.write(8, b"ij")?;
+        host.write_word(4, 0x3031_3233)?;
+        assert!(rt; host.write(10, b"kl").is_err());
+        host.say(b"one")?;
+        host.sync()?;
+        assert_eq!(rt; host.moment(), 6);
+
+        let lost = [Remains::Nothing, Remains::All, Remains::All];
+        let left = host.left(4, &lost, 2)?;
+        assert_eq!(rt; left.image.as_slice(), b"abcd0123\0\0kl".as_slice());
+        assert_eq!(rt; left.said.as_slice(), b"on".as_slice());
+        let torn = [Remains::Front(1), Remains::Front(4), Remains::Filled(b'?')];
+        let left = host.left(5, &torn, 9)?;
+        assert_eq!(rt; left.image.as_slice(), b"abcdefghi\0??".as_slice());
+        assert_eq!(rt; left.said.as_slice(), b"one".as_slice());
+        assert_eq!(rt;
+            host.left(1, &[], 0)?.image.as_slice(),
+            b"abcdefgh".as_slice()
+        );
+        let left = host.left(9, &lost, 0)?;
+        assert_eq!(rt; left.image.as_slice(), b"abcd0123ij".as_slice());
+        Ok(())
+    }
+
     #[test]
     fn fails_at_its_numbers(rt: HostRuntime) -> Result<(), Fail> {
         let image = Bytes::from_slice(rt.alloc(), b"abcdefgh")?;
@@ -271,10 +377,11 @@ mod tests {
         host.sync()?;
         host.say(b"one ")?;
         assert!(rt; host.say(b"more").is_err());
-        assert_eq!(rt; host.image().as_slice(), b"abcd0123z".as_slice());
+        assert_eq!(rt; host.image(), b"abcd0123z".as_slice());
         assert_eq!(rt; host.said().as_slice(), b"one mo".as_slice());
         assert_eq!(rt; host.made, 8);
         assert_eq!(rt; host.shortages, 0);
+        assert_eq!(rt; host.writes(), [1, 2, 3].as_slice());
         Ok(())
     }
 }

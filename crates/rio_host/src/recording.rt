@@ -1,7 +1,12 @@
-ghost use Rattle.std.specs.Prelude.{◌≡◌, ◌≤◌, length, IfOk};
+//! What a host in memory keeps: the file, the text, and the calls that made them.
+ghost use Rattle.std.specs.Prelude.{◌≡◌, OnOk, OnErr};
+ghost use Rattle.rio_host.specs.Memory.{held_bytes};
 ghost use Rattle.rio_host.specs.Replay.{put_at};
 
 use crate::call::Call;
+use crate::change::{Left, Remains};
+use crate::contents::Contents;
+use crate::disk::Disk;
 use rio_num::{Bytes, Items, NoMemory};
 use std::alloc::Global;
 use std::marker::Model;
@@ -12,7 +17,7 @@ pub struct Recording {
     alloc: Global,
     first: Bytes,
     calls: Vec<Call>,
-    held: Option<Bytes>,
+    held: Option<Contents>,
     text: Bytes,
 }
 
@@ -24,25 +29,38 @@ impl Model for Recording {
 
     ghost view = { λ r. record { first = r.first.bytes; calls = r.calls.items } };
 
-    ghost invariant = { λ r. IsKept (record { first = r.first.bytes; calls = r.calls.items }) (held_bytes r.first r.held) r.text.bytes };
+    ghost invariant = { λ r. IsKept (record { first = r.first.bytes; calls = r.calls.items })
+        (held_bytes r.first r.held) r.text.bytes };
 }
 
-// The file with these bytes at this place.
-fn spliced(alloc: Global, file: &[u8], place: usize, bytes: &[u8]) -> Result<Bytes, NoMemory>
-    requires { place ≤ length file.now }
-    ensures { IfOk result (λ next. next.bytes ≡ put_at file.now place bytes.now) }
+// The bytes that reads give, with these ones at this place. Where nothing was written yet, they are
+// those of the first image, and from now on apart from it.
+fn put_held(
+    alloc: Global,
+    held: &mut Option<Contents>,
+    first: &Bytes,
+    place: u64,
+    bytes: &[u8],
+) -> Result<(), NoMemory>
+    ensures ok { OnOk result
+        (held_bytes first.now held.new ≡ put_at (held_bytes first.now held.old) place bytes.now) }
+    ensures err { OnErr result (held_bytes first.now held.new ≡ held_bytes first.now held.old) }
 {
-    let mut next = Bytes::from_slice(alloc, &file[..place])?;
-    next.put(bytes)?;
-    if bytes.len() < file.len() - place {
-        next.put(&file[place + bytes.len()..])?;
+    match held {
+        Some(held) => held.put(place, bytes),
+        None => {
+            let mut copy = Contents::from_slice(alloc, first.as_slice())?;
+            copy.put(place, bytes)?;
+            *held = Some(copy);
+            Ok(())
+        }
     }
-    Ok(next)
 }
 
 impl Recording {
-    ghost use Rattle.std.specs.Prelude.{◌≡◌, ◌≤◌, [], length, OnOk, OnErr};
-    ghost use Rattle.rio_host.specs.Replay.{Memory, and_then, disk_of};
+    ghost use Rattle.std.specs.Prelude.{◌≡◌, [], length, IfOk, OnOk, OnErr};
+    ghost use Rattle.rio_host.specs.Replay.{Memory, and_then, disk_of, disk_after};
+    ghost use Rattle.rio_host.specs.Stops.{IsLeft};
 
     /// A file with this image, all of it on the disk, and no text.
     pub fn new(alloc: Global, image: Bytes) -> Recording
@@ -58,12 +76,12 @@ impl Recording {
     }
 
     /// What reads give.
-    pub fn image(&self) -> &Bytes
-        ensures { result.now.bytes ≡ (disk_of self.now).contents }
+    pub fn image(&self) -> &[u8]
+        ensures { result.now ≡ (disk_of self.now).contents }
     {
         match &self.held {
-            Some(bytes) => bytes,
-            None => &self.first,
+            Some(held) => held.as_slice(),
+            None => self.first.as_slice(),
         }
     }
 
@@ -76,40 +94,35 @@ impl Recording {
 
     /// A write that reads give.
     pub fn write(&mut self, place: u64, bytes: &[u8]) -> Result<(), NoMemory>
-        requires { place ≤ length (disk_of self.old).contents }
         ensures ok { OnOk result (self.new ≡ and_then self.old (Call.Write place bytes.now)) }
         ensures err { OnErr result (self.new ≡ self.old) }
     {
-        let next = spliced(self.alloc, self.image().as_slice(), place as usize, bytes)?;
-        let bytes = Items::from_slice(self.alloc, bytes)?;
-        self.calls.push(Call::Write { place, bytes })?;
-        self.held = Some(next);
+        let copy = Items::from_slice(self.alloc, bytes)?;
+        self.calls.reserve(1)?;
+        put_held(self.alloc, &mut self.held, &self.first, place, bytes)?;
+        self.calls.push(Call::Write { place, bytes: copy })?;
         Ok(())
     }
 
     /// A word that reads give.
     pub fn write_word(&mut self, place: u64, word: u32) -> Result<(), NoMemory>
-        requires { place ≤ length (disk_of self.old).contents }
         ensures ok { OnOk result (self.new ≡ and_then self.old (Call.Word place word)) }
         ensures err { OnErr result (self.new ≡ self.old) }
     {
-        let next = spliced(
-            self.alloc,
-            self.image().as_slice(),
-            place as usize,
-            &word.to_be_bytes(),
-        )?;
+        let bytes = word.to_be_bytes();
+        self.calls.reserve(1)?;
+        put_held(self.alloc, &mut self.held, &self.first, place, &bytes)?;
         self.calls.push(Call::Word { place, word })?;
-        self.held = Some(next);
         Ok(())
     }
 
-    /// A write of so many bytes that failed.
-    pub fn fail_write(&mut self, place: u64, length: u64) -> Result<(), NoMemory>
-        ensures ok { OnOk result (self.new ≡ and_then self.old (Call.FailedWrite place length)) }
+    /// A write that failed.
+    pub fn fail_write(&mut self, place: u64, bytes: &[u8]) -> Result<(), NoMemory>
+        ensures ok { OnOk result (self.new ≡ and_then self.old (Call.FailedWrite place bytes.now)) }
         ensures err { OnErr result (self.new ≡ self.old) }
     {
-        self.calls.push(Call::FailedWrite { place, length })?;
+        let bytes = Items::from_slice(self.alloc, bytes)?;
+        self.calls.push(Call::FailedWrite { place, bytes })?;
         Ok(())
     }
 
@@ -133,7 +146,8 @@ impl Recording {
 
     /// These bytes begin to be said, and are.
     pub fn say(&mut self, bytes: &[u8]) -> Result<(), NoMemory>
-        ensures ok { OnOk result (self.new ≡ and_then (and_then self.old (Call.Saying bytes.now)) Call.Said) }
+        ensures ok { OnOk result
+            (self.new ≡ and_then (and_then self.old (Call.Saying bytes.now)) Call.Said) }
         ensures err { OnErr result (self.new ≡ self.old) }
     {
         let copy = Items::from_slice(self.alloc, bytes)?;
@@ -142,5 +156,28 @@ impl Recording {
         self.calls.push(Call::Saying(copy))?;
         self.calls.push(Call::Said)?;
         Ok(())
+    }
+
+    /// How many calls are remembered.
+    pub fn len(&self) -> u64
+        ensures { result ≡ length self.now.calls }
+    {
+        self.calls.len() as u64
+    }
+
+    /// What a stop after so many calls leaves, or after all where there are fewer: a choice for
+    /// each write that was in flight, and the front of this length of what was being said.
+    pub fn left(&self, moment: u64, remains: &[Remains], front: u64) -> Result<Left, NoMemory>
+        ensures { IfOk result (λ left. IsLeft
+            (disk_after moment self.now) remains.now front left.image.bytes left.said.bytes) }
+    {
+        let done = self.calls.len().min(moment as usize);
+        let disk = Disk::after(self.alloc, self.first.as_slice(), &self.calls[..done])?;
+        let said = disk.left_text(self.alloc, front)?;
+        let image = disk.left_image(self.alloc, remains)?;
+        Ok(Left {
+            image: Bytes::from_slice(self.alloc, image.as_slice())?,
+            said: Bytes::from_slice(self.alloc, said.as_slice())?,
+        })
     }
 }

@@ -1,3 +1,4 @@
+//! What remains of some bytes.
 ghost use Rattle.std.specs.Prelude.{◌≡◌, min, length};
 ghost use Rattle.rio_host.specs.Source.{Gives};
 

@@ -1,3 +1,4 @@
+//! Inputs in memory.
 ghost use Rattle.std.specs.Prelude.{◌≡◌, ◌≤◌, ◌<◌, min, Some, length, IfOk, IsOk, OnErr, IsErr};
 ghost use Rattle.rio_host.specs.Failing.{FailsByNumber};
 ghost use Rattle.rio_host.specs.Host.{Becomes, Rose};
@@ -43,9 +44,12 @@ impl Source for MemSource {
     fn read(&mut self, into: &mut [u8]) -> Result<usize, Failed>
         ensures length { IfOk result (λ n. n ≤ length into.old) }
         ensures gives { IfOk result
-            (λ n. Becomes (Gives n into.new) (input_of self.old).remaining (input_of self.new).remaining) }
-        ensures failed { OnErr result ((input_of self.new).remaining ≡ (input_of self.old).remaining) }
+            (λ n. Becomes (Gives n into.new)
+            (input_of self.old).remaining (input_of self.new).remaining) }
+        ensures failed { OnErr result
+            ((input_of self.new).remaining ≡ (input_of self.old).remaining) }
         ensures faults { (input_of self.old).faults ≤ (input_of self.new).faults }
+        ensures counted { IsOk result → (input_of self.new).faults ≡ (input_of self.old).faults }
         ensures cause { IsErr result → Rose (input_of self.old).faults (input_of self.new).faults }
 
         ensures fails { FailsByNumber (tally_of self.old) (tally_of self.new) result }
@@ -85,7 +89,9 @@ impl Source for SureSource {
     fn read(&mut self, into: &mut [u8]) -> Result<usize, Failed>
         ensures length { IfOk result (λ n. n ≤ length into.old) }
         ensures gives { IfOk result
-            (λ n. Becomes (Gives n into.new) (sure_input_of self.old).remaining (sure_input_of self.new).remaining) }
+            (λ n. Becomes (Gives n into.new)
+            (sure_input_of self.old).remaining (sure_input_of self.new).remaining) }
+        ensures counted { (sure_input_of self.new).faults ≡ (sure_input_of self.old).faults }
         ensures sure { IsOk result }
     {
         Ok(self.rest.give(into))

@@ -1,3 +1,4 @@
+//! The input of the process.
 ghost use Rattle.std.specs.Prelude.{None};
 
 use crate::count::raised;

@@ -2,8 +2,9 @@
 use Rattle.std.proofs.Common.{◌≡◌, List, [], ◌∷◌, map, refl, ap, ◌∙◌}
 use Rattle.rio_types.specs.declared.class.ClassDef.{ClassDef}
 use Rattle.rio_format.specs.Slots.{Slot, any_pointer}
-use Rattle.rio_format.specs.Written.{Writer, Writing, all, both}
-use Rattle.rio_describe.specs.WrittenElements.{base_element, member_element, written_elements}
+use Rattle.rio_buffer.specs.Writer.{Writer}
+use Rattle.rio_format.specs.Written.{Writing, all, both}
+use Rattle.rio_format.specs.WrittenElements.{base_element, member_element, written_elements}
 use Rattle.rio_info.specs.WrittenParts.{element_writing}
 use Rattle.rio_info.proofs.ListForms.{all_append}
 

@@ -1,7 +1,10 @@
+pub mod ClassAmounts
 pub mod ClassForms
 pub mod ElementForms
 pub mod ListForms
+pub mod ListGrowth
 pub mod MeasuredParts
 pub mod MemberLaws
-pub mod WrittenLists
+pub mod NamedAmounts
 pub mod WritingLaws
+pub mod WrittenLists

@@ -10,16 +10,19 @@ use Rattle.rio_types.specs.declared.kind.Primitive.TheVariants.{I32, U32}
 use Rattle.rio_value.specs.declared.value.Part.{Part}
 use Rattle.rio_value.specs.declared.value.Value.{Value, Int, Text, List as Items, Object, Pointed}
 use Rattle.rio_value.specs.declared.value.Value.TheFolds.{fold-Part, fold_out-Part}
-use Rattle.rio_format.specs.Bodies.{Form, form_of, headed, member, part}
+use Rattle.rio_format.specs.Bodies.{form_of, member, part}
+use Rattle.rio_format.specs.declared.shape.Shape.{Shape as Form}
+use Rattle.rio_format.specs.declared.shape.Shape.TheVariants.{Headed as headed}
 use Rattle.rio_format.specs.Descriptions.{description_classes, element_base}
-use Rattle.rio_format.specs.ReaderState.{WordsMet, no_words}
+use Rattle.rio_buffer.specs.ReaderState.{WordsMet, no_words}
 use Rattle.rio_format.specs.Slots.{Slot, any_pointer, base_field, based, declared_body, flags, kinded, link, member_field}
-use Rattle.rio_format.specs.Written.{Writer, Writing, all, arrayed_bytes, body_bytes, both, fields_bytes, form_bytes, headed_bytes, int_bytes, just, list_bytes, listed_bytes, pointed_bytes, writing_of, writing_step}
+use Rattle.rio_buffer.specs.Writer.{Writer}
+use Rattle.rio_format.specs.Written.{Writing, all, arrayed_bytes, body_bytes, both, fields_bytes, form_bytes, headed_bytes, int_bytes, just, list_bytes, listed_bytes, pointed_bytes, writing_of, writing_step}
 use Rattle.rio_format.proofs.ValueCases.{fold_Int, fold_List, fold_Object, fold_Pointed, fold_Text}
 use Rattle.rio_write.specs.Writing.{part_writing, pointer_to}
-use Rattle.rio_describe.specs.ListLaws.{class_list_bytes}
-use Rattle.rio_describe.specs.WrittenElements.{WrittenElement, base_element, count_parts, member_element, written_elements}
-use Rattle.rio_describe.specs.WrittenList.{array_object, class_links, class_list_value, class_pointer, element_object, element_parts, index_list, info_object, label_count, linked, list_object, named_object, plain_object, pointers_from}
+use Rattle.rio_format.specs.WrittenBytes.{class_list_bytes}
+use Rattle.rio_format.specs.WrittenElements.{WrittenElement, base_element, count_parts, member_element, written_elements}
+use Rattle.rio_format.specs.WrittenList.{array_object, class_links, class_list_value, class_pointer, element_object, element_parts, index_list, info_object, label_count, linked, list_object, named_object, plain_object, pointers_from}
 use Rattle.rio_info.specs.WrittenParts.{array_front, class_front, class_writer, class_writing, counted_added, element_bytes, element_writing, elements_writer, index_bytes, list_front, list_writer, named_bytes, number_bytes, plain_bytes, stated_bytes}
 
 -- ---- one behind the other

@@ -2,10 +2,11 @@
 use Rattle.std.proofs.Common.{◌≡◌, ◌+◌, ℕ, ℤ, List, [], ◌∷◌, ◌++◌, length, map, min, Result, refl, sym, ap, subst, ◌∙◌, arith}
 use Rattle.rio_num.specs.declared.no_memory.NoMemory.{NoMemory}
 use Rattle.rio_format.specs.Slots.{Slot}
-use Rattle.rio_format.specs.Written.{Writer, Writing, all, both, headed_bytes, just}
+use Rattle.rio_buffer.specs.Writer.{Writer}
+use Rattle.rio_format.specs.Written.{Writing, all, both, headed_bytes, just}
 use Rattle.rio_write.specs.Measuring.{Grows, Measured, Measures, longer, too_long}
 use Rattle.rio_write.proofs.MeasureLaws.{both_measured, headed_measured, just_grows}
-use Rattle.rio_info.proofs.ListForms.{all_append}
+use Rattle.rio_info.proofs.ListForms.{all_append, both_nothing}
 
 -- ---- amounts, one after the other
 
@@ -37,3 +38,10 @@ module _ {X : Type 0} (slot : Slot) (h : X → Writing) (xs ys : List X) (m0 m1 
   pub lists_measured : (r : Result (Unit {0}) NoMemory) → Grows (all slot (map h xs)) m0 m1 → Measures (all slot (map h ys)) r m1 m2 → Measures (all slot (map h (xs ++ ys))) r m0 m2
   lists_measured r first done =
       subst (λ (w : Writer). Measures w r m0 m2) (sym (all_append slot h xs ys)) (both_measured (all slot (map h xs)) (all slot (map h ys)) m0 m1 m2 r first done)
+
+-- one more behind a list
+module _ {X : Type 0} (slot : Slot) (h : X → Writing) (xs : List X) (x : X) (m0 m1 m2 : Measured) where
+  pub list_with_one : (r : Result (Unit {0}) NoMemory) → Grows (all slot (map h xs)) m0 m1 → Measures ((h x).bytes slot) r m1 m2 → Measures (all slot (map h (xs ++ x ∷ []))) r m0 m2
+  list_with_one r first done =
+      let joined = all_append slot h xs (x ∷ []) ∙ ap (both (all slot (map h xs))) (both_nothing ((h x).bytes slot)) in
+      subst (λ (w : Writer). Measures w r m0 m2) (sym joined) (both_measured (all slot (map h xs)) ((h x).bytes slot) m0 m1 m2 r first done)

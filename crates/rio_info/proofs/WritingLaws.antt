@@ -6,9 +6,9 @@ use Rattle.std.specs.Prelude.{ℤ}
 use Rattle.std.specs.Int.{w16, cast_unsigned}
 use Rattle.byteorder.specs.Endian.{big_bytes}
 use Rattle.rio_num.specs.declared.no_memory.NoMemory.{NoMemory}
-use Rattle.rio_format.specs.ReaderState.{WordsMet, with_label}
-use Rattle.rio_format.specs.Written.{Writer, both, headed_bytes, just}
-use Rattle.rio_buffer.specs.Writer.{WriterState, begun, begun_pointer, counted_from, ended, innermost, next_place, with_bytes}
+use Rattle.rio_buffer.specs.ReaderState.{WordsMet, with_label}
+use Rattle.rio_buffer.specs.Writer.{Writer, WriterState, begun, begun_pointer, counted_from, ended, innermost, next_place, with_bytes}
+use Rattle.rio_format.specs.Written.{both, headed_bytes, just}
 use Rattle.rio_write.specs.Writing.{HasRoom, Writes, pointer_to, with_written}
 use Rattle.rio_write.proofs.WriteLaws.{both_writes, count_room, header, header_room, headed_is, inside_room, opened_at, pointer_is, pointer_room, still_innermost, word}
 

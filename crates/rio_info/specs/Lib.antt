@@ -1,2 +1,1 @@
-pub mod WrittenBytes
 pub mod WrittenParts

@@ -3,14 +3,17 @@ use Rattle.std.specs.Prelude.{ℕ, ◌+◌, ◌^◌, ℤ, pos, List, [], ◌∷�
 use Rattle.std.specs.Int.{w16, w32, cast_unsigned}
 use Rattle.byteorder.specs.Endian.{big_bytes}
 use Rattle.rio_num.specs.Text.{text_bytes}
+use Rattle.rio_types.specs.declared.class.Base.{Base}
 use Rattle.rio_types.specs.declared.class.ClassDef.{ClassDef}
+use Rattle.rio_types.specs.declared.class.Member.{Member}
 use Rattle.rio_value.specs.declared.value.Value.{Pointed}
 use Rattle.rio_format.specs.Descriptions.{description_classes}
 use Rattle.rio_format.specs.Slots.{any_pointer, link}
-use Rattle.rio_format.specs.Written.{Writer, Writing, all, both, headed_bytes, just, writing_of}
+use Rattle.rio_buffer.specs.Writer.{Writer}
+use Rattle.rio_format.specs.Written.{Writing, all, both, headed_bytes, just, writing_of}
 use Rattle.rio_describe.specs.ElementViews.{element_as}
-use Rattle.rio_describe.specs.WrittenElements.{WrittenElement, written_elements}
-use Rattle.rio_describe.specs.WrittenList.{class_pointer, element_object, linked}
+use Rattle.rio_format.specs.WrittenElements.{WrittenElement, base_element, member_element, written_elements}
+use Rattle.rio_format.specs.WrittenList.{class_pointer, element_object, linked}
 use Rattle.rio_describe.specs.declared.element.Element.{Element}
 use Rattle.rio_describe.specs.declared.element.ElementClass.{ElementClass}
 use Rattle.rio_describe.specs.declared.element.ElementClass.TheVariants.{Base as BaseElement, BasicType, BasicPointer, Text, Object, ObjectAny, ObjectPointer, ObjectAnyPointer}
@@ -81,11 +84,25 @@ object_bytes e = element_bytes (element_as e) (own_bytes e.class)
 abbrev pub element_writing : WrittenElement → Writing
 element_writing e = writing_of description_classes (Pointed 0 (element_object e))
 
+-- what is written for bases, for members of the class among these classes, and for all elements of a class
+abbrev pub bases_items : List Base → Writer
+bases_items bases = all any_pointer (map (λ b. element_writing (base_element b)) bases)
+
+abbrev pub members_items : List ClassDef → ClassDef → List Member → Writer
+members_items classes owner members = all any_pointer (map (λ m. element_writing (member_element classes owner m)) members)
+
+abbrev pub elements_items : List ClassDef → ClassDef → Writer
+elements_items classes c = all any_pointer (map element_writing (written_elements classes c))
+
 -- ---- classes
 
 -- what is written for a class: a pointer to its object, and an option, which is empty
 abbrev pub class_writing : List ClassDef → ClassDef → Writing
 class_writing classes c = writing_of description_classes (linked (class_pointer classes 0 c))
+
+-- what is written for some of these classes
+abbrev pub classes_items : List ClassDef → List ClassDef → Writer
+classes_items classes part = all link (map (class_writing classes) part)
 
 -- what stands in an array before so many elements: no name, and the lower bound 0
 abbrev pub array_front : ℕ → List ℕ
@@ -93,7 +110,7 @@ array_front count = plain_bytes ++ (text_bytes [] ++ (big_bytes 4 count ++ numbe
 
 -- the array of a class's elements
 abbrev pub array_writer : List ClassDef → ClassDef → Writer
-array_writer classes c = headed_bytes (pos 3) (both (just (array_front (length c.bases + length c.members))) (all any_pointer (map element_writing (written_elements classes c))))
+array_writer classes c = headed_bytes (pos 3) (both (just (array_front (length c.bases + length c.members))) (elements_items classes c))
 
 -- a pointer to that array
 abbrev pub elements_writer : List ClassDef → ClassDef → Writer
@@ -117,4 +134,4 @@ list_front count = plain_bytes ++ (text_bytes [] ++ big_bytes 4 count)
 
 -- the list of all these classes
 abbrev pub list_writer : List ClassDef → Writer
-list_writer classes = headed_bytes (pos 5) (both (just (list_front (length classes))) (all link (map (class_writing classes) classes)))
+list_writer classes = headed_bytes (pos 5) (both (just (list_front (length classes))) (classes_items classes classes))

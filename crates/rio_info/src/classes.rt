@@ -14,7 +14,9 @@ use std::alloc::Global;
 
 // The parts of the TObjArray behind the pointer to a class's elements.
 fn array_parts(info: &[Part]) -> Option<&[Part]>
-    ensures { option_copied result ≡ option_and_then (parts_behind (codes "TObjArray") (pos 3)) (part_of (codes "fElements") info.now) }
+    ensures { option_copied result
+        ≡ option_and_then (parts_behind (codes "TObjArray") (pos 3)) (part_of
+        (codes "fElements") info.now) }
 {
     parts_behind(b"TObjArray", 3, part_of(b"fElements", info)?)
 }

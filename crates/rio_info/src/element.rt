@@ -31,7 +31,15 @@ impl<'a> Model for Element<'a> {
 
     ghost Value = { Said };
 
-    ghost view = { λ e. record { name = e.name.now; title = e.title.now; code = e.code; count = e.count; type_name = e.type_name.now; base_version = e.base_version; counter = option_copied e.counter } };
+    ghost view = { λ e. record {
+      name = e.name.now;
+      title = e.title.now;
+      code = e.code;
+      count = e.count;
+      type_name = e.type_name.now;
+      base_version = e.base_version;
+      counter = option_copied e.counter;
+    } };
 }
 
 // Whether a class in a version is the known one of this name.

@@ -4,8 +4,7 @@ ghost use Rattle.rio_format.specs.Elements.{counted_kind, counted_of, fixed_kind
 ghost use Rattle.rio_types.specs.declared.kind.Kind.TheVariants.{Inline as InlineKind, Pointer as PointerKind};
 
 use crate::element::Element;
-use rio_names::Names;
-use rio_num::{Name, NoMemory};
+use rio_num::{Name, Names, NoMemory};
 use rio_types::{Kind, Prim};
 use std::alloc::Global;
 

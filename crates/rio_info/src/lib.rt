@@ -1,9 +1,14 @@
-//! Class lists in bytes, read and written: the classes that a file describes.
+//! Class lists in bytes, read and written: the classes that a file describes. `read_info` tells the classes of a list or
+//! its first fault, `write_info` writes the list for declared classes, `info_length` and `info_length_with` tell its
+//! length beforehand. The definitions stand in `rio_format`: `ClassList` and `Elements` of what is read, `TreeClasses`,
+//! `WrittenElements`, `WrittenList` and `WrittenBytes` of what is written; `WrittenParts` here says the same bytes part
+//! by part.
 #![tactic(auto)]
 
 mod classes;
 mod element;
 mod kind;
+mod laws;
 mod length;
 mod members;
 mod parts;
@@ -14,7 +19,8 @@ mod write;
 mod write_class;
 mod write_element;
 
-pub use length::info_length;
+pub use laws::{last_length_decides, written_lists_grow};
+pub use length::{info_length, info_length_with};
 pub use read::read_info;
 pub use rio_describe::description_classes;
 pub use write::write_info;

@@ -6,15 +6,15 @@ ghost use Rattle.rio_format.specs.Elements.{base_of, bases_of, counters_behind, 
 
 use crate::element::{Element, element_of};
 use crate::kind::kind_of;
-use rio_names::Names;
-use rio_num::{Name, NoMemory};
+use rio_num::{Name, Names, NoMemory};
 use rio_types::{Base, Bases, Kind, Member, Members};
 use rio_value::Value;
 use std::alloc::Global;
 
 // The version in which the class has the base that an element is, if it is one.
 fn base_version(element: &Element) -> Option<i32>
-    ensures { option_map (λ version. record { name = element.now.name; version = version }) result ≡ base_of element.now }
+    ensures { option_map (λ version. record { name = element.now.name; version = version }) result
+        ≡ base_of element.now }
 {
     let version = element.base_version?;
     if matches!(element.code, 0 | 66 | 67) {
@@ -88,7 +88,8 @@ fn member_of(alloc: Global, counters: &Names, element: &Option<Element>) -> Resu
 
 // A counter may count the members behind it.
 fn note_counter<'a>(counters: &mut Names<'a>, element: &Option<Element<'a>>) -> Result<(), NoMemory>
-    ensures { OnOk result ((other : List ℕ) → list_any (bytes_eq other) counters.new ≡ list_any (bytes_eq other) (counters_behind element.now counters.old)) }
+    ensures { OnOk result ((other : List ℕ) → list_any (bytes_eq other) counters.new
+        ≡ list_any (bytes_eq other) (counters_behind element.now counters.old)) }
 {
     match element {
         Some(element) if element.code == 6 => counters.note(element.name),

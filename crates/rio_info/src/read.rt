@@ -1,3 +1,4 @@
+//! Class lists are read.
 ghost use Rattle.std.specs.Prelude.{◌≡◌, ℕ, ◌+◌, ◌<◌, ◌^◌, List, ◌++◌, length, codes, Ok, IfOk};
 ghost use Rattle.rio_format.specs.ClassList.{class_list_at, classes_of};
 ghost use Rattle.rio_format.specs.Descriptions.{description_classes};
@@ -20,9 +21,13 @@ pub fn read_info(alloc: Global, bytes: &[u8], start: u64) -> Result<Classes, Obj
     requires places { start + length bytes.now < 2 ^ 64 }
     requires size { length bytes.now < 2 ^ 32 }
     // The classes are those of a list that the front of the data spells.
-    ensures found { IfOk result (λ classes. (v : Spelled) × (front : List ℕ) × (rest : List ℕ) × (bytes.now ≡ front ++ rest) × Spells description_classes start (codes "TList") v front × (classes ≡ classes_of v)) }
+    ensures found { IfOk result (λ classes. (v : Spelled) × (front : List ℕ) × (rest : List ℕ)
+        × (bytes.now ≡ front ++ rest)
+        × Spells description_classes start (codes "TList") v front × (classes ≡ classes_of v)) }
     // What the front of the data spells is read, unless memory runs out.
-    ensures only { (v : Spelled) (front rest : List ℕ) → bytes.now ≡ front ++ rest → Spells description_classes start (codes "TList") v front → Answers result (Ok (classes_of v)) }
+    ensures only { (v : Spelled) (front rest : List ℕ) → bytes.now ≡ front ++ rest
+        → Spells description_classes start (codes "TList") v front
+        → Answers result (Ok (classes_of v)) }
     // Which classes they are, or which fault.
     ensures exact { Answers result (class_list_at start bytes.now) }
 {

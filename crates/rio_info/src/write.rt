@@ -1,22 +1,21 @@
 //! Class lists are written.
-ghost use Rattle.std.specs.Prelude.{◌≡◌, ◌≤◌, ◌++◌, ℕ, List, true, length, map, Ok, IfOk};
+ghost use Rattle.std.specs.Prelude.{◌≡◌, ◌≤◌, ◌++◌, ℕ, List, true, length, Ok, IfOk};
 ghost use Rattle.std.specs.List.{list_all};
 ghost use Rattle.rio_num.specs.Room.{room_of};
 ghost use Rattle.rio_format.specs.ClassList.{class_list_at};
-ghost use Rattle.rio_format.specs.Slots.{link};
-ghost use Rattle.rio_format.specs.Written.{all, just};
+ghost use Rattle.rio_format.specs.Written.{just};
 ghost use Rattle.rio_types.specs.declared.class.ClassDef.{ClassDef as Class};
-ghost use Rattle.rio_describe.specs.Laws.{is_described};
-ghost use Rattle.rio_describe.specs.TreeClasses.{written_classes};
+ghost use Rattle.rio_model.specs.Described.{is_described};
+ghost use Rattle.rio_format.specs.TreeClasses.{written_classes};
 ghost use Rattle.rio_write.specs.Writing.{HasRoom, Writes};
-ghost use Rattle.rio_info.specs.WrittenBytes.{length_limit, written_list};
-ghost use Rattle.rio_info.specs.WrittenParts.{class_writing, list_front, list_writer};
+ghost use Rattle.rio_format.specs.WrittenBytes.{length_limit, written_list};
+ghost use Rattle.rio_info.specs.WrittenParts.{classes_items, list_front, list_writer};
 
 use crate::write_class::write_classes;
 use crate::write_element::{write_count, write_plain};
 use rio_buffer::ObjWriter;
-use rio_describe::tree_classes;
-use rio_layout::ClassLists;
+use rio_describe::{JudgedLists, tree_classes};
+use rio_format::ClassLists;
 use rio_num::{Bytes, NoMemory};
 use rio_types::Classes;
 use std::alloc::Global;
@@ -37,12 +36,14 @@ fn write_both<'a>(
     first: &'a Classes,
     second: &'a Classes,
 ) -> Result<(), NoMemory>
-    requires { HasRoom (all link (map (class_writing (first.now ++ second.now)) (first.now ++ second.now))) writer.old }
-    ensures { Writes (all link (map (class_writing (first.now ++ second.now)) (first.now ++ second.now))) result writer.old writer.new }
+    requires { HasRoom (classes_items (first.now ++ second.now) (first.now ++ second.now))
+        writer.old }
+    ensures { Writes (classes_items (first.now ++ second.now) (first.now ++ second.now))
+        result writer.old writer.new }
 {
-    let classes = ClassLists::Two(first, second);
-    write_classes(alloc, &classes, writer, first.as_slice())?;
-    write_classes(alloc, &classes, writer, second.as_slice())
+    let classes = JudgedLists::new(alloc, ClassLists::Two(first, second))?;
+    write_classes(&classes, writer, first.as_slice())?;
+    write_classes(&classes, writer, second.as_slice())
 }
 
 // The TList of both lists of classes.
@@ -69,7 +70,8 @@ pub fn write_info(alloc: Global, classes: &Classes, start: u64) -> Result<Bytes,
     requires start { start ≤ 65535 }
     ensures exact { IfOk result (λ b. b ≡ room_of (written_list start classes.now)) }
     // It is read as the classes of trees and these, whatever follows, if declarations can give these.
-    ensures read { list_all is_described classes.now ≡ true → IfOk result (λ b. (more : List ℕ) → class_list_at start (b.bytes ++ more) ≡ Ok (written_classes classes.now)) }
+    ensures read { list_all is_described classes.now ≡ true → IfOk result (λ b. (more : List ℕ)
+        → class_list_at start (b.bytes ++ more) ≡ Ok (written_classes classes.now)) }
 {
     let trees = tree_classes(alloc)?;
     let mut writer = ObjWriter::new(alloc, start);

@@ -62,7 +62,8 @@ fn write_indices(writer: &mut ObjWriter, count: u32) -> Result<(), NoMemory>
 
 // The code, the size, and how many values there are in which dimensions.
 fn write_numbers(writer: &mut ObjWriter, element: &Element) -> Result<(), NoMemory>
-    ensures { Writes (just (element_numbers (element_as element.now))) result writer.old writer.new }
+    ensures { Writes (just (element_numbers (element_as element.now)))
+        result writer.old writer.new }
 {
     let count = element.array.unwrap_or(0);
     write_number(writer, element.code)?;
@@ -97,7 +98,8 @@ fn write_joined(writer: &mut ObjWriter, front: &[u8], back: &[u8]) -> Result<(),
 // The name of the element's type.
 fn write_type(writer: &mut ObjWriter, type_name: TypeName) -> Result<(), NoMemory>
     requires { length (type_name_as type_name) < 2 ^ 32 }
-    ensures { Writes (just (text_bytes (type_name_as type_name.entry))) result writer.old writer.new }
+    ensures { Writes (just (text_bytes (type_name_as type_name.entry)))
+        result writer.old writer.new }
 {
     match type_name {
         TypeName::Value(name) => writer.put_text(name),
@@ -155,7 +157,8 @@ fn write_element_object(writer: &mut ObjWriter, element: &Element) -> Result<(),
 /// A pointer to the object of the element.
 pub(crate) fn write_element(writer: &mut ObjWriter, element: &Element) -> Result<(), NoMemory>
     requires { HasRoom ((element_writing (element_as element.now)).bytes any_pointer) writer.old }
-    ensures { Writes ((element_writing (element_as element.now)).bytes any_pointer) result writer.old writer.new }
+    ensures { Writes ((element_writing (element_as element.now)).bytes any_pointer)
+        result writer.old writer.new }
 {
     let begun = writer.begin_pointer(element.class.name())?;
     write_element_object(writer, element)?;

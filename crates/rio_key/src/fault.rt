@@ -1,3 +1,4 @@
+//! Why bytes are no key, or no list of heads.
 use rio_num::{NoMemory, Short};
 use thiserror::Error;
 

@@ -1,3 +1,4 @@
+//! The head of a record.
 ghost use Rattle.std.specs.Prelude.{◌≡◌, IfOk};
 ghost use Rattle.rio_key.specs.Key.{is_compressed};
 

@@ -1,3 +1,4 @@
+//! Laws of keys: there is one at a place.
 ghost use Rattle.rio_key.specs.Laws.{IsOne, KeyFromFront, KeyInFront};
 ghost use Rattle.rio_key.specs.Spelling.{SpellsKey, SpellsKeyList};
 

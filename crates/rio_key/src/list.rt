@@ -1,3 +1,4 @@
+//! Lists of key heads are read.
 ghost use Rattle.std.specs.Prelude.{◌≡◌, ◌+◌, ◌<◌, ◌^◌, ◌++◌, ℕ, List, length, IfOk};
 ghost use Rattle.rio_key.specs.declared.head.KeyHead.{KeyHead as Head};
 ghost use Rattle.rio_key.specs.Key.{value_of};
@@ -66,9 +67,11 @@ fn take_key_list(alloc: Global, cursor: &mut Cursor) -> Result<Heads, ListFault>
 /// place says nothing.
 pub fn read_heads(alloc: Global, bytes: &[u8], base: u64) -> Result<Heads, ListFault>
     requires { base + length bytes.now < 2 ^ 64 }
-    ensures exact { GivesList result (value_of (key_list_at (record { place = base; rest = bytes.now }))) }
+    ensures exact { GivesList result
+        (value_of (key_list_at (record { place = base; rest = bytes.now }))) }
     ensures found { IfOk result (λ heads. IsSpelledIn (SpellsKeyList heads) bytes.now) }
-    ensures only { (heads : List Head) (front rest : List ℕ) → bytes.now ≡ front ++ rest → SpellsKeyList heads front → IsListReadAs result heads }
+    ensures only { (heads : List Head) (front rest : List ℕ) → bytes.now ≡ front ++ rest
+        → SpellsKeyList heads front → IsListReadAs result heads }
 {
     take_key_list(alloc, &mut Cursor::new(bytes, base))
 }

@@ -1,3 +1,4 @@
+//! A key is read at its place.
 ghost use Rattle.std.specs.Prelude.{◌≡◌, ◌+◌, ◌<◌, ◌^◌, ◌++◌, ℕ, List, length, IfOk};
 ghost use Rattle.rio_num.specs.At.{GoesOn, standing_at};
 ghost use Rattle.rio_num.specs.Reading.{Takes, number_at};
@@ -10,7 +11,8 @@ use std::alloc::Global;
 
 // A place in the file, as long as keys of this version have it.
 fn take_place(cursor: &mut Cursor, version: u16) -> Result<u64, Short>
-    ensures exact { Takes (λ x. x) result (number_at (place_len version) cursor.old) cursor.old cursor.new }
+    ensures exact { Takes (λ x. x) result (number_at (place_len version) cursor.old) cursor.old
+        cursor.new }
     ensures goes { GoesOn cursor.old cursor.new }
 {
     if version > 1000 {
@@ -72,8 +74,11 @@ pub(crate) fn take_key(alloc: Global, cursor: &mut Cursor) -> Result<KeyHead, Ke
 pub fn read_key(alloc: Global, bytes: &[u8], base: u64, place: u64) -> Result<KeyHead, KeyFault>
     requires { base + length bytes.now < 2 ^ 64 }
     ensures exact { Gives result (key_at (standing_at base place bytes.now)) }
-    ensures found { IfOk result (λ head. IsSpelledIn (SpellsKey head) (standing_at base place bytes.now).rest) }
-    ensures only { (head : KeyHead) (front rest : List ℕ) → (standing_at base place bytes.now).rest ≡ front ++ rest → SpellsKey head front → IsReadAs result head }
+    ensures found { IfOk result (λ head.
+        IsSpelledIn (SpellsKey head) (standing_at base place bytes.now).rest) }
+    ensures only { (head : KeyHead) (front rest : List ℕ)
+        → (standing_at base place bytes.now).rest ≡ front ++ rest → SpellsKey head front
+        → IsReadAs result head }
 {
     take_key(alloc, &mut Cursor::at(bytes, base, place))
 }

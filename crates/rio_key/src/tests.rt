@@ -1,4 +1,5 @@
-use crate::{Heads, read_heads, read_key};
+//! Keys and lists of heads of an empty file.
+use crate::{Heads, KeyFault, read_heads, read_key};
 use std::alloc::Global;
 use std::test::Fail;
 
@@ -42,5 +43,16 @@ fn reads_a_list_of_heads(rt: HostRuntime) -> Result<(), Fail> {
     assert_eq!(rt; heads.len(), 2);
     let seeks = [heads.as_slice()[0].seek, heads.as_slice()[1].seek];
     assert_eq!(rt; seeks, [100, 252]);
+    Ok(())
+}
+
+#[test]
+fn tells_where_a_key_lacks_bytes(rt: HostRuntime) -> Result<(), Fail> {
+    let fault = KeyFault::Short {
+        place: 252,
+        wanted: 4,
+    };
+    let text = format!(in rt.alloc(); "{fault}")?;
+    assert_eq!(rt; text.as_str(), "fewer than 4 bytes are left at 252");
     Ok(())
 }

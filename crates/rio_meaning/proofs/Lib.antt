@@ -1,1 +1,1 @@
-pub mod ClosedLaws
+mod Examples

@@ -1,5 +1,5 @@
--- The classes that a file describes, and the first fault of the verbs that read them.
-use Rattle.std.specs.Prelude.{ℕ, ◌==◌, List, [], Option, Result, Ok, Err, if◌then◌else◌}
+-- The classes that a file describes.
+use Rattle.std.specs.Prelude.{ℕ, ◌==◌, List, [], Result, Ok, Err, if◌then◌else◌}
 use Rattle.rio_num.specs.At.{At}
 use Rattle.rio_num.specs.Reading.{◌>>=◌}
 use Rattle.rio_types.specs.declared.class.ClassDef.{ClassDef}
@@ -9,13 +9,15 @@ use Rattle.rio_head.specs.declared.fault.FileFault.TheVariants.{BadInfo, Compres
 use Rattle.rio_head.specs.declared.fault.HeadFault.{HeadFault}
 use Rattle.rio_head.specs.Head.{fault_at}
 use Rattle.rio_format.specs.ClassList.{class_list_at}
-use Rattle.rio_meaning.specs.declared.closed.Described.{Described}
-use Rattle.rio_meaning.specs.Closed.{closed_file, fault_of, or_fault, record_at}
+use Rattle.rio_meaning.specs.declared.described.Described.{Described}
+use Rattle.rio_dir.specs.Closed.{closed_file, or_fault, record_at}
 
 -- The classes in the data of the class list whose key stands at a place: a compressed one isn't read. Places in the data count
 -- from the key's first byte.
 abbrev pub classes_in : ℕ → KeyHead → At → Result (List ClassDef) HeadFault
-classes_in place key contents = if is_compressed key then Err (fault_at place Compressed) else or_fault (fault_at place BadInfo) (class_list_at key.keylen contents.rest)
+classes_in place key contents =
+    if is_compressed key then Err (fault_at place Compressed)
+    else or_fault (fault_at place BadInfo) (class_list_at key.keylen contents.rest)
 
 -- the class list at a place
 unfoldable pub info_at : List ℕ → ℕ → Result (List ClassDef) HeadFault
@@ -31,7 +33,3 @@ described_file file = do
   closed ← closed_file file
   classes ← described_at file closed.head.seek_info
   Ok (record { closed = closed; classes = classes })
-
--- the first fault of the rules that a verb tests which reads the classes
-abbrev pub first_described_fault : List ℕ → Option HeadFault
-first_described_fault file = fault_of (described_file file)

@@ -3,7 +3,6 @@ use Rattle.std.specs.Prelude.{ℕ, Bool, ◌++◌, List, [], codes, Option, Some
 use Rattle.std.specs.List.{flat_map}
 use Rattle.std.specs.Str.{bytes_eq}
 use Rattle.std.specs.Fmt.{decimal}
-use Rattle.rio_num.specs.Printed.{name_text}
 use Rattle.rio_num.specs.Reading.{◌>>=◌}
 use Rattle.rio_types.specs.declared.class.ClassDef.{ClassDef}
 use Rattle.rio_value.specs.declared.value.Value.{Value}
@@ -11,15 +10,16 @@ use Rattle.rio_key.specs.declared.head.KeyHead.{KeyHead}
 use Rattle.rio_key.specs.Key.{is_compressed}
 use Rattle.rio_head.specs.declared.fault.HeadFault.{HeadFault}
 use Rattle.rio_format.specs.Objects.{value_at}
-use Rattle.rio_format.specs.declared.fault.ObjFault.{ObjFault}
-use Rattle.rio_format.specs.declared.fault.ObjFault.TheVariants.{Short, BadCount, UnknownClassWord, UnknownRef, NoCount, BadFlag, CountMismatch, TooDeep, NoMemory}
+use Rattle.rio_buffer.specs.declared.fault.ObjFault.{ObjFault}
+use Rattle.rio_buffer.specs.declared.fault.ObjFault.TheVariants.{Short, BadCount, UnknownClassWord, UnknownRef, NoCount, BadFlag, CountMismatch, TooDeep, NoMemory}
 use Rattle.rio_model.specs.ValueText.{text_of_value}
 use Rattle.rio_model.specs.ClassText.{text_of_class}
-use Rattle.rio_meaning.specs.declared.closed.Described.{Described}
+use Rattle.rio_meaning.specs.declared.described.Described.{Described}
 use Rattle.rio_meaning.specs.declared.item.Item.{Item}
 use Rattle.rio_meaning.specs.declared.item.Missing.{Missing}
 use Rattle.rio_meaning.specs.declared.item.Missing.TheVariants.{NoSuchName, NoSuchCycle}
-use Rattle.rio_meaning.specs.Closed.{data_at}
+use Rattle.rio_dir.specs.Closed.{data_at}
+use Rattle.rio_dir.specs.Listing.{named_cycle}
 use Rattle.rio_meaning.specs.Described.{described_file}
 use Rattle.rio_meaning.specs.Item.{found_item}
 
@@ -59,7 +59,7 @@ content_text file classes key =
 
 -- NAME;CYCLE and what the key holds
 abbrev pub stored_line : List ℕ → List ClassDef → KeyHead → List ℕ
-stored_line file classes key = name_text key.name ++ codes ";" ++ decimal key.cycle ++ codes " " ++ content_text file classes key ++ codes "\n"
+stored_line file classes key = named_cycle key ++ codes " " ++ content_text file classes key ++ codes "\n"
 
 abbrev pub class_line : ClassDef → List ℕ
 class_line class = text_of_class class ++ codes "\n"
@@ -86,11 +86,3 @@ unfoldable pub dumped_file : Option Item → List ℕ → Result (List ℕ) Head
 dumped_file item file = do
   described ← described_file file
   Ok (dump_text file item described)
-
--- what is said, and nothing of a file that breaks a rule
-abbrev pub text_of_dump : Result (List ℕ) HeadFault → List ℕ
-text_of_dump (Ok text) = text
-text_of_dump (Err e) = []
-
-abbrev pub dump_listing : Option Item → List ℕ → List ℕ
-dump_listing item file = text_of_dump (dumped_file item file)

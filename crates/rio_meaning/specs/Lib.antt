@@ -1,6 +1,4 @@
-pub mod Closed
 pub mod Described
 pub mod Dump
-pub mod Grammar
+pub mod FirstFault
 pub mod Item
-pub mod Listing

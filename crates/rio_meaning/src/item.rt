@@ -1,3 +1,4 @@
+//! A key that is asked for, and why there is none.
 use rio_num::Name;
 
 /// A key by its name, and by its cycle where one is said; else the greatest cycle of the name is meant.

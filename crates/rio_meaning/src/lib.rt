@@ -1,11 +1,10 @@
-//! What the bytes of a file mean to those who read it: what it is when it is closed, its first fault,
-//! and what a listing says of it. Mostly definitions, in `specs/`.
+//! What the bytes of a closed file mean to those who read it: the classes that it describes, the first
+//! rule that it breaks by the rules that a verb tests, and what `dump` says of it. Mostly definitions, in
+//! `specs/`.
 #![tactic(auto)]
 
-mod closed;
+mod described;
 mod item;
-mod laws;
 
-pub use closed::{Closed, Described};
+pub use described::Described;
 pub use item::{Item, Missing};
-pub use laws::{closed_file_is_spelled, one_listing};

@@ -1,5 +1,23 @@
+mod Examples
+pub mod ClassFurther
 pub mod ClassLines
+pub mod DescribedBases
+pub mod DescribedClasses
+pub mod DescribedElements
+pub mod DescribedKinds
+pub mod DescribedMembers
+pub mod DescribedTrees
+pub mod DescribedValues
+pub mod DescriptionSums
+pub mod ListDepth
+pub mod ListElements
+pub mod ListFits
+pub mod ListNumbers
+pub mod ListParts
+pub mod ListSpelled
 pub mod OneLineLaws
+pub mod PointerLaws
+pub mod ReachLaws
 pub mod ReadAlike
 pub mod ReadClasses
 pub mod ReadDeclarations
@@ -12,5 +30,6 @@ pub mod StatedClasses
 pub mod StatedKinds
 pub mod StatedMembers
 pub mod StatedParts
+pub mod ValueFurther
 pub mod ValueLines
 pub mod ValueTextLaws

@@ -5,11 +5,11 @@ use Rattle.rio_num.specs.Reading.{◌>>=◌}
 use Rattle.rio_num.specs.Word.{is_name_text}
 use Rattle.rio_value.specs.declared.value.Value.{Value}
 use Rattle.rio_token.specs.declared.token.Token.{Token}
-use Rattle.rio_token.specs.declared.token.Token.TheVariants.{Word, Text, Mark, Bad, Cut, End}
+use Rattle.rio_token.specs.declared.token.Token.TheVariants.{Word, Text, Mark, Cut}
 use Rattle.rio_token.specs.Tokens.{behind, next_at}
-use Rattle.rio_token.specs.Reading.{Read, bad_at, list_at, mark_at, num_between_at, some_at, string_at, taken_at, word_at, word_that_at}
+use Rattle.rio_token.specs.Reading.{Read, bad_at, list_at, mark_at, num_between_at, some_at, string_at, string_by, taken_at, word_at, word_that_at}
 use Rattle.rio_token.proofs.StandLaws.{Alike, at, blank_alike}
-use Rattle.rio_model.specs.ValueGrammar.{Enclosed, Reader, enclosed_at, enclosed_by, listed, object_at, object_of, opens_object, part_at, pointer_at, text_value_at, value_at, value_by, word_value, word_value_at, worded}
+use Rattle.rio_model.specs.ValueGrammar.{Enclosed, Reader, enclosed_at, enclosed_by, listed, object_at, object_of, opens_object, part_at, pointer_at, text_value_at, value_at, value_by, values_at, word_value, word_value_at, worded}
 
 module _ (s t : At) (alike : Alike s t) where
   bad_alike : {A : Type 0} → bad_at {A = A} s ≡ bad_at t
@@ -27,9 +27,14 @@ module _ (s t : At) (alike : Alike s t) where
   unfolding word_that_at
   word_that_alike test = rw (alike.token, alike.bytes) (taken_alike _)
 
+  string_by_alike : (token : Token) → string_by token s ≡ string_by token t
+  string_by_alike Text = rw (alike.bytes, alike.behind) refl
+  string_by_alike Cut = rw alike.end refl
+  string_by_alike other = bad_alike
+
   string_alike : string_at s ≡ string_at t
   unfolding string_at
-  string_alike = rw (alike.token, alike.bytes) (taken_alike _)
+  string_alike = rw alike.token (string_by_alike (next_at t).token)
 
   pub num_between_alike : (low high : ℕ) → num_between_at low high s ≡ num_between_at low high t
   unfolding num_between_at
@@ -79,11 +84,8 @@ module _ (s t : At) (alike : Alike s t) where
 
     by_alike : (token : Token) → value_by E token s ≡ value_by E token t
     by_alike Word = word_value_alike
-    by_alike Text = text_value_alike
     by_alike (Mark mark) = marked_by mark (mark == 91) (mark == 64)
-    by_alike Bad = bad_alike
-    by_alike Cut = bad_alike
-    by_alike End = bad_alike
+    by_alike other = text_value_alike
 
     pub value_alike : value_at E s ≡ value_at E t
     unfolding value_at
@@ -94,7 +96,7 @@ module _ (s t : At) (alike : Alike s t) where
     part_alike = rw (word_that_alike is_name_text) refl
 
   by_alike_in : (E : Reader) (what : Enclosed) → enclosed_by E what s ≡ enclosed_by E what t
-  unfolding enclosed_by
+  unfolding enclosed_by values_at
   by_alike_in E listed = rw (mark_alike 91) refl
   by_alike_in E (object_of class version) = rw (mark_alike 123) refl
 

@@ -10,32 +10,33 @@ use Rattle.rio_value.specs.declared.value.Value.{Value, Int, Bits32, Bits64, Boo
 use Rattle.rio_value.specs.declared.value.Value.TheOpen.{Value-F}
 use Rattle.rio_value.specs.declared.value.Value.TheOpen as layer
 use Rattle.rio_value.specs.declared.value.Value.TheVariants.{rolls-Int, rolls-Bits32, rolls-Bits64, rolls-Bool, rolls-Text, rolls-List, rolls-Object, rolls-Pointed, rolls-Null, rolls-Back, rolls-Opaque}
-use Rattle.rio_value.specs.declared.value.Value.TheFolds.{fold-roll-Value, fold-Part, ind-Value}
+use Rattle.rio_value.specs.declared.value.Value.TheFolds.{fold-roll-Value, ind-Value}
 use Rattle.rio_value.specs.declared.value.Part.{Part, Part-F}
 use Rattle.rio_token.specs.Laws.{AreBytes, IsNumber}
 use Rattle.rio_token.proofs.StandLaws.{at, drop_front}
-use Rattle.rio_model.specs.Readable.{Follows, Readability, ValuesAreRead, is_number, part_within, readability_of, readable_step, single}
+use Rattle.rio_model.specs.Readable.{Follows, PartReadability, Readability, ValuesAreRead, are_bases_first, are_parts_within, is_number, part_readable, part_within, readability_of, readable_step, single}
 use Rattle.rio_model.specs.Stated.{is_class_version}
 use Rattle.rio_model.specs.ValueGrammar.{Reader, bracket_limit, enclosed_at, value_at}
-use Rattle.rio_model.specs.ValueText.{part_text, text_of_value, text_step}
+use Rattle.rio_model.specs.ValueText.{PrintedPart, PrintedValue, printed_value, text_of_value, text_step}
 use Rattle.rio_model.proofs.ReadWords.{bits_is_word, bits_word, eight_value, four_value, integer_value, integer_word, plain_word_back}
-use Rattle.rio_model.proofs.ReadValues.{IsBackValue, Known, KnownPart, ValueBack, back_back, false_back, list_value_back, null_back, object_back, object_value_back, part_folded, part_folds, pointed_back, text_back, true_back}
+use Rattle.rio_model.proofs.ValueTextLaws.{part_folded as printed_folded, printed_rolled}
+use Rattle.rio_model.proofs.ReadValues.{IsBackValue, Known, KnownPart, ReadableParts, ValueBack, back_back, false_back, list_value_back, null_back, object_back, object_value_back, part_folded, part_folds, pointed_back, text_back, true_back}
 
 -- ---- texts and readability of values without others in them
 
 abbrev text_layer : (y : Value-F Value Part) → List ℕ
-text_layer y = text_step (map-Value Value Part (List ℕ) (List ℕ) text_of_value (fold-Part (List ℕ) (List ℕ) text_step (λ p. part_text p.name p.value)) y)
+text_layer y = (text_step (map-Value Value Part PrintedValue PrintedPart printed_value printed_folded y)).text
 
 abbrev readable_layer : (y : Value-F Value Part) → Readability
-readable_layer y = readable_step (map-Value Value Part Readability (ℕ → Bool) readability_of (fold-Part Readability (ℕ → Bool) readable_step (λ p. part_within p.name p.value)) y)
+readable_layer y = readable_step (map-Value Value Part Readability PartReadability readability_of part_folded y)
 
 text_rolled : (y : Value-F Value Part) (v : Value) → roll-Value y ≡ v → text_of_value v ≡ text_layer y
 unfolding text_of_value
-text_rolled y v e = ap text_of_value (sym e) ∙ fold-roll-Value (List ℕ) (List ℕ) text_step (λ p. part_text p.name p.value) y
+text_rolled y v e = ap text_of_value (sym e) ∙ ap (λ (p : PrintedValue). p.text) (printed_rolled y)
 
 readable_rolled : (y : Value-F Value Part) (v : Value) → roll-Value y ≡ v → readability_of v ≡ readable_layer y
 unfolding readability_of
-readable_rolled y v e = ap readability_of (sym e) ∙ fold-roll-Value Readability (ℕ → Bool) readable_step (λ p. part_within p.name p.value) y
+readable_rolled y v e = ap readability_of (sym e) ∙ fold-roll-Value Readability PartReadability readable_step (λ p. part_readable p.name p.value) y
 
 -- a value whose text is read in any brackets
 leaf : (y : Value-F Value Part) (v : Value) (text : List ℕ) (b : Bool) → roll-Value y ≡ v → text_layer y ≡ text → readable_layer y ≡ single b
@@ -121,9 +122,13 @@ pointed_known label e levels h =
       object = λ o. absurd (let none : false ≡ true = rw reads at o in cc);
     }
 
-folded_all : (l : ℕ) (parts : List Part) → list_all (λ p. p l) (map part_folded parts) ≡ list_all (λ p. part_within p.name (readability_of p.value) l) parts
+folded_all : (l : ℕ) (parts : List Part) → list_all (λ p. p.within l) (map part_folded parts) ≡ list_all (λ p. part_within p.name (readability_of p.value) l) parts
 folded_all l [] = refl
 folded_all l (p ∷ ps) = rw (part_folds p, folded_all l ps) refl
+
+folded_names : (parts : List Part) → map (λ p. p.name) (map part_folded parts) ≡ map (λ p. p.name) parts
+folded_names [] = refl
+folded_names (p ∷ ps) = rw (part_folds p, folded_names ps) refl
 
 pub at_least : (v : ℕ) → int_le (pos 1) (pos v) ≡ true → 1 ≤ v
 at_least v h = grind (arith, nat_tests)
@@ -132,14 +137,15 @@ pub at_most : (v : ℕ) → int_le (pos v) (pos 32767) ≡ true → v ≤ 32767
 at_most v h = grind (arith, nat_tests)
 
 object_by : (class : List ℕ) (es : List KnownPart) (levels : ℕ) (version : ℤ) → nat_lt 0 levels ≡ true → is_name_text class ≡ true → is_class_version version ≡ true
-    → list_all (λ p. p (levels - 1)) (map part_folded (map (λ e. e.0) es)) ≡ true → ValueBack levels (Object class version (map (λ e. e.0) es))
+    → are_parts_within (map part_folded (map (λ e. e.0) es)) (levels - 1) ≡ true → ValueBack levels (Object class version (map (λ e. e.0) es))
 object_by class es zero version some named is all = absurd (cc)
 object_by class es (suc l) (negsuc n) some named is all = absurd (cc)
 object_by class es (suc l) (pos v) some named is all =
     let ps = map (λ (e : KnownPart). e.0) es in
     let bounds = and_parts (int_le (pos 1) (pos v)) (int_le (pos v) (pos 32767)) is in
-    let here : list_all (λ (p : ℕ → Bool). p l) (map part_folded ps) ≡ true = rw (one_less l) at all in
-    let parts : list_all (λ (p : Part). part_within p.name (readability_of p.value) l) ps ≡ true = sym (folded_all l ps) ∙ here in
+    let here : are_parts_within (map part_folded ps) l ≡ true = rw (one_less l) at all in
+    let both = and_parts (list_all (λ (p : PartReadability). p.within l) (map part_folded ps)) (are_bases_first true (map (λ (p : PartReadability). p.name) (map part_folded ps))) here in
+    let parts : ReadableParts l es = record { within = sym (folded_all l ps) ∙ both.0; first = ap (are_bases_first true) (sym (folded_names ps)) ∙ both.1 } in
     let o = object_back l es parts class v named (at_least v bounds.0) (at_most v bounds.1) in
     record {
       value = λ p q rest f e. object_value_back (suc l) (Object class (pos v) ps) o p q rest f e;
@@ -149,7 +155,7 @@ object_by class es (suc l) (pos v) some named is all =
 object_known : (class : List ℕ) (version : ℤ) (es : List KnownPart) → IsBackValue (Object class version (map (λ e. e.0) es))
 object_known class version es levels h =
     let ps = map (λ (e : KnownPart). e.0) es in
-    let all = list_all (λ (p : ℕ → Bool). p (levels - 1)) (map part_folded ps) in
+    let all = are_parts_within (map part_folded ps) (levels - 1) in
     let inside : (nat_lt 0 levels && is_name_text class && is_class_version version && all) ≡ true = rw (readable_rolled (layer.Object class version ps) (Object class version ps) (rolls-Object class version ps)) at h in
     let outer = and_parts (nat_lt 0 levels && is_name_text class && is_class_version version) all inside in
     let middle = and_parts (nat_lt 0 levels && is_name_text class) (is_class_version version) outer.0 in

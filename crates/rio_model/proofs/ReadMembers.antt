@@ -6,7 +6,7 @@ use Rattle.rio_types.specs.declared.class.Base.{Base}
 use Rattle.rio_types.specs.declared.class.Member.{Member}
 use Rattle.rio_types.specs.declared.kind.Kind.{Kind}
 use Rattle.rio_token.specs.declared.token.Token.{Token}
-use Rattle.rio_token.specs.declared.token.Token.TheVariants.{Word, Text as String, Mark, Bad, Cut, End}
+use Rattle.rio_token.specs.declared.token.Token.TheVariants.{Mark}
 use Rattle.rio_token.specs.Tokens.{next_at, scan_of}
 use Rattle.rio_token.specs.Reading.{is_mark, is_word, mark_at, marked, word_that_at}
 use Rattle.rio_token.proofs.SeparatedLaws.{Ends, IsBack}
@@ -61,12 +61,8 @@ base_back before name named new p q rest f e =
 -- ---- what ends their lists
 
 word_or_no_brace : (mark : ℕ) (token : Token) → (is_mark mark token ≡ false) ⊎ (is_word token ≡ false)
-word_or_no_brace mark Word = inl refl
-word_or_no_brace mark String = inl refl
 word_or_no_brace mark (Mark b) = inr refl
-word_or_no_brace mark Bad = inl refl
-word_or_no_brace mark Cut = inl refl
-word_or_no_brace mark End = inl refl
+word_or_no_brace mark other = inl refl
 
 member_wants_word : (before : List Member) (s : At) (x : Member × At) → is_word (next_at s).token ≡ false → member_at before s ≡ Ok x → marked 125 s ≡ false
 unfolding member_at word_that_at

@@ -1,18 +1,18 @@
 -- What is printed of a value is read as the value, by induction on the value.
-use Rattle.std.proofs.Common.{◌≡◌, ◌⊎◌, inl, inr, ℕ, suc, ◌+◌, ◌^◌, ◌<◌, ◌≤◌, ℤ, pos, List, [], ◌∷◌, ◌++◌, codes, map, length, Bool, true, false, ◌==◌, if◌then◌else◌, Ok, refl, ◌∙◌, ap, arith, subst, append_assoc, length-append}
+use Rattle.std.proofs.Common.{◌≡◌, ◌⊎◌, inl, inr, ℕ, suc, ◌+◌, ◌^◌, ◌<◌, ◌≤◌, ℤ, pos, List, [], ◌∷◌, ◌++◌, codes, map, length, Bool, true, false, ◌==◌, ◌&&◌, if◌then◌else◌, Ok, refl, ◌∙◌, ap, arith, subst, append_assoc, length-append}
 use Rattle.std.specs.Fmt.{decimal}
 use Rattle.std.specs.List.{list_all}
 use Rattle.std.proofs.lemmas.Bool.{and_parts, eqb-true}
 use Rattle.std.proofs.lemmas.Bool.Decides.{nat_tests}
 use Rattle.rio_num.specs.At.{At}
 use Rattle.rio_num.specs.Reading.{◌>>=◌}
-use Rattle.rio_num.specs.Printed.{string_text}
+use Rattle.rio_num.specs.Printed.{name_text, string_text}
 use Rattle.rio_num.specs.Word.{is_name_text}
 use Rattle.rio_value.specs.declared.value.Value.{Value, Bool as Truth, Text as Chars, List as Items, Object, Pointed, Null, Back}
 use Rattle.rio_value.specs.declared.value.Value.TheFolds.{fold-Part, fold_out-Part}
 use Rattle.rio_value.specs.declared.value.Part.{Part}
 use Rattle.rio_token.specs.declared.token.Token.{Token}
-use Rattle.rio_token.specs.declared.token.Token.TheVariants.{Word, Text, Mark, Bad, Cut, End}
+use Rattle.rio_token.specs.declared.token.Token.TheVariants.{Mark}
 use Rattle.rio_token.specs.Laws.{AreBytes}
 use Rattle.rio_token.specs.Tokens.{behind, next_at, scan_of}
 use Rattle.rio_token.specs.Reading.{is_mark, is_word, list_at, mark_at, marked, word_that_at}
@@ -20,12 +20,12 @@ use Rattle.rio_token.proofs.DecimalLaws.{nums_are_read}
 use Rattle.rio_token.proofs.SeparatedLaws.{AllBack, Ends, list_back}
 use Rattle.rio_token.proofs.StandLaws.{at, name_is_word, next_is_text, next_is_word, num_back, num_between_back, string_back, word_back, word_that_back}
 use Rattle.rio_model.specs.Lists.{separated}
-use Rattle.rio_model.specs.Readable.{Follows, Readability, part_within, readability_of, readable_step}
-use Rattle.rio_model.specs.ValueGrammar.{Reader, class_version_at, enclosed_at, enclosed_by, named_object_at, object_at, object_of, opens_object, part, part_at, pointer_at, text_value_at, value_at, value_by, word_value, word_value_at}
-use Rattle.rio_model.specs.ValueText.{label_text, part_text, text_of_part, text_of_value}
+use Rattle.rio_model.specs.Readable.{Follows, PartReadability, Readability, are_bases_first, part_readable, part_within, readability_of, readable_step}
+use Rattle.rio_model.specs.ValueGrammar.{Reader, class_version_at, enclosed_at, enclosed_by, named_object_at, object_at, object_of, opens_object, part, part_at, pointer_at, text_value_at, value_at, value_by, values_at, word_value, word_value_at}
+use Rattle.rio_model.specs.ValueText.{PrintedValue, between_braces, label_text, part_texts, printed_part, printed_value, text_of_value}
 use Rattle.rio_model.proofs.ReadAlike.{part_behind_blank, value_behind_blank}
 use Rattle.rio_model.proofs.ReadWords.{decimal_word, is_behind, name_as_it_is, plain_word_back}
-use Rattle.rio_model.proofs.ValueTextLaws.{text_of-List, text_of-Object, text_of-Pointed}
+use Rattle.rio_model.proofs.ValueTextLaws.{printed-Object, separated-map, text_of-List, text_of-Object, text_of-Pointed}
 
 -- ---- values of one token
 
@@ -74,6 +74,7 @@ pub record ObjectBack (levels : ℕ) (v : Value) : Type 0 where
   pub class : List ℕ
   pub tail : List ℕ
   pub named : is_name_text class ≡ true
+  pub lone : (printed_value v).is_object ≡ true
   pub parts : text_of_value v ≡ class ++ 35 ∷ tail
   pub back : (p q : ℕ) (rest : List ℕ) → Follows rest → q ≡ p + 1 + length tail → object_at (enclosed_at levels) class (at p (35 ∷ (tail ++ rest))) ≡ Ok (v, at q rest)
 
@@ -137,6 +138,15 @@ module _ (levels : ℕ) (v : Value) (o : ObjectBack levels v) (p q label : ℕ) 
       let object = named_object_back levels v o (number_end + 1) q rest f place in
       rw (pointed_text, mark_of_pointer (enclosed_at levels) p (decimal label ++ (61 ∷ (text_of_value v ++ rest))), num, equals_marked number_end (text_of_value v ++ rest), behind_equals number_end (text_of_value v ++ rest), object) refl
 
+-- ---- parts of a value that its text says whole
+
+-- a base is its value alone
+abbrev pub part_alone : List ℕ → List ℕ → List ℕ
+part_alone name value = if length name == 0 then value else name_text name ++ codes ": " ++ value
+
+abbrev pub text_of_part : Part → List ℕ
+text_of_part p = part_alone p.name (text_of_value p.value)
+
 -- ---- what every value keeps to
 
 pub record ValueBack (levels : ℕ) (v : Value) : Type 0 where
@@ -155,16 +165,12 @@ KnownPart = (p : Part) × IsBackValue p.value
 -- ---- lists
 
 no_bracket : (E : Reader) (s : At) (x : Value × At) (token : Token) → value_by E token s ≡ Ok x → is_mark 93 token ≡ false
-no_bracket E s x Word h = refl
-no_bracket E s x Text h = refl
 no_bracket E s x (Mark b) h = by_test (b == 93) refl
   where
     by_test : (t : Bool) → (b == 93) ≡ t → (b == 93) ≡ false
     by_test true t = absurd (let e : b ≡ 93 = eqb-true b 93 t in let P : ℕ → Type 0 = λ k. value_by E (Mark k) s ≡ Ok x in let bad = subst P e h in cc)
     by_test false t = t
-no_bracket E s x Bad h = refl
-no_bracket E s x Cut h = refl
-no_bracket E s x End h = refl
+no_bracket E s x other h = refl
 
 value_begins : (E : Reader) (s : At) (x : Value × At) → value_at E s ≡ Ok x → marked 93 s ≡ false
 unfolding value_at
@@ -190,7 +196,7 @@ values_back levels (e ∷ es) front h =
     ((e.1 levels parts.0).value, values_back levels es (front ++ e.0 ∷ []) parts.1)
 
 opened_list : (levels p : ℕ) (xs : List ℕ) → value_at (enclosed_at (suc levels)) (at p (91 ∷ xs)) ≡ (list_at 93 (λ before. value_at (enclosed_at levels)) (at (p + 1) xs) >>= λ items. Ok (Items items.0, items.1))
-unfolding value_at scan_of enclosed_at enclosed_by mark_at
+unfolding value_at scan_of enclosed_at enclosed_by values_at mark_at
 opened_list levels p xs = refl
 
 pub list_value_back : (levels : ℕ) (es : List Known) → list_all (λ r. r.within levels) (map readability_of (map (λ e. e.0) es)) ≡ true → (p q : ℕ) (rest : List ℕ) →
@@ -208,12 +214,8 @@ list_value_back levels es h p q rest e =
 -- ---- parts
 
 word_or_no_brace : (token : Token) → (is_mark 125 token ≡ false) ⊎ (is_word token ≡ false)
-word_or_no_brace Word = inl refl
-word_or_no_brace Text = inl refl
 word_or_no_brace (Mark b) = inr refl
-word_or_no_brace Bad = inl refl
-word_or_no_brace Cut = inl refl
-word_or_no_brace End = inl refl
+word_or_no_brace other = inl refl
 
 part_wants_word : (E : Reader) (s : At) (x : Part × At) → is_word (next_at s).token ≡ false → part_at E s ≡ Ok x → marked 125 s ≡ false
 unfolding part_at word_that_at
@@ -262,22 +264,46 @@ some_length : (b : ℕ) (bs : List ℕ) → (length (b ∷ bs) == 0) ≡ false
 some_length b bs = grind (arith, nat_tests)
 
 named_part_back : (levels : ℕ) (name : List ℕ) (v : Value) → (if length name == 0 then (readability_of v).object else is_name_text name) ≡ true → ValueBack levels v → (p q : ℕ) (rest : List ℕ) → Follows rest
-    → q ≡ p + length (part_text name (text_of_value v)) → part_at (enclosed_at levels) (at p (part_text name (text_of_value v) ++ rest)) ≡ Ok (part name v, at q rest)
+    → q ≡ p + length (part_alone name (text_of_value v)) → part_at (enclosed_at levels) (at p (part_alone name (text_of_value v) ++ rest)) ≡ Ok (part name v, at q rest)
 named_part_back levels [] v h b p q rest f e = base_back levels v (b.object h) p q rest f e
 named_part_back levels (c ∷ cs) v h b p q rest f e =
     let some = some_length c cs in
     let named : is_name_text (c ∷ cs) ≡ true = rw some at h in
     let plain = name_as_it_is (c ∷ cs) named in
-    let text : part_text (c ∷ cs) (text_of_value v) ≡ ((c ∷ cs) ++ codes ": ") ++ text_of_value v = rw (some, plain) refl in
+    let text : part_alone (c ∷ cs) (text_of_value v) ≡ ((c ∷ cs) ++ codes ": ") ++ text_of_value v = rw (some, plain) refl in
     let place : q ≡ p + length (((c ∷ cs) ++ codes ": ") ++ text_of_value v) = e ∙ ap (λ (t : List ℕ). p + length t) text in
     rw text (member_back levels (c ∷ cs) v named b p q rest f place)
 
-abbrev pub part_folded : Part → ℕ → Bool
-part_folded = fold-Part Readability (ℕ → Bool) readable_step (λ p. part_within p.name p.value)
+abbrev pub part_folded : Part → PartReadability
+part_folded = fold-Part Readability PartReadability readable_step (λ p. part_readable p.name p.value)
 
-pub part_folds : (p : Part) → part_folded p ≡ part_within p.name (readability_of p.value)
+pub part_folds : (p : Part) → part_folded p ≡ part_readable p.name (readability_of p.value)
 unfolding readability_of
-part_folds p = fold_out-Part Readability (ℕ → Bool) readable_step (λ p. part_within p.name p.value) p
+part_folds p = fold_out-Part Readability PartReadability readable_step (λ p. part_readable p.name p.value) p
+
+-- the parts of a readable object are printed with their names, but for the bases
+readable_texts : (levels : ℕ) (front : Bool) (es : List KnownPart) → list_all (λ p. part_within p.name (readability_of p.value) levels) (map (λ e. e.0) es) ≡ true
+    → are_bases_first front (map (λ p. p.name) (map (λ e. e.0) es)) ≡ true → part_texts front (map printed_part (map (λ e. e.0) es)) ≡ map text_of_part (map (λ e. e.0) es)
+unfolding text_of_value
+readable_texts levels front [] h first = refl
+readable_texts levels front (e ∷ es) h first =
+    let all = and_parts (part_within e.0.name (readability_of e.0.value) levels) (list_all (λ (p : Part). part_within p.name (readability_of p.value) levels) (map (λ (e : KnownPart). e.0) es)) h in
+    let own = and_parts ((readability_of e.0.value).within levels) (if length e.0.name == 0 then (readability_of e.0.value).object else is_name_text e.0.name) all.0 in
+    let is = and_parts (if length e.0.name == 0 then front else true) (are_bases_first (length e.0.name == 0) (map (λ (p : Part). p.name) (map (λ (e : KnownPart). e.0) es))) first in
+    by (length e.0.name == 0) refl is.0 own.1 (e.1 levels own.0) (readable_texts levels (length e.0.name == 0) es all.1 is.1)
+  where
+    never : (b : Bool) → (b && false) ≡ false
+    never true = refl
+    never false = refl
+
+    by : (b : Bool) → (length e.0.name == 0) ≡ b → (if b then front else true) ≡ true → (if b then (readability_of e.0.value).object else is_name_text e.0.name) ≡ true
+        → ValueBack levels e.0.value → part_texts b (map printed_part (map (λ e. e.0) es)) ≡ map text_of_part (map (λ e. e.0) es)
+        → part_texts front (map printed_part (e.0 ∷ map (λ e. e.0) es)) ≡ map text_of_part (e.0 ∷ map (λ e. e.0) es)
+    by true b stands own back rest =
+        let lone = (back.object own).lone in
+        rw (stands, b, lone) (ap (λ (ts : List (List ℕ)). text_of_value e.0.value ∷ ts) rest)
+    by false b stands own back rest =
+        rw (b, never front) (ap (λ (ts : List (List ℕ)). (name_text e.0.name ++ codes ": " ++ text_of_value e.0.value) ∷ ts) rest)
 
 part_back : (levels : ℕ) (e : KnownPart) → part_within e.0.name (readability_of e.0.value) levels ≡ true → (p q : ℕ) (rest : List ℕ) → Follows rest → q ≡ p + length (text_of_part e.0)
     → part_at (enclosed_at levels) (at p (text_of_part e.0 ++ rest)) ≡ Ok (e.0, at q rest)
@@ -329,14 +355,22 @@ object_tail_back levels es h class v p q rest low high e =
     let back = list_back 125 (λ (before : List Part). part_at (enclosed_at levels)) text_of_part Follows (125 ∷ rest) 1 rest (part_ends levels rest) parts (number_end + 1) q (parts_back levels es [] h) place in
     rw (text, version, opened_braces levels class (pos v) number_end (texts ++ 125 ∷ rest), back) refl
 
-pub object_back : (levels : ℕ) (es : List KnownPart) → list_all (λ p. part_within p.name (readability_of p.value) levels) (map (λ e. e.0) es) ≡ true → (class : List ℕ) (v : ℕ) → is_name_text class ≡ true → 1 ≤ v → v ≤ 32767 →
+-- the parts of an object whose text says all of it
+pub record ReadableParts (levels : ℕ) (es : List KnownPart) : Type 0 where
+  pub within : list_all (λ p. part_within p.name (readability_of p.value) levels) (map (λ e. e.0) es) ≡ true
+  pub first : are_bases_first true (map (λ p. p.name) (map (λ e. e.0) es)) ≡ true
+
+pub object_back : (levels : ℕ) (es : List KnownPart) → ReadableParts levels es → (class : List ℕ) (v : ℕ) → is_name_text class ≡ true → 1 ≤ v → v ≤ 32767 →
     ObjectBack (suc levels) (Object class (pos v) (map (λ e. e.0) es))
 object_back levels es h class v named low high =
     let parts = map (λ (e : KnownPart). e.0) es in
+    let between : between_braces (map printed_part parts) ≡ separated text_of_part parts =
+    ap (λ (ts : List (List ℕ)). separated (λ (t : List ℕ). t) ts) (readable_texts levels true es h.within h.first) ∙ separated-map (λ (t : List ℕ). t) text_of_part parts in
     record {
       class = class;
       tail = object_tail v parts;
       named = named;
-      parts = text_of-Object class (pos v) parts ∙ rw (name_as_it_is class named) (simp append_assoc);
-      back = λ p q rest f e. object_tail_back levels es h class v p q rest low high e;
+      lone = ap (λ (p : PrintedValue). p.is_object) (printed-Object class (pos v) parts);
+      parts = text_of-Object class (pos v) parts ∙ rw (name_as_it_is class named, between) (simp append_assoc);
+      back = λ p q rest f e. object_tail_back levels es h.within class v p q rest low high e;
     }

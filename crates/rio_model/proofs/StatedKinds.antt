@@ -12,7 +12,7 @@ use Rattle.rio_types.specs.declared.kind.Primitive.{Primitive}
 use Rattle.rio_token.specs.Tokens.{behind}
 use Rattle.rio_token.specs.Reading.{mark_at, marked, name_at, next_word, num_between_at, some_if, taken_at, version_at, word_that_at}
 use Rattle.rio_token.specs.Words.{num_between_of, num_of}
-use Rattle.rio_model.specs.ClassGrammar.{and_then, counted_by, dimension_of, fixed_or, has_i32, kind_at, plain_at, primitive_at, primitive_of, sized_at}
+use Rattle.rio_model.specs.ClassGrammar.{counted_by, dimension_of, fixed_or, has_i32, kind_at, plain_at, primitive_at, primitive_of, sized_at}
 use Rattle.rio_model.specs.Stated.{is_class_version, is_class_word}
 
 -- ---- single tokens
@@ -89,14 +89,14 @@ module _ (before : List Member) where
   unfolding dimension_of
   dimension_ok of word k h = fixed_ok of word (num_between_of 1 100000 word) k refl h
 
-  next_dimension : (of : Primitive) (o : Option (List ℕ)) (k : Kind) → and_then (dimension_of before of) o ≡ Some k → is_raw_kind before k ≡ true
+  next_dimension : (of : Primitive) (o : Option (List ℕ)) (k : Kind) → option_and_then (dimension_of before of) o ≡ Some k → is_raw_kind before k ≡ true
   next_dimension of None k h = absurd (cc)
   next_dimension of (Some word) k h = dimension_ok of word k h
 
   sized_ok : (of : Primitive) (s : At) (y : Kind × At) → sized_at before of s ≡ Ok y → is_raw_kind before y.0 ≡ true
   unfolding sized_at
   sized_ok of s y h =
-      let dimension = and_then (dimension_of before of) (next_word s) in
+      let dimension = option_and_then (dimension_of before of) (next_word s) in
       let a = bind_ok (taken_at dimension s) (λ kind. mark_at 93 kind.1 >>= λ close. Ok (kind.0, close.1)) y h in
       let b = bind_ok (mark_at 93 a.0.1) (λ close. Ok (a.0.0, close.1)) y a.2 in
       let same : a.0.0 ≡ y.0 = ap (λ (q : Kind × At). q.0) (ok_is (a.0.0, b.0.1) y b.2) in

@@ -3,7 +3,7 @@
 --   class = "class" NAME NUM [":" NAME {"," NAME}] "{" [NAME ":" kind {"," NAME ":" kind}] "}"
 --   kind  = prim | prim "[" (NUM | NAME) "]" | "text" | NAME | NAME "*"
 --   prim  = i8 i16 i32 i64 u8 u16 u32 u64 bool f32 f64 (one of)
-use Rattle.std.specs.Prelude.{ℕ, ◌+◌, ◌*◌, ◌%◌, ◌^◌, pos, List, [], codes, map, Option, Some, None, Result, Ok, Err, Bool, true, false, ◌&&◌, not, if◌then◌else◌}
+use Rattle.std.specs.Prelude.{ℕ, ◌+◌, ◌*◌, ◌%◌, ◌^◌, pos, List, [], codes, map, Option, Some, None, option_and_then, Result, Ok, Err, Bool, true, false, ◌&&◌, not, if◌then◌else◌}
 use Rattle.std.specs.List.{fold, list_any}
 use Rattle.std.specs.Str.{bytes_eq}
 use Rattle.rio_num.specs.At.{At}
@@ -13,10 +13,12 @@ use Rattle.rio_types.specs.declared.class.Base.{Base}
 use Rattle.rio_types.specs.declared.class.ClassDef.{ClassDef}
 use Rattle.rio_types.specs.declared.class.Member.{Member}
 use Rattle.rio_types.specs.declared.kind.Kind.{Kind}
-use Rattle.rio_types.specs.declared.kind.Kind.TheVariants.{Plain, Counter, Fixed, Counted, Text, Inline, Pointer, Other}
+use Rattle.rio_types.specs.declared.kind.Kind.TheVariants.{Plain, Counter, Fixed, Counted, Text, Inline, Pointer}
 use Rattle.rio_types.specs.declared.kind.Primitive.{Primitive}
 use Rattle.rio_types.specs.declared.kind.Primitive.TheVariants.{I8, I16, I32, I64, U8, U16, U32, U64, Bool as Truth, F32, F64}
 use Rattle.rio_token.specs.declared.fault.TextFault.{TextFault}
+use Rattle.rio_token.specs.Further.{EndsFurther}
+use Rattle.rio_token.specs.Marks.{asterisk, closing_brace, closing_bracket, colon, opening_brace, opening_bracket}
 use Rattle.rio_token.specs.Tokens.{behind, standing_in}
 use Rattle.rio_token.specs.Words.{num_between_of}
 use Rattle.rio_token.specs.Reading.{Read, taken_at, some_if, next_word, marked, mark_at, name_at, word_that_at, keyword_at, version_at, end_at, list_at, some_at}
@@ -41,28 +43,13 @@ primitive_of word =
     else None
 
 abbrev pub is_i32_of : Primitive → Bool
-is_i32_of I8 = false
-is_i32_of I16 = false
 is_i32_of I32 = true
-is_i32_of I64 = false
-is_i32_of U8 = false
-is_i32_of U16 = false
-is_i32_of U32 = false
-is_i32_of U64 = false
-is_i32_of Truth = false
-is_i32_of F32 = false
-is_i32_of F64 = false
+is_i32_of other = false
 
 -- an i32 that may count
 abbrev pub is_i32 : Kind → Bool
 is_i32 (Plain of) = is_i32_of of
-is_i32 Counter = false
-is_i32 (Fixed of count) = false
-is_i32 (Counted of counter) = false
-is_i32 Text = false
-is_i32 (Inline class) = false
-is_i32 (Pointer class) = false
-is_i32 (Other code) = false
+is_i32 other = false
 
 -- whether one of the members has the name, and is an i32
 abbrev pub has_i32 : List Member → List ℕ → Bool
@@ -79,20 +66,20 @@ fixed_or of None other = other
 unfoldable pub dimension_of : List Member → Primitive → List ℕ → Option Kind
 dimension_of before of word = fixed_or of (num_between_of 1 100000 word) (counted_by before of word)
 
-abbrev pub and_then : {A B : Type 0} → (A → Option B) → Option A → Option B
-and_then f (Some x) = f x
-and_then f None = None
+-- what stands in square brackets
+abbrev pub dimension_at : List Member → Primitive → At → Read Kind
+dimension_at before of s = taken_at (option_and_then (dimension_of before of) (next_word s)) s
 
 -- a list of values, behind its opening bracket
 unfoldable pub sized_at : List Member → Primitive → At → Read Kind
 sized_at before of s = do
-  kind ← taken_at (and_then (dimension_of before of) (next_word s)) s
-  close ← mark_at 93 kind.1
+  kind ← dimension_at before of s
+  close ← mark_at closing_bracket kind.1
   Ok (kind.0, close.1)
 
 -- a kind that begins with a primitive one
 abbrev pub primitive_at : List Member → Primitive → At → Read Kind
-primitive_at before of s = if marked 91 s then sized_at before of (behind s) else Ok (Plain of, s)
+primitive_at before of s = if marked opening_bracket s then sized_at before of (behind s) else Ok (Plain of, s)
 
 -- a kind behind its first word, which is no pointer's
 abbrev pub plain_at : List Member → List ℕ → Option Primitive → At → Read Kind
@@ -103,7 +90,7 @@ plain_at before word None s = if bytes_eq word (codes "text") then Ok (Text, s) 
 unfoldable pub kind_at : List Member → At → Read Kind
 kind_at before s = do
   word ← name_at s
-  if marked 42 word.1
+  if marked asterisk word.1
       then Ok (Pointer word.0, behind word.1)
       else plain_at before word.0 (primitive_of word.0) word.1
 
@@ -115,12 +102,16 @@ member name kind = record { name = name; kind = kind; title = [] }
 abbrev pub has_member : List Member → List ℕ → Bool
 has_member members name = list_any (λ m. bytes_eq m.name name) members
 
--- a member, whose name none before has
+-- the name of a member, which none before has
+abbrev pub is_new_member : List Member → List ℕ → Bool
+is_new_member before word = is_name_text word && not (has_member before word)
+
+-- a member
 unfoldable pub member_at : List Member → At → Read Member
 member_at before s = do
-  name ← word_that_at (λ word. is_name_text word && not (has_member before word)) s
-  colon ← mark_at 58 name.1
-  kind ← kind_at before colon.1
+  name ← word_that_at (is_new_member before) s
+  passed ← mark_at colon name.1
+  kind ← kind_at before passed.1
   Ok (member name.0 kind.0, kind.1)
 
 abbrev pub has_base : List Base → List ℕ → Bool
@@ -129,28 +120,27 @@ has_base bases name = list_any (λ b. bytes_eq b.name name) bases
 abbrev pub base : List ℕ → Base
 base name = record { name = name; version = pos 0 }
 
--- a base, whose name none before has
+-- the name of a base, which none before has
+abbrev pub is_new_base : List Base → List ℕ → Bool
+is_new_base before word = is_name_text word && not (has_base before word)
+
+-- a base, in no version yet
 unfoldable pub base_at : List Base → At → Read Base
 base_at before s = do
-  name ← word_that_at (λ word. is_name_text word && not (has_base before word)) s
+  name ← word_that_at (is_new_base before) s
   Ok (base name.0, name.1)
 
 -- the bases, if there are any, and the opening brace
 unfoldable pub bases_at : At → Read (List Base)
 bases_at s =
-    if marked 58 s then some_at 123 base_at (behind s) else (mark_at 123 s >>= λ opening. Ok ([], opening.1))
+    if marked colon s then some_at opening_brace base_at (behind s)
+    else (mark_at opening_brace s >>= λ opening. Ok ([], opening.1))
 
 -- ---- counters
 
 abbrev pub counts_by : Kind → List ℕ → Bool
-counts_by (Plain of) name = false
-counts_by Counter name = false
-counts_by (Fixed of count) name = false
 counts_by (Counted of counter) name = bytes_eq counter name
-counts_by Text name = false
-counts_by (Inline class) name = false
-counts_by (Pointer class) name = false
-counts_by (Other code) name = false
+counts_by other name = false
 
 -- whether one of the members is counted by the name
 abbrev pub is_counted_by : List Member → List ℕ → Bool
@@ -190,7 +180,7 @@ class_at s = do
   name ← name_at keyword.1
   version ← version_at name.1
   bases ← bases_at version.1
-  members ← list_at 125 member_at bases.1
+  members ← list_at closing_brace member_at bases.1
   done ← end_at members.1
   Ok (class_of name.0 version.0 bases.0 members.0, done.1)
 
@@ -201,3 +191,7 @@ only_class (Err e) = Err e
 -- the class that a text declares from the place on, up to its end
 abbrev pub class_in : List ℕ → ℕ → Result ClassDef TextFault
 class_in text place = only_class (class_at (standing_in place text))
+
+-- where a class was read, reading stands further on in the same text
+abbrev pub ClassesEndFurther : Type 0
+ClassesEndFurther = (s : At) → EndsFurther s (class_at s)

@@ -1,15 +1,15 @@
 -- Which classes may be declared, and what a declaration adds to the declared ones.
-use Rattle.std.specs.Prelude.{◌≡◌, ◌≤◌, ℕ, ℤ, pos, List, [], ◌∷◌, ◌++◌, length, map, codes, Bool, true, false, ◌&&◌, ◌||◌, is_some, IsTrue}
+use Rattle.std.specs.Prelude.{ℕ, zero, suc, ◌+◌, ℤ, pos, List, [], ◌∷◌, ◌++◌, length, map, codes, Bool, true, false, not, ◌&&◌, ◌||◌, ◌==◌, nat_le, Option, Some, None, is_some, if◌then◌else◌, IsTrue, ◌↔◌}
 use Rattle.std.specs.List.{list_all, list_any}
-use Rattle.std.specs.Option.{option_map_or}
+use Rattle.std.specs.Option.{option_map_or, option_or}
 use Rattle.std.specs.Str.{bytes_eq}
 use Rattle.rio_types.specs.Classes.{find_in, newest_in}
 use Rattle.rio_types.specs.declared.class.Base.{Base}
 use Rattle.rio_types.specs.declared.class.ClassDef.{ClassDef}
 use Rattle.rio_types.specs.declared.kind.Kind.{Kind}
-use Rattle.rio_types.specs.declared.kind.Kind.TheVariants.{Plain, Counter, Fixed, Counted, Text, Inline, Pointer, Other}
+use Rattle.rio_types.specs.declared.kind.Kind.TheVariants.{Inline, Pointer}
 use Rattle.rio_model.specs.declared.declare.DeclareFault.{DeclareFault}
-use Rattle.rio_model.specs.declared.declare.DeclareFault.TheVariants.{NoSuchClass, SameVersion, HoldsItself, TooMany, NoMemory}
+use Rattle.rio_model.specs.declared.declare.DeclareFault.TheVariants.{NoSuchClass, SameVersion, HoldsItself, TooMany}
 
 -- ---- names in a declaration
 
@@ -33,35 +33,42 @@ abbrev pub knows_base : List ClassDef → ClassDef → Base → Bool
 knows_base classes class b = is_known classes class b.name || is_built_in_base b.name
 
 abbrev pub knows_kind : List ClassDef → ClassDef → Kind → Bool
-knows_kind classes class (Plain of) = true
-knows_kind classes class Counter = true
-knows_kind classes class (Fixed of count) = true
-knows_kind classes class (Counted of counter) = true
-knows_kind classes class Text = true
 knows_kind classes class (Inline name) = is_known classes class name
 knows_kind classes class (Pointer name) = is_known classes class name || is_built_in_target name
-knows_kind classes class (Other code) = true
+knows_kind classes class other = true
 
 -- each class that a base or a member names may stand there
 abbrev pub knows_all : List ClassDef → ClassDef → Bool
 knows_all classes class = list_all (knows_base classes class) class.bases && list_all (λ m. knows_kind classes class m.kind) class.members
 
+-- the byte is an upper-case letter, A to Z
+abbrev pub is_capital : ℕ → Bool
+is_capital byte = nat_le 65 byte && nat_le byte 90
+
+-- The name begins with T (84) and an upper-case letter: it is left to the classes that come with the format.
+abbrev pub is_reserved_name : List ℕ → Bool
+is_reserved_name [] = false
+is_reserved_name (first ∷ []) = false
+is_reserved_name (first ∷ second ∷ rest) = (first == 84) && is_capital second
+
 -- ---- classes that hold others by value
+
+-- a member is an object of a class whose name passes
+abbrev pub any_inline : (List ℕ → Bool) → Kind → Bool
+any_inline test (Inline class) = test class
+any_inline test other = false
+
+-- the name of a base, or of the class of a member by value, passes
+abbrev pub any_within : (List ℕ → Bool) → ClassDef → Bool
+any_within test c = list_any (λ b. test b.name) c.bases || list_any (λ m. any_inline test m.kind) c.members
 
 -- a member is an object of the class
 abbrev pub is_inline : List ℕ → Kind → Bool
-is_inline name (Plain of) = false
-is_inline name Counter = false
-is_inline name (Fixed of count) = false
-is_inline name (Counted of counter) = false
-is_inline name Text = false
-is_inline name (Inline class) = bytes_eq name class
-is_inline name (Pointer class) = false
-is_inline name (Other code) = false
+is_inline name kind = any_inline (bytes_eq name) kind
 
 -- the name is that of a base, or of the class of a member by value
 abbrev pub has_within : ClassDef → List ℕ → Bool
-has_within c name = list_any (λ b. bytes_eq name b.name) c.bases || list_any (λ m. is_inline name m.kind) c.members
+has_within c name = any_within (bytes_eq name) c
 
 -- a class of the outer name has the inner one within, in whatever version
 abbrev pub holds : List ClassDef → List ℕ → List ℕ → Bool
@@ -76,31 +83,42 @@ IsWay classes first (next ∷ between) last = IsTrue (holds classes first next) 
 abbrev pub Reaches : List ClassDef → List ℕ → List ℕ → Type 0
 Reaches classes first last = (between : List (List ℕ)) × IsWay classes first between last
 
+-- what the classes hold is declared among them, or it is a built-in class that may be a base
+abbrev pub IsClosed : List ClassDef → Type 0
+IsClosed classes = (outer inner : List ℕ) → IsTrue (holds classes outer inner) → IsTrue (is_declared classes inner || is_built_in_base inner)
+
+-- the first name reaches the last in at most so many steps
+unfoldable pub reaches : ℕ → List ClassDef → List ℕ → List ℕ → Bool
+reaches zero classes first last = false
+reaches (suc levels) classes first last =
+    list_any (λ c. bytes_eq c.name first && any_within (λ next. bytes_eq last next || reaches levels classes next last) c) classes
+
+-- The class would reach its own name through bases and members by value, over all versions of all classes: a way that meets
+-- no class twice has as many steps at most as there are classes.
+abbrev pub holds_itself : List ClassDef → ClassDef → Bool
+holds_itself classes class = reaches (length classes + 1) (classes ++ class ∷ []) class.name class.name
+
 -- ---- refusals
 
 -- how many classes can be declared
 abbrev pub class_limit : ℕ
 class_limit = 4096
 
--- the class breaks the rule of the fault
-abbrev pub Breaks : List ClassDef → ClassDef → DeclareFault → Type 0
-Breaks classes class NoSuchClass = ¬ IsTrue (knows_all classes class)
-Breaks classes class SameVersion = IsTrue (is_some (find_in classes class.name class.version))
-Breaks classes class HoldsItself = Reaches (classes ++ class ∷ []) class.name class.name
-Breaks classes class TooMany = class_limit ≤ length classes
-Breaks classes class NoMemory = ⊥
+-- the first rule that the declaration breaks, of those that speak of its classes
+abbrev pub rule_fault : List ClassDef → ClassDef → Option DeclareFault
+rule_fault classes class =
+    if not (knows_all classes class) then Some NoSuchClass
+    else if is_some (find_in classes class.name class.version) then Some SameVersion
+    else if holds_itself classes class then Some HoldsItself
+    else None
 
--- it is the first fault whose rule the class breaks
-abbrev pub IsRefused : List ClassDef → ClassDef → DeclareFault → Type 0
-IsRefused classes class NoSuchClass = Breaks classes class NoSuchClass
-IsRefused classes class SameVersion = ¬ Breaks classes class NoSuchClass × Breaks classes class SameVersion
-IsRefused classes class HoldsItself = ¬ Breaks classes class NoSuchClass × ¬ Breaks classes class SameVersion × Breaks classes class HoldsItself
-IsRefused classes class TooMany = ¬ Breaks classes class NoSuchClass × ¬ Breaks classes class SameVersion × ¬ Breaks classes class HoldsItself × Breaks classes class TooMany
-IsRefused classes class NoMemory = ⊥
+-- it would be one class too many
+abbrev pub limit_fault : List ClassDef → Option DeclareFault
+limit_fault classes = if nat_le class_limit (length classes) then Some TooMany else None
 
--- the class breaks no rule
-abbrev pub IsDeclarable : List ClassDef → ClassDef → Type 0
-IsDeclarable classes class = ¬ Breaks classes class NoSuchClass × ¬ Breaks classes class SameVersion × ¬ Breaks classes class HoldsItself × ¬ Breaks classes class TooMany
+-- the first fault of the declaration, if it has one
+abbrev pub declare_fault : List ClassDef → ClassDef → Option DeclareFault
+declare_fault classes class = option_or (rule_fault classes class) (limit_fault classes)
 
 -- ---- the declared class
 
@@ -117,14 +135,6 @@ declared classes class = record class { bases = map (base_declared classes) clas
 
 -- ---- laws
 
--- some answer is right
-abbrev pub SomeAnswer : Type 0
-SomeAnswer = (classes : List ClassDef) (class : ClassDef) → ¬ IsDeclarable classes class → ((fault : DeclareFault) → ¬ IsRefused classes class fault) → ⊥
-
--- no two faults are right
-abbrev pub OneFault : Type 0
-OneFault = (classes : List ClassDef) (class : ClassDef) (fault other : DeclareFault) → IsRefused classes class fault → IsRefused classes class other → fault ≡ other
-
--- where a fault is right the class can't be declared
-abbrev pub FaultRefuses : Type 0
-FaultRefuses = (classes : List ClassDef) (class : ClassDef) (fault : DeclareFault) → IsRefused classes class fault → ¬ IsDeclarable classes class
+-- the test of a class that would hold itself is right: it reaches its own name
+abbrev pub HoldingIsReaching : Type 0
+HoldingIsReaching = (classes : List ClassDef) (class : ClassDef) → IsTrue (holds_itself classes class) ↔ Reaches (classes ++ class ∷ []) class.name class.name

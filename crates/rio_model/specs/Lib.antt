@@ -1,9 +1,12 @@
 pub mod ClassGrammar
 pub mod ClassText
 pub mod Declaring
+pub mod Described
 pub mod Lists
 pub mod OneLine
 pub mod Readable
+pub mod Resolving
+pub mod StateClasses
 pub mod Stated
 pub mod ValueGrammar
 pub mod ValueText

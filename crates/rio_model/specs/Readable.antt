@@ -1,5 +1,5 @@
 -- Values of which the text says everything: what a script may hold.
-use Rattle.std.specs.Prelude.{◌≡◌, ◌⊎◌, ℕ, ◌+◌, ◌-◌, ◌^◌, ℤ, pos, negsuc, List, [], ◌∷◌, ◌++◌, length, nat_lt, Ok, Bool, true, false, ◌==◌, ◌&&◌, if◌then◌else◌}
+use Rattle.std.specs.Prelude.{◌≡◌, ◌⊎◌, ℕ, ◌+◌, ◌-◌, ◌^◌, ℤ, pos, negsuc, List, [], ◌∷◌, ◌++◌, length, map, nat_lt, Ok, Bool, true, false, ◌==◌, ◌&&◌, if◌then◌else◌}
 use Rattle.std.specs.List.{list_all}
 use Rattle.rio_num.specs.Word.{is_name_text}
 use Rattle.rio_value.specs.declared.value.Value.{Value}
@@ -22,31 +22,57 @@ abbrev pub is_number : ℤ → Bool
 is_number (pos n) = nat_lt n (2 ^ 64)
 is_number (negsuc n) = nat_lt n (2 ^ 63)
 
+-- the same of a part
+pub record PartReadability : Type 0 where
+  pub name : List ℕ
+  pub within : ℕ → Bool
+
 -- a part: one without a name is a base, which is an object
 abbrev pub part_within : List ℕ → Readability → ℕ → Bool
 part_within name value levels = value.within levels && (if length name == 0 then value.object else is_name_text name)
 
+abbrev pub part_readable : List ℕ → Readability → PartReadability
+part_readable name value = record { name = name; within = part_within name value }
+
+-- the empty ones among the names stand at the front
+abbrev pub are_bases_first : Bool → List (List ℕ) → Bool
+are_bases_first front [] = true
+are_bases_first front (name ∷ names) =
+    let is_base = length name == 0 in (if is_base then front else true) && are_bases_first is_base names
+
+-- parts: the bases stand at the front
+abbrev pub are_parts_within : List PartReadability → ℕ → Bool
+are_parts_within parts levels = list_all (λ p. p.within levels) parts && are_bases_first true (map (λ p. p.name) parts)
+
 -- one layer of a value
-abbrev pub readable_step : Value-F Readability (ℕ → Bool) → Readability
+abbrev pub readable_step : Value-F Readability PartReadability → Readability
 readable_step (Int z) = single (is_number z)
 readable_step (Bits32 n) = single (nat_lt n (2 ^ 32))
 readable_step (Bits64 n) = single (nat_lt n (2 ^ 64))
 readable_step (Truth b) = single true
 readable_step (Text text) = single (list_all (λ b. nat_lt b 256) text)
-readable_step (Items items) = record { within = λ levels. nat_lt 0 levels && list_all (λ v. v.within (levels - 1)) items; object = false }
+readable_step (Items items) = record {
+  within = λ levels. nat_lt 0 levels && list_all (λ v. v.within (levels - 1)) items;
+  object = false;
+}
 readable_step (Object class version parts) = record {
-  within = λ levels. nat_lt 0 levels && is_name_text class && is_class_version version && list_all (λ p. p (levels - 1)) parts;
+  within = λ levels.
+      nat_lt 0 levels && is_name_text class && is_class_version version && are_parts_within parts (levels - 1);
   object = true;
 }
-readable_step (Pointed label object) = record { within = λ levels. nat_lt label (2 ^ 32) && object.object && object.within levels; object = false }
+readable_step (Pointed label object) = record {
+  within = λ levels. nat_lt label (2 ^ 32) && object.object && object.within levels;
+  object = false;
+}
 readable_step Null = single true
 readable_step (Back label) = single (nat_lt label (2 ^ 32))
 readable_step (Opaque class len) = single false
 
 unfoldable pub readability_of : Value → Readability
-readability_of = fold-Value Readability (ℕ → Bool) readable_step (λ p. part_within p.name p.value)
+readability_of = fold-Value Readability PartReadability readable_step (λ p. part_readable p.name p.value)
 
--- numbers are in range, names are names, versions are versions, bases are objects, nothing is opaque, and brackets go no deeper than they may
+-- numbers are in range, names are names, versions are versions, bases are objects and stand before the members,
+-- nothing is opaque, and brackets go no deeper than they may
 abbrev pub is_readable : Value → Bool
 is_readable v = (readability_of v).within bracket_limit
 
@@ -58,4 +84,5 @@ Follows (b ∷ bs) = (b ≡ 44) ⊎ ((b ≡ 93) ⊎ (b ≡ 125))
 -- the text of a value is read as the value, wherever it stands
 abbrev pub ValuesAreRead : Type 0
 ValuesAreRead = (front rest : List ℕ) (v : Value) → is_readable v ≡ true → Follows rest
-    → value_in (front ++ (text_of_value v ++ rest)) (length front) ≡ Ok (v, record { place = length front + length (text_of_value v); rest = rest })
+    → value_in (front ++ (text_of_value v ++ rest)) (length front)
+    ≡ Ok (v, record { place = length front + length (text_of_value v); rest = rest })

@@ -4,7 +4,7 @@
 --   object = NAME ["#" NUM] "{" [part {"," part}] "}"
 --   part   = object | NAME ":" value
 --   list   = "[" [value {"," value}] "]"
-use Rattle.std.specs.Prelude.{ℕ, zero, suc, ℤ, pos, List, [], codes, Option, Some, None, Result, Ok, Err, Bool, true, false, ◌==◌, ◌&&◌, ◌||◌, if◌then◌else◌}
+use Rattle.std.specs.Prelude.{ℕ, zero, suc, ◌-◌, ℤ, pos, List, [], codes, Option, Some, None, Result, Ok, Err, Bool, true, false, ◌==◌, ◌&&◌, ◌||◌, if◌then◌else◌}
 use Rattle.std.specs.Str.{bytes_eq}
 use Rattle.rio_num.specs.At.{At}
 use Rattle.rio_num.specs.Reading.{◌>>=◌}
@@ -12,10 +12,12 @@ use Rattle.rio_num.specs.Word.{is_name_text}
 use Rattle.rio_value.specs.declared.value.Value.{Value, Int, Bits32, Bits64, Bool as Truth, Text as Chars, List as Items, Object, Pointed, Null, Back}
 use Rattle.rio_value.specs.declared.value.Part.{Part}
 use Rattle.rio_token.specs.declared.token.Token.{Token}
-use Rattle.rio_token.specs.declared.token.Token.TheVariants.{Word, Text, Mark, Bad, Cut, End}
+use Rattle.rio_token.specs.declared.token.Token.TheVariants.{Word, Mark}
 use Rattle.rio_token.specs.declared.fault.TextFault.{TextFault}
 use Rattle.rio_token.specs.declared.words.Bits.{Bits}
 use Rattle.rio_token.specs.declared.words.Bits.TheVariants.{Four, Eight}
+use Rattle.rio_token.specs.Further.{EndsFurther}
+use Rattle.rio_token.specs.Marks.{at_sign, closing_brace, closing_bracket, colon, equals_sign, number_sign, opening_brace, opening_bracket}
 use Rattle.rio_token.specs.Tokens.{next_at, behind, standing_in}
 use Rattle.rio_token.specs.Words.{number_of, bits_of}
 use Rattle.rio_token.specs.Reading.{Read, bad_at, marked, mark_at, word_at, name_at, num_at, version_at, string_at, list_at}
@@ -58,7 +60,8 @@ Reader = Enclosed → At → Read Value
 -- the version behind a class, or 0 where none stands there
 unfoldable pub class_version_at : At → Read ℤ
 class_version_at s =
-    if marked 35 s then (version_at (behind s) >>= λ version. Ok (pos version.0, version.1)) else Ok (pos 0, s)
+    if marked number_sign s then (version_at (behind s) >>= λ version. Ok (pos version.0, version.1))
+    else Ok (pos 0, s)
 
 -- an object, behind its class
 unfoldable pub object_at : Reader → List ℕ → At → Read Value
@@ -76,13 +79,13 @@ named_object_at enclosed s = do
 unfoldable pub pointer_at : Reader → At → Read Value
 pointer_at enclosed s = do
   label ← num_at s
-  if marked 61 label.1
+  if marked equals_sign label.1
       then (named_object_at enclosed (behind label.1) >>= λ object. Ok (Pointed label.0 object.0, object.1))
       else Ok (Back label.0, label.1)
 
 -- whether an object goes on behind its class
 abbrev pub opens_object : At → Bool
-opens_object s = marked 123 s || marked 35 s
+opens_object s = marked opening_brace s || marked number_sign s
 
 -- A word that is no value by itself: a name wants an object to go on behind it.
 abbrev pub worded : Option Value → Bool → At → At → Read Value
@@ -104,17 +107,15 @@ text_value_at s = do
 
 abbrev pub marked_value_at : Reader → ℕ → At → Read Value
 marked_value_at enclosed mark s =
-    if mark == 91 then enclosed listed s
-    else if mark == 64 then pointer_at enclosed (behind s)
+    if mark == opening_bracket then enclosed listed s
+    else if mark == at_sign then pointer_at enclosed (behind s)
     else bad_at s
 
+-- where no word, list or pointer begins, only a string may stand
 abbrev pub value_by : Reader → Token → At → Read Value
 value_by enclosed Word s = word_value_at enclosed s
-value_by enclosed Text s = text_value_at s
 value_by enclosed (Mark mark) s = marked_value_at enclosed mark s
-value_by enclosed Bad s = bad_at s
-value_by enclosed Cut s = bad_at s
-value_by enclosed End s = bad_at s
+value_by enclosed other s = text_value_at s
 
 -- a value
 unfoldable pub value_at : Reader → At → Read Value
@@ -127,24 +128,30 @@ part name value = record { name = name; value = value }
 unfoldable pub part_at : Reader → At → Read Part
 part_at enclosed s = do
   name ← name_at s
-  if marked 58 name.1
+  if marked colon name.1
       then (value_at enclosed (behind name.1) >>= λ value. Ok (part name.0 value.0, value.1))
       else (object_at enclosed name.0 name.1 >>= λ object. Ok (part [] object.0, object.1))
 
 -- ---- brackets
 
+-- values in square brackets
+unfoldable pub values_at : Reader → At → Read (List Value)
+values_at inner s = do
+  opening ← mark_at opening_bracket s
+  list_at closing_bracket (λ before. value_at inner) opening.1
+
 -- what stands in brackets, by what stands in those inside
 unfoldable pub enclosed_by : Reader → Reader
 enclosed_by inner listed s = do
-  opening ← mark_at 91 s
-  items ← list_at 93 (λ before. value_at inner) opening.1
+  items ← values_at inner s
   Ok (Items items.0, items.1)
 enclosed_by inner (object_of class version) s = do
-  opening ← mark_at 123 s
-  parts ← list_at 125 (λ before. part_at inner) opening.1
+  opening ← mark_at opening_brace s
+  parts ← list_at closing_brace (λ before. part_at inner) opening.1
   Ok (Object class version parts.0, parts.1)
 
--- What stands in brackets, with at most so many of them within one another. Where none may be opened, an opening one can't stand.
+-- What stands in brackets, with at most so many of them within one another. Where none may be opened, an opening one
+-- can't stand.
 unfoldable pub enclosed_at : ℕ → Reader
 enclosed_at zero what s = bad_at s
 enclosed_at (suc levels) what s = enclosed_by (enclosed_at levels) what s
@@ -152,6 +159,10 @@ enclosed_at (suc levels) what s = enclosed_by (enclosed_at levels) what s
 -- how many brackets may stand within one another
 abbrev pub bracket_limit : ℕ
 bracket_limit = 1024
+
+-- a row: a list of values, whose own brackets are among those that stand within one another
+abbrev pub row_at : At → Read (List Value)
+row_at = values_at (enclosed_at (bracket_limit - 1))
 
 -- the value that a text spells from the place on, and where it ends; behind it anything may stand
 abbrev pub value_in : List ℕ → ℕ → Read Value
@@ -161,3 +172,8 @@ value_in text place = value_at (enclosed_at bracket_limit) (standing_in place te
 abbrev pub value_and_end : Read Value → Result (Value × ℕ) TextFault
 value_and_end (Ok x) = Ok (x.0, x.1.place)
 value_and_end (Err e) = Err e
+
+-- where a value or a row was read, reading stands further on in the same text
+pub record ValuesEndFurther : Type 0 where
+  pub value : (s : At) → EndsFurther s (value_at (enclosed_at bracket_limit) s)
+  pub row : (s : At) → EndsFurther s (row_at s)

@@ -1,4 +1,5 @@
-ghost use Rattle.rio_model.specs.Declaring.{FaultRefuses, OneFault, SomeAnswer};
+//! The fault that a declaration is refused for.
+ghost use Rattle.rio_model.specs.Declaring.{HoldingIsReaching};
 
 use rio_num::NoMemory;
 use thiserror::Error;
@@ -29,9 +30,7 @@ impl From<NoMemory> for DeclareFault {
     }
 }
 
-/// A class can be declared, or is refused for one fault: one of these answers is right, and no second one.
-pub fn has_one_answer()
-    ensures some { SomeAnswer }
-    ensures one { OneFault }
-    ensures apart { FaultRefuses }
+/// A class is found to hold itself exactly where it reaches its own name through bases and members by value.
+pub fn holding_is_reaching()
+    ensures { HoldingIsReaching }
 {}

@@ -1,11 +1,19 @@
-//! The texts of values and of classes, printed and read, and which classes may be declared. Definitions that contracts
-//! cite, in `specs/`, laws about them, and the fault that a declaration is refused for.
+//! The texts of values and of classes, printed and read, which classes may be declared, which lists of classes class
+//! commands can make, and the written class list, read again. Definitions that contracts cite, in `specs/`, laws about
+//! them, and the fault that a declaration is refused for.
 #![tactic(auto)]
 
 mod declare;
 mod laws;
+mod list_laws;
 mod read_laws;
 
-pub use declare::{DeclareFault, has_one_answer};
+pub use declare::{DeclareFault, holding_is_reaching};
 pub use laws::texts_are_one_line;
-pub use read_laws::{printed_classes_are_read, printed_values_are_read, read_classes_are_stated};
+pub use list_laws::{
+    descriptions_have_sums, tree_classes_are_stated, written_bytes_are_read, written_list_is_read,
+};
+pub use read_laws::{
+    class_reading_goes_on, printed_classes_are_read, printed_values_are_read,
+    read_classes_are_stated, value_reading_goes_on,
+};

@@ -1,1 +1,3 @@
+pub mod NameSets
+pub mod BytesEq
 pub mod ReadLaws

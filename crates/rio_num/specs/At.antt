@@ -1,5 +1,5 @@
 -- Where reading stands: the place of the next byte, and the bytes from there on.
-use Rattle.std.specs.Prelude.{◌≡◌, ℕ, ◌+◌, ◌-◌, ◌≤◌, List, [], length, drop, nat_lt, if◌then◌else◌}
+use Rattle.std.specs.Prelude.{◌≡◌, ℕ, ◌+◌, ◌-◌, ◌≤◌, ◌<◌, List, [], length, drop, slice_index, nat_lt, if◌then◌else◌}
 
 pub record At : Type 0 where
   pub place : ℕ
@@ -17,3 +17,7 @@ standing_at base place bytes = record { place = place; rest = if nat_lt place ba
 pub record GoesOn (old new : At) : Type 0 where
   pub forward : old.place ≤ new.place
   pub same_end : end_place new ≡ end_place old
+
+-- numbers from 0 to 255
+abbrev pub AreBytes : List ℕ → Type 0
+AreBytes bytes = (i : ℕ) → slice_index bytes i < 256

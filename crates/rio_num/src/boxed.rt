@@ -1,3 +1,4 @@
+//! Boxes that contracts see as the value that they hold.
 ghost use Rattle.std.specs.Prelude.{◌≡◌, IfOk};
 
 use crate::NoMemory;

@@ -1,3 +1,4 @@
+//! Bytes that grow: numbers, texts and printed integers put at their end.
 ghost use Rattle.std.specs.Prelude.{◌≡◌, ◌+◌, ◌≤◌, ◌++◌, length, take, drop};
 ghost use Rattle.byteorder.specs.Endian.{big_bytes};
 
@@ -231,7 +232,9 @@ impl Bytes {
     /// Writes a number over the four bytes at `place`.
     pub fn patch_u32(&mut self, place: usize, v: u32)
         requires { place + 4 ≤ length self.old.bytes }
-        ensures { self.new ≡ record self.old { bytes = take place self.old.bytes ++ (big_bytes 4 v ++ drop (place + 4) self.old.bytes) } }
+        ensures { self.new ≡ record self.old {
+          bytes = take place self.old.bytes ++ (big_bytes 4 v ++ drop (place + 4) self.old.bytes);
+        } }
     {
         patch_u32(&mut self.items, place, v);
     }
@@ -267,6 +270,18 @@ mod tests {
         let expected =
             br#"-170141183460469231731687303715884105728 70000 0x3f80000a 0x0000000000000009 a+b "a;\"\\\n\t\x00\x7f\xff""#;
         assert!(rt; text.as_slice() == expected.as_slice());
+        Ok(())
+    }
+
+    #[test]
+    fn pads_and_patches(rt: HostRuntime) -> Result<(), Fail> {
+        let mut bytes = Bytes::from_slice(rt.alloc(), b"abcde")?;
+        bytes.pad4()?;
+        assert!(rt; bytes.as_slice() == b"abcde\x00\x00\x00".as_slice());
+        bytes.pad4()?;
+        assert!(rt; bytes.len() == 8);
+        bytes.patch_u32(1, 0x0102_0304);
+        assert!(rt; bytes.as_slice() == b"a\x01\x02\x03\x04\x00\x00\x00".as_slice());
         Ok(())
     }
 }

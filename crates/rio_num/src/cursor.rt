@@ -1,3 +1,4 @@
+//! Numbers and texts read from the front of some bytes.
 ghost use Rattle.std.specs.Prelude.{◌≡◌, ◌≤◌, ◌<◌, ◌^◌, drop};
 ghost use Rattle.rio_num.specs.Reading.{text_head};
 
@@ -22,18 +23,18 @@ pub struct Cursor<'a> {
 
 impl<'a> Model for Cursor<'a> {
     ghost use Rattle.std.specs.Prelude.{◌+◌, ◌<◌, ◌^◌, length};
-    ghost use Rattle.rio_num.specs.At.{At};
+    ghost use Rattle.rio_num.specs.At.{AreBytes, At};
 
     ghost Value = { At };
 
     ghost view = { λ c. record { place = c.place; rest = c.rest.now } };
 
-    ghost invariant = { λ c. c.place + length c.rest.now < 2 ^ 64 };
+    ghost invariant = { λ c. (c.place + length c.rest.now < 2 ^ 64) × AreBytes c.rest.now };
 }
 
 impl<'a> Cursor<'a> {
     ghost use Rattle.std.specs.Prelude.{◌≡◌, ◌+◌, ◌<◌, ◌^◌, length};
-    ghost use Rattle.rio_num.specs.At.{GoesOn, standing_at};
+    ghost use Rattle.rio_num.specs.At.{AreBytes, GoesOn, standing_at};
     ghost use Rattle.rio_num.specs.Reading.{Takes, bytes_at, number_at, text_at, skip_at};
 
     /// Reads from the first of the bytes on, which has the place `base`.
@@ -64,7 +65,8 @@ impl<'a> Cursor<'a> {
 
     /// The place of the next byte.
     pub fn place(&self) -> u64
-        ensures { result ≡ self.now.place }
+        ensures value { result ≡ self.now.place }
+        ensures bytes { AreBytes self.now.rest }
     {
         self.place
     }
@@ -178,5 +180,22 @@ fn text_lengths(bytes: &[u8]) -> (u64, u64)
             }
         }
         [first, ..] => (1, u64::from(*first)),
+    }
+}
+
+#[cfg(test)]
+mod tests {
+    use super::*;
+    use std::test::Fail;
+
+    #[test]
+    fn tells_where_bytes_lack(rt: HostRuntime) -> Result<(), Fail> {
+        let short = Short {
+            place: 7,
+            wanted: 4,
+        };
+        let text = format!(in rt.alloc(); "{short}")?;
+        assert_eq!(rt; text.as_str(), "fewer than 4 bytes are left at 7");
+        Ok(())
     }
 }

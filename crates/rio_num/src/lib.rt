@@ -6,6 +6,7 @@ mod bytes;
 mod cursor;
 mod items;
 mod name;
+mod names;
 mod no_memory;
 mod printed;
 mod word;
@@ -15,8 +16,8 @@ pub use bytes::{Bytes, patch_u32};
 pub use cursor::{Cursor, Short};
 pub use items::Items;
 pub use name::Name;
+pub use names::Names;
 pub use no_memory::NoMemory;
-pub use printed::{printed_name, printed_string};
 pub use word::{is_item, is_name};
 
 /// A list of names, as the words of a command line.

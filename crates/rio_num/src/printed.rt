@@ -1,10 +1,10 @@
-ghost use Rattle.std.specs.Prelude.{◌≡◌, [], ◌∷◌, ◌++◌, ◌<◌, length, IfOk, OnOk};
+//! Names and strings as they are printed.
+ghost use Rattle.std.specs.Prelude.{◌≡◌, ◌<◌, length};
 ghost use Rattle.std.specs.List.{list_all};
 ghost use Rattle.rio_num.specs.Room.{Appends};
 ghost use Rattle.rio_num.specs.Printed.{escaped, hex_digit, hex_text, is_bare, is_bare_name, name_text, string_text};
 
-use crate::{Bytes, Name, NoMemory};
-use std::alloc::Global;
+use crate::{Bytes, NoMemory};
 
 fn hex_digit_of(n: u8) -> u8
     requires { n < 16 }
@@ -31,45 +31,6 @@ pub(crate) fn hex_of(bytes: [u8; 4]) -> [u8; 8]
     ]
 }
 
-// Puts a byte of a string at the end, escaped where it has to be.
-fn push_escaped(text: &mut Name, byte: u8) -> Result<(), NoMemory>
-    ensures { OnOk result (text.new ≡ text.old ++ escaped byte) }
-{
-    match byte {
-        b'"' => push_pair(text, b'\\', b'"'),
-        b'\\' => push_pair(text, b'\\', b'\\'),
-        b'\n' => push_pair(text, b'\\', b'n'),
-        b'\t' => push_pair(text, b'\\', b't'),
-        0x20..=0x7e => text.push(byte),
-        _ => {
-            push_pair(text, b'\\', b'x')?;
-            push_pair(text, hex_digit_of(byte / 16), hex_digit_of(byte % 16))
-        }
-    }
-}
-
-fn push_pair(text: &mut Name, one: u8, other: u8) -> Result<(), NoMemory>
-    ensures { OnOk result (text.new ≡ text.old ++ one ∷ other ∷ []) }
-{
-    text.push(one)?;
-    text.push(other)
-}
-
-/// A text as it is printed in double quotes: `"`, `\`, a line feed and a tab as `\"`, `\\`, `\n` and
-/// `\t`, and every other byte outside 0x20 to 0x7E as `\xHH`.
-#[tactic(auto, unfolding(crate::specs::Printed::string_text))]
-pub fn printed_string(alloc: Global, text: &[u8]) -> Result<Name, NoMemory>
-    ensures { IfOk result (λ printed. printed ≡ string_text text.now) }
-{
-    let mut printed = Name::new(alloc);
-    printed.push(b'"')?;
-    for byte in text {
-        push_escaped(&mut printed, *byte)?;
-    }
-    printed.push(b'"')?;
-    Ok(printed)
-}
-
 fn is_bare_byte(byte: u8) -> bool
     ensures { result ≡ is_bare byte }
 {
@@ -86,19 +47,6 @@ fn is_bare_text(name: &[u8]) -> bool
     ensures { result ≡ is_bare_name name.now }
 {
     !name.is_empty() && are_bare_bytes(name)
-}
-
-/// A name of a file as it is printed: as it is where it isn't empty and all its bytes are 0x21 to 0x7E
-/// other than `"` and `;`, and else as a string.
-#[tactic(auto, unfolding(crate::specs::Printed::name_text))]
-pub fn printed_name(alloc: Global, name: &[u8]) -> Result<Name, NoMemory>
-    ensures { IfOk result (λ printed. printed ≡ name_text name.now) }
-{
-    if is_bare_text(name) {
-        Name::from_slice(alloc, name)
-    } else {
-        printed_string(alloc, name)
-    }
 }
 
 // How many bytes the text is printed in as a string.
@@ -143,7 +91,8 @@ impl Bytes {
         }
     }
 
-    /// Puts a text at the end as it is printed in double quotes, as `printed_string` says.
+    /// Puts a text at the end as it is printed in double quotes: `"`, `\`, a line feed and a tab as `\"`, `\\`,
+    /// `\n` and `\t`, and every other byte outside 0x20 to 0x7E as `\xHH`.
     #[tactic(auto, unfolding(crate::specs::Printed::string_text))]
     pub fn put_string(&mut self, text: &[u8]) -> Result<(), NoMemory>
         ensures { Appends self.old self.new (string_text text.now) result }
@@ -156,7 +105,8 @@ impl Bytes {
         self.push(b'"')
     }
 
-    /// Puts a name of a file at the end as it is printed, as `printed_name` says.
+    /// Puts a name of a file at the end as it is printed: as it is where it isn't empty and all its bytes
+    /// are 0x21 to 0x7E other than `"` and `;`, and else as a string.
     #[tactic(auto, unfolding(crate::specs::Printed::name_text))]
     pub fn put_name(&mut self, name: &[u8]) -> Result<(), NoMemory>
         ensures { Appends self.old self.new (name_text name.now) result }

@@ -1,3 +1,4 @@
+//! Which texts are names and items.
 ghost use Rattle.std.specs.Prelude.{◌≡◌};
 ghost use Rattle.std.specs.List.{list_all};
 ghost use Rattle.rio_num.specs.Word.{goes_on_name, is_item_byte, is_item_text, is_name_text};

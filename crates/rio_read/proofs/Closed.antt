@@ -5,8 +5,8 @@ use Rattle.rio_types.specs.declared.class.ClassDef.{ClassDef}
 use Rattle.rio_value.specs.declared.value.Part.{Part}
 use Rattle.rio_format.specs.Bodies.{Body, described, listed, arrayed, slots_of}
 use Rattle.rio_format.specs.Objects.{Reader, body_at, whole_at, parts_at, list_parts_at, array_parts_at}
-use Rattle.rio_format.specs.ReaderState.{ReaderState}
-use Rattle.rio_format.specs.declared.words.Header.{Header}
+use Rattle.rio_buffer.specs.ReaderState.{ReaderState}
+use Rattle.rio_buffer.specs.declared.words.Header.{Header}
 use Rattle.rio_read.specs.Members.{closed_at}
 
 module _ (object : Reader) (class : List ℕ) (h : Header) (s s1 : ReaderState) (ps : List Part) (b : Body) where

@@ -2,9 +2,10 @@
 use Rattle.std.proofs.Common.{◌≡◌, ℕ, suc, ◌+◌, ◌-◌, ◌<◌, ◌≤◌, List, [], ◌∷◌, ◌++◌, length, drop, slice_index_or, Result, Ok, Err, refl, sym, ap, ◌∙◌, append_assoc, arith}
 use Rattle.std.proofs.lemmas.List.{append-nil, drop_more, drop_all}
 use Rattle.rio_num.specs.Reading.{◌>>=◌}
-use Rattle.rio_format.specs.Objects.{Step, each_at, times_at}
-use Rattle.rio_format.specs.ReaderState.{ReaderState}
-use Rattle.rio_format.specs.declared.fault.ObjFault.{ObjFault}
+use Rattle.rio_buffer.specs.Frames.{Step}
+use Rattle.rio_format.specs.Objects.{each_at, times_at}
+use Rattle.rio_buffer.specs.ReaderState.{ReaderState}
+use Rattle.rio_buffer.specs.declared.fault.ObjFault.{ObjFault}
 use Rattle.rio_read.specs.Lists.{with_front}
 
 module _ {Y S E : Type 0} where

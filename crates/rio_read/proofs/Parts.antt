@@ -8,7 +8,7 @@ use Rattle.rio_types.specs.declared.kind.Kind.TheVariants.{Counter}
 use Rattle.rio_value.specs.declared.value.Value.TheVariants.{outs-Int}
 use Rattle.rio_format.specs.Bodies.{base_slot, slots_of, t_named, t_obj_string}
 use Rattle.rio_format.specs.Objects.{Reader, Within, each_at, member_at, kind_at, number_value_at, text_value_at, parts_at}
-use Rattle.rio_format.specs.ReaderState.{ReaderState}
+use Rattle.rio_buffer.specs.ReaderState.{ReaderState}
 use Rattle.rio_read.proofs.Each.{with_front-none}
 use Rattle.rio_read.specs.Lists.{with_front}
 use Rattle.rio_read.specs.Members.{without_counters, counter_at, named_parts_at, obj_string_parts_at}

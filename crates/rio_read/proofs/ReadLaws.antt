@@ -1,29 +1,25 @@
 -- What is read of data, and what spells it.
-use Rattle.std.proofs.Common.{◌≡◌, ◌≢◌, ℕ, ◌+◌, List, ◌++◌, length, Result, Ok, Err, refl, sym, ap, subst, ◌∙◌, IfOk, IfErr}
+use Rattle.std.proofs.Common.{◌≡◌, ℕ, ◌+◌, List, ◌++◌, length, Result, Ok, Err, refl, ap, subst, IfOk}
 use Rattle.rio_types.specs.declared.class.ClassDef.{ClassDef}
 use Rattle.rio_value.specs.declared.value.Value.{Value}
-use Rattle.rio_format.specs.Laws.{AreBytes}
-use Rattle.rio_format.specs.Objects.{Step, ReadsAs, depth_limit, first_at, object_at, only_value, value_at}
+use Rattle.rio_num.specs.At.{AreBytes}
+use Rattle.rio_buffer.specs.Frames.{Step, ReadsAs}
+use Rattle.rio_format.specs.Objects.{depth_limit, first_at, object_at, only_value, value_at}
 use Rattle.rio_format.specs.Spelling.{Spells}
-use Rattle.rio_format.specs.ReaderState.{ReaderState, standing}
-use Rattle.rio_format.specs.declared.fault.ObjFault.{ObjFault}
-use Rattle.rio_format.specs.declared.fault.ObjFault.TheVariants.{NoMemory}
-use Rattle.rio_faults.specs.ObjectFaults.{BreaksFirst, BreaksObject}
-use Rattle.rio_faults.proofs.AgainObjects.{broken_is_fault, object_fault}
-use Rattle.rio_faults.proofs.OneAnswer.{not_both}
-use Rattle.rio_faults.proofs.ToldObjects.{fault_is_broken, object_told}
+use Rattle.rio_buffer.specs.ReaderState.{ReaderState, standing}
+use Rattle.rio_buffer.specs.declared.fault.ObjFault.{ObjFault}
 use Rattle.rio_format.proofs.AgainObjects.{object_again}
 use Rattle.rio_format.proofs.FoundObjects.{object_found}
 use Rattle.rio_format.proofs.ObjectLaws.{read_is_spelled, spelled_is_read}
 use Rattle.rio_num.proofs.ReadLaws.{ok_is}
-use Rattle.rio_read.specs.Reading.{Answers, IsRead, IsSpelled}
+use Rattle.rio_read.specs.Reading.{Answers, HasFront, IsRead, IsSpelled}
 
 read_at : (read : Step Value) (v : Value) → only_value read ≡ Ok v → (s : ReaderState) × (read ≡ Ok (v, s))
 read_at (Ok x) v e = (x.1, ap (λ (w : Value). let r : Step Value = Ok (w, x.1) in r) (ok_is {E = ObjFault} x.0 v e))
 read_at (Err d) v e = absurd cc
 
 module _ (classes : List ClassDef) (class : List ℕ) (start : ℕ) (bytes : List ℕ) where
-  pub is_found : (read : Result Value ObjFault) → AreBytes bytes → Answers read (value_at classes class start bytes) → IfOk read (λ v. (front : List ℕ) × (rest : List ℕ) × (bytes ≡ front ++ rest) × Spells classes start class v front)
+  pub is_found : (read : Result Value ObjFault) → AreBytes bytes → Answers read (value_at classes class start bytes) → IfOk read (λ v. HasFront classes start class v bytes)
   is_found (Ok v) fits e =
       let at = read_at (first_at classes class start bytes) v e in
       let spelled = read_is_spelled classes class start bytes v at.0 fits at.1 in
@@ -35,29 +31,7 @@ module _ (classes : List ClassDef) (class : List ℕ) (start : ℕ) (bytes : Lis
       let read = spelled_is_read classes class start v front rest spelled in
       rw (e, read.1) refl
 
-  pub is_broken : (read : Result Value ObjFault) → AreBytes bytes → Answers read (value_at classes class start bytes) → IfErr read (λ fault. fault ≢ NoMemory → BreaksFirst classes start class bytes fault)
-  is_broken (Ok v) fits e = tt
-  is_broken (Err d) fits e = λ memory. fault_is_broken classes class start bytes d fits (e memory)
-
-  pub is_refused : (read : Result Value ObjFault) → Answers read (value_at classes class start bytes) → (fault : ObjFault) → BreaksFirst classes start class bytes fault → Answers read (Err fault)
-  is_refused read e fault broken = subst (Answers read) (broken_is_fault classes class start bytes fault broken) e
-
 module _ (classes : List ClassDef) (class : List ℕ) (old new : ReaderState) where
-  abbrev Breaks : ObjFault → Type 0
-  Breaks fault = BreaksObject depth_limit classes class old.at.place old.words old.at.rest fault
-
-  pub breaks : (read : Result Value ObjFault) → AreBytes old.at.rest → ReadsAs (λ (x : Value). x) read (object_at depth_limit classes class old) new → IfErr read (λ fault. fault ≢ NoMemory → Breaks fault)
-  breaks (Ok v) fits e = tt
-  breaks (Err d) fits e = λ memory. object_told depth_limit classes class old d fits (e memory)
-
-  pub refuses : (read : Result Value ObjFault) → ReadsAs (λ (x : Value). x) read (object_at depth_limit classes class old) new → (fault : ObjFault) → Breaks fault → Answers read (Err fault)
-  refuses (Ok v) e fault broken =
-      let gives : object_at depth_limit classes class old ≡ Err fault = object_fault depth_limit classes class old.at.place old.words old.at.rest fault broken in
-      absurd (not_both (object_at depth_limit classes class old) fault (v, new) gives e)
-  refuses (Err d) e fault broken = λ memory.
-      let gives : object_at depth_limit classes class old ≡ Err fault = object_fault depth_limit classes class old.at.place old.words old.at.rest fault broken in
-      ap only_value (sym gives ∙ e memory)
-
   pub is_spelled : (read : Result Value ObjFault) → AreBytes old.at.rest → ReadsAs (λ (x : Value). x) read (object_at depth_limit classes class old) new → IfOk read (λ v. IsSpelled classes class v old new)
   is_spelled (Ok v) fits e =
       let f = object_found depth_limit classes class old v new fits e in

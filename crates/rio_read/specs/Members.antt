@@ -6,10 +6,11 @@ use Rattle.rio_types.specs.declared.class.Member.{Member}
 use Rattle.rio_value.specs.declared.value.Value.{Value, Int, Text, Object}
 use Rattle.rio_value.specs.declared.value.Part.{Part}
 use Rattle.rio_format.specs.Bodies.{part, Counters}
-use Rattle.rio_format.specs.Objects.{Step, Reader, Within, Fails, each_at, finish_at, member_at, base_at, chars_at, word_at, pid_part}
-use Rattle.rio_format.specs.ReaderState.{ReaderState}
-use Rattle.rio_format.specs.declared.fault.ObjFault.{ObjFault}
-use Rattle.rio_format.specs.declared.words.Header.{Header}
+use Rattle.rio_buffer.specs.Frames.{Step, Fails, finish_at, chars_at, word_at}
+use Rattle.rio_format.specs.Objects.{Reader, Within, each_at, member_at, base_at, pid_part}
+use Rattle.rio_buffer.specs.ReaderState.{ReaderState}
+use Rattle.rio_buffer.specs.declared.fault.ObjFault.{ObjFault}
+use Rattle.rio_buffer.specs.declared.words.Header.{Header}
 use Rattle.rio_read.specs.Lists.{with_front}
 
 -- What was returned is what reading gives, and the reader stands at new then, behind these counters.

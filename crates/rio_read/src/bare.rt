@@ -2,21 +2,23 @@
 ghost use Rattle.std.specs.Prelude.{◌≡◌, ◌∷◌, ◌++◌, [], pos, codes, IfOk};
 ghost use Rattle.rio_num.specs.At.{GoesOn};
 ghost use Rattle.rio_format.specs.Bodies.{part};
-ghost use Rattle.rio_format.specs.Objects.{ReadsAs, array_at, bare_at, bare_object, object_at};
+ghost use Rattle.rio_buffer.specs.Frames.{ReadsAs};
+ghost use Rattle.rio_format.specs.Objects.{array_at, bare_at, bare_object, object_at};
 ghost use Rattle.rio_value.specs.declared.value.Value.{Int, Object};
 ghost use Rattle.rio_read.specs.Members.{pid_parts};
 
 use crate::member::part_with;
 use crate::numbers::{read_count, read_numbers};
 use rio_buffer::{ObjFault, ObjReader};
-use rio_layout::width_of;
+use rio_format::width_of;
 use rio_num::{Name, NoMemory};
 use rio_types::{Classes, Prim};
 use rio_value::{Parts, Value};
 use std::alloc::Global;
 
 fn bare_parts(alloc: Global, id: u32, bits: u32) -> Result<Parts, NoMemory>
-    ensures { IfOk result (λ parts. parts ≡ part (codes "fUniqueID") (Int (pos id)) ∷ part (codes "fBits") (Int (pos bits)) ∷ []) }
+    ensures { IfOk result (λ parts. parts
+        ≡ part (codes "fUniqueID") (Int (pos id)) ∷ part (codes "fBits") (Int (pos bits)) ∷ []) }
 {
     let mut parts = Parts::new(alloc);
     parts.push(part_with(alloc, b"fUniqueID", Value::Int(i128::from(id)))?)?;
@@ -74,7 +76,8 @@ pub(crate) fn read_base(
     reader: &mut ObjReader,
     levels: u32,
 ) -> Result<Value, ObjFault>
-    ensures exact { ReadsAs (λ x. x) result (object_at levels classes.now (codes "TObject") reader.old) reader.new }
+    ensures exact { ReadsAs (λ x. x) result
+        (object_at levels classes.now (codes "TObject") reader.old) reader.new }
     ensures goes { GoesOn reader.old.at reader.new.at }
 {
     if levels == 0 {

@@ -2,7 +2,8 @@
 ghost use Rattle.std.specs.Prelude.{◌≡◌, [], ◌∷◌, codes, IfOk};
 ghost use Rattle.rio_num.specs.At.{GoesOn};
 ghost use Rattle.rio_format.specs.Bodies.{part, slots_of, t_named, t_obj_string};
-ghost use Rattle.rio_format.specs.Objects.{ReadsAs, object_at, parts_at};
+ghost use Rattle.rio_buffer.specs.Frames.{ReadsAs};
+ghost use Rattle.rio_format.specs.Objects.{object_at, parts_at};
 ghost use Rattle.rio_value.specs.declared.value.Value.{Text, List as Listing};
 ghost use Rattle.rio_read.specs.Members.{named_parts_at, obj_string_parts_at};
 
@@ -16,7 +17,8 @@ use rio_value::{Parts, Value, Values};
 use std::alloc::Global;
 
 fn named_parts(alloc: Global, base: Value, name: Name, title: Name) -> Result<Parts, NoMemory>
-    ensures { IfOk result (λ parts. parts ≡ part [] base ∷ part (codes "fName") (Text name) ∷ part (codes "fTitle") (Text title) ∷ []) }
+    ensures { IfOk result (λ parts. parts
+        ≡ part [] base ∷ part (codes "fName") (Text name) ∷ part (codes "fTitle") (Text title) ∷ []) }
 {
     let mut parts = Parts::new(alloc);
     parts.push(part_with(alloc, b"", base)?)?;
@@ -26,7 +28,8 @@ fn named_parts(alloc: Global, base: Value, name: Name, title: Name) -> Result<Pa
 }
 
 fn obj_string_parts(alloc: Global, base: Value, text: Name) -> Result<Parts, NoMemory>
-    ensures { IfOk result (λ parts. parts ≡ part [] base ∷ part (codes "fString") (Text text) ∷ []) }
+    ensures { IfOk result (λ parts. parts
+        ≡ part [] base ∷ part (codes "fString") (Text text) ∷ []) }
 {
     let mut parts = Parts::new(alloc);
     parts.push(part_with(alloc, b"", base)?)?;
@@ -41,7 +44,9 @@ pub(crate) fn list_parts(
     name: Name,
     items: Values,
 ) -> Result<Parts, NoMemory>
-    ensures { IfOk result (λ parts. parts ≡ part [] base ∷ part (codes "fName") (Text name) ∷ part (codes "items") (Listing items) ∷ []) }
+    ensures { IfOk result (λ parts. parts
+        ≡ part [] base ∷ part (codes "fName") (Text name)
+        ∷ part (codes "items") (Listing items) ∷ []) }
 {
     let mut parts = Parts::new(alloc);
     parts.push(part_with(alloc, b"", base)?)?;
@@ -58,7 +63,9 @@ pub(crate) fn array_parts(
     lower: Value,
     items: Values,
 ) -> Result<Parts, NoMemory>
-    ensures { IfOk result (λ parts. parts ≡ part [] base ∷ part (codes "fName") (Text name) ∷ part (codes "fLowerBound") lower ∷ part (codes "items") (Listing items) ∷ []) }
+    ensures { IfOk result (λ parts. parts
+        ≡ part [] base ∷ part (codes "fName") (Text name) ∷ part (codes "fLowerBound") lower
+        ∷ part (codes "items") (Listing items) ∷ []) }
 {
     let mut parts = Parts::new(alloc);
     parts.push(part_with(alloc, b"", base)?)?;
@@ -75,7 +82,8 @@ fn read_named(
     reader: &mut ObjReader,
     levels: u32,
 ) -> Result<Parts, ObjFault>
-    ensures exact { ReadsAs (λ x. x) result (named_parts_at (object_at levels classes.now) reader.old) reader.new }
+    ensures exact { ReadsAs (λ x. x) result
+        (named_parts_at (object_at levels classes.now) reader.old) reader.new }
     ensures goes { GoesOn reader.old.at reader.new.at }
 {
     let base = read_base(alloc, classes, reader, levels)?;
@@ -91,7 +99,8 @@ fn read_obj_string(
     reader: &mut ObjReader,
     levels: u32,
 ) -> Result<Parts, ObjFault>
-    ensures exact { ReadsAs (λ x. x) result (obj_string_parts_at (object_at levels classes.now) reader.old) reader.new }
+    ensures exact { ReadsAs (λ x. x) result
+        (obj_string_parts_at (object_at levels classes.now) reader.old) reader.new }
     ensures goes { GoesOn reader.old.at reader.new.at }
 {
     let base = read_base(alloc, classes, reader, levels)?;
@@ -106,7 +115,8 @@ pub(crate) fn read_named_parts(
     reader: &mut ObjReader,
     levels: u32,
 ) -> Result<Parts, ObjFault>
-    ensures exact { ReadsAs (λ x. x) result (parts_at (object_at levels classes.now) (slots_of t_named) reader.old) reader.new }
+    ensures exact { ReadsAs (λ x. x) result
+        (parts_at (object_at levels classes.now) (slots_of t_named) reader.old) reader.new }
     ensures goes { GoesOn reader.old.at reader.new.at }
 {
     read_named(alloc, classes, reader, levels)
@@ -119,7 +129,8 @@ pub(crate) fn read_obj_string_parts(
     reader: &mut ObjReader,
     levels: u32,
 ) -> Result<Parts, ObjFault>
-    ensures exact { ReadsAs (λ x. x) result (parts_at (object_at levels classes.now) (slots_of t_obj_string) reader.old) reader.new }
+    ensures exact { ReadsAs (λ x. x) result
+        (parts_at (object_at levels classes.now) (slots_of t_obj_string) reader.old) reader.new }
     ensures goes { GoesOn reader.old.at reader.new.at }
 {
     read_obj_string(alloc, classes, reader, levels)

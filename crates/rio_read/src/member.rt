@@ -6,7 +6,7 @@ ghost use Rattle.rio_value.specs.declared.value.Value.{Text, List as Listing};
 ghost use Rattle.rio_read.specs.Members.{ReadsWithin, counter_at};
 
 use rio_buffer::{ObjFault, ObjReader};
-use rio_layout::Counters;
+use rio_format::Counters;
 use rio_num::{Name, NoMemory};
 use rio_value::{Part, Value, Values};
 use std::alloc::Global;
@@ -38,7 +38,8 @@ pub(crate) fn read_counter(
     name: &Name,
     counters: &mut Counters,
 ) -> Result<Part, ObjFault>
-    ensures exact { ReadsWithin result (counter_at name.now (reader.old, counters.old)) reader.new counters.new }
+    ensures exact { ReadsWithin result (counter_at name.now (reader.old, counters.old)) reader.new
+        counters.new }
     ensures goes { GoesOn reader.old.at reader.new.at }
 {
     let said = reader.take_u32()?.cast_signed();

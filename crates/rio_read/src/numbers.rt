@@ -1,7 +1,8 @@
 //! Numbers, and lists of them.
 ghost use Rattle.std.specs.Prelude.{◌≡◌, ◌<◌, ◌^◌, IfOk};
 ghost use Rattle.rio_num.specs.At.{GoesOn};
-ghost use Rattle.rio_format.specs.Objects.{ReadsAs, chars_at, count_at, counted_at, filled_at, number_value_at, numbers_at, text_value_at, times_at};
+ghost use Rattle.rio_buffer.specs.Frames.{ReadsAs, chars_at};
+ghost use Rattle.rio_format.specs.Objects.{count_at, counted_at, filled_at, number_value_at, numbers_at, text_value_at, times_at};
 
 use rio_buffer::{ObjFault, ObjReader};
 use rio_num::Name;
@@ -35,7 +36,8 @@ fn read_times(
     of: Prim,
     count: u32,
 ) -> Result<Values, ObjFault>
-    ensures exact { ReadsAs (λ x. x) result (times_at count (number_value_at of) reader.old) reader.new }
+    ensures exact { ReadsAs (λ x. x) result (times_at count (number_value_at of) reader.old)
+        reader.new }
     ensures goes { GoesOn reader.old.at reader.new.at }
 {
     let mut values = Values::new(alloc);

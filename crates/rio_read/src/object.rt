@@ -1,9 +1,10 @@
 //! Objects of the classes that a file describes. A call reads an object with at most `levels` levels of
 //! objects inside.
 ghost use Rattle.std.specs.Prelude.{◌≡◌, [], ◌∷◌};
-ghost use Rattle.rio_num.specs.At.{GoesOn};
+ghost use Rattle.rio_num.specs.At.{AreBytes, GoesOn};
 ghost use Rattle.rio_format.specs.Bodies.{base_slot, form_of, body_of, slots_of, t_named, t_obj_string};
-ghost use Rattle.rio_format.specs.Objects.{ReadsAs, array_parts_at, body_at, each_at, formed_at, headed_at, kind_at, link_at, list_parts_at, member_at, object_at, parts_at, pointer_at, times_at};
+ghost use Rattle.rio_buffer.specs.Frames.{ReadsAs};
+ghost use Rattle.rio_format.specs.Objects.{array_parts_at, body_at, each_at, formed_at, headed_at, kind_at, link_at, list_parts_at, member_at, object_at, parts_at, pointer_at, times_at};
 ghost use Rattle.rio_buffer.specs.Reader.{IsCounted};
 ghost use Rattle.rio_read.specs.Members.{ReadsWithin, members_at};
 
@@ -13,7 +14,7 @@ use crate::member::{link, part_with, read_counter};
 use crate::numbers::{read_count, read_counted, read_name, read_number, read_numbers, read_text};
 use crate::whole::{read_opaque, whole, whole_described};
 use rio_buffer::{Header, ObjFault, ObjReader, PointerWord};
-use rio_layout::{Body, Counters, Shape, body_of, shape_of};
+use rio_format::{BodyKind, Counters, Shape, body_of, shape_of};
 use rio_num::Boxed;
 use rio_types::{Base, ClassDef, Classes, Kind, Member, Prim};
 use rio_value::{Part, Parts, Value, Values};
@@ -29,13 +30,14 @@ pub(crate) fn read_object(
     class: &[u8],
     levels: u32,
 ) -> Result<Value, ObjFault>
-    ensures exact { ReadsAs (λ x. x) result (object_at levels classes.now class.now reader.old) reader.new }
+    ensures exact { ReadsAs (λ x. x) result (object_at levels classes.now class.now reader.old)
+        reader.new }
+    ensures bytes { AreBytes reader.old.at.rest }
     ensures goes { GoesOn reader.old.at reader.new.at }
 {
+    let place = reader.place();
     if levels == 0 {
-        return Err(ObjFault::TooDeep {
-            place: reader.place(),
-        });
+        return Err(ObjFault::TooDeep { place });
     }
     read_formed(alloc, classes, reader, class, levels - 1)
 }
@@ -49,7 +51,9 @@ fn read_formed(
     class: &[u8],
     levels: u32,
 ) -> Result<Value, ObjFault>
-    ensures exact { ReadsAs (λ x. x) result (formed_at (object_at levels classes.now) classes.now class.now (form_of class.now) reader.old) reader.new }
+    ensures exact { ReadsAs (λ x. x) result
+        (formed_at (object_at levels classes.now) classes.now class.now (form_of class.now)
+        reader.old) reader.new }
     ensures goes { GoesOn reader.old.at reader.new.at }
 {
     match shape_of(class) {
@@ -68,7 +72,8 @@ fn read_headed(
     class: &[u8],
     levels: u32,
 ) -> Result<Value, ObjFault>
-    ensures exact { ReadsAs (λ x. x) result (headed_at (object_at levels classes.now) classes.now class.now reader.old) reader.new }
+    ensures exact { ReadsAs (λ x. x) result
+        (headed_at (object_at levels classes.now) classes.now class.now reader.old) reader.new }
     ensures goes { GoesOn reader.old.at reader.new.at }
 {
     let header = reader.header()?;
@@ -86,31 +91,34 @@ fn read_body(
     levels: u32,
 ) -> Result<Value, ObjFault>
     requires { IsCounted header.place header.end reader.old }
-    ensures exact { ReadsAs (λ x. x) result (body_at (object_at levels classes.now) class.now header (body_of classes.now class.now header.version header.sum) reader.old) reader.new }
+    ensures exact { ReadsAs (λ x. x) result
+        (body_at (object_at levels classes.now) class.now header
+        (body_of classes.now class.now header.version header.sum) reader.old) reader.new }
     ensures goes { GoesOn reader.old.at reader.new.at }
 {
-    match body_of(classes, class, &header) {
-        Body::Described(described) => {
+    let body = body_of(classes, class, &header);
+    match body.0 {
+        BodyKind::Described(described) => {
             let parts = read_parts(alloc, classes, reader, described, levels)?;
             whole_described(alloc, reader, class, described, header, parts)
         }
-        Body::Named => {
+        BodyKind::Named => {
             let parts = read_named_parts(alloc, classes, reader, levels)?;
             whole(alloc, reader, class, 1, header, parts)
         }
-        Body::ObjString => {
+        BodyKind::ObjString => {
             let parts = read_obj_string_parts(alloc, classes, reader, levels)?;
             whole(alloc, reader, class, 1, header, parts)
         }
-        Body::Listed => {
+        BodyKind::Listed => {
             let parts = read_list_parts(alloc, classes, reader, levels)?;
             whole(alloc, reader, class, 5, header, parts)
         }
-        Body::Arrayed => {
+        BodyKind::Arrayed => {
             let parts = read_array_parts(alloc, classes, reader, levels)?;
             whole(alloc, reader, class, 3, header, parts)
         }
-        Body::Opaque => read_opaque(alloc, reader, class, header),
+        BodyKind::Opaque => read_opaque(alloc, reader, class, header),
     }
 }
 
@@ -123,7 +131,8 @@ fn read_parts(
     described: &ClassDef,
     levels: u32,
 ) -> Result<Parts, ObjFault>
-    ensures exact { ReadsAs (λ x. x) result (parts_at (object_at levels classes.now) (slots_of described.now) reader.old) reader.new }
+    ensures exact { ReadsAs (λ x. x) result
+        (parts_at (object_at levels classes.now) (slots_of described.now) reader.old) reader.new }
     ensures goes { GoesOn reader.old.at reader.new.at }
 {
     let bases = described.bases.as_slice();
@@ -140,7 +149,9 @@ fn read_bases(
     bases: &[Base],
     levels: u32,
 ) -> Result<Parts, ObjFault>
-    ensures exact { ReadsWithin result (each_at (λ b. member_at (object_at levels classes.now) (base_slot b)) bases.now (reader.old, [])) reader.new [] }
+    ensures exact { ReadsWithin result
+        (each_at (λ b. member_at (object_at levels classes.now) (base_slot b)) bases.now
+        (reader.old, [])) reader.new [] }
     ensures goes { GoesOn reader.old.at reader.new.at }
 {
     let mut parts = Parts::new(alloc);
@@ -159,7 +170,9 @@ fn read_base_part(
     base: &Base,
     levels: u32,
 ) -> Result<Part, ObjFault>
-    ensures exact { ReadsWithin result (member_at (object_at levels classes.now) (base_slot base.now) (reader.old, [])) reader.new [] }
+    ensures exact { ReadsWithin result
+        (member_at (object_at levels classes.now) (base_slot base.now) (reader.old, [])) reader.new
+        [] }
     ensures goes { GoesOn reader.old.at reader.new.at }
 {
     let value = read_object(alloc, classes, reader, base.name.as_slice(), levels)?;
@@ -176,7 +189,8 @@ fn read_members(
     members: &[Member],
     levels: u32,
 ) -> Result<Parts, ObjFault>
-    ensures exact { ReadsAs (λ x. x) result (members_at (object_at levels classes.now) parts members.now reader.old) reader.new }
+    ensures exact { ReadsAs (λ x. x) result
+        (members_at (object_at levels classes.now) parts members.now reader.old) reader.new }
     ensures goes { GoesOn reader.old.at reader.new.at }
 {
     let mut counters = Counters::new(alloc);
@@ -196,7 +210,9 @@ fn read_member(
     counters: &mut Counters,
     levels: u32,
 ) -> Result<Part, ObjFault>
-    ensures exact { ReadsWithin result (member_at (object_at levels classes.now) member.now (reader.old, counters.old)) reader.new counters.new }
+    ensures exact { ReadsWithin result
+        (member_at (object_at levels classes.now) member.now (reader.old, counters.old)) reader.new
+        counters.new }
     ensures goes { GoesOn reader.old.at reader.new.at }
 {
     match &member.kind {
@@ -219,7 +235,8 @@ fn read_kind(
     counters: &Counters,
     levels: u32,
 ) -> Result<Value, ObjFault>
-    ensures exact { ReadsAs (λ x. x) result (kind_at (object_at levels classes.now) counters.now kind.now reader.old) reader.new }
+    ensures exact { ReadsAs (λ x. x) result
+        (kind_at (object_at levels classes.now) counters.now kind.now reader.old) reader.new }
     ensures goes { GoesOn reader.old.at reader.new.at }
 {
     match kind {
@@ -246,7 +263,8 @@ fn read_pointer(
     reader: &mut ObjReader,
     levels: u32,
 ) -> Result<Value, ObjFault>
-    ensures exact { ReadsAs (λ x. x) result (pointer_at (object_at levels classes.now) reader.old) reader.new }
+    ensures exact { ReadsAs (λ x. x) result (pointer_at (object_at levels classes.now) reader.old)
+        reader.new }
     ensures goes { GoesOn reader.old.at reader.new.at }
 {
     match reader.pointer()? {
@@ -277,7 +295,8 @@ fn read_list_parts(
     reader: &mut ObjReader,
     levels: u32,
 ) -> Result<Parts, ObjFault>
-    ensures exact { ReadsAs (λ x. x) result (list_parts_at (object_at levels classes.now) reader.old) reader.new }
+    ensures exact { ReadsAs (λ x. x) result
+        (list_parts_at (object_at levels classes.now) reader.old) reader.new }
     ensures goes { GoesOn reader.old.at reader.new.at }
 {
     let base = read_base(alloc, classes, reader, levels)?;
@@ -295,7 +314,8 @@ fn read_links(
     count: u32,
     levels: u32,
 ) -> Result<Values, ObjFault>
-    ensures exact { ReadsAs (λ x. x) result (times_at count (link_at (object_at levels classes.now)) reader.old) reader.new }
+    ensures exact { ReadsAs (λ x. x) result
+        (times_at count (link_at (object_at levels classes.now)) reader.old) reader.new }
     ensures goes { GoesOn reader.old.at reader.new.at }
 {
     let mut links = Values::new(alloc);
@@ -314,7 +334,8 @@ fn read_link(
     reader: &mut ObjReader,
     levels: u32,
 ) -> Result<Value, ObjFault>
-    ensures exact { ReadsAs (λ x. x) result (link_at (object_at levels classes.now) reader.old) reader.new }
+    ensures exact { ReadsAs (λ x. x) result (link_at (object_at levels classes.now) reader.old)
+        reader.new }
     ensures goes { GoesOn reader.old.at reader.new.at }
 {
     let pointer = read_pointer(alloc, classes, reader, levels)?;
@@ -331,7 +352,8 @@ fn read_array_parts(
     reader: &mut ObjReader,
     levels: u32,
 ) -> Result<Parts, ObjFault>
-    ensures exact { ReadsAs (λ x. x) result (array_parts_at (object_at levels classes.now) reader.old) reader.new }
+    ensures exact { ReadsAs (λ x. x) result
+        (array_parts_at (object_at levels classes.now) reader.old) reader.new }
     ensures goes { GoesOn reader.old.at reader.new.at }
 {
     let base = read_base(alloc, classes, reader, levels)?;
@@ -350,7 +372,8 @@ fn read_pointers(
     count: u32,
     levels: u32,
 ) -> Result<Values, ObjFault>
-    ensures exact { ReadsAs (λ x. x) result (times_at count (pointer_at (object_at levels classes.now)) reader.old) reader.new }
+    ensures exact { ReadsAs (λ x. x) result
+        (times_at count (pointer_at (object_at levels classes.now)) reader.old) reader.new }
     ensures goes { GoesOn reader.old.at reader.new.at }
 {
     let mut pointers = Values::new(alloc);

@@ -1,13 +1,9 @@
-ghost use Rattle.std.specs.Prelude.{◌≡◌, ◌≢◌, ℕ, ◌+◌, ◌<◌, ◌^◌, List, ◌++◌, length, Ok, Err, IfOk, IfErr, IsTrue};
-ghost use Rattle.rio_num.specs.At.{GoesOn};
-ghost use Rattle.rio_faults.specs.ObjectFaults.{BreaksFirst, BreaksObject};
-ghost use Rattle.rio_format.specs.Laws.{AreBytes};
-ghost use Rattle.rio_format.specs.Objects.{ReadsAs, depth_limit, object_at, value_at};
-ghost use Rattle.rio_format.specs.Spelling.{Spells};
-ghost use Rattle.rio_format.specs.declared.fault.ObjFault.{ObjFault as Fault};
-ghost use Rattle.rio_value.specs.declared.value.Value.{Value as Spelled};
-ghost use Rattle.rio_layout.specs.BuiltIn.{is_small_builtin};
-ghost use Rattle.rio_read.specs.Reading.{Answers, IsRead, IsSpelled};
+//! The calls that read objects.
+ghost use Rattle.std.specs.Prelude.{◌+◌, ◌<◌, ◌^◌, length, IfOk, IsTrue};
+ghost use Rattle.rio_num.specs.At.{AreBytes, GoesOn};
+ghost use Rattle.rio_format.specs.Objects.{value_at};
+ghost use Rattle.rio_format.specs.BuiltIn.{is_small_builtin};
+ghost use Rattle.rio_read.specs.Reading.{Answers, AnswersFront, HasFront, IsRead, IsSpelled, ReadsNext};
 
 use crate::object;
 use rio_buffer::{ObjFault, ObjReader};
@@ -31,13 +27,9 @@ pub fn read_object(
     requires places { start + length bytes.now < 2 ^ 64 }
     requires size { length bytes.now < 2 ^ 32 }
     // What is read is spelled by the front of the data.
-    ensures found { IfOk result (λ v. (front : List ℕ) × (rest : List ℕ) × (bytes.now ≡ front ++ rest) × Spells classes.now start class.now v front) }
+    ensures found { IfOk result (λ v. HasFront classes.now start class.now v bytes.now) }
     // What the front of the data spells is read, unless memory runs out.
-    ensures only { (v : Spelled) (front rest : List ℕ) → bytes.now ≡ front ++ rest → Spells classes.now start class.now v front → Answers result (Ok v) }
-    // A fault is the first one of the data: what stands before its place is spelled, and there a rule is broken.
-    ensures broken { IfErr result (λ fault. fault ≢ ObjFault.NoMemory → BreaksFirst classes.now start class.now bytes.now fault) }
-    // The first fault of the data is answered, unless memory runs out.
-    ensures refused { (fault : Fault) → BreaksFirst classes.now start class.now bytes.now fault → Answers result (Err fault) }
+    ensures only { AnswersFront classes.now start class.now bytes.now result }
     // Which value it is, or which fault, as reading from left to right gives it.
     ensures exact { Answers result (value_at classes.now class.now start bytes.now) }
 {
@@ -69,15 +61,12 @@ pub fn read_builtin(
 ) -> Result<Value, ObjFault>
     requires { IsTrue (is_small_builtin class.now) }
     // What is read is spelled by the bytes that were passed.
-    ensures found { AreBytes reader.old.at.rest → IfOk result (λ v. IsSpelled classes.now class.now v reader.old reader.new) }
+    ensures found { IfOk result (λ v. IsSpelled classes.now class.now v reader.old reader.new) }
     // What the front of the bytes spells is read, unless memory runs out.
     ensures only { IsRead classes.now class.now result reader.old reader.new }
-    // A fault is the first one of the bytes.
-    ensures broken { AreBytes reader.old.at.rest → IfErr result (λ fault. fault ≢ ObjFault.NoMemory → BreaksObject depth_limit classes.now class.now reader.old.at.place reader.old.words reader.old.at.rest fault) }
-    // The first fault of the bytes is answered, unless memory runs out.
-    ensures refused { (fault : Fault) → BreaksObject depth_limit classes.now class.now reader.old.at.place reader.old.words reader.old.at.rest fault → Answers result (Err fault) }
     // Which value it is, or which fault, as reading from left to right gives it.
-    ensures exact { ReadsAs (λ x. x) result (object_at depth_limit classes.now class.now reader.old) reader.new }
+    ensures exact { ReadsNext classes.now class.now result reader.old reader.new }
+    ensures bytes { AreBytes reader.old.at.rest }
     ensures goes { GoesOn reader.old.at reader.new.at }
 {
     object::read_object(alloc, classes, reader, class, DEPTH_LIMIT)

@@ -1,7 +1,8 @@
 //! The ends of objects with a header.
 ghost use Rattle.std.specs.Prelude.{◌≡◌, IfOk};
 ghost use Rattle.rio_num.specs.At.{GoesOn};
-ghost use Rattle.rio_format.specs.Objects.{ReadsAs, opaque_at};
+ghost use Rattle.rio_buffer.specs.Frames.{ReadsAs};
+ghost use Rattle.rio_format.specs.Objects.{opaque_at};
 ghost use Rattle.rio_buffer.specs.Reader.{IsCounted};
 ghost use Rattle.rio_read.specs.Members.{closed_at};
 
@@ -22,7 +23,8 @@ pub(crate) fn whole(
     parts: Parts,
 ) -> Result<Value, ObjFault>
     requires { IsCounted header.place header.end reader.old }
-    ensures exact { ReadsAs (λ x. x) result (closed_at class.now version header parts reader.old) reader.new }
+    ensures exact { ReadsAs (λ x. x) result (closed_at class.now version header parts reader.old)
+        reader.new }
     ensures goes { GoesOn reader.old.at reader.new.at }
 {
     reader.finish(header.place, header.end)?;
@@ -43,7 +45,8 @@ pub(crate) fn whole_described(
     parts: Parts,
 ) -> Result<Value, ObjFault>
     requires { IsCounted header.place header.end reader.old }
-    ensures exact { ReadsAs (λ x. x) result (closed_at class.now described.now.version header parts reader.old) reader.new }
+    ensures exact { ReadsAs (λ x. x) result
+        (closed_at class.now described.now.version header parts reader.old) reader.new }
     ensures goes { GoesOn reader.old.at reader.new.at }
 {
     whole(alloc, reader, class, described.version, header, parts)

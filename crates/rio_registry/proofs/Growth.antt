@@ -33,7 +33,7 @@ grown_there xs x there = record {
     among n true e = ap (is_among xs) (same_text n x (sym e)) ∙ there ∙ sym (or-true (is_among xs n))
 
 -- names as they stand in a set
-any_text : (p : List ℕ → Bool) (keys : List (Bor (List ℕ))) → list_any p (map (λ k. k.now) keys) ≡ list_any (λ k. p k.now) keys
+pub any_text : (p : List ℕ → Bool) (keys : List (Bor (List ℕ))) → list_any p (map (λ k. k.now) keys) ≡ list_any (λ k. p k.now) keys
 any_text p [] = refl
 any_text p (k ∷ ks) = ap (λ (b : Bool). p k.now || b) (any_text p ks)
 

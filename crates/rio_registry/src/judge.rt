@@ -1,31 +1,56 @@
-//! Which classes can be declared.
-ghost use Rattle.std.specs.Prelude.{◌≢◌, OnOk, IfErr};
-ghost use Rattle.rio_model.specs.Declaring.{IsDeclarable, IsRefused};
+//! The first rule that a declaration breaks.
+ghost use Rattle.std.specs.Prelude.{◌≡◌, IfOk};
+ghost use Rattle.rio_model.specs.Declaring.{IsClosed, declare_fault, limit_fault, rule_fault};
 
 use crate::names::knows_all;
 use crate::reach::holds_itself;
 use rio_model::DeclareFault;
+use rio_num::NoMemory;
 use rio_types::{ClassDef, Classes};
 
 // How many classes can be declared.
 const CLASS_LIMIT: usize = 4096;
 
-/// Whether the class can be declared, and the first fault where it can't.
-pub(crate) fn judge(classes: &Classes, class: &ClassDef) -> Result<(), DeclareFault>
-    ensures ok { OnOk result (IsDeclarable classes.now class.now) }
-    ensures cause { IfErr result (λ fault. fault ≢ DeclareFault.NoMemory → IsRefused classes.now class.now fault) }
+/// The first rule about classes that the declaration breaks, if it breaks one.
+pub(crate) fn rule_fault(
+    classes: &Classes,
+    class: &ClassDef,
+) -> Result<Option<DeclareFault>, NoMemory>
+    requires { IsClosed classes.now }
+    ensures { IfOk result (λ fault. fault ≡ rule_fault classes.now class.now) }
 {
     if !knows_all(classes, class) {
-        return Err(DeclareFault::NoSuchClass);
+        return Ok(Some(DeclareFault::NoSuchClass));
     }
     if classes.find(class.name.as_slice(), class.version).is_some() {
-        return Err(DeclareFault::SameVersion);
+        return Ok(Some(DeclareFault::SameVersion));
     }
     if holds_itself(classes, class)? {
-        return Err(DeclareFault::HoldsItself);
+        return Ok(Some(DeclareFault::HoldsItself));
     }
+    Ok(None)
+}
+
+fn limit_fault(classes: &Classes) -> Option<DeclareFault>
+    ensures { result ≡ limit_fault classes.now }
+{
     if classes.len() >= CLASS_LIMIT {
-        return Err(DeclareFault::TooMany);
+        Some(DeclareFault::TooMany)
+    } else {
+        None
     }
-    Ok(())
+}
+
+/// The first fault of the declaration, if it has one.
+pub(crate) fn declare_fault(
+    classes: &Classes,
+    class: &ClassDef,
+) -> Result<Option<DeclareFault>, NoMemory>
+    requires { IsClosed classes.now }
+    ensures { IfOk result (λ fault. fault ≡ declare_fault classes.now class.now) }
+{
+    match rule_fault(classes, class)? {
+        Some(fault) => Ok(Some(fault)),
+        None => Ok(limit_fault(classes)),
+    }
 }

@@ -10,5 +10,6 @@ mod registry;
 #[cfg(test)]
 mod tests;
 
+pub use names::is_reserved_name;
 pub use registry::Registry;
 pub use rio_model::DeclareFault;

@@ -1,11 +1,23 @@
-//! Which classes a declaration may name.
+//! Which names classes may have, and which classes a declaration may name.
 ghost use Rattle.std.specs.Prelude.{◌≡◌};
-ghost use Rattle.rio_model.specs.Declaring.{is_built_in_base, is_built_in_target, is_declared, is_known, knows_all, knows_base, knows_kind};
+ghost use Rattle.rio_model.specs.Declaring.{is_built_in_base, is_built_in_target, is_declared, is_known, is_reserved_name, knows_all, knows_base, knows_kind};
 ghost use Rattle.std.specs.List.{list_all};
 
 use rio_types::{Base, ClassDef, Classes, Kind, Member};
 
-fn is_declared(classes: &Classes, name: &[u8]) -> bool
+/// Whether the name begins with T and an upper-case letter. Such names are left to the classes that come with the
+/// format.
+pub fn is_reserved_name(name: &[u8]) -> bool
+    ensures { result ≡ is_reserved_name name.now }
+{
+    match name {
+        [first, second, ..] => *first == b'T' && b'A' <= *second && *second <= b'Z',
+        _ => false,
+    }
+}
+
+/// Whether a class of the name is declared.
+pub(crate) fn is_declared(classes: &Classes, name: &[u8]) -> bool
     ensures { result ≡ is_declared classes.now name.now }
 {
     classes.newest(name).is_some()
@@ -18,7 +30,8 @@ fn is_known(classes: &Classes, class: &ClassDef, name: &[u8]) -> bool
     is_declared(classes, name) || class.name.as_slice() == name
 }
 
-fn is_built_in_base(name: &[u8]) -> bool
+/// Whether the name is that of a built-in class that may be a base.
+pub(crate) fn is_built_in_base(name: &[u8]) -> bool
     ensures { result ≡ is_built_in_base name.now }
 {
     name == b"TObject".as_slice() || name == b"TNamed".as_slice()

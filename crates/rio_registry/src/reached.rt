@@ -22,7 +22,7 @@ impl<'a> ReachedNames<'a> {
     ghost use Rattle.std.specs.Prelude.{◌≡◌, ◌<◌, ◌^◌, [], length, OnOk, slice_get};
     ghost use Rattle.std.specs.Option.{option_copied};
     ghost use Rattle.std.specs.Str.{bytes_eq};
-    ghost use Rattle.rio_registry.specs.Reaching.{IsGrown};
+    ghost use Rattle.rio_registry.specs.Reaching.{IsGrown, is_among};
 
     /// No names.
     pub(crate) fn new(alloc: Global) -> ReachedNames<'a>
@@ -39,6 +39,13 @@ impl<'a> ReachedNames<'a> {
         ensures small { length self.now < 2 ^ 63 }
     {
         self.names.as_slice().get(index).copied()
+    }
+
+    /// Whether the name is there.
+    pub(crate) fn contains(&self, name: &[u8]) -> bool
+        ensures { result ≡ is_among self.now name.now }
+    {
+        self.names.contains(&name)
     }
 
     /// Puts the name at the end, unless it is there. Where there is no memory for it, the names may have changed.

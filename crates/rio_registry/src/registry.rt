@@ -1,4 +1,5 @@
-use crate::judge::judge;
+//! The declared classes.
+use crate::judge::{declare_fault, rule_fault};
 use crate::newest::with_newest_bases;
 use rio_model::DeclareFault;
 use rio_types::{ClassDef, Classes};
@@ -14,15 +15,18 @@ pub struct Registry {
 impl Model for Registry {
     ghost use Rattle.std.specs.Prelude.{List};
     ghost use Rattle.rio_types.specs.declared.class.ClassDef.{ClassDef as Class};
+    ghost use Rattle.rio_registry.specs.Fronts.{AreClosed};
 
     ghost Value = { List Class };
 
     ghost view = { λ registry. registry.classes };
+
+    ghost invariant = { λ registry. AreClosed registry.classes };
 }
 
 impl Registry {
-    ghost use Rattle.std.specs.Prelude.{◌≡◌, ◌≢◌, ◌<◌, ◌-◌, [], ◌∷◌, ◌++◌, length, take, OnOk, OnErr, IfErr};
-    ghost use Rattle.rio_model.specs.Declaring.{IsDeclarable, IsRefused, declared};
+    ghost use Rattle.std.specs.Prelude.{◌≡◌, ◌≢◌, ◌<◌, ◌-◌, [], ◌∷◌, ◌++◌, length, take, None, Some, IfOk, OnOk, OnErr, IfErr};
+    ghost use Rattle.rio_model.specs.Declaring.{declare_fault, declared, rule_fault};
 
     /// No classes.
     pub fn new(alloc: Global) -> Registry
@@ -50,18 +54,35 @@ impl Registry {
     /// - HoldsItself: it would reach its own name through bases and members by value, over all versions of all classes.
     /// - TooMany: 4,096 classes are declared.
     ///
-    /// Bases and members by value are followed once for each name that is reached, and each time all declared classes
-    /// are looked through for the name. The names that are reached stand in a set: none is copied, and each name that
-    /// is met is looked up there once.
+    /// Where an earlier version of the class's name is declared, the classes that it reaches are followed, each once. So
+    /// declaring takes about as long as the class and what it reaches then.
     pub fn declare(&mut self, class: ClassDef) -> Result<(), DeclareFault>
-        ensures ok { OnOk result (IsDeclarable self.old class × (self.new ≡ self.old ++ declared self.old class ∷ [])) }
+        ensures ok { OnOk result (declare_fault self.old class ≡ None) }
+        ensures grows { OnOk result (self.new ≡ self.old ++ declared self.old class ∷ []) }
         ensures err { OnErr result (self.new ≡ self.old) }
-        ensures cause { IfErr result (λ fault. fault ≢ DeclareFault.NoMemory → IsRefused self.old class fault) }
+        ensures cause { IfErr result (λ e. e ≢ DeclareFault.NoMemory
+            → declare_fault self.old class ≡ Some e) }
     {
-        judge(&self.classes, &class)?;
+        if let Some(fault) = declare_fault(&self.classes, &class)? {
+            return Err(fault);
+        }
         let class = with_newest_bases(&self.classes, class)?;
         self.classes.push(class)?;
         Ok(())
+    }
+
+    /// The class that `declare` would add, or the first of NoSuchClass, SameVersion and HoldsItself that it breaks.
+    /// Nothing is declared, and it doesn't matter how many classes are declared.
+    pub fn judge(&self, class: &ClassDef) -> Result<ClassDef, DeclareFault>
+        ensures ok { OnOk result (rule_fault self.now class.now ≡ None) }
+        ensures added { IfOk result (λ added. added ≡ declared self.now class.now) }
+        ensures cause { IfErr result (λ e. e ≢ DeclareFault.NoMemory
+            → rule_fault self.now class.now ≡ Some e) }
+    {
+        if let Some(fault) = rule_fault(&self.classes, class)? {
+            return Err(fault);
+        }
+        Ok(with_newest_bases(&self.classes, class.copy()?)?)
     }
 
     /// Takes the last class out. This takes no memory.

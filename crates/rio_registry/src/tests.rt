@@ -1,4 +1,5 @@
-use crate::{DeclareFault, Registry};
+//! Declarations, and what each of them is answered.
+use crate::{DeclareFault, Registry, is_reserved_name};
 use rio_num::{Name, NoMemory};
 use rio_types::{Base, Bases, ClassDef, Kind, Member, Members};
 use std::alloc::Global;
@@ -116,6 +117,44 @@ fn follows_all_versions_of_all_classes(rt: HostRuntime) -> Result<(), Fail> {
     ];
     let wrong = first_wrong(rt.alloc(), &mut registry, rows.as_slice());
     assert_eq!(rt; wrong.ok().ok_or("no memory")?, None);
+    Ok(())
+}
+
+// A base may be TObject before a class of this name is declared.
+#[test]
+fn follows_a_built_in_name(rt: HostRuntime) -> Result<(), Fail> {
+    let mut registry = Registry::new(rt.alloc());
+    let rows = [
+        answered(b"A", 1, b":TObject", None),
+        answered(b"TObject", 1, b"=A", Some(DeclareFault::HoldsItself)),
+        answered(b"TObject", 1, b"*A", None),
+    ];
+    let wrong = first_wrong(rt.alloc(), &mut registry, rows.as_slice());
+    assert_eq!(rt; wrong.ok().ok_or("no memory")?, None);
+    Ok(())
+}
+
+#[test]
+fn judges_without_declaring(rt: HostRuntime) -> Result<(), Fail> {
+    let mut registry = Registry::new(rt.alloc());
+    let rows = [answered(b"P", 1, b"", None), answered(b"P", 3, b"", None)];
+    let wrong = first_wrong(rt.alloc(), &mut registry, rows.as_slice());
+    assert_eq!(rt; wrong.ok().ok_or("no memory")?, None);
+    let class = class_of(rt.alloc(), &answered(b"D", 1, b":P", None)).ok();
+    let judged = registry.judge(&class.ok_or("no memory")?).ok();
+    let base = judged.as_ref().and_then(|class| class.bases.get(0));
+    assert_eq!(rt; base.map(|base| base.version), Some(3));
+    let class = class_of(rt.alloc(), &answered(b"D", 1, b"=D", None)).ok();
+    let judged = registry.judge(&class.ok_or("no memory")?).err();
+    assert_eq!(rt; judged, Some(DeclareFault::HoldsItself));
+    assert_eq!(rt; registry.classes().len(), 2);
+    Ok(())
+}
+
+#[test]
+fn knows_reserved_names(rt: HostRuntime) -> Result<(), Fail> {
+    assert!(rt; is_reserved_name(b"TObject") && is_reserved_name(b"TZ"));
+    assert!(rt; !is_reserved_name(b"T") && !is_reserved_name(b"Tau") && !is_reserved_name(b"XT"));
     Ok(())
 }
 

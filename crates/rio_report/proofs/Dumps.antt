@@ -1,40 +1,59 @@
--- What is said of a file that breaks no rule is its listing.
-use Rattle.std.proofs.Common.{◌≡◌, ℕ, List, Option, Some, Result, Ok, Err, OnOk, IsOkAnd, sym, ap, subst}
+-- What is said of a file that breaks no rule is its listing, and a fault in reading it is one of its listing.
+use Rattle.std.proofs.Common.{◌≡◌, ℕ, List, Option, Some, Result, Ok, Err, refl, sym, ap}
 use Rattle.rio_num.specs.Reading.{◌>>=◌}
+use Rattle.rio_head.specs.declared.fault.FileFault.{FileFault}
 use Rattle.rio_head.specs.declared.fault.HeadFault.{HeadFault}
 use Rattle.rio_host.specs.Host.{View, Becomes, Longer}
 use Rattle.rio_host.specs.OnlyReads.{OnlySaysPieces, Says}
 use Rattle.rio_host.proofs.PiecesLaws.{part_as, pieces_part}
-use Rattle.rio_meaning.specs.declared.closed.Described.{Described}
+use Rattle.rio_dir.specs.Listing.{said_of}
+use Rattle.rio_meaning.specs.declared.described.Described.{Described}
 use Rattle.rio_meaning.specs.declared.item.Item.{Item}
 use Rattle.rio_meaning.specs.Described.{described_file}
-use Rattle.rio_meaning.specs.Dump.{dump_listing, dump_text, dumped_file, text_of_dump}
+use Rattle.rio_meaning.specs.Dump.{dump_text, dumped_file}
+use Rattle.rio_close.specs.Causes.{IsHostCauseOf, IsSayCauseOf, NoKind}
+use Rattle.rio_close.specs.Opens.{Opens}
 use Rattle.rio_close.specs.declared.fault.ReportFault.{ReportFault}
+use Rattle.rio_close.specs.declared.fault.ReportFault.TheVariants.{BadFile, NoMemory, HostFault, SayFault}
+use Rattle.rio_report.specs.Lists.{AnswersOf, IsDone, ListingAnswer, ListingOf, Refuses}
 
 module _ (item : Option Item) (file : List ℕ) where
-  abbrev said_of : Result Described HeadFault → Result (List ℕ) HeadFault
-  said_of read = read >>= λ described. Ok (dump_text file item described)
+  abbrev dumped_by : Result Described HeadFault → Result (List ℕ) HeadFault
+  dumped_by read = read >>= λ described. Ok (dump_text file item described)
 
   pub dumped_is : (described : Described) → described_file file ≡ Ok described → dumped_file item file ≡ Ok (dump_text file item described)
   unfolding dumped_file
-  dumped_is described is = ap said_of is
+  dumped_is described is = ap dumped_by is
 
   pub dumped_bad : (fault : HeadFault) → described_file file ≡ Err fault → dumped_file item file ≡ Err fault
   unfolding dumped_file
-  dumped_bad fault is = ap said_of is
+  dumped_bad fault is = ap dumped_by is
 
-module _ (item : Option Item) (a d : View) (described : Described) (is : (file : List ℕ) → a.holds ≡ Some file → described_file file ≡ Ok described) where
-  abbrev Dumped : Result (Unit {0}) ReportFault → Type 0
-  Dumped r = Says (λ file. dump_text file item described) a d r
+-- A fault in reading a file refuses its listing.
+pub read_refuses : {X : Type 0} (tested : FileFault → Type 0) (old new : View) (listed : Result (List ℕ) HeadFault) (read : Result X HeadFault)
+    → ((fault : HeadFault) → read ≡ Err fault → listed ≡ Err fault)
+    → (e : ReportFault) → Opens {X = X} (Err e) read → IsHostCauseOf {X = X} tested old new (Err e) → AnswersOf listed (Err e)
+read_refuses tested old new listed read bad (BadFile place kind) opens cause = bad _ opens
+read_refuses tested old new listed read bad NoMemory opens cause = tt
+read_refuses tested old new listed read bad HostFault opens cause = tt
+read_refuses tested old new listed read bad SayFault opens cause = absurd cause
 
-  listing_is : (file : List ℕ) → a.holds ≡ Some file → dump_text file item described ≡ dump_listing item file
-  listing_is file told = sym (ap text_of_dump (dumped_is item file described (is file told)))
+-- a file that is read is refused for no fault of it
+pub read_answers : (old new : View) (listed : Result (List ℕ) HeadFault) (text : List ℕ) → listed ≡ Ok text → (r : ListingAnswer) → IsSayCauseOf NoKind old new r → AnswersOf listed r
+read_answers old new listed text is (Ok x) cause = rw is refl
+read_answers old new listed text is (Err (BadFile place kind)) cause = absurd cause.0
+read_answers old new listed text is (Err NoMemory) cause = tt
+read_answers old new listed text is (Err HostFault) cause = tt
+read_answers old new listed text is (Err SayFault) cause = rw is refl
 
-  pub dump_calls : (r : Result (Unit {0}) ReportFault) → Dumped r → OnlySaysPieces (dump_listing item) a d
-  dump_calls (Ok x) says = part_as (λ file. dump_text file item described) (dump_listing item) listing_is (pieces_part (λ file. dump_text file item described) says)
-  dump_calls (Err e) says = part_as (λ file. dump_text file item described) (dump_listing item) listing_is says
+module _ (listing : ListingOf) (text_of : List ℕ → List ℕ) (a d : View) (is : (file : List ℕ) → a.holds ≡ Some file → listing file ≡ Ok (text_of file)) where
+  listing_is : (file : List ℕ) → a.holds ≡ Some file → text_of file ≡ said_of (listing file)
+  listing_is file told = sym (ap said_of (is file told))
 
-  pub dump_done : (r : Result (Unit {0}) ReportFault) → Dumped r → OnOk r ((file : List ℕ) → a.holds ≡ Some file → IsOkAnd (dumped_file item file) (λ text. Becomes (Longer text) a.said d.said))
-  dump_done (Ok x) says = λ file told.
-      subst (λ (read : Result (List ℕ) HeadFault). IsOkAnd read (λ text. Becomes (Longer text) a.said d.said)) (sym (dumped_is item file described (is file told))) (says.whole file told)
-  dump_done (Err e) says = tt
+  pub told_calls : (r : ListingAnswer) → Says text_of a d r → OnlySaysPieces (λ file. said_of (listing file)) a d
+  told_calls (Ok x) says = part_as text_of (λ file. said_of (listing file)) listing_is (pieces_part text_of says)
+  told_calls (Err e) says = part_as text_of (λ file. said_of (listing file)) listing_is says
+
+  pub told_done : (r : ListingAnswer) → Says text_of a d r → IsDone listing a d r
+  told_done (Ok x) says = λ file told. rw (is file told) (says.whole file told)
+  told_done (Err e) says = tt

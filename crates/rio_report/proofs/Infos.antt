@@ -6,7 +6,7 @@ use Rattle.rio_key.specs.Key.{is_compressed, key_at}
 use Rattle.rio_head.specs.declared.fault.FileFault.TheVariants.{BadInfo, Compressed}
 use Rattle.rio_head.specs.Head.{fault_at}
 use Rattle.rio_format.specs.ClassList.{class_list_at}
-use Rattle.rio_meaning.specs.Closed.{or_fault}
+use Rattle.rio_dir.specs.Closed.{or_fault}
 use Rattle.rio_meaning.specs.Described.{classes_in}
 use Rattle.rio_close.proofs.Records.{Keyed, at}
 use Rattle.rio_report.specs.Described.{info_in}

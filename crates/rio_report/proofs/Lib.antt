@@ -1,4 +1,5 @@
 pub mod Dumps
+pub mod Gather
 pub mod Infos
 pub mod LineByLine
 pub mod Lines

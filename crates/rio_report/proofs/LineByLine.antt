@@ -1,11 +1,13 @@
--- A line for each of a list, said one after the other.
-use Rattle.std.proofs.Common.{◌≡◌, ◌++◌, ◌+◌, ◌<◌, ◌≤◌, ℕ, List, [], ◌∷◌, length, take, drop, get_or, sym, ap, ◌∙◌}
+-- A line for each of a list, gathered one after the other.
+use Rattle.std.proofs.Common.{◌≡◌, ◌++◌, ◌+◌, ◌<◌, ◌≤◌, ℕ, List, [], ◌∷◌, length, take, drop, get_or, Some, sym, ap, ◌∙◌, append_assoc}
 use Rattle.std.specs.List.{flat_map}
 use Rattle.std.proofs.lemmas.List.{append-nil, take_all, take_more, take-append-drop}
 use Rattle.std.proofs.lemmas.List.Concat.{flat_map-append}
 use Rattle.rio_host.specs.Host.{View, IsLawful}
-use Rattle.rio_host.specs.OnlyReads.{OnlySaysPieces, SaysPieces}
-use Rattle.rio_host.proofs.PiecesLaws.{part_as, part_front, part_join, pieces_as, pieces_join}
+use Rattle.rio_host.specs.OnlyReads.{OnlySaysPieces}
+use Rattle.rio_host.proofs.PiecesLaws.{part_as, part_front}
+use Rattle.rio_report.specs.Gathered.{Gathered}
+use Rattle.rio_report.proofs.Gather.{cut_on, gathered_on}
 
 module _ {X : Type 0} (line : List ℕ → X → List ℕ) (xs : List X) where
   abbrev pub lines : ℕ → List ℕ → List ℕ
@@ -18,21 +20,40 @@ module _ {X : Type 0} (line : List ℕ → X → List ℕ) (xs : List X) where
       ∙ ap (λ (y : X). flat_map (line file) (take i xs ++ y ∷ [])) is
       ∙ ap (flat_map (line file)) (sym (take_more xs i x lt))
 
-  -- all of them
-  pub all_lines : (i : ℕ) → length xs ≤ i → (file : List ℕ) → lines i file ≡ flat_map (line file) xs
+  all_lines : (i : ℕ) → length xs ≤ i → (file : List ℕ) → lines i file ≡ flat_map (line file) xs
   all_lines i le file = ap (flat_map (line file)) (take_all i xs le)
 
   in_front : (i : ℕ) (file : List ℕ) → lines i file ++ flat_map (line file) (drop i xs) ≡ flat_map (line file) xs
   in_front i file = sym (flat_map-append (line file) (take i xs) (drop i xs)) ∙ ap (flat_map (line file)) (take-append-drop i xs)
 
-  module _ (a b c : View) (lawful_a : IsLawful a) (lawful_b : IsLawful b) (i : ℕ) (x : X) (lt : i < length xs) (is : x ≡ get_or xs i x) (so_far : SaysPieces (lines i) a b) where
-    pub line_said : SaysPieces (λ file. line file x) b c → SaysPieces (lines (i + 1)) a c
-    line_said says = pieces_as (λ file. lines i file ++ line file x) (lines (i + 1)) (λ file told. one_more i x lt is file) (pieces_join (lines i) (λ file. line file x) lawful_a lawful_b so_far says)
+  module _ (first : List ℕ) where
+    -- these lines behind what was held first
+    abbrev pub first_lines : ℕ → List ℕ → List ℕ
+    first_lines i file = first ++ lines i file
 
-    -- and where one of them was said in part
-    pub line_cut : OnlySaysPieces (λ file. line file x) b c → OnlySaysPieces (λ file. flat_map (line file) xs) a c
-    line_cut says =
-        let cut = part_join (lines i) (λ file. line file x) lawful_a lawful_b so_far says in
-        let more = part_front (λ file. lines i file ++ line file x) (λ file. flat_map (line file) (drop (i + 1) xs)) cut in
-        part_as (λ file. (lines i file ++ line file x) ++ flat_map (line file) (drop (i + 1) xs)) (λ file. flat_map (line file) xs)
-        (λ file told. ap (λ (l : List ℕ). l ++ flat_map (line file) (drop (i + 1) xs)) (one_more i x lt is file) ∙ in_front (i + 1) file) more
+    -- all of them
+    pub all_gathered : {a b : View} (i : ℕ) (held : List ℕ) → length xs ≤ i → Gathered (first_lines i) held a b → Gathered (λ file. first ++ flat_map (line file) xs) held a b
+    all_gathered i held le one = record {
+      front = one.front;
+      said = one.said;
+      rest = λ file told. one.rest file told ∙ ap (λ (l : List ℕ). first ++ l) (all_lines i le file);
+    }
+
+    next_line : {a b : View} (i : ℕ) (x : X) → i < length xs → x ≡ get_or xs i x → (held : List ℕ) (so_far : Gathered (first_lines i) held a b) (file : List ℕ) → a.holds ≡ Some file → so_far.front file ++ (held ++ line file x) ≡ first_lines (i + 1) file
+    next_line i x lt is held so_far file told =
+        sym (append_assoc (so_far.front file) held (line file x))
+        ∙ ap (λ (l : List ℕ). l ++ line file x) (so_far.rest file told)
+        ∙ append_assoc first (lines i file) (line file x)
+        ∙ ap (λ (l : List ℕ). first ++ l) (one_more i x lt is file)
+
+    module _ (a b c : View) (lawful_a : IsLawful a) (lawful_b : IsLawful b) (i : ℕ) (x : X) (lt : i < length xs) (is : x ≡ get_or xs i x) (held : List ℕ) (so_far : Gathered (first_lines i) held a b) where
+      pub line_gathered : (more : List ℕ) → Gathered (λ file. held ++ line file x) more b c → Gathered (first_lines (i + 1)) more a c
+      line_gathered more two = gathered_on a b c lawful_a lawful_b (first_lines i) held so_far (λ file. held ++ line file x) (first_lines (i + 1)) (next_line i x lt is held so_far) more two
+
+      -- and where one of them was said in part
+      pub line_cut : OnlySaysPieces (λ file. held ++ line file x) b c → OnlySaysPieces (λ file. first ++ flat_map (line file) xs) a c
+      line_cut two =
+          let cut = cut_on a b c lawful_a lawful_b (first_lines i) held so_far (λ file. held ++ line file x) (first_lines (i + 1)) (next_line i x lt is held so_far) two in
+          let more = part_front (first_lines (i + 1)) (λ file. flat_map (line file) (drop (i + 1) xs)) cut in
+          part_as (λ file. first_lines (i + 1) file ++ flat_map (line file) (drop (i + 1) xs)) (λ file. first ++ flat_map (line file) xs)
+          (λ file told. append_assoc first (lines (i + 1) file) (flat_map (line file) (drop (i + 1) xs)) ∙ ap (λ (l : List ℕ). first ++ l) (in_front (i + 1) file)) more

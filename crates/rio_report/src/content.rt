@@ -1,13 +1,13 @@
 //! The line of a key, and what its record holds.
-ghost use Rattle.std.specs.Prelude.{◌≡◌, ◌++◌, ◌+◌, ◌<◌, ◌^◌, drop, length, codes, Bool, ℕ, List, Some, OnOk, IfOk};
+ghost use Rattle.std.specs.Prelude.{◌≡◌, ◌++◌, ◌<◌, ◌^◌, drop, length, codes, ℕ, List, Some, OnOk};
 ghost use Rattle.std.specs.Fmt.{decimal};
-ghost use Rattle.rio_num.specs.Printed.{name_text};
 ghost use Rattle.rio_format.specs.Objects.{value_at};
 ghost use Rattle.rio_host.specs.Host.{IsLength};
 ghost use Rattle.rio_host.specs.OnlyReads.{OnlyReads};
 ghost use Rattle.rio_meaning.specs.Dump.{content_text, is_tree, object_fault_text, stored_line, value_or_fault, with_number};
 ghost use Rattle.rio_close.specs.Causes.{IsCallCause};
 
+use crate::ls::put_named_cycle;
 use rio_buffer::ObjFault;
 use rio_close::{ReportFault, data_of, read_up_to};
 use rio_host::Host;
@@ -35,20 +35,23 @@ fn put_word(text: &mut Bytes, word: &[u8], n: u64) -> Result<(), NoMemory>
 }
 
 fn put_two(text: &mut Bytes, word: &[u8], n: u64, m: u64) -> Result<(), NoMemory>
-    ensures { OnOk result (text.new.bytes ≡ text.old.bytes ++ with_number (with_number word.now n) m) }
+    ensures { OnOk result (text.new.bytes ≡
+        text.old.bytes ++ with_number (with_number word.now n) m) }
 {
     put_word(text, word, n)?;
     put_number(text, m)
 }
 
 fn put_unknown(text: &mut Bytes, kind: &[u8], place: u64, word: u32) -> Result<(), NoMemory>
-    ensures { OnOk result (text.new.bytes ≡ text.old.bytes ++ with_number (with_number kind.now place) word) }
+    ensures { OnOk result (text.new.bytes ≡
+        text.old.bytes ++ with_number (with_number kind.now place) word) }
 {
     put_two(text, kind, place, u64::from(word))
 }
 
 fn put_mismatch(text: &mut Bytes, place: u64, said: u32, used: u32) -> Result<(), NoMemory>
-    ensures { OnOk result (text.new.bytes ≡ text.old.bytes ++ object_fault_text (ObjFault.CountMismatch place said used)) }
+    ensures { OnOk result (text.new.bytes ≡
+        text.old.bytes ++ object_fault_text (ObjFault.CountMismatch place said used)) }
 {
     put_two(text, b"CountMismatch", place, u64::from(said))?;
     put_number(text, u64::from(used))
@@ -82,7 +85,8 @@ fn put_value(
     bytes: &[u8],
 ) -> Result<(), NoMemory>
     requires { length bytes.now < 2 ^ 32 }
-    ensures { OnOk result (text.new.bytes ≡ text.old.bytes ++ value_or_fault (value_at classes.now key.now.class key.now.keylen (drop key.now.keylen bytes.now))) }
+    ensures { OnOk result (text.new.bytes ≡ text.old.bytes ++ value_or_fault
+        (value_at classes.now key.now.class key.now.keylen (drop key.now.keylen bytes.now))) }
 {
     let contents = data_of(key, bytes);
     match read_object(
@@ -117,7 +121,8 @@ fn put_content<H: Host>(
     text: &mut Bytes,
 ) -> Result<(), ReportFault>
     requires { IsLength (H.view host.old) file_length }
-    ensures content { OnOk result ((file : List ℕ) → (H.view host.old).holds ≡ Some file → text.new.bytes ≡ text.old.bytes ++ content_text file classes.now key.now) }
+    ensures content { OnOk result ((file : List ℕ) → (H.view host.old).holds ≡ Some file
+        → text.new.bytes ≡ text.old.bytes ++ content_text file classes.now key.now) }
     ensures calls { OnlyReads (H.view host.old) (H.view host.new) }
     ensures cause { IsCallCause (H.view host.old) (H.view host.new) result }
 {
@@ -140,25 +145,24 @@ fn put_content<H: Host>(
     Ok(())
 }
 
-/// The key's line: `NAME;CYCLE` and what its record holds.
-pub(crate) fn key_line<H: Host>(
+/// Puts the key's line at the end: `NAME;CYCLE` and what its record holds.
+pub(crate) fn put_stored_line<H: Host>(
     alloc: Global,
     host: &mut H,
     file_length: u64,
     classes: &Classes,
     key: &KeyHead,
-) -> Result<Bytes, ReportFault>
+    text: &mut Bytes,
+) -> Result<(), ReportFault>
     requires { IsLength (H.view host.old) file_length }
-    ensures line { IfOk result (λ line. (file : List ℕ) → (H.view host.old).holds ≡ Some file → line.bytes ≡ stored_line file classes.now key.now) }
+    ensures line { OnOk result ((file : List ℕ) → (H.view host.old).holds ≡ Some file
+        → text.new.bytes ≡ text.old.bytes ++ stored_line file classes.now key.now) }
     ensures calls { OnlyReads (H.view host.old) (H.view host.new) }
     ensures cause { IsCallCause (H.view host.old) (H.view host.new) result }
 {
-    let mut line = Bytes::new(alloc);
-    line.put_name(key.name.as_slice())?;
-    line.put(b";")?;
-    line.put_decimal(u64::from(key.cycle))?;
-    line.put(b" ")?;
-    put_content(alloc, host, file_length, classes, key, &mut line)?;
-    line.put(b"\n")?;
-    Ok(line)
+    put_named_cycle(text, key)?;
+    text.put(b" ")?;
+    put_content(alloc, host, file_length, classes, key, text)?;
+    text.put(b"\n")?;
+    Ok(())
 }

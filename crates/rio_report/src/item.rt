@@ -62,7 +62,8 @@ fn key_of<'a>(keys: &'a [KeyHead], item: &Item) -> Option<&'a KeyHead>
 
 /// The key of an item, or what is missing. Where the item has no cycle, it is the greatest of the name.
 pub(crate) fn found_item<'a>(keys: &'a [KeyHead], item: &Item) -> Result<&'a KeyHead, Missing>
-    ensures { MatchResult result (λ key. found_item item.now keys.now ≡ Ok key.now) (λ missing. found_item item.now keys.now ≡ Err missing) }
+    ensures { MatchResult result (λ key. found_item item.now keys.now ≡ Ok key.now)
+        (λ missing. found_item item.now keys.now ≡ Err missing) }
 {
     match key_of(keys, item) {
         Some(key) => Ok(key),

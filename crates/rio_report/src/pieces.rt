@@ -1,12 +1,13 @@
-//! Texts that are said piece by piece.
-ghost use Rattle.std.specs.Prelude.{◌≡◌, ◌++◌, codes, OnOk, IfOk};
+//! Lines that are gathered, and said some 64 KiB at a time.
+ghost use Rattle.std.specs.Prelude.{◌≡◌, ◌++◌, [], codes, OnOk};
 ghost use Rattle.std.specs.List.{flat_map};
 ghost use Rattle.rio_host.specs.Host.{IsLength};
 ghost use Rattle.rio_host.specs.OnlyReads.{Says};
 ghost use Rattle.rio_meaning.specs.Dump.{class_line, missing_line, stored_line};
 ghost use Rattle.rio_close.specs.Causes.{IsSayCauseOf, NoKind};
+ghost use Rattle.rio_report.specs.Gathered.{Gathers};
 
-use crate::content::key_line;
+use crate::content::put_stored_line;
 use rio_close::ReportFault;
 use rio_decl::print_class;
 use rio_host::Host;
@@ -15,6 +16,9 @@ use rio_meaning::Missing;
 use rio_num::{Bytes, NoMemory};
 use rio_types::{ClassDef, Classes};
 use std::alloc::Global;
+
+// So many bytes are said as soon as they are gathered.
+const LONG: usize = 65_536;
 
 fn say_piece<H: Host>(host: &mut H, text: &[u8]) -> Result<(), ReportFault>
     ensures says { Says (λ file. text.now) (H.view host.old) (H.view host.new) result }
@@ -26,6 +30,27 @@ fn say_piece<H: Host>(host: &mut H, text: &[u8]) -> Result<(), ReportFault>
     }
 }
 
+/// Says all that is held.
+pub(crate) fn say_held<H: Host>(host: &mut H, held: &Bytes) -> Result<(), ReportFault>
+    ensures says { Says (λ file. held.now.bytes) (H.view host.old) (H.view host.new) result }
+    ensures cause { IsSayCauseOf NoKind (H.view host.old) (H.view host.new) result }
+{
+    say_piece(host, held.as_slice())
+}
+
+// Says what is held where it has become long, and then holds nothing.
+fn say_long<H: Host>(alloc: Global, host: &mut H, held: &mut Bytes) -> Result<(), ReportFault>
+    ensures says { Gathers (λ file. held.old.bytes) held.new.bytes
+        (H.view host.old) (H.view host.new) result }
+    ensures cause { IsSayCauseOf NoKind (H.view host.old) (H.view host.new) result }
+{
+    if held.len() >= LONG {
+        say_held(host, held)?;
+        *held = Bytes::new(alloc);
+    }
+    Ok(())
+}
+
 fn put_class(text: &mut Bytes, class: &ClassDef) -> Result<(), NoMemory>
     ensures { OnOk result (text.new.bytes ≡ text.old.bytes ++ class_line class.now) }
 {
@@ -33,31 +58,76 @@ fn put_class(text: &mut Bytes, class: &ClassDef) -> Result<(), NoMemory>
     text.put(b"\n")
 }
 
-// A line for each class, in order.
-fn class_lines(alloc: Global, classes: &[ClassDef]) -> Result<Bytes, NoMemory>
-    ensures { IfOk result (λ text. text.bytes ≡ flat_map class_line classes.now) }
+fn gather_class<H: Host>(
+    alloc: Global,
+    host: &mut H,
+    class: &ClassDef,
+    held: &mut Bytes,
+) -> Result<(), ReportFault>
+    ensures says { Gathers (λ file. held.old.bytes ++ class_line class.now) held.new.bytes
+        (H.view host.old) (H.view host.new) result }
+    ensures cause { IsSayCauseOf NoKind (H.view host.old) (H.view host.new) result }
 {
-    let mut text = Bytes::new(alloc);
-    for class in classes {
-        put_class(&mut text, class)?;
-    }
-    Ok(text)
+    put_class(held, class)?;
+    say_long(alloc, host, held)
 }
 
-/// Says a line for each class.
-pub(crate) fn say_classes<H: Host>(
+/// Gathers a line for each class.
+pub(crate) fn gather_classes<H: Host>(
     alloc: Global,
     host: &mut H,
     classes: &[ClassDef],
+    held: &mut Bytes,
 ) -> Result<(), ReportFault>
-    ensures says { Says (λ file. flat_map class_line classes.now) (H.view host.old) (H.view host.new) result }
+    ensures says { Gathers (λ file. held.old.bytes ++ flat_map class_line classes.now)
+        held.new.bytes (H.view host.old) (H.view host.new) result }
     ensures cause { IsSayCauseOf NoKind (H.view host.old) (H.view host.new) result }
 {
-    let text = class_lines(alloc, classes)?;
-    say_piece(host, text.as_slice())
+    for class in classes {
+        gather_class(alloc, host, class, held)?;
+    }
+    Ok(())
 }
 
-/// Says the line of a key.
+fn gather_key<H: Host>(
+    alloc: Global,
+    host: &mut H,
+    file_length: u64,
+    classes: &Classes,
+    key: &KeyHead,
+    held: &mut Bytes,
+) -> Result<(), ReportFault>
+    requires { IsLength (H.view host.old) file_length }
+    ensures says { Gathers (λ file. held.old.bytes ++ stored_line file classes.now key.now)
+        held.new.bytes (H.view host.old) (H.view host.new) result }
+    ensures cause { IsSayCauseOf NoKind (H.view host.old) (H.view host.new) result }
+{
+    put_stored_line(alloc, host, file_length, classes, key, held)?;
+    say_long(alloc, host, held)
+}
+
+/// Gathers the line of each key, one after the other: only one record is held at a time.
+pub(crate) fn gather_keys<H: Host>(
+    alloc: Global,
+    host: &mut H,
+    file_length: u64,
+    classes: &Classes,
+    keys: &[KeyHead],
+    held: &mut Bytes,
+) -> Result<(), ReportFault>
+    requires { IsLength (H.view host.old) file_length }
+    ensures says { Gathers
+        (λ file. held.old.bytes ++ flat_map (stored_line file classes.now) keys.now)
+        held.new.bytes (H.view host.old) (H.view host.new) result }
+    ensures cause { IsSayCauseOf NoKind (H.view host.old) (H.view host.new) result }
+{
+    for key in keys {
+        gather_key(alloc, host, file_length, classes, key, held)?;
+    }
+    Ok(())
+}
+
+/// Says the line of one key.
 pub(crate) fn say_key<H: Host>(
     alloc: Global,
     host: &mut H,
@@ -66,29 +136,13 @@ pub(crate) fn say_key<H: Host>(
     key: &KeyHead,
 ) -> Result<(), ReportFault>
     requires { IsLength (H.view host.old) file_length }
-    ensures says { Says (λ file. stored_line file classes.now key.now) (H.view host.old) (H.view host.new) result }
+    ensures says { Says (λ file. stored_line file classes.now key.now)
+        (H.view host.old) (H.view host.new) result }
     ensures cause { IsSayCauseOf NoKind (H.view host.old) (H.view host.new) result }
 {
-    let line = key_line(alloc, host, file_length, classes, key)?;
-    say_piece(host, line.as_slice())
-}
-
-/// Says the line of each key, one after the other: only one record is held at a time.
-pub(crate) fn say_keys<H: Host>(
-    alloc: Global,
-    host: &mut H,
-    file_length: u64,
-    classes: &Classes,
-    keys: &[KeyHead],
-) -> Result<(), ReportFault>
-    requires { IsLength (H.view host.old) file_length }
-    ensures says { Says (λ file. flat_map (stored_line file classes.now) keys.now) (H.view host.old) (H.view host.new) result }
-    ensures cause { IsSayCauseOf NoKind (H.view host.old) (H.view host.new) result }
-{
-    for key in keys {
-        say_key(alloc, host, file_length, classes, key)?;
-    }
-    Ok(())
+    let mut line = Bytes::new(alloc);
+    put_stored_line(alloc, host, file_length, classes, key, &mut line)?;
+    say_held(host, &line)
 }
 
 // What is said of a missing key.

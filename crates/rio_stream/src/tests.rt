@@ -2,7 +2,9 @@
 
 mod builtin;
 mod classes;
+mod fitting;
 mod printed;
+mod values;
 mod written;
 
 use crate::{fits, read_builtin, read_object};

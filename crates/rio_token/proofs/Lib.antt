@@ -1,4 +1,5 @@
 pub mod DecimalLaws
+pub mod FurtherLaws
 pub mod ListLaws
 pub mod NumberLaws
 pub mod SeparatedLaws

@@ -3,7 +3,7 @@ use Rattle.std.proofs.Common.{◌≡◌, ℕ, suc, ◌+◌, ◌*◌, ◌≤◌, 
 use Rattle.std.specs.List.{list_all, prefix_len}
 use Rattle.std.proofs.lemmas.Bool.{and_parts, eqb-true}
 use Rattle.std.proofs.lemmas.Bool.Decides.{nat_tests}
-use Rattle.rio_num.specs.At.{At}
+use Rattle.rio_num.specs.At.{At, end_place}
 use Rattle.rio_num.specs.Word.{is_item_byte, is_name_text, begins_name, goes_on_name}
 use Rattle.rio_token.specs.declared.token.Token.TheVariants.{Word, Text, Mark}
 use Rattle.rio_num.specs.Printed.{string_text}
@@ -147,12 +147,9 @@ module _ (p q : ℕ) (text rest : List ℕ) (bytes : AreBytes text) (count : q �
   pub next_is_text : next_at (at p (string_text text ++ rest)) ≡ record { token = Text; start = 0; stop = length (string_text text); bytes = text }
   next_is_text = strings_are_read text rest bytes
 
-  behind_text : behind (at p (string_text text ++ rest)) ≡ at q rest
-  behind_text = rw (next_is_text, drop_front (string_text text) rest, count) refl
-
   pub string_back : string_at (at p (string_text text ++ rest)) ≡ Ok (text, at q rest)
   unfolding string_at
-  string_back = rw (next_is_text, behind_text) refl
+  string_back = rw (next_is_text, next_is_text, drop_front (string_text text) rest, count) refl
 
 -- ---- blanks are passed over
 
@@ -162,20 +159,21 @@ pub record Alike (s t : At) : Type 0 where
   pub bytes : (next_at s).bytes ≡ (next_at t).bytes
   pub place : token_place s ≡ token_place t
   pub behind : behind s ≡ behind t
+  pub end : end_place s ≡ end_place t
 
 abbrev moved : Scan → Scan
 moved scan = record { token = scan.token; start = 1 + scan.start; stop = 1 + scan.stop; bytes = scan.bytes }
 
-moved_string : (n left : ℕ) (text : List ℕ) (e : Ending) → string_scan (1 + n) left text e ≡ moved (string_scan n left text e)
-moved_string n left text (Closed k) = let e : 1 + n + 1 + k ≡ 1 + (n + 1 + k) = omega arith in rw e refl
-moved_string n left text Broken = refl
-moved_string n left text Unended = let e : 1 + n + 1 + left ≡ 1 + (n + 1 + left) = omega arith in rw e refl
+moved_string : (n : ℕ) (text : List ℕ) (e : Ending) → string_scan (1 + n) text e ≡ moved (string_scan n text e)
+moved_string n text (Closed k) = let e : 1 + n + 1 + k ≡ 1 + (n + 1 + k) = omega arith in rw e refl
+moved_string n text Broken = refl
+moved_string n text Unended = refl
 
 moved_by : (n b : ℕ) (bs : List ℕ) (word quote : Bool) →
-    (if word then word_scan (1 + n) (prefix_len is_item_byte (b ∷ bs)) (b ∷ bs) else if quote then (let q = quoted Between bs in string_scan (1 + n) (length bs) q.text q.ending) else record { token = Mark b; start = 1 + n; stop = 1 + n + 1; bytes = [] })
-    ≡ moved (if word then word_scan n (prefix_len is_item_byte (b ∷ bs)) (b ∷ bs) else if quote then (let q = quoted Between bs in string_scan n (length bs) q.text q.ending) else record { token = Mark b; start = n; stop = n + 1; bytes = [] })
+    (if word then word_scan (1 + n) (prefix_len is_item_byte (b ∷ bs)) (b ∷ bs) else if quote then (let q = quoted Between bs in string_scan (1 + n) q.text q.ending) else record { token = Mark b; start = 1 + n; stop = 1 + n + 1; bytes = [] })
+    ≡ moved (if word then word_scan n (prefix_len is_item_byte (b ∷ bs)) (b ∷ bs) else if quote then (let q = quoted Between bs in string_scan n q.text q.ending) else record { token = Mark b; start = n; stop = n + 1; bytes = [] })
 moved_by n b bs true quote = let e : 1 + n + prefix_len is_item_byte (b ∷ bs) ≡ 1 + (n + prefix_len is_item_byte (b ∷ bs)) = omega arith in rw e refl
-moved_by n b bs false true = moved_string n (length bs) (quoted Between bs).text (quoted Between bs).ending
+moved_by n b bs false true = moved_string n (quoted Between bs).text (quoted Between bs).ending
 moved_by n b bs false false = let e : 1 + n + 1 ≡ 1 + (n + 1) = omega arith in rw e refl
 
 moved_scan : (n : ℕ) (ys : List ℕ) → scan_from (1 + n) ys ≡ moved (scan_from n ys)
@@ -202,4 +200,5 @@ blank_alike p xs =
       bytes = rw b refl;
       place = rw (b, start) refl;
       behind = rw (b, stop, dropped) refl;
+      end = omega arith;
     }

@@ -1,5 +1,6 @@
 -- Strings: in double quotes, with bytes 0x20 to 0x7E and the escapes \" \\ \n \t \xHH.
 use Rattle.std.specs.Prelude.{ℕ, ◌+◌, ◌-◌, ◌*◌, List, [], ◌∷◌, Option, Some, None, nat_le, ◌==◌, ◌&&◌, ◌||◌, if◌then◌else◌}
+use Rattle.rio_token.specs.Marks.{backslash, double_quote}
 use Rattle.rio_token.specs.declared.quoted.Within.{Within}
 use Rattle.rio_token.specs.declared.quoted.Within.TheVariants.{Between, Escape, High, Low}
 use Rattle.rio_token.specs.declared.quoted.Step.{Step}
@@ -27,12 +28,12 @@ second_digit None l = Breaks
 -- what a byte does within a string
 abbrev pub step_of : Within → ℕ → Step
 step_of Between b =
-    if b == 34 then Closes
-    else if b == 92 then Goes Escape
+    if b == double_quote then Closes
+    else if b == backslash then Goes Escape
     else if nat_le 32 b && nat_le b 126 then Spells b
     else Breaks
 step_of Escape b =
-    if (b == 34) || (b == 92) then Spells b
+    if (b == double_quote) || (b == backslash) then Spells b
     else if b == 110 then Spells 10
     else if b == 116 then Spells 9
     else if b == 120 then Goes High

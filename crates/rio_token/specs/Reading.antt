@@ -1,13 +1,14 @@
 -- Reading texts from left to right, token after token, up to the first token that can't stand.
 use Rattle.std.specs.Prelude.{◌≡◌, ◌≢◌, ℕ, zero, suc, List, [], ◌∷◌, ◌++◌, length, Result, Ok, Err, Option, Some, None, option_and_then, Bool, true, false, ◌==◌, if◌then◌else◌}
 use Rattle.std.specs.Str.{bytes_eq}
-use Rattle.rio_num.specs.At.{At}
+use Rattle.rio_num.specs.At.{At, end_place}
 use Rattle.rio_num.specs.Reading.{◌>>=◌}
 use Rattle.rio_num.specs.Word.{is_name_text, is_item_text}
 use Rattle.rio_token.specs.declared.fault.TextFault.{TextFault}
 use Rattle.rio_token.specs.declared.fault.TextFault.TheVariants.{BadText, NoMemory}
 use Rattle.rio_token.specs.declared.token.Token.{Token}
-use Rattle.rio_token.specs.declared.token.Token.TheVariants.{Word, Text, Mark, Bad, Cut, End}
+use Rattle.rio_token.specs.declared.token.Token.TheVariants.{Word, Text, Mark, Cut, End}
+use Rattle.rio_token.specs.Marks.{comma}
 use Rattle.rio_token.specs.Tokens.{next_at, token_place, behind}
 use Rattle.rio_token.specs.Words.{num_of, num_between_of}
 
@@ -18,6 +19,10 @@ Read A = Result (A × At) TextFault
 -- the next token can't stand
 abbrev pub bad_at : {A : Type 0} → At → Read A
 bad_at s = Err (BadText (token_place s))
+
+-- Where a string may stand, one that isn't ended is no token that can't stand: the text ends too early. Its length is told.
+abbrev pub cut_at : {A : Type 0} → At → Read A
+cut_at s = Err (BadText (end_place s))
 
 -- what the next token says, if it may stand
 abbrev pub taken_at : {A : Type 0} → Option A → At → Read A
@@ -31,35 +36,15 @@ some_if b x = if b then Some x else None
 
 abbrev pub is_word : Token → Bool
 is_word Word = true
-is_word Text = false
-is_word (Mark b) = false
-is_word Bad = false
-is_word Cut = false
-is_word End = false
-
-abbrev pub is_text : Token → Bool
-is_text Word = false
-is_text Text = true
-is_text (Mark b) = false
-is_text Bad = false
-is_text Cut = false
-is_text End = false
+is_word other = false
 
 abbrev pub is_mark : ℕ → Token → Bool
-is_mark mark Word = false
-is_mark mark Text = false
 is_mark mark (Mark b) = b == mark
-is_mark mark Bad = false
-is_mark mark Cut = false
-is_mark mark End = false
+is_mark mark other = false
 
 abbrev pub is_end : Token → Bool
-is_end Word = false
-is_end Text = false
-is_end (Mark b) = false
-is_end Bad = false
-is_end Cut = false
 is_end End = true
+is_end other = false
 
 -- whether this byte of punctuation comes next
 abbrev pub marked : ℕ → At → Bool
@@ -104,9 +89,14 @@ num_between_at low high s = taken_at (option_and_then (num_between_of low high) 
 abbrev pub version_at : At → Read ℕ
 version_at = num_between_at 1 32767
 
+abbrev pub string_by : Token → At → Read (List ℕ)
+string_by Text s = Ok ((next_at s).bytes, behind s)
+string_by Cut s = cut_at s
+string_by other s = bad_at s
+
 -- a string: what it spells
 unfoldable pub string_at : At → Read (List ℕ)
-string_at s = taken_at (some_if (is_text (next_at s).token) (next_at s).bytes) s
+string_at s = string_by (next_at s).token s
 
 -- nothing but blanks is left
 unfoldable pub end_at : At → Read (Unit {0})
@@ -119,7 +109,7 @@ unfoldable pub more_at : {A : Type 0} → ℕ → ℕ → (List A → At → Rea
 more_at zero close item items s = bad_at s
 more_at (suc left) close item items s =
     if marked close s then Ok (items, behind s)
-    else (mark_at 44 s >>= λ comma. item items comma.1 >>= λ next. more_at left close item (items ++ next.0 ∷ []) next.1)
+    else (mark_at comma s >>= λ passed. item items passed.1 >>= λ next. more_at left close item (items ++ next.0 ∷ []) next.1)
 
 -- at least one item, and the closing mark; each further item takes some of the text that is left
 unfoldable pub some_at : {A : Type 0} → ℕ → (List A → At → Read A) → At → Read (List A)
@@ -144,6 +134,11 @@ Reads view (Err e) read new = Fails e read
 abbrev pub Takes : {X Y : Type 0} → (X → Y) → Result X TextFault → Read Y → At → At → Type 0
 Takes view (Ok x) read old new = read ≡ Ok (view x, new)
 Takes view (Err e) read old new = (read ≡ Err e) × (new ≡ old)
+
+-- the same, where memory may run out
+abbrev pub TakesInMemory : {X Y : Type 0} → (X → Y) → Result X TextFault → Read Y → At → At → Type 0
+TakesInMemory view (Ok x) read old new = read ≡ Ok (view x, new)
+TakesInMemory view (Err e) read old new = Fails e read × (new ≡ old)
 
 -- The answer is this one, unless memory ran out.
 abbrev pub Answers : {Y : Type 0} → Result Y TextFault → Result Y TextFault → Type 0

@@ -10,11 +10,12 @@ use Rattle.rio_token.specs.declared.scan.Scanned.{Scanned}
 use Rattle.rio_token.specs.declared.quoted.Ending.{Ending}
 use Rattle.rio_token.specs.declared.quoted.Ending.TheVariants.{Closed, Broken, Unended}
 use Rattle.rio_token.specs.declared.quoted.Within.TheVariants.{Between}
+use Rattle.rio_token.specs.Marks.{double_quote, space, tab}
 use Rattle.rio_token.specs.Quoted.{quoted}
 
 -- a space or a tab
 abbrev pub is_blank : ℕ → Bool
-is_blank b = (b == 32) || (b == 9)
+is_blank b = (b == space) || (b == tab)
 
 -- The next token: how many bytes stand before it, and before its end; the bytes of a word, or those that a string spells.
 pub record Scan : Type 0 where
@@ -27,18 +28,18 @@ pub record Scan : Type 0 where
 abbrev pub word_scan : ℕ → ℕ → List ℕ → Scan
 word_scan start n bytes = record { token = Word; start = start; stop = start + n; bytes = take n bytes }
 
--- A string, with its quotes. One with a bad byte or escape is a bad token where it starts. Where it isn't ended, the text is cut.
-abbrev pub string_scan : ℕ → ℕ → List ℕ → Ending → Scan
-string_scan start left text (Closed n) = record { token = Text; start = start; stop = start + 1 + n; bytes = text }
-string_scan start left text Broken = record { token = Bad; start = start; stop = start; bytes = text }
-string_scan start left text Unended = record { token = Cut; start = start + 1 + left; stop = start + 1 + left; bytes = text }
+-- A string, with its quotes. One with a bad byte or escape, or one that isn't ended, is a token of its own kind, which is never passed.
+abbrev pub string_scan : ℕ → List ℕ → Ending → Scan
+string_scan start text (Closed n) = record { token = Text; start = start; stop = start + 1 + n; bytes = text }
+string_scan start text Broken = record { token = Bad; start = start; stop = start; bytes = text }
+string_scan start text Unended = record { token = Cut; start = start; stop = start; bytes = text }
 
 -- the token at the front, behind so many blanks
 abbrev pub scan_from : ℕ → List ℕ → Scan
 scan_from start [] = record { token = End; start = start; stop = start; bytes = [] }
 scan_from start (b ∷ bs) =
     if is_item_byte b then word_scan start (prefix_len is_item_byte (b ∷ bs)) (b ∷ bs)
-    else if b == 34 then (let q = quoted Between bs in string_scan start (length bs) q.text q.ending)
+    else if b == double_quote then (let q = quoted Between bs in string_scan start q.text q.ending)
     else record { token = Mark b; start = start; stop = start + 1; bytes = [] }
 
 unfoldable pub scan_of : List ℕ → Scan
@@ -59,6 +60,10 @@ token_place s = s.place + (next_at s).start
 -- the place behind it
 abbrev pub behind : At → At
 behind s = skip (next_at s).stop s
+
+-- whether the next token follows directly, without a blank before it
+abbrev pub is_glued : At → Bool
+is_glued s = (next_at s).start == 0
 
 -- the place in a text, or its end where that is before
 abbrev pub standing_in : ℕ → List ℕ → At

@@ -1,3 +1,4 @@
+//! Why a text is not read.
 use rio_num::NoMemory;
 use thiserror::Error;
 

@@ -1,3 +1,4 @@
+//! Strings in double quotes, byte after byte.
 ghost use Rattle.std.specs.Prelude.{◌≡◌, ℕ, ◌≤◌, ◌<◌, length, IfOk, IfSome};
 ghost use Rattle.rio_token.specs.Quoted.{hex_value, quoted, step_of};
 

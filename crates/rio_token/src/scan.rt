@@ -1,3 +1,4 @@
+//! The next token: its kind, and where it begins and ends.
 ghost use Rattle.std.specs.Prelude.{◌≡◌, ◌+◌, ◌<◌, ◌≤◌, ◌^◌, length, take, drop};
 ghost use Rattle.std.specs.List.{prefix_len};
 ghost use Rattle.rio_num.specs.Word.{is_item_byte};
@@ -82,7 +83,8 @@ fn scan_from(bytes: &[u8], start: usize) -> Scanned
 // A string, whose opening quote stands before these bytes.
 fn scan_string(bytes: &[u8], start: usize) -> Scanned
     requires { start + 1 + length bytes.now < 2 ^ 64 }
-    ensures exact { IsScan result (string_scan start (length bytes.now) (quoted Between bytes.now).text (quoted Between bytes.now).ending) }
+    ensures exact { let q = quoted Between bytes.now in
+        IsScan result (string_scan start q.text q.ending) }
     ensures within { result.stop ≤ start + 1 + length bytes.now }
     ensures forward { result.start ≤ result.stop }
 {
@@ -99,8 +101,8 @@ fn scan_string(bytes: &[u8], start: usize) -> Scanned
         },
         Ending::Unended => Scanned {
             token: Token::Cut,
-            start: start + 1 + bytes.len(),
-            stop: start + 1 + bytes.len(),
+            start,
+            stop: start,
         },
     }
 }

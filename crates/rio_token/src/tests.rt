@@ -1,3 +1,4 @@
+//! Tokens of lines, with the places of those that can't stand, and words that are numbers.
 ghost use Rattle.std.specs.Prelude.{◌<◌, ◌^◌, length};
 
 use crate::{
@@ -26,6 +27,21 @@ fn words_marks_and_blanks(rt: HostRuntime) {
     assert_eq!(rt; tokens.take_word(), Err(bad(19)));
     assert_eq!(rt; tokens.expect_end(), Ok(()));
     assert_eq!(rt; tokens.place(), 19);
+}
+
+#[test]
+fn tokens_that_follow_directly(rt: HostRuntime) {
+    let mut tokens = Tokens::new(b"x=class: P ", 0);
+    assert!(rt; tokens.is_glued());
+    assert_eq!(rt; tokens.take_name(), Ok(b"x".as_slice()));
+    assert!(rt; tokens.is_glued());
+    assert_eq!(rt; tokens.expect_mark(b'='), Ok(()));
+    assert_eq!(rt; tokens.expect_word(b"class"), Ok(()));
+    assert_eq!(rt; tokens.expect_mark(b':'), Ok(()));
+    assert!(rt; !tokens.is_glued());
+    assert_eq!(rt; tokens.bad(), bad(9));
+    assert_eq!(rt; tokens.take_name(), Ok(b"P".as_slice()));
+    assert!(rt; !tokens.is_glued());
 }
 
 #[test]
@@ -70,9 +86,18 @@ fn strings_that_break(rt: HostRuntime) {
     assert_eq!(rt; string_fault(b"\"\\x0g\""), (Token::Bad, bad(0)));
     assert_eq!(rt; string_fault(b"\"\x7f\""), (Token::Bad, bad(0)));
     assert_eq!(rt; string_fault(b"\"\x1f"), (Token::Bad, bad(0)));
-    assert_eq!(rt; string_fault(b" \"abc"), (Token::Cut, bad(5)));
-    assert_eq!(rt; string_fault(b"\"ab\\"), (Token::Cut, bad(4)));
-    assert_eq!(rt; string_fault(b"\"\\x0"), (Token::Cut, bad(4)));
+    assert_eq!(rt; string_fault(b" \"abc"), (Token::Cut, bad(1)));
+    assert_eq!(rt; string_fault(b"\"ab\\"), (Token::Cut, bad(0)));
+    assert_eq!(rt; string_fault(b"\"\\x0"), (Token::Cut, bad(0)));
+}
+
+#[test]
+fn strings_that_are_not_ended(rt: HostRuntime) {
+    let mut tokens = Tokens::new(b"a \"bc", 1);
+    assert_eq!(rt; tokens.take_name(), Err(bad(2)));
+    assert_eq!(rt; tokens.expect_end(), Err(bad(2)));
+    assert_eq!(rt; tokens.take_text(rt.alloc()).err(), Some(bad(5)));
+    assert_eq!(rt; tokens.place(), 1);
 }
 
 #[test]

@@ -1,3 +1,4 @@
+//! The kinds of tokens.
 /// The kind of a token.
 #[derive(Clone, Copy, Debug, PartialEq, Eq)]
 pub enum Token {

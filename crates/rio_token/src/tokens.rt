@@ -1,3 +1,4 @@
+//! Reading token after token.
 ghost use Rattle.std.specs.Prelude.{◌≡◌, ◌≤◌, drop, length};
 ghost use Rattle.rio_token.specs.Quoted.{quoted};
 ghost use Rattle.rio_token.specs.Tokens.{IsScan, scan_of};
@@ -66,14 +67,17 @@ impl<'a> Model for Tokens<'a> {
 
     ghost view = { λ tokens. record { place = tokens.place; rest = tokens.rest.now } };
 
-    ghost invariant = { λ tokens. (tokens.place + length tokens.rest.now < 2 ^ 32) × IsScan tokens.next (scan_of tokens.rest.now) × (tokens.next.stop ≤ length tokens.rest.now) × (tokens.next.start ≤ tokens.next.stop) };
+    ghost invariant = { λ tokens. (tokens.place + length tokens.rest.now < 2 ^ 32)
+        × IsScan tokens.next (scan_of tokens.rest.now)
+        × (tokens.next.stop ≤ length tokens.rest.now)
+        × (tokens.next.start ≤ tokens.next.stop) };
 }
 
 impl<'a> Tokens<'a> {
     ghost use Rattle.std.specs.Prelude.{◌≡◌, ◌+◌, ◌<◌, ◌≤◌, ◌^◌, length, IfOk, if◌then◌else◌};
     ghost use Rattle.std.specs.Option.{option_copied};
-    ghost use Rattle.rio_token.specs.Tokens.{behind, next_at, standing_in, token_place};
-    ghost use Rattle.rio_token.specs.Reading.{Reads, Takes, end_at, item_at, keyword_at, mark_at, marked, name_at, next_word, num_at, num_between_at, string_at, word_at};
+    ghost use Rattle.rio_token.specs.Tokens.{behind, is_glued, next_at, standing_in, token_place};
+    ghost use Rattle.rio_token.specs.Reading.{Takes, TakesInMemory, end_at, item_at, keyword_at, mark_at, marked, name_at, next_word, num_at, num_between_at, string_at, word_at};
 
     /// Reads from the byte at `place` on, or from the text's end where that is before.
     pub fn new(text: &'a [u8], place: u32) -> Tokens<'a>
@@ -108,6 +112,24 @@ impl<'a> Tokens<'a> {
         ensures { result ≡ (next_at self.now).token }
     {
         self.next.token
+    }
+
+    /// Whether the next token follows directly, with no blank before it.
+    pub fn is_glued(&self) -> bool
+        ensures { result ≡ is_glued self.now }
+    {
+        self.next.start == 0
+    }
+
+    /// The same place in the same text, for a call that goes on only where all is read.
+    pub fn copy(&self) -> Tokens<'a>
+        ensures { result ≡ self.now }
+    {
+        Tokens {
+            rest: self.rest,
+            place: self.place,
+            next: self.next,
+        }
     }
 
     /// The fault of the next token, which can't stand where it does.
@@ -209,7 +231,8 @@ impl<'a> Tokens<'a> {
     /// Passes over this word.
     #[tactic(auto, unfolding(crate::specs::Reading::word_that_at))]
     pub fn expect_word(&mut self, keyword: &[u8]) -> Result<(), TextFault>
-        ensures { Takes (λ _. keyword.now) result (keyword_at keyword.now self.old) self.old self.new }
+        ensures { Takes (λ _. keyword.now) result
+            (keyword_at keyword.now self.old) self.old self.new }
     {
         match self.peek_word() {
             Some(word) if word == keyword => {
@@ -252,10 +275,10 @@ impl<'a> Tokens<'a> {
         }
     }
 
-    /// What the next token spells, a string.
+    /// What the next token spells, a string. Here the fault of one that isn't ended has the text's length.
     #[tactic(auto, unfolding(crate::specs::Reading::string_at))]
     pub fn take_text(&mut self, alloc: Global) -> Result<Name, TextFault>
-        ensures { Reads (λ text. text) result (string_at self.old) self.new }
+        ensures { TakesInMemory (λ text. text) result (string_at self.old) self.old self.new }
     {
         match self.next.token {
             Token::Text => {
@@ -263,6 +286,9 @@ impl<'a> Tokens<'a> {
                 self.pass();
                 Ok(text)
             }
+            Token::Cut => Err(TextFault::BadText {
+                place: self.place + self.rest.len() as u32,
+            }),
             _ => Err(self.bad()),
         }
     }

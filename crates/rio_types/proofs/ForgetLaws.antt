@@ -8,10 +8,11 @@ use Rattle.std.specs.Str.{bytes_eq}
 use Rattle.std.proofs.lemmas.List.{length-append, length-take-le, take_more}
 use Rattle.std.proofs.lemmas.Option.{slice_get-get_or, slice_get_within, get_or_from_slice_get}
 use Rattle.rio_types.specs.Classes.{newest_in, newer_of}
-use Rattle.rio_types.specs.Index.{place, is_named, has_number, NamesLead, NumbersLead, NewestLead}
+use Rattle.rio_types.specs.Index.{has_number, NamesLead, NumbersLead, NewestLead}
+use Rattle.rio_types.specs.Places.{place, is_named}
 use Rattle.rio_types.specs.declared.class.ClassDef.{ClassDef}
 use Rattle.rio_types.proofs.LeadLaws.{slice_get-front, slice_get-either, bytes_same, bytes_self, int_self, one_name, true_or_false, place-push_found}
-use Rattle.rio_types.proofs.NewestLaws.{newest_with, newest-push, no_newest_fails, place_below, slice_get-set_other, slice_get-set_same}
+use Rattle.rio_types.proofs.NewestLaws.{newest_with, newest-push, no_newest_fails, place_below, slice_get-set_other, slice_get-set_same, slice_get-take}
 use Rattle.rio_types.proofs.PlaceLaws.{place_passes, no_place_fails}
 
 -- ---- names and numbers
@@ -55,23 +56,10 @@ newest_named [] name d e = absurd (cc)
 newest_named (c ∷ cs) name d e =
     named_if name (bytes_eq c.name name) c d (newest_in cs name) refl (λ x h. newest_named cs name x h) e
 
--- one class more, in a walk through the classes
-pub newest-more : (cs : List ClassDef) (k : ℕ) (c : ClassDef) (name : List ℕ) → slice_get cs k ≡ Some c → newest_in (take (k + 1) cs) name ≡ newest_with (bytes_eq c.name name) (newest_in (take k cs) name) c
-newest-more cs k c name at =
-    ap (λ (xs : List ClassDef). newest_in xs name) (take_more cs k c (slice_get_within cs k c at) ∙ ap (λ (x : ClassDef). take k cs ++ x ∷ []) (get_or_from_slice_get cs k c c at))
-    ∙ newest-push (take k cs) c name
-
 pub none_newest : (cs : List ClassDef) (name : List ℕ) (first : ℕ) → place (is_named name) cs ≡ Some first → None ≡ newest_in cs name → ⊥
 none_newest cs name first met none =
     let x = place_passes (is_named name) cs first met in
     let clash : true ≡ false = sym x.2 ∙ no_newest_fails cs name first x.0 (sym none) x.1 in cc clash
-
-slice_get-take : (xs : List ℕ) (n k : ℕ) → k < n → slice_get (take n xs) k ≡ slice_get xs k
-slice_get-take [] zero k lt = refl
-slice_get-take [] (suc n) k lt = refl
-slice_get-take (x ∷ xs) zero k lt = absurd (omega arith)
-slice_get-take (x ∷ xs) (suc n) zero lt = refl
-slice_get-take (x ∷ xs) (suc n) (suc k) lt = slice_get-take xs n k (omega arith)
 
 module _ (cs : List ClassDef) (c : ClassDef) (newest : List ℕ) (lead : NewestLead (cs ++ c ∷ []) newest) (one_each : length newest ≡ length (cs ++ c ∷ [])) where
   rest_length : length (take (length cs) newest) ≡ length cs

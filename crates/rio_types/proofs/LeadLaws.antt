@@ -6,9 +6,10 @@ use Rattle.std.specs.Ordering.{int_eq}
 use Rattle.std.specs.Str.{bytes_eq}
 use Rattle.std.proofs.lemmas.Bool.Decides.{Decides-eqb, Decides-int_eq, same_from_decides}
 use Rattle.std.proofs.lemmas.Slice.Eq.{bytes_eq-Decides}
-use Rattle.rio_types.specs.Index.{place, passing, is_named, has_number, NamesLead, NumbersLead}
+use Rattle.rio_types.specs.Index.{passing, has_number, NamesLead, NumbersLead}
+use Rattle.rio_types.specs.Places.{place, is_named}
 use Rattle.rio_types.specs.declared.class.ClassDef.{ClassDef}
-use Rattle.rio_types.proofs.NameLaws.{bytes_eq-sym}
+use Rattle.rio_num.proofs.BytesEq.{bytes_eq-sym}
 use Rattle.rio_types.proofs.PlaceLaws.{last_place, place_passes, no_place_fails, place-push, passing_none, passing_some}
 
 -- ---- lists with one more class

@@ -1,3 +1,4 @@
+pub mod ChainLaws
 pub mod ForgetLaws
 pub mod LeadLaws
 pub mod MapLaws

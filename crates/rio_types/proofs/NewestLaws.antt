@@ -1,5 +1,5 @@
 -- The newest class of a name, and one more class.
-use Rattle.std.proofs.Common.{◌≡◌, ◌≢◌, ℕ, ℤ, suc, zero, ◌<◌, List, [], ◌∷◌, ◌++◌, length, get_or, set, Bool, true, false, if◌then◌else◌, ⊎_elim, Option, Some, None, refl, sym, ap, ◌∙◌, arith}
+use Rattle.std.proofs.Common.{◌≡◌, ◌≢◌, ℕ, ℤ, suc, zero, ◌<◌, List, [], ◌∷◌, ◌++◌, length, get_or, set, take, Bool, true, false, if◌then◌else◌, ⊎_elim, Option, Some, None, refl, sym, ap, ◌∙◌, arith}
 use Rattle.std.specs.Prelude.{int_le}
 use Rattle.std.specs.List.{slice_get}
 use Rattle.std.specs.Option.{option_and_then, option_map_or}
@@ -8,10 +8,16 @@ use Rattle.std.proofs.lemmas.List.{get_or-set_same, length-set, length-append}
 use Rattle.std.proofs.lemmas.Option.{slice_get-get_or, slice_get_within, get_or_from_slice_get, slice_get_past}
 use Rattle.std.proofs.lemmas.Grind.{common_steps}
 use Rattle.rio_types.specs.Classes.{newest_in, newer_of}
-use Rattle.rio_types.specs.Index.{place, is_named, newer_than, newest_place, NewestLead}
+use Rattle.rio_types.specs.Index.{newest_place, NewestLead}
+use Rattle.rio_types.specs.Places.{place, is_named}
 use Rattle.rio_types.specs.declared.class.ClassDef.{ClassDef}
 use Rattle.rio_types.proofs.LeadLaws.{slice_get-front, slice_get-last, bytes_same, bytes_self, one_name, true_or_false, place-push_failing, place-push_found, place-push_first}
 use Rattle.rio_types.proofs.PlaceLaws.{place_passes, no_place_fails}
+
+-- a class, if it is newer than the one before it, if there is one
+abbrev pub newer_than : Option ClassDef → ClassDef → ClassDef
+newer_than None c = c
+newer_than (Some b) c = newer_of b (Some c)
 
 -- the newest of a name, with one more class, of that name or not
 abbrev pub newest_with : Bool → Option ClassDef → ClassDef → Option ClassDef
@@ -83,17 +89,24 @@ none_named_no_newest (c ∷ cs) name none =
 pub no_place_no_newest : (cs : List ClassDef) (name : List ℕ) → place (is_named name) cs ≡ None → newest_in cs name ≡ None
 no_place_no_newest cs name e = none_named_no_newest cs name (λ k x at. no_place_fails (is_named name) cs k x e at)
 
-pub slice_get-set_other : (xs : List ℕ) (i j b : ℕ) → j ≢ i → slice_get (set xs i b) j ≡ slice_get xs j
+pub slice_get-set_other : {X : Type 0} (xs : List X) (i j : ℕ) (b : X) → j ≢ i → slice_get (set xs i b) j ≡ slice_get xs j
 slice_get-set_other [] i j b ne = refl
 slice_get-set_other (x ∷ xs) zero zero b ne = absurd (ne refl)
 slice_get-set_other (x ∷ xs) zero (suc j) b ne = refl
 slice_get-set_other (x ∷ xs) (suc i) zero b ne = refl
 slice_get-set_other (x ∷ xs) (suc i) (suc j) b ne = slice_get-set_other xs i j b (λ e. ne (ap suc e))
 
-pub slice_get-set_same : (xs : List ℕ) (i b : ℕ) → i < length xs → slice_get (set xs i b) i ≡ Some b
-slice_get-set_same xs i b lt =
-    let within : i < length (set xs i b) = omega (arith, length-set xs i b) in
-    slice_get-get_or (set xs i b) i 0 within ∙ ap Some (get_or-set_same xs i b 0 lt)
+pub slice_get-set_same : {X : Type 0} (xs : List X) (i : ℕ) (b : X) → i < length xs → slice_get (set xs i b) i ≡ Some b
+slice_get-set_same [] i b lt = absurd (omega arith)
+slice_get-set_same (x ∷ xs) zero b lt = refl
+slice_get-set_same (x ∷ xs) (suc i) b lt = slice_get-set_same xs i b (omega arith)
+
+pub slice_get-take : {X : Type 0} (xs : List X) (n k : ℕ) → k < n → slice_get (take n xs) k ≡ slice_get xs k
+slice_get-take [] zero k lt = refl
+slice_get-take [] (suc n) k lt = refl
+slice_get-take (x ∷ xs) zero k lt = absurd (omega arith)
+slice_get-take (x ∷ xs) (suc n) zero lt = refl
+slice_get-take (x ∷ xs) (suc n) (suc k) lt = slice_get-take xs n k (omega arith)
 
 pub place_below : (test : ClassDef → Bool) (cs : List ClassDef) (k : ℕ) → place test cs ≡ Some k → k < length cs
 place_below test cs k e = let x = place_passes test cs k e in slice_get_within cs k x.0 x.1

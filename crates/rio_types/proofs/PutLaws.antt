@@ -3,7 +3,8 @@ use Rattle.std.proofs.Common.{◌≡◌, ℕ, ℤ, List, [], ◌∷◌, ◌++◌
 use Rattle.std.specs.Ordering.{int_eq}
 use Rattle.std.specs.Str.{bytes_eq}
 use Rattle.std.proofs.lemmas.Bool.Decides.{Decides-eqb}
-use Rattle.rio_types.specs.Index.{place, passing, is_named, has_number, NamesLead, NumbersLead}
+use Rattle.rio_types.specs.Index.{passing, has_number, NamesLead, NumbersLead}
+use Rattle.rio_types.specs.Places.{place, is_named}
 use Rattle.rio_types.specs.declared.class.ClassDef.{ClassDef}
 use Rattle.rio_types.proofs.PlaceLaws.{passing_none}
 use Rattle.rio_types.proofs.LeadLaws.{bytes_self, int_self, name_is_found, names-stay, names-push, no_name_no_number, number_is_found, numbers-stay, numbers-push, passing_gave, place-push_found, place-push_first}

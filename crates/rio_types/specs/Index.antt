@@ -7,21 +7,15 @@ use Rattle.std.specs.Ordering.{int_cmp, int_eq, nat_cmp, ordering_then}
 use Rattle.std.specs.Str.{bytes_eq}
 use Rattle.std.specs.declared.vec.Vec.{Vec}
 use Rattle.rio_types.specs.Classes.{newer_of, newest_in}
+use Rattle.rio_types.specs.Chain.{IsChainOf}
+use Rattle.rio_types.specs.Places.{is_named, place}
 use Rattle.rio_types.specs.declared.class.ClassDef.{ClassDef}
 use Rattle.rio_types.specs.declared.index.Index.{Index}
-
--- the place of the first class that passes
-abbrev pub place : (ClassDef → Bool) → List ClassDef → Option ℕ
-place test [] = None
-place test (c ∷ cs) = if test c then Some 0 else option_map suc (place test cs)
 
 -- a place, if a class that passes stands there
 abbrev pub passing : (ClassDef → Bool) → List ClassDef → Option ℕ → Option ℕ
 passing test classes None = None
 passing test classes (Some k) = if option_map_or test (slice_get classes k) false then Some k else None
-
-abbrev pub is_named : List ℕ → ClassDef → Bool
-is_named name c = bytes_eq c.name name
 
 abbrev pub version_of : ClassDef → ℤ
 version_of c = c.version
@@ -53,11 +47,6 @@ NumbersLead number classes at = (k : ℕ) (c : ClassDef) (first : ℕ) → slice
 abbrev pub NewestLead : List ClassDef → List ℕ → Type 0
 NewestLead classes newest = (name : List ℕ) (first : ℕ) → place (is_named name) classes ≡ Some first → option_and_then (slice_get classes) (slice_get newest first) ≡ newest_in classes name
 
--- a class, if it is newer than the one before it, if there is one
-abbrev pub newer_than : Option ClassDef → ClassDef → ClassDef
-newer_than None c = c
-newer_than (Some b) c = newer_of b (Some c)
-
 -- ---- an index
 
 -- the place of the newest of a name, once a class of that name comes behind the others: best is the newest before it, if there is one
@@ -70,3 +59,4 @@ pub record IsIndexOf (classes : List ClassDef) (index : Index) : Type 0 where
   pub sums_lead : NumbersLead sum_of classes (number_at index.sums)
   pub newest_lead : NewestLead classes index.newest.items
   pub one_each : length index.newest.items ≡ length classes
+  pub chained : IsChainOf classes index.chain

@@ -1,3 +1,4 @@
+//! Classes, and copies of them.
 ghost use Rattle.std.specs.Prelude.{◌≡◌, IfOk};
 
 use crate::Kind;

@@ -1,3 +1,4 @@
+//! Lists of classes, searched by maps beside them.
 use crate::ClassDef;
 use crate::index::Index;
 use crate::members::can_read_all;
@@ -24,13 +25,17 @@ impl Model for Classes {
 
     ghost view = { λ classes. classes.items.items };
 
-    ghost invariant = { λ classes. (classes.readable.items ≡ map is_readable classes.items.items) × IsIndexOf classes.items.items classes.index };
+    ghost invariant = { λ classes. (classes.readable.items ≡ map is_readable classes.items.items)
+        × IsIndexOf classes.items.items classes.index };
 }
 
 impl Classes {
-    ghost use Rattle.std.specs.Prelude.{◌≡◌, ◌-◌, [], ◌∷◌, ◌++◌, ◌↔◌, length, slice_get, take, IsTrue, OnOk, OnErr};
+    ghost use Rattle.std.specs.Prelude.{◌≡◌, ◌-◌, [], ◌∷◌, ◌++◌, ◌↔◌, Some, length, slice_get, take, IsTrue, OnOk, OnErr};
     ghost use Rattle.std.specs.Option.{option_copied, option_map};
+    ghost use Rattle.rio_types.specs.Chain.{last_before};
     ghost use Rattle.rio_types.specs.Classes.{find_in, find_sum_in, judged, newest_in};
+    ghost use Rattle.rio_types.specs.Places.{is_named};
+    ghost use Rattle.rio_types.specs.declared.class.ClassDef.{ClassDef as Class};
 
     /// No classes.
     pub fn new(alloc: Global) -> Classes
@@ -118,23 +123,42 @@ impl Classes {
             .get(self.index.newest(self.items.as_slice(), name)?)
     }
 
+    /// The place of the last class of that name.
+    pub fn last_named(&self, name: &[u8]) -> Option<usize>
+        ensures { result ≡ last_before (is_named name.now) self.now (length self.now) }
+    {
+        self.index.last(self.items.as_slice(), name)
+    }
+
+    /// The place of the last class before the one at `k` that has the same name. So all classes of a name are found, the
+    /// last of them first, and no other is looked at.
+    pub fn same_name_before(&self, k: usize) -> Option<usize>
+        ensures { (c : Class) → slice_get self.now k ≡ Some c
+            → result ≡ last_before (is_named c.name) self.now k }
+    {
+        self.index.before(self.items.as_slice(), k)
+    }
+
     /// The first class of that name and version, and whether its members can all be read: none is of a kind that isn't
     /// read, and each counter stands before the members that it counts.
     pub fn find_judged(&self, name: &[u8], version: i32) -> Option<(&ClassDef, bool)>
-        ensures { option_map (λ p. (p.0.now, p.1)) result ≡ option_map judged (find_in self.now name.now version) }
+        ensures { option_map (λ p. (p.0.now, p.1)) result
+            ≡ option_map judged (find_in self.now name.now version) }
     {
         self.judged(self.index.find(self.items.as_slice(), name, version)?)
     }
 
     /// The first class of that name that states this checksum, and whether its members can all be read.
     pub fn find_sum_judged(&self, name: &[u8], sum: u32) -> Option<(&ClassDef, bool)>
-        ensures { option_map (λ p. (p.0.now, p.1)) result ≡ option_map judged (find_sum_in self.now name.now sum) }
+        ensures { option_map (λ p. (p.0.now, p.1)) result
+            ≡ option_map judged (find_sum_in self.now name.now sum) }
     {
         self.judged(self.index.find_sum(self.items.as_slice(), name, sum)?)
     }
 
     fn judged(&self, k: usize) -> Option<(&ClassDef, bool)>
-        ensures { option_map (λ p. (p.0.now, p.1)) result ≡ option_map judged (slice_get self.now k) }
+        ensures { option_map (λ p. (p.0.now, p.1)) result
+            ≡ option_map judged (slice_get self.now k) }
     {
         let class = self.items.get(k)?;
         let readable = self.readable.get(k)?;

@@ -1,12 +1,16 @@
 //! Where classes stand in a list of them, by name and by name and number.
-ghost use Rattle.std.specs.Prelude.{◌≡◌, ◌+◌, ◌^◌, ◌<◌, ℕ, ℤ, List, [], ◌∷◌, ◌++◌, Some, slice_get, ◌==◌, ◌&&◌, length, pos, if◌then◌else◌, IfOk, OnOk, OnErr};
+ghost use Rattle.std.specs.Prelude.{◌≡◌, ◌+◌, ◌^◌, ◌<◌, ℕ, ℤ, List, [], ◌∷◌, ◌++◌, Some, slice_get, ◌==◌, ◌&&◌, length, pos, if◌then◌else◌, IfOk, IsOk, OnOk, OnErr, vec_capacity, vec_len};
 ghost use Rattle.std.specs.Option.{option_and_then, option_copied};
 ghost use Rattle.std.specs.Ordering.{int_eq};
 ghost use Rattle.std.specs.Str.{bytes_eq};
+ghost use Rattle.rio_types.specs.Chain.{last_before};
 ghost use Rattle.rio_types.specs.Classes.{find_in, find_sum_in, newest_in};
-ghost use Rattle.rio_types.specs.Index.{IsIndexOf, NamesLead, NewestLead, NumbersLead, has_number, is_named, name_at, newest_place, number_at, passing, place, sum_of, version_of};
+ghost use Rattle.rio_types.specs.Index.{IsIndexOf, NamesLead, NewestLead, NumbersLead, has_number, name_at, newest_place, number_at, passing, sum_of, version_of};
+ghost use Rattle.rio_types.specs.Places.{is_named, place};
+ghost use Rattle.rio_types.specs.declared.class.ClassDef.{ClassDef as Class};
 
 use crate::ClassDef;
+use crate::chain::Chain;
 use crate::forget::forget_newest;
 use rio_num::NoMemory;
 use std::alloc::Global;
@@ -27,6 +31,8 @@ pub(crate) struct Index {
     sums: Numbers,
     // At the first class of a name, the newest of that name.
     newest: Vec<usize>,
+    // The classes of each name, from the last of them back.
+    chain: Chain,
 }
 
 impl Index {
@@ -39,6 +45,7 @@ impl Index {
             versions: Numbers::new(alloc),
             sums: Numbers::new(alloc),
             newest: Vec::new(alloc),
+            chain: Chain::new(alloc),
         }
     }
 
@@ -53,7 +60,8 @@ impl Index {
     /// The place of the first class of that name and version.
     pub(crate) fn find(&self, classes: &[ClassDef], name: &[u8], version: i32) -> Option<usize>
         requires { IsIndexOf classes.now self.now }
-        ensures { option_and_then (slice_get classes.now) result ≡ find_in classes.now name.now version }
+        ensures { option_and_then (slice_get classes.now) result
+            ≡ find_in classes.now name.now version }
     {
         let key = (self.first(classes, name)?, i64::from(version));
         version_passing(classes, self.versions.get(&key).copied(), name, version)
@@ -62,7 +70,8 @@ impl Index {
     /// The place of the first class of that name that states this checksum.
     pub(crate) fn find_sum(&self, classes: &[ClassDef], name: &[u8], sum: u32) -> Option<usize>
         requires { IsIndexOf classes.now self.now }
-        ensures { option_and_then (slice_get classes.now) result ≡ find_sum_in classes.now name.now sum }
+        ensures { option_and_then (slice_get classes.now) result
+            ≡ find_sum_in classes.now name.now sum }
     {
         let key = (self.first(classes, name)?, i64::from(sum));
         sum_passing(classes, self.sums.get(&key).copied(), name, sum)
@@ -75,6 +84,24 @@ impl Index {
     {
         let first = self.first(classes, name)?;
         place_at(self.newest.as_slice(), first)
+    }
+
+    /// The place of the last class of that name.
+    pub(crate) fn last(&self, classes: &[ClassDef], name: &[u8]) -> Option<usize>
+        requires { IsIndexOf classes.now self.now }
+        ensures { result ≡ last_before (is_named name.now) classes.now (length classes.now) }
+    {
+        let first = self.first(classes, name)?;
+        self.chain.last(first)
+    }
+
+    /// The place of the last class before the one at `k` that has its name.
+    pub(crate) fn before(&self, classes: &[ClassDef], k: usize) -> Option<usize>
+        requires { IsIndexOf classes.now self.now }
+        ensures { (c : Class) → slice_get classes.now k ≡ Some c
+            → result ≡ last_before (is_named c.name) classes.now k }
+    {
+        self.chain.before(k)
     }
 
     /// Takes up a class that comes behind the others.
@@ -91,6 +118,8 @@ impl Index {
         let first = put_first(&mut self.names, alloc, classes, class)?;
         put_version(&mut self.versions, classes, class, first)?;
         put_sum(&mut self.sums, classes, class, first)?;
+        self.newest.reserve(1)?;
+        self.chain.put(classes, class, first)?;
         put_newest(&mut self.newest, classes, class, first)
     }
 
@@ -101,7 +130,8 @@ impl Index {
     {
         let name = class.name.as_slice();
         let first = first_passing(classes, self.names.get(name).copied(), name);
-        forget_newest(&mut self.newest, classes, class, first);
+        self.chain.forget(classes, class, first);
+        forget_newest(&mut self.newest, &self.chain, classes, class, first);
     }
 }
 
@@ -157,7 +187,8 @@ fn sum_passing(classes: &[ClassDef], place: Option<usize>, name: &[u8], sum: u32
 
 // The name leads to the place from now on.
 fn put_name(names: &mut Names, alloc: Global, name: &[u8], place: usize) -> Result<(), NoMemory>
-    ensures ok { OnOk result ((q : List ℕ) → name_at names.new q ≡ (if bytes_eq q name.now then Some place else name_at names.old q)) }
+    ensures ok { OnOk result ((q : List ℕ) → name_at names.new q
+        ≡ (if bytes_eq q name.now then Some place else name_at names.old q)) }
     ensures err { OnErr result ((q : List ℕ) → name_at names.new q ≡ name_at names.old q) }
 {
     names.insert(Vec::from_slice(alloc, name)?, place)?;
@@ -171,8 +202,10 @@ fn put_number(
     number: i64,
     place: usize,
 ) -> Result<(), NoMemory>
-    ensures ok { OnOk result ((a : ℕ) (z : ℤ) → number_at numbers.new a z ≡ (if (a == first) && int_eq z number then Some place else number_at numbers.old a z)) }
-    ensures err { OnErr result ((a : ℕ) (z : ℤ) → number_at numbers.new a z ≡ number_at numbers.old a z) }
+    ensures ok { OnOk result ((a : ℕ) (z : ℤ) → number_at numbers.new a z
+        ≡ (if (a == first) && int_eq z number then Some place else number_at numbers.old a z)) }
+    ensures err { OnErr result ((a : ℕ) (z : ℤ) → number_at numbers.new a z
+        ≡ number_at numbers.old a z) }
 {
     numbers.insert((first, number), place)?;
     Ok(())
@@ -188,7 +221,8 @@ fn put_first(
     requires { NamesLead classes.now (name_at names.old) }
     ensures stays { NamesLead classes.now (name_at names.new) }
     ensures leads { OnOk result (NamesLead (classes.now ++ class.now ∷ []) (name_at names.new)) }
-    ensures first { IfOk result (λ first. place (is_named class.now.name) (classes.now ++ class.now ∷ []) ≡ Some first) }
+    ensures first { IfOk result (λ first.
+        place (is_named class.now.name) (classes.now ++ class.now ∷ []) ≡ Some first) }
 {
     let name = class.name.as_slice();
     match first_passing(classes, names.get(name).copied(), name) {
@@ -210,7 +244,8 @@ fn put_version(
     requires lead { NumbersLead version_of classes.now (number_at versions.old) }
     requires first { place (is_named class.now.name) (classes.now ++ class.now ∷ []) ≡ Some first }
     ensures stays { NumbersLead version_of classes.now (number_at versions.new) }
-    ensures leads { OnOk result (NumbersLead version_of (classes.now ++ class.now ∷ []) (number_at versions.new)) }
+    ensures leads { OnOk result (NumbersLead version_of (classes.now ++ class.now ∷ [])
+        (number_at versions.new)) }
 {
     let (name, version) = (class.name.as_slice(), class.version);
     let key = (first, i64::from(version));
@@ -233,7 +268,8 @@ fn put_sum(
     requires lead { NumbersLead sum_of classes.now (number_at sums.old) }
     requires first { place (is_named class.now.name) (classes.now ++ class.now ∷ []) ≡ Some first }
     ensures stays { NumbersLead sum_of classes.now (number_at sums.new) }
-    ensures leads { OnOk result (NumbersLead sum_of (classes.now ++ class.now ∷ []) (number_at sums.new)) }
+    ensures leads { OnOk result (NumbersLead sum_of (classes.now ++ class.now ∷ [])
+        (number_at sums.new)) }
 {
     let (name, sum) = (class.name.as_slice(), class.sum);
     let key = (first, i64::from(sum));
@@ -271,8 +307,10 @@ fn put_newest(
     requires one_each { length newest.old.items ≡ length classes.now }
     requires first { place (is_named class.now.name) (classes.now ++ class.now ∷ []) ≡ Some first }
     ensures leads { OnOk result (NewestLead (classes.now ++ class.now ∷ []) newest.new.items) }
-    ensures longer { OnOk result (length newest.new.items ≡ length (classes.now ++ class.now ∷ [])) }
+    ensures longer { OnOk result (length newest.new.items
+        ≡ length (classes.now ++ class.now ∷ [])) }
     ensures err { OnErr result (newest.new.items ≡ newest.old.items) }
+    ensures succeeds { vec_len newest.old < vec_capacity newest.old → IsOk result }
 {
     newest.push(classes.len())?;
     newest[first] = newest_place(classes, class, newest[first]);

@@ -1,3 +1,4 @@
+//! What the members of a class hold.
 ghost use Rattle.std.specs.Prelude.{◌≡◌, IfOk};
 
 use rio_num::{Name, NoMemory};

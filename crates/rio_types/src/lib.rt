@@ -1,6 +1,7 @@
 //! Classes as a file describes them, and lists of classes.
 #![tactic(auto)]
 
+mod chain;
 mod class;
 mod classes;
 mod forget;

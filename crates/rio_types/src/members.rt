@@ -18,7 +18,8 @@ fn is_counter(kind: &Kind) -> bool
 
 // Whether a member of the kind can be read behind these counters.
 fn can_read(counters: &Counters, kind: &Kind) -> bool
-    ensures { (names : List (List ℕ)) → HasNames counters.now names → result ≡ can_read names kind.now }
+    ensures { (names : List (List ℕ)) → HasNames counters.now names
+        → result ≡ can_read names kind.now }
 {
     match kind {
         Kind::Counted { counter, .. } => counters.contains(counter.as_slice()),
@@ -29,7 +30,8 @@ fn can_read(counters: &Counters, kind: &Kind) -> bool
 
 // Puts the member's name among the counters, if it is one.
 fn note<'a>(counters: &mut Counters<'a>, member: &'a Member) -> Result<(), NoMemory>
-    ensures { OnOk result ((names : List (List ℕ)) → HasNames counters.old names → HasNames counters.new (names_with member.now names)) }
+    ensures { OnOk result ((names : List (List ℕ)) → HasNames counters.old names
+        → HasNames counters.new (names_with member.now names)) }
 {
     if is_counter(&member.kind) {
         counters.insert(member.name.as_slice())?;

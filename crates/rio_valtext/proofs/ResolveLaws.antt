@@ -12,7 +12,7 @@ use Rattle.rio_value.specs.declared.value.Value.{Value, Int, Bits32, Bits64, Boo
 use Rattle.rio_value.specs.declared.value.Value.TheFolds.{fold-Part, fold_out-Part}
 use Rattle.rio_format.specs.Bodies.{part}
 use Rattle.rio_format.proofs.ValueCases.{Each, by_cases, fold_Int, fold_Bits32, fold_Bits64, fold_Bool, fold_Text, fold_List, fold_Object, fold_Pointed, fold_Null, fold_Back, fold_Opaque}
-use Rattle.rio_valtext.specs.Resolving.{ResolvedStays, Resolving, bases_of, each_resolved, is_known, object_resolved, part_resolved, resolved_version, resolving_of, resolving_of_part, resolving_step}
+use Rattle.rio_model.specs.Resolving.{ResolvedStays, Resolving, bases_in_version, each_resolved, is_known_version, object_resolved, part_resolved, resolved_version, resolving_of, resolving_of_part, resolving_step}
 
 -- ---- options
 
@@ -122,9 +122,9 @@ module _ (classes : List ClassDef) where
   object_stays : (class : List ℕ) (version : ℤ) (parts : List Part) → Each (λ p. Stays p.value) parts → Stays (Object class version parts)
   object_stays class version parts s bases w h =
       option_and_then_some (object_resolved classes class (map (resolving_of_part classes) parts)) (resolved_version classes bases class version) w (sym (resolving-Object class version parts bases) ∙ h) (λ v picks made.
-      let within : List Base = bases_of classes class v in
+      let within : List Base = bases_in_version classes class v in
       mapped (Object class v) (each_resolved within (map (resolving_of_part classes) parts)) w made (λ ps inner e.
-      let version_stays : resolved_version classes bases class v ≡ Some v = version_again (is_known classes class) _ version v picks in
+      let version_stays : resolved_version classes bases class v ≡ Some v = version_again (is_known_version classes class) _ version v picks in
       let parts_stay : each_resolved within (map (resolving_of_part classes) ps) ≡ Some ps = each_stays (resolving_of_part classes) within parts ps (each_part within parts s) inner in
       subst (λ (z : Value). resolving_of classes z bases ≡ Some z) e
       (resolving-Object class v ps bases ∙ ap (option_and_then (object_resolved classes class (map (resolving_of_part classes) ps))) version_stays ∙ ap (option_map (Object class v)) parts_stay)))

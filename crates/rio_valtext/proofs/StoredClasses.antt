@@ -11,14 +11,17 @@ use Rattle.rio_types.specs.Classes.{find_in}
 use Rattle.rio_types.specs.declared.class.ClassDef.{ClassDef}
 use Rattle.rio_types.specs.declared.kind.Kind.TheVariants.{Plain, Text as Texted}
 use Rattle.rio_types.specs.declared.kind.Primitive.TheVariants.{I8, I16, I32, I64, U32, F32, F64}
-use Rattle.rio_format.specs.Bodies.{Form, bare, numbers, headed, form_of, Body, described, listed, arrayed, t_named, t_obj_string, t_object_base, built_in}
+use Rattle.rio_format.specs.Bodies.{form_of, Body, described, listed, arrayed, t_named, t_obj_string, t_object_base, built_in}
+use Rattle.rio_format.specs.declared.shape.Shape.{Shape as Form}
+use Rattle.rio_format.specs.declared.shape.Shape.TheVariants.{Bare as bare, Numbers as numbers, Headed as headed}
 use Rattle.rio_format.specs.Fits.{Labels, Fitting, fields_fit, parts_fit}
 use Rattle.rio_format.specs.Slots.{Field, kinded, flags, any_pointer, link, many, field, base_field, member_field, body_fields, form_fields, fields_of, is_headed}
 use Rattle.rio_format.proofs.Tests.{both_true}
 use Rattle.rio_format.proofs.ValueCases.{Each}
+use Rattle.rio_model.specs.Readable.{are_bases_first}
 use Rattle.rio_model.specs.Stated.{is_class_version}
 use Rattle.rio_valtext.specs.Stored.{has_names}
-use Rattle.rio_valtext.proofs.StoredSlots.{IsPlaced, placed, base_placed, described_placed}
+use Rattle.rio_valtext.proofs.StoredSlots.{IsPlaced, placed, base_placed, described_first, described_placed}
 
 -- ---- names and versions
 
@@ -79,13 +82,14 @@ pub record IsFormed (class : List ℕ) (version : ℤ) (parts : List (List ℕ �
   pub version_stated : is_class_version version ≡ true
   pub fields : List Field
   pub all_placed : Each IsPlaced fields
+  pub first : are_bases_first true (map (λ f. f.name) fields) ≡ true
   pub fit : fields_fit fields parts [] before ≡ Some after
 
 -- fields that are there in version 1 alone
-first_version : (class : List ℕ) (version : ℤ) (fields : List Field) (parts : List (List ℕ × Fitting)) (before after : Labels) (b : Bool) → is_name_text class ≡ true → Each IsPlaced fields → int_eq version (pos 1) ≡ b
+first_version : (class : List ℕ) (version : ℤ) (fields : List Field) (parts : List (List ℕ × Fitting)) (before after : Labels) (b : Bool) → is_name_text class ≡ true → Each IsPlaced fields → are_bases_first true (map (λ f. f.name) fields) ≡ true → int_eq version (pos 1) ≡ b
     → parts_fit (cond b (Some fields) None) parts before ≡ Some after → IsFormed class version parts before after
-first_version class version fields parts before after true named all t e = record { class_named = named; version_stated = own_version version (pos 1) refl t; fields = fields; all_placed = all; fit = e }
-first_version class version fields parts before after false named all t e = absurd cc
+first_version class version fields parts before after true named all first t e = record { class_named = named; version_stated = own_version version (pos 1) refl t; fields = fields; all_placed = all; first = first; fit = e }
+first_version class version fields parts before after false named all first t e = absurd cc
 
 abbrev IsBodyKnown : List ℕ → ℤ → Body → Type 0
 IsBodyKnown class version body = (parts : List (List ℕ × Fitting)) (before after : Labels) → parts_fit (body_fields (Some body)) parts before ≡ Some after → IsFormed class version parts before after
@@ -96,6 +100,7 @@ described_known class version c n parts before after e = record {
   version_stated = n.version_stated;
   fields = map base_field c.bases ++ map member_field c.members;
   all_placed = described_placed c.bases c.members n.members_named;
+  first = described_first c.bases c.members n.members_named;
   fit = e;
 }
 
@@ -105,6 +110,7 @@ listed_known class version named stated parts before after e = record {
   version_stated = stated;
   fields = base_field t_object_base ∷ field (codes "fName") (kinded Texted) ∷ field (codes "items") (many link) ∷ [];
   all_placed = (base_placed t_object_base, (placed (codes "fName") (kinded Texted) refl (λ d. omega arith), (placed (codes "items") (many link) refl (λ d. omega arith), tt)));
+  first = refl;
   fit = e;
 }
 
@@ -114,6 +120,7 @@ arrayed_known class version named stated parts before after e = record {
   version_stated = stated;
   fields = base_field t_object_base ∷ field (codes "fName") (kinded Texted) ∷ field (codes "fLowerBound") (kinded (Plain I32)) ∷ field (codes "items") (many any_pointer) ∷ [];
   all_placed = (base_placed t_object_base, (placed (codes "fName") (kinded Texted) refl (λ d. omega arith), (placed (codes "fLowerBound") (kinded (Plain I32)) refl (λ d. omega arith), (placed (codes "items") (many any_pointer) refl (λ d. omega arith), tt))));
+  first = refl;
   fit = e;
 }
 
@@ -149,10 +156,10 @@ module _ (classes : List ClassDef) (named : list_all has_names classes ≡ true)
   form_known : (class : List ℕ) (version : ℤ) (form : Form) → form_of class ≡ form → (parts : List (List ℕ × Fitting)) (before after : Labels) → parts_fit (form_fields classes class version form) parts before ≡ Some after → IsFormed class version parts before after
   form_known class version bare is parts before after e =
       first_version class version (field (codes "fUniqueID") (kinded (Plain U32)) ∷ field (codes "fBits") flags ∷ []) parts before after (int_eq version (pos 1)) (form_named class (ap is_headed is))
-      (placed (codes "fUniqueID") (kinded (Plain U32)) refl (λ d. omega arith), (placed (codes "fBits") flags refl (λ d. omega arith), tt)) refl e
+      (placed (codes "fUniqueID") (kinded (Plain U32)) refl (λ d. omega arith), (placed (codes "fBits") flags refl (λ d. omega arith), tt)) refl refl e
   form_known class version (numbers of) is parts before after e =
       first_version class version (field (codes "items") (many (kinded (Plain of))) ∷ []) parts before after (int_eq version (pos 1)) (form_named class (ap is_headed is))
-      (placed (codes "items") (many (kinded (Plain of))) refl (λ d. omega arith), tt) refl e
+      (placed (codes "items") (many (kinded (Plain of))) refl (λ d. omega arith), tt) refl refl e
   form_known class version headed is parts before after e =
       declared_known class version (built_in class version) (find_in classes class version) (built_known class version) (λ c found. found_named classes class version c named found) parts before after e
 

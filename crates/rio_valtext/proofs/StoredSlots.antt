@@ -15,6 +15,7 @@ use Rattle.rio_format.specs.Fits.{counted_slot, fixed_by}
 use Rattle.rio_format.specs.Slots.{Slot, kinded, based, flags, any_pointer, link, many, Field, field, base_field, member_field}
 use Rattle.rio_format.proofs.Tests.{both_true}
 use Rattle.rio_format.proofs.ValueCases.{Each}
+use Rattle.rio_model.specs.Readable.{are_bases_first}
 
 pub both : (a b : Bool) → a ≡ true → b ≡ true → (a && b) ≡ true
 both true b p q = q
@@ -112,3 +113,19 @@ members_placed (m ∷ ms) e = let n = both_true (is_name_text m.name) (list_all 
 pub described_placed : (bs : List Base) (ms : List Member) → list_all (λ m. is_name_text m.name) ms ≡ true → Each IsPlaced (map base_field bs ++ map member_field ms)
 described_placed [] ms e = members_placed ms e
 described_placed (b ∷ bs) ms e = (base_placed b, described_placed bs ms e)
+
+-- ---- bases first
+
+some_name : (name : List ℕ) → is_name_text name ≡ true → (length name == 0) ≡ false
+some_name [] e = absurd cc
+some_name (b ∷ bs) e = some_length (length bs)
+
+members_first : (front : Bool) (ms : List Member) → list_all (λ m. is_name_text m.name) ms ≡ true → are_bases_first front (map (λ f. f.name) (map member_field ms)) ≡ true
+members_first front [] e = refl
+members_first front (m ∷ ms) e =
+    let n = both_true (is_name_text m.name) (list_all (λ m. is_name_text m.name) ms) e in
+    rw (some_name m.name n.0) (members_first false ms n.1)
+
+pub described_first : (bs : List Base) (ms : List Member) → list_all (λ m. is_name_text m.name) ms ≡ true → are_bases_first true (map (λ f. f.name) (map base_field bs ++ map member_field ms)) ≡ true
+described_first [] ms e = members_first true ms e
+described_first (b ∷ bs) ms e = described_first bs ms e

@@ -20,7 +20,7 @@ use Rattle.rio_format.proofs.Tests.{both_true, named_as}
 use Rattle.rio_format.proofs.ValueCases.{Each, by_cases, fold_Int, fold_Bits32, fold_Bits64, fold_Bool, fold_Text, fold_List, fold_Object, fold_Pointed, fold_Null, fold_Back, fold_Opaque}
 use Rattle.rio_format.proofs.WrittenLists.{fittings}
 use Rattle.rio_format.proofs.WrittenValues.{object_fitting, fit_object}
-use Rattle.rio_model.specs.Readable.{Readability, is_number, part_within, readability_of, readable_step, single}
+use Rattle.rio_model.specs.Readable.{PartReadability, Readability, are_bases_first, are_parts_within, is_number, part_readable, readability_of, readable_step, single}
 use Rattle.rio_model.specs.Stated.{is_class_version}
 use Rattle.rio_valtext.specs.Stored.{has_names, held_step, is_held}
 use Rattle.rio_valtext.proofs.StoredClasses.{object_formed}
@@ -72,53 +72,53 @@ named_part false is_object object is_name e o = e
 
 -- ---- folds
 
-abbrev part_reading : Part → ℕ → Bool
-part_reading p = part_within p.name (readability_of p.value)
+abbrev part_reading : Part → PartReadability
+part_reading p = part_readable p.name (readability_of p.value)
 
-part_reads : (p : Part) → fold-Part Readability (ℕ → Bool) readable_step (λ p. part_within p.name p.value) p ≡ part_reading p
+part_reads : (p : Part) → fold-Part Readability PartReadability readable_step (λ p. part_readable p.name p.value) p ≡ part_reading p
 unfolding readability_of
-part_reads p = fold_out-Part Readability (ℕ → Bool) readable_step (λ p. part_within p.name p.value) p
+part_reads p = fold_out-Part Readability PartReadability readable_step (λ p. part_readable p.name p.value) p
 
 read_Int : (z : ℤ) → readability_of (Int z) ≡ single (is_number z)
 unfolding readability_of
-read_Int z = fold_Int readable_step (λ p. part_within p.name p.value) z
+read_Int z = fold_Int readable_step (λ p. part_readable p.name p.value) z
 
 read_Bits32 : (n : ℕ) → readability_of (Bits32 n) ≡ single (nat_lt n (2 ^ 32))
 unfolding readability_of
-read_Bits32 n = fold_Bits32 readable_step (λ p. part_within p.name p.value) n
+read_Bits32 n = fold_Bits32 readable_step (λ p. part_readable p.name p.value) n
 
 read_Bits64 : (n : ℕ) → readability_of (Bits64 n) ≡ single (nat_lt n (2 ^ 64))
 unfolding readability_of
-read_Bits64 n = fold_Bits64 readable_step (λ p. part_within p.name p.value) n
+read_Bits64 n = fold_Bits64 readable_step (λ p. part_readable p.name p.value) n
 
 read_Bool : (b : Bool) → readability_of (Truth b) ≡ single true
 unfolding readability_of
-read_Bool b = fold_Bool readable_step (λ p. part_within p.name p.value) b
+read_Bool b = fold_Bool readable_step (λ p. part_readable p.name p.value) b
 
 read_Text : (text : List ℕ) → readability_of (Text text) ≡ single (list_all (λ b. nat_lt b 256) text)
 unfolding readability_of
-read_Text text = fold_Text readable_step (λ p. part_within p.name p.value) text
+read_Text text = fold_Text readable_step (λ p. part_readable p.name p.value) text
 
 read_List : (vs : List Value) → readability_of (Items vs) ≡ readable_step (layer.List (map readability_of vs))
 unfolding readability_of
-read_List vs = fold_List readable_step (λ p. part_within p.name p.value) vs
+read_List vs = fold_List readable_step (λ p. part_readable p.name p.value) vs
 
 read_Object : (class : List ℕ) (version : ℤ) (parts : List Part) → readability_of (Object class version parts) ≡ readable_step (layer.Object class version (map part_reading parts))
 unfolding readability_of
 read_Object class version parts =
-    fold_Object readable_step (λ p. part_within p.name p.value) class version parts ∙ ap (λ (g : Part → ℕ → Bool). readable_step (layer.Object class version (map g parts))) (λ i p. part_reads p i)
+    fold_Object readable_step (λ p. part_readable p.name p.value) class version parts ∙ ap (λ (g : Part → PartReadability). readable_step (layer.Object class version (map g parts))) (λ i p. part_reads p i)
 
 read_Pointed : (label : ℕ) (object : Value) → readability_of (Pointed label object) ≡ readable_step (layer.Pointed label (readability_of object))
 unfolding readability_of
-read_Pointed label object = fold_Pointed readable_step (λ p. part_within p.name p.value) label object
+read_Pointed label object = fold_Pointed readable_step (λ p. part_readable p.name p.value) label object
 
 read_Null : readability_of Null ≡ single true
 unfolding readability_of
-read_Null = fold_Null readable_step (λ p. part_within p.name p.value)
+read_Null = fold_Null readable_step (λ p. part_readable p.name p.value)
 
 read_Back : (label : ℕ) → readability_of (Back label) ≡ single (nat_lt label (2 ^ 32))
 unfolding readability_of
-read_Back label = fold_Back readable_step (λ p. part_within p.name p.value) label
+read_Back label = fold_Back readable_step (λ p. part_readable p.name p.value) label
 
 part_depth : (p : Part) → fold-Part ℕ ℕ depth_step (λ p. p.value) p ≡ depth_of p.value
 part_depth p = fold_out-Part ℕ ℕ depth_step (λ p. p.value) p
@@ -196,14 +196,14 @@ module _ (classes : List ClassDef) (named : list_all has_names classes ≡ true)
 
   -- ---- objects
 
-  part_read : (f : Field) (y : Part) (counters : Counters) (levels : ℕ) → y.name ≡ f.name → IsPlaced f → IsReadableIn (counted_slot counters f.slot) (readability_of y.value) levels → part_reading y levels ≡ true
+  part_read : (f : Field) (y : Part) (counters : Counters) (levels : ℕ) → y.name ≡ f.name → IsPlaced f → IsReadableIn (counted_slot counters f.slot) (readability_of y.value) levels → (part_reading y).within levels ≡ true
   part_read f y counters levels same placed one =
       both ((readability_of y.value).within levels) (cond (length y.name == 0) (readability_of y.value).object (is_name_text y.name)) one.within
       (subst (λ (n : List ℕ). cond (length n == 0) (readability_of y.value).object (is_name_text n) ≡ true) (sym same)
       (named_part (length f.name == 0) (is_object_slot f.slot) (readability_of y.value).object (is_name_text f.name) placed.named (λ o. one.object (counted_object counters f.slot o))))
 
   parts_read : (fs : List Field) (ys : List Part) → Each (λ y. IsRead y.value) ys → Each IsPlaced fs → (counters : Counters) (before after : Labels) (d levels : ℕ) → fields_fit fs (fittings classes ys) counters before ≡ Some after
-      → greatest (map (λ y. depth_of y.value) ys) ≤ d → list_all (λ b. b) (map (λ y. is_held y.value) ys) ≡ true → 3 * d + 2 ≤ levels → list_all (λ p. p levels) (map part_reading ys) ≡ true
+      → greatest (map (λ y. depth_of y.value) ys) ≤ d → list_all (λ b. b) (map (λ y. is_held y.value) ys) ≡ true → 3 * d + 2 ≤ levels → list_all (λ p. p.within levels) (map part_reading ys) ≡ true
   parts_read [] [] known placed counters before after d levels e deep held low = refl
   parts_read [] (y ∷ ys) known placed counters before after d levels e deep held low = absurd cc
   parts_read (f ∷ fs) [] known placed counters before after d levels e deep held low = absurd cc
@@ -215,9 +215,20 @@ module _ (classes : List ClassDef) (named : list_all has_names classes ≡ true)
       let slot_low = counted_low counters f.slot d in
       let field_low = placed.0.low d in
       option_and_then_some (fields_fit fs (fittings classes ys) behind) ((fitting_of classes y.value).fits slot before) after n.1 (λ mid first rest.
-      both (part_reading y levels) (list_all (λ p. p levels) (map part_reading ys))
+      both ((part_reading y).within levels) (list_all (λ p. p.within levels) (map part_reading ys))
       (part_read f y counters levels n.0 placed.0 (known.0 slot before mid d levels first (omega (arith, deep)) h.0 (omega (arith, slot_low, field_low, low))))
       (parts_read fs ys known.1 placed.1 behind mid after d levels rest (omega (arith, deep)) h.1 low))
+
+  -- the parts have the names of the fields
+  names_fit : (fs : List Field) (ys : List Part) (counters : Counters) (before after : Labels) → fields_fit fs (fittings classes ys) counters before ≡ Some after → map (λ p. p.name) (map part_reading ys) ≡ map (λ f. f.name) fs
+  names_fit [] [] counters before after e = refl
+  names_fit [] (y ∷ ys) counters before after e = absurd cc
+  names_fit (f ∷ fs) [] counters before after e = absurd cc
+  names_fit (f ∷ fs) (y ∷ ys) counters before after e =
+      let n = named_as f.name y.name after (bytes_eq y.name f.name) _ refl e in
+      let behind = counted_so_far f (fitting_of classes y.value).number counters in
+      option_and_then_some (fields_fit fs (fittings classes ys) behind) ((fitting_of classes y.value).fits (counted_slot counters f.slot) before) after n.1 (λ mid first rest.
+      rw (n.0, names_fit fs ys behind mid after rest) refl)
 
   abbrev object_reading : List ℕ → ℤ → List Part → Readability
   object_reading class version parts = readable_step (layer.Object class version (map part_reading parts))
@@ -231,11 +242,15 @@ module _ (classes : List ClassDef) (named : list_all has_names classes ≡ true)
       let wide = object_levels class version slot (suc d) t.0 in
       let enough : 3 * d + 3 ≤ levels = omega (arith, wide, low) in
       let head = nat_lt 0 levels && is_name_text class in
+      let readings = map part_reading parts in
+      let names = names_fit f.fields parts [] before after f.fit in
       record {
         within =
-            both (head && is_class_version version) (list_all (λ p. p (levels - 1)) (map part_reading parts))
+            both (head && is_class_version version) (are_parts_within readings (levels - 1))
             (both head (is_class_version version) (both (nat_lt 0 levels) (is_name_text class) (some_level levels (omega (arith, enough))) f.class_named) f.version_stated)
-            (parts_read f.fields parts known f.all_placed [] before after d (levels - 1) f.fit (omega (arith, deep)) held (omega (arith, enough)));
+            (both (list_all (λ p. p.within (levels - 1)) readings) (are_bases_first true (map (λ p. p.name) readings))
+            (parts_read f.fields parts known f.all_placed [] before after d (levels - 1) f.fit (omega (arith, deep)) held (omega (arith, enough)))
+            (rw names f.first));
         object = λ o. refl;
       }
 

@@ -17,7 +17,7 @@ use Rattle.rio_format.specs.Bodies.{form_of, part}
 use Rattle.rio_format.specs.Slots.{is_headed}
 use Rattle.rio_format.proofs.Tests.{both_true}
 use Rattle.rio_format.proofs.ValueCases.{Each, by_cases, fold_Int, fold_Bits32, fold_Bits64, fold_Bool, fold_Text, fold_List, fold_Object, fold_Pointed, fold_Null, fold_Back, fold_Opaque}
-use Rattle.rio_valtext.specs.Resolving.{ResolvedHasVersions, Resolving, bases_of, built_in_version, each_resolved, has_all_versions, is_known, meant_version, object_resolved, part_resolved, resolved_version, resolving_of, resolving_of_part, resolving_step, versions_step}
+use Rattle.rio_model.specs.Resolving.{ResolvedHasVersions, Resolving, bases_in_version, built_in_version, each_resolved, has_all_versions, is_known_version, meant_version, object_resolved, part_resolved, resolved_version, resolving_of, resolving_of_part, resolving_step, versions_step}
 use Rattle.rio_valtext.proofs.ResolveLaws.{at, is_known_then, mapped, resolving-List, resolving-Object, resolving-Pointed}
 
 -- ---- versions
@@ -59,7 +59,7 @@ one_of : (P : Type 0) (a b : Bool) → (a ≡ true → P) → (b ≡ true → P)
 one_of P true b f g e = f refl
 one_of P false b f g e = g e
 
-known_closed : (classes : List ClassDef) (class : List ℕ) (version : ℤ) → list_all (λ c. is_closed c.version) classes ≡ true → is_known classes class version ≡ true → is_closed version ≡ true
+known_closed : (classes : List ClassDef) (class : List ℕ) (version : ℤ) → list_all (λ c. is_closed c.version) classes ≡ true → is_known_version classes class version ≡ true → is_closed version ≡ true
 known_closed classes class version closed e =
     one_of (is_closed version ≡ true) (is_some (find_in classes class version)) (option_map_or (int_eq version) (built_in_version class) false) (found_closed classes class version closed) (built_closed class version) e
 
@@ -140,9 +140,9 @@ module _ (classes : List ClassDef) (closed : list_all (λ c. is_closed c.version
   object_closes : (class : List ℕ) (version : ℤ) (parts : List Part) → Each (λ p. Closes p.value) parts → Closes (Object class version parts)
   object_closes class version parts s bases w h =
       option_and_then_some (object_resolved classes class (map (resolving_of_part classes) parts)) (resolved_version classes bases class version) w (sym (resolving-Object classes class version parts bases) ∙ h) (λ v picks made.
-      let within : List Base = bases_of classes class v in
+      let within : List Base = bases_in_version classes class v in
       mapped (Object class v) (each_resolved within (map (resolving_of_part classes) parts)) w made (λ ps inner e.
-      let known : is_known classes class v ≡ true = (is_known_then (is_known classes class) (meant_version classes bases class version) v picks).1 in
+      let known : is_known_version classes class v ≡ true = (is_known_then (is_known_version classes class) (meant_version classes bases class version) v picks).1 in
       let own : is_closed v ≡ true = known_closed classes class v closed known in
       let more : list_all (λ b. b) (map part_has_versions ps) ≡ true = all_pass (resolving_of_part classes) part_has_versions within parts ps (each_part within parts s) inner in
       subst (λ (z : Value). has_all_versions z ≡ true) e (versions-Object class v ps ∙ rw (own, more) refl)))

@@ -1,2 +1,2 @@
-pub mod Resolving
+pub mod Resolves
 pub mod Stored

@@ -1,4 +1,4 @@
--- Values that fit a class of a list: what a file stores. The text of each says everything of it, and is read as the value.
+-- Values that fit a class of a list: what a file stores. The text of each says everything of it, and is read as it.
 use Rattle.std.specs.Prelude.{◌≡◌, ℕ, ◌+◌, ◌≤◌, ◌^◌, List, ◌++◌, length, nat_lt, Ok, Bool, true, ◌&&◌, IsTrue}
 use Rattle.std.specs.List.{list_all}
 use Rattle.rio_num.specs.Word.{is_name_text}
@@ -38,14 +38,18 @@ is_held = fold-Value Bool Bool held_step (λ p. p.value)
 
 -- the text of a value that fits a class, and goes as deep as a file's values may, says everything of the value
 abbrev pub StoredIsReadable : Type 0
-StoredIsReadable = (classes : List ClassDef) (class : List ℕ) (v : Value) → IsTrue (list_all has_names classes) → Fits classes class v → depth_of v ≤ depth_limit → IsTrue (is_held v)
+StoredIsReadable = (classes : List ClassDef) (class : List ℕ) (v : Value) → IsTrue (list_all has_names classes)
+    → Fits classes class v → depth_of v ≤ depth_limit → IsTrue (is_held v)
     → is_readable v ≡ true
 
 -- and so it is read as the value, wherever it stands
 abbrev pub StoredIsRead : Type 0
-StoredIsRead = (front rest : List ℕ) (classes : List ClassDef) (class : List ℕ) (v : Value) → IsTrue (list_all has_names classes) → Fits classes class v → depth_of v ≤ depth_limit → IsTrue (is_held v) → Follows rest
-    → value_in (front ++ (text_of_value v ++ rest)) (length front) ≡ Ok (v, record { place = length front + length (text_of_value v); rest = rest })
+StoredIsRead = (front rest : List ℕ) (classes : List ClassDef) (class : List ℕ) (v : Value)
+    → IsTrue (list_all has_names classes) → Fits classes class v → depth_of v ≤ depth_limit → IsTrue (is_held v) → Follows rest
+    → value_in (front ++ (text_of_value v ++ rest)) (length front)
+    ≡ Ok (v, record { place = length front + length (text_of_value v); rest = rest })
 
 -- classes that a declaration can give have such names and versions
 abbrev pub StatedHasNames : Type 0
-StatedHasNames = (classes : List ClassDef) → IsTrue (list_all has_stated_parts classes) → IsTrue (list_all has_names classes)
+StatedHasNames = (classes : List ClassDef) → IsTrue (list_all has_stated_parts classes)
+    → IsTrue (list_all has_names classes)

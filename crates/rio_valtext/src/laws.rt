@@ -1,3 +1,4 @@
+//! What a file stores is read from its text.
 ghost use Rattle.rio_valtext.specs.Stored.{StatedHasNames, StoredIsRead, StoredIsReadable};
 
 /// The text of a value that fits a class, and goes at most 256 objects deep, says everything of it and is read as the

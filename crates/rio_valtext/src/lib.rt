@@ -14,6 +14,8 @@ mod tests;
 
 pub use laws::stored_values_are_read;
 pub use print::print_value;
-pub use read::read_value;
-pub use resolving::{ResolveFault, resolve, resolved_has_versions, resolved_stays};
+pub use read::{read_value, take_value, take_values};
+pub use resolving::{
+    ResolveFault, resolve, resolved, resolved_has_versions, resolved_row, resolved_stays,
+};
 pub use rio_token::TextFault;

@@ -2,9 +2,10 @@
 //! another.
 ghost use Rattle.std.specs.Prelude.{◌≡◌, ◌<◌, ◌^◌, length, pos};
 ghost use Rattle.rio_num.specs.Word.{is_name_text};
-ghost use Rattle.rio_token.specs.Reading.{Answers, Reads, list_at, more_at};
+ghost use Rattle.rio_token.specs.Reading.{Answers, Reads, TakesInMemory, list_at, more_at};
 ghost use Rattle.rio_token.specs.Words.{bits_of, number_of};
-ghost use Rattle.rio_model.specs.ValueGrammar.{class_version_at, enclosed_at, listed, marked_value_at, named_object_at, number_or, bits_value, object_at, object_of, opens_object, part_at, pointer_at, text_value_at, value_and_end, value_at, value_in, word_value, word_value_at};
+ghost use Rattle.rio_token.specs.Marks.{closing_brace, closing_bracket};
+ghost use Rattle.rio_model.specs.ValueGrammar.{bracket_limit, class_version_at, enclosed_at, listed, marked_value_at, named_object_at, number_or, bits_value, object_at, object_of, opens_object, part_at, pointer_at, row_at, text_value_at, value_and_end, value_at, value_in, values_at, word_value, word_value_at};
 
 use rio_num::{Boxed, Name, is_name};
 use rio_token::{Bits, TextFault, Token, Tokens, parse_bits, parse_number};
@@ -21,8 +22,32 @@ pub fn read_value(alloc: Global, text: &[u8], place: u32) -> Result<(Value, u32)
     ensures { Answers result (value_and_end (value_in text.now place)) }
 {
     let mut tokens = Tokens::new(text, place);
-    let value = read_next(alloc, &mut tokens, BRACKET_LIMIT)?;
+    let value = take_value(alloc, &mut tokens)?;
     Ok((value, tokens.place()))
+}
+
+/// The value that the next tokens spell. `BadText` names the first token that can't stand in a value. A
+/// refused call leaves the tokens as they were.
+pub fn take_value(alloc: Global, tokens: &mut Tokens) -> Result<Value, TextFault>
+    ensures { TakesInMemory (λ v. v) result
+        (value_at (enclosed_at bracket_limit) tokens.old) tokens.old tokens.new }
+{
+    let mut ahead = tokens.copy();
+    let value = read_next(alloc, &mut ahead, BRACKET_LIMIT)?;
+    *tokens = ahead;
+    Ok(value)
+}
+
+/// The row that the next tokens spell: a list of values, whose own brackets count among those that may
+/// stand within one another. `BadText` names the first token that can't stand in it. A refused call leaves
+/// the tokens as they were.
+pub fn take_values(alloc: Global, tokens: &mut Tokens) -> Result<Values, TextFault>
+    ensures { TakesInMemory (λ vs. vs) result (row_at tokens.old) tokens.old tokens.new }
+{
+    let mut ahead = tokens.copy();
+    let values = read_values(alloc, &mut ahead, BRACKET_LIMIT - 1)?;
+    *tokens = ahead;
+    Ok(values)
 }
 
 #[cycle(value)]
@@ -32,9 +57,8 @@ fn read_next(alloc: Global, tokens: &mut Tokens, levels: u32) -> Result<Value, T
 {
     match tokens.peek() {
         Token::Word => read_word(alloc, tokens, levels),
-        Token::Text => read_text(alloc, tokens),
         Token::Mark(mark) => read_marked(alloc, tokens, mark, levels),
-        _ => Err(tokens.bad()),
+        _ => read_text(alloc, tokens),
     }
 }
 
@@ -52,7 +76,8 @@ fn read_marked(
     mark: u8,
     levels: u32,
 ) -> Result<Value, TextFault>
-    ensures { Reads (λ v. v) result (marked_value_at (enclosed_at levels) mark tokens.old) tokens.new }
+    ensures { let read = marked_value_at (enclosed_at levels) mark tokens.old in
+        Reads (λ v. v) result read tokens.new }
 {
     match mark {
         b'[' => read_list(alloc, tokens, levels),
@@ -134,7 +159,8 @@ fn read_object(
     class: &[u8],
     levels: u32,
 ) -> Result<Value, TextFault>
-    ensures { Reads (λ v. v) result (object_at (enclosed_at levels) class.now tokens.old) tokens.new }
+    ensures { let read = object_at (enclosed_at levels) class.now tokens.old in
+        Reads (λ v. v) result read tokens.new }
 {
     let version = read_version(tokens)?;
     read_braces(alloc, tokens, class, version, levels)
@@ -174,15 +200,26 @@ fn read_list(alloc: Global, tokens: &mut Tokens, levels: u32) -> Result<Value, T
     if levels == 0 {
         return Err(tokens.bad());
     }
+    Ok(Value::List(read_values(alloc, tokens, levels - 1)?))
+}
+
+// The values between square brackets.
+#[cycle(value)]
+#[tactic(auto, unfolding(rio_model::specs::ValueGrammar::values_at))]
+fn read_values(alloc: Global, tokens: &mut Tokens, levels: u32) -> Result<Values, TextFault>
+    ensures { Reads (λ vs. vs) result (values_at (enclosed_at levels) tokens.old) tokens.new }
+{
     tokens.expect_mark(b'[')?;
-    Ok(Value::List(read_items(alloc, tokens, levels - 1)?))
+    read_items(alloc, tokens, levels)
 }
 
 // The values of a list and its closing bracket.
 #[cycle(value)]
 #[tactic(auto, unfolding(rio_token::specs::Reading::list_at, rio_token::specs::Reading::some_at))]
 fn read_items(alloc: Global, tokens: &mut Tokens, levels: u32) -> Result<Values, TextFault>
-    ensures { Reads (λ v. v) result (list_at 93 (λ before. value_at (enclosed_at levels)) tokens.old) tokens.new }
+    ensures { Reads (λ vs. vs) result
+        (list_at closing_bracket (λ before. value_at (enclosed_at levels)) tokens.old)
+        tokens.new }
 {
     let mut items = Values::new(alloc);
     if tokens.take_mark(b']') {
@@ -199,7 +236,10 @@ fn read_more_items(
     mut items: Values,
     levels: u32,
 ) -> Result<Values, TextFault>
-    ensures { Reads (λ v. v) result (more_at (length tokens.old.rest) 93 (λ before. value_at (enclosed_at levels)) items tokens.old) tokens.new }
+    ensures { let left = length tokens.old.rest in
+        Reads (λ vs. vs) result
+        (more_at left closing_bracket (λ before. value_at (enclosed_at levels)) items tokens.old)
+        tokens.new }
 {
     for _done in 0..tokens.left() {
         if tokens.take_mark(b']') {
@@ -221,7 +261,8 @@ fn read_braces(
     version: i32,
     levels: u32,
 ) -> Result<Value, TextFault>
-    ensures { Reads (λ v. v) result (enclosed_at levels (object_of class.now version) tokens.old) tokens.new }
+    ensures { Reads (λ v. v) result
+        (enclosed_at levels (object_of class.now version) tokens.old) tokens.new }
 {
     if levels == 0 {
         return Err(tokens.bad());
@@ -239,7 +280,9 @@ fn read_braces(
 #[cycle(value)]
 #[tactic(auto, unfolding(rio_token::specs::Reading::list_at, rio_token::specs::Reading::some_at))]
 fn read_parts(alloc: Global, tokens: &mut Tokens, levels: u32) -> Result<Parts, TextFault>
-    ensures { Reads (λ v. v) result (list_at 125 (λ before. part_at (enclosed_at levels)) tokens.old) tokens.new }
+    ensures { Reads (λ ps. ps) result
+        (list_at closing_brace (λ before. part_at (enclosed_at levels)) tokens.old)
+        tokens.new }
 {
     let mut parts = Parts::new(alloc);
     if tokens.take_mark(b'}') {
@@ -256,7 +299,10 @@ fn read_more_parts(
     mut parts: Parts,
     levels: u32,
 ) -> Result<Parts, TextFault>
-    ensures { Reads (λ v. v) result (more_at (length tokens.old.rest) 125 (λ before. part_at (enclosed_at levels)) parts tokens.old) tokens.new }
+    ensures { let left = length tokens.old.rest in
+        Reads (λ ps. ps) result
+        (more_at left closing_brace (λ before. part_at (enclosed_at levels)) parts tokens.old)
+        tokens.new }
 {
     for _done in 0..tokens.left() {
         if tokens.take_mark(b'}') {

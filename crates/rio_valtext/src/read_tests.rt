@@ -1,5 +1,7 @@
-use crate::{TextFault, read_value};
+//! Values as they are read.
+use crate::{TextFault, read_value, take_value, take_values};
 use rio_num::{Bytes, Name, NoMemory};
+use rio_token::Tokens;
 use rio_value::Value;
 use std::alloc::Global;
 use std::test::Fail;
@@ -53,6 +55,17 @@ fn strings(rt: HostRuntime) {
     assert_eq!(rt; end_of(rt.alloc(), b"\"a\\n\""), Ok(5));
     assert_eq!(rt; end_of(rt.alloc(), b"[\"a\\N\"]"), bad(1));
     assert_eq!(rt; end_of(rt.alloc(), b"[\"a\\"), bad(4));
+}
+
+// The place is the text's length where a string may stand, and else that of its opening quote.
+#[test]
+fn strings_that_are_not_ended(rt: HostRuntime) {
+    assert_eq!(rt; end_from(rt.alloc(), b"put s A{x: \"", 6), bad(12));
+    assert_eq!(rt; end_of(rt.alloc(), b"[1, \"x"), bad(6));
+    assert_eq!(rt; end_of(rt.alloc(), b"A\"b"), bad(1));
+    assert_eq!(rt; end_of(rt.alloc(), b"@\"1"), bad(1));
+    assert_eq!(rt; end_of(rt.alloc(), b"[1 \"x"), bad(3));
+    assert_eq!(rt; end_of(rt.alloc(), b"A{x \""), bad(4));
 }
 
 #[test]
@@ -212,4 +225,56 @@ fn is_the_list(value: &Value) -> bool {
         },
         _ => false,
     }
+}
+
+// The places behind `put`, an ITEM and its value in a line; of a line that is refused where it stands then.
+fn places_of_put(alloc: Global, line: &[u8]) -> Result<(u32, Option<u32>), TextFault> {
+    if line.len() >= 0x1_0000_0000 {
+        return Err(TextFault::NoMemory);
+    }
+    let mut tokens = Tokens::new(line, 0);
+    tokens.expect_word(b"put")?;
+    let _item = tokens.take_item()?;
+    let taken = take_value(alloc, &mut tokens).is_ok();
+    Ok((
+        tokens.place(),
+        if taken { Some(tokens.place()) } else { None },
+    ))
+}
+
+#[test]
+fn values_within_a_line(rt: HostRuntime) {
+    let alloc = rt.alloc();
+    assert_eq!(rt;
+        places_of_put(alloc, b"put s A{x: 1} , 5"),
+        Ok((13, Some(13)))
+    );
+    assert_eq!(rt; places_of_put(alloc, b"put s A{x: 1"), Ok((5, None)));
+}
+
+// How many values a row has, and the place behind it.
+fn row_in(alloc: Global, text: &[u8]) -> Result<(usize, u32), TextFault> {
+    if text.len() >= 0x1_0000_0000 {
+        return Err(TextFault::NoMemory);
+    }
+    let mut tokens = Tokens::new(text, 0);
+    let row = take_values(alloc, &mut tokens)?;
+    Ok((row.len(), tokens.place()))
+}
+
+fn bad_row(place: u32) -> Result<(usize, u32), TextFault> {
+    Err(TextFault::BadText { place })
+}
+
+#[test]
+fn rows(rt: HostRuntime) -> Result<(), Fail> {
+    let alloc = rt.alloc();
+    assert_eq!(rt; row_in(alloc, b" [1, \"x\", A{}] 7"), Ok((3, 14)));
+    assert_eq!(rt; row_in(alloc, b"[]"), Ok((0, 2)));
+    assert_eq!(rt; row_in(alloc, b"A{}"), bad_row(0));
+    let text = nested(alloc, 1024).ok().ok_or("a text")?;
+    assert_eq!(rt; row_in(alloc, text.as_slice()), Ok((1, 2048)));
+    let text = nested(alloc, 1025).ok().ok_or("a text")?;
+    assert_eq!(rt; row_in(alloc, text.as_slice()), bad_row(1024));
+    Ok(())
 }

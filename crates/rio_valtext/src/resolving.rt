@@ -1,8 +1,9 @@
 //! Values with the versions that their text leaves open.
-ghost use Rattle.std.specs.Prelude.{◌≡◌, [], map, option_and_then, IfOk, IfErr};
-ghost use Rattle.rio_valtext.specs.Resolving.{ResolvedHasVersions, ResolvedStays, Resolves, base_version, bases_as, bases_of, built_in_version, each_resolved, is_known, meant_version, newest_version, object_resolved, resolved, resolved_version, resolving_of, resolving_of_part};
+ghost use Rattle.std.specs.Prelude.{◌≡◌, [], map, option_and_then, IfOk, IfErr, Some, None};
+ghost use Rattle.rio_model.specs.Resolving.{ResolvedHasVersions, ResolvedStays, base_version, bases_in_version, built_in_version, each_resolved, is_known_version, meant_version, newest_known, object_resolved, resolved, resolved_row, resolved_version, resolving_of, resolving_of_part};
+ghost use Rattle.rio_valtext.specs.Resolves.{Resolves, bases_as};
 
-use rio_layout::{Body, declared_body, headed_version, is_headed};
+use rio_format::{BodyKind, declared_body, headed_version, is_headed};
 use rio_num::{Boxed, Name, NoMemory};
 use rio_types::{Base, Classes};
 use rio_value::{Part, Parts, Value, Values};
@@ -49,8 +50,8 @@ fn built_in_version(class: &[u8]) -> Option<i32>
     }
 }
 
-fn newest_version(classes: &Classes, class: &[u8]) -> Option<i32>
-    ensures { result ≡ newest_version classes.now class.now }
+fn newest_known(classes: &Classes, class: &[u8]) -> Option<i32>
+    ensures { result ≡ newest_known classes.now class.now }
 {
     match classes.newest(class) {
         Some(newest) => Some(newest.version),
@@ -59,16 +60,21 @@ fn newest_version(classes: &Classes, class: &[u8]) -> Option<i32>
 }
 
 // The bases that the class has in the version.
-fn bases_of<'a>(classes: &'a Classes, class: &[u8], version: i32) -> ClassBases<'a>
-    ensures { bases_as result ≡ bases_of classes.now class.now version }
+fn bases_in_version<'a>(classes: &'a Classes, class: &[u8], version: i32) -> ClassBases<'a>
+    ensures { bases_as result ≡ bases_in_version classes.now class.now version }
 {
     if !is_headed(class) {
         return ClassBases::Listed(&[]);
     }
-    match declared_body(classes, class, version) {
-        Some(Body::Described(found)) => ClassBases::Listed(found.bases.as_slice()),
-        Some(Body::Named | Body::ObjString | Body::Listed | Body::Arrayed) => ClassBases::TObject,
-        Some(Body::Opaque) | None => ClassBases::Listed(&[]),
+    let Some(body) = declared_body(classes, class, version) else {
+        return ClassBases::Listed(&[]);
+    };
+    match body.0 {
+        BodyKind::Described(found) => ClassBases::Listed(found.bases.as_slice()),
+        BodyKind::Opaque => ClassBases::Listed(&[]),
+        BodyKind::Named | BodyKind::ObjString | BodyKind::Listed | BodyKind::Arrayed => {
+            ClassBases::TObject
+        }
     }
 }
 
@@ -103,13 +109,13 @@ fn meant_version(classes: &Classes, bases: ClassBases, class: &[u8], version: i3
     }
     match base_version(bases, class) {
         Some(version) => Some(version),
-        None => newest_version(classes, class),
+        None => newest_known(classes, class),
     }
 }
 
 // Whether the class is declared or built in in the version.
-fn is_known(classes: &Classes, class: &[u8], version: i32) -> bool
-    ensures { result ≡ is_known classes.now class.now version }
+fn is_known_version(classes: &Classes, class: &[u8], version: i32) -> bool
+    ensures { result ≡ is_known_version classes.now class.now version }
 {
     classes.find(class, version).is_some() || built_in_version(class) == Some(version)
 }
@@ -121,10 +127,11 @@ fn resolved_version(
     class: &[u8],
     version: i32,
 ) -> Result<i32, ResolveFault>
-    ensures { Resolves result (resolved_version classes.now (bases_as bases.entry) class.now version) }
+    ensures { let found = resolved_version classes.now (bases_as bases.entry) class.now version in
+        Resolves result found }
 {
     match meant_version(classes, bases, class, version) {
-        Some(version) if is_known(classes, class, version) => Ok(version),
+        Some(version) if is_known_version(classes, class, version) => Ok(version),
         _ => Err(ResolveFault::NoSuchClass),
     }
 }
@@ -183,7 +190,9 @@ fn resolve_object(
     version: i32,
     parts: &[Part],
 ) -> Result<Value, ResolveFault>
-    ensures { Resolves result (option_and_then (object_resolved classes.now class.now (map (resolving_of_part classes.now) parts.now)) (resolved_version classes.now (bases_as bases.entry) class.now version)) }
+    ensures { let within = map (resolving_of_part classes.now) parts.now in
+        let version = resolved_version classes.now (bases_as bases.entry) class.now version in
+        Resolves result (option_and_then (object_resolved classes.now class.now within) version) }
 {
     let version = resolved_version(classes, bases, class, version)?;
     resolve_in_version(alloc, classes, class, version, parts)
@@ -198,9 +207,10 @@ fn resolve_in_version(
     version: i32,
     parts: &[Part],
 ) -> Result<Value, ResolveFault>
-    ensures { Resolves result (object_resolved classes.now class.now (map (resolving_of_part classes.now) parts.now) version) }
+    ensures { let within = map (resolving_of_part classes.now) parts.now in
+        Resolves result (object_resolved classes.now class.now within version) }
 {
-    let bases = bases_of(classes, class, version);
+    let bases = bases_in_version(classes, class, version);
     let parts = resolve_parts(alloc, classes, bases, parts)?;
     Ok(Value::Object {
         class: Name::from_slice(alloc, class)?,
@@ -228,7 +238,8 @@ fn resolve_parts(
     bases: ClassBases,
     parts: &[Part],
 ) -> Result<Parts, ResolveFault>
-    ensures { Resolves result (each_resolved (bases_as bases.entry) (map (resolving_of_part classes.now) parts.now)) }
+    ensures { let within = map (resolving_of_part classes.now) parts.now in
+        Resolves result (each_resolved (bases_as bases.entry) within) }
 {
     let mut resolved = Parts::new(alloc);
     for part in parts {
@@ -261,7 +272,26 @@ fn resolve_part(
 /// The value with a version in each object. One of version 0 gets the newest version in which its class is declared, or
 /// else the version in which it is built in. As a base it gets the version in which the class of the object around it has
 /// the base, if that class has one of the name. All else stays. `NoSuchClass` says that an object's class is neither
-/// declared nor built in in its version. On an error the value is handed back as it was. It goes as deep as the value.
+/// declared nor built in in its version. It goes as deep as the value.
+pub fn resolved(alloc: Global, classes: &Classes, value: &Value) -> Result<Value, ResolveFault>
+    ensures ok { IfOk result (λ v. resolved classes.now value.now ≡ Some v) }
+    ensures none { let found = resolved classes.now value.now in
+        IfErr result (λ e. e ≡ ResolveFault.NoSuchClass → found ≡ None) }
+{
+    resolve_value(alloc, classes, ClassBases::Listed(&[]), value)
+}
+
+/// The row with a version in each object of its values, as `resolved` gives it. `NoSuchClass` says that the class of an
+/// object of one of them is neither declared nor built in in its version.
+pub fn resolved_row(alloc: Global, classes: &Classes, row: &Values) -> Result<Values, ResolveFault>
+    ensures ok { IfOk result (λ vs. resolved_row classes.now row.now ≡ Some vs) }
+    ensures none { let found = resolved_row classes.now row.now in
+        IfErr result (λ e. e ≡ ResolveFault.NoSuchClass → found ≡ None) }
+{
+    resolve_items(alloc, classes, row.as_slice())
+}
+
+/// The value as `resolved` gives it. On an error it is handed back as it was.
 pub fn resolve(
     alloc: Global,
     classes: &Classes,
@@ -269,10 +299,11 @@ pub fn resolve(
 ) -> Result<Value, (ResolveFault, Value)>
     ensures ok { IfOk result (λ v. resolved classes.now value ≡ Some v) }
     ensures unchanged { IfErr result (λ e. e.1 ≡ value) }
-    ensures none { IfErr result (λ e. e.0 ≡ ResolveFault.NoSuchClass → resolved classes.now value ≡ None) }
+    ensures none { let found = resolved classes.now value in
+        IfErr result (λ e. e.0 ≡ ResolveFault.NoSuchClass → found ≡ None) }
 {
-    match resolve_value(alloc, classes, ClassBases::Listed(&[]), &value) {
-        Ok(resolved) => Ok(resolved),
+    match resolved(alloc, classes, &value) {
+        Ok(found) => Ok(found),
         Err(fault) => Err((fault, value)),
     }
 }

@@ -1,3 +1,4 @@
+//! Values as they are printed.
 use crate::print_value;
 use rio_num::{Boxed, Bytes, Name, NoMemory};
 use rio_value::{Part, Parts, Value, Values};
@@ -114,6 +115,54 @@ fn prints_a_chain_of_nodes(rt: HostRuntime) -> Result<(), Fail> {
     let text = printed(alloc, &first)?;
     let expected =
         b"ok Node#1{val: 1, next: @0=Node#1{val: 2, next: @1=Node#1{val: 3, next: null}}}";
+    assert!(rt; text.as_slice() == expected.as_slice());
+    Ok(())
+}
+
+// The text of an object of the class A with these parts.
+fn printed_with(alloc: Global, parts: Parts) -> Result<Bytes, NoMemory> {
+    let value = object_of(alloc, b"A", parts)?;
+    let mut text = Bytes::new(alloc);
+    print_value(&value, &mut text)?;
+    Ok(text)
+}
+
+fn empty_object(alloc: Global, class: &[u8]) -> Result<Value, NoMemory> {
+    object_of(alloc, class, Parts::new(alloc))
+}
+
+#[test]
+fn prints_members_without_a_name(rt: HostRuntime) -> Result<(), Fail> {
+    let alloc = rt.alloc();
+    let mut number = Parts::new(alloc);
+    put_part(&mut number, b"", Value::Int(5))?;
+    let text = printed_with(alloc, number)?;
+    assert!(rt; text.as_slice() == br#"A#1{"": 5}"#.as_slice());
+
+    let mut pointer = Parts::new(alloc);
+    put_part(&mut pointer, b"", Value::Null)?;
+    let text = printed_with(alloc, pointer)?;
+    assert!(rt; text.as_slice() == br#"A#1{"": null}"#.as_slice());
+
+    let mut object = Parts::new(alloc);
+    put_part(&mut object, b"x", Value::Int(1))?;
+    put_part(&mut object, b"", empty_object(alloc, b"B")?)?;
+    let text = printed_with(alloc, object)?;
+    assert!(rt; text.as_slice() == br#"A#1{x: 1, "": B#1{}}"#.as_slice());
+    Ok(())
+}
+
+#[test]
+fn prints_bases_in_front(rt: HostRuntime) -> Result<(), Fail> {
+    let alloc = rt.alloc();
+    let mut parts = Parts::new(alloc);
+    let class = Name::from_slice(alloc, b"Odd")?;
+    put_part(&mut parts, b"", Value::Opaque { class, length: 12 })?;
+    put_part(&mut parts, b"", empty_object(alloc, b"B")?)?;
+    put_part(&mut parts, b"", Value::Int(5))?;
+    put_part(&mut parts, b"", empty_object(alloc, b"C")?)?;
+    let text = printed_with(alloc, parts)?;
+    let expected = br#"A#1{opaque(Odd, 12), B#1{}, "": 5, "": C#1{}}"#;
     assert!(rt; text.as_slice() == expected.as_slice());
     Ok(())
 }

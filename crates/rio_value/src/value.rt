@@ -1,3 +1,4 @@
+//! Values, their depth and copies of them.
 ghost use Rattle.std.specs.Prelude.{◌≡◌, min, map, IfOk};
 ghost use Rattle.rio_value.specs.Depth.{depth_of, greatest};
 
@@ -185,6 +186,7 @@ mod tests {
         let value = nested(rt.alloc()).ok().ok_or("a value")?;
         let again = copy(rt.alloc(), &value).ok().ok_or("a copy")?;
         assert_eq!(rt; depth(&again), 1);
+        assert_eq!(rt; crate::longest_list(&again), 2);
         Ok(())
     }
 }

@@ -1,15 +1,20 @@
 -- Which forms and bodies the small built-in classes have.
-use Rattle.std.proofs.Common.{◌≡◌, ◌⊎◌, inl, inr, ℕ, ℤ, pos, Bool, true, false, cond, ◌&&◌, ◌||◌, IsTrue, List, [], codes, Option, Some, None, refl, sym, subst}
+use Rattle.std.proofs.Common.{◌≡◌, ◌⊎◌, inl, inr, ℕ, ℤ, pos, Bool, true, false, cond, ◌||◌, IsTrue, List, [], codes, Option, Some, None, refl, sym, subst}
 use Rattle.std.proofs.lemmas.Slice.Eq.{bytes_eq-Decides}
 use Rattle.std.specs.Ordering.{int_eq}
 use Rattle.std.specs.Str.{bytes_eq}
 use Rattle.rio_types.specs.declared.class.ClassDef.{ClassDef}
 use Rattle.rio_types.specs.declared.kind.Primitive.TheVariants.{I8, I16, I32, I64, F32, F64}
-use Rattle.rio_format.specs.Bodies.{Body, Form, arrayed, bare, built_in, described, form_of, headed, listed, numbers, t_named, t_obj_string}
+use Rattle.rio_format.specs.Bodies.{built_in, form_of}
+use Rattle.rio_format.specs.declared.shape.Shape.{Shape as Form}
+use Rattle.rio_format.specs.declared.shape.Shape.TheVariants.{Bare as bare, Headed as headed, Numbers as numbers}
 use Rattle.rio_format.specs.Fits.{Fitting, Labels, parts_fit}
-use Rattle.rio_format.specs.Slots.{body_fields, declared_body, fields_of}
-use Rattle.rio_layout.specs.BuiltIn.{is_small_builtin}
-use Rattle.rio_write.specs.Writing.{FitsSomewhere}
+use Rattle.rio_format.specs.Slots.{declared_body, fields_of}
+use Rattle.rio_format.specs.BuiltIn.{is_small_builtin}
+
+-- it fits behind some labels
+abbrev pub FitsSomewhere : (Labels → Option Labels) → Type 0
+FitsSomewhere fits = (before : Labels) × (after : Labels) × (fits before ≡ Some after)
 
 pub refuted : {P : Type 0} (after : Labels) → None ≡ Some after → P
 refuted after e = absurd cc
@@ -62,21 +67,3 @@ module _ (ys : List (List ℕ × Fitting)) (version : ℤ) where
 
   pub body_is : (class : List ℕ) → IsTrue (is_small_builtin class) → form_of class ≡ headed → FitsSomewhere (parts_fit (fields_of [] class version) ys) → (classes : List ClassDef) → declared_body classes class version ≡ built_in class (pos 1)
   body_is class is form fits classes = by_class class (which class is form) fits classes
-
--- ---- a body that isn't a TNamed's
-
-module _ (class : List ℕ) (ys : List (List ℕ × Fitting)) where
-  abbrev body_by : Bool → Bool → Bool → Bool → Option Body
-  body_by n t l a =
-      cond (n && int_eq (pos 1) (pos 1)) (Some (described t_named)) (cond (t && int_eq (pos 1) (pos 1)) (Some (described t_obj_string)) (cond (l && int_eq (pos 1) (pos 5)) (Some listed) (cond (a && int_eq (pos 1) (pos 3)) (Some arrayed) None)))
-
-  other : (n t l a : Bool) → n ≡ false → FitsSomewhere (parts_fit (body_fields (body_by n t l a)) ys) → body_by n t l a ≡ Some (described t_obj_string)
-  other true t l a e fits = absurd cc
-  other false true l a e fits = refl
-  other false false true true e fits = refuted fits.1 fits.2
-  other false false true false e fits = refuted fits.1 fits.2
-  other false false false true e fits = refuted fits.1 fits.2
-  other false false false false e fits = refuted fits.1 fits.2
-
-  pub other_body : bytes_eq class (codes "TNamed") ≡ false → FitsSomewhere (parts_fit (body_fields (built_in class (pos 1))) ys) → built_in class (pos 1) ≡ Some (described t_obj_string)
-  other_body e fits = other (bytes_eq class (codes "TNamed")) (bytes_eq class (codes "TObjString")) (bytes_eq class (codes "TList")) (bytes_eq class (codes "TObjArray")) e fits

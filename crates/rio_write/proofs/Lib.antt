@@ -1,11 +1,12 @@
 pub mod BuiltinBodies
-pub mod BuiltinParts
 pub mod MeasureLaws
 pub mod MeasureParts
 pub mod MeasureValues
+pub mod Putting
 pub mod SmallLaws
 pub mod SmallObjects
 pub mod SmallValues
+pub mod WithPid
 pub mod WriteLaws
 pub mod WriteParts
 pub mod WriteValues

@@ -7,18 +7,19 @@ use Rattle.std.specs.Str.{bytes_eq}
 use Rattle.byteorder.specs.Endian.{big_bytes}
 use Rattle.indexmap.specs.IndexMap.{insert_entry}
 use Rattle.rio_num.specs.declared.no_memory.NoMemory.{NoMemory}
-use Rattle.rio_format.specs.ReaderState.{WordsMet, no_words, with_label}
-use Rattle.rio_format.specs.Written.{Writer, back_bytes, both, class_by, class_bytes, headed_bytes, just}
+use Rattle.rio_buffer.specs.ReaderState.{WordsMet, no_words, with_label}
+use Rattle.rio_buffer.specs.Writer.{Writer, class_by, class_bytes}
+use Rattle.rio_format.specs.Written.{back_bytes, both, headed_bytes, just}
 use Rattle.rio_write.specs.Measuring.{AreBelow, Follows, Grows, Measured, Measures, longer, nothing_measured, too_long}
 use Rattle.rio_write.specs.Writing.{pointer_to}
 
 -- ---- places
 
-below_more : (p q : ℕ) (es : List (ℕ × List ℕ)) → p ≤ q → AreBelow p es → AreBelow q es
+pub below_more : (p q : ℕ) (es : List (ℕ × List ℕ)) → p ≤ q → AreBelow p es → AreBelow q es
 below_more p q [] le h = tt
 below_more p q (e ∷ es) le h = (omega (arith, le, h.0), below_more p q es le h.1)
 
-below_push : (p q : ℕ) (name : List ℕ) (es : List (ℕ × List ℕ)) → p < q → AreBelow p es → AreBelow q (insert_entry nat_eq es p name)
+pub below_push : (p q : ℕ) (name : List ℕ) (es : List (ℕ × List ℕ)) → p < q → AreBelow p es → AreBelow q (insert_entry nat_eq es p name)
 below_push p q name [] lt h = (lt, tt)
 below_push p q name (e ∷ es) lt h =
     let ne : eqb p e.0 ≡ false = ne_eqb _ _ (omega (arith, h.0)) in
@@ -83,7 +84,7 @@ module _ (class : List ℕ) where
   last_named x false = refl
 
   -- one more name is that of its class, or of one before
-  named_push : (p : ℕ) (other : List ℕ) (es : List (ℕ × List ℕ)) → AreBelow p es → is_some (find (λ e. bytes_eq e.1 other) (insert_entry nat_eq es p class)) ≡ (bytes_eq class other || is_some (find (λ e. bytes_eq e.1 other) es))
+  pub named_push : (p : ℕ) (other : List ℕ) (es : List (ℕ × List ℕ)) → AreBelow p es → is_some (find (λ e. bytes_eq e.1 other) (insert_entry nat_eq es p class)) ≡ (bytes_eq class other || is_some (find (λ e. bytes_eq e.1 other) es))
   named_push p other [] h = last_named (p, class) (bytes_eq class other)
   named_push p other (e ∷ es) h =
       let ne : eqb p e.0 ≡ false = ne_eqb _ _ (omega (arith, h.0)) in

@@ -6,9 +6,10 @@ use Rattle.byteorder.specs.Endian.{big_bytes}
 use Rattle.rio_num.specs.declared.no_memory.NoMemory.{NoMemory}
 use Rattle.rio_types.specs.declared.kind.Kind.TheVariants.{Plain, Text as Texted}
 use Rattle.rio_types.specs.declared.kind.Primitive.{Primitive}
-use Rattle.rio_types.specs.declared.kind.Primitive.TheVariants.{I32, U32}
+use Rattle.rio_types.specs.declared.kind.Primitive.TheVariants.{I32, U16, U32}
 use Rattle.rio_format.specs.Slots.{Field, Slot, any_pointer, based, flags, kinded, link, many}
-use Rattle.rio_format.specs.Written.{Writer, Writing, all, array_bytes, arrayed_bytes, bare_bytes, both, counted_bytes, fields_bytes, just, link_bytes, listed_bytes}
+use Rattle.rio_buffer.specs.Writer.{Writer}
+use Rattle.rio_format.specs.Written.{Writing, all, array_bytes, arrayed_bytes, bare_bytes, both, counted_bytes, fields_bytes, just, link_bytes, listed_bytes}
 use Rattle.rio_write.specs.Measuring.{Grows, Measured, Measures, longer}
 use Rattle.rio_write.proofs.MeasureLaws.{both_grow, both_measured, just_grows, nothing_grows}
 use Rattle.rio_write.proofs.WriteParts.{one_is, two_are, three_are, four_are}
@@ -30,23 +31,23 @@ module _ {X : Type 0} (h : X → Writing) (slot : Slot) (xs : List X) (i : ℕ) 
 
 -- ---- the parts of an object
 
-module _ {X Y : Type 0} (g : X → Field) (h : Y → Writing) (fields : List X) (parts : List Y) (k : ℕ) (m : Measured) where
+module _ {Y : Type 0} (h : Y → Writing) (fields : List Field) (parts : List Y) (k : ℕ) (m : Measured) where
   abbrev rest_from : ℕ → Writer
-  rest_from k = fields_bytes (map g (drop k fields)) (map h (drop k parts))
+  rest_from k = fields_bytes (drop k fields) (map h (drop k parts))
 
-  pub parts_grow : (whole : Measured → Type 0) (d : X) (y : Y) (m1 : Measured) → k < length fields → k < length parts → y ≡ slice_index_or parts k y → Grows ((h y).bytes (g (slice_index_or fields k d)).slot) m m1
+  pub parts_grow : (whole : Measured → Type 0) (field : Field) (slot : Slot) (y : Y) (m1 : Measured) → k < length fields → k < length parts → field ≡ slice_index_or fields k field → slot ≡ field.slot → y ≡ slice_index_or parts k y → Grows ((h y).bytes slot) m m1
       → ((end : Measured) → Grows (rest_from k) m end → whole end) → (end : Measured) → Grows (rest_from (k + 1)) m1 end → whole end
-  parts_grow whole d y m1 lf lp e grows so_far end rest =
-      let sf : drop k fields ≡ slice_index_or fields k d ∷ drop (k + 1) fields = drop_more fields k d lf in
+  parts_grow whole field slot y m1 lf lp f same e grows so_far end rest =
+      let sf : drop k fields ≡ field ∷ drop (k + 1) fields = drop_more fields k field lf ∙ ap (λ (z : Field). z ∷ drop (k + 1) fields) (sym f) in
       let sp : drop k parts ≡ y ∷ drop (k + 1) parts = drop_more parts k y lp ∙ ap (λ (z : Y). z ∷ drop (k + 1) parts) (sym e) in
-      so_far end (rw (sf, sp) (both_grow ((h y).bytes (g (slice_index_or fields k d)).slot) (rest_from (k + 1)) m m1 end grows rest))
+      so_far end (rw (sf, sp, ← same) (both_grow ((h y).bytes slot) (rest_from (k + 1)) m m1 end grows rest))
 
   no_part : (fs : List Field) → Grows (fields_bytes fs []) m m
   no_part [] = nothing_grows m
   no_part (f ∷ fs) = nothing_grows m
 
   pub parts_missing : (whole : Measured → Type 0) → length parts ≤ k → ((end : Measured) → Grows (rest_from k) m end → whole end) → whole m
-  parts_missing whole lp so_far = let none : drop k parts ≡ [] = drop_all k parts lp in so_far m (rw none (no_part (map g (drop k fields))))
+  parts_missing whole lp so_far = let none : drop k parts ≡ [] = drop_all k parts lp in so_far m (rw none (no_part (drop k fields)))
 
   pub parts_grown : (whole : Measured → Type 0) → length fields ≤ k → ((end : Measured) → Grows (rest_from k) m end → whole end) → whole m
   parts_grown whole lf so_far = let none : drop k fields ≡ [] = drop_all k fields lf in so_far m (rw none (nothing_grows m))
@@ -93,12 +94,30 @@ module _ {X : Type 0} (h : X → Writing) (xs : List X) (m0 : Measured) where
         rw (two_are xs a b le lt e f) (both_measured (just (big_bytes 2 1)) (both ((h a).bytes (kinded (Plain U32))) ((h b).bytes flags)) m0 m1 m3 r (just_grows (big_bytes 2 1) m0 m1 w)
         (both_measured ((h a).bytes (kinded (Plain U32))) ((h b).bytes flags) m1 m2 m3 r g done))
 
-pub no_bare_grows : {X : Type 0} (h : X → Writing) (xs : List X) (m : Measured) → (length xs < 2) ⊎ (3 ≤ length xs) → Grows (bare_bytes (map h xs)) m m
+module _ {X : Type 0} (h : X → Writing) (xs : List X) (m0 : Measured) where
+  module _ (a b d : X) (le : 3 ≤ length xs) (lt : length xs < 4) (e : a ≡ slice_index_or xs 0 a) (f : b ≡ slice_index_or xs 1 b) (g : d ≡ slice_index_or xs 2 d) where
+    abbrev id : Writer
+    id = (h a).bytes (kinded (Plain U32))
+
+    abbrev bits : Writer
+    bits = (h b).bytes flags
+
+    abbrev pid : Writer
+    pid = (h d).bytes (kinded (Plain U16))
+
+    pub pid_measured : (m1 m2 m3 m4 : Measured) (r : Result (Unit {0}) NoMemory) → m1 ≡ longer 2 m0 → Grows id m1 m2 → Grows bits m2 m3 → Measures pid r m3 m4 → Measures (bare_bytes (map h xs)) r m0 m4
+    pid_measured m1 m2 m3 m4 r w i j done =
+        rw (three_are xs a b d le lt e f g) (both_measured (just (big_bytes 2 1)) (both id (both bits pid)) m0 m1 m4 r (just_grows (big_bytes 2 1) m0 m1 w)
+        (both_measured id (both bits pid) m1 m2 m4 r i (both_measured bits pid m2 m3 m4 r j done)))
+
+pub no_bare_grows : {X : Type 0} (h : X → Writing) (xs : List X) (m : Measured) → (length xs < 2) ⊎ (4 ≤ length xs) → Grows (bare_bytes (map h xs)) m m
 no_bare_grows h [] m n = nothing_grows m
 no_bare_grows h (x ∷ []) m n = nothing_grows m
 no_bare_grows h (x ∷ y ∷ []) m (inl n) = absurd (omega arith)
 no_bare_grows h (x ∷ y ∷ []) m (inr n) = absurd (omega arith)
-no_bare_grows h (x ∷ y ∷ z ∷ xs) m n = nothing_grows m
+no_bare_grows h (x ∷ y ∷ z ∷ []) m (inl n) = absurd (omega arith)
+no_bare_grows h (x ∷ y ∷ z ∷ []) m (inr n) = absurd (omega arith)
+no_bare_grows h (x ∷ y ∷ z ∷ w ∷ xs) m n = nothing_grows m
 
 -- ---- a TList
 

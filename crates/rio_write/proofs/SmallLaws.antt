@@ -9,18 +9,19 @@ use Rattle.rio_value.specs.declared.value.Value.{Value, Int, Bits32, Bits64, Boo
 use Rattle.rio_value.specs.declared.value.Value.TheOpen as layer
 use Rattle.rio_format.specs.Bodies.{built_in}
 use Rattle.rio_format.specs.Fits.{Fits, Fitting, Labels, back_fits, fitting_of, fitting_step, int_fits, object_may_stand, parts_fit, pass, pointed_fits}
-use Rattle.rio_format.specs.ReaderState.{WordsMet, no_words}
+use Rattle.rio_buffer.specs.ReaderState.{WordsMet, no_words}
 use Rattle.rio_format.specs.Slots.{declared_body, fields_of, kinded}
-use Rattle.rio_format.specs.Written.{Writer, writing_of, written_form}
+use Rattle.rio_buffer.specs.Writer.{Writer}
+use Rattle.rio_format.specs.Written.{writing_of, written_form}
 use Rattle.rio_format.proofs.ValueCases.{Steps, by_cases, fold_Int, fold_Bits32, fold_Bits64, fold_Bool, fold_Text, fold_List, fold_Pointed, fold_Null, fold_Back, fold_Opaque}
 use Rattle.rio_format.proofs.WrittenLists.{part_fitting}
-use Rattle.rio_buffer.specs.Writer.{WriterState, next_place}
 use Rattle.rio_write.specs.Small.{SmallBuiltinsAreAlike, SmallBuiltinsStandAnywhere}
-use Rattle.rio_layout.specs.BuiltIn.{is_small_builtin}
-use Rattle.rio_write.specs.Writing.{IsShort, IsSmallBuiltin}
+use Rattle.rio_format.specs.BuiltIn.{is_small_builtin}
+use Rattle.rio_write.specs.Writing.{IsSmallBuiltin}
 use Rattle.rio_write.proofs.BuiltinBodies.{body_is, which}
 use Rattle.rio_write.proofs.SmallObjects.{HasItsBody, form_stays}
-use Rattle.rio_write.proofs.SmallValues.{FitIn, Steady, chosen, fit_pair, object_fits, placed}
+use Rattle.rio_write.proofs.SmallValues.{FitIn, Steady, chosen, fit_pair, object_fits, own_bytes, placed}
+use Rattle.rio_write.proofs.WithPid.{named_steady, object_steady, string_steady}
 use Rattle.rio_write.proofs.WriteValues.{object_is}
 
 -- ---- an object
@@ -28,10 +29,6 @@ use Rattle.rio_write.proofs.WriteValues.{object_is}
 some_there : (o : Option Labels) → IsTrue (is_some o) → (after : Labels) × (o ≡ Some after)
 some_there (Some after) is = (after, refl)
 some_there None is = absurd cc
-
--- the slot of an object for its own class
-abbrev pub own_bytes : Value → List ClassDef → Writer
-own_bytes v classes = (writing_of classes v).bytes (kinded (Inline (writing_of classes v).class))
 
 module _ (class : List ℕ) (version : ℤ) (parts : List Part) where
   abbrev pub object : Value
@@ -132,12 +129,11 @@ steady_steps = record {
   opaque = λ class len. none_fits (Opaque class len) (fitting_step [] (layer.Opaque class len)) (fold_Opaque (fitting_step []) fit_pair class len) (λ wanted. refl);
 }
 
-pub stand_anywhere : SmallBuiltinsStandAnywhere
-stand_anywhere classes p t v small = same_form v (by_cases IsSteady steady_steps v small.0 small.1 small.2) classes p t
+fitting_stands : (classes : List ClassDef) (p : ℕ) (t : WordsMet) (v : Value) → IsSmallBuiltin v → own_bytes v classes p t ≡ (written_form [] 0 v, t)
+fitting_stands classes p t v small = same_form v (by_cases IsSteady steady_steps v small.0 small.1 small.2) classes p t
 
--- what is short at the place 0 is short at each
-pub short_anywhere : (v : Value) → IsSmallBuiltin v → length (written_form [] 0 v) ≤ 16777216 → (s : WriterState) → IsShort (own_bytes v []) s
-unfolding IsShort
-short_anywhere v small few s =
-    let same : length (own_bytes v [] (next_place s) s.words).0 ≡ length (written_form [] 0 v) = ap (λ (b : List ℕ × WordsMet). length b.0) (stand_anywhere [] (next_place s) s.words v small) in
-    omega (arith, few, same)
+pub stand_anywhere : SmallBuiltinsStandAnywhere
+stand_anywhere classes p t v (inl small) = fitting_stands classes p t v small
+stand_anywhere classes p t v (inr (inl own)) = same_form v (object_steady v own) classes p t
+stand_anywhere classes p t v (inr (inr (inl own))) = same_form v (named_steady v own) classes p t
+stand_anywhere classes p t v (inr (inr (inr own))) = same_form v (string_steady v own) classes p t

@@ -9,14 +9,17 @@ use Rattle.rio_types.specs.declared.kind.Kind.TheVariants.{Plain}
 use Rattle.rio_types.specs.declared.kind.Primitive.{Primitive}
 use Rattle.rio_value.specs.declared.value.Part.{Part}
 use Rattle.rio_value.specs.declared.value.Value.{Value}
-use Rattle.rio_format.specs.Bodies.{Body, Form, bare, built_in, form_of, headed, numbers as numbered}
+use Rattle.rio_format.specs.Bodies.{Body, built_in, form_of}
+use Rattle.rio_format.specs.declared.shape.Shape.{Shape as Form}
+use Rattle.rio_format.specs.declared.shape.Shape.TheVariants.{Bare as bare, Headed as headed, Numbers as numbered}
 use Rattle.rio_format.specs.Fits.{Labels, parts_fit}
 use Rattle.rio_format.specs.Slots.{body_fields, declared_body, form_fields, kinded, many}
-use Rattle.rio_format.specs.Written.{Writer, Writing, array_bytes, body_bytes, counted, form_bytes, headed_bytes, just, writing_of, writing_step}
+use Rattle.rio_buffer.specs.Writer.{Writer}
+use Rattle.rio_format.specs.Written.{Writing, array_bytes, body_bytes, counted, form_bytes, headed_bytes, just, writing_of, writing_step}
 use Rattle.rio_format.proofs.ValueCases.{Each, Steps, by_cases, fold_Int, fold_Bits32, fold_Bits64, fold_Bool, fold_Text, fold_List, fold_Object, fold_Pointed, fold_Null, fold_Back, fold_Opaque}
 use Rattle.rio_format.proofs.WrittenBodies.{first_fits}
 use Rattle.rio_format.proofs.WrittenLists.{part_fitting}
-use Rattle.rio_layout.specs.BuiltIn.{is_small_builtin}
+use Rattle.rio_format.specs.BuiltIn.{is_small_builtin}
 use Rattle.rio_write.specs.Writing.{part_writing}
 use Rattle.rio_write.proofs.BuiltinBodies.{refuted, which}
 use Rattle.rio_write.proofs.SmallValues.{FitIn, FitParts, FormStays, IsAlike, Named, Steady, bare_parts, bare_steady, base, fields_alike, is_alike, numbers, part_value, parts_stay, steady_both, steady_just, text}

@@ -18,12 +18,14 @@ use Rattle.rio_value.specs.declared.value.Value.TheOpen as layer
 use Rattle.rio_value.specs.declared.value.Value.TheFolds.{fold-Part, fold_out-Part}
 use Rattle.rio_format.specs.Bodies.{Counters, form_of}
 use Rattle.rio_format.specs.Fits.{Fitting, Labels, all_fit, back_fits, counted_slot, counted_so_far, fields_fit, fitting_of, fitting_step, object_may_stand, is_pointer, list_fits, parts_fit, pass, pointed_fits}
-use Rattle.rio_format.specs.ReaderState.{WordsMet}
+use Rattle.rio_buffer.specs.ReaderState.{WordsMet}
 use Rattle.rio_format.specs.Slots.{Field, Slot, based, field, fields_of, flags, kinded, many}
-use Rattle.rio_format.specs.Written.{Writer, Writing, all, bare_bytes, both, fields_bytes, form_bytes, int_bytes, just, plainly, truth_byte, writing_of, writing_step}
+use Rattle.rio_buffer.specs.Writer.{Writer}
+use Rattle.rio_format.specs.Written.{Writing, all, bare_bytes, both, fields_bytes, form_bytes, int_bytes, just, plainly, truth_byte, writing_of, writing_step}
 use Rattle.rio_format.proofs.ValueCases.{Each, Steps, by_cases, fold_Int, fold_Bits32, fold_Bits64, fold_Bool, fold_Text, fold_List, fold_Object, fold_Pointed, fold_Null, fold_Back, fold_Opaque}
 use Rattle.rio_format.proofs.WrittenBodies.{first_fits}
 use Rattle.rio_format.proofs.WrittenLists.{part_fitting}
+use Rattle.rio_write.specs.Small.{own_writing}
 use Rattle.rio_write.specs.Writing.{part_writing}
 use Rattle.rio_write.proofs.BuiltinBodies.{refuted}
 use Rattle.rio_write.proofs.WriteValues.{object_is}
@@ -38,6 +40,10 @@ steady_just bytes = (bytes, λ classes p t. refl)
 
 pub steady_both : (f g : List ClassDef → Writer) → Steady f → Steady g → Steady (λ classes. both (f classes) (g classes))
 steady_both f g a b = (a.0 ++ b.0, λ classes p t. rw (a.1 classes p t, b.1 classes (p + length a.0) t) refl)
+
+-- the slot of an object for its own class
+abbrev pub own_bytes : Value → List ClassDef → Writer
+own_bytes v classes = own_writing classes v
 
 -- ---- slots without pointers
 
@@ -148,7 +154,10 @@ pub bare_steady : (parts : List Part) → Each (λ p. IsAlike p.value) parts →
 bare_steady parts each known before after false e = refuted after e
 bare_steady [] each known before after true e = steady_just []
 bare_steady (y ∷ []) each known before after true e = steady_just []
-bare_steady (y ∷ z ∷ x ∷ xs) each known before after true e = steady_just []
+bare_steady (y ∷ z ∷ x ∷ xs) each known before after true e =
+    let f = first_fits known (codes "fUniqueID") (kinded (Plain U32)) (field (codes "fBits") flags ∷ []) y (z ∷ x ∷ xs) before after e in
+    let g = first_fits known (codes "fBits") flags [] z (x ∷ xs) f.mid after f.rest in
+    refuted after g.rest
 bare_steady (y ∷ z ∷ []) each known before after true e =
     let f = first_fits known (codes "fUniqueID") (kinded (Plain U32)) (field (codes "fBits") flags ∷ []) y (z ∷ []) before after e in
     let g = first_fits known (codes "fBits") flags [] z [] f.mid after f.rest in

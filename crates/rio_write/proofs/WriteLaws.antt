@@ -7,11 +7,11 @@ use Rattle.std.specs.Int.{w16, cast_unsigned}
 use Rattle.byteorder.specs.Endian.{big_bytes}
 use Rattle.rio_num.specs.Text.{text_bytes, short_form, long_form}
 use Rattle.rio_num.specs.declared.no_memory.NoMemory.{NoMemory}
-use Rattle.rio_format.specs.ReaderState.{WordsMet, no_words, with_label}
+use Rattle.rio_buffer.specs.ReaderState.{WordsMet, no_words, with_label}
 use Rattle.rio_format.specs.Slots.{Slot, Field}
-use Rattle.rio_format.specs.Written.{Writer, Writing, just, both, all, class_bytes, counted, fields_bytes, headed_bytes}
-use Rattle.rio_buffer.specs.Writer.{Puts, WriterState, next_place, nothing_written, ended, with_count, counted_from, innermost}
-use Rattle.rio_write.specs.Writing.{HasRoom, IsShort, Writes, pointer_to, with_written}
+use Rattle.rio_buffer.specs.Writer.{Writer, class_bytes, Puts, WriterState, next_place, nothing_written, ended, with_count, counted_from, innermost}
+use Rattle.rio_format.specs.Written.{Writing, just, both, all, counted, fields_bytes, headed_bytes}
+use Rattle.rio_write.specs.Writing.{HasRoom, Writes, pointer_to, with_written}
 
 -- ---- single values
 
@@ -22,10 +22,6 @@ text_length text false = omega arith
 pub text_room : (text : List ℕ) (s : WriterState) → HasRoom (just (text_bytes text)) s → length text < 2 ^ 32
 unfolding HasRoom
 text_room text s room = omega (arith, room, text_length text (ltb (length text) 255))
-
-pub text_short : (text : List ℕ) (s : WriterState) → IsShort (just (text_bytes text)) s → length text < 2 ^ 32
-unfolding IsShort
-text_short text s short = omega (arith, short, text_length text (ltb (length text) 255))
 
 -- bytes that were put at the end are what is written
 pub just_writes : (bytes : List ℕ) (old new : WriterState) (r : Result (Unit {0}) NoMemory) → Puts bytes r old new → Writes (just bytes) r old new
@@ -60,19 +56,6 @@ module _ (f g : Writer) (s : WriterState) where
       let here : HasRoom g (with_written f s) = rw behind (omega (arith, room, length-append a.0 (g (next_place s + length a.0) a.1).0)) in
       subst (HasRoom g) (sym e) here
 
-  pub short_first : IsShort (both f g) s → IsShort f s
-  unfolding IsShort
-  short_first short =
-      let a = f (next_place s) s.words in
-      omega (arith, short, length-append a.0 (g (next_place s + length a.0) a.1).0)
-
-  pub short_then : (s1 : WriterState) → s1 ≡ with_written f s → IsShort (both f g) s → IsShort g s1
-  unfolding IsShort with_written
-  short_then s1 e short =
-      let a = f (next_place s) s.words in
-      let here : IsShort g (with_written f s) = rw behind (omega (arith, short, length-append a.0 (g (next_place s + length a.0) a.1).0)) in
-      subst (IsShort g) (sym e) here
-
   pub both_writes : (s1 s2 : WriterState) (r : Result (Unit {0}) NoMemory) → s1 ≡ with_written f s → Writes g r s1 s2 → Writes (both f g) r s s2
   both_writes s1 s2 (Ok x) e h = h ∙ ap (with_written g) e ∙ sym both_after
   both_writes s1 s2 (Err x) e h = tt
@@ -102,26 +85,26 @@ module _ {X : Type 0} (h : X → Writing) (slot : Slot) (xs : List X) (i : ℕ) 
 
 -- ---- the parts of an object
 
-module _ {X Y : Type 0} (g : X → Field) (h : Y → Writing) (fields : List X) (parts : List Y) (k : ℕ) (s : WriterState) where
+module _ {Y : Type 0} (h : Y → Writing) (fields : List Field) (parts : List Y) (k : ℕ) (s : WriterState) where
   abbrev left_from : ℕ → Writer
-  left_from k = fields_bytes (map g (drop k fields)) (map h (drop k parts))
+  left_from k = fields_bytes (drop k fields) (map h (drop k parts))
 
-  module _ (d : X) (y : Y) (lf : k < length fields) (lp : k < length parts) (e : y ≡ slice_index_or parts k y) where
-    cut : left_from k ≡ both ((h y).bytes (g (slice_index_or fields k d)).slot) (left_from (k + 1))
+  module _ (field : Field) (slot : Slot) (y : Y) (lf : k < length fields) (lp : k < length parts) (f : field ≡ slice_index_or fields k field) (same : slot ≡ field.slot) (e : y ≡ slice_index_or parts k y) where
+    cut : left_from k ≡ both ((h y).bytes slot) (left_from (k + 1))
     cut =
-        let sf : drop k fields ≡ slice_index_or fields k d ∷ drop (k + 1) fields = drop_more fields k d lf in
+        let sf : drop k fields ≡ field ∷ drop (k + 1) fields = drop_more fields k field lf ∙ ap (λ (z : Field). z ∷ drop (k + 1) fields) (sym f) in
         let sp : drop k parts ≡ y ∷ drop (k + 1) parts = drop_more parts k y lp ∙ ap (λ (z : Y). z ∷ drop (k + 1) parts) (sym e) in
-        rw (sf, sp) refl
+        rw (sf, sp, same) refl
 
-    pub part_room : HasRoom (left_from k) s → HasRoom ((h y).bytes (g (slice_index_or fields k d)).slot) s
-    part_room room = room_first ((h y).bytes (g (slice_index_or fields k d)).slot) (left_from (k + 1)) s (subst (λ (w : Writer). HasRoom w s) cut room)
+    pub part_room : HasRoom (left_from k) s → HasRoom ((h y).bytes slot) s
+    part_room room = room_first ((h y).bytes slot) (left_from (k + 1)) s (subst (λ (w : Writer). HasRoom w s) cut room)
 
-    pub parts_room : (s1 : WriterState) → s1 ≡ with_written ((h y).bytes (g (slice_index_or fields k d)).slot) s → HasRoom (left_from k) s → HasRoom (left_from (k + 1)) s1
-    parts_room s1 w room = room_then ((h y).bytes (g (slice_index_or fields k d)).slot) (left_from (k + 1)) s s1 w (subst (λ (w : Writer). HasRoom w s) cut room)
+    pub parts_room : (s1 : WriterState) → s1 ≡ with_written ((h y).bytes slot) s → HasRoom (left_from k) s → HasRoom (left_from (k + 1)) s1
+    parts_room s1 w room = room_then ((h y).bytes slot) (left_from (k + 1)) s s1 w (subst (λ (w : Writer). HasRoom w s) cut room)
 
-    pub parts_go_on : (s1 total : WriterState) → s1 ≡ with_written ((h y).bytes (g (slice_index_or fields k d)).slot) s → with_written (left_from k) s ≡ total → with_written (left_from (k + 1)) s1 ≡ total
+    pub parts_go_on : (s1 total : WriterState) → s1 ≡ with_written ((h y).bytes slot) s → with_written (left_from k) s ≡ total → with_written (left_from (k + 1)) s1 ≡ total
     parts_go_on s1 total w so_far =
-        ap (with_written (left_from (k + 1))) w ∙ sym (both_after ((h y).bytes (g (slice_index_or fields k d)).slot) (left_from (k + 1)) s) ∙ sym (ap (λ (w : Writer). with_written w s) cut) ∙ so_far
+        ap (with_written (left_from (k + 1))) w ∙ sym (both_after ((h y).bytes slot) (left_from (k + 1)) s) ∙ sym (ap (λ (w : Writer). with_written w s) cut) ∙ so_far
 
   no_part : (fs : List Field) → with_written (fields_bytes fs []) s ≡ s
   unfolding with_written
@@ -131,7 +114,7 @@ module _ {X Y : Type 0} (g : X → Field) (h : Y → Writing) (fields : List X) 
   pub parts_missing : (total : WriterState) → length parts ≤ k → with_written (left_from k) s ≡ total → s ≡ total
   parts_missing total lp so_far =
       let none : drop k parts ≡ [] = drop_all k parts lp in
-      let one : with_written (left_from k) s ≡ s = rw none (no_part (map g (drop k fields))) in
+      let one : with_written (left_from k) s ≡ s = rw none (no_part (drop k fields)) in
       sym one ∙ so_far
 
   pub parts_done : (total : WriterState) → length fields ≤ k → with_written (left_from k) s ≡ total → s ≡ total
@@ -175,12 +158,6 @@ module _ (s : WriterState) (head : List ℕ) (t : WordsMet) (f : Writer) where
       let here : HasRoom f (opened_at s head t) = rw at_head room in
       subst (HasRoom f) (sym e) here
 
-  pub inside_short : (s1 : WriterState) → s1 ≡ opened_at s head t → length inside.0 ≤ 16777216 → IsShort f s1
-  unfolding IsShort
-  inside_short s1 e short =
-      let here : IsShort f (opened_at s head t) = rw at_head short in
-      subst (IsShort f) (sym e) here
-
   module _ (s1 s2 : WriterState) (opens : s1 ≡ opened_at s head t) (w : s2 ≡ with_written f s1) where
     s2_is : s2 ≡ record s { bytes = s.bytes ++ (big_bytes 4 0 ++ (head ++ inside.0)); opened = length s.bytes ∷ s.opened; words = inside.1 }
     s2_is = w ∙ ap (with_written f) opens ∙ behind_head
@@ -190,9 +167,6 @@ module _ (s : WriterState) (head : List ℕ) (t : WordsMet) (f : Writer) where
 
     pub count_room : next_place s + 4 + length head + length inside.0 < 2 ^ 30 - 2 → counted_from (length s.bytes) s2.bytes < 2 ^ 30
     count_room room = rw (ap (λ (z : WriterState). counted_from (length s.bytes) z.bytes) s2_is) (omega (arith, room, count_is s.bytes (head ++ inside.0), length-append head inside.0))
-
-    pub count_low : length head + length inside.0 < 2 ^ 30 → counted_from (length s.bytes) s2.bytes < 2 ^ 30
-    count_low low = rw (ap (λ (z : WriterState). counted_from (length s.bytes) z.bytes) s2_is) (omega (arith, low, count_is s.bytes (head ++ inside.0), length-append head inside.0))
 
     pub closed_is : ended (length s.bytes) s2 ≡ closed_at s head inside
     closed_is = ap (ended (length s.bytes)) s2_is ∙ ap (λ (l : List ℕ). let z : WriterState = record { start = s.start; bytes = l; opened = s.opened; words = inside.1 } in z) (with_count_is s.bytes (head ++ inside.0))
@@ -206,14 +180,6 @@ module _ (version : ℤ) (body : Writer) (s : WriterState) where
   pub header_room : HasRoom (headed_bytes version body) s → next_place s + 4 + length header + length (inside s header s.words body).0 < 2 ^ 30 - 2
   unfolding HasRoom
   header_room room = omega (arith, room)
-
-  pub short_inside : IsShort (headed_bytes version body) s → length (inside s header s.words body).0 ≤ 16777216
-  unfolding IsShort
-  short_inside short = omega (arith, short)
-
-  pub count_fits : IsShort (headed_bytes version body) s → length header + length (inside s header s.words body).0 < 2 ^ 30
-  unfolding IsShort
-  count_fits short = omega (arith, short)
 
   pub headed_is : (s1 s2 s3 : WriterState) → s1 ≡ opened_at s header s.words → s2 ≡ with_written body s1 → s3 ≡ ended (length s.bytes) s2 → s3 ≡ with_written (headed_bytes version body) s
   unfolding with_written

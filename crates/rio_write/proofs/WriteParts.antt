@@ -6,10 +6,10 @@ use Rattle.byteorder.specs.Endian.{big_bytes}
 use Rattle.rio_num.specs.declared.no_memory.NoMemory.{NoMemory}
 use Rattle.rio_types.specs.declared.kind.Kind.TheVariants.{Plain, Text as Texted}
 use Rattle.rio_types.specs.declared.kind.Primitive.{Primitive}
-use Rattle.rio_types.specs.declared.kind.Primitive.TheVariants.{I32, U32}
+use Rattle.rio_types.specs.declared.kind.Primitive.TheVariants.{I32, U16, U32}
 use Rattle.rio_format.specs.Slots.{any_pointer, based, flags, kinded, link, many}
-use Rattle.rio_format.specs.Written.{Writer, Writing, all, array_bytes, arrayed_bytes, bare_bytes, both, counted_bytes, just, link_bytes, listed_bytes}
-use Rattle.rio_buffer.specs.Writer.{WriterState}
+use Rattle.rio_buffer.specs.Writer.{Writer, WriterState}
+use Rattle.rio_format.specs.Written.{Writing, all, array_bytes, arrayed_bytes, bare_bytes, both, counted_bytes, just, link_bytes, listed_bytes}
 use Rattle.rio_write.specs.Writing.{HasRoom, Writes, with_written}
 use Rattle.rio_write.proofs.WriteLaws.{room_first, room_then, both_writes}
 
@@ -137,12 +137,54 @@ module _ {X : Type 0} (h : X → Writing) (xs : List X) (s : WriterState) where
         pub bare_writes : (s3 : WriterState) (r : Result (Unit {0}) NoMemory) → Writes bits r s2 s3 → Writes (bare_bytes (map h xs)) r s s3
         bare_writes s3 r done = rw bare_is (both_writes version (both id bits) s s1 s3 r w1 (both_writes id bits s1 s2 s3 r w2 done))
 
-pub no_bare : {X : Type 0} (h : X → Writing) (xs : List X) (s : WriterState) → (length xs < 2) ⊎ (3 ≤ length xs) → s ≡ with_written (bare_bytes (map h xs)) s
+module _ {X : Type 0} (h : X → Writing) (xs : List X) (s : WriterState) where
+  module _ (a b d : X) (le : 3 ≤ length xs) (lt : length xs < 4) (e : a ≡ slice_index_or xs 0 a) (f : b ≡ slice_index_or xs 1 b) (g : d ≡ slice_index_or xs 2 d) where
+    abbrev pid : Writer
+    pid = (h d).bytes (kinded (Plain U16))
+
+    abbrev own_version : Writer
+    own_version = just (big_bytes 2 1)
+
+    abbrev own_id : Writer
+    own_id = (h a).bytes (kinded (Plain U32))
+
+    abbrev own_bits : Writer
+    own_bits = (h b).bytes flags
+
+    with_pid_is : bare_bytes (map h xs) ≡ both own_version (both own_id (both own_bits pid))
+    with_pid_is = rw (three_are xs a b d le lt e f g) refl
+
+    module _ (s1 : WriterState) (w1 : s1 ≡ with_written own_version s) where
+      behind_version : HasRoom (bare_bytes (map h xs)) s → HasRoom (both own_id (both own_bits pid)) s1
+      behind_version room = room_then own_version (both own_id (both own_bits pid)) s s1 w1 (rw with_pid_is at room)
+
+      pub pid_id_room : HasRoom (bare_bytes (map h xs)) s → HasRoom own_id s1
+      pid_id_room room = room_first own_id (both own_bits pid) s1 (behind_version room)
+
+      module _ (s2 : WriterState) (w2 : s2 ≡ with_written own_id s1) where
+        behind_id : HasRoom (bare_bytes (map h xs)) s → HasRoom (both own_bits pid) s2
+        behind_id room = room_then own_id (both own_bits pid) s1 s2 w2 (behind_version room)
+
+        pub pid_bits_room : HasRoom (bare_bytes (map h xs)) s → HasRoom own_bits s2
+        pid_bits_room room = room_first own_bits pid s2 (behind_id room)
+
+        module _ (s3 : WriterState) (w3 : s3 ≡ with_written own_bits s2) where
+          pub pid_room : HasRoom (bare_bytes (map h xs)) s → HasRoom pid s3
+          pid_room room = room_then own_bits pid s2 s3 w3 (behind_id room)
+
+          pub pid_writes : (s4 : WriterState) (r : Result (Unit {0}) NoMemory) → Writes pid r s3 s4 → Writes (bare_bytes (map h xs)) r s s4
+          pid_writes s4 r done =
+              rw with_pid_is (both_writes own_version (both own_id (both own_bits pid)) s s1 s4 r w1
+              (both_writes own_id (both own_bits pid) s1 s2 s4 r w2 (both_writes own_bits pid s2 s3 s4 r w3 done)))
+
+pub no_bare : {X : Type 0} (h : X → Writing) (xs : List X) (s : WriterState) → (length xs < 2) ⊎ (4 ≤ length xs) → s ≡ with_written (bare_bytes (map h xs)) s
 no_bare h [] s n = nothing s
 no_bare h (x ∷ []) s n = nothing s
 no_bare h (x ∷ y ∷ []) s (inl n) = absurd (omega arith)
 no_bare h (x ∷ y ∷ []) s (inr n) = absurd (omega arith)
-no_bare h (x ∷ y ∷ z ∷ xs) s n = nothing s
+no_bare h (x ∷ y ∷ z ∷ []) s (inl n) = absurd (omega arith)
+no_bare h (x ∷ y ∷ z ∷ []) s (inr n) = absurd (omega arith)
+no_bare h (x ∷ y ∷ z ∷ w ∷ xs) s n = nothing s
 
 -- ---- a TList
 

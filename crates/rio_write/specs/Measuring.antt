@@ -3,8 +3,8 @@ use Rattle.std.specs.Prelude.{◌≡◌, ◌<◌, ◌≤◌, ℕ, ◌+◌, min, 
 use Rattle.std.specs.List.{find, list_any}
 use Rattle.std.specs.Str.{bytes_eq}
 use Rattle.rio_num.specs.declared.no_memory.NoMemory.{NoMemory}
-use Rattle.rio_format.specs.ReaderState.{WordsMet}
-use Rattle.rio_format.specs.Written.{Writer}
+use Rattle.rio_buffer.specs.ReaderState.{WordsMet}
+use Rattle.rio_buffer.specs.Writer.{Writer}
 
 pub record Measured : Type 0 where
   -- how many bytes are written so far, and one above the limit where they are more

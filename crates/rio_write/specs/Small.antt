@@ -1,15 +1,56 @@
 -- The small built-in classes are the same whatever other classes there are.
-use Rattle.std.specs.Prelude.{◌≡◌, ℕ, ℤ, pos, List, [], IsTrue}
+use Rattle.std.specs.Prelude.{◌≡◌, ◌<◌, ◌⊎◌, ℕ, ◌^◌, ℤ, pos, List, [], ◌∷◌, codes, true, IsTrue}
 use Rattle.rio_types.specs.declared.class.ClassDef.{ClassDef}
 use Rattle.rio_types.specs.declared.kind.Kind.TheVariants.{Inline}
 use Rattle.rio_value.specs.declared.value.Part.{Part}
-use Rattle.rio_value.specs.declared.value.Value.{Value, Object}
+use Rattle.rio_value.specs.declared.value.Value.{Value, Text, Object}
+use Rattle.rio_format.specs.Bodies.{part}
 use Rattle.rio_format.specs.Fits.{Fits}
-use Rattle.rio_format.specs.ReaderState.{WordsMet}
+use Rattle.rio_format.specs.Objects.{bare_object, has_pid, pid_part}
+use Rattle.rio_buffer.specs.ReaderState.{WordsMet}
+use Rattle.rio_buffer.specs.Writer.{Writer}
 use Rattle.rio_format.specs.Slots.{kinded}
 use Rattle.rio_format.specs.Written.{writing_of, written_form}
-use Rattle.rio_layout.specs.BuiltIn.{is_small_builtin}
+use Rattle.rio_format.specs.BuiltIn.{is_small_builtin}
 use Rattle.rio_write.specs.Writing.{IsSmallBuiltin}
+
+-- ---- which objects
+
+-- a TObject with bit 4 of fBits, and the fPid behind it
+pub record IsObjectWithPid (v : Value) : Type 0 where
+  pub id : ℕ
+  pub bits : ℕ
+  pub pid : ℕ
+  pub id_fits : id < 2 ^ 32
+  pub bits_fit : bits < 2 ^ 32
+  pub bit_4 : has_pid bits ≡ true
+  pub pid_fits : pid < 2 ^ 16
+  pub value : v ≡ bare_object id bits (pid_part pid ∷ [])
+
+-- a TNamed whose base is one
+pub record IsNamedWithPid (v : Value) : Type 0 where
+  pub base : Value
+  pub name : List ℕ
+  pub title : List ℕ
+  pub with_pid : IsObjectWithPid base
+  pub value : v ≡ Object (codes "TNamed") (pos 1) (part [] base ∷ part (codes "fName") (Text name) ∷ part (codes "fTitle") (Text title) ∷ [])
+
+-- a TObjString whose base is one
+pub record IsStringWithPid (v : Value) : Type 0 where
+  pub base : Value
+  pub text : List ℕ
+  pub with_pid : IsObjectWithPid base
+  pub value : v ≡ Object (codes "TObjString") (pos 1) (part [] base ∷ part (codes "fString") (Text text) ∷ [])
+
+-- An object of one of these classes that fits it, or the same with fPid, with which none fits.
+abbrev pub IsSmallObject : Value → Type 0
+IsSmallObject v = IsSmallBuiltin v ⊎ IsObjectWithPid v ⊎ IsNamedWithPid v ⊎ IsStringWithPid v
+
+-- what is written for an object as one of its own class
+abbrev pub own_writing : List ClassDef → Value → Writer
+own_writing classes v = (writing_of classes v).bytes (kinded (Inline (writing_of classes v).class))
+
+-- ---- they are the same everywhere
 
 -- it is an object in this version
 abbrev pub HasVersion : ℤ → Value → Type 0
@@ -23,4 +64,4 @@ SmallBuiltinsAreAlike = (classes : List ClassDef) (start : ℕ) (class : List �
 
 -- the same bytes are written over any class list, at every place and behind all words, and no words
 abbrev pub SmallBuiltinsStandAnywhere : Type 0
-SmallBuiltinsStandAnywhere = (classes : List ClassDef) (p : ℕ) (t : WordsMet) (v : Value) → IsSmallBuiltin v → let w = writing_of classes v in w.bytes (kinded (Inline w.class)) p t ≡ (written_form [] 0 v, t)
+SmallBuiltinsStandAnywhere = (classes : List ClassDef) (p : ℕ) (t : WordsMet) (v : Value) → IsSmallObject v → own_writing classes v p t ≡ (written_form [] 0 v, t)

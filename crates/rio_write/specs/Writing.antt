@@ -1,13 +1,13 @@
 -- What the writers of objects do.
-use Rattle.std.specs.Prelude.{◌≡◌, ◌<◌, ◌≤◌, ◌^◌, ℕ, ◌+◌, ◌-◌, ◌%◌, suc, ℤ, pos, negsuc, List, [], ◌++◌, length, IsTrue, Option, Some, Result, Ok, Err}
+use Rattle.std.specs.Prelude.{◌≡◌, ◌<◌, ◌^◌, ℕ, ◌+◌, ◌-◌, ◌%◌, suc, ℤ, pos, negsuc, List, [], ◌++◌, length, IsTrue, Result, Ok, Err}
 use Rattle.rio_num.specs.declared.no_memory.NoMemory.{NoMemory}
 use Rattle.rio_types.specs.declared.class.ClassDef.{ClassDef}
 use Rattle.rio_value.specs.declared.value.Part.{Part}
 use Rattle.rio_value.specs.declared.value.Value.{Value}
-use Rattle.rio_format.specs.Fits.{Fits, Fitting, Labels, fitting_of}
-use Rattle.rio_format.specs.Written.{Writer, Writing, both, class_bytes, counted, labelled, writing_of}
-use Rattle.rio_buffer.specs.Writer.{WriterState, next_place}
-use Rattle.rio_layout.specs.BuiltIn.{is_small_builtin}
+use Rattle.rio_format.specs.Fits.{Fits}
+use Rattle.rio_buffer.specs.Writer.{Writer, class_bytes, WriterState, next_place}
+use Rattle.rio_format.specs.Written.{Writing, both, counted, labelled, writing_of}
+use Rattle.rio_format.specs.BuiltIn.{is_small_builtin}
 
 -- what is written at the next place stands at the end
 unfoldable pub with_written : Writer → WriterState → WriterState
@@ -39,14 +39,3 @@ bits_within size (negsuc n) = (size - suc n) % size
 -- an object of one of these classes that fits it
 abbrev pub IsSmallBuiltin : Value → Type 0
 IsSmallBuiltin v = (class : List ℕ) × IsTrue (is_small_builtin class) × Fits [] class v
-
--- it has at most so many bytes as an object may have
-unfoldable pub IsShort : Writer → WriterState → Type 0
-IsShort write s = length (write (next_place s) s.words).0 ≤ 16777216
-
--- it fits behind some labels
-abbrev pub FitsSomewhere : (Labels → Option Labels) → Type 0
-FitsSomewhere fits = (before : Labels) × (after : Labels) × (fits before ≡ Some after)
-
-abbrev pub part_fitting : Part → List ℕ × Fitting
-part_fitting p = (p.name, fitting_of [] p.value)

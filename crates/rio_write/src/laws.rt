@@ -1,3 +1,4 @@
+//! Laws: the small built-in objects are written alike everywhere.
 ghost use Rattle.rio_write.specs.Small.{SmallBuiltinsAreAlike, SmallBuiltinsStandAnywhere};
 
 /// A TObject, TNamed, TObjString or TArray in version 1 that fits its class over some class list fits it

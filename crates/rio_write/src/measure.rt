@@ -2,8 +2,7 @@
 ghost use Rattle.std.specs.Prelude.{◌≡◌, ◌+◌, ◌^◌, ◌<◌, ℕ, List, length};
 ghost use Rattle.rio_num.specs.Text.{text_bytes};
 
-use rio_names::Names;
-use rio_num::NoMemory;
+use rio_num::{Names, NoMemory};
 use std::alloc::Global;
 use std::marker::Model;
 
@@ -35,7 +34,7 @@ impl<'a> Measure<'a> {
     ghost use Rattle.std.specs.Prelude.{◌≡◌};
     ghost use Rattle.std.specs.List.{list_any};
     ghost use Rattle.std.specs.Str.{bytes_eq};
-    ghost use Rattle.rio_format.specs.Written.{class_bytes};
+    ghost use Rattle.rio_buffer.specs.Writer.{class_bytes};
     ghost use Rattle.rio_write.specs.Measuring.{Measures, longer, nothing_measured};
 
     /// No bytes yet.

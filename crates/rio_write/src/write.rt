@@ -1,8 +1,8 @@
 //! Writing of values.
 ghost use Rattle.std.specs.Prelude.{◌≡◌, ◌≤◌, ◌<◌, ◌+◌, ◌-◌, ◌^◌, ℕ, List, length, map, IfOk, IsTrue};
 ghost use Rattle.rio_types.specs.declared.class.ClassDef.{ClassDef as Class};
-ghost use Rattle.rio_format.specs.Bodies.{form_of, headed};
-ghost use Rattle.rio_format.specs.Slots.{declared_body, fields_of};
+ghost use Rattle.rio_format.specs.Bodies.{form_of};
+ghost use Rattle.rio_format.specs.Slots.{body_fields, declared_body};
 ghost use Rattle.rio_format.specs.Written.{all, array_bytes, arrayed_bytes, bare_bytes, body_bytes, counted_bytes, described_bytes, fields_bytes, form_bytes, headed_bytes, link_bytes, list_bytes, listed_bytes, pointed_bytes, writing_of, written_form};
 ghost use Rattle.rio_format.specs.Fits.{Fits};
 ghost use Rattle.rio_format.specs.Laws.{has_versions};
@@ -10,7 +10,6 @@ ghost use Rattle.rio_format.specs.Objects.{depth_limit};
 ghost use Rattle.rio_format.specs.Spelling.{Spells};
 ghost use Rattle.rio_num.specs.Room.{room_of};
 ghost use Rattle.rio_value.specs.Depth.{depth_of};
-ghost use Rattle.rio_layout.specs.Fields.{field_as, slot_as};
 ghost use Rattle.rio_write.specs.Writing.{HasRoom, Writes, part_writing};
 
 use crate::write_numbers::{
@@ -18,7 +17,9 @@ use crate::write_numbers::{
     write_version,
 };
 use rio_buffer::ObjWriter;
-use rio_layout::{Body, Field, Shape, Slot, declared_body, fields_of, shape_of};
+use rio_format::{
+    Body, BodyKind, Field, Shape, Slot, SlotKind, body_fields, declared_body, shape_of,
+};
 use rio_num::{Bytes, NoMemory};
 use rio_types::{Classes, Prim};
 use rio_value::{Part, Value};
@@ -51,10 +52,11 @@ fn write_all(
     classes: &Classes,
     writer: &mut ObjWriter,
     items: &[Value],
-    slot: Slot,
+    slot: &Slot,
 ) -> Result<(), NoMemory>
-    requires { HasRoom (all (slot_as slot) (map (writing_of classes.now) items.now)) writer.old }
-    ensures { Writes (all (slot_as slot.entry) (map (writing_of classes.now) items.now)) result writer.old writer.new }
+    requires { HasRoom (all slot.now (map (writing_of classes.now) items.now)) writer.old }
+    ensures { Writes (all slot.now (map (writing_of classes.now) items.now))
+        result writer.old writer.new }
 {
     for item in items {
         write_value(alloc, classes, writer, item, slot)?;
@@ -72,13 +74,14 @@ fn write_counted(
     of: Prim,
 ) -> Result<(), NoMemory>
     requires { HasRoom (counted_bytes of (map (writing_of classes.now) items.now)) writer.old }
-    ensures { Writes (counted_bytes of (map (writing_of classes.now) items.now)) result writer.old writer.new }
+    ensures { Writes (counted_bytes of (map (writing_of classes.now) items.now)) result writer.old
+        writer.new }
 {
     if items.is_empty() {
         return write_bool(writer, false);
     }
     write_bool(writer, true)?;
-    write_all(alloc, classes, writer, items, Slot::Plain(of))
+    write_all(alloc, classes, writer, items, &Slot(SlotKind::Plain(of)))
 }
 
 // A pointer and a text.
@@ -90,12 +93,13 @@ fn write_link(
     items: &[Value],
 ) -> Result<(), NoMemory>
     requires { HasRoom (link_bytes (map (writing_of classes.now) items.now)) writer.old }
-    ensures { Writes (link_bytes (map (writing_of classes.now) items.now)) result writer.old writer.new }
+    ensures { Writes (link_bytes (map (writing_of classes.now) items.now)) result writer.old
+        writer.new }
 {
     match items {
         [pointer, text] => {
-            write_value(alloc, classes, writer, pointer, Slot::AnyPointer)?;
-            write_value(alloc, classes, writer, text, Slot::Text)
+            write_value(alloc, classes, writer, pointer, &Slot(SlotKind::AnyPointer))?;
+            write_value(alloc, classes, writer, text, &Slot(SlotKind::Text))
         }
         _ => Ok(()),
     }
@@ -108,18 +112,31 @@ fn write_list(
     classes: &Classes,
     writer: &mut ObjWriter,
     items: &[Value],
-    slot: Slot,
+    slot: &Slot,
 ) -> Result<(), NoMemory>
-    requires { HasRoom (list_bytes (map (writing_of classes.now) items.now) (slot_as slot)) writer.old }
-    ensures { Writes (list_bytes (map (writing_of classes.now) items.now) (slot_as slot.entry)) result writer.old writer.new }
+    requires { HasRoom (list_bytes (map (writing_of classes.now) items.now) slot.now) writer.old }
+    ensures { Writes (list_bytes (map (writing_of classes.now) items.now) slot.now)
+        result writer.old writer.new }
 {
-    match slot {
-        Slot::Fixed(of, _) => write_all(alloc, classes, writer, items, Slot::Plain(of)),
-        Slot::Counted(of, _) => write_counted(alloc, classes, writer, items, of),
-        Slot::Link => write_link(alloc, classes, writer, items),
-        Slot::Numbers(of) => write_all(alloc, classes, writer, items, Slot::Plain(of)),
-        Slot::Pointers => write_all(alloc, classes, writer, items, Slot::AnyPointer),
-        Slot::Links => write_all(alloc, classes, writer, items, Slot::Link),
+    match slot.0 {
+        SlotKind::Fixed(of, _) => write_all(
+            alloc,
+            classes,
+            writer,
+            items,
+            &Slot(SlotKind::Plain(of)),
+        ),
+        SlotKind::Counted(of, _) => write_counted(alloc, classes, writer, items, of),
+        SlotKind::Link => write_link(alloc, classes, writer, items),
+        SlotKind::Numbers(of) => write_all(
+            alloc,
+            classes,
+            writer,
+            items,
+            &Slot(SlotKind::Plain(of)),
+        ),
+        SlotKind::Pointers => write_all(alloc, classes, writer, items, &Slot(SlotKind::AnyPointer)),
+        SlotKind::Links => write_all(alloc, classes, writer, items, &Slot(SlotKind::Link)),
         _ => Ok(()),
     }
 }
@@ -133,11 +150,18 @@ fn write_pointed(
     object: &Value,
 ) -> Result<(), NoMemory>
     requires { HasRoom (pointed_bytes (writing_of classes.now object.now)) writer.old }
-    ensures { Writes (pointed_bytes (writing_of classes.now object.now)) result writer.old writer.new }
+    ensures { Writes (pointed_bytes (writing_of classes.now object.now)) result writer.old
+        writer.new }
 {
     let class = class_of(object);
     let begun = writer.begin_pointer(class)?;
-    write_value(alloc, classes, writer, object, Slot::Inline(class))?;
+    write_value(
+        alloc,
+        classes,
+        writer,
+        object,
+        &Slot(SlotKind::Inline(class)),
+    )?;
     writer.end(begun);
     Ok(())
 }
@@ -151,19 +175,21 @@ fn write_fields(
     fields: &[Field],
     parts: &[Part],
 ) -> Result<(), NoMemory>
-    requires { HasRoom (fields_bytes (map field_as fields.now) (map (part_writing classes.now) parts.now)) writer.old }
-    ensures { Writes (fields_bytes (map field_as fields.now) (map (part_writing classes.now) parts.now)) result writer.old writer.new }
+    requires { HasRoom (fields_bytes fields.now
+        (map (part_writing classes.now) parts.now)) writer.old }
+    ensures { Writes (fields_bytes fields.now (map (part_writing classes.now) parts.now))
+        result writer.old writer.new }
 {
     for (k, field) in fields.iter().enumerate() {
         let Some(part) = parts.get(k) else {
             return Ok(());
         };
-        write_value(alloc, classes, writer, &part.value, field.slot)?;
+        write_value(alloc, classes, writer, &part.value, &field.slot)?;
     }
     Ok(())
 }
 
-// The parts of a TObject.
+// The parts of a TObject, with fPid where it is one of them.
 #[cycle(write)]
 fn write_bare(
     alloc: Global,
@@ -172,13 +198,38 @@ fn write_bare(
     parts: &[Part],
 ) -> Result<(), NoMemory>
     requires { HasRoom (bare_bytes (map (part_writing classes.now) parts.now)) writer.old }
-    ensures { Writes (bare_bytes (map (part_writing classes.now) parts.now)) result writer.old writer.new }
+    ensures { Writes (bare_bytes (map (part_writing classes.now) parts.now)) result writer.old
+        writer.new }
 {
     match parts {
         [id, bits] => {
             write_version(writer)?;
-            write_value(alloc, classes, writer, &id.value, Slot::Plain(Prim::U32))?;
-            write_value(alloc, classes, writer, &bits.value, Slot::Flags)
+            write_value(
+                alloc,
+                classes,
+                writer,
+                &id.value,
+                &Slot(SlotKind::Plain(Prim::U32)),
+            )?;
+            write_value(alloc, classes, writer, &bits.value, &Slot(SlotKind::Flags))
+        }
+        [id, bits, pid] => {
+            write_version(writer)?;
+            write_value(
+                alloc,
+                classes,
+                writer,
+                &id.value,
+                &Slot(SlotKind::Plain(Prim::U32)),
+            )?;
+            write_value(alloc, classes, writer, &bits.value, &Slot(SlotKind::Flags))?;
+            write_value(
+                alloc,
+                classes,
+                writer,
+                &pid.value,
+                &Slot(SlotKind::Plain(Prim::U16)),
+            )
         }
         _ => Ok(()),
     }
@@ -194,12 +245,19 @@ fn write_array(
     parts: &[Part],
 ) -> Result<(), NoMemory>
     requires { HasRoom (array_bytes of (map (part_writing classes.now) parts.now)) writer.old }
-    ensures { Writes (array_bytes of (map (part_writing classes.now) parts.now)) result writer.old writer.new }
+    ensures { Writes (array_bytes of (map (part_writing classes.now) parts.now)) result writer.old
+        writer.new }
 {
     match parts {
         [items] => {
             write_count(writer, count_of(&items.value))?;
-            write_value(alloc, classes, writer, &items.value, Slot::Numbers(of))
+            write_value(
+                alloc,
+                classes,
+                writer,
+                &items.value,
+                &Slot(SlotKind::Numbers(of)),
+            )
         }
         _ => Ok(()),
     }
@@ -214,7 +272,8 @@ fn write_listed(
     parts: &[Part],
 ) -> Result<(), NoMemory>
     requires { HasRoom (listed_bytes (map (part_writing classes.now) parts.now)) writer.old }
-    ensures { Writes (listed_bytes (map (part_writing classes.now) parts.now)) result writer.old writer.new }
+    ensures { Writes (listed_bytes (map (part_writing classes.now) parts.now)) result writer.old
+        writer.new }
 {
     match parts {
         [base, name, items] => {
@@ -223,11 +282,11 @@ fn write_listed(
                 classes,
                 writer,
                 &base.value,
-                Slot::Based(b"TObject", 1),
+                &Slot(SlotKind::Based(b"TObject", 1)),
             )?;
-            write_value(alloc, classes, writer, &name.value, Slot::Text)?;
+            write_value(alloc, classes, writer, &name.value, &Slot(SlotKind::Text))?;
             write_count(writer, count_of(&items.value))?;
-            write_value(alloc, classes, writer, &items.value, Slot::Links)
+            write_value(alloc, classes, writer, &items.value, &Slot(SlotKind::Links))
         }
         _ => Ok(()),
     }
@@ -242,7 +301,8 @@ fn write_arrayed(
     parts: &[Part],
 ) -> Result<(), NoMemory>
     requires { HasRoom (arrayed_bytes (map (part_writing classes.now) parts.now)) writer.old }
-    ensures { Writes (arrayed_bytes (map (part_writing classes.now) parts.now)) result writer.old writer.new }
+    ensures { Writes (arrayed_bytes (map (part_writing classes.now) parts.now)) result writer.old
+        writer.new }
 {
     match parts {
         [base, name, lower, items] => {
@@ -251,40 +311,76 @@ fn write_arrayed(
                 classes,
                 writer,
                 &base.value,
-                Slot::Based(b"TObject", 1),
+                &Slot(SlotKind::Based(b"TObject", 1)),
             )?;
-            write_value(alloc, classes, writer, &name.value, Slot::Text)?;
+            write_value(alloc, classes, writer, &name.value, &Slot(SlotKind::Text))?;
             write_count(writer, count_of(&items.value))?;
-            write_value(alloc, classes, writer, &lower.value, Slot::Plain(Prim::I32))?;
-            write_value(alloc, classes, writer, &items.value, Slot::Pointers)
+            write_value(
+                alloc,
+                classes,
+                writer,
+                &lower.value,
+                &Slot(SlotKind::Plain(Prim::I32)),
+            )?;
+            write_value(
+                alloc,
+                classes,
+                writer,
+                &items.value,
+                &Slot(SlotKind::Pointers),
+            )
         }
         _ => Ok(()),
     }
 }
 
-// The parts of an object that is described in its version.
+// The parts of an object that has this body, which are those of a described class.
 #[cycle(write)]
 #[tactic(auto, unfolding(crate::specs::Writing::with_written))]
 fn write_described(
     alloc: Global,
     classes: &Classes,
     writer: &mut ObjWriter,
-    class: &[u8],
-    version: i32,
+    body: &Body,
     parts: &[Part],
 ) -> Result<(), NoMemory>
-    requires { HasRoom (described_bytes (fields_of classes.now class.now version) (map (part_writing classes.now) parts.now)) writer.old }
-    ensures { Writes (described_bytes (fields_of classes.now class.now version) (map (part_writing classes.now) parts.now)) result writer.old writer.new }
+    requires { HasRoom (described_bytes (body_fields (Some body.now))
+        (map (part_writing classes.now) parts.now)) writer.old }
+    ensures { Writes (described_bytes (body_fields (Some body.now))
+        (map (part_writing classes.now) parts.now))
+        result writer.old writer.new }
 {
-    match fields_of(alloc, classes, class, version)? {
+    match body_fields(alloc, body)? {
         Some(fields) => write_fields(alloc, classes, writer, fields.as_slice(), parts),
         None => Ok(()),
     }
 }
 
-// What stands behind the header.
+// What stands behind the header of an object that has this body.
 #[cycle(write)]
 fn write_body(
+    alloc: Global,
+    classes: &Classes,
+    writer: &mut ObjWriter,
+    body: &Body,
+    parts: &[Part],
+) -> Result<(), NoMemory>
+    requires { HasRoom (body_bytes (Some body.now)
+        (map (part_writing classes.now) parts.now)) writer.old }
+    ensures { Writes (body_bytes (Some body.now) (map (part_writing classes.now) parts.now))
+        result writer.old writer.new }
+{
+    match body.0 {
+        BodyKind::Listed => write_listed(alloc, classes, writer, parts),
+        BodyKind::Arrayed => write_arrayed(alloc, classes, writer, parts),
+        _ => write_described(alloc, classes, writer, body, parts),
+    }
+}
+
+// What stands behind the header, where the class has a body in its version.
+#[cycle(write)]
+#[tactic(auto, unfolding(crate::specs::Writing::with_written))]
+fn write_declared(
     alloc: Global,
     classes: &Classes,
     writer: &mut ObjWriter,
@@ -292,14 +388,15 @@ fn write_body(
     version: i32,
     parts: &[Part],
 ) -> Result<(), NoMemory>
-    requires form { form_of class.now ≡ headed }
-    requires room { HasRoom (body_bytes (declared_body classes.now class.now version) (map (part_writing classes.now) parts.now)) writer.old }
-    ensures { Writes (body_bytes (declared_body classes.now class.now version) (map (part_writing classes.now) parts.now)) result writer.old writer.new }
+    requires { HasRoom (body_bytes (declared_body classes.now class.now version)
+        (map (part_writing classes.now) parts.now)) writer.old }
+    ensures { Writes (body_bytes (declared_body classes.now class.now version)
+        (map (part_writing classes.now) parts.now))
+        result writer.old writer.new }
 {
     match declared_body(classes, class, version) {
-        Some(Body::Listed) => write_listed(alloc, classes, writer, parts),
-        Some(Body::Arrayed) => write_arrayed(alloc, classes, writer, parts),
-        _ => write_described(alloc, classes, writer, class, version, parts),
+        Some(body) => write_body(alloc, classes, writer, &body, parts),
+        None => Ok(()),
     }
 }
 
@@ -312,12 +409,16 @@ fn write_headed(
     version: i32,
     parts: &[Part],
 ) -> Result<(), NoMemory>
-    requires form { form_of class.now ≡ headed }
-    requires room { HasRoom (headed_bytes version (body_bytes (declared_body classes.now class.now version) (map (part_writing classes.now) parts.now))) writer.old }
-    ensures { Writes (headed_bytes version (body_bytes (declared_body classes.now class.now version) (map (part_writing classes.now) parts.now))) result writer.old writer.new }
+    requires { HasRoom (headed_bytes version
+        (body_bytes (declared_body classes.now class.now version)
+        (map (part_writing classes.now) parts.now))) writer.old }
+    ensures { Writes (headed_bytes version
+        (body_bytes (declared_body classes.now class.now version)
+        (map (part_writing classes.now) parts.now)))
+        result writer.old writer.new }
 {
     let begun = writer.begin(bits_16(i128::from(version)))?;
-    write_body(alloc, classes, writer, class, version, parts)?;
+    write_declared(alloc, classes, writer, class, version, parts)?;
     writer.end(begun);
     Ok(())
 }
@@ -332,8 +433,10 @@ fn write_parts(
     version: i32,
     parts: &[Part],
 ) -> Result<(), NoMemory>
-    requires { HasRoom (form_bytes classes.now class.now version (form_of class.now) (map (part_writing classes.now) parts.now)) writer.old }
-    ensures { Writes (form_bytes classes.now class.now version (form_of class.now) (map (part_writing classes.now) parts.now)) result writer.old writer.new }
+    requires { HasRoom (form_bytes classes.now class.now version (form_of class.now)
+        (map (part_writing classes.now) parts.now)) writer.old }
+    ensures { Writes (form_bytes classes.now class.now version (form_of class.now)
+        (map (part_writing classes.now) parts.now)) result writer.old writer.new }
 {
     match shape_of(class) {
         Shape::Bare => write_bare(alloc, classes, writer, parts),
@@ -349,10 +452,11 @@ fn write_value(
     classes: &Classes,
     writer: &mut ObjWriter,
     value: &Value,
-    slot: Slot,
+    slot: &Slot,
 ) -> Result<(), NoMemory>
-    requires { HasRoom ((writing_of classes.now value.now).bytes (slot_as slot)) writer.old }
-    ensures { Writes ((writing_of classes.now value.now).bytes (slot_as slot.entry)) result writer.old writer.new }
+    requires { HasRoom ((writing_of classes.now value.now).bytes slot.now) writer.old }
+    ensures { Writes ((writing_of classes.now value.now).bytes slot.now)
+        result writer.old writer.new }
 {
     match value {
         Value::Int(n) => write_int(writer, *n, slot),
@@ -388,10 +492,13 @@ pub fn write_object(
     requires { start + length (written_form classes.now start value.now) < 2 ^ 30 - 2 }
     ensures exact { IfOk result (λ b. b ≡ room_of (written_form classes.now start value.now)) }
     // What is written for a value that fits spells it, if it isn't too deep and its versions can be written.
-    ensures spelled { (class : List ℕ) → Fits classes.now class value.now → depth_of value.now ≤ depth_limit → IsTrue (has_versions value.now) → IfOk result (λ b. Spells classes.now start class value.now b.bytes) }
+    ensures spelled { (class : List ℕ) → Fits classes.now class value.now
+        → depth_of value.now ≤ depth_limit → IsTrue (has_versions value.now)
+        → IfOk result (λ b. Spells classes.now start class value.now b.bytes) }
 {
     let mut writer = ObjWriter::new(alloc, start);
     let class = class_of(value);
-    write_value(alloc, classes, &mut writer, value, Slot::Inline(class))?;
+    let slot = Slot(SlotKind::Inline(class));
+    write_value(alloc, classes, &mut writer, value, &slot)?;
     Ok(writer.into_bytes())
 }

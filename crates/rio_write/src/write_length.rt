@@ -1,28 +1,29 @@
 //! How long the written bytes of a value are.
 ghost use Rattle.std.specs.Prelude.{◌≡◌, ℕ, ℤ, List, length, map, min, IfOk};
 ghost use Rattle.rio_types.specs.declared.class.ClassDef.{ClassDef as Class};
-ghost use Rattle.rio_format.specs.Bodies.{form_of, headed};
-ghost use Rattle.rio_format.specs.Slots.{declared_body, fields_of};
+ghost use Rattle.rio_format.specs.Bodies.{form_of};
+ghost use Rattle.rio_format.specs.Slots.{body_fields, declared_body};
 ghost use Rattle.rio_format.specs.Written.{all, array_bytes, arrayed_bytes, bare_bytes, body_bytes, counted_bytes, described_bytes, fields_bytes, form_bytes, headed_bytes, int_bytes, link_bytes, list_bytes, listed_bytes, pointed_bytes, writing_of, written_form};
-ghost use Rattle.rio_layout.specs.Fields.{field_as, slot_as};
 ghost use Rattle.rio_write.specs.Measuring.{Measures, too_long};
 ghost use Rattle.rio_write.specs.Writing.{part_writing};
 
 use crate::measure::{COUNT_WORD, HEADER, Measure, text_length};
 use crate::write::class_of;
-use rio_layout::{Body, Field, Shape, Slot, declared_body, fields_of, shape_of, width_of};
+use rio_format::{
+    Body, BodyKind, Field, Shape, Slot, SlotKind, body_fields, declared_body, shape_of, width_of,
+};
 use rio_num::NoMemory;
 use rio_types::{Classes, Prim};
 use rio_value::{Part, Value};
 use std::alloc::Global;
 
-fn int_length(slot: Slot) -> u64
-    ensures { (n : ℤ) → result ≡ length (int_bytes n (slot_as slot.entry)) }
+fn int_length(slot: &Slot) -> u64
+    ensures { (n : ℤ) → result ≡ length (int_bytes n slot.now) }
 {
-    match slot {
-        Slot::Plain(of) => width_of(of),
-        Slot::Counter => 4,
-        Slot::Flags => 4,
+    match slot.0 {
+        SlotKind::Plain(of) => width_of(of),
+        SlotKind::Counter => 4,
+        SlotKind::Flags => 4,
         _ => 0,
     }
 }
@@ -34,9 +35,10 @@ fn measure_all<'a>(
     classes: &Classes,
     measure: &mut Measure<'a>,
     items: &'a [Value],
-    slot: Slot,
+    slot: &Slot,
 ) -> Result<(), NoMemory>
-    ensures { Measures (all (slot_as slot.entry) (map (writing_of classes.now) items.now)) result measure.old measure.new }
+    ensures { Measures (all slot.now (map (writing_of classes.now) items.now))
+        result measure.old measure.new }
 {
     for item in items {
         measure_value(alloc, classes, measure, item, slot)?;
@@ -53,10 +55,11 @@ fn measure_counted<'a>(
     items: &'a [Value],
     of: Prim,
 ) -> Result<(), NoMemory>
-    ensures { Measures (counted_bytes of (map (writing_of classes.now) items.now)) result measure.old measure.new }
+    ensures { Measures (counted_bytes of (map (writing_of classes.now) items.now)) result
+        measure.old measure.new }
 {
     measure.add(1);
-    measure_all(alloc, classes, measure, items, Slot::Plain(of))
+    measure_all(alloc, classes, measure, items, &Slot(SlotKind::Plain(of)))
 }
 
 // A pointer and a text.
@@ -67,12 +70,19 @@ fn measure_link<'a>(
     measure: &mut Measure<'a>,
     items: &'a [Value],
 ) -> Result<(), NoMemory>
-    ensures { Measures (link_bytes (map (writing_of classes.now) items.now)) result measure.old measure.new }
+    ensures { Measures (link_bytes (map (writing_of classes.now) items.now)) result measure.old
+        measure.new }
 {
     match items {
         [pointer, text] => {
-            measure_value(alloc, classes, measure, pointer, Slot::AnyPointer)?;
-            measure_value(alloc, classes, measure, text, Slot::Text)
+            measure_value(
+                alloc,
+                classes,
+                measure,
+                pointer,
+                &Slot(SlotKind::AnyPointer),
+            )?;
+            measure_value(alloc, classes, measure, text, &Slot(SlotKind::Text))
         }
         _ => Ok(()),
     }
@@ -85,17 +95,36 @@ fn measure_list<'a>(
     classes: &Classes,
     measure: &mut Measure<'a>,
     items: &'a [Value],
-    slot: Slot,
+    slot: &Slot,
 ) -> Result<(), NoMemory>
-    ensures { Measures (list_bytes (map (writing_of classes.now) items.now) (slot_as slot.entry)) result measure.old measure.new }
+    ensures { Measures (list_bytes (map (writing_of classes.now) items.now) slot.now)
+        result measure.old measure.new }
 {
-    match slot {
-        Slot::Fixed(of, _) => measure_all(alloc, classes, measure, items, Slot::Plain(of)),
-        Slot::Counted(of, _) => measure_counted(alloc, classes, measure, items, of),
-        Slot::Link => measure_link(alloc, classes, measure, items),
-        Slot::Numbers(of) => measure_all(alloc, classes, measure, items, Slot::Plain(of)),
-        Slot::Pointers => measure_all(alloc, classes, measure, items, Slot::AnyPointer),
-        Slot::Links => measure_all(alloc, classes, measure, items, Slot::Link),
+    match slot.0 {
+        SlotKind::Fixed(of, _) => measure_all(
+            alloc,
+            classes,
+            measure,
+            items,
+            &Slot(SlotKind::Plain(of)),
+        ),
+        SlotKind::Counted(of, _) => measure_counted(alloc, classes, measure, items, of),
+        SlotKind::Link => measure_link(alloc, classes, measure, items),
+        SlotKind::Numbers(of) => measure_all(
+            alloc,
+            classes,
+            measure,
+            items,
+            &Slot(SlotKind::Plain(of)),
+        ),
+        SlotKind::Pointers => measure_all(
+            alloc,
+            classes,
+            measure,
+            items,
+            &Slot(SlotKind::AnyPointer),
+        ),
+        SlotKind::Links => measure_all(alloc, classes, measure, items, &Slot(SlotKind::Link)),
         _ => Ok(()),
     }
 }
@@ -108,12 +137,19 @@ fn measure_pointed<'a>(
     measure: &mut Measure<'a>,
     object: &'a Value,
 ) -> Result<(), NoMemory>
-    ensures { Measures (pointed_bytes (writing_of classes.now object.now)) result measure.old measure.new }
+    ensures { Measures (pointed_bytes (writing_of classes.now object.now)) result measure.old
+        measure.new }
 {
     let class = class_of(object);
     measure.add(COUNT_WORD);
     measure.add_class(class)?;
-    measure_value(alloc, classes, measure, object, Slot::Inline(class))
+    measure_value(
+        alloc,
+        classes,
+        measure,
+        object,
+        &Slot(SlotKind::Inline(class)),
+    )
 }
 
 // The parts, each in the field of its number.
@@ -125,18 +161,19 @@ fn measure_fields<'a>(
     fields: &[Field],
     parts: &'a [Part],
 ) -> Result<(), NoMemory>
-    ensures { Measures (fields_bytes (map field_as fields.now) (map (part_writing classes.now) parts.now)) result measure.old measure.new }
+    ensures { Measures (fields_bytes fields.now (map (part_writing classes.now) parts.now))
+        result measure.old measure.new }
 {
     for (k, field) in fields.iter().enumerate() {
         let Some(part) = parts.get(k) else {
             return Ok(());
         };
-        measure_value(alloc, classes, measure, &part.value, field.slot)?;
+        measure_value(alloc, classes, measure, &part.value, &field.slot)?;
     }
     Ok(())
 }
 
-// The parts of a TObject.
+// The parts of a TObject, with fPid where it is one of them.
 #[cycle(measure)]
 fn measure_bare<'a>(
     alloc: Global,
@@ -144,13 +181,38 @@ fn measure_bare<'a>(
     measure: &mut Measure<'a>,
     parts: &'a [Part],
 ) -> Result<(), NoMemory>
-    ensures { Measures (bare_bytes (map (part_writing classes.now) parts.now)) result measure.old measure.new }
+    ensures { Measures (bare_bytes (map (part_writing classes.now) parts.now)) result measure.old
+        measure.new }
 {
     match parts {
         [id, bits] => {
             measure.add(2);
-            measure_value(alloc, classes, measure, &id.value, Slot::Plain(Prim::U32))?;
-            measure_value(alloc, classes, measure, &bits.value, Slot::Flags)
+            measure_value(
+                alloc,
+                classes,
+                measure,
+                &id.value,
+                &Slot(SlotKind::Plain(Prim::U32)),
+            )?;
+            measure_value(alloc, classes, measure, &bits.value, &Slot(SlotKind::Flags))
+        }
+        [id, bits, pid] => {
+            measure.add(2);
+            measure_value(
+                alloc,
+                classes,
+                measure,
+                &id.value,
+                &Slot(SlotKind::Plain(Prim::U32)),
+            )?;
+            measure_value(alloc, classes, measure, &bits.value, &Slot(SlotKind::Flags))?;
+            measure_value(
+                alloc,
+                classes,
+                measure,
+                &pid.value,
+                &Slot(SlotKind::Plain(Prim::U16)),
+            )
         }
         _ => Ok(()),
     }
@@ -165,12 +227,19 @@ fn measure_array<'a>(
     of: Prim,
     parts: &'a [Part],
 ) -> Result<(), NoMemory>
-    ensures { Measures (array_bytes of (map (part_writing classes.now) parts.now)) result measure.old measure.new }
+    ensures { Measures (array_bytes of (map (part_writing classes.now) parts.now)) result
+        measure.old measure.new }
 {
     match parts {
         [items] => {
             measure.add(4);
-            measure_value(alloc, classes, measure, &items.value, Slot::Numbers(of))
+            measure_value(
+                alloc,
+                classes,
+                measure,
+                &items.value,
+                &Slot(SlotKind::Numbers(of)),
+            )
         }
         _ => Ok(()),
     }
@@ -184,7 +253,8 @@ fn measure_listed<'a>(
     measure: &mut Measure<'a>,
     parts: &'a [Part],
 ) -> Result<(), NoMemory>
-    ensures { Measures (listed_bytes (map (part_writing classes.now) parts.now)) result measure.old measure.new }
+    ensures { Measures (listed_bytes (map (part_writing classes.now) parts.now)) result measure.old
+        measure.new }
 {
     match parts {
         [base, name, items] => {
@@ -193,11 +263,17 @@ fn measure_listed<'a>(
                 classes,
                 measure,
                 &base.value,
-                Slot::Based(b"TObject", 1),
+                &Slot(SlotKind::Based(b"TObject", 1)),
             )?;
-            measure_value(alloc, classes, measure, &name.value, Slot::Text)?;
+            measure_value(alloc, classes, measure, &name.value, &Slot(SlotKind::Text))?;
             measure.add(4);
-            measure_value(alloc, classes, measure, &items.value, Slot::Links)
+            measure_value(
+                alloc,
+                classes,
+                measure,
+                &items.value,
+                &Slot(SlotKind::Links),
+            )
         }
         _ => Ok(()),
     }
@@ -211,7 +287,8 @@ fn measure_arrayed<'a>(
     measure: &mut Measure<'a>,
     parts: &'a [Part],
 ) -> Result<(), NoMemory>
-    ensures { Measures (arrayed_bytes (map (part_writing classes.now) parts.now)) result measure.old measure.new }
+    ensures { Measures (arrayed_bytes (map (part_writing classes.now) parts.now)) result measure.old
+        measure.new }
 {
     match parts {
         [base, name, lower, items] => {
@@ -220,45 +297,72 @@ fn measure_arrayed<'a>(
                 classes,
                 measure,
                 &base.value,
-                Slot::Based(b"TObject", 1),
+                &Slot(SlotKind::Based(b"TObject", 1)),
             )?;
-            measure_value(alloc, classes, measure, &name.value, Slot::Text)?;
+            measure_value(alloc, classes, measure, &name.value, &Slot(SlotKind::Text))?;
             measure.add(4);
             measure_value(
                 alloc,
                 classes,
                 measure,
                 &lower.value,
-                Slot::Plain(Prim::I32),
+                &Slot(SlotKind::Plain(Prim::I32)),
             )?;
-            measure_value(alloc, classes, measure, &items.value, Slot::Pointers)
+            measure_value(
+                alloc,
+                classes,
+                measure,
+                &items.value,
+                &Slot(SlotKind::Pointers),
+            )
         }
         _ => Ok(()),
     }
 }
 
-// The parts of an object that is described in its version.
+// The parts of an object that has this body, which are those of a described class.
 #[cycle(measure)]
 #[tactic(auto, using(crate::proofs::MeasureLaws::nothing_grows))]
 fn measure_described<'a>(
     alloc: Global,
     classes: &Classes,
     measure: &mut Measure<'a>,
-    class: &[u8],
-    version: i32,
+    body: &Body,
     parts: &'a [Part],
 ) -> Result<(), NoMemory>
-    ensures { Measures (described_bytes (fields_of classes.now class.now version) (map (part_writing classes.now) parts.now)) result measure.old measure.new }
+    ensures { Measures (described_bytes (body_fields (Some body.now))
+        (map (part_writing classes.now) parts.now))
+        result measure.old measure.new }
 {
-    match fields_of(alloc, classes, class, version)? {
+    match body_fields(alloc, body)? {
         Some(fields) => measure_fields(alloc, classes, measure, fields.as_slice(), parts),
         None => Ok(()),
     }
 }
 
-// What stands behind the header.
+// What stands behind the header of an object that has this body.
 #[cycle(measure)]
 fn measure_body<'a>(
+    alloc: Global,
+    classes: &Classes,
+    measure: &mut Measure<'a>,
+    body: &Body,
+    parts: &'a [Part],
+) -> Result<(), NoMemory>
+    ensures { Measures (body_bytes (Some body.now) (map (part_writing classes.now) parts.now))
+        result measure.old measure.new }
+{
+    match body.0 {
+        BodyKind::Listed => measure_listed(alloc, classes, measure, parts),
+        BodyKind::Arrayed => measure_arrayed(alloc, classes, measure, parts),
+        _ => measure_described(alloc, classes, measure, body, parts),
+    }
+}
+
+// What stands behind the header, where the class has a body in its version.
+#[cycle(measure)]
+#[tactic(auto, using(crate::proofs::MeasureLaws::nothing_grows))]
+fn measure_declared<'a>(
     alloc: Global,
     classes: &Classes,
     measure: &mut Measure<'a>,
@@ -266,13 +370,13 @@ fn measure_body<'a>(
     version: i32,
     parts: &'a [Part],
 ) -> Result<(), NoMemory>
-    requires { form_of class.now ≡ headed }
-    ensures { Measures (body_bytes (declared_body classes.now class.now version) (map (part_writing classes.now) parts.now)) result measure.old measure.new }
+    ensures { Measures (body_bytes (declared_body classes.now class.now version)
+        (map (part_writing classes.now) parts.now))
+        result measure.old measure.new }
 {
     match declared_body(classes, class, version) {
-        Some(Body::Listed) => measure_listed(alloc, classes, measure, parts),
-        Some(Body::Arrayed) => measure_arrayed(alloc, classes, measure, parts),
-        _ => measure_described(alloc, classes, measure, class, version, parts),
+        Some(body) => measure_body(alloc, classes, measure, &body, parts),
+        None => Ok(()),
     }
 }
 
@@ -285,11 +389,13 @@ fn measure_headed<'a>(
     version: i32,
     parts: &'a [Part],
 ) -> Result<(), NoMemory>
-    requires { form_of class.now ≡ headed }
-    ensures { Measures (headed_bytes version (body_bytes (declared_body classes.now class.now version) (map (part_writing classes.now) parts.now))) result measure.old measure.new }
+    ensures { Measures (headed_bytes version
+        (body_bytes (declared_body classes.now class.now version)
+        (map (part_writing classes.now) parts.now)))
+        result measure.old measure.new }
 {
     measure.add(HEADER);
-    measure_body(alloc, classes, measure, class, version, parts)
+    measure_declared(alloc, classes, measure, class, version, parts)
 }
 
 // An object of these parts.
@@ -302,7 +408,8 @@ fn measure_parts<'a>(
     version: i32,
     parts: &'a [Part],
 ) -> Result<(), NoMemory>
-    ensures { Measures (form_bytes classes.now class.now version (form_of class.now) (map (part_writing classes.now) parts.now)) result measure.old measure.new }
+    ensures { Measures (form_bytes classes.now class.now version (form_of class.now)
+        (map (part_writing classes.now) parts.now)) result measure.old measure.new }
 {
     match shape_of(class) {
         Shape::Bare => measure_bare(alloc, classes, measure, parts),
@@ -318,9 +425,10 @@ fn measure_value<'a>(
     classes: &Classes,
     measure: &mut Measure<'a>,
     value: &'a Value,
-    slot: Slot,
+    slot: &Slot,
 ) -> Result<(), NoMemory>
-    ensures { Measures ((writing_of classes.now value.now).bytes (slot_as slot.entry)) result measure.old measure.new }
+    ensures { Measures ((writing_of classes.now value.now).bytes slot.now)
+        result measure.old measure.new }
 {
     match value {
         Value::Int(_) => Ok(measure.add(int_length(slot))),
@@ -347,10 +455,12 @@ fn measure_value<'a>(
 /// The length of the bytes that `write_object` writes for a value, or 16,777,217 where they are more than
 /// 16,777,216. The value is an object that fits its class in the list of classes. Nothing is written.
 pub fn written_length(alloc: Global, classes: &Classes, value: &Value) -> Result<u64, NoMemory>
-    ensures { IfOk result (λ n. (start : ℕ) → n ≡ min (length (written_form classes.now start value.now)) too_long) }
+    ensures { IfOk result (λ n. (start : ℕ) → n
+        ≡ min (length (written_form classes.now start value.now)) too_long) }
 {
     let mut measure = Measure::new(alloc);
     let class = class_of(value);
-    measure_value(alloc, classes, &mut measure, value, Slot::Inline(class))?;
+    let slot = Slot(SlotKind::Inline(class));
+    measure_value(alloc, classes, &mut measure, value, &slot)?;
     Ok(measure.total())
 }

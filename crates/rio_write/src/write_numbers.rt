@@ -6,11 +6,10 @@ ghost use Rattle.rio_num.specs.Text.{text_bytes};
 ghost use Rattle.rio_format.specs.Written.{back_bytes, int_bytes, just, truth_byte};
 ghost use Rattle.rio_format.specs.Slots.{kinded};
 ghost use Rattle.rio_types.specs.declared.kind.Kind.TheVariants.{Plain};
-ghost use Rattle.rio_layout.specs.Fields.{slot_as};
 ghost use Rattle.rio_write.specs.Writing.{HasRoom, Writes, bits_within};
 
 use rio_buffer::ObjWriter;
-use rio_layout::Slot;
+use rio_format::{Slot, SlotKind};
 use rio_num::NoMemory;
 use rio_types::Prim;
 
@@ -65,13 +64,13 @@ fn write_prim(writer: &mut ObjWriter, n: i128, of: Prim) -> Result<(), NoMemory>
 
 /// A number, as it stands in the slot.
 #[tactic(auto, unfolding(crate::specs::Writing::with_written))]
-pub(crate) fn write_int(writer: &mut ObjWriter, n: i128, slot: Slot) -> Result<(), NoMemory>
-    ensures { Writes (just (int_bytes n (slot_as slot.entry))) result writer.old writer.new }
+pub(crate) fn write_int(writer: &mut ObjWriter, n: i128, slot: &Slot) -> Result<(), NoMemory>
+    ensures { Writes (just (int_bytes n slot.now)) result writer.old writer.new }
 {
-    match slot {
-        Slot::Plain(of) => write_prim(writer, n, of),
-        Slot::Counter => writer.put_u32(bits_32(n)),
-        Slot::Flags => writer.put_u32(bits_32(n)),
+    match slot.0 {
+        SlotKind::Plain(of) => write_prim(writer, n, of),
+        SlotKind::Counter => writer.put_u32(bits_32(n)),
+        SlotKind::Flags => writer.put_u32(bits_32(n)),
         _ => Ok(()),
     }
 }
@@ -105,9 +104,9 @@ pub(crate) fn write_text(writer: &mut ObjWriter, text: &[u8]) -> Result<(), NoMe
     write_short(writer, text)
 }
 
-/// A text of a length that its bytes can tell.
+// A text of a length that its bytes can tell.
 #[tactic(auto, unfolding(crate::specs::Writing::with_written))]
-pub(crate) fn write_short(writer: &mut ObjWriter, text: &[u8]) -> Result<(), NoMemory>
+fn write_short(writer: &mut ObjWriter, text: &[u8]) -> Result<(), NoMemory>
     requires { length text.now < 2 ^ 32 }
     ensures { Writes (just (text_bytes text.now)) result writer.old writer.new }
 {

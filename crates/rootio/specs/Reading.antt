@@ -1,40 +1,91 @@
--- What the verbs that read say of a file, and what a run of one may do to its host.
-use Rattle.std.specs.Prelude.{◌≡◌, ◌≢◌, ℕ, List, Option, Some, None, Result, Ok, Err}
-use Rattle.rio_num.specs.Reading.{◌>>=◌}
+-- What the words ask for, what of a file it tests, and how a run ends that says a listing.
+use Rattle.std.specs.Prelude.{◌≡◌, ℕ, List, Bool, true, false, Option, Some, None}
 use Rattle.rio_head.specs.declared.fault.FileFault.{FileFault}
 use Rattle.rio_head.specs.declared.fault.HeadFault.{HeadFault}
+use Rattle.rio_head.specs.Head.{IsHeaderKind, fault_at}
 use Rattle.rio_host.specs.Host.{View}
-use Rattle.rio_host.specs.OnlyReads.{OnlyReads, OnlySays, OnlySaysPieces}
-use Rattle.rio_meaning.specs.Closed.{closed_file}
-use Rattle.rio_meaning.specs.Dump.{dump_listing, dumped_file}
-use Rattle.rio_meaning.specs.Listing.{key_lines, ls_listing}
+use Rattle.rio_dir.specs.Listing.{listed_file}
+use Rattle.rio_meaning.specs.Dump.{dumped_file}
+use Rattle.rio_meaning.specs.FirstFault.{HeaderAlone, Tests, ToClassList, ToKeyList, first_fault}
 use Rattle.rio_close.specs.Causes.{AnyKind, IsTested, NoKind}
+use Rattle.rio_report.specs.Lists.{AtOnce, InPieces, ListingAnswer, Lists}
+use Rattle.rootio.specs.Status.{status_of}
 use Rattle.rootio.specs.declared.status.Status.{Status}
-use Rattle.rootio.specs.declared.status.Status.TheVariants.{Done, BadFile, SayFault}
+use Rattle.rootio.specs.declared.status.Status.TheVariants.{Done, Usage, BadFile, DiskFault, NoMemory, SayFault}
 use Rattle.rootio.specs.declared.words.Form.{Form}
-use Rattle.rootio.specs.declared.words.Form.TheVariants.{Ls, Dump}
+use Rattle.rootio.specs.declared.words.Form.TheVariants.{Reads, Writes}
+use Rattle.rootio.specs.declared.words.Listing.{Listing}
+use Rattle.rootio.specs.declared.words.Listing.TheVariants.{Ls, Dump}
+use Rattle.rootio.specs.declared.words.Work.{Work}
 
--- the text that is said of a file, or the first rule that it breaks of those that the verb tests
-abbrev pub listing_of : Form → List ℕ → Result (List ℕ) HeadFault
-listing_of Ls file = closed_file file >>= λ closed. Ok (key_lines closed.keys)
-listing_of (Dump item) file = dumped_file item file
+-- ---- what the words ask for
 
--- Nothing is written, and at most a front of the listing is said: by ls in one piece, and by dump piece by piece. Words without
--- a form ask for no call at all.
-abbrev pub OnlyLists : Option Form → View → View → Type 0
-OnlyLists None old new = OnlyReads old new
-OnlyLists (Some Ls) old new = OnlySays ls_listing old new
-OnlyLists (Some (Dump item)) old new = OnlySaysPieces (dump_listing item) old new
+-- a listing, where the verb is one that reads
+abbrev pub reading_of : Option Form → Option Listing
+reading_of None = None
+reading_of (Some (Reads list)) = Some list
+reading_of (Some (Writes work)) = None
 
--- the rules that a verb tests
+-- whether the verb's host may write
+abbrev pub writes_of : Option Form → Bool
+writes_of None = false
+writes_of (Some (Reads list)) = false
+writes_of (Some (Writes work)) = true
+
+-- the verbs that write and read the input: none is there yet
+abbrev pub takes_script : Work → Bool
+takes_script work = elim work [ ]
+
+-- whether the verb reads the input
+abbrev pub reads_input : Option Form → Bool
+reads_input None = false
+reads_input (Some (Reads list)) = false
+reads_input (Some (Writes work)) = takes_script work
+
+-- ---- what it tests
+
+abbrev pub rules_of : Form → Tests
+rules_of (Reads Ls) = ToKeyList
+rules_of (Reads (Dump item)) = ToClassList
+rules_of (Writes work) = HeaderAlone
+
+abbrev pub kinds_of : Tests → FileFault → Type 0
+kinds_of HeaderAlone = IsHeaderKind
+kinds_of ToKeyList = IsTested
+kinds_of ToClassList = AnyKind
+
 abbrev pub tested_by : Option Form → FileFault → Type 0
 tested_by None = NoKind
-tested_by (Some Ls) = IsTested
-tested_by (Some (Dump item)) = AnyKind
+tested_by (Some form) = kinds_of (rules_of form)
 
--- The file is bad, and then nothing was said. Of ls, whose text is said at once, nothing was said unless it was all said or the
--- output failed.
-abbrev pub IsSilent : Option Form → Status → Type 0
-IsSilent None status = Unit {0}
-IsSilent (Some Ls) status = (status ≢ Done) × (status ≢ SayFault)
-IsSilent (Some (Dump item)) status = (place : ℕ) × ((kind : FileFault) × (status ≡ BadFile place kind))
+-- a fault that is told is the first one of the file
+abbrev pub TellsFirstFault : Tests → View → Status → Type 0
+TellsFirstFault tests old status =
+    (place : ℕ) (kind : FileFault) → status ≡ BadFile place kind
+    → (file : List ℕ) → old.holds ≡ Some file → first_fault tests file ≡ Some (fault_at place kind)
+
+-- this fault is told, unless memory ran out or a call on the file failed
+abbrev pub TellsUnlessCut : HeadFault → Status → Type 0
+TellsUnlessCut fault Done = ⊥
+TellsUnlessCut fault Usage = ⊥
+TellsUnlessCut fault (BadFile place kind) = fault ≡ fault_at place kind
+TellsUnlessCut fault DiskFault = Unit {0}
+TellsUnlessCut fault NoMemory = Unit {0}
+TellsUnlessCut fault SayFault = ⊥
+
+-- a file that breaks a rule is told with its first fault
+abbrev pub RefusesBroken : Tests → View → Status → Type 0
+RefusesBroken tests old status =
+    (fault : HeadFault) (file : List ℕ) → old.holds ≡ Some file
+    → first_fault tests file ≡ Some fault → TellsUnlessCut fault status
+
+-- ---- how a run ends that says a listing
+
+abbrev pub ListsFor : Listing → View → View → ListingAnswer → Type 0
+ListsFor Ls old new told = Lists AtOnce IsTested listed_file old new told
+ListsFor (Dump item) old new told = Lists InPieces AnyKind (dumped_file item) old new told
+
+-- with the status of a call that said the listing
+abbrev pub EndsListing : Listing → View → View → Status → Type 0
+EndsListing list old new status =
+    (told : ListingAnswer) × (status ≡ status_of told) × ListsFor list old new told

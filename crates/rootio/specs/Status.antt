@@ -1,8 +1,10 @@
 -- The ways in which a run ends: exit status, text and cause.
-use Rattle.std.specs.Prelude.{ℕ, List, [], ◌++◌, codes, Result, Ok, Err}
+use Rattle.std.specs.Prelude.{◌≡◌, ℕ, List, [], ◌++◌, codes, Result, Ok, Err}
 use Rattle.std.specs.Fmt.{decimal}
 use Rattle.rio_head.specs.FaultName.{name_of}
+use Rattle.rio_num.specs.declared.no_memory.NoMemory.{NoMemory as NoMemoryFault}
 use Rattle.rio_host.specs.Host.{View, Rose}
+use Rattle.rio_host.specs.Source.{Input}
 use Rattle.rio_head.specs.declared.fault.FileFault.{FileFault}
 use Rattle.rio_close.specs.Causes.{NoDiskFault, NoSayFault}
 use Rattle.rio_close.specs.declared.fault.ReportFault.{ReportFault}
@@ -26,14 +28,32 @@ status_text DiskFault = codes "rootio: disk fault"
 status_text NoMemory = codes "rootio: no memory"
 status_text SayFault = codes "rootio: output fault"
 
+-- what is told on standard error: a line, and nothing where all was done
+abbrev pub told_line : Status → List ℕ
+told_line Done = []
+told_line status = status_text status ++ codes "\n"
+
+-- a run that found no memory before it began
+abbrev pub status_or_no_memory : Result Status NoMemoryFault → Status
+status_or_no_memory (Ok status) = status
+status_or_no_memory (Err e) = NoMemory
+
+-- no read of the input failed
+abbrev pub NoInputFault : Input → Input → Type 0
+NoInputFault before after = after.faults ≡ before.faults
+
+-- no call failed
+abbrev pub NoFault : View → View → Input → Input → Type 0
+NoFault old new before after = NoDiskFault old new × NoSayFault old new × NoInputFault before after
+
 -- Why a run that tests these kinds of fault ended so: the counts of faults rose where it says so, and only there.
-abbrev pub IsCause : (FileFault → Type 0) → View → View → Status → Type 0
-IsCause tested old new Done = NoDiskFault old new × NoSayFault old new
-IsCause tested old new Usage = NoDiskFault old new × NoSayFault old new
-IsCause tested old new (BadFile place kind) = tested kind × NoDiskFault old new × NoSayFault old new
-IsCause tested old new DiskFault = Rose old.disk_faults new.disk_faults × NoSayFault old new
-IsCause tested old new NoMemory = NoDiskFault old new × NoSayFault old new
-IsCause tested old new SayFault = NoDiskFault old new × Rose old.say_faults new.say_faults
+abbrev pub IsCause : (FileFault → Type 0) → View → View → Input → Input → Status → Type 0
+IsCause tested old new before after Done = NoFault old new before after
+IsCause tested old new before after Usage = NoFault old new before after
+IsCause tested old new before after (BadFile place kind) = tested kind × NoFault old new before after
+IsCause tested old new before after DiskFault = Rose old.disk_faults new.disk_faults × NoSayFault old new × NoInputFault before after
+IsCause tested old new before after NoMemory = NoFault old new before after
+IsCause tested old new before after SayFault = NoDiskFault old new × Rose old.say_faults new.say_faults × NoInputFault before after
 
 -- how a run ended that told a listing
 abbrev pub status_of : Result (Unit {0}) ReportFault → Status

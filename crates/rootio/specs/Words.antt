@@ -6,7 +6,8 @@ use Rattle.rio_num.specs.Word.{is_item_text}
 use Rattle.rio_token.specs.Words.{num_of}
 use Rattle.rio_meaning.specs.declared.item.Item.{Item}
 use Rattle.rootio.specs.declared.words.Form.{Form}
-use Rattle.rootio.specs.declared.words.Form.TheVariants.{Ls, Dump}
+use Rattle.rootio.specs.declared.words.Form.TheVariants.{Reads}
+use Rattle.rootio.specs.declared.words.Listing.TheVariants.{Ls, Dump}
 
 -- a word that doesn't begin with -
 abbrev pub is_no_flag : List ℕ → Bool
@@ -31,14 +32,27 @@ item_by word None = newest_item word
 item_by word (Some semicolon) = cycle_item (take semicolon word) (drop (semicolon + 1) word)
 
 abbrev pub item_of : List ℕ → Option Item
-item_of word = if is_no_flag word then item_by word (position (λ b. b == 59) word) else None
+item_of word = item_by word (position (λ b. b == 59) word)
 
--- the verbs that take a file alone
-abbrev pub verb_of : List ℕ → Option Form
-verb_of verb = if bytes_eq verb (codes "ls") then Some Ls else if bytes_eq verb (codes "dump") then Some (Dump None) else None
+-- ls FILE
+abbrev pub ls_of : List (List ℕ) → Option Form
+ls_of [] = Some (Reads Ls)
+ls_of (word ∷ words) = None
 
--- ls FILE, dump FILE, dump FILE ITEM
+-- dump FILE, dump FILE ITEM
+abbrev pub dump_of : List (List ℕ) → Option Form
+dump_of [] = Some (Reads (Dump None))
+dump_of (item ∷ []) = option_map (λ i. Reads (Dump (Some i))) (item_of item)
+dump_of (item ∷ word ∷ words) = None
+
+-- what a verb is asked for by the words behind the file
+abbrev pub asked_by : List ℕ → List (List ℕ) → Option Form
+asked_by verb args =
+    if bytes_eq verb (codes "ls") then ls_of args
+    else if bytes_eq verb (codes "dump") then dump_of args
+    else None
+
+-- VERB FILE ARG..., where neither FILE nor an ARG begins with -
 abbrev pub form_of : List (List ℕ) → Option Form
-form_of (verb ∷ file ∷ []) = if is_file file then verb_of verb else None
-form_of (verb ∷ file ∷ item ∷ []) = if bytes_eq verb (codes "dump") && is_file file then option_map (λ i. Dump (Some i)) (item_of item) else None
+form_of (verb ∷ file ∷ args) = if is_file file && list_all is_no_flag args then asked_by verb args else None
 form_of _ = None

@@ -1,3 +1,4 @@
+//! An item of a file, as a word of the command line names it.
 use rio_num::{Name, NoMemory};
 use rio_report::Item;
 use std::alloc::Global;

@@ -1,21 +1,24 @@
-//! Reads and writes CERN's ROOT files: `rootio VERB FILE ARG...`.
+//! Reads CERN's ROOT files: `rootio VERB FILE ARG...`.
 #![tactic(auto)]
 
 mod item_word;
 #[cfg(test)]
 mod rows;
 mod status;
+mod streams;
 mod top;
 mod words;
 
 use rio_host::{FileHost, StdSource};
-use rio_num::{Bytes, Name, NoMemory, Words};
-use status::{Status, code, fault_text};
+use rio_num::{Name, NoMemory, Words};
+use status::{Status, code, ended, shown, told_line};
 use std::alloc::Global;
 use std::env;
 use std::io::{ErrorKind, Write};
 use std::process::ExitCode;
+use streams::Streams;
 use top::run;
+use words::may_write;
 
 // The words behind the program's name: none where one of them is no text.
 fn words_of(rt: &HostRuntime) -> Result<Words, NoMemory> {
@@ -41,32 +44,23 @@ fn path_of(alloc: Global, words: &Words) -> Result<Name, NoMemory> {
 }
 
 // Does what the words ask for, over the file that they name and the process's own streams.
-fn status_of(rt: &HostRuntime) -> Result<Status, NoMemory> {
+fn run_words(rt: &HostRuntime) -> Result<Status, NoMemory> {
     let words = words_of(rt)?;
     let path = path_of(rt.alloc(), &words)?;
-    let mut host = FileHost::new(rt, path, false);
+    let _streams = match Streams::hold(rt) {
+        Ok(streams) => streams,
+        Err(_) => return Ok(Status::DiskFault),
+    };
+    let mut host = FileHost::new(rt, path, may_write(&words));
     let mut input = StdSource::new(rt);
     Ok(run(rt.alloc(), &words, &mut host, &mut input))
 }
 
-// Tells the fault on standard error. There is nothing left to do where that fails.
-fn tell(rt: &HostRuntime, status: &Status) {
-    let mut text = Bytes::new(rt.alloc());
-    let told = match fault_text(rt.alloc(), status, &mut text) {
-        Ok(()) => text.as_slice(),
-        Err(NoMemory) => b"rootio: no memory",
-    };
-    if !told.is_empty() {
-        let _ = rt.stderr().write_all(told);
-        let _ = rt.stderr().write_all(b"\n");
-    }
-}
-
 fn main(rt: HostRuntime) -> ExitCode {
-    let status = match status_of(&rt) {
-        Ok(status) => status,
-        Err(NoMemory) => Status::NoMemory,
-    };
-    tell(&rt, &status);
+    let status = ended(run_words(&rt));
+    // There is nothing left to do where the fault can't be told.
+    let _ = rt
+        .stderr()
+        .write_all(shown(&told_line(rt.alloc(), &status)));
     ExitCode::from(code(&status))
 }

@@ -1,7 +1,7 @@
 //! How a run of the program ended.
-ghost use Rattle.std.specs.Prelude.{◌≡◌, OnOk, OnErr, IfOk, [], codes};
-ghost use Rattle.rio_num.specs.Room.{with_more, room_of};
-ghost use Rattle.rootio.specs.Status.{status_code, status_text};
+ghost use Rattle.std.specs.Prelude.{◌≡◌, ◌++◌, OnOk, OnErr, IfOk, IsOk, MatchResult, codes};
+ghost use Rattle.rio_num.specs.Room.{with_more};
+ghost use Rattle.rootio.specs.Status.{status_code, status_or_no_memory, status_text, told_line};
 
 use rio_head::FileFault;
 use rio_num::{Bytes, NoMemory};
@@ -63,5 +63,47 @@ pub fn fault_text(alloc: Global, status: &Status, into: &mut Bytes) -> Result<()
         Status::DiskFault => into.put(b"rootio: disk fault"),
         Status::NoMemory => into.put(b"rootio: no memory"),
         Status::SayFault => into.put(b"rootio: output fault"),
+    }
+}
+
+fn put_line(alloc: Global, status: &Status, line: &mut Bytes) -> Result<(), NoMemory>
+    ensures { OnOk result (line.new.bytes ≡
+        line.old.bytes ++ (status_text status.now ++ codes "\n")) }
+{
+    fault_text(alloc, status, line)?;
+    line.put(b"\n")
+}
+
+/// What is told of the status on standard error: a line, and nothing for Done.
+pub fn told_line(alloc: Global, status: &Status) -> Result<Bytes, NoMemory>
+    ensures line { IfOk result (λ line. line.bytes ≡ told_line status.now) }
+    ensures done { status.now ≡ Status.Done → IsOk result }
+{
+    let mut line = Bytes::new(alloc);
+    match status {
+        Status::Done => {}
+        _ => put_line(alloc, status, &mut line)?,
+    }
+    Ok(line)
+}
+
+/// The line itself, and that of want of memory where there was none to make it.
+pub fn shown(line: &Result<Bytes, NoMemory>) -> &[u8]
+    ensures { MatchResult line.now (λ line. result.now ≡ line.bytes)
+        (λ e. result.now ≡ told_line Status.NoMemory) }
+{
+    match line {
+        Ok(line) => line.as_slice(),
+        Err(NoMemory) => b"rootio: no memory\n",
+    }
+}
+
+/// How a run ended, also one that found no memory before it began.
+pub fn ended(run: Result<Status, NoMemory>) -> Status
+    ensures { result ≡ status_or_no_memory run }
+{
+    match run {
+        Ok(status) => status,
+        Err(NoMemory) => Status::NoMemory,
     }
 }

@@ -1,21 +1,35 @@
 //! The words of the command line.
-ghost use Rattle.std.specs.Prelude.{◌≡◌, ◌==◌, [], ◌∷◌, nat_le, position};
+ghost use Rattle.std.specs.Prelude.{◌≡◌, ◌==◌, nat_le, position};
 ghost use Rattle.std.specs.Str.{bytes_eq};
 ghost use Rattle.std.specs.List.{list_all};
-ghost use Rattle.rootio.specs.Words.{cycle_item, form_of, is_file, is_no_flag, item_of, newest_item, verb_of};
+ghost use Rattle.rootio.specs.Reading.{writes_of};
+ghost use Rattle.rootio.specs.Words.{asked_by, cycle_item, dump_of, form_of, is_file, is_no_flag, item_of, ls_of, newest_item};
 
 use crate::item_word::ItemWord;
 use rio_num::{Name, Words, is_item};
 use rio_token::parse_num;
 
 /// What the words ask for, where they have a form.
-#[derive(Debug, Drop)]
+#[derive(Drop)]
 pub enum Form<'a> {
+    /// What there is to say of the file is said, and it stays as it is.
+    Reads(Listing<'a>),
+    /// The file is changed.
+    Writes(Work),
+}
+
+/// What is said of a file.
+#[derive(Debug, Drop)]
+pub enum Listing<'a> {
     /// `ls FILE`: a line for each key of the key list.
     Ls,
     /// `dump FILE` and `dump FILE ITEM`: the classes and the values of all keys, or the value of one.
     Dump { item: Option<ItemWord<'a>> },
 }
+
+/// What is done to a file: no verb that writes is there yet.
+#[derive(Drop)]
+pub enum Work {}
 
 // A word that begins with `-` has no place in any form.
 fn is_plain(word: &[u8]) -> bool
@@ -71,9 +85,6 @@ fn semicolon_in(word: &[u8]) -> Option<usize>
 fn item_of(word: &[u8]) -> Option<ItemWord<'_>>
     ensures { result ≡ item_of word.now }
 {
-    if !is_plain(word) {
-        return None;
-    }
     match semicolon_in(word) {
         None => newest_item(word),
         Some(semicolon) => cycle_item(&word[..semicolon], &word[semicolon + 1..]),
@@ -86,38 +97,45 @@ fn is_verb(word: &[u8], verb: &[u8]) -> bool
     word == verb
 }
 
-fn verb_of(verb: &[u8]) -> Option<Form<'static>>
-    ensures { result ≡ verb_of verb.now }
+fn ls_of(args: &[Name]) -> Option<Form<'static>>
+    ensures { result ≡ ls_of args.now }
+{
+    match args {
+        [] => Some(Form::Reads(Listing::Ls)),
+        _ => None,
+    }
+}
+
+fn dump_of(args: &[Name]) -> Option<Form<'_>>
+    ensures { result ≡ dump_of args.now }
+{
+    match args {
+        [] => Some(Form::Reads(Listing::Dump { item: None })),
+        [item] => match item_of(item.as_slice()) {
+            Some(item) => Some(Form::Reads(Listing::Dump { item: Some(item) })),
+            None => None,
+        },
+        _ => None,
+    }
+}
+
+// What a verb is asked for by the words behind the file.
+fn asked_by<'a>(verb: &[u8], args: &'a [Name]) -> Option<Form<'a>>
+    ensures { result ≡ asked_by verb.now args.now }
 {
     if is_verb(verb, b"ls") {
-        Some(Form::Ls)
+        ls_of(args)
     } else if is_verb(verb, b"dump") {
-        Some(Form::Dump { item: None })
+        dump_of(args)
     } else {
         None
     }
 }
 
-fn form_of_two(verb: &Name, file: &Name) -> Option<Form<'static>>
-    ensures { result ≡ form_of (verb.now ∷ file.now ∷ []) }
+fn are_plain(words: &[Name]) -> bool
+    ensures { result ≡ list_all is_no_flag words.now }
 {
-    if names_file(file.as_slice()) {
-        verb_of(verb.as_slice())
-    } else {
-        None
-    }
-}
-
-fn form_of_three<'a>(verb: &Name, file: &Name, item: &'a Name) -> Option<Form<'a>>
-    ensures { result ≡ form_of (verb.now ∷ file.now ∷ item.now ∷ []) }
-{
-    if !is_verb(verb.as_slice(), b"dump") || !names_file(file.as_slice()) {
-        return None;
-    }
-    match item_of(item.as_slice()) {
-        Some(item) => Some(Form::Dump { item: Some(item) }),
-        None => None,
-    }
+    words.iter().all(|word| is_plain(word.as_slice()))
 }
 
 /// The form that the words have: None where they are of no form.
@@ -125,8 +143,23 @@ pub fn form_of_words(words: &Words) -> Option<Form<'_>>
     ensures { result ≡ form_of words.now }
 {
     match words.as_slice() {
-        [verb, file] => form_of_two(verb, file),
-        [verb, file, item] => form_of_three(verb, file, item),
+        [verb, file, args @ ..] => {
+            if names_file(file.as_slice()) && are_plain(args) {
+                asked_by(verb.as_slice(), args)
+            } else {
+                None
+            }
+        }
         _ => None,
+    }
+}
+
+/// Whether the file may be written: only by a verb that writes.
+pub fn may_write(words: &Words) -> bool
+    ensures { result ≡ writes_of (form_of words.now) }
+{
+    match form_of_words(words) {
+        Some(Form::Writes(_)) => true,
+        _ => false,
     }
 }

@@ -1,3 +1,4 @@
+//! Elements as text, as the tests compare them.
 use crate::{Element, ElementClass, TypeName};
 use rio_num::{Bytes, NoMemory};
 use std::alloc::Global;

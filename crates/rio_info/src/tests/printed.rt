@@ -1,3 +1,4 @@
+//! Classes and their parts as text, as the tests compare them.
 use rio_num::{Bytes, NoMemory};
 use rio_types::{Base, ClassDef, Kind, Member, Prim};
 use std::alloc::Global;

@@ -1,7 +1,7 @@
 //! Class lists as they are written, and as they are read again.
 
 use crate::tests::printed::{hex_bytes, printed_classes};
-use crate::{info_length, read_info, write_info};
+use crate::{info_length, info_length_with, read_info, write_info};
 use rio_buffer::ObjFault;
 use rio_num::{Bytes, Name, NoMemory};
 use rio_types::{Base, Bases, ClassDef, Classes, Kind, Member, Members, Prim};
@@ -230,5 +230,37 @@ fn writes_a_long_name_of_a_type(rt: HostRuntime) -> Result<(), Fail> {
         .ok_or("memory")?
         .ok_or("the length")?;
     assert_eq!(rt; bytes.len(), 4506);
+    Ok(())
+}
+
+// Node in version 2, a TObject without members.
+fn newer_node(alloc: Global) -> Result<ClassDef, NoMemory> {
+    let mut bases = Bases::new(alloc);
+    push_base(&mut bases, b"TObject")?;
+    Ok(ClassDef {
+        name: Name::from_slice(alloc, b"Node")?,
+        version: 2,
+        sum: 7,
+        bases,
+        members: Members::new(alloc),
+    })
+}
+
+fn length_with(alloc: Global, class: ClassDef) -> Result<u64, NoMemory> {
+    let classes = declared_node(alloc, b"Node")?;
+    info_length_with(alloc, &classes, &class)
+}
+
+// The list for Node and All has 4 bytes of a count word, and the 0x1495 that it counts. Node 2 takes 78 bytes and 90 for
+// its base. With it the pointer in Node 1 is one to a TObject, whose element's class is spelled out among the classes of
+// trees, so the 26 bytes of "TStreamerObjectAnyPointer" are left out.
+#[test]
+fn tells_the_length_with_one_class_more(rt: HostRuntime) -> Result<(), Fail> {
+    let class = all(rt.alloc()).ok().ok_or("a class")?;
+    let length = length_with(rt.alloc(), class).ok().ok_or("memory")?;
+    assert_eq!(rt; length, 5273);
+    let class = newer_node(rt.alloc()).ok().ok_or("a class")?;
+    let length = length_with(rt.alloc(), class).ok().ok_or("memory")?;
+    assert_eq!(rt; length, 4394);
     Ok(())
 }

@@ -1,3 +1,4 @@
+//! Classes of the rows, and bytes in hexadecimal digits.
 use rio_num::{Bytes, Name, NoMemory};
 use rio_types::{Base, Bases, ClassDef, Classes, Kind, Member, Members, Prim};
 use std::alloc::Global;
@@ -116,6 +117,12 @@ fn mixed(alloc: Global) -> Result<ClassDef, NoMemory> {
     class(alloc, "Mixed", bases, members)
 }
 
+/// A class of this name without bases and members.
+pub(crate) fn class_without_members(alloc: Global, name: &str) -> Result<ClassDef, NoMemory> {
+    class(alloc, name, Bases::new(alloc), Members::new(alloc))
+}
+
+/// The classes of the rows.
 pub(crate) fn classes_of_rows(alloc: Global) -> Result<Classes, NoMemory> {
     let mut classes = Classes::new(alloc);
     classes.push(node(alloc)?)?;

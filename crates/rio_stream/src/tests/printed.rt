@@ -1,3 +1,4 @@
+//! Values as the rows print them.
 use rio_num::{Bytes, NoMemory};
 use rio_value::{Part, Value};
 

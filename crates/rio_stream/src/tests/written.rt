@@ -1,3 +1,4 @@
+//! Rows of objects that are written.
 use crate::tests::classes::{classes_of_rows, hex_bytes};
 use crate::{fits, read_object, write_object, written_length};
 use rio_buffer::ObjFault;

@@ -1,29 +1,34 @@
-use Rattle.std.proofs.Common.{refl, sym, ap, ◌∙◌}
-use Rattle.rio_layout.specs.Fields.{field_as, slot_as}
+use Rattle.std.proofs.Common.{◌≡◌, refl, sym, ap, ◌∙◌}
+use Rattle.rio_types.specs.declared.kind.Kind.TheVariants.{Counter}
+use Rattle.rio_format.specs.Slots.{Field, kinded}
+use Rattle.rio_format.specs.SlotKinds.{slot_of_kind}
 use Rattle.rio_fit.specs.Fitting.{part_fitting}
 use Rattle.rio_fit.proofs.FitLaws.{part_counts, part_goes_on, part_missing, parts_done, same_names}
 use Rattle.rio_fit.proofs.fit.+fit.Goals as goal
 
 pub part_fits-returns-in-Counter : goal.part_fits-returns-in-Counter
 part_fits-returns-in-Counter t c =
-    let named = rw c.as_slice.ensures at (same_names _ c.if-ne.ensures) in
-    rw (part_counts (field_as c.args.field.now) (part_fitting c.args.classes.now c.args.part.now) c.args.counters.now c.args.owners.now (ap slot_as c.in-Counter.is) named) (c.counter_fits.ensures c.args.classes.now c.args.owners.now)
+    let name : c.field.inside.name.now ≡ c.args.field.now.name = ap (λ (f : Field). f.name) c.field.view_is in
+    let slot : c.field.inside.slot ≡ c.args.field.now.slot = ap (λ (f : Field). f.slot) c.field.view_is in
+    let named = rw (c.as_slice.ensures, name) at (same_names _ c.if-ne.ensures) in
+    let counts : c.args.field.now.slot ≡ kinded Counter = sym slot ∙ sym c.slot.view_is ∙ ap slot_of_kind c.in-Counter.is in
+    rw (part_counts c.args.field.now (part_fitting c.args.classes.now c.args.part.now) c.args.counters.now c.args.owners.now counts named, ← name) (c.counter_fits.ensures c.args.classes.now c.args.owners.now)
 
 pub parts_fit-returns-in_default : goal.parts_fit-returns-in_default
 parts_fit-returns-in_default t c =
-    part_missing field_as (part_fitting c.args.classes.now) c.args.fields.now c.args.parts.now c.loop-k.k c.loop-k.counters c.loop-k.owners _ c.loop-k-test.true c.in_default.ensures.lookup.3 c.loop-k.invariant
+    part_missing (part_fitting c.args.classes.now) c.args.fields.now c.args.parts.now c.loop-k.k c.loop-k.counters c.loop-k.owners _ c.loop-k-test.true c.in_default.ensures.lookup.3 c.loop-k.invariant
 
 pub parts_fit-loop-k-preserved : goal.parts_fit-loop-k-preserved
 parts_fit-loop-k-preserved t c =
     let fit = rw c.if-not-branch.false at c.in_ok-part_fits.ensures in
-    part_goes_on field_as (part_fitting c.args.classes.now) c.args.fields.now c.args.parts.now c.loop-k.k c.loop-k.counters c.loop-k.owners _ _ c.in-Some.part.now c.part_fits.new.owners c.part_fits.new.counters c.loop-k-test.true c.in-Some.ensures.lookup.3.0 c.in-Some.ensures.lookup.1 fit c.loop-k.invariant
+    part_goes_on (part_fitting c.args.classes.now) c.args.fields.now c.args.parts.now c.loop-k.k c.loop-k.counters c.loop-k.owners _ c.index-fields-k.result c.in-Some.part.now c.part_fits.new.owners c.part_fits.new.counters c.loop-k-test.true c.in-Some.ensures.lookup.3.0 c.index-fields-k.is c.in-Some.ensures.lookup.1 fit c.loop-k.invariant
 
 pub parts_fit-returns : goal.parts_fit-returns
 parts_fit-returns t c =
-    parts_done field_as (part_fitting c.args.classes.now) c.args.fields.now c.args.parts.now c.loop-k.k c.loop-k.counters c.loop-k.owners _ c.loop-k-test.false c.loop-k.auto.k-end c.loop-k.invariant
+    parts_done (part_fitting c.args.classes.now) c.args.fields.now c.args.parts.now c.loop-k.k c.loop-k.counters c.loop-k.owners _ c.loop-k-test.false c.loop-k.auto.k-end c.loop-k.invariant
 
 pub pointed_fits-returns-in-Some : goal.pointed_fits-returns-in-Some
-pointed_fits-returns-in-Some t c = rw (← (sym c.in-Some.is ∙ c.in_ok-owner.ensures c.args.classes.now)) c.labelled_fits.ensures
+pointed_fits-returns-in-Some t c = rw (← (sym c.in-Some.is ∙ c.owner_of.ensures c.args.classes.now)) c.labelled_fits.ensures
 
 pub pointed_fits-returns-in-None : goal.pointed_fits-returns-in-None
-pointed_fits-returns-in-None t c = rw (← (sym c.in-None.is ∙ c.in_ok-owner.ensures c.args.classes.now)) refl
+pointed_fits-returns-in-None t c = rw (← (sym c.in-None.is ∙ c.owner_of.ensures c.args.classes.now)) refl

@@ -2,8 +2,8 @@ use Rattle.std.proofs.Common.{◌+◌, map, codes, length}
 use Rattle.std.specs.Prelude.{pos}
 use Rattle.rio_format.specs.Slots.{any_pointer}
 use Rattle.rio_format.specs.Written.{all}
-use Rattle.rio_layout.specs.Lists.{listed}
-use Rattle.rio_describe.specs.WrittenElements.{written_elements}
+use Rattle.rio_format.specs.Lists.{listed}
+use Rattle.rio_format.specs.WrittenElements.{written_elements}
 use Rattle.rio_write.proofs.MeasureLaws.{pointed_measured}
 use Rattle.rio_info.specs.WrittenParts.{array_front, array_writer, element_writing}
 use Rattle.rio_info.proofs.MeasuredParts.{headed_front}

@@ -2,7 +2,7 @@ use Rattle.std.proofs.Common.{map, subst}
 use Rattle.rio_types.specs.declared.class.Base.{Base}
 use Rattle.rio_format.specs.Slots.{any_pointer}
 use Rattle.rio_format.specs.Written.{all}
-use Rattle.rio_describe.specs.WrittenElements.{WrittenElement, base_element}
+use Rattle.rio_format.specs.WrittenElements.{WrittenElement, base_element}
 use Rattle.rio_write.specs.Measuring.{Grows, Measured}
 use Rattle.rio_write.proofs.MeasureParts.{items_grow, items_grown}
 use Rattle.rio_info.specs.WrittenParts.{element_writing}

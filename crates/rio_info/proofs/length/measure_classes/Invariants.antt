@@ -1,7 +1,7 @@
 use Rattle.std.proofs.Common.{map, drop}
 use Rattle.rio_format.specs.Slots.{link}
 use Rattle.rio_format.specs.Written.{all}
-use Rattle.rio_layout.specs.Lists.{listed}
+use Rattle.rio_format.specs.Lists.{listed}
 use Rattle.rio_write.specs.Measuring.{Grows, Measured}
 use Rattle.rio_info.specs.WrittenParts.{class_writing}
 use Rattle.rio_info.proofs.length.measure_classes.Given as goal

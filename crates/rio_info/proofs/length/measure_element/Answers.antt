@@ -1,6 +1,7 @@
 use Rattle.std.proofs.Common.{◌≡◌, ◌+◌, List, ℕ, length, sym, subst, arith}
 use Rattle.std.proofs.lemmas.List.{length-append}
-use Rattle.rio_format.specs.Written.{Writer, class_bytes, just}
+use Rattle.rio_buffer.specs.Writer.{Writer, class_bytes}
+use Rattle.rio_format.specs.Written.{just}
 use Rattle.rio_describe.specs.ElementViews.{element_as, own_class}
 use Rattle.rio_write.specs.Measuring.{Grows}
 use Rattle.rio_write.proofs.MeasureLaws.{just_grows, pointed_grows}

@@ -1,8 +1,8 @@
 use Rattle.std.proofs.Common.{List, map, subst}
 use Rattle.rio_format.specs.Slots.{any_pointer}
 use Rattle.rio_format.specs.Written.{Writing, all}
-use Rattle.rio_layout.specs.Lists.{listed}
-use Rattle.rio_describe.specs.WrittenElements.{base_element, member_element, written_elements}
+use Rattle.rio_format.specs.Lists.{listed}
+use Rattle.rio_format.specs.WrittenElements.{base_element, member_element, written_elements}
 use Rattle.rio_write.specs.Measuring.{Grows, Measures}
 use Rattle.rio_info.specs.WrittenParts.{element_writing}
 use Rattle.rio_info.proofs.MeasuredParts.{lists_measured, mapped_twice}

@@ -1,7 +1,7 @@
 use Rattle.std.proofs.Common.{◌≡◌, ◌+◌, codes, length, arith}
 use Rattle.std.proofs.lemmas.List.{length-append}
 use Rattle.std.specs.Prelude.{◌++◌, pos}
-use Rattle.rio_layout.specs.Lists.{listed}
+use Rattle.rio_format.specs.Lists.{listed}
 use Rattle.rio_write.specs.Measuring.{longer}
 use Rattle.rio_write.proofs.MeasureLaws.{pointed_measured}
 use Rattle.rio_info.specs.WrittenParts.{class_front, elements_writer, info_writer, named_bytes, number_bytes}

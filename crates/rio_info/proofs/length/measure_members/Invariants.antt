@@ -2,8 +2,8 @@ use Rattle.std.proofs.Common.{map, drop}
 use Rattle.rio_types.specs.declared.class.Member.{Member}
 use Rattle.rio_format.specs.Slots.{any_pointer}
 use Rattle.rio_format.specs.Written.{all}
-use Rattle.rio_layout.specs.Lists.{listed}
-use Rattle.rio_describe.specs.WrittenElements.{member_element}
+use Rattle.rio_format.specs.Lists.{listed}
+use Rattle.rio_format.specs.WrittenElements.{member_element}
 use Rattle.rio_write.specs.Measuring.{Grows, Measured}
 use Rattle.rio_info.specs.WrittenParts.{element_writing}
 use Rattle.rio_info.proofs.length.measure_members.Given as goal

@@ -1,12 +1,11 @@
 use Rattle.std.proofs.Common.{◌≡◌, ◌≤◌, ◌<◌, ◌+◌, ◌-◌, ◌^◌, ℕ, List, [], Ok, arith, length, sym, ap, ◌∙◌, subst}
 use Rattle.rio_num.specs.Room.{room_of}
 use Rattle.rio_types.specs.declared.class.ClassDef.{ClassDef}
-use Rattle.rio_format.specs.Written.{Writer}
-use Rattle.rio_buffer.specs.Writer.{WriterState, nothing_written}
-use Rattle.rio_describe.specs.TreeClasses.{written_classes}
+use Rattle.rio_buffer.specs.Writer.{Writer, WriterState, nothing_written}
+use Rattle.rio_format.specs.TreeClasses.{written_classes}
 use Rattle.rio_write.specs.Writing.{HasRoom, with_written}
 use Rattle.rio_write.proofs.WriteLaws.{first_room, first_written}
-use Rattle.rio_info.specs.WrittenBytes.{length_limit, written_list}
+use Rattle.rio_format.specs.WrittenBytes.{length_limit, written_list}
 use Rattle.rio_info.specs.WrittenParts.{list_writer}
 use Rattle.rio_info.proofs.ListForms.{list_written}
 use Rattle.rio_info.proofs.WrittenLists.{is_read}

@@ -2,8 +2,8 @@ use Rattle.std.proofs.Common.{◌+◌, length, map, refl}
 use Rattle.std.specs.Prelude.{pos}
 use Rattle.rio_format.specs.Slots.{any_pointer}
 use Rattle.rio_format.specs.Written.{all, both, just}
-use Rattle.rio_layout.specs.Lists.{listed}
-use Rattle.rio_describe.specs.WrittenElements.{written_elements}
+use Rattle.rio_format.specs.Lists.{listed}
+use Rattle.rio_format.specs.WrittenElements.{written_elements}
 use Rattle.rio_write.proofs.WriteLaws.{room_then}
 use Rattle.rio_info.specs.WrittenParts.{array_front, element_writing}
 use Rattle.rio_info.proofs.WritingLaws.{body_room, object_counted, object_innermost, object_written, then_is}

@@ -1,5 +1,5 @@
 use Rattle.std.specs.Prelude.{codes}
-use Rattle.rio_layout.specs.Lists.{listed}
+use Rattle.rio_format.specs.Lists.{listed}
 use Rattle.rio_write.proofs.WriteLaws.{place_room}
 use Rattle.rio_info.specs.WrittenParts.{array_writer}
 use Rattle.rio_info.proofs.WritingLaws.{pointed_room, pointer_counted, pointer_innermost, pointer_written}

@@ -2,7 +2,7 @@ use Rattle.std.proofs.Common.{subst, sym}
 use Rattle.rio_types.specs.declared.class.Base.{Base}
 use Rattle.rio_format.specs.Slots.{any_pointer}
 use Rattle.rio_format.specs.Written.{Writing}
-use Rattle.rio_describe.specs.WrittenElements.{WrittenElement, base_element}
+use Rattle.rio_format.specs.WrittenElements.{WrittenElement, base_element}
 use Rattle.rio_write.specs.Writing.{HasRoom}
 use Rattle.rio_write.proofs.WriteLaws.{item_room, items_done, items_go_on, items_room}
 use Rattle.rio_info.specs.WrittenParts.{element_writing}

@@ -1,7 +1,7 @@
 use Rattle.std.proofs.Common.{◌≡◌, map, drop}
 use Rattle.rio_format.specs.Slots.{any_pointer}
 use Rattle.rio_format.specs.Written.{all}
-use Rattle.rio_describe.specs.WrittenElements.{base_element}
+use Rattle.rio_format.specs.WrittenElements.{base_element}
 use Rattle.rio_write.specs.Writing.{HasRoom, with_written}
 use Rattle.rio_info.specs.WrittenParts.{element_writing}
 use Rattle.rio_info.proofs.write_class.write_bases.Given as goal

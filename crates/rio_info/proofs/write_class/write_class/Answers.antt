@@ -1,8 +1,9 @@
 use Rattle.std.proofs.Common.{[], sym, subst}
 use Rattle.std.specs.Prelude.{codes}
 use Rattle.rio_num.specs.Text.{text_bytes}
-use Rattle.rio_format.specs.Written.{Writer, just}
-use Rattle.rio_layout.specs.Lists.{listed}
+use Rattle.rio_buffer.specs.Writer.{Writer}
+use Rattle.rio_format.specs.Written.{just}
+use Rattle.rio_format.specs.Lists.{listed}
 use Rattle.rio_write.specs.Writing.{HasRoom, Writes, pointer_to}
 use Rattle.rio_write.proofs.WriteLaws.{both_writes, just_writes, place_room, room_first}
 use Rattle.rio_info.specs.WrittenParts.{info_writer}

@@ -1,5 +1,5 @@
 use Rattle.rio_format.specs.Slots.{link}
-use Rattle.rio_layout.specs.Lists.{listed}
+use Rattle.rio_format.specs.Lists.{listed}
 use Rattle.rio_write.proofs.WriteLaws.{item_room, items_done, items_go_on, items_room}
 use Rattle.rio_info.specs.WrittenParts.{class_writing}
 use Rattle.rio_info.proofs.write_class.write_classes.Goals as goal

@@ -1,6 +1,6 @@
 use Rattle.std.proofs.Common.{sym, subst}
-use Rattle.rio_format.specs.Written.{Writer}
-use Rattle.rio_layout.specs.Lists.{listed}
+use Rattle.rio_buffer.specs.Writer.{Writer}
+use Rattle.rio_format.specs.Lists.{listed}
 use Rattle.rio_write.specs.Writing.{HasRoom, Writes}
 use Rattle.rio_write.proofs.WriteLaws.{both_writes, room_first, room_then}
 use Rattle.rio_info.proofs.ClassForms.{bases_writer, elements_are, members_writer}

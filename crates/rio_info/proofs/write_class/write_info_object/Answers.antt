@@ -1,7 +1,7 @@
 use Rattle.std.proofs.Common.{refl}
 use Rattle.std.specs.Prelude.{pos}
 use Rattle.rio_format.specs.Written.{both, just}
-use Rattle.rio_layout.specs.Lists.{listed}
+use Rattle.rio_format.specs.Lists.{listed}
 use Rattle.rio_write.proofs.WriteLaws.{room_first, room_then}
 use Rattle.rio_info.specs.WrittenParts.{class_front, elements_writer}
 use Rattle.rio_info.proofs.WritingLaws.{body_room, object_counted, object_innermost, object_written, then_is}

@@ -1,8 +1,8 @@
 use Rattle.std.proofs.Common.{◌≡◌, map, drop}
 use Rattle.rio_format.specs.Slots.{any_pointer}
 use Rattle.rio_format.specs.Written.{all}
-use Rattle.rio_layout.specs.Lists.{listed}
-use Rattle.rio_describe.specs.WrittenElements.{member_element}
+use Rattle.rio_format.specs.Lists.{listed}
+use Rattle.rio_format.specs.WrittenElements.{member_element}
 use Rattle.rio_write.specs.Writing.{HasRoom, with_written}
 use Rattle.rio_info.specs.WrittenParts.{element_writing}
 use Rattle.rio_info.proofs.write_class.write_members.Given as goal

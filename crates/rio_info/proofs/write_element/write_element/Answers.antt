@@ -1,5 +1,6 @@
 use Rattle.std.proofs.Common.{◌≡◌, subst, sym}
-use Rattle.rio_format.specs.Written.{Writer, just}
+use Rattle.rio_buffer.specs.Writer.{Writer}
+use Rattle.rio_format.specs.Written.{just}
 use Rattle.rio_describe.specs.ElementViews.{own_class}
 use Rattle.rio_write.specs.Writing.{HasRoom, pointer_to, with_written}
 use Rattle.rio_write.proofs.WriteLaws.{place_room}

@@ -1,10 +1,10 @@
 use Rattle.std.proofs.Common.{◌≡◌, ◌++◌, refl}
 use Rattle.std.specs.Prelude.{pos}
 use Rattle.rio_num.specs.Text.{text_bytes}
-use Rattle.rio_buffer.specs.Writer.{WriterState}
-use Rattle.rio_format.specs.Written.{Writer, just}
+use Rattle.rio_buffer.specs.Writer.{WriterState, Writer}
+use Rattle.rio_format.specs.Written.{just}
 use Rattle.rio_describe.specs.ElementViews.{element_as}
-use Rattle.rio_describe.specs.WrittenElements.{WrittenElement}
+use Rattle.rio_format.specs.WrittenElements.{WrittenElement}
 use Rattle.rio_write.specs.Writing.{with_written}
 use Rattle.rio_write.proofs.WriteLaws.{room_first, room_then, text_room}
 use Rattle.rio_info.specs.WrittenParts.{element_numbers, named_bytes}

@@ -2,7 +2,7 @@ use Rattle.std.proofs.Common.{rules, [], ap, refl, sym, ◌∙◌}
 use Rattle.std.proofs.lemmas.Result.{err_from_is_err_and}
 use Rattle.rio_format.specs.Bodies.{base_slot}
 use Rattle.rio_format.specs.Objects.{link_at, member_at, object_at, pointer_at}
-use Rattle.rio_layout.specs.Bodies.{body_as}
+use Rattle.rio_format.specs.BodyKinds.{body_of_kind}
 use Rattle.rio_read.specs.Members.{without_counters}
 use Rattle.rio_read.proofs.Each.{each_goes_on, each_fails, each_done, times_goes_on, times_fails, times_done}
 use Rattle.rio_read.proofs.Parts.{counter_member, parts_split}
@@ -24,23 +24,23 @@ read_bases-returns-clause-exact t c =
 
 pub read_body-returns-in_ok-parts-in-Described-clause-exact : goal.read_body-returns-in_ok-parts-in-Described-clause-exact
 read_body-returns-in_ok-parts-in-Described-clause-exact t c =
-    rw (described_is (object_at c.args.levels c.args.classes.now) c.args.class.now c.args.header c.args.reader.now c.read_parts.new.reader c.in_ok-parts-in-Described.parts _ c.in-Described.described.now (sym (ap body_as c.in-Described.is) ∙ c.body_of.ensures) c.in_ok-parts-in-Described.ensures.exact) c.whole_described.ensures.exact
+    rw (described_is (object_at c.args.levels c.args.classes.now) c.args.class.now c.args.header c.args.reader.now c.read_parts.new.reader c.in_ok-parts-in-Described.parts _ c.in-Described.described.now (sym (ap body_of_kind c.in-Described.is) ∙ c.body.view_is ∙ c.body_of-body.ensures) c.in_ok-parts-in-Described.ensures.exact) c.whole_described.ensures.exact
 
 pub read_body-returns-in_ok-parts-in-Named-clause-exact : goal.read_body-returns-in_ok-parts-in-Named-clause-exact
 read_body-returns-in_ok-parts-in-Named-clause-exact t c =
-    rw (described_is (object_at c.args.levels c.args.classes.now) c.args.class.now c.args.header c.args.reader.now c.read_named_parts.new.reader c.in_ok-parts-in-Named.parts _ _ (sym (ap body_as c.in-Named.is) ∙ c.body_of.ensures) c.in_ok-parts-in-Named.ensures.exact) c.whole.ensures.exact
+    rw (described_is (object_at c.args.levels c.args.classes.now) c.args.class.now c.args.header c.args.reader.now c.read_named_parts.new.reader c.in_ok-parts-in-Named.parts _ _ (sym (ap body_of_kind c.in-Named.is) ∙ c.body.view_is ∙ c.body_of-body.ensures) c.in_ok-parts-in-Named.ensures.exact) c.whole.ensures.exact
 
 pub read_body-returns-in_ok-parts-in-ObjString-clause-exact : goal.read_body-returns-in_ok-parts-in-ObjString-clause-exact
 read_body-returns-in_ok-parts-in-ObjString-clause-exact t c =
-    rw (described_is (object_at c.args.levels c.args.classes.now) c.args.class.now c.args.header c.args.reader.now c.read_obj_string_parts.new.reader c.in_ok-parts-in-ObjString.parts _ _ (sym (ap body_as c.in-ObjString.is) ∙ c.body_of.ensures) c.in_ok-parts-in-ObjString.ensures.exact) c.whole-in-ObjString.ensures.exact
+    rw (described_is (object_at c.args.levels c.args.classes.now) c.args.class.now c.args.header c.args.reader.now c.read_obj_string_parts.new.reader c.in_ok-parts-in-ObjString.parts _ _ (sym (ap body_of_kind c.in-ObjString.is) ∙ c.body.view_is ∙ c.body_of-body.ensures) c.in_ok-parts-in-ObjString.ensures.exact) c.whole-in-ObjString.ensures.exact
 
 pub read_body-returns-in_ok-parts-in-Listed-clause-exact : goal.read_body-returns-in_ok-parts-in-Listed-clause-exact
 read_body-returns-in_ok-parts-in-Listed-clause-exact t c =
-    rw (listed_is (object_at c.args.levels c.args.classes.now) c.args.class.now c.args.header c.args.reader.now c.read_list_parts.new.reader c.in_ok-parts-in-Listed.parts _ (sym (ap body_as c.in-Listed.is) ∙ c.body_of.ensures) c.in_ok-parts-in-Listed.ensures.exact) c.whole-in-Listed.ensures.exact
+    rw (listed_is (object_at c.args.levels c.args.classes.now) c.args.class.now c.args.header c.args.reader.now c.read_list_parts.new.reader c.in_ok-parts-in-Listed.parts _ (sym (ap body_of_kind c.in-Listed.is) ∙ c.body.view_is ∙ c.body_of-body.ensures) c.in_ok-parts-in-Listed.ensures.exact) c.whole-in-Listed.ensures.exact
 
 pub read_body-returns-in_ok-parts-in-Arrayed-clause-exact : goal.read_body-returns-in_ok-parts-in-Arrayed-clause-exact
 read_body-returns-in_ok-parts-in-Arrayed-clause-exact t c =
-    rw (arrayed_is (object_at c.args.levels c.args.classes.now) c.args.class.now c.args.header c.args.reader.now c.read_array_parts.new.reader c.in_ok-parts-in-Arrayed.parts _ (sym (ap body_as c.in-Arrayed.is) ∙ c.body_of.ensures) c.in_ok-parts-in-Arrayed.ensures.exact) c.whole-in-Arrayed.ensures.exact
+    rw (arrayed_is (object_at c.args.levels c.args.classes.now) c.args.class.now c.args.header c.args.reader.now c.read_array_parts.new.reader c.in_ok-parts-in-Arrayed.parts _ (sym (ap body_of_kind c.in-Arrayed.is) ∙ c.body.view_is ∙ c.body_of-body.ensures) c.in_ok-parts-in-Arrayed.ensures.exact) c.whole-in-Arrayed.ensures.exact
 
 pub read_links-returns-in_err-read_link-clause-exact : goal.read_links-returns-in_err-read_link-clause-exact
 read_links-returns-in_err-read_link-clause-exact t c =

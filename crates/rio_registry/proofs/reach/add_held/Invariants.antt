@@ -1,7 +1,9 @@
-use Rattle.std.proofs.Common.{take}
-use Rattle.rio_model.specs.Declaring.{holds}
-use Rattle.rio_registry.specs.Reaching.{IsGrown}
+use Rattle.rio_types.proofs.ChainLaws.{end_of}
+use Rattle.rio_registry.proofs.HeldWalk.{IsAdded}
 use Rattle.rio_registry.proofs.reach.add_held.Given as goal
 
-abbrev pub invariant-loop-class : goal.invariant-loop-class
-invariant-loop-class l = IsGrown l.fn.names l.names (holds (take l.class-index l.classes) l.outer)
+abbrev pub invariant-loop-at : goal.invariant-loop-at
+invariant-loop-at l = IsAdded l.classes l.outer l.fn.names l.names l.at
+
+abbrev pub decreases-loop-at : goal.decreases-loop-at
+decreases-loop-at l = end_of l.at

@@ -19,8 +19,7 @@ loop-name-smaller c =
 
 pub loop-name-preserved : goal.loop-name-preserved
 loop-name-preserved c =
-    let grown = rw c.as_slice.ensures at c.in_ok-add_held.ensures in
-    followed_more c.args.classes.now c.args.names c.loop-name.names c.add_held.new.names c.args.last.now c.loop-name.index c.in-Some.name.now c.loop-name.invariant c.in-Some.ensures.name (sym c.if-eq.ensures) grown
+    followed_more c.args.classes.now c.args.names c.loop-name.names c.add_held.new.names c.args.last.now c.loop-name.index c.in-Some.name.now c.loop-name.invariant c.in-Some.ensures.name (sym c.if-eq.ensures) c.in_ok-add_held.ensures
 
 pub returns : goal.returns
 returns c =

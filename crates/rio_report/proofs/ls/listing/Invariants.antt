@@ -1,6 +1,6 @@
 use Rattle.std.proofs.Common.{◌≡◌, ◌++◌, drop}
 use Rattle.std.specs.List.{flat_map}
-use Rattle.rio_meaning.specs.Listing.{key_line}
+use Rattle.rio_dir.specs.Listing.{key_line}
 use Rattle.rio_report.proofs.ls.listing.Given as goal
 
 abbrev pub invariant-loop-key : goal.invariant-loop-key

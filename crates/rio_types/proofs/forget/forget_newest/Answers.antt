@@ -1,7 +1,8 @@
 use Rattle.std.proofs.Common.{ℕ, List, [], ◌∷◌, set, subst, sym, ap, ◌∙◌, arith}
 use Rattle.std.proofs.lemmas.List.{length-append}
 use Rattle.rio_types.specs.Classes.{newest_in}
-use Rattle.rio_types.specs.Index.{is_named, NewestLead}
+use Rattle.rio_types.specs.Index.{NewestLead}
+use Rattle.rio_types.specs.Places.{is_named}
 use Rattle.rio_types.proofs.ForgetLaws.{back_alone, back_beside}
 use Rattle.rio_types.proofs.NewestLaws.{place_below}
 use Rattle.rio_types.proofs.forget.forget_newest.Goals as goal
@@ -16,7 +17,7 @@ returns-in-Some-clause-leads c =
     let P : List ℕ → Type 0 = λ xs. NewestLead c.args.classes.now (set xs c.in-Some.first c.newest_place_of.result) in
     subst P (sym c.truncate.ensures.items)
     (back_beside c.args.classes.now c.args.class.now c.args.newest.now.items c.requires.lead c.requires.one_each c.in-Some.first c.newest_place_of.result (sym c.requires.first ∙ c.in-Some.is)
-    (c.newest_place_of.ensures ∙ ap (newest_in c.args.classes.now) c.as_slice.ensures))
+    c.newest_place_of.ensures)
 
 pub returns-in_default-clause-leads : goal.returns-in_default-clause-leads
 returns-in_default-clause-leads c =

@@ -1,5 +1,6 @@
 use Rattle.std.proofs.Common.{ℕ, List, sym, ap, ◌∙◌}
-use Rattle.rio_types.specs.Index.{is_named, name_at, passing}
+use Rattle.rio_types.specs.Index.{name_at, passing}
+use Rattle.rio_types.specs.Places.{is_named}
 use Rattle.rio_types.proofs.PutLaws.{met_leads, met_place, new_leads, new_place, new_stays}
 use Rattle.rio_types.proofs.index.put_first.Goals as goal
 

@@ -36,6 +36,9 @@ decreases-read_more_items l = 9 * l.levels + 6
 abbrev pub decreases-read_items : goal.decreases-read_items
 decreases-read_items l = 9 * l.levels + 7
 
+abbrev pub decreases-read_values : goal.decreases-read_values
+decreases-read_values l = 9 * l.levels + 8
+
 abbrev pub decreases-read_more_parts : goal.decreases-read_more_parts
 decreases-read_more_parts l = 9 * l.levels + 7
 

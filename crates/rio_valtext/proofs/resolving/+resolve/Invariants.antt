@@ -1,5 +1,6 @@
 use Rattle.std.proofs.Common.{◌≡◌, [], map, drop}
-use Rattle.rio_valtext.specs.Resolving.{bases_as, each_resolved, resolving_of, resolving_of_part, with_front}
+use Rattle.rio_model.specs.Resolving.{each_resolved, resolving_of, resolving_of_part}
+use Rattle.rio_valtext.specs.Resolves.{bases_as, with_front}
 use Rattle.rio_valtext.proofs.resolving.+resolve.Given as goal
 
 abbrev pub invariant-resolve_items-loop-item : goal.invariant-resolve_items-loop-item

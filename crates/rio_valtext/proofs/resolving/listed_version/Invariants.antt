@@ -1,5 +1,5 @@
 use Rattle.std.proofs.Common.{◌≡◌, drop}
-use Rattle.rio_valtext.specs.Resolving.{base_version}
+use Rattle.rio_model.specs.Resolving.{base_version}
 use Rattle.rio_valtext.proofs.resolving.listed_version.Given as goal
 
 abbrev pub invariant-loop-base : goal.invariant-loop-base

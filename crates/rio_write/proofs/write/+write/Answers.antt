@@ -4,28 +4,27 @@ use Rattle.std.specs.Int.{w128}
 use Rattle.byteorder.specs.Endian.{big_bytes}
 use Rattle.rio_types.specs.declared.kind.Kind.TheVariants.{Inline}
 use Rattle.rio_value.specs.declared.value.Value.{the_lemmas}
-use Rattle.rio_format.specs.Slots.{declared_body, kinded}
+use Rattle.rio_format.specs.Slots.{Field, declared_body, kinded}
 use Rattle.rio_format.specs.Written.{body_bytes, writing_of}
-use Rattle.rio_format.specs.ReaderState.{with_label}
+use Rattle.rio_buffer.specs.ReaderState.{with_label}
 use Rattle.rio_buffer.specs.Writer.{next_place}
-use Rattle.rio_layout.specs.Fields.{field_as, slot_as}
 use Rattle.rio_write.specs.Writing.{HasRoom, part_writing, pointer_to, with_written}
 use Rattle.rio_write.proofs.WriteLaws.{item_room, items_room, items_go_on, items_done, part_room, parts_room, parts_go_on, parts_missing, parts_done, place_room, opened_at, inside_room, still_innermost, count_room, header, word, header_room, headed_is, pointer_room, pointer_is}
-use Rattle.rio_write.proofs.WriteParts.{nothing, link_room, link_text_room, link_writes, no_link, counted_room, counted_writes, array_room, array_writes, no_array, id_room, bits_room, bare_writes, no_bare, list_base_room, list_name_room, links_room, listed_writes, no_listed, array_base_room, array_name_room, lower_room, pointers_room, arrayed_writes, no_arrayed}
+use Rattle.rio_write.proofs.WriteParts.{nothing, link_room, link_text_room, link_writes, no_link, counted_room, counted_writes, array_room, array_writes, no_array, id_room, bits_room, bare_writes, no_bare, pid_bits_room, pid_id_room, pid_room, pid_writes, list_base_room, list_name_room, links_room, listed_writes, no_listed, array_base_room, array_name_room, lower_room, pointers_room, arrayed_writes, no_arrayed}
 use Rattle.rio_write.proofs.WriteValues.{int_is, object_is, opaque_is}
 use Rattle.rio_write.proofs.write.+write.Goals as goal
 
 pub write_all-write_value-requires : goal.write_all-write_value-requires
-write_all-write_value-requires t c = (search (rules, the_lemmas), item_room (writing_of c.args.classes.now) (slot_as c.args.slot) c.args.items.now c.loop-item.item-index c.loop-item.writer c.item-item.result c.loop-item-test.true c.item-item.is c.loop-item.invariant.1)
+write_all-write_value-requires t c = (search (rules, the_lemmas), item_room (writing_of c.args.classes.now) c.args.slot.now c.args.items.now c.loop-item.item-index c.loop-item.writer c.item-item.result c.loop-item-test.true c.item-item.is c.loop-item.invariant.1)
 
 pub write_all-loop-item-preserved : goal.write_all-loop-item-preserved
 write_all-loop-item-preserved t c = (
-  items_go_on (writing_of c.args.classes.now) (slot_as c.args.slot) c.args.items.now c.loop-item.item-index c.loop-item.writer c.item-item.result c.write_value.new.writer _ c.loop-item-test.true c.item-item.is c.in_ok-write_value.ensures c.loop-item.invariant.0,
-  items_room (writing_of c.args.classes.now) (slot_as c.args.slot) c.args.items.now c.loop-item.item-index c.loop-item.writer c.item-item.result c.write_value.new.writer c.loop-item-test.true c.item-item.is c.in_ok-write_value.ensures c.loop-item.invariant.1,
+  items_go_on (writing_of c.args.classes.now) c.args.slot.now c.args.items.now c.loop-item.item-index c.loop-item.writer c.item-item.result c.write_value.new.writer _ c.loop-item-test.true c.item-item.is c.in_ok-write_value.ensures c.loop-item.invariant.0,
+  items_room (writing_of c.args.classes.now) c.args.slot.now c.args.items.now c.loop-item.item-index c.loop-item.writer c.item-item.result c.write_value.new.writer c.loop-item-test.true c.item-item.is c.in_ok-write_value.ensures c.loop-item.invariant.1,
 )
 
 pub write_all-returns : goal.write_all-returns
-write_all-returns t c = items_done (writing_of c.args.classes.now) (slot_as c.args.slot) c.args.items.now c.loop-item.item-index c.loop-item.writer _ c.loop-item-test.false c.loop-item.invariant.0
+write_all-returns t c = items_done (writing_of c.args.classes.now) c.args.slot.now c.args.items.now c.loop-item.item-index c.loop-item.writer _ c.loop-item-test.false c.loop-item.invariant.0
 
 pub write_array-write_value-requires : goal.write_array-write_value-requires
 write_array-write_value-requires t c = (search (rules, the_lemmas), array_room (part_writing c.args.classes.now) c.args.of c.args.parts.now c.args.writer.now c.items-item.result c.count_of.result (c.count_of.ensures c.args.classes.now) c.in-len1.len_at_least c.in-len1.len_below c.items-item.is c.write_count.new.writer c.in_ok-write_count-in-len1.ensures c.requires)
@@ -69,6 +68,18 @@ write_bare-write_value-requires-in-len2 t c = (search (rules, the_lemmas), bits_
 pub write_bare-returns-in_ok-write_value-in-len2 : goal.write_bare-returns-in_ok-write_value-in-len2
 write_bare-returns-in_ok-write_value-in-len2 t c = bare_writes (part_writing c.args.classes.now) c.args.parts.now c.args.writer.now c.id-item.result c.bits-item.result c.in-len2.len_at_least c.in-len2.len_below c.id-item.is c.bits-item.is c.write_version.new.writer c.in_ok-write_version-in-len2.ensures c.write_value.new.writer c.in_ok-write_value-in-len2.ensures c.write_value-in-len2.new.writer c.write_value-in-len2.result c.write_value-in-len2.ensures
 
+pub write_bare-write_value-requires-in-len3 : goal.write_bare-write_value-requires-in-len3
+write_bare-write_value-requires-in-len3 t c = (search (rules, the_lemmas), pid_id_room (part_writing c.args.classes.now) c.args.parts.now c.args.writer.now c.id-item-then-parts-lt4.result c.bits-item-then-parts-lt4.result c.pid-item.result c.in-len3.len_at_least c.in-len3.len_below c.id-item-then-parts-lt4.is c.bits-item-then-parts-lt4.is c.pid-item.is c.write_version-in-len3.new.writer c.in_ok-write_version-in-len3.ensures c.requires)
+
+pub write_bare-write_value-requires-in-len3-2 : goal.write_bare-write_value-requires-in-len3-2
+write_bare-write_value-requires-in-len3-2 t c = (search (rules, the_lemmas), pid_bits_room (part_writing c.args.classes.now) c.args.parts.now c.args.writer.now c.id-item-then-parts-lt4.result c.bits-item-then-parts-lt4.result c.pid-item.result c.in-len3.len_at_least c.in-len3.len_below c.id-item-then-parts-lt4.is c.bits-item-then-parts-lt4.is c.pid-item.is c.write_version-in-len3.new.writer c.in_ok-write_version-in-len3.ensures c.write_value-in-len3.new.writer c.in_ok-write_value-in-len3.ensures c.requires)
+
+pub write_bare-write_value-requires-in-len3-3 : goal.write_bare-write_value-requires-in-len3-3
+write_bare-write_value-requires-in-len3-3 t c = (search (rules, the_lemmas), pid_room (part_writing c.args.classes.now) c.args.parts.now c.args.writer.now c.id-item-then-parts-lt4.result c.bits-item-then-parts-lt4.result c.pid-item.result c.in-len3.len_at_least c.in-len3.len_below c.id-item-then-parts-lt4.is c.bits-item-then-parts-lt4.is c.pid-item.is c.write_version-in-len3.new.writer c.in_ok-write_version-in-len3.ensures c.write_value-in-len3.new.writer c.in_ok-write_value-in-len3.ensures c.write_value-in-len3-2.new.writer c.in_ok-write_value-in-len3-2.ensures c.requires)
+
+pub write_bare-returns-in_ok-write_value-in-len3-2 : goal.write_bare-returns-in_ok-write_value-in-len3-2
+write_bare-returns-in_ok-write_value-in-len3-2 t c = pid_writes (part_writing c.args.classes.now) c.args.parts.now c.args.writer.now c.id-item-then-parts-lt4.result c.bits-item-then-parts-lt4.result c.pid-item.result c.in-len3.len_at_least c.in-len3.len_below c.id-item-then-parts-lt4.is c.bits-item-then-parts-lt4.is c.pid-item.is c.write_version-in-len3.new.writer c.in_ok-write_version-in-len3.ensures c.write_value-in-len3.new.writer c.in_ok-write_value-in-len3.ensures c.write_value-in-len3-2.new.writer c.in_ok-write_value-in-len3-2.ensures c.write_value-in-len3-3.new.writer c.write_value-in-len3-3.result c.write_value-in-len3-3.ensures
+
 pub write_bare-returns-in_default : goal.write_bare-returns-in_default
 write_bare-returns-in_default t c = no_bare (part_writing c.args.classes.now) c.args.parts.now c.args.writer.now (inl c.in_default.len_below)
 
@@ -86,27 +97,27 @@ write_counted-returns t c =
     counted_writes (writing_of c.args.classes.now) c.args.of c.args.items.now c.args.writer.now some c.write_bool-2.new.writer c.write_all.new.writer c.write_all.result c.in_ok-write_bool.ensures c.write_all.ensures
 
 pub write_fields-returns-in_default : goal.write_fields-returns-in_default
-write_fields-returns-in_default t c = parts_missing field_as (part_writing c.args.classes.now) c.args.fields.now c.args.parts.now c.loop-k.k c.loop-k.writer _ c.in_default.ensures.lookup.3 c.loop-k.invariant.0
+write_fields-returns-in_default t c = parts_missing (part_writing c.args.classes.now) c.args.fields.now c.args.parts.now c.loop-k.k c.loop-k.writer _ c.in_default.ensures.lookup.3 c.loop-k.invariant.0
 
 pub write_fields-write_value-requires : goal.write_fields-write_value-requires
-write_fields-write_value-requires t c = (search (rules, the_lemmas), part_room field_as (part_writing c.args.classes.now) c.args.fields.now c.args.parts.now c.loop-k.k c.loop-k.writer _ c.in-Some.part.now c.loop-k-test.true c.in-Some.ensures.lookup.3.0 c.in-Some.ensures.lookup.1 c.loop-k.invariant.1)
+write_fields-write_value-requires t c = (search (rules, the_lemmas), part_room (part_writing c.args.classes.now) c.args.fields.now c.args.parts.now c.loop-k.k c.loop-k.writer c.index-fields-k.result c.field.inside.slot c.in-Some.part.now c.loop-k-test.true c.in-Some.ensures.lookup.3.0 c.index-fields-k.is (ap (λ (f : Field). f.slot) c.field.view_is) c.in-Some.ensures.lookup.1 c.loop-k.invariant.1)
 
 pub write_fields-loop-k-preserved : goal.write_fields-loop-k-preserved
 write_fields-loop-k-preserved t c = (
-  parts_go_on field_as (part_writing c.args.classes.now) c.args.fields.now c.args.parts.now c.loop-k.k c.loop-k.writer _ c.in-Some.part.now c.loop-k-test.true c.in-Some.ensures.lookup.3.0 c.in-Some.ensures.lookup.1 c.write_value.new.writer _ c.in_ok-write_value.ensures c.loop-k.invariant.0,
-  parts_room field_as (part_writing c.args.classes.now) c.args.fields.now c.args.parts.now c.loop-k.k c.loop-k.writer _ c.in-Some.part.now c.loop-k-test.true c.in-Some.ensures.lookup.3.0 c.in-Some.ensures.lookup.1 c.write_value.new.writer c.in_ok-write_value.ensures c.loop-k.invariant.1,
+  parts_go_on (part_writing c.args.classes.now) c.args.fields.now c.args.parts.now c.loop-k.k c.loop-k.writer c.index-fields-k.result c.field.inside.slot c.in-Some.part.now c.loop-k-test.true c.in-Some.ensures.lookup.3.0 c.index-fields-k.is (ap (λ (f : Field). f.slot) c.field.view_is) c.in-Some.ensures.lookup.1 c.write_value.new.writer _ c.in_ok-write_value.ensures c.loop-k.invariant.0,
+  parts_room (part_writing c.args.classes.now) c.args.fields.now c.args.parts.now c.loop-k.k c.loop-k.writer c.index-fields-k.result c.field.inside.slot c.in-Some.part.now c.loop-k-test.true c.in-Some.ensures.lookup.3.0 c.index-fields-k.is (ap (λ (f : Field). f.slot) c.field.view_is) c.in-Some.ensures.lookup.1 c.write_value.new.writer c.in_ok-write_value.ensures c.loop-k.invariant.1,
 )
 
 pub write_fields-returns : goal.write_fields-returns
-write_fields-returns t c = parts_done field_as (part_writing c.args.classes.now) c.args.fields.now c.args.parts.now c.loop-k.k c.loop-k.writer _ c.loop-k-test.false c.loop-k.invariant.0
+write_fields-returns t c = parts_done (part_writing c.args.classes.now) c.args.fields.now c.args.parts.now c.loop-k.k c.loop-k.writer _ c.loop-k-test.false c.loop-k.invariant.0
 
-pub write_headed-write_body-requires : goal.write_headed-write_body-requires
-write_headed-write_body-requires t c =
+pub write_headed-write_declared-requires : goal.write_headed-write_declared-requires
+write_headed-write_declared-requires t c =
     let fits : SFits w32 c.args.version = search rules in
     let body = body_bytes (declared_body c.args.classes.now c.args.class.now c.args.version) (map (part_writing c.args.classes.now) c.args.parts.now) in
     let same : big_bytes 2 c.bits_16.result ≡ header c.args.version body c.args.writer.now = search (rules, to_z-of_z) in
     let opens : c.begin.new.self ≡ opened_at c.args.writer.now (header c.args.version body c.args.writer.now) c.args.writer.now.words = c.in_ok-begun.ensures.1 ∙ ap (λ (l : List ℕ). opened_at c.args.writer.now l c.args.writer.now.words) same in
-    (search (rules, the_lemmas), (c.requires.form, simp to_z-of_z (inside_room c.args.writer.now (header c.args.version body c.args.writer.now) c.args.writer.now.words body c.begin.new.self opens (header_room c.args.version body c.args.writer.now c.requires.room))))
+    (search (rules, the_lemmas), (simp to_z-of_z (inside_room c.args.writer.now (header c.args.version body c.args.writer.now) c.args.writer.now.words body c.begin.new.self opens (header_room c.args.version body c.args.writer.now c.requires))))
 
 pub write_headed-end-requires-clause-innermost : goal.write_headed-end-requires-clause-innermost
 write_headed-end-requires-clause-innermost t c =
@@ -114,8 +125,8 @@ write_headed-end-requires-clause-innermost t c =
     let body = body_bytes (declared_body c.args.classes.now c.args.class.now c.args.version) (map (part_writing c.args.classes.now) c.args.parts.now) in
     let same : big_bytes 2 c.bits_16.result ≡ header c.args.version body c.args.writer.now = search (rules, to_z-of_z) in
     let opens : c.begin.new.self ≡ opened_at c.args.writer.now (header c.args.version body c.args.writer.now) c.args.writer.now.words = c.in_ok-begun.ensures.1 ∙ ap (λ (l : List ℕ). opened_at c.args.writer.now l c.args.writer.now.words) same in
-    let written : c.write_body.new.writer ≡ with_written body c.begin.new.self = simp to_z-of_z at c.in_ok-write_body.ensures in
-    still_innermost c.args.writer.now (header c.args.version body c.args.writer.now) c.args.writer.now.words body c.begin.new.self c.write_body.new.writer opens written ∙ ap (λ (n : ℕ). let o : Option ℕ = Some n in o) (sym c.in_ok-begun.ensures.0)
+    let written : c.write_declared.new.writer ≡ with_written body c.begin.new.self = simp to_z-of_z at c.in_ok-write_declared.ensures in
+    still_innermost c.args.writer.now (header c.args.version body c.args.writer.now) c.args.writer.now.words body c.begin.new.self c.write_declared.new.writer opens written ∙ ap (λ (n : ℕ). let o : Option ℕ = Some n in o) (sym c.in_ok-begun.ensures.0)
 
 pub write_headed-end-requires-clause-size : goal.write_headed-end-requires-clause-size
 write_headed-end-requires-clause-size t c =
@@ -123,8 +134,8 @@ write_headed-end-requires-clause-size t c =
     let body = body_bytes (declared_body c.args.classes.now c.args.class.now c.args.version) (map (part_writing c.args.classes.now) c.args.parts.now) in
     let same : big_bytes 2 c.bits_16.result ≡ header c.args.version body c.args.writer.now = search (rules, to_z-of_z) in
     let opens : c.begin.new.self ≡ opened_at c.args.writer.now (header c.args.version body c.args.writer.now) c.args.writer.now.words = c.in_ok-begun.ensures.1 ∙ ap (λ (l : List ℕ). opened_at c.args.writer.now l c.args.writer.now.words) same in
-    let written : c.write_body.new.writer ≡ with_written body c.begin.new.self = simp to_z-of_z at c.in_ok-write_body.ensures in
-    rw c.in_ok-begun.ensures.0 (count_room c.args.writer.now (header c.args.version body c.args.writer.now) c.args.writer.now.words body c.begin.new.self c.write_body.new.writer opens written (header_room c.args.version body c.args.writer.now c.requires.room))
+    let written : c.write_declared.new.writer ≡ with_written body c.begin.new.self = simp to_z-of_z at c.in_ok-write_declared.ensures in
+    rw c.in_ok-begun.ensures.0 (count_room c.args.writer.now (header c.args.version body c.args.writer.now) c.args.writer.now.words body c.begin.new.self c.write_declared.new.writer opens written (header_room c.args.version body c.args.writer.now c.requires))
 
 pub write_headed-returns : goal.write_headed-returns
 write_headed-returns t c =
@@ -132,8 +143,8 @@ write_headed-returns t c =
     let body = body_bytes (declared_body c.args.classes.now c.args.class.now c.args.version) (map (part_writing c.args.classes.now) c.args.parts.now) in
     let same : big_bytes 2 c.bits_16.result ≡ header c.args.version body c.args.writer.now = search (rules, to_z-of_z) in
     let opens : c.begin.new.self ≡ opened_at c.args.writer.now (header c.args.version body c.args.writer.now) c.args.writer.now.words = c.in_ok-begun.ensures.1 ∙ ap (λ (l : List ℕ). opened_at c.args.writer.now l c.args.writer.now.words) same in
-    let written : c.write_body.new.writer ≡ with_written body c.begin.new.self = simp to_z-of_z at c.in_ok-write_body.ensures in
-    headed_is c.args.version body c.args.writer.now c.begin.new.self c.write_body.new.writer c.end.new.self opens written (rw c.in_ok-begun.ensures.0 at c.end.ensures)
+    let written : c.write_declared.new.writer ≡ with_written body c.begin.new.self = simp to_z-of_z at c.in_ok-write_declared.ensures in
+    headed_is c.args.version body c.args.writer.now c.begin.new.self c.write_declared.new.writer c.end.new.self opens written (rw c.in_ok-begun.ensures.0 at c.end.ensures)
 
 pub write_listed-write_value-requires : goal.write_listed-write_value-requires
 write_listed-write_value-requires t c = (search (rules, the_lemmas), list_base_room (part_writing c.args.classes.now) c.args.parts.now c.args.writer.now c.base-item.result c.name-item.result c.items-item.result _ refl c.in-len3.len_at_least c.in-len3.len_below c.base-item.is c.name-item.is c.items-item.is c.requires)

@@ -1,7 +1,7 @@
 use Rattle.std.proofs.Common.{◌≡◌, ◌≤◌, ◌+◌, ◌-◌, ◌^◌, ℕ, List, length, sym, ap, ◌∙◌, subst, arith}
 use Rattle.rio_num.specs.Room.{Room, room_of}
 use Rattle.rio_types.specs.declared.kind.Kind.TheVariants.{Inline}
-use Rattle.rio_format.specs.ReaderState.{no_words}
+use Rattle.rio_buffer.specs.ReaderState.{no_words}
 use Rattle.rio_format.specs.Slots.{kinded}
 use Rattle.rio_format.specs.Spelling.{Spells}
 use Rattle.rio_format.specs.Written.{writing_of, written_form}

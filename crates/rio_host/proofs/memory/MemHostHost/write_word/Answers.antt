@@ -3,7 +3,8 @@ use Rattle.byteorder.specs.Endian.{big_bytes}
 use Rattle.rio_host.specs.declared.call.Call.TheVariants.{Word, FailedWord}
 use Rattle.rio_host.specs.Host.{Becomes}
 use Rattle.rio_host.specs.Image.{Put}
-use Rattle.rio_host.specs.Replay.{Whole, disk_of, put_at}
+use Rattle.rio_host.specs.declared.change.Change.TheVariants.{Whole}
+use Rattle.rio_host.specs.Replay.{disk_of, put_at}
 use Rattle.rio_host.specs.ReplayLaws.{makes_same, put_at_put, put_at_whole}
 use Rattle.rio_host.proofs.Calls.{change_still, change_holds, change_disk, change_flies}
 use Rattle.rio_host.proofs.memory.MemHostHost.write_word.Goals as goal
@@ -11,8 +12,8 @@ use Rattle.rio_host.proofs.memory.MemHostHost.write_word.Goals as goal
 abbrev some : List ℕ → Option (List ℕ)
 some l = Some l
 
-pub invariant_of-self : goal.invariant_of-self
-invariant_of-self c =
+pub invariant_of-self-in-Ok : goal.invariant_of-self-in-Ok
+invariant_of-self-in-Ok c =
     let m = c.args.self.now.recording in
     record { still = change_still m (FailedWord c.args.place c.args.word) (Whole c.args.place (big_bytes 4 c.args.word)) (disk_of m).contents refl c.fail_word.new.self c.in-Ok.ensures.ok c.args.self.now.still }
 

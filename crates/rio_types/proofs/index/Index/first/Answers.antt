@@ -1,5 +1,6 @@
 use Rattle.std.proofs.Common.{ap, ◌∙◌}
-use Rattle.rio_types.specs.Index.{is_named, passing}
+use Rattle.rio_types.specs.Index.{passing}
+use Rattle.rio_types.specs.Places.{is_named}
 use Rattle.rio_types.proofs.LeadLaws.{name_is_found}
 use Rattle.rio_types.proofs.index.Index.first.Goals as goal
 

@@ -1,5 +1,0 @@
-use Rattle.rio_describe.proofs.ListSpelled.{written_classes_are_read}
-use Rattle.rio_describe.proofs.list_laws.written_classes_are_read.Goals as goal
-
-pub returns : goal.returns
-returns c = written_classes_are_read

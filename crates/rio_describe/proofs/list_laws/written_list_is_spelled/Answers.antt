@@ -1,5 +1,0 @@
-use Rattle.rio_describe.proofs.ListSpelled.{written_list_is_spelled}
-use Rattle.rio_describe.proofs.list_laws.written_list_is_spelled.Goals as goal
-
-pub returns : goal.returns
-returns c = written_list_is_spelled

@@ -1,0 +1,60 @@
+-- The classes that have a TObject among their bases, and how they are found.
+use Rattle.std.specs.Prelude.{◌≡◌, ℕ, suc, ◌+◌, ℤ, pos, List, [], ◌∷◌, ◌++◌, length, map, codes, Bool, true, ◌||◌}
+use Rattle.std.specs.List.{All, list_any}
+use Rattle.std.specs.Str.{bytes_eq}
+use Rattle.rio_types.specs.declared.class.Base.{Base}
+use Rattle.rio_types.specs.declared.class.ClassDef.{ClassDef}
+use Rattle.rio_format.specs.Bases.{visit_bases}
+use Rattle.rio_format.specs.Slots.{has_base}
+use Rattle.rio_format.specs.Visits.{base_of, is_visited}
+use Rattle.rio_describe.specs.declared.heirs.Heir.{Heir}
+
+-- the class and version of an heir
+abbrev pub heir_as : Heir → Base
+heir_as h = base_of h.name.now h.version
+
+-- the class in the version has a TObject among its bases, at any depth
+abbrev pub is_heir : List ClassDef → List ℕ → ℤ → Bool
+is_heir classes class version = has_base (length classes + 1) classes (codes "TObject") class version
+
+-- one of the bases is a TObject or a known heir
+abbrev pub has_reaching : List Base → List Base → Bool
+has_reaching heirs bases = list_any (λ b. bytes_eq b.name (codes "TObject") || is_visited heirs b) bases
+
+-- all of these are heirs
+abbrev pub AreHeirs : List ClassDef → List Base → Type 0
+AreHeirs classes heirs = All (λ b. is_heir classes b.name b.version ≡ true) heirs
+
+-- these are the heirs: a class in a version is among them exactly where it has a TObject among its bases
+abbrev pub AreTheHeirs : List ClassDef → List Base → Type 0
+AreTheHeirs classes heirs = (class : List ℕ) (version : ℤ) → is_visited heirs (base_of class version) ≡ is_heir classes class version
+
+-- ---- how they are found
+
+-- the class is known afterwards, if one of its bases was a TObject or known before
+abbrev pub IsTaken : List ClassDef → List Base → List Base → Base → Type 0
+IsTaken classes old new b = has_reaching old (visit_bases classes b) ≡ true → is_visited new b ≡ true
+
+-- These candidates were judged: those whose bases told it stand behind the heirs that were known, and nothing that is no heir.
+pub record Judged (classes : List ClassDef) (candidates old new : List Base) : Type 0 where
+  pub more : List Base
+  pub is : new ≡ old ++ more
+  pub sound : AreHeirs classes old → AreHeirs classes new
+  pub taken : All (IsTaken classes old new) candidates
+
+-- a described class in its version
+abbrev pub class_base : ClassDef → Base
+class_base c = base_of c.name c.version
+
+-- the built-in classes that have a base
+abbrev pub built_in_bases : List Base
+built_in_bases =
+    base_of (codes "TNamed") (pos 1) ∷ base_of (codes "TObjString") (pos 1) ∷ base_of (codes "TList") (pos 5) ∷ base_of (codes "TObjArray") (pos 3) ∷ []
+
+-- all that may have bases
+abbrev pub candidates_of : List ClassDef → List Base
+candidates_of classes = built_in_bases ++ map class_base classes
+
+-- what has a TObject among its bases at most so many levels deep is known
+abbrev pub AreKnown : List ClassDef → List Base → ℕ → Type 0
+AreKnown classes heirs levels = (class : List ℕ) (version : ℤ) → has_base levels classes (codes "TObject") class version ≡ true → is_visited heirs (base_of class version) ≡ true

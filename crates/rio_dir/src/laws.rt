@@ -1,0 +1,14 @@
+//! Laws of closed files, each the contract of a function that does nothing.
+ghost use Rattle.rio_dir.specs.Grammar.{IsListedOnce, ClosedIsSpelled, SpelledIsClosed};
+
+/// What is read of a closed file is spelled there, by the grammar of each part, and what is spelled
+/// there is read.
+pub fn closed_file_is_spelled()
+    ensures found { ClosedIsSpelled }
+    ensures only { SpelledIsClosed }
+{}
+
+/// The bytes of a file determine its listing.
+pub fn one_listing()
+    ensures { IsListedOnce }
+{}

@@ -1,0 +1,25 @@
+-- The classes whose bases are looked through.
+use Rattle.std.specs.Prelude.{ℕ, ℤ, List, [], ◌∷◌, ◌++◌, Bool, ◌&&◌, if◌then◌else◌}
+use Rattle.std.specs.List.{list_any}
+use Rattle.std.specs.Ordering.{int_eq}
+use Rattle.std.specs.Str.{bytes_eq}
+use Rattle.rio_types.specs.declared.class.Base.{Base}
+use Rattle.rio_format.specs.declared.visits.Visit.{Visit}
+
+abbrev pub base_of : List ℕ → ℤ → Base
+base_of class version = record { name = class; version = version }
+
+-- the class and version that are visited
+abbrev pub visit_as : Visit → Base
+visit_as v = base_of v.name.now v.version
+
+-- of one class and version
+abbrev pub same_base : Base → Base → Bool
+same_base b c = bytes_eq b.name c.name && int_eq b.version c.version
+
+abbrev pub is_visited : List Base → Base → Bool
+is_visited visits b = list_any (same_base b) visits
+
+-- the visits after one more, which they may have already
+abbrev pub with_visit : List Base → Base → List Base
+with_visit visits b = if is_visited visits b then visits else visits ++ b ∷ []

@@ -1,0 +1,33 @@
+//! A write in flight, and what a stop leaves of it.
+use rio_num::{Bytes, Items};
+
+/// A write that no sync has brought to the disk yet.
+#[derive(Debug, Drop)]
+pub enum Change {
+    /// Bytes, of which a stop may leave any part with any other bytes in their range.
+    Range { place: u64, bytes: Items<u8> },
+    /// A word, of which a stop leaves all or nothing.
+    Whole { place: u64, bytes: Items<u8> },
+}
+
+/// What a stop leaves of one write in flight. Of a word only All leaves something.
+#[derive(Clone, Copy, Debug, PartialEq, Eq)]
+pub enum Remains {
+    /// Nothing of it.
+    Nothing,
+    /// All of it.
+    All,
+    /// So many of its first bytes.
+    Front(u64),
+    /// This byte in its whole range.
+    Filled(u8),
+}
+
+/// What a stop leaves.
+#[derive(Debug, Drop)]
+pub struct Left {
+    /// The file.
+    pub image: Bytes,
+    /// The text that was said.
+    pub said: Bytes,
+}

@@ -1,3 +1,0 @@
-pub mod BaseLaws
-mod ListLaws
-mod VisitLaws

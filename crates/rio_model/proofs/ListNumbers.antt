@@ -1,0 +1,110 @@
+-- Which classes have numbers that their elements can hold.
+use Rattle.std.proofs.Common.{◌≡◌, ◌≤◌, ◌<◌, ◌∙◌, ◌&&◌, ◌==◌, ◌^◌, ◌*◌, not, ℕ, ℤ, pos, negsuc, Bool, true, List, [], ◌∷◌, ◌++◌, length, refl, arith, nat_lt, nat_le, int_le}
+use Rattle.std.proofs.lemmas.Bool.{leb-true, lt-ltb}
+use Rattle.std.proofs.lemmas.List.Folds.{list_all-append}
+use Rattle.std.specs.List.{list_all}
+use Rattle.rio_num.specs.Word.{is_name_text}
+use Rattle.rio_types.specs.declared.class.ClassDef.{ClassDef}
+use Rattle.rio_types.specs.declared.class.Member.{Member}
+use Rattle.rio_types.specs.declared.kind.Kind.{Kind}
+use Rattle.rio_types.specs.declared.kind.Kind.TheVariants.{Plain, Counter, Fixed, Counted, Text as Texted, Inline, Pointer, Other}
+use Rattle.rio_types.specs.declared.kind.Primitive.{Primitive}
+use Rattle.rio_types.specs.declared.kind.Primitive.TheVariants.{I8, I16, I32, I64, U8, U16, U32, U64, Bool as Boolean, F32, F64}
+use Rattle.rio_format.specs.Fits.{fits_signed}
+use Rattle.rio_format.specs.Prims.{width_of}
+use Rattle.rio_format.proofs.Tests.{both_true}
+use Rattle.rio_model.specs.ClassGrammar.{has_member, primitive_of}
+use Rattle.rio_model.specs.Stated.{has_stated_parts, are_stated_bases, are_stated_members, is_class_version, is_stated_kind, is_stated_member}
+use Rattle.rio_model.specs.Described.{WrittenAreDescribed, has_class_numbers, is_base_number, is_described}
+use Rattle.rio_format.specs.TreeClasses.{branch_members, leaf_members, object_branch_members, tree_classes, tree_members}
+
+-- ---- numbers that an element can hold
+
+-- the bytes of an array, and a code, are an i32
+abbrev pub kind_has_numbers : Kind → Bool
+kind_has_numbers (Plain of) = true
+kind_has_numbers Counter = true
+kind_has_numbers (Fixed of count) = nat_lt (width_of of * count) (2 ^ 31)
+kind_has_numbers (Counted of counter) = true
+kind_has_numbers Texted = true
+kind_has_numbers (Inline class) = true
+kind_has_numbers (Pointer class) = true
+kind_has_numbers (Other code) = fits_signed 32 code
+
+abbrev pub member_has_numbers : Member → Bool
+member_has_numbers m = kind_has_numbers m.kind
+
+-- its checksum is a u32, and its other numbers are i32
+abbrev pub has_numbers : ClassDef → Bool
+has_numbers c = nat_lt c.sum (2 ^ 32) && fits_signed 32 c.version && list_all is_base_number c.bases && list_all member_has_numbers c.members
+
+both : (a b : Bool) → a ≡ true → b ≡ true → (a && b) ≡ true
+both a b e f = rw e f
+
+-- ---- classes that a declaration can give
+
+version_fits : (version : ℤ) → is_class_version version ≡ true → fits_signed 32 version ≡ true
+version_fits (pos n) e =
+    let h = both_true (int_le (pos 1) (pos n)) (int_le (pos n) (pos 32767)) e in
+    let low : n ≤ 32767 = leb-true n 32767 h.1 in
+    lt-ltb n (2 ^ 31) (omega (arith, low))
+version_fits (negsuc n) e = absurd cc
+
+size_low : (of : Primitive) (count : ℕ) → count ≤ 100000 → width_of of * count < 2 ^ 31
+size_low I8 count low = omega (arith, low)
+size_low I16 count low = omega (arith, low)
+size_low I32 count low = omega (arith, low)
+size_low I64 count low = omega (arith, low)
+size_low U8 count low = omega (arith, low)
+size_low U16 count low = omega (arith, low)
+size_low U32 count low = omega (arith, low)
+size_low U64 count low = omega (arith, low)
+size_low Boolean count low = omega (arith, low)
+size_low F32 count low = omega (arith, low)
+size_low F64 count low = omega (arith, low)
+
+kind_holds : (before : List Member) (name : List ℕ) (after : List Member) (kind : Kind) → is_stated_kind before name after kind ≡ true → kind_has_numbers kind ≡ true
+kind_holds before name after (Plain of) e = refl
+kind_holds before name after Counter e = refl
+kind_holds before name after (Fixed of count) e =
+    let h = both_true (nat_le 1 count) (nat_le count 100000) e in
+    lt-ltb (width_of of * count) (2 ^ 31) (size_low of count (leb-true count 100000 h.1))
+kind_holds before name after (Counted of counter) e = refl
+kind_holds before name after Texted e = refl
+kind_holds before name after (Inline class) e = refl
+kind_holds before name after (Pointer class) e = refl
+kind_holds before name after (Other code) e = absurd cc
+
+members_hold : (after before : List Member) → are_stated_members before after ≡ true → list_all member_has_numbers after ≡ true
+members_hold [] before e = refl
+members_hold (m ∷ after) before e =
+    let h = both_true (is_stated_member before m after) (are_stated_members (before ++ m ∷ []) after) e in
+    let titled = both_true (is_name_text m.name && not (has_member before m.name) && is_stated_kind before m.name after m.kind) (length m.title == 0) h.0 in
+    let stated = both_true (is_name_text m.name && not (has_member before m.name)) (is_stated_kind before m.name after m.kind) titled.0 in
+    both (member_has_numbers m) (list_all member_has_numbers after) (kind_holds before m.name after m.kind stated.1) (members_hold after (before ++ m ∷ []) h.1)
+
+class_holds : (c : ClassDef) → is_described c ≡ true → has_numbers c ≡ true
+class_holds c e =
+    let parts = both_true (has_stated_parts c) (has_class_numbers c) e in
+    let numbers = both_true (nat_lt c.sum (2 ^ 32)) (list_all is_base_number c.bases) parts.1 in
+    let members = both_true (is_name_text c.name && is_class_version c.version && are_stated_bases [] c.bases) (are_stated_members [] c.members) parts.0 in
+    let bases = both_true (is_name_text c.name && is_class_version c.version) (are_stated_bases [] c.bases) members.0 in
+    let version = both_true (is_name_text c.name) (is_class_version c.version) bases.0 in
+    both (nat_lt c.sum (2 ^ 32) && fits_signed 32 c.version && list_all is_base_number c.bases) (list_all member_has_numbers c.members)
+    (both (nat_lt c.sum (2 ^ 32) && fits_signed 32 c.version) (list_all is_base_number c.bases) (both (nat_lt c.sum (2 ^ 32)) (fits_signed 32 c.version) numbers.0 (version_fits c.version version.1)) numbers.1)
+    (members_hold c.members [] members.1)
+
+pub described_have_numbers : (classes : List ClassDef) → list_all is_described classes ≡ true → list_all has_numbers classes ≡ true
+described_have_numbers [] e = refl
+described_have_numbers (c ∷ cs) e =
+    let h = both_true (is_described c) (list_all is_described cs) e in
+    both (has_numbers c) (list_all has_numbers cs) (class_holds c h.0) (described_have_numbers cs h.1)
+
+-- ---- the classes of trees
+
+trees_described : list_all is_described tree_classes ≡ true
+unfolding tree_classes tree_members branch_members object_branch_members leaf_members primitive_of
+trees_described = refl
+
+pub written_are_described : WrittenAreDescribed
+written_are_described declared described = list_all-append is_described tree_classes declared ∙ both (list_all is_described tree_classes) (list_all is_described declared) trees_described described

@@ -1,6 +1,0 @@
-//! Sets of names.
-#![tactic(auto)]
-
-mod names;
-
-pub use names::Names;

@@ -1,0 +1,70 @@
+-- How a run ends that says a listing.
+use Rattle.std.proofs.Common.{◌≡◌, ℕ, List, Option, Some, Result, Ok, Err, refl, sym, ap, ◌∙◌}
+use Rattle.rio_num.specs.Reading.{◌>>=◌}
+use Rattle.rio_head.specs.declared.fault.FileFault.{FileFault}
+use Rattle.rio_head.specs.declared.fault.HeadFault.{HeadFault}
+use Rattle.rio_head.specs.Head.{fault_at}
+use Rattle.rio_host.specs.Host.{View}
+use Rattle.rio_dir.specs.Closed.{closed_file, fault_of}
+use Rattle.rio_dir.specs.Listing.{key_lines, listed_file}
+use Rattle.rio_meaning.specs.declared.item.Item.{Item}
+use Rattle.rio_meaning.specs.Described.{described_file}
+use Rattle.rio_meaning.specs.Dump.{dump_text, dumped_file}
+use Rattle.rio_close.specs.declared.fault.ReportFault.TheVariants.{BadFile as FileBad, NoMemory as OutOfMemory, HostFault, SayFault as NotSaid}
+use Rattle.rio_report.specs.Lists.{AnswersOf, ListingAnswer}
+use Rattle.rootio.specs.declared.status.Status.{Status}
+use Rattle.rootio.specs.declared.status.Status.TheVariants.{BadFile}
+use Rattle.rootio.specs.declared.words.Form.TheVariants.{Reads}
+use Rattle.rootio.specs.declared.words.Listing.{Listing}
+use Rattle.rootio.specs.declared.words.Listing.TheVariants.{Ls, Dump}
+use Rattle.rootio.specs.Reading.{EndsListing, RefusesBroken, TellsFirstFault, TellsUnlessCut, rules_of}
+use Rattle.rootio.specs.Status.{status_of}
+
+-- ---- the first fault of a file is that of its listing
+
+fault_kept : {A B : Type 0} (read : Result A HeadFault) (g : A → B) → fault_of (read >>= λ x. Ok (g x)) ≡ fault_of read
+fault_kept (Ok x) g = refl
+fault_kept (Err e) g = refl
+
+listed_first : (file : List ℕ) → fault_of (listed_file file) ≡ fault_of (closed_file file)
+unfolding listed_file
+listed_first file = fault_kept (closed_file file) (λ c. key_lines c.keys)
+
+dumped_first : (item : Option Item) (file : List ℕ) → fault_of (dumped_file item file) ≡ fault_of (described_file file)
+unfolding dumped_file
+dumped_first item file = fault_kept (described_file file) (λ d. dump_text file item d)
+
+-- ---- and it is told
+
+tells : (listed : Result (List ℕ) HeadFault) (told : ListingAnswer) → AnswersOf listed told → (place : ℕ) (kind : FileFault) → status_of told ≡ BadFile place kind → fault_of listed ≡ Some (fault_at place kind)
+tells listed (Ok x) answers place kind e = absurd cc
+tells listed (Err (FileBad p k)) answers place kind e =
+    let here : p ≡ place = cc in
+    let so : k ≡ kind = cc in
+    ap fault_of answers ∙ ap (λ (q : ℕ). Some (fault_at q k)) here ∙ ap (λ (q : FileFault). Some (fault_at place q)) so
+tells listed (Err OutOfMemory) answers place kind e = absurd cc
+tells listed (Err HostFault) answers place kind e = absurd cc
+tells listed (Err NotSaid) answers place kind e = absurd cc
+
+yields : (listed : Result (List ℕ) HeadFault) (told : ListingAnswer) (fault : HeadFault) → AnswersOf listed told → fault_of listed ≡ Some fault → TellsUnlessCut fault (status_of told)
+yields (Ok text) told fault answers e = absurd cc
+yields (Err f) (Ok x) fault answers e = absurd cc
+yields (Err f) (Err (FileBad p k)) fault answers e =
+    let is : Some f ≡ Some (fault_at p k) = ap fault_of answers in
+    cc
+yields (Err f) (Err OutOfMemory) fault answers e = tt
+yields (Err f) (Err HostFault) fault answers e = tt
+yields (Err f) (Err NotSaid) fault answers e = absurd cc
+
+module _ (old new : View) (status : Status) where
+  pub ends_tells : (list : Listing) → EndsListing list old new status → TellsFirstFault (rules_of (Reads list)) old status
+  ends_tells Ls ends place kind e file here =
+      sym (listed_first file) ∙ tells (listed_file file) ends.0 (ends.2.refused file here) place kind (sym ends.1 ∙ e)
+  ends_tells (Dump item) ends place kind e file here =
+      sym (dumped_first item file) ∙ tells (dumped_file item file) ends.0 (ends.2.refused file here) place kind (sym ends.1 ∙ e)
+
+  pub ends_refused : (list : Listing) → EndsListing list old new status → RefusesBroken (rules_of (Reads list)) old status
+  ends_refused Ls ends fault file here e =
+      rw ends.1 (yields (listed_file file) ends.0 fault (ends.2.refused file here) (listed_first file ∙ e))
+  ends_refused (Dump item) ends fault file here e =
+      rw ends.1 (yields (dumped_file item file) ends.0 fault (ends.2.refused file here) (dumped_first item file ∙ e))

@@ -1,0 +1,21 @@
+use Rattle.std.proofs.Common.{Err, Some, refl}
+use Rattle.rio_host.proofs.PiecesLaws.{reads_part}
+use Rattle.rio_host.proofs.ReadsLaws.{reads_none}
+use Rattle.rio_dir.specs.Listing.{said_of}
+use Rattle.rio_meaning.specs.Dump.{dumped_file}
+use Rattle.rio_close.specs.declared.fault.ReportFault.TheVariants.{NoMemory}
+use Rattle.rootio.proofs.top.dump_item.Goals as goal
+
+-- nothing was done
+pub returns-in-Err : goal.returns-in-Err
+returns-in-Err g c = (
+  Err NoMemory,
+  refl,
+  record {
+    done = tt;
+    refused = λ file told. tt;
+    calls = reads_part (λ file. said_of (dumped_file (Some c.args.word.now) file)) (reads_none (g.H.Host.view c.args.host.now));
+    silent = λ silent. absurd silent;
+    cause = (refl, refl);
+  },
+)
