@@ -16,6 +16,7 @@ use Rattle.rio_format.proofs.ValueCases.{Each, fold_Int, fold_Text, fold_List, f
 use Rattle.rio_format.specs.WrittenElements.{base_element, inline_element, kind_element, member_element, pointer_element, reaches_object, written_elements}
 use Rattle.rio_format.specs.WrittenList.{array_object, class_links, class_list_value, class_pointer, element_object, element_parts, info_object, label_count, list_object, named_object, plain_object, pointers_from}
 use Rattle.rio_format.specs.WrittenElements.{WrittenElement}
+use Rattle.rio_model.specs.Described.{WrittenListHasVersions, WrittenListIsShallow}
 
 -- it is at most so deep, and the versions of its objects can be written
 abbrev IsWithin : ℕ → Value → Type 0
@@ -194,9 +195,9 @@ unfolding class_list_value list_object
 list_is_within classes = object_within 7 (codes "TList") (pos 5) _ refl ((omega (arith, plain_within.0), plain_within.1), (text_within 7 [], (list_within 7 _ (links_within classes 0 classes), tt)))
 
 -- it isn't too deep
-pub written_list_is_shallow : (classes : List ClassDef) → depth_of (class_list_value classes) ≤ depth_limit
+pub written_list_is_shallow : WrittenListIsShallow
 written_list_is_shallow classes = omega (arith, (list_is_within classes).0)
 
 -- the versions of its objects can be written
-pub written_list_has_versions : (classes : List ClassDef) → IsTrue (has_versions (class_list_value classes))
+pub written_list_has_versions : WrittenListHasVersions
 written_list_has_versions classes = (list_is_within classes).1

@@ -19,11 +19,10 @@ use Rattle.rio_format.specs.Slots.{kinded, based, any_pointer}
 use Rattle.rio_format.proofs.Tests.{both_true}
 use Rattle.rio_format.proofs.ValueCases.{Each}
 use Rattle.rio_format.proofs.WrittenValues.{object_fitting, fit_object}
-use Rattle.rio_model.specs.Described.{is_base_number}
+use Rattle.rio_model.specs.Described.{is_base_number, kind_has_numbers, member_has_numbers}
 use Rattle.rio_format.specs.WrittenElements.{base_element, counted_element, inline_element, kind_element, member_element, pointer_element, primitive_code, reaches_object}
 use Rattle.rio_format.specs.WrittenList.{element_object, element_parts, pointers_from}
 use Rattle.rio_format.specs.WrittenElements.{WrittenElement}
-use Rattle.rio_model.proofs.ListNumbers.{kind_has_numbers, member_has_numbers}
 use Rattle.rio_model.proofs.ListParts.{FitsIn, fitting, index_list_fits, int_fits, named_fits, pointer_fits, text_fits}
 
 -- its numbers are i32

@@ -13,11 +13,10 @@ use Rattle.rio_format.specs.Slots.{kinded, any_pointer, link}
 use Rattle.rio_format.proofs.Tests.{both_true}
 use Rattle.rio_format.proofs.ValueCases.{Each, fold_List}
 use Rattle.rio_format.proofs.WrittenValues.{fit_object}
-use Rattle.rio_model.specs.Described.{is_base_number}
+use Rattle.rio_model.specs.Described.{WrittenListFits, has_numbers, is_base_number, member_has_numbers}
 use Rattle.rio_format.specs.WrittenElements.{base_element, member_element, written_elements}
 use Rattle.rio_format.specs.WrittenList.{array_object, class_links, class_list_value, class_pointer, element_object, info_object, label_count, list_object, pointers_from}
 use Rattle.rio_model.proofs.ListElements.{ElementFits, bases_fit, members_fit, own_label, pointers_fit}
-use Rattle.rio_model.proofs.ListNumbers.{has_numbers, member_has_numbers}
 use Rattle.rio_model.proofs.ListParts.{FitsIn, fitting, int_fits, linked_fits, named_fits, plain_fits, pointer_fits, text_fits}
 
 -- ---- one class
@@ -89,7 +88,7 @@ links_fit classes (c ∷ cs) label labels next numbers =
     (rest.0, rw (linked_fits (class_pointer classes label c) labels own (class_fits classes label c labels next h.0)) rest.1)
 
 -- the class list of such classes fits the classes that describe it
-pub written_list_fits : (classes : List ClassDef) → list_all has_numbers classes ≡ true → Fits description_classes (codes "TList") (class_list_value classes)
+pub written_list_fits : WrittenListFits
 unfolding class_list_value list_object
 written_list_fits classes numbers =
     let links = class_links classes 0 classes in

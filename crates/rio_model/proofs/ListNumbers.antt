@@ -15,28 +15,8 @@ use Rattle.rio_format.specs.Prims.{width_of}
 use Rattle.rio_format.proofs.Tests.{both_true}
 use Rattle.rio_model.specs.ClassGrammar.{has_member, primitive_of}
 use Rattle.rio_model.specs.Stated.{has_stated_parts, are_stated_bases, are_stated_members, is_class_version, is_stated_kind, is_stated_member}
-use Rattle.rio_model.specs.Described.{WrittenAreDescribed, has_class_numbers, is_base_number, is_described}
+use Rattle.rio_model.specs.Described.{DescribedHaveNumbers, HaveNumbers, WrittenAreDescribed, WrittenHaveNumbers, has_class_numbers, has_numbers, is_base_number, is_described, kind_has_numbers, member_has_numbers}
 use Rattle.rio_format.specs.TreeClasses.{branch_members, leaf_members, object_branch_members, tree_classes, tree_members}
-
--- ---- numbers that an element can hold
-
--- the bytes of an array, and a code, are an i32
-abbrev pub kind_has_numbers : Kind → Bool
-kind_has_numbers (Plain of) = true
-kind_has_numbers Counter = true
-kind_has_numbers (Fixed of count) = nat_lt (width_of of * count) (2 ^ 31)
-kind_has_numbers (Counted of counter) = true
-kind_has_numbers Texted = true
-kind_has_numbers (Inline class) = true
-kind_has_numbers (Pointer class) = true
-kind_has_numbers (Other code) = fits_signed 32 code
-
-abbrev pub member_has_numbers : Member → Bool
-member_has_numbers m = kind_has_numbers m.kind
-
--- its checksum is a u32, and its other numbers are i32
-abbrev pub has_numbers : ClassDef → Bool
-has_numbers c = nat_lt c.sum (2 ^ 32) && fits_signed 32 c.version && list_all is_base_number c.bases && list_all member_has_numbers c.members
 
 both : (a b : Bool) → a ≡ true → b ≡ true → (a && b) ≡ true
 both a b e f = rw e f
@@ -94,13 +74,20 @@ class_holds c e =
     (both (nat_lt c.sum (2 ^ 32) && fits_signed 32 c.version) (list_all is_base_number c.bases) (both (nat_lt c.sum (2 ^ 32)) (fits_signed 32 c.version) numbers.0 (version_fits c.version version.1)) numbers.1)
     (members_hold c.members [] members.1)
 
-pub described_have_numbers : (classes : List ClassDef) → list_all is_described classes ≡ true → list_all has_numbers classes ≡ true
+pub described_have_numbers : DescribedHaveNumbers
 described_have_numbers [] e = refl
 described_have_numbers (c ∷ cs) e =
     let h = both_true (is_described c) (list_all is_described cs) e in
     both (has_numbers c) (list_all has_numbers cs) (class_holds c h.0) (described_have_numbers cs h.1)
 
 -- ---- the classes of trees
+
+trees_hold : HaveNumbers tree_classes
+unfolding tree_classes tree_members branch_members object_branch_members leaf_members
+trees_hold = refl
+
+pub written_have_numbers : WrittenHaveNumbers
+written_have_numbers declared numbers = list_all-append has_numbers tree_classes declared ∙ both (list_all has_numbers tree_classes) (list_all has_numbers declared) trees_hold numbers
 
 trees_described : list_all is_described tree_classes ≡ true
 unfolding tree_classes tree_members branch_members object_branch_members leaf_members primitive_of

@@ -1,12 +1,19 @@
 -- The class list that is written for classes, read again.
-use Rattle.std.specs.Prelude.{◌≡◌, ◌≤◌, ℕ, ◌+◌, ◌-◌, ◌^◌, codes, List, ◌++◌, length, Ok, Bool, true, ◌==◌, ◌&&◌, nat_lt}
+use Rattle.std.specs.Prelude.{◌≡◌, ◌≤◌, ℕ, ◌+◌, ◌-◌, ◌*◌, ◌^◌, codes, List, ◌++◌, length, Ok, Bool, true, ◌==◌, ◌&&◌, nat_lt, IsTrue}
 use Rattle.std.specs.List.{list_all}
 use Rattle.rio_types.specs.declared.class.Base.{Base}
 use Rattle.rio_types.specs.declared.class.ClassDef.{ClassDef}
+use Rattle.rio_types.specs.declared.class.Member.{Member}
+use Rattle.rio_types.specs.declared.kind.Kind.{Kind}
+use Rattle.rio_types.specs.declared.kind.Kind.TheVariants.{Fixed, Other}
+use Rattle.rio_value.specs.Depth.{depth_of}
 use Rattle.rio_format.specs.ClassList.{class_list_at, classes_of}
 use Rattle.rio_format.specs.Descriptions.{description_classes}
-use Rattle.rio_format.specs.Fits.{fits_signed}
-use Rattle.rio_format.specs.Objects.{value_at}
+use Rattle.rio_format.specs.Fits.{Fits, fits_signed}
+use Rattle.rio_format.specs.Laws.{has_versions}
+use Rattle.rio_format.specs.Objects.{depth_limit, value_at}
+use Rattle.rio_format.specs.Prims.{width_of}
+use Rattle.rio_format.specs.Spelling.{Spells}
 use Rattle.rio_format.specs.TreeClasses.{tree_classes, written_classes}
 use Rattle.rio_format.specs.WrittenBytes.{class_list_bytes}
 use Rattle.rio_format.specs.WrittenList.{class_list_value}
@@ -28,18 +35,61 @@ is_described c = has_stated_parts c && has_class_numbers c
 abbrev pub WrittenListIsRead : Type 0
 WrittenListIsRead = (classes : List ClassDef) → list_all is_described classes ≡ true → classes_of (class_list_value classes) ≡ classes
 
+-- ---- numbers that an element can hold
+
+-- the bytes of an array, and a code, are an i32
+abbrev pub kind_has_numbers : Kind → Bool
+kind_has_numbers (Fixed of count) = nat_lt (width_of of * count) (2 ^ 31)
+kind_has_numbers (Other code) = fits_signed 32 code
+kind_has_numbers kind = true
+
+abbrev pub member_has_numbers : Member → Bool
+member_has_numbers m = kind_has_numbers m.kind
+
+-- its checksum is a u32, and its other numbers are i32
+abbrev pub has_numbers : ClassDef → Bool
+has_numbers c = nat_lt c.sum (2 ^ 32) && fits_signed 32 c.version && list_all is_base_number c.bases && list_all member_has_numbers c.members
+
+abbrev pub HaveNumbers : List ClassDef → Type 0
+HaveNumbers classes = IsTrue (list_all has_numbers classes)
+
+-- classes that declarations can give have them
+abbrev pub DescribedHaveNumbers : Type 0
+DescribedHaveNumbers = (classes : List ClassDef) → list_all is_described classes ≡ true → HaveNumbers classes
+
+-- the classes of trees have them, so all classes that are written have them if the declared ones do
+abbrev pub WrittenHaveNumbers : Type 0
+WrittenHaveNumbers = (declared : List ClassDef) → HaveNumbers declared → HaveNumbers (written_classes declared)
+
+-- the class list of classes with such numbers fits the classes that describe it
+abbrev pub WrittenListFits : Type 0
+WrittenListFits = (classes : List ClassDef) → HaveNumbers classes → Fits description_classes (codes "TList") (class_list_value classes)
+
+-- it isn't too deep
+abbrev pub WrittenListIsShallow : Type 0
+WrittenListIsShallow = (classes : List ClassDef) → depth_of (class_list_value classes) ≤ depth_limit
+
+-- the versions of its objects can be written
+abbrev pub WrittenListHasVersions : Type 0
+WrittenListHasVersions = (classes : List ClassDef) → IsTrue (has_versions (class_list_value classes))
+
 -- ---- bytes
 
 -- places up to the end of the list can be written
 abbrev pub HasPlaces : ℕ → List ClassDef → Type 0
 HasPlaces start classes = start + length (class_list_bytes start classes) ≤ 2 ^ 30 - 2
 
--- the bytes of the list are read as the list, whatever follows
+-- the bytes of the list spell it
+abbrev pub WrittenListIsSpelled : Type 0
+WrittenListIsSpelled = (classes : List ClassDef) (start : ℕ) → HaveNumbers classes → HasPlaces start classes
+    → Spells description_classes start (codes "TList") (class_list_value classes) (class_list_bytes start classes)
+
+-- they are read as the list, whatever follows
 abbrev pub WrittenBytesAreRead : Type 0
-WrittenBytesAreRead = (classes : List ClassDef) (start : ℕ) (more : List ℕ) → list_all is_described classes ≡ true → HasPlaces start classes
+WrittenBytesAreRead = (classes : List ClassDef) (start : ℕ) (more : List ℕ) → HaveNumbers classes → HasPlaces start classes
     → value_at description_classes (codes "TList") start (class_list_bytes start classes ++ more) ≡ Ok (class_list_value classes)
 
--- the bytes of the list are read as the classes
+-- and so as the classes, if declarations can give them
 abbrev pub WrittenClassesAreRead : Type 0
 WrittenClassesAreRead = (classes : List ClassDef) (start : ℕ) (more : List ℕ) → list_all is_described classes ≡ true → HasPlaces start classes
     → class_list_at start (class_list_bytes start classes ++ more) ≡ Ok classes

@@ -11,7 +11,8 @@ mod read_laws;
 pub use declare::{DeclareFault, holding_is_reaching};
 pub use laws::texts_are_one_line;
 pub use list_laws::{
-    descriptions_have_sums, tree_classes_are_stated, written_bytes_are_read, written_list_is_read,
+    described_have_numbers, descriptions_have_sums, tree_classes_are_stated,
+    written_bytes_are_read, written_list_fits, written_list_is_read, written_list_is_spelled,
 };
 pub use read_laws::{
     class_reading_goes_on, printed_classes_are_read, printed_values_are_read,

@@ -1,13 +1,32 @@
 //! Laws of the class list that is written for classes.
-ghost use Rattle.rio_model.specs.Described.{DescriptionsHaveSums, TreeClassesAreStated, WrittenAreDescribed, WrittenBytesAreRead, WrittenClassesAreRead, WrittenListIsRead};
+ghost use Rattle.rio_model.specs.Described.{DescribedHaveNumbers, DescriptionsHaveSums, TreeClassesAreStated, WrittenAreDescribed, WrittenBytesAreRead, WrittenClassesAreRead, WrittenHaveNumbers, WrittenListFits, WrittenListHasVersions, WrittenListIsRead, WrittenListIsShallow, WrittenListIsSpelled};
 
 /// The class list that is written for classes that declarations can give describes these classes, in order.
 pub fn written_list_is_read()
     ensures { WrittenListIsRead }
 {}
 
-/// The bytes of that list, with all its places below 2^30 - 2, are read as the list, and so as the classes, whatever
-/// follows.
+/// Classes that declarations can give have numbers that their elements can hold, and the classes that are written have
+/// them if the declared ones do.
+pub fn described_have_numbers()
+    ensures declared { DescribedHaveNumbers }
+    ensures written { WrittenHaveNumbers }
+{}
+
+/// The class list that is written for classes with such numbers fits the classes that it is read by. It isn't too deep,
+/// and the versions of all its objects can be written.
+pub fn written_list_fits()
+    ensures fits { WrittenListFits }
+    ensures shallow { WrittenListIsShallow }
+    ensures versions { WrittenListHasVersions }
+{}
+
+/// The bytes of that list spell it, if its classes have such numbers and its places are below 2^30 - 2.
+pub fn written_list_is_spelled()
+    ensures { WrittenListIsSpelled }
+{}
+
+/// They are then read as the list, and, if declarations can give the classes, as the classes, whatever follows.
 pub fn written_bytes_are_read()
     ensures list { WrittenBytesAreRead }
     ensures classes { WrittenClassesAreRead }
