@@ -1,5 +1,8 @@
 //! Rows of objects in bytes, with the values or faults that they stand for.
 
+ghost use Rattle.std.specs.Prelude.{IsTrue};
+ghost use Rattle.rio_format.specs.BuiltIn.{is_small_builtin};
+
 mod builtin;
 mod classes;
 mod fitting;
@@ -12,6 +15,7 @@ use classes::{classes_of_rows, hex_bytes};
 use printed::put_value;
 use rio_buffer::{ObjFault, ObjReader};
 use rio_num::{Bytes, NoMemory};
+use rio_types::Classes;
 use rio_value::depth;
 use std::alloc::Global;
 use std::test::Fail;
@@ -471,24 +475,8 @@ fn reads_as_deep_as_it_may(rt: HostRuntime) -> Result<(), Fail> {
 fn refuses_a_built_in_one(rt: HostRuntime) -> Result<(), Fail> {
     let classes = classes_of_rows(rt.alloc()).ok().ok_or("classes")?;
     let mut reader = ObjReader::new(rt.alloc(), b"\0\x02\0\0\0\0\0\0\0\0", 7);
-    let object = read_builtin(rt.alloc(), &classes, &mut reader, b"TObject");
-    assert!(rt; matches!(object, Err(ObjFault::NoCount { place: 7 })));
-    Ok(())
-}
-
-#[test]
-fn reads_one_behind_the_other(rt: HostRuntime) -> Result<(), Fail> {
-    let classes = classes_of_rows(rt.alloc()).ok().ok_or("classes")?;
-    let mut reader = ObjReader::new(rt.alloc(), b"\0\x01\0\0\0\0\0\0\0\0\0\0\0\x01\x07", 0);
-    let mut printed = Bytes::new(rt.alloc());
-    let object = read_builtin(rt.alloc(), &classes, &mut reader, b"TObject")
-        .ok()
-        .ok_or("a TObject")?;
-    put_value(&mut printed, &object).ok().ok_or("memory")?;
-    let array = read_builtin(rt.alloc(), &classes, &mut reader, b"TArrayC")
-        .ok()
-        .ok_or("a TArrayC")?;
-    put_value(&mut printed, &array).ok().ok_or("memory")?;
+    assert!(rt; put_builtin(&mut printed, &classes, &mut reader, b"TObject").is_ok());
+    assert!(rt; put_builtin(&mut printed, &classes, &mut reader, b"TArrayC").is_ok());
     assert!(rt;
         printed.as_slice() == b"TObject#1{fUniqueID: 0, fBits: 0}TArrayC#1{items: [7]}".as_slice()
     );

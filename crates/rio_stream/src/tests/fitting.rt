@@ -2,8 +2,8 @@
 use crate::fits;
 use crate::tests::classes::{class_without_members, classes_of_rows};
 use crate::tests::values::{
-    at, empty, item, node, object, part, sevens, t_list, t_named, t_obj_string, t_object, text,
-    three, two,
+    at, empty, item, node, object, part, put_part, sevens, t_list, t_named, t_obj_string, t_object,
+    text, three, two,
 };
 use rio_num::NoMemory;
 use rio_value::{Parts, Value, Values};
@@ -146,17 +146,23 @@ fn parts_are_those_of_the_class(rt: HostRuntime) -> Result<(), Fail> {
     Ok(())
 }
 
-// An object with a part of each kind, with this base version, 16-bit number and 32-bit float.
+// The members of a class with one of each kind, with this 16-bit number and 32-bit float.
+fn put_members(parts: &mut Parts, alloc: Global, i: i128, f: Value) -> Result<(), NoMemory> {
+    put_part(parts, alloc, "b", Value::Bool(true))?;
+    put_part(parts, alloc, "i", Value::Int(i))?;
+    put_part(parts, alloc, "l", Value::Int(0))?;
+    put_part(parts, alloc, "u", Value::Int(0))?;
+    put_part(parts, alloc, "f", f)?;
+    put_part(parts, alloc, "p", sevens(alloc, 2)?)?;
+    put_part(parts, alloc, "t", text(alloc, "hi")?)
+}
+
+// An object of that class, with this version of its base.
 fn all(alloc: Global, version: i32, i: i128, f: Value) -> Result<bool, NoMemory> {
     let mut parts = Parts::new(alloc);
-    parts.push(part(alloc, "", counts(alloc, version, 0, sevens(alloc, 0)?)?)?)?;
-    parts.push(part(alloc, "b", Value::Bool(true))?)?;
-    parts.push(part(alloc, "i", Value::Int(i))?)?;
-    parts.push(part(alloc, "l", Value::Int(0))?)?;
-    parts.push(part(alloc, "u", Value::Int(0))?)?;
-    parts.push(part(alloc, "f", f)?)?;
-    parts.push(part(alloc, "p", sevens(alloc, 2)?)?)?;
-    parts.push(part(alloc, "t", text(alloc, "hi")?)?)?;
+    let base = counts(alloc, version, 0, sevens(alloc, 0)?)?;
+    put_part(&mut parts, alloc, "", base)?;
+    put_members(&mut parts, alloc, i, f)?;
     fits_rows(alloc, "All", object(alloc, "All", 1, parts)?)
 }
 

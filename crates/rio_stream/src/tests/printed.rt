@@ -2,45 +2,23 @@
 use rio_num::{Bytes, NoMemory};
 use rio_value::{Part, Value};
 
-fn put_integer(printed: &mut Bytes, n: i128) -> Result<(), NoMemory> {
-    if n < 0 {
-        printed.put(b"-")?;
-    }
-    printed.put_decimal(u64::try_from(n.unsigned_abs()).unwrap_or(u64::MAX))
-}
-
-fn put_hex(printed: &mut Bytes, bits: u64, digits: u32) -> Result<(), NoMemory> {
-    printed.put(b"0x")?;
-    for k in (0..digits).rev() {
-        let digit = (bits.wrapping_shr(k.wrapping_mul(4)) % 16) as u8;
-        printed.push(if digit < 10 { 48 + digit } else { 87 + digit })?;
-    }
-    Ok(())
-}
-
 // The value in the form in which values are printed.
 #[cycle(print)]
 pub(crate) fn put_value(printed: &mut Bytes, value: &Value) -> Result<(), NoMemory> {
     match value {
-        Value::Int(n) => put_integer(printed, *n),
-        Value::Bits32(bits) => put_hex(printed, u64::from(*bits), 8),
-        Value::Bits64(bits) => put_hex(printed, *bits, 16),
+        Value::Int(n) => printed.put_integer(*n),
+        Value::Bits32(bits) => printed.put_hex8(*bits),
+        Value::Bits64(bits) => printed.put_hex16(*bits),
         Value::Bool(true) => printed.put(b"true"),
         Value::Bool(false) => printed.put(b"false"),
-        Value::Text(text) => {
-            printed.put(b"\"")?;
-            printed.put(text.as_slice())?;
-            printed.put(b"\"")
-        }
+        Value::Text(text) => printed.put_string(text.as_slice()),
         Value::List(items) => put_items(printed, items.as_slice()),
         Value::Object {
             class,
             version,
             parts,
         } => {
-            printed.put(class.as_slice())?;
-            printed.put(b"#")?;
-            put_integer(printed, i128::from(*version))?;
+            put_class(printed, class.as_slice(), *version)?;
             put_parts(printed, parts.as_slice())
         }
         Value::Pointed { label, object } => {
@@ -54,14 +32,22 @@ pub(crate) fn put_value(printed: &mut Bytes, value: &Value) -> Result<(), NoMemo
             printed.put(b"@")?;
             printed.put_decimal(u64::from(*label))
         }
-        Value::Opaque { class, length } => {
-            printed.put(b"opaque(")?;
-            printed.put(class.as_slice())?;
-            printed.put(b", ")?;
-            printed.put_decimal(u64::from(*length))?;
-            printed.put(b")")
-        }
+        Value::Opaque { class, length } => put_opaque(printed, class.as_slice(), *length),
     }
+}
+
+fn put_class(printed: &mut Bytes, class: &[u8], version: i32) -> Result<(), NoMemory> {
+    printed.put(class)?;
+    printed.put(b"#")?;
+    printed.put_integer(i128::from(version))
+}
+
+fn put_opaque(printed: &mut Bytes, class: &[u8], length: u32) -> Result<(), NoMemory> {
+    printed.put(b"opaque(")?;
+    printed.put(class)?;
+    printed.put(b", ")?;
+    printed.put_decimal(u64::from(length))?;
+    printed.put(b")")
 }
 
 #[cycle(print)]

@@ -10,6 +10,16 @@ pub(crate) fn part(alloc: Global, name: &str, value: Value) -> Result<Part, NoMe
     })
 }
 
+/// Puts a part at the end.
+pub(crate) fn put_part(
+    parts: &mut Parts,
+    alloc: Global,
+    name: &str,
+    value: Value,
+) -> Result<(), NoMemory> {
+    parts.push(part(alloc, name, value)?)
+}
+
 pub(crate) fn text(alloc: Global, text: &str) -> Result<Value, NoMemory> {
     Ok(Value::Text(Name::from_slice(alloc, text.as_bytes())?))
 }
