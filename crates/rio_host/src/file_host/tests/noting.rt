@@ -76,11 +76,12 @@ impl NotingSystem {
         }
     }
 
-    /// The same, where each sync fails.
-    pub fn with_failing_syncs(self) -> NotingSystem {
+    /// A system with a file whose syncs fail.
+    pub fn with_failing_syncs(rt: HostRuntime, number: u32) -> NotingSystem {
         NotingSystem {
+            notes: Notes { rt, number },
+            there: There::File,
             fails_syncs: true,
-            ..self
         }
     }
 
