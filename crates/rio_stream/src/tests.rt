@@ -475,6 +475,30 @@ fn reads_as_deep_as_it_may(rt: HostRuntime) -> Result<(), Fail> {
 fn refuses_a_built_in_one(rt: HostRuntime) -> Result<(), Fail> {
     let classes = classes_of_rows(rt.alloc()).ok().ok_or("classes")?;
     let mut reader = ObjReader::new(rt.alloc(), b"\0\x02\0\0\0\0\0\0\0\0", 7);
+    let object = read_builtin(rt.alloc(), &classes, &mut reader, b"TObject");
+    assert!(rt; matches!(object, Err(ObjFault::NoCount { place: 7 })));
+    Ok(())
+}
+
+// Puts the next object of the class at the end of what is printed.
+fn put_builtin(
+    printed: &mut Bytes,
+    classes: &Classes,
+    reader: &mut ObjReader,
+    class: &[u8],
+) -> Result<(), ObjFault>
+    requires { IsTrue (is_small_builtin class.now) }
+{
+    let value = read_builtin(printed.allocator(), classes, reader, class)?;
+    put_value(printed, &value)?;
+    Ok(())
+}
+
+#[test]
+fn reads_one_behind_the_other(rt: HostRuntime) -> Result<(), Fail> {
+    let classes = classes_of_rows(rt.alloc()).ok().ok_or("classes")?;
+    let mut reader = ObjReader::new(rt.alloc(), b"\0\x01\0\0\0\0\0\0\0\0\0\0\0\x01\x07", 0);
+    let mut printed = Bytes::new(rt.alloc());
     assert!(rt; put_builtin(&mut printed, &classes, &mut reader, b"TObject").is_ok());
     assert!(rt; put_builtin(&mut printed, &classes, &mut reader, b"TArrayC").is_ok());
     assert!(rt;
