@@ -11,10 +11,8 @@ use Rattle.rio_format.specs.Descriptions.{description_classes}
 use Rattle.rio_format.specs.Slots.{any_pointer, link}
 use Rattle.rio_buffer.specs.Writer.{Writer}
 use Rattle.rio_format.specs.Written.{Writing, all, both, headed_bytes, just, writing_of}
-use Rattle.rio_describe.specs.ElementViews.{element_as}
 use Rattle.rio_format.specs.WrittenElements.{WrittenElement, base_element, member_element, written_elements}
 use Rattle.rio_format.specs.WrittenList.{class_pointer, element_object, linked}
-use Rattle.rio_describe.specs.declared.element.Element.{Element}
 use Rattle.rio_describe.specs.declared.element.ElementClass.{ElementClass}
 use Rattle.rio_describe.specs.declared.element.ElementClass.TheVariants.{Base as BaseElement, BasicType, BasicPointer, Text, Object, ObjectAny, ObjectPointer, ObjectAnyPointer}
 use Rattle.rio_write.specs.Writing.{pointer_to}
@@ -65,7 +63,7 @@ counted_added owner counter = number_bytes owner.version ++ (text_bytes counter 
 abbrev pub element_bytes : WrittenElement → List ℕ → List ℕ
 element_bytes e added = headed_object e.version (stated_bytes e ++ added)
 
--- what the class of an element of the code adds
+-- what the class of an element adds
 abbrev pub own_bytes : ElementClass → List ℕ
 own_bytes (BaseElement version) = number_bytes version
 own_bytes BasicType = []
@@ -75,10 +73,6 @@ own_bytes Object = []
 own_bytes ObjectAny = []
 own_bytes ObjectPointer = []
 own_bytes ObjectAnyPointer = []
-
--- the object of an element of the code
-abbrev pub object_bytes : Element → List ℕ
-object_bytes e = element_bytes (element_as e) (own_bytes e.class)
 
 -- what is written for an element: a pointer to its object
 abbrev pub element_writing : WrittenElement → Writing

@@ -1,16 +1,8 @@
 -- What the code that resolves values returns.
-use Rattle.std.specs.Prelude.{◌≡◌, ◌≢◌, List, [], ◌∷◌, ◌++◌, Option, Some, None, Result, Ok, Err}
+use Rattle.std.specs.Prelude.{◌≡◌, ◌≢◌, List, ◌++◌, Option, Some, None, Result, Ok, Err}
 use Rattle.std.specs.Option.{option_map}
-use Rattle.rio_types.specs.declared.class.Base.{Base}
-use Rattle.rio_format.specs.Bodies.{t_object_base}
-use Rattle.rio_valtext.specs.declared.resolving.ClassBases.{ClassBases}
-use Rattle.rio_valtext.specs.declared.resolving.ClassBases.TheVariants.{Listed, TObject}
 use Rattle.rio_valtext.specs.declared.resolving.ResolveFault.{ResolveFault}
 use Rattle.rio_valtext.specs.declared.resolving.ResolveFault.TheVariants.{NoMemory}
-
-abbrev pub bases_as : ClassBases → List Base
-bases_as (Listed bases) = bases.now
-bases_as TObject = t_object_base ∷ []
 
 -- Ok holds the resolved value. With an Err other than NoMemory there is none.
 abbrev pub Resolves : {A : Type 0} → Result A ResolveFault → Option A → Type 0
