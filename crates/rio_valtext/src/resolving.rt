@@ -1,8 +1,8 @@
 //! Values with the versions that their text leaves open.
 ghost use Rattle.std.specs.Prelude.{◌≡◌, [], ◌∷◌, map, option_and_then, IfOk, IfErr, Some, None};
-ghost use Rattle.rio_model.specs.Resolving.{ResolvedHasVersions, ResolvedStays, base_version, built_in_version, each_resolved, is_known_version, meant_version, newest_known, object_resolved, resolved, resolved_row, resolved_version, resolving_of, resolving_of_part};
 ghost use Rattle.rio_format.specs.Bodies.{t_object_base};
 ghost use Rattle.rio_format.specs.Slots.{body_bases, headed_body};
+ghost use Rattle.rio_model.specs.Resolving.{ResolvedHasVersions, ResolvedStays, base_version, built_in_version, each_resolved, is_known_version, meant_version, newest_known, object_resolved, resolved, resolved_row, resolved_version, resolving_of, resolving_of_part};
 ghost use Rattle.rio_valtext.specs.Resolves.{Resolves};
 
 use rio_format::{Body, BodyKind, declared_body, headed_version, is_headed};

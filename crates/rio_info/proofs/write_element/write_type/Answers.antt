@@ -7,5 +7,5 @@ use Rattle.rio_info.proofs.write_element.write_type.Goals as goal
 
 pub returns : goal.returns
 returns c =
-    subst (λ (name : List ℕ). Writes (just (text_bytes name)) c.put_text.result c.args.writer.now c.put_text.new.self) (rw c.if-branch.false at c.type_name.view_is)
+    subst (λ (name : List ℕ). Writes (just (text_bytes name)) c.put_text.result c.args.writer.now c.put_text.new.self) (rw c.if-type_name.false at c.type_name.view_is)
     (just_writes (text_bytes c.type_name.inside.name.now) _ _ _ c.put_text.ensures)
