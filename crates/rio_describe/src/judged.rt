@@ -126,7 +126,8 @@ fn judge_part<'a>(
     heirs: &mut BaseSet<'a>,
     part: &'a [ClassDef],
 ) -> Result<(), NoMemory>
-    ensures { OnOk result (Judged (listed lists.now) (map class_base part.now) heirs.old heirs.new) }
+    ensures { OnOk result
+        (Judged (listed lists.now) (map class_base part.now) heirs.old heirs.new) }
 {
     for class in part {
         judge(lists, heirs, class.name.as_slice(), class.version)?;

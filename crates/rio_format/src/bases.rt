@@ -4,7 +4,7 @@ ghost use Rattle.std.specs.Option.{option_map};
 ghost use Rattle.rio_format.specs.Bodies.{form_of, t_object_base};
 ghost use Rattle.rio_format.specs.Slots.{body_bases, derives_from, has_base, headed_body, is_headed};
 ghost use Rattle.rio_format.specs.Lists.{listed};
-ghost use Rattle.rio_format.specs.Bases.{AreClosed, Expanded, Pushed, any_direct, are_targets};
+ghost use Rattle.rio_format.specs.Bases.{Expanded, HaveVisitedBases, Pushed, any_direct, are_targets};
 ghost use Rattle.rio_format.specs.Visits.{base_of};
 
 use crate::base_set::BaseSet;
@@ -103,7 +103,7 @@ fn expand_round<'a>(
     visits: &mut BaseSet<'a>,
 ) -> Result<bool, NoMemory>
     requires begin { begin ≤ length visits.old }
-    requires closed { AreClosed (listed classes.now) target.now visits.old begin }
+    requires closed { HaveVisitedBases (listed classes.now) target.now visits.old begin }
     ensures found { IfOk result
         (λ found. found ≡ true → any_direct (listed classes.now) target.now visits.old ≡ true) }
     ensures expanded { IfOk result

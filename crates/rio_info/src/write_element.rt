@@ -5,7 +5,7 @@ ghost use Rattle.rio_num.specs.Text.{text_bytes};
 ghost use Rattle.rio_format.specs.Slots.{any_pointer};
 ghost use Rattle.rio_format.specs.Written.{just};
 ghost use Rattle.rio_write.specs.Writing.{HasRoom, Writes};
-ghost use Rattle.rio_info.specs.WrittenParts.{counted_added, element_numbers, element_writing, index_bytes, length_bytes, named_bytes, number_bytes, own_bytes, plain_bytes, stated_bytes};
+ghost use Rattle.rio_info.specs.WrittenParts.{counted_added, element_numbers, element_writing, four_bytes, index_bytes, length_bytes, named_bytes, own_bytes, plain_bytes, stated_bytes};
 
 use rio_buffer::ObjWriter;
 use rio_describe::{Element, ElementClass, TypeName};
@@ -43,7 +43,7 @@ pub(crate) fn write_count(writer: &mut ObjWriter, count: usize) -> Result<(), No
 
 // An i32.
 fn write_number(writer: &mut ObjWriter, number: i32) -> Result<(), NoMemory>
-    ensures { Writes (just (number_bytes number)) result writer.old writer.new }
+    ensures { Writes (just (four_bytes number)) result writer.old writer.new }
 {
     writer.put_u32(number.cast_unsigned())
 }

@@ -10,5 +10,5 @@ Resolves (Ok x) o = o ≡ Some x
 Resolves (Err e) o = e ≢ NoMemory → o ≡ None
 
 -- the items that were resolved so far, before the others
-abbrev pub with_front : {A : Type 0} → List A → Option (List A) → Option (List A)
-with_front front = option_map (λ xs. front ++ xs)
+abbrev pub with_resolved : {A : Type 0} → List A → Option (List A) → Option (List A)
+with_resolved front = option_map (λ xs. front ++ xs)

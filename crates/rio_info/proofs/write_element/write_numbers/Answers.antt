@@ -7,7 +7,7 @@ use Rattle.rio_format.specs.WrittenElements.{WrittenElement}
 use Rattle.rio_buffer.specs.Writer.{with_bytes}
 use Rattle.rio_write.specs.Writing.{Writes, with_written}
 use Rattle.rio_write.proofs.WriteLaws.{both_writes}
-use Rattle.rio_info.specs.WrittenParts.{element_numbers, index_bytes, number_bytes}
+use Rattle.rio_info.specs.WrittenParts.{element_numbers, four_bytes, index_bytes}
 use Rattle.rio_info.proofs.WritingLaws.{low_bytes, put_then}
 use Rattle.rio_info.proofs.write_element.write_numbers.Goals as goal
 
@@ -15,7 +15,7 @@ pub returns : goal.returns
 returns c =
     let e = c.element.inside in
     let fits : SFits w32 e.code = search rules in
-    let code = number_bytes e.code in
+    let code = four_bytes e.code in
     let coded : c.write_number.new.writer ≡ with_written (just code) c.args.writer.now = simp to_z-of_z at c.in_ok-write_number.ensures in
     let counted : c.unwrap_or-count.result ≡ unwrap_or e.array 0 = search rules in
     let dimensioned : c.from.result ≡ option_map_or (λ _. 1) e.array 0 = search rules in
