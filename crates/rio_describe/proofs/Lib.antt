@@ -1,2 +1,1 @@
 mod HeirLaws
-mod HeirSet

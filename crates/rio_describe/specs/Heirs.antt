@@ -7,11 +7,6 @@ use Rattle.rio_types.specs.declared.class.ClassDef.{ClassDef}
 use Rattle.rio_format.specs.Bases.{visit_bases}
 use Rattle.rio_format.specs.Slots.{has_base}
 use Rattle.rio_format.specs.Visits.{base_of, is_visited}
-use Rattle.rio_describe.specs.declared.heirs.Heir.{Heir}
-
--- the class and version of an heir
-abbrev pub heir_as : Heir → Base
-heir_as h = base_of h.name.now h.version
 
 -- the class in the version has a TObject among its bases, at any depth
 abbrev pub is_heir : List ClassDef → List ℕ → ℤ → Bool

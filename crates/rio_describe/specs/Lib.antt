@@ -1,2 +1,2 @@
-pub mod ElementViews
+pub mod ElementClasses
 pub mod Heirs

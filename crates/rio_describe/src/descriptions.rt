@@ -1,6 +1,6 @@
 //! The classes of the objects that describe classes.
 ghost use Rattle.std.specs.Prelude.{◌≡◌, IfOk};
-ghost use Rattle.rio_format.specs.Descriptions.{bare_element, base_element, counted_element, describing, description_classes, element_base, element_class, info_class};
+ghost use Rattle.rio_format.specs.Descriptions.{bare_element, base_element_class, counted_element_class, describing, description_classes, element_base, element_class, info_class};
 
 use crate::class::{describing, named_base, push};
 use rio_num::{Name, NoMemory};
@@ -76,8 +76,8 @@ fn element(
     describing(alloc, name, version, sum, base, members)
 }
 
-fn base_element(alloc: Global) -> Result<ClassDef, NoMemory>
-    ensures { IfOk result (λ class. class ≡ base_element) }
+fn base_element_class(alloc: Global) -> Result<ClassDef, NoMemory>
+    ensures { IfOk result (λ class. class ≡ base_element_class) }
 {
     let mut members = Members::new(alloc);
     push(
@@ -89,8 +89,8 @@ fn base_element(alloc: Global) -> Result<ClassDef, NoMemory>
     element(alloc, b"TStreamerBase", 3, 2_469_373_253, members)
 }
 
-fn counted_element(alloc: Global) -> Result<ClassDef, NoMemory>
-    ensures { IfOk result (λ class. class ≡ counted_element) }
+fn counted_element_class(alloc: Global) -> Result<ClassDef, NoMemory>
+    ensures { IfOk result (λ class. class ≡ counted_element_class) }
 {
     let mut members = Members::new(alloc);
     push(
@@ -120,8 +120,8 @@ pub fn description_classes(alloc: Global) -> Result<Classes, NoMemory>
     let mut classes = Classes::new(alloc);
     classes.push(info_class(alloc)?)?;
     classes.push(element_class(alloc)?)?;
-    classes.push(base_element(alloc)?)?;
-    classes.push(counted_element(alloc)?)?;
+    classes.push(base_element_class(alloc)?)?;
+    classes.push(counted_element_class(alloc)?)?;
     classes.push(bare_element(alloc, b"TStreamerBasicType", 2, 3_946_468_268)?)?;
     classes.push(bare_element(alloc, b"TStreamerObject", 2, 333_481_419)?)?;
     classes.push(bare_element(alloc, b"TStreamerObjectAny", 2, 1_280_426_895)?)?;

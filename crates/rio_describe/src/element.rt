@@ -1,8 +1,10 @@
 //! What is written for a base or a member of a class.
 use rio_types::ClassDef;
+use std::marker::Model;
 
-/// What is written for a base or a member of a class: an object of a class of elements.
-#[derive(Clone, Copy)]
+/// What is written for a base or a member of a class: an object of a class of elements. Contracts see it as it is
+/// written.
+#[derive(Drop)]
 pub struct Element<'a> {
     /// The element's own class, with what that adds.
     pub class: ElementClass<'a>,
@@ -18,13 +20,72 @@ pub struct Element<'a> {
     pub type_name: TypeName<'a>,
 }
 
-/// The name of an element's type.
-#[derive(Clone, Copy)]
-pub enum TypeName<'a> {
+impl<'a> Model for Element<'a> {
+    ghost use Rattle.std.specs.Coded.{codes};
+    ghost use Rattle.std.specs.Option.{option_map_or, unwrap_or};
+    ghost use Rattle.rio_value.specs.contracts.value.Value as values;
+    ghost use Rattle.rio_format.specs.WrittenElements.{WrittenElement};
+
+    ghost Value = { WrittenElement };
+
+    ghost coded = { Prim.hlevel (codes, values.the_row.coded) };
+
+    ghost use Rattle.rio_describe.specs.ElementClasses.{added_parts, element_class_name, element_class_version};
+
+    ghost view = { λ e. record {
+      class = element_class_name e.class;
+      version = element_class_version e.class;
+      name = e.name.now;
+      code = e.code;
+      size = e.size;
+      count = unwrap_or e.array 0;
+      dimensions = option_map_or (λ _. 1) e.array 0;
+      type_name = e.type_name;
+      added = added_parts e.class;
+    } };
+}
+
+/// The name of an element's type. Contracts see its bytes.
+#[derive(Drop)]
+pub struct TypeName<'a> {
+    /// The name, or that of what it points to.
+    pub name: &'a [u8],
+    /// Whether it is a pointer's, which has an asterisk behind the name.
+    pub is_pointer: bool,
+}
+
+impl<'a> Model for TypeName<'a> {
+    ghost use Rattle.std.specs.Prelude.{ℕ, List, if◌then◌else◌};
+    ghost use Rattle.rio_format.specs.WrittenElements.{starred};
+
+    ghost Value = { List ℕ };
+
+    ghost view = { λ t. if t.is_pointer then starred t.name.now else t.name.now };
+}
+
+impl<'a> TypeName<'a> {
+    ghost use Rattle.std.specs.Prelude.{◌≡◌};
+    ghost use Rattle.rio_format.specs.WrittenElements.{starred};
+
     /// This name.
-    Value(&'a [u8]),
-    /// This name with an asterisk behind it.
-    Pointer(&'a [u8]),
+    pub(crate) fn of(name: &'a [u8]) -> TypeName<'a>
+        ensures { result ≡ name.now }
+    {
+        TypeName {
+            name,
+            is_pointer: false,
+        }
+    }
+
+    /// The name of a pointer to what has this name.
+    pub(crate) fn pointer_to(name: &'a [u8]) -> TypeName<'a>
+        ensures { result ≡ starred name.now }
+    {
+        TypeName {
+            name,
+            is_pointer: true,
+        }
+    }
 }
 
 /// A class of elements, with what it adds to a TStreamerElement.
@@ -53,15 +114,14 @@ pub enum ElementClass<'a> {
     ObjectAnyPointer,
 }
 
-impl<'a> ElementClass<'a> {
-    ghost use Rattle.std.specs.Prelude.{◌≡◌};
-    ghost use Rattle.rio_describe.specs.ElementViews.{own_class, own_version};
+impl<'a> Element<'a> {
+    ghost use Rattle.std.specs.Prelude.{◌≡◌, pos};
 
-    /// The name of the class.
-    pub fn name(self) -> &'static [u8]
-        ensures { result.now ≡ own_class self.entry }
+    /// The name of its own class.
+    pub fn class_name(&self) -> &'static [u8]
+        ensures { result.now ≡ self.now.class }
     {
-        match self {
+        match self.class {
             ElementClass::Base { .. } => b"TStreamerBase",
             ElementClass::BasicType => b"TStreamerBasicType",
             ElementClass::BasicPointer { .. } => b"TStreamerBasicPointer",
@@ -73,11 +133,11 @@ impl<'a> ElementClass<'a> {
         }
     }
 
-    /// The version in which it is written.
-    pub fn version(self) -> u16
-        ensures { result ≡ own_version self.entry }
+    /// The version in which its own class is written.
+    pub fn class_version(&self) -> u16
+        ensures { pos result ≡ self.now.version }
     {
-        match self {
+        match self.class {
             ElementClass::Base { .. } => 3,
             ElementClass::ObjectAnyPointer => 1,
             _ => 2,

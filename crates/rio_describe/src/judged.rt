@@ -6,8 +6,7 @@ ghost use Rattle.rio_format.specs.Lists.{listed};
 ghost use Rattle.rio_format.specs.Visits.{base_of};
 ghost use Rattle.rio_describe.specs.Heirs.{AreTheHeirs, Judged, built_in_bases, candidates_of, class_base, has_reaching, is_heir};
 
-use crate::heirs::Heirs;
-use rio_format::{ClassLists, headed_version, is_headed};
+use rio_format::{BaseSet, ClassLists, headed_version, is_headed};
 use rio_num::NoMemory;
 use rio_types::{Base, ClassDef, Classes};
 use std::alloc::Global;
@@ -18,7 +17,7 @@ use std::marker::Model;
 #[derive(Drop)]
 pub struct JudgedLists<'a> {
     lists: ClassLists<'a>,
-    heirs: Heirs<'a>,
+    heirs: BaseSet<'a>,
 }
 
 impl<'a> Model for JudgedLists<'a> {
@@ -58,7 +57,7 @@ impl<'a> JudgedLists<'a> {
 }
 
 // Whether one of the bases is a TObject or a known heir.
-fn has_reaching(heirs: &Heirs, bases: &[Base]) -> bool
+fn has_reaching(heirs: &BaseSet, bases: &[Base]) -> bool
     ensures { result ≡ has_reaching heirs.now bases.now }
 {
     for base in bases {
@@ -81,7 +80,7 @@ fn is_built_in(class: &[u8], version: i32) -> bool
 }
 
 // Whether one of the bases of the class in this version is a TObject or a known heir.
-fn reaches_by_bases(lists: &ClassLists, heirs: &Heirs, class: &[u8], version: i32) -> bool
+fn reaches_by_bases(lists: &ClassLists, heirs: &BaseSet, class: &[u8], version: i32) -> bool
     ensures { result
         ≡ has_reaching heirs.now (visit_bases (listed lists.now) (base_of class.now version)) }
 {
@@ -100,7 +99,7 @@ fn reaches_by_bases(lists: &ClassLists, heirs: &Heirs, class: &[u8], version: i3
 // The class in this version is among the heirs from then on, where its bases tell it.
 fn judge<'a>(
     lists: &ClassLists<'a>,
-    heirs: &mut Heirs<'a>,
+    heirs: &mut BaseSet<'a>,
     class: &'a [u8],
     version: i32,
 ) -> Result<(), NoMemory>
@@ -113,7 +112,7 @@ fn judge<'a>(
     Ok(())
 }
 
-fn judge_built_in<'a>(lists: &ClassLists<'a>, heirs: &mut Heirs<'a>) -> Result<(), NoMemory>
+fn judge_built_in<'a>(lists: &ClassLists<'a>, heirs: &mut BaseSet<'a>) -> Result<(), NoMemory>
     ensures { OnOk result (Judged (listed lists.now) built_in_bases heirs.old heirs.new) }
 {
     judge(lists, heirs, b"TNamed", 1)?;
@@ -124,10 +123,11 @@ fn judge_built_in<'a>(lists: &ClassLists<'a>, heirs: &mut Heirs<'a>) -> Result<(
 
 fn judge_part<'a>(
     lists: &ClassLists<'a>,
-    heirs: &mut Heirs<'a>,
+    heirs: &mut BaseSet<'a>,
     part: &'a [ClassDef],
 ) -> Result<(), NoMemory>
-    ensures { OnOk result (Judged (listed lists.now) (map class_base part.now) heirs.old heirs.new) }
+    ensures { OnOk result
+        (Judged (listed lists.now) (map class_base part.now) heirs.old heirs.new) }
 {
     for class in part {
         judge(lists, heirs, class.name.as_slice(), class.version)?;
@@ -138,7 +138,7 @@ fn judge_part<'a>(
 // The classes of both lists, one behind the other.
 fn judge_both<'a>(
     lists: &ClassLists<'a>,
-    heirs: &mut Heirs<'a>,
+    heirs: &mut BaseSet<'a>,
     first: &'a Classes,
     second: &'a Classes,
 ) -> Result<(), NoMemory>
@@ -149,7 +149,7 @@ fn judge_both<'a>(
     judge_part(lists, heirs, second.as_slice())
 }
 
-fn judge_described<'a>(lists: &ClassLists<'a>, heirs: &mut Heirs<'a>) -> Result<(), NoMemory>
+fn judge_described<'a>(lists: &ClassLists<'a>, heirs: &mut BaseSet<'a>) -> Result<(), NoMemory>
     ensures { OnOk result
         (Judged (listed lists.now) (map class_base (listed lists.now)) heirs.old heirs.new) }
 {
@@ -164,7 +164,7 @@ fn judge_described<'a>(lists: &ClassLists<'a>, heirs: &mut Heirs<'a>) -> Result<
 }
 
 // All that may have bases, once.
-fn judge_each<'a>(lists: &ClassLists<'a>, heirs: &mut Heirs<'a>) -> Result<(), NoMemory>
+fn judge_each<'a>(lists: &ClassLists<'a>, heirs: &mut BaseSet<'a>) -> Result<(), NoMemory>
     ensures { OnOk result
         (Judged (listed lists.now) (candidates_of (listed lists.now)) heirs.old heirs.new) }
 {
@@ -173,10 +173,10 @@ fn judge_each<'a>(lists: &ClassLists<'a>, heirs: &mut Heirs<'a>) -> Result<(), N
 }
 
 // The heirs: a class whose bases stand before it is found the first time, so that mostly the second time finds no more.
-fn heirs_of<'a>(alloc: Global, lists: &ClassLists<'a>) -> Result<Heirs<'a>, NoMemory>
+fn heirs_of<'a>(alloc: Global, lists: &ClassLists<'a>) -> Result<BaseSet<'a>, NoMemory>
     ensures { IfOk result (λ heirs. AreTheHeirs (listed lists.now) heirs) }
 {
-    let mut heirs = Heirs::new(alloc);
+    let mut heirs = BaseSet::new(alloc);
     let mut left = lists.len() + 1;
     while left > 0 {
         left -= 1;

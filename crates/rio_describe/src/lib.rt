@@ -6,7 +6,6 @@
 mod class;
 mod descriptions;
 mod element;
-mod heirs;
 mod judged;
 mod members;
 mod numbers;

@@ -1,7 +1,6 @@
 //! Elements of the bases and members of a class.
 ghost use Rattle.std.specs.Prelude.{◌≡◌};
 ghost use Rattle.rio_format.specs.Lists.{listed};
-ghost use Rattle.rio_describe.specs.ElementViews.{element_as};
 ghost use Rattle.rio_format.specs.WrittenElements.{base_code, base_element, inline_element, kind_element, member_element, pointer_element, text_element};
 
 use crate::element::{Element, ElementClass, TypeName};
@@ -28,7 +27,7 @@ fn base_code(class: &[u8]) -> u8
 
 /// What is written for a base of a class.
 pub fn base_element<'a>(base: &'a Base) -> Element<'a>
-    ensures { element_as result ≡ base_element base.now }
+    ensures { result ≡ base_element base.now }
 {
     let name = base.name.as_slice();
     Element {
@@ -39,14 +38,14 @@ pub fn base_element<'a>(base: &'a Base) -> Element<'a>
         code: i32::from(base_code(name)),
         size: 0,
         array: None,
-        type_name: TypeName::Value(b"BASE"),
+        type_name: TypeName::of(b"BASE"),
     }
 }
 
 // ---- members
 
 fn text_element<'a>(name: &'a [u8]) -> Element<'a>
-    ensures { element_as result ≡ text_element name.now }
+    ensures { result ≡ text_element name.now }
 {
     Element {
         class: ElementClass::Text,
@@ -54,13 +53,13 @@ fn text_element<'a>(name: &'a [u8]) -> Element<'a>
         code: 65,
         size: 0,
         array: None,
-        type_name: TypeName::Value(b"TString"),
+        type_name: TypeName::of(b"TString"),
     }
 }
 
 // An object within the object, by whether it reaches TObject.
 fn inline_element<'a>(reaches: bool, name: &'a [u8], class: &'a [u8]) -> Element<'a>
-    ensures { element_as result ≡ inline_element reaches name.now class.now }
+    ensures { result ≡ inline_element reaches name.now class.now }
 {
     let (own, code) = if reaches {
         (ElementClass::Object, 61)
@@ -73,13 +72,13 @@ fn inline_element<'a>(reaches: bool, name: &'a [u8], class: &'a [u8]) -> Element
         code,
         size: 0,
         array: None,
-        type_name: TypeName::Value(class),
+        type_name: TypeName::of(class),
     }
 }
 
 // A pointer, by whether its class reaches TObject.
 fn pointer_element<'a>(reaches: bool, name: &'a [u8], class: &'a [u8]) -> Element<'a>
-    ensures { element_as result ≡ pointer_element reaches name.now class.now }
+    ensures { result ≡ pointer_element reaches name.now class.now }
 {
     let (own, code) = if reaches {
         (ElementClass::ObjectPointer, 64)
@@ -92,7 +91,7 @@ fn pointer_element<'a>(reaches: bool, name: &'a [u8], class: &'a [u8]) -> Elemen
         code,
         size: 0,
         array: None,
-        type_name: TypeName::Pointer(class),
+        type_name: TypeName::pointer_to(class),
     }
 }
 
@@ -103,7 +102,7 @@ fn kind_element<'a>(
     name: &'a [u8],
     kind: &'a Kind,
 ) -> Element<'a>
-    ensures { element_as result ≡ kind_element (listed classes.now) owner.now name.now kind.now }
+    ensures { result ≡ kind_element (listed classes.now) owner.now name.now kind.now }
 {
     match kind {
         Kind::Plain { of } => plain_element(name, *of),
@@ -130,7 +129,7 @@ pub fn member_element<'a>(
     owner: &'a ClassDef,
     member: &'a Member,
 ) -> Element<'a>
-    ensures { element_as result ≡ member_element (listed classes.now) owner.now member.now }
+    ensures { result ≡ member_element (listed classes.now) owner.now member.now }
 {
     kind_element(classes, owner, member.name.as_slice(), &member.kind)
 }

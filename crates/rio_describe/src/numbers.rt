@@ -1,7 +1,6 @@
 //! Elements of numbers, single ones and arrays of them.
 ghost use Rattle.std.specs.Prelude.{◌≡◌, ◌*◌};
 ghost use Rattle.rio_format.specs.Prims.{width_of};
-ghost use Rattle.rio_describe.specs.ElementViews.{element_as};
 ghost use Rattle.rio_format.specs.WrittenElements.{basic_element, counted_element, counter_element, fixed_element, plain_element, primitive_code, primitive_name};
 
 use crate::element::{Element, ElementClass, TypeName};
@@ -52,7 +51,7 @@ pub(crate) fn basic_element<'a>(
     size: u64,
     type_name: &'static [u8],
 ) -> Element<'a>
-    ensures { element_as result ≡ basic_element name.now code size type_name.now }
+    ensures { result ≡ basic_element name.now code size type_name.now }
 {
     Element {
         class: ElementClass::BasicType,
@@ -60,19 +59,19 @@ pub(crate) fn basic_element<'a>(
         code,
         size,
         array: None,
-        type_name: TypeName::Value(type_name),
+        type_name: TypeName::of(type_name),
     }
 }
 
 pub(crate) fn plain_element<'a>(name: &'a [u8], of: Prim) -> Element<'a>
-    ensures { element_as result ≡ plain_element name.now of }
+    ensures { result ≡ plain_element name.now of }
 {
     let code = i32::from(primitive_code(of));
     basic_element(name, code, width_of(of), primitive_name(of))
 }
 
 pub(crate) fn counter_element<'a>(name: &'a [u8]) -> Element<'a>
-    ensures { element_as result ≡ counter_element name.now }
+    ensures { result ≡ counter_element name.now }
 {
     basic_element(name, 6, 4, b"int")
 }
@@ -86,7 +85,7 @@ fn fixed_size(of: Prim, count: u32) -> u64
 
 /// An array of so many values.
 pub(crate) fn fixed_element<'a>(name: &'a [u8], of: Prim, count: u32) -> Element<'a>
-    ensures { element_as result ≡ fixed_element name.now of count }
+    ensures { result ≡ fixed_element name.now of count }
 {
     Element {
         class: ElementClass::BasicType,
@@ -94,7 +93,7 @@ pub(crate) fn fixed_element<'a>(name: &'a [u8], of: Prim, count: u32) -> Element
         code: i32::from(primitive_code(of)) + 20,
         size: fixed_size(of, count),
         array: Some(count),
-        type_name: TypeName::Value(primitive_name(of)),
+        type_name: TypeName::of(primitive_name(of)),
     }
 }
 
@@ -105,7 +104,7 @@ pub(crate) fn counted_element<'a>(
     of: Prim,
     counter: &'a [u8],
 ) -> Element<'a>
-    ensures { element_as result ≡ counted_element owner.now name.now of counter.now }
+    ensures { result ≡ counted_element owner.now name.now of counter.now }
 {
     Element {
         class: ElementClass::BasicPointer { owner, counter },
@@ -113,6 +112,6 @@ pub(crate) fn counted_element<'a>(
         code: i32::from(primitive_code(of)) + 40,
         size: 0,
         array: None,
-        type_name: TypeName::Pointer(primitive_name(of)),
+        type_name: TypeName::pointer_to(primitive_name(of)),
     }
 }

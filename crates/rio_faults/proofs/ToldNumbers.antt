@@ -10,7 +10,7 @@ use Rattle.rio_types.specs.declared.kind.Primitive.{Primitive}
 use Rattle.rio_value.specs.declared.value.Value.{Value, List as Items}
 use Rattle.rio_buffer.specs.Frames.{Step, lifted, word_at}
 use Rattle.rio_format.specs.Objects.{each_at, times_at, number_value_at, numbers_at, filled_at, counted_at}
-use Rattle.rio_format.specs.Prims.{width_of, value_of}
+use Rattle.rio_format.specs.Prims.{width_of, value_of_prim}
 use Rattle.rio_format.specs.Spelling.{Spelling, SpellsNumber}
 use Rattle.rio_buffer.specs.ReaderState.{ReaderState}
 use Rattle.rio_buffer.specs.declared.fault.ObjFault.{ObjFault}
@@ -103,7 +103,7 @@ word_told n back next f s e fits behind h = step_told (word_at n) (IsShort n) (S
 
 pub number_told : (of : Primitive) → IsTold (number_value_at of) (BreaksNumber of)
 unfolding number_value_at
-number_told of s e fits h = word_short (width_of of) s e fits (pure_err (word_at (width_of of) s) (λ (n : ℕ × ReaderState). (value_of of n.0, n.1)) e h)
+number_told of s e fits h = word_short (width_of of) s e fits (pure_err (word_at (width_of of) s) (λ (n : ℕ × ReaderState). (value_of_prim of n.0, n.1)) e h)
 
 pub numbers_told : (of : Primitive) (count : ℕ) → IsTold (numbers_at of count) (BreaksNumbers of count)
 unfolding numbers_at

@@ -1,7 +1,7 @@
 //! Which classes may be pointed to.
 ghost use Rattle.std.specs.Prelude.{◌≡◌, ◌==◌, IfOk};
 ghost use Rattle.std.specs.List.{list_any};
-ghost use Rattle.rio_format.specs.Slots.{can_be_put, is_word};
+ghost use Rattle.rio_format.specs.Slots.{can_be_put, can_be_word};
 ghost use Rattle.rio_format.specs.Fits.{is_pointer, may_point};
 
 use rio_format::{ClassLists, Slot, SlotKind, derives_from, is_headed};
@@ -17,8 +17,8 @@ fn has_zero(bytes: &[u8]) -> bool
 }
 
 // Whether a class word can spell the name.
-fn is_word(class: &[u8]) -> bool
-    ensures { result ≡ is_word class.now }
+fn can_be_word(class: &[u8]) -> bool
+    ensures { result ≡ can_be_word class.now }
 {
     !has_zero(class)
 }
@@ -60,7 +60,7 @@ pub(crate) fn may_point(
     ensures { IfOk result (λ b. b ≡ may_point classes.now owner.now slot.now) }
 {
     let (class, version) = (owner.class, owner.version);
-    if !is_word(class) {
+    if !can_be_word(class) {
         return Ok(false);
     }
     match slot.0 {

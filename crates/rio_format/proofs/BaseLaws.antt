@@ -16,7 +16,7 @@ use Rattle.rio_types.specs.declared.class.Base.{Base}
 use Rattle.rio_types.specs.declared.class.ClassDef.{ClassDef}
 use Rattle.rio_format.specs.Bodies.{Body}
 use Rattle.rio_format.specs.Slots.{body_bases, has_base, headed_body}
-use Rattle.rio_format.specs.Bases.{AreClosed, Expanded, IsClosed, Pushed, any_below, any_direct, are_targets, are_visited, has_among, visit_bases}
+use Rattle.rio_format.specs.Bases.{Expanded, HasVisitedBases, HaveVisitedBases, Pushed, any_below, any_direct, are_targets, are_visited, has_among, visit_bases}
 use Rattle.rio_format.specs.Visits.{base_of, is_visited, same_base, with_visit}
 
 or_left : (a b : Bool) → a ≡ true → (a || b) ≡ true
@@ -169,27 +169,27 @@ module _ (classes : List ClassDef) (target : List ℕ) where
       (λ h. among_visited levels visits bs parts.1 h)
       e
 
-  below_closed : (levels : ℕ) (old new : List Base) → All (IsClosed classes target new) old → any_below classes target (suc levels) old ≡ true → any_below classes target levels new ≡ true
+  below_closed : (levels : ℕ) (old new : List Base) → All (HasVisitedBases classes target new) old → any_below classes target (suc levels) old ≡ true → any_below classes target levels new ≡ true
   unfolding has_base
   below_closed levels [] new closed e = absurd cc
   below_closed levels (v ∷ vs) new closed e =
       either (has_among classes target levels (visit_bases classes v)) (any_below classes target (suc levels) vs)
-      (λ h. among_visited levels new (visit_bases classes v) (All-head (IsClosed classes target new) v vs closed) h)
-      (λ h. below_closed levels vs new (All-tail (IsClosed classes target new) v vs closed) h)
+      (λ h. among_visited levels new (visit_bases classes v) (All-head (HasVisitedBases classes target new) v vs closed) h)
+      (λ h. below_closed levels vs new (All-tail (HasVisitedBases classes target new) v vs closed) h)
       e
 
   -- the first of the visits, as far as they are closed
-  all_closed : (old more new : List Base) → new ≡ old ++ more → AreClosed classes target new (length old) → All (IsClosed classes target new) old
+  all_closed : (old more new : List Base) → new ≡ old ++ more → HaveVisitedBases classes target new (length old) → All (HasVisitedBases classes target new) old
   all_closed old more new is closed = λ i d lt.
       let there : get_or new i d ≡ get_or old i d = ap (λ (visits : List Base). get_or visits i d) is ∙ get_or-append old more d i lt in
-      subst (IsClosed classes target new) there (closed i d (omega arith) lt)
+      subst (HasVisitedBases classes target new) there (closed i d (omega arith) lt)
 
   pub nothing_below : (visits : List Base) → any_below classes target 0 visits ≡ false
   unfolding has_base
   nothing_below [] = refl
   nothing_below (v ∷ vs) = nothing_below vs
 
-  pub none_below : (visits : List Base) → AreClosed classes target visits (length visits) → (levels : ℕ) → any_below classes target levels visits ≡ false
+  pub none_below : (visits : List Base) → HaveVisitedBases classes target visits (length visits) → (levels : ℕ) → any_below classes target levels visits ≡ false
   none_below visits closed zero = nothing_below visits
   none_below visits closed (suc levels) =
       not_where (any_below classes target (suc levels) visits) (any_below classes target levels visits)
@@ -225,7 +225,7 @@ module _ (classes : List ClassDef) (target : List ℕ) where
       let test : Base → Bool = λ v. has_base (suc levels) classes target v.name v.version in
       list_any_at test visits k v lt (ap test is ∙ e)
 
-  pub expanded_none : (visits : List Base) (n : ℕ) → AreClosed classes target visits n → Expanded classes target visits visits n
+  pub expanded_none : (visits : List Base) (n : ℕ) → HaveVisitedBases classes target visits n → Expanded classes target visits visits n
   expanded_none visits n closed = record {
     more = [];
     is = sym (append-nil visits);
@@ -247,24 +247,24 @@ module _ (classes : List ClassDef) (target : List ℕ) where
       let test : Base → Bool = λ v. are_targets target (visit_bases classes v) in
       list_any_at test old k v lt (ap test (same_visit old mid k v x lt is) ∙ (rw bodied at e))
 
-  closed_longer : (visits more : List Base) (n : ℕ) → n ≤ length visits → AreClosed classes target visits n → AreClosed classes target (visits ++ more) n
+  closed_longer : (visits more : List Base) (n : ℕ) → n ≤ length visits → HaveVisitedBases classes target visits n → HaveVisitedBases classes target (visits ++ more) n
   closed_longer visits more n le closed = λ i d low high.
       let lt : i < length visits = omega arith in
-      let there : IsClosed classes target (visits ++ more) (get_or visits i d) = are_visited_longer target visits more (visit_bases classes (get_or visits i d)) (closed i d low high) in
-      subst (IsClosed classes target (visits ++ more)) (sym (get_or-append visits more d i lt)) there
+      let there : HasVisitedBases classes target (visits ++ more) (get_or visits i d) = are_visited_longer target visits more (visit_bases classes (get_or visits i d)) (closed i d low high) in
+      subst (HasVisitedBases classes target (visits ++ more)) (sym (get_or-append visits more d i lt)) there
 
   pub expanded_then : (old mid new : List Base) (k : ℕ) (v : Base) (body : Option Body) → Expanded classes target old mid k → k < length old → Some v ≡ slice_get mid k → body ≡ headed_body classes v.name v.version → Pushed target (body_bases body) mid new → Expanded classes target old new (k + 1)
   expanded_then old mid new k v body x lt is bodied pushed =
       let p : Pushed target (visit_bases classes v) mid new = rw (← bodied) pushed in
       let within : k < length mid = omega (arith, ap length x.is, length-append old x.more) in
       let here = same_visit old mid k v x lt is in
-      let C : Base → Type 0 = IsClosed classes target (mid ++ p.more) in
+      let C : Base → Type 0 = HasVisitedBases classes target (mid ++ p.more) in
       let v-closed : C v = rw p.is at p.visited in
       let there : (d : Base) → get_or (mid ++ p.more) k d ≡ v = λ d. get_or-append mid p.more d k within ∙ get_or_from_slice_get mid k v d (sym is) in
       record {
         more = x.more ++ p.more;
         is = rw (p.is, x.is) (append_assoc old x.more p.more);
-        closed = subst (λ visits. AreClosed classes target visits (k + 1)) (sym p.is)
+        closed = subst (λ visits. HaveVisitedBases classes target visits (k + 1)) (sym p.is)
             (AllWithin-more C (mid ++ p.more) 0 k (closed_longer mid p.more k (omega arith) x.closed) (λ d. subst C (sym (there d)) v-closed));
         below = λ levels e.
             either (any_below classes target levels x.more) (any_below classes target levels p.more)

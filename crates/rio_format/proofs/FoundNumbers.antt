@@ -12,7 +12,7 @@ use Rattle.rio_types.specs.declared.kind.Primitive.TheVariants.{I8, I16, I32, I6
 use Rattle.rio_value.specs.declared.value.Value.{Value, Text, List as Items}
 use Rattle.rio_buffer.specs.Frames.{Step, lifted, word_at, chars_at}
 use Rattle.rio_format.specs.Objects.{each_at, times_at, number_value_at, numbers_at, filled_at, counted_at, text_value_at}
-use Rattle.rio_format.specs.Prims.{width_of, value_of}
+use Rattle.rio_format.specs.Prims.{width_of, value_of_prim}
 use Rattle.rio_format.specs.Spelling.{Spelling, SpellsEach, SpellsTimes, SpellsNumber, SpellsNumbers, SpellsCounted, IsText}
 use Rattle.rio_buffer.specs.ReaderState.{ReaderState}
 use Rattle.rio_buffer.specs.declared.fault.ObjFault.{ObjFault}
@@ -140,14 +140,14 @@ back_width F64 = back_8
 pub number_value_found : (of : Primitive) → IsFound (number_value_at of) (SpellsNumber of)
 unfolding number_value_at
 number_value_found of s v s' fits e =
-    let w = bind_ok (word_at (width_of of) s) (λ n. Ok (value_of of n.0, n.1)) (v, s') e in
+    let w = bind_ok (word_at (width_of of) s) (λ n. Ok (value_of_prim of n.0, n.1)) (v, s') e in
     let f = word_found (width_of of) (back_width of) s w.0.0 w.0.1 fits w.1 in
-    let made : Found (SpellsNumber of) s (value_of of w.0.0) w.0.1 = record {
+    let made : Found (SpellsNumber of) s (value_of_prim of w.0.0) w.0.1 = record {
       bytes = big_bytes (width_of of) w.0.0;
       took = f.took;
       spelled = record { n = w.0.0; fits = f.fits; value = refl; spelled = refl; words = f.same };
     } in
-    given (SpellsNumber of) s (value_of of w.0.0) w.0.1 v s' w.2 made
+    given (SpellsNumber of) s (value_of_prim of w.0.0) w.0.1 v s' w.2 made
 
 pub numbers_found : (of : Primitive) (count : ℕ) → IsFound (numbers_at of count) (SpellsNumbers of count)
 unfolding numbers_at

@@ -14,7 +14,6 @@ mod ListLaws
 pub mod ObjectLaws
 pub mod Tests
 pub mod ValueCases
-mod VisitLaws
 pub mod WrittenArrays
 pub mod WrittenBodies
 pub mod WrittenFields

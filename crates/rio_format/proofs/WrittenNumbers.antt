@@ -8,10 +8,10 @@ use Rattle.rio_types.specs.declared.kind.Primitive.{Primitive}
 use Rattle.rio_types.specs.declared.kind.Primitive.TheVariants.{I8, I16, I32, I64, U8, U16, U32, U64, Bool as Boolean, F32, F64}
 use Rattle.rio_value.specs.declared.value.Value.{Int, Bits32, Bits64, Bool as Truth}
 use Rattle.rio_format.specs.Fits.{fits_prim, fits_signed, fits_unsigned}
-use Rattle.rio_format.specs.Prims.{width_of, value_of}
+use Rattle.rio_format.specs.Prims.{width_of, value_of_prim}
 use Rattle.rio_format.specs.Spelling.{IsNumber}
 use Rattle.rio_buffer.specs.ReaderState.{WordsMet}
-use Rattle.rio_format.specs.Written.{bits_of, truth_byte}
+use Rattle.rio_format.specs.Written.{truth_byte, width_in_bits}
 
 signed_8 : (z : ℤ) → fits_signed 8 z ≡ true → cast_signed w8 (cast_unsigned w8 z) ≡ z
 signed_8 z e = grind (arith, ints)
@@ -64,7 +64,7 @@ unsigned_low_64 z e = grind (arith, ints)
 -- ---- integers
 
 abbrev IsIn : Primitive → ℤ → Type 0
-IsIn of z = (cast_unsigned (bits_of of) z < 256 ^ width_of of) × (Int z ≡ value_of of (cast_unsigned (bits_of of) z))
+IsIn of z = (cast_unsigned (width_in_bits of) z < 256 ^ width_of of) × (Int z ≡ value_of_prim of (cast_unsigned (width_in_bits of) z))
 
 int_in : (of : Primitive) (z : ℤ) → fits_prim of z ≡ true → IsIn of z
 int_in I8 z e = (signed_low_8 z e, ap Int (sym (signed_8 z e)))
@@ -79,8 +79,8 @@ int_in Boolean z e = absurd cc
 int_in F32 z e = absurd cc
 int_in F64 z e = absurd cc
 
-pub int_number : (of : Primitive) (z : ℤ) (t : WordsMet) → fits_prim of z ≡ true → IsNumber of t (Int z) (big_bytes (width_of of) (cast_unsigned (bits_of of) z)) t
-int_number of z t e = let f = int_in of z e in record { n = cast_unsigned (bits_of of) z; fits = f.0; value = f.1; spelled = refl; words = refl }
+pub int_number : (of : Primitive) (z : ℤ) (t : WordsMet) → fits_prim of z ≡ true → IsNumber of t (Int z) (big_bytes (width_of of) (cast_unsigned (width_in_bits of) z)) t
+int_number of z t e = let f = int_in of z e in record { n = cast_unsigned (width_in_bits of) z; fits = f.0; value = f.1; spelled = refl; words = refl }
 
 pub counter_number : (z : ℤ) (t : WordsMet) → fits_signed 32 z ≡ true → IsNumber I32 t (Int z) (big_bytes 4 (cast_unsigned w32 z)) t
 counter_number z t e = int_number I32 z t e

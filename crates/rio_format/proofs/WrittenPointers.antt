@@ -14,7 +14,7 @@ use Rattle.rio_value.specs.declared.value.Value.TheOpen as layer
 use Rattle.rio_value.specs.declared.value.Value.TheFolds.{fold_out-Value, fold-Part}
 use Rattle.rio_value.specs.declared.value.Part.{Part}
 use Rattle.rio_format.specs.Fits.{Labels, Fitting, pass, may_point, back_fits, pointed_fits, fitting_step, fitting_of}
-use Rattle.rio_format.specs.Slots.{kinded, any_pointer, is_word}
+use Rattle.rio_format.specs.Slots.{kinded, any_pointer, can_be_word}
 use Rattle.rio_format.specs.Spelling.{Spellings, IsPlain, SpellsClass, SpellsPointer, IsNew}
 use Rattle.rio_buffer.specs.ReaderState.{WordsMet, with_label}
 use Rattle.rio_buffer.specs.Writer.{class_by, class_bytes}
@@ -83,7 +83,7 @@ record IsClassWritten (labels : Labels) (class : List ℕ) (p : ℕ) (t : WordsM
   stands : Stands labels (p + length b.0) b.1
   same : b.1.labels ≡ t.labels
 
-class_written_by : (labels : Labels) (class : List ℕ) (p : ℕ) (t : WordsMet) (o : Option (ℕ × List ℕ)) → find (λ e. bytes_eq e.1 class) t.names ≡ o → is_word class ≡ true → Stands labels p t → p + length (class_by class o p t).0 ≤ last_place → IsClassWritten labels class p t (class_by class o p t)
+class_written_by : (labels : Labels) (class : List ℕ) (p : ℕ) (t : WordsMet) (o : Option (ℕ × List ℕ)) → find (λ e. bytes_eq e.1 class) t.names ≡ o → can_be_word class ≡ true → Stands labels p t → p + length (class_by class o p t).0 ≤ last_place → IsClassWritten labels class p t (class_by class o p t)
 class_written_by labels class p t None look word s room = record {
   spelled = inl (record { plain = plain_by class (not_false _ word); spelled = refl; words = refl });
   stands = stands_name labels p (p + length (big_bytes 4 (2 ^ 32 - 1) ++ (class ++ 0 ∷ []))) class t (omega arith) s;
@@ -97,7 +97,7 @@ class_written_by labels class p t (Some e) look word s room =
 
 -- a slot for a pointer to an object of a class that a class word can spell
 record IsPointerWay (object : Spellings) (own : List ℕ × ℤ) (way : Way) : Type 0 where
-  word : is_word own.0 ≡ true
+  word : can_be_word own.0 ≡ true
   gives : (p : ℕ) (t : WordsMet) (v : Value) (bytes : List ℕ) (t' : WordsMet) → SpellsPointer object p t v bytes t' → SpellsWay object way p t v bytes t'
 
 pointer_way : (object : Spellings) (classes : List ClassDef) (own : List ℕ × ℤ) (way : Way) → may_point classes own (fit_slot way) ≡ true → IsPointerWay object own way

@@ -32,12 +32,12 @@ abbrev pub are_visited : List ℕ → List Base → List Base → Bool
 are_visited target visits bases = list_all (λ b. not (bytes_eq b.name target) && is_visited visits b) bases
 
 -- none of the visit's bases is the target, and each is visited too
-abbrev pub IsClosed : List ClassDef → List ℕ → List Base → Base → Type 0
-IsClosed classes target visits v = are_visited target visits (visit_bases classes v) ≡ true
+abbrev pub HasVisitedBases : List ClassDef → List ℕ → List Base → Base → Type 0
+HasVisitedBases classes target visits v = are_visited target visits (visit_bases classes v) ≡ true
 
 -- so are the first visits
-abbrev pub AreClosed : List ClassDef → List ℕ → List Base → ℕ → Type 0
-AreClosed classes target visits n = AllWithin (IsClosed classes target visits) visits 0 n
+abbrev pub HaveVisitedBases : List ClassDef → List ℕ → List Base → ℕ → Type 0
+HaveVisitedBases classes target visits n = AllWithin (HasVisitedBases classes target visits) visits 0 n
 
 -- none of the bases is the target, and each is visited from then on
 pub record Pushed (target : List ℕ) (bases old new : List Base) : Type 0 where
@@ -50,5 +50,5 @@ pub record Pushed (target : List ℕ) (bases old new : List Base) : Type 0 where
 pub record Expanded (classes : List ClassDef) (target : List ℕ) (old new : List Base) (n : ℕ) : Type 0 where
   pub more : List Base
   pub is : new ≡ old ++ more
-  pub closed : AreClosed classes target new n
+  pub closed : HaveVisitedBases classes target new n
   pub below : (levels : ℕ) → any_below classes target levels more ≡ true → any_below classes target (suc levels) old ≡ true

@@ -31,15 +31,15 @@ class_with info named = record {
 
 -- The class that a pointer's object describes. Null, a reference, an object of another class, such as the list of rules, or of
 -- another version, and one whose TNamed is of another version describe none.
-unfoldable pub class_of : Value → Option ClassDef
-class_of pointer = option_and_then (λ info. option_map (class_with info) (base_parts (codes "TNamed") (pos 1) info)) (parts_behind (codes "TStreamerInfo") (pos 9) pointer)
+unfoldable pub described_class : Value → Option ClassDef
+described_class pointer = option_and_then (λ info. option_map (class_with info) (base_parts (codes "TNamed") (pos 1) info)) (parts_behind (codes "TStreamerInfo") (pos 9) pointer)
 
 -- the pointer in an item of a list, which is a pointer and an option
 abbrev pub item_pointer : Value → Option Value
 item_pointer item = slice_get (items_in item) 0
 
 abbrev pub item_class : Value → Option ClassDef
-item_class item = option_and_then class_of (item_pointer item)
+item_class item = option_and_then described_class (item_pointer item)
 
 -- the items of a list; there are none in what isn't a TList of this version
 abbrev pub list_items : Value → List Value

@@ -8,9 +8,9 @@ use Rattle.std.specs.Str.{bytes_eq}
 use Rattle.std.specs.declared.vec.Vec.{Vec}
 
 -- what the map has for the name
-abbrev pub number_at : {A : Type 0} → BTreeMap (Vec ℕ A) ℤ → List ℕ → Option ℤ
-number_at numbers name = get_by (λ k. slice_cmp nat_cmp name k.items) numbers
+abbrev pub number_in_map : {A : Type 0} → BTreeMap (Vec ℕ A) ℤ → List ℕ → Option ℤ
+number_in_map numbers name = get_by (λ k. slice_cmp nat_cmp name k.items) numbers
 
 -- the map has, for each name, what the first counter of this name in the list says
 abbrev pub SaysAsFirst : {A : Type 0} → BTreeMap (Vec ℕ A) ℤ → List (List ℕ × ℤ) → Type 0
-SaysAsFirst numbers counters = (name : List ℕ) → number_at numbers name ≡ lookup (bytes_eq name) counters
+SaysAsFirst numbers counters = (name : List ℕ) → number_in_map numbers name ≡ lookup (bytes_eq name) counters

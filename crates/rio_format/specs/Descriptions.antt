@@ -34,19 +34,19 @@ abbrev pub bare_element : List ℕ → ℤ → ℕ → ClassDef
 bare_element name version sum = describing name version sum element_base []
 
 -- a base of a class
-abbrev pub base_element : ClassDef
-base_element = describing (codes "TStreamerBase") (pos 3) 2469373253 element_base (member (codes "fBaseVersion") (Plain I32) ∷ [])
+abbrev pub base_element_class : ClassDef
+base_element_class = describing (codes "TStreamerBase") (pos 3) 2469373253 element_base (member (codes "fBaseVersion") (Plain I32) ∷ [])
 
 -- an array that another member counts
-abbrev pub counted_element : ClassDef
-counted_element = describing (codes "TStreamerBasicPointer") (pos 2) 1505910659 element_base (member (codes "fCountVersion") (Plain I32) ∷ member (codes "fCountName") Text ∷ member (codes "fCountClass") Text ∷ [])
+abbrev pub counted_element_class : ClassDef
+counted_element_class = describing (codes "TStreamerBasicPointer") (pos 2) 1505910659 element_base (member (codes "fCountVersion") (Plain I32) ∷ member (codes "fCountName") Text ∷ member (codes "fCountClass") Text ∷ [])
 
 abbrev pub bare_elements : List ClassDef
 bare_elements = bare_element (codes "TStreamerBasicType") (pos 2) 3946468268 ∷ bare_element (codes "TStreamerObject") (pos 2) 333481419 ∷ bare_element (codes "TStreamerObjectAny") (pos 2) 1280426895 ∷ bare_element (codes "TStreamerObjectPointer") (pos 2) 377212202 ∷ bare_element (codes "TStreamerObjectAnyPointer") (pos 1) 1518833227 ∷ bare_element (codes "TStreamerString") (pos 2) 1968605749 ∷ []
 
 -- the classes of elements
 abbrev pub element_classes : List ClassDef
-element_classes = base_element ∷ counted_element ∷ bare_elements
+element_classes = base_element_class ∷ counted_element_class ∷ bare_elements
 
 -- whether an element may be an object of this class in this version
 abbrev pub is_element : List ℕ → ℤ → Bool

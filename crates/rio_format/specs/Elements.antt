@@ -48,14 +48,14 @@ layer_element (Object class version parts) = if is_element class version then So
 layer_element other = None
 
 -- the parts of an object of one of the classes of elements, where it begins behind a pointer
-abbrev pub element_parts : Value → Option (List Part)
-element_parts pointer = option_and_then (λ v. layer_element (out-Value v)) (layer_object (out-Value pointer))
+abbrev pub pointed_element_parts : Value → Option (List Part)
+pointed_element_parts pointer = option_and_then (λ v. layer_element (out-Value v)) (layer_object (out-Value pointer))
 
 -- What an item of a class's elements says. Null, a reference, an object of another class or version, and one whose
 -- TStreamerElement or TNamed is of another version say nothing.
 unfoldable pub element_of : Value → Option Element
 element_of pointer =
-    option_and_then (λ own. option_and_then (λ stated. option_map (element_with own stated) (base_parts (codes "TNamed") (pos 1) stated)) (base_parts (codes "TStreamerElement") (pos 4) own)) (element_parts pointer)
+    option_and_then (λ own. option_and_then (λ stated. option_map (element_with own stated) (base_parts (codes "TNamed") (pos 1) stated)) (base_parts (codes "TStreamerElement") (pos 4) own)) (pointed_element_parts pointer)
 
 -- ---- kinds
 
@@ -66,8 +66,8 @@ is_code code those = list_any (int_eq code) those
 abbrev pub primitive_codes : List (ℤ × Primitive)
 primitive_codes = (pos 1, I8) ∷ (pos 2, I16) ∷ (pos 3, I32) ∷ (pos 4, I64) ∷ (pos 5, F32) ∷ (pos 8, F64) ∷ (pos 11, U8) ∷ (pos 12, U16) ∷ (pos 13, U32) ∷ (pos 14, U64) ∷ (pos 16, I64) ∷ (pos 17, U64) ∷ (pos 18, Boolean) ∷ []
 
-unfoldable pub primitive_of : ℤ → Option Primitive
-primitive_of code = lookup (int_eq code) primitive_codes
+unfoldable pub primitive_by_code : ℤ → Option Primitive
+primitive_by_code code = lookup (int_eq code) primitive_codes
 
 abbrev pub fixed_of : ℤ → Primitive → Option Kind
 fixed_of (pos count) of = Some (Fixed of count)
@@ -75,7 +75,7 @@ fixed_of (negsuc n) of = None
 
 -- an array of so many values, with a code that is 20 above that of one; not of a negative number of them
 abbrev pub fixed_kind : Element → Option Kind
-fixed_kind e = option_and_then (fixed_of e.count) (primitive_of (e.code -ℤ pos 20))
+fixed_kind e = option_and_then (fixed_of e.count) (primitive_by_code (e.code -ℤ pos 20))
 
 abbrev pub counted_of : List (List ℕ) → Option (List ℕ) → Primitive → Option Kind
 counted_of counters None of = None
@@ -83,7 +83,7 @@ counted_of counters (Some counter) of = if list_any (bytes_eq counter) counters 
 
 -- an array that one of these counters counts, with a code that is 40 above that of one value
 abbrev pub counted_kind : List (List ℕ) → Element → Option Kind
-counted_kind counters e = option_and_then (counted_of counters e.counter) (primitive_of (e.code -ℤ pos 40))
+counted_kind counters e = option_and_then (counted_of counters e.counter) (primitive_by_code (e.code -ℤ pos 40))
 
 -- a name without one asterisk at its end
 unfoldable pub without_star : List ℕ → List ℕ
@@ -102,16 +102,16 @@ own_kind e =
 
 -- the kind of a member behind these counters; with any other code it isn't read
 unfoldable pub kind_of : List (List ℕ) → Element → Kind
-kind_of counters e = unwrap_or (option_or (option_map Plain (primitive_of e.code)) (option_or (fixed_kind e) (option_or (counted_kind counters e) (own_kind e)))) (Other e.code)
+kind_of counters e = unwrap_or (option_or (option_map Plain (primitive_by_code e.code)) (option_or (fixed_kind e) (option_or (counted_kind counters e) (own_kind e)))) (Other e.code)
 
 -- ---- bases and members
 
 -- a TStreamerBase with one of these codes is a base of the class; any other element is a member of it
-abbrev pub base_of : Element → Option Base
-base_of e = option_and_then (λ version. if is_code e.code (pos 0 ∷ pos 66 ∷ pos 67 ∷ []) then Some (record { name = e.name; version = version }) else None) e.base_version
+abbrev pub base_of_element : Element → Option Base
+base_of_element e = option_and_then (λ version. if is_code e.code (pos 0 ∷ pos 66 ∷ pos 67 ∷ []) then Some (record { name = e.name; version = version }) else None) e.base_version
 
 abbrev pub bases_of : List (Option Element) → List Base
-bases_of elements = filter_map (option_and_then base_of) elements
+bases_of elements = filter_map (option_and_then base_of_element) elements
 
 -- an item that says nothing is a member that isn't read
 abbrev pub member_of : List (List ℕ) → Option Element → Member
@@ -126,4 +126,4 @@ counters_behind (Some e) counters = if int_eq e.code (pos 6) then e.name ∷ cou
 -- the members, in order, behind these counters
 unfoldable pub members_of : List (List ℕ) → List (Option Element) → List Member
 members_of counters [] = []
-members_of counters (e ∷ es) = if is_some (option_and_then base_of e) then members_of counters es else member_of counters e ∷ members_of (counters_behind e counters) es
+members_of counters (e ∷ es) = if is_some (option_and_then base_of_element e) then members_of counters es else member_of counters e ∷ members_of (counters_behind e counters) es

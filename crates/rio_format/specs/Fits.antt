@@ -11,7 +11,7 @@ use Rattle.rio_value.specs.declared.value.Value.{Value}
 use Rattle.rio_value.specs.declared.value.Value.TheOpen.{Value-F, Int, Bits32, Bits64, Bool as Truth, Text, List as Items, Object, Pointed, Null, Back, Opaque}
 use Rattle.rio_value.specs.declared.value.Value.TheFolds.{fold-Value}
 use Rattle.rio_format.specs.Bodies.{Counters}
-use Rattle.rio_format.specs.Slots.{Slot, kinded, based, flags, any_pointer, link, many, Field, fields_of, derives_from, is_word, can_be_put}
+use Rattle.rio_format.specs.Slots.{Slot, kinded, based, flags, any_pointer, link, many, Field, fields_of, derives_from, can_be_word, can_be_put}
 
 -- the classes and versions of the objects that have a label, by label
 abbrev pub Labels : Type 0
@@ -129,8 +129,8 @@ object_may_stand class version other = false
 
 -- whether a pointer may point to an object of this class and version
 abbrev pub may_point : List ClassDef → List ℕ × ℤ → Slot → Bool
-may_point classes own (kinded (Pointer c)) = is_word own.0 && derives_from classes c own.0 own.1
-may_point classes own any_pointer = is_word own.0 && can_be_put classes own.0
+may_point classes own (kinded (Pointer c)) = can_be_word own.0 && derives_from classes c own.0 own.1
+may_point classes own any_pointer = can_be_word own.0 && can_be_put classes own.0
 may_point classes own other = false
 
 abbrev pub is_pointer : Slot → Bool

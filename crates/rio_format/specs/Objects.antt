@@ -10,7 +10,7 @@ use Rattle.rio_types.specs.declared.kind.Primitive.TheVariants.{I32}
 use Rattle.rio_value.specs.declared.value.Value.{Value, Int, Text, List as Items, Object, Pointed, Null as Nothing, Back as Earlier, Opaque}
 use Rattle.rio_value.specs.declared.value.Part.{Part}
 use Rattle.rio_format.specs.Bodies.{part, Form, bare, numbers, headed, form_of, Body, described, listed, arrayed, opaque, body_of, slots_of, Counters, counters_with, count_by}
-use Rattle.rio_format.specs.Prims.{width_of, value_of}
+use Rattle.rio_format.specs.Prims.{width_of, value_of_prim}
 use Rattle.rio_buffer.specs.Frames.{Step, word_at, chars_at, finish_at, header_at, pointer_word_at}
 use Rattle.rio_buffer.specs.ReaderState.{ReaderState, standing, no_words}
 use Rattle.rio_buffer.specs.declared.words.Header.{Header}
@@ -40,7 +40,7 @@ times_at n f s = each_at (λ (x : Unit {0}). f) (replicate n tt) s
 unfoldable pub number_value_at : Primitive → ReaderState → Step Value
 number_value_at of s = do
   n ← word_at (width_of of) s
-  Ok (value_of of n.0, n.1)
+  Ok (value_of_prim of n.0, n.1)
 
 unfoldable pub numbers_at : Primitive → ℕ → ReaderState → Step Value
 numbers_at of count s = do

@@ -20,15 +20,15 @@ width_of F32 = 4
 width_of F64 = 8
 
 -- the value whose bytes give the number: integers in two's complement, and any number but 0 is true
-abbrev pub value_of : Primitive → ℕ → Value
-value_of I8 n = Int (cast_signed w8 n)
-value_of I16 n = Int (cast_signed w16 n)
-value_of I32 n = Int (cast_signed w32 n)
-value_of I64 n = Int (cast_signed w64 n)
-value_of U8 n = Int (pos n)
-value_of U16 n = Int (pos n)
-value_of U32 n = Int (pos n)
-value_of U64 n = Int (pos n)
-value_of Boolean n = Truth (not (n == 0))
-value_of F32 n = Bits32 n
-value_of F64 n = Bits64 n
+abbrev pub value_of_prim : Primitive → ℕ → Value
+value_of_prim I8 n = Int (cast_signed w8 n)
+value_of_prim I16 n = Int (cast_signed w16 n)
+value_of_prim I32 n = Int (cast_signed w32 n)
+value_of_prim I64 n = Int (cast_signed w64 n)
+value_of_prim U8 n = Int (pos n)
+value_of_prim U16 n = Int (pos n)
+value_of_prim U32 n = Int (pos n)
+value_of_prim U64 n = Int (pos n)
+value_of_prim Boolean n = Truth (not (n == 0))
+value_of_prim F32 n = Bits32 n
+value_of_prim F64 n = Bits64 n

@@ -98,8 +98,8 @@ abbrev pub derives_from : List ClassDef → List ℕ → List ℕ → ℤ → Bo
 derives_from classes target class version = bytes_eq class target || has_base (length classes + 1) classes target class version
 
 -- a class word can spell the name
-abbrev pub is_word : List ℕ → Bool
-is_word class = not (list_any (λ b. b == 0) class)
+abbrev pub can_be_word : List ℕ → Bool
+can_be_word class = not (list_any (λ b. b == 0) class)
 
 -- whether a put can have an object of this class as its value
 abbrev pub can_be_put : List ClassDef → List ℕ → Bool

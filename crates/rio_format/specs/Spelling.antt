@@ -14,7 +14,7 @@ use Rattle.rio_value.specs.declared.value.Part.{Part}
 use Rattle.rio_format.specs.Bodies.{part, Form, bare, numbers, headed, form_of, Body, described, listed, arrayed, opaque, body_of, slots_of, Counters, counters_with, count_by}
 use Rattle.rio_buffer.specs.Frames.{is_count}
 use Rattle.rio_format.specs.Objects.{has_pid, bare_object, pid_part, depth_limit}
-use Rattle.rio_format.specs.Prims.{width_of, value_of}
+use Rattle.rio_format.specs.Prims.{width_of, value_of_prim}
 use Rattle.rio_buffer.specs.ReaderState.{WordsMet, no_words, with_label, with_name}
 
 -- Bytes whose first has the place, behind these words, spell this value, and these words stand before what follows.
@@ -54,7 +54,7 @@ SpellsTimes n one p t ys bytes t' = SpellsEach (λ (x : Unit {0}). one) (replica
 pub record IsNumber (of : Primitive) (t : WordsMet) (v : Value) (bytes : List ℕ) (t' : WordsMet) : Type 0 where
   pub n : ℕ
   pub fits : n < 256 ^ width_of of
-  pub value : v ≡ value_of of n
+  pub value : v ≡ value_of_prim of n
   pub spelled : bytes ≡ big_bytes (width_of of) n
   pub words : t' ≡ t
 

@@ -4,14 +4,9 @@ use Rattle.std.specs.List.{list_any}
 use Rattle.std.specs.Ordering.{int_eq}
 use Rattle.std.specs.Str.{bytes_eq}
 use Rattle.rio_types.specs.declared.class.Base.{Base}
-use Rattle.rio_format.specs.declared.visits.Visit.{Visit}
 
 abbrev pub base_of : List ℕ → ℤ → Base
 base_of class version = record { name = class; version = version }
-
--- the class and version that are visited
-abbrev pub visit_as : Visit → Base
-visit_as v = base_of v.name.now v.version
 
 -- of one class and version
 abbrev pub same_base : Base → Base → Bool

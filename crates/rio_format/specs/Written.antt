@@ -1,5 +1,5 @@
 -- The one spelling that is written for a value that fits.
-use Rattle.std.specs.Prelude.{ℕ, ◌+◌, ◌-◌, ◌^◌, ℤ, pos, List, [], ◌∷◌, ◌++◌, length, slice_index, codes, Bool, true, false, Option, Some, None}
+use Rattle.std.specs.Prelude.{ℕ, ◌+◌, ◌^◌, ℤ, pos, List, [], ◌∷◌, ◌++◌, length, slice_index, codes, Bool, true, false, Option, Some, None}
 use Rattle.std.specs.Int.{Width, w8, w16, w32, w64, cast_unsigned}
 use Rattle.byteorder.specs.Endian.{big_bytes}
 use Rattle.rio_num.specs.Text.{text_bytes}
@@ -40,21 +40,21 @@ all slot (w ∷ ws) = both (w.bytes slot) (all slot ws)
 
 -- ---- numbers and lists
 
-abbrev pub bits_of : Primitive → Width
-bits_of I8 = w8
-bits_of I16 = w16
-bits_of I32 = w32
-bits_of I64 = w64
-bits_of U8 = w8
-bits_of U16 = w16
-bits_of U32 = w32
-bits_of U64 = w64
-bits_of Boolean = w8
-bits_of F32 = w32
-bits_of F64 = w64
+abbrev pub width_in_bits : Primitive → Width
+width_in_bits I8 = w8
+width_in_bits I16 = w16
+width_in_bits I32 = w32
+width_in_bits I64 = w64
+width_in_bits U8 = w8
+width_in_bits U16 = w16
+width_in_bits U32 = w32
+width_in_bits U64 = w64
+width_in_bits Boolean = w8
+width_in_bits F32 = w32
+width_in_bits F64 = w64
 
 abbrev pub int_bytes : ℤ → Slot → List ℕ
-int_bytes z (kinded (Plain of)) = big_bytes (width_of of) (cast_unsigned (bits_of of) z)
+int_bytes z (kinded (Plain of)) = big_bytes (width_of of) (cast_unsigned (width_in_bits of) z)
 int_bytes z (kinded Counter) = big_bytes 4 (cast_unsigned w32 z)
 int_bytes z flags = big_bytes 4 (cast_unsigned w32 z)
 int_bytes z other = []

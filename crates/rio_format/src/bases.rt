@@ -4,13 +4,13 @@ ghost use Rattle.std.specs.Option.{option_map};
 ghost use Rattle.rio_format.specs.Bodies.{form_of, t_object_base};
 ghost use Rattle.rio_format.specs.Slots.{body_bases, derives_from, has_base, headed_body, is_headed};
 ghost use Rattle.rio_format.specs.Lists.{listed};
-ghost use Rattle.rio_format.specs.Bases.{AreClosed, Expanded, Pushed, any_direct, are_targets};
+ghost use Rattle.rio_format.specs.Bases.{Expanded, HaveVisitedBases, Pushed, any_direct, are_targets};
 ghost use Rattle.rio_format.specs.Visits.{base_of};
 
+use crate::base_set::BaseSet;
 use crate::body::{Body, BodyKind, listed_body};
 use crate::lists::ClassLists;
 use crate::shape::{Shape, shape_of};
-use crate::visits::Visits;
 use rio_num::NoMemory;
 use rio_types::Base;
 use std::alloc::Global;
@@ -38,7 +38,7 @@ fn push_base<'a>(
     target: &[u8],
     class: &'a [u8],
     version: i32,
-    visits: &mut Visits<'a>,
+    visits: &mut BaseSet<'a>,
 ) -> Result<bool, NoMemory>
     ensures found { IfOk result
         (λ found. found ≡ true → are_targets target.now (base_of class.now version ∷ []) ≡ true) }
@@ -57,7 +57,7 @@ fn push_base<'a>(
 fn push_bases<'a>(
     target: &[u8],
     bases: &'a [Base],
-    visits: &mut Visits<'a>,
+    visits: &mut BaseSet<'a>,
 ) -> Result<bool, NoMemory>
     ensures found { IfOk result (λ found. found ≡ true → are_targets target.now bases.now ≡ true) }
     ensures pushed { IfOk result
@@ -75,7 +75,7 @@ fn push_bases<'a>(
 fn push_body<'a>(
     target: &[u8],
     body: Option<Body<'a>>,
-    visits: &mut Visits<'a>,
+    visits: &mut BaseSet<'a>,
 ) -> Result<bool, NoMemory>
     ensures found { IfOk result
         (λ found. found ≡ true → are_targets target.now (body_bases body.entry) ≡ true) }
@@ -100,10 +100,10 @@ fn expand_round<'a>(
     classes: &ClassLists<'a>,
     target: &[u8],
     begin: usize,
-    visits: &mut Visits<'a>,
+    visits: &mut BaseSet<'a>,
 ) -> Result<bool, NoMemory>
     requires begin { begin ≤ length visits.old }
-    requires closed { AreClosed (listed classes.now) target.now visits.old begin }
+    requires closed { HaveVisitedBases (listed classes.now) target.now visits.old begin }
     ensures found { IfOk result
         (λ found. found ≡ true → any_direct (listed classes.now) target.now visits.old ≡ true) }
     ensures expanded { IfOk result
@@ -132,7 +132,7 @@ fn has_base<'a>(
     ensures { IfOk result
         (λ b. b ≡ has_base levels (listed classes.now) target.now class.now version) }
 {
-    let mut visits = Visits::new(alloc);
+    let mut visits = BaseSet::new(alloc);
     visits.put(class, version)?;
     let mut begin = 0;
     let mut left = levels;

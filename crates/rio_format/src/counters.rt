@@ -1,7 +1,7 @@
 //! The counters of an object, and what the last one of a name says.
 ghost use Rattle.std.specs.Prelude.{◌≡◌, ℕ, List, if◌then◌else◌, Some, OnOk, OnErr};
 ghost use Rattle.std.specs.Str.{bytes_eq};
-ghost use Rattle.rio_format.specs.Counts.{number_at};
+ghost use Rattle.rio_format.specs.Counts.{number_in_map};
 
 use rio_num::{Name, NoMemory};
 use std::alloc::Global;
@@ -77,9 +77,10 @@ impl Counters {
 fn put_number(numbers: &mut Numbers, alloc: Global, name: &[u8], said: i32) -> Result<(), NoMemory>
     ensures ok { OnOk result
         ((q : List ℕ) →
-        number_at numbers.new q
-        ≡ (if bytes_eq q name.now then Some said else number_at numbers.old q)) }
-    ensures err { OnErr result ((q : List ℕ) → number_at numbers.new q ≡ number_at numbers.old q) }
+        number_in_map numbers.new q
+        ≡ (if bytes_eq q name.now then Some said else number_in_map numbers.old q)) }
+    ensures err { OnErr result
+        ((q : List ℕ) → number_in_map numbers.new q ≡ number_in_map numbers.old q) }
 {
     numbers.insert(Vec::from_slice(alloc, name)?, said)?;
     Ok(())

@@ -3,6 +3,7 @@
 //! among their bases.
 #![tactic(auto)]
 
+mod base_set;
 mod bases;
 mod body;
 mod counters;
@@ -10,9 +11,9 @@ mod laws;
 mod lists;
 mod shape;
 mod slot;
-mod visits;
 mod width;
 
+pub use base_set::BaseSet;
 pub use bases::{derives_from, is_headed};
 pub use body::{Body, BodyKind, body_of, declared_body, headed_version};
 pub use counters::Counters;

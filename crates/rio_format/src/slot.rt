@@ -5,7 +5,6 @@ ghost use Rattle.rio_format.specs.Slots.{base_field, member_field, body_fields, 
 ghost use Rattle.rio_types.specs.declared.kind.Kind.TheVariants.{Plain};
 ghost use Rattle.rio_types.specs.declared.kind.Primitive.TheVariants.{U32};
 ghost use Rattle.rio_format.specs.Bodies.{form_of};
-ghost use Rattle.rio_format.specs.SlotKinds.{slot_of_kind};
 
 use crate::body::{Body, BodyKind, declared_body};
 use crate::shape::{Shape, shape_of};
@@ -151,20 +150,17 @@ fn described_fields<'a>(alloc: Global, class: &'a ClassDef) -> Result<Fields<'a>
     with_members(bases, class.members.as_slice())
 }
 
-fn field_of<'a>(name: &'a [u8], kind: SlotKind<'a>) -> Field<'a>
-    ensures { result ≡ field name.now (slot_of_kind kind.entry) }
+fn field_of<'a>(name: &'a [u8], slot: Slot<'a>) -> Field<'a>
+    ensures { result ≡ field name.now slot.entry }
 {
-    Field {
-        name,
-        slot: Slot(kind),
-    }
+    Field { name, slot }
 }
 
-fn one_field<'a>(alloc: Global, name: &'a [u8], kind: SlotKind<'a>) -> Result<Fields<'a>, NoMemory>
-    ensures { IfOk result (λ fs. fs ≡ field name.now (slot_of_kind kind.entry) ∷ []) }
+fn one_field<'a>(alloc: Global, name: &'a [u8], slot: Slot<'a>) -> Result<Fields<'a>, NoMemory>
+    ensures { IfOk result (λ fs. fs ≡ field name.now slot.entry ∷ []) }
 {
     let mut fields = Fields::new(alloc);
-    fields.push(field_of(name, kind))?;
+    fields.push(field_of(name, slot))?;
     Ok(fields)
 }
 
@@ -172,15 +168,15 @@ fn one_field<'a>(alloc: Global, name: &'a [u8], kind: SlotKind<'a>) -> Result<Fi
 fn built_in_base<'a>(alloc: Global) -> Result<Fields<'a>, NoMemory>
     ensures { IfOk result (λ fs. fs ≡ base_field t_object_base ∷ []) }
 {
-    one_field(alloc, b"", SlotKind::Based(b"TObject", 1))
+    one_field(alloc, b"", Slot(SlotKind::Based(b"TObject", 1)))
 }
 
 fn named_fields<'a>(alloc: Global) -> Result<Fields<'a>, NoMemory>
     ensures { IfOk result (λ fs. Some fs ≡ body_fields (Some (described t_named))) }
 {
     let mut fields = built_in_base(alloc)?;
-    fields.push(field_of(b"fName", SlotKind::Text))?;
-    fields.push(field_of(b"fTitle", SlotKind::Text))?;
+    fields.push(field_of(b"fName", Slot(SlotKind::Text)))?;
+    fields.push(field_of(b"fTitle", Slot(SlotKind::Text)))?;
     Ok(fields)
 }
 
@@ -188,7 +184,7 @@ fn obj_string_fields<'a>(alloc: Global) -> Result<Fields<'a>, NoMemory>
     ensures { IfOk result (λ fs. Some fs ≡ body_fields (Some (described t_obj_string))) }
 {
     let mut fields = built_in_base(alloc)?;
-    fields.push(field_of(b"fString", SlotKind::Text))?;
+    fields.push(field_of(b"fString", Slot(SlotKind::Text)))?;
     Ok(fields)
 }
 
@@ -196,8 +192,8 @@ fn listed_fields<'a>(alloc: Global) -> Result<Fields<'a>, NoMemory>
     ensures { IfOk result (λ fs. Some fs ≡ body_fields (Some listed)) }
 {
     let mut fields = built_in_base(alloc)?;
-    fields.push(field_of(b"fName", SlotKind::Text))?;
-    fields.push(field_of(b"items", SlotKind::Links))?;
+    fields.push(field_of(b"fName", Slot(SlotKind::Text)))?;
+    fields.push(field_of(b"items", Slot(SlotKind::Links)))?;
     Ok(fields)
 }
 
@@ -205,9 +201,9 @@ fn arrayed_fields<'a>(alloc: Global) -> Result<Fields<'a>, NoMemory>
     ensures { IfOk result (λ fs. Some fs ≡ body_fields (Some arrayed)) }
 {
     let mut fields = built_in_base(alloc)?;
-    fields.push(field_of(b"fName", SlotKind::Text))?;
-    fields.push(field_of(b"fLowerBound", SlotKind::Plain(Prim::I32)))?;
-    fields.push(field_of(b"items", SlotKind::Pointers))?;
+    fields.push(field_of(b"fName", Slot(SlotKind::Text)))?;
+    fields.push(field_of(b"fLowerBound", Slot(SlotKind::Plain(Prim::I32))))?;
+    fields.push(field_of(b"items", Slot(SlotKind::Pointers)))?;
     Ok(fields)
 }
 
@@ -230,8 +226,8 @@ fn bare_fields<'a>(alloc: Global) -> Result<Fields<'a>, NoMemory>
         (λ fs. fs ≡ field (codes "fUniqueID") (kinded (Plain U32)) ∷ field (codes "fBits") flags
         ∷ []) }
 {
-    let mut fields = one_field(alloc, b"fUniqueID", SlotKind::Plain(Prim::U32))?;
-    fields.push(field_of(b"fBits", SlotKind::Flags))?;
+    let mut fields = one_field(alloc, b"fUniqueID", Slot(SlotKind::Plain(Prim::U32)))?;
+    fields.push(field_of(b"fBits", Slot(SlotKind::Flags)))?;
     Ok(fields)
 }
 
@@ -247,7 +243,7 @@ pub fn fields_of<'a>(
     match shape_of(class) {
         Shape::Bare if version == 1 => Ok(Some(bare_fields(alloc)?)),
         Shape::Numbers(of) if version == 1 => {
-            Ok(Some(one_field(alloc, b"items", SlotKind::Numbers(of))?))
+            Ok(Some(one_field(alloc, b"items", Slot(SlotKind::Numbers(of)))?))
         }
         Shape::Headed => match declared_body(classes, class, version) {
             Some(body) => body_fields(alloc, &body),

@@ -12,7 +12,7 @@ use Rattle.rio_format.specs.Written.{all, both, just}
 use Rattle.rio_buffer.specs.Writer.{Writer}
 use Rattle.rio_format.specs.WrittenElements.{WrittenElement, base_element, inline_element, kind_element, member_element, pointer_element, primitive_name, reaches_object, starred, written_elements}
 use Rattle.rio_write.specs.Writing.{pointer_to}
-use Rattle.rio_info.specs.WrittenParts.{array_front, array_writer, class_front, class_writing, counted_added, element_bytes, element_numbers, element_writing, elements_writer, info_writer, list_front, list_writer, named_bytes, number_bytes, stated_bytes}
+use Rattle.rio_info.specs.WrittenParts.{array_front, array_writer, class_front, class_writing, counted_added, element_bytes, element_numbers, element_writing, elements_writer, four_bytes, info_writer, list_front, list_writer, named_bytes, stated_bytes}
 use Rattle.rio_info.proofs.ClassForms.{bases_writer, elements_are, members_writer}
 use Rattle.rio_info.proofs.ListForms.{IsWritten, any_object_is_behind, any_object_is_inside, base_is, basic_type_is, class_written, counted_is, object_is_behind, object_is_inside, string_is}
 use Rattle.rio_info.proofs.NamedAmounts.{Amounts, all_amounts, all_used, both_amounts, headed_amounts, just_amounts, pointed_classes, pointer_amounts, stands_once, total}
@@ -43,7 +43,7 @@ element_amounts e name type_name added named typed is once =
 -- ---- bases and members
 
 abbrev pub base_amount : Base → ℕ
-base_amount b = element_amount b.name (codes "BASE") (number_bytes b.version)
+base_amount b = element_amount b.name (codes "BASE") (four_bytes b.version)
 
 abbrev pub base_names : Base → List (List ℕ)
 base_names b = (base_element b).class ∷ []
@@ -51,7 +51,7 @@ base_names b = (base_element b).class ∷ []
 base_amounts : (b : Base) → Amounts (base_amount b) (base_names b) ((element_writing (base_element b)).bytes any_pointer)
 base_amounts b =
     let e = base_element b in
-    element_amounts e b.name (codes "BASE") (number_bytes b.version) refl refl (base_is e b.version refl refl refl) refl
+    element_amounts e b.name (codes "BASE") (four_bytes b.version) refl refl (base_is e b.version refl refl refl) refl
 
 abbrev pub kind_amount : ClassDef → List ℕ → Kind → ℕ
 kind_amount owner name (Plain of) = element_amount name (primitive_name of) []
@@ -154,7 +154,7 @@ module _ (classes : List ClassDef) (c : ClassDef) where
 pub least_amount : (c : ClassDef) → 72 ≤ class_amount c
 unfolding class_amount
 least_amount c =
-    let front = length-append (named_bytes c.name) (number_bytes (pos c.sum) ++ number_bytes c.version) in
+    let front = length-append (named_bytes c.name) (four_bytes (pos c.sum) ++ four_bytes c.version) in
     let name = length-append (text_bytes c.name) (text_bytes []) in
     omega (arith, front, name)
 

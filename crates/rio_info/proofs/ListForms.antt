@@ -23,7 +23,7 @@ use Rattle.rio_write.specs.Writing.{part_writing, pointer_to}
 use Rattle.rio_format.specs.WrittenBytes.{class_list_bytes}
 use Rattle.rio_format.specs.WrittenElements.{WrittenElement, base_element, count_parts, member_element, written_elements}
 use Rattle.rio_format.specs.WrittenList.{array_object, class_links, class_list_value, class_pointer, element_object, element_parts, index_list, info_object, label_count, linked, list_object, named_object, plain_object, pointers_from}
-use Rattle.rio_info.specs.WrittenParts.{array_front, class_front, class_writer, class_writing, counted_added, element_bytes, element_writing, elements_writer, index_bytes, list_front, list_writer, named_bytes, number_bytes, plain_bytes, stated_bytes}
+use Rattle.rio_info.specs.WrittenParts.{array_front, class_front, class_writer, class_writing, counted_added, element_bytes, element_writing, elements_writer, four_bytes, index_bytes, list_front, list_writer, named_bytes, plain_bytes, stated_bytes}
 
 -- ---- one behind the other
 
@@ -134,7 +134,7 @@ named_is name slot =
 
 indices_are : (count : ℕ) → (writing (index_list count)).bytes (kinded (Fixed I32 5)) ≡ just (index_bytes count)
 indices_are count =
-    let zero : (writing (Int (pos 0))).bytes (kinded (Plain I32)) ≡ just (number_bytes (pos 0)) = int_is (pos 0) (kinded (Plain I32)) in
+    let zero : (writing (Int (pos 0))).bytes (kinded (Plain I32)) ≡ just (four_bytes (pos 0)) = int_is (pos 0) (kinded (Plain I32)) in
     ap (λ (w : Writing). w.bytes (kinded (Fixed I32 5))) (items_are (Int (pos count) ∷ Int (pos 0) ∷ Int (pos 0) ∷ Int (pos 0) ∷ Int (pos 0) ∷ []))
     ∙ both_just _ _ _ _ (int_is (pos count) (kinded (Plain I32))) (both_just _ _ _ _ zero (both_just _ _ _ _ zero (both_just _ _ _ _ zero (last_just _ _ zero))))
 
@@ -153,7 +153,7 @@ common_is e slot =
     ∙ ap (headed_bytes (pos 4)) (both_just _ _ _ _ (named_is e.name (based (codes "TNamed") (pos 1)))
     (both_just _ _ _ _ (int_is e.code (kinded (Plain I32))) (both_just _ _ _ _ (int_is (pos e.size) (kinded (Plain I32))) (both_just _ _ _ _ (int_is (pos e.count) (kinded (Plain I32)))
     (both_just _ _ _ _ (int_is (pos e.dimensions) (kinded (Plain I32))) (both_just _ _ _ _ (indices_are e.count) (last_just _ _ (text_is e.type_name (kinded Texted)))))))
-    ∙ ap just (five_before (number_bytes e.code) (number_bytes (pos e.size)) (number_bytes (pos e.count)) (number_bytes (pos e.dimensions)) (index_bytes e.count) (text_bytes e.type_name))))
+    ∙ ap just (five_before (four_bytes e.code) (four_bytes (pos e.size)) (four_bytes (pos e.count)) (four_bytes (pos e.dimensions)) (index_bytes e.count) (text_bytes e.type_name))))
 
 -- the class has a header in this version, and behind it a TStreamerElement and these members
 record IsElementClass (class : List ℕ) (version : ℤ) (members : List Member) : Type 0 where
@@ -226,10 +226,10 @@ abbrev counted_members : List Member
 counted_members = member (codes "fCountVersion") (Plain I32) ∷ member (codes "fCountName") Texted ∷ member (codes "fCountClass") Texted ∷ []
 
 module _ (e : WrittenElement) where
-  pub base_is : (version : ℤ) → e.class ≡ codes "TStreamerBase" → e.version ≡ pos 3 → e.added ≡ part (codes "fBaseVersion") (Int version) ∷ [] → IsWritten e (number_bytes version)
+  pub base_is : (version : ℤ) → e.class ≡ codes "TStreamerBase" → e.version ≡ pos 3 → e.added ≡ part (codes "fBaseVersion") (Int version) ∷ [] → IsWritten e (four_bytes version)
   unfolding description_classes
   base_is version c v added =
-      of_class e base_members (number_bytes version) (codes "TStreamerBase") (pos 3) (record { form = refl; body = λ ws. refl }) c v
+      of_class e base_members (four_bytes version) (codes "TStreamerBase") (pos 3) (record { form = refl; body = λ ws. refl }) c v
       (ap (λ (ps : List Part). fields_bytes (map member_field base_members) (map (part_writing description_classes) ps)) added ∙ last_just _ _ (int_is version (kinded (Plain I32))))
 
   pub counted_is : (owner : ClassDef) (counter : List ℕ) → e.class ≡ codes "TStreamerBasicPointer" → e.version ≡ pos 2 → e.added ≡ count_parts owner counter → IsWritten e (counted_added owner counter)
@@ -280,7 +280,7 @@ array_body ws =
     let name : Writer = (writing (Text [])).bytes (kinded Texted) in
     let lower : Writer = (writing (Int (pos 0))).bytes (kinded (Plain I32)) in
     let count = big_bytes 4 (length ws) in
-    let zero = number_bytes (pos 0) in
+    let zero = four_bytes (pos 0) in
     let counted = both_more (just count) (both lower items) items count zero refl (first_just lower items zero (int_is (pos 0) (kinded (Plain I32)))) in
     let named = both_more name (both (just count) (both lower items)) items (text_bytes []) (count ++ zero) (text_is [] (kinded Texted)) counted in
     both_more _ (both name (both (just count) (both lower items))) items plain_bytes (text_bytes [] ++ (count ++ zero)) (plain_is (based (codes "TObject") (pos 1))) named
@@ -291,9 +291,9 @@ info_body c w =
     let elements : Writer = w.bytes (kinded (Pointer (codes "TObjArray"))) in
     let sum : Writer = (writing (Int (pos c.sum))).bytes (kinded (Plain U32)) in
     let version : Writer = (writing (Int c.version)).bytes (kinded (Plain I32)) in
-    let last = both_is version (just (number_bytes c.version)) (both elements (just [])) elements (int_is c.version (kinded (Plain I32))) (both_nothing elements) in
-    let numbers = both_more sum (both version (both elements (just []))) elements (number_bytes (pos c.sum)) (number_bytes c.version) (int_is (pos c.sum) (kinded (Plain U32))) last in
-    both_more _ (both sum (both version (both elements (just [])))) elements (named_bytes c.name) (number_bytes (pos c.sum) ++ number_bytes c.version) (named_is c.name (based (codes "TNamed") (pos 1))) numbers
+    let last = both_is version (just (four_bytes c.version)) (both elements (just [])) elements (int_is c.version (kinded (Plain I32))) (both_nothing elements) in
+    let numbers = both_more sum (both version (both elements (just []))) elements (four_bytes (pos c.sum)) (four_bytes c.version) (int_is (pos c.sum) (kinded (Plain U32))) last in
+    both_more _ (both sum (both version (both elements (just [])))) elements (named_bytes c.name) (four_bytes (pos c.sum) ++ four_bytes c.version) (named_is c.name (based (codes "TNamed") (pos 1))) numbers
 
 -- pointers to elements, whatever their labels are
 pub pointers_are : (label : ℕ) (es : List WrittenElement) → map (writing_of description_classes) (pointers_from label (map element_object es)) ≡ map element_writing es

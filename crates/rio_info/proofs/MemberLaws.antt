@@ -12,7 +12,7 @@ use Rattle.rio_types.specs.declared.kind.Kind.{Kind}
 use Rattle.rio_types.specs.declared.kind.Kind.TheVariants.{Plain, Counted, Other}
 use Rattle.rio_types.specs.declared.kind.Primitive.{Primitive}
 use Rattle.rio_value.specs.declared.value.Value.{Value}
-use Rattle.rio_format.specs.Elements.{Element, base_of, counted_of, counters_behind, element_of, fixed_kind, kind_of, member_of, members_of, own_kind, primitive_of}
+use Rattle.rio_format.specs.Elements.{Element, base_of_element, counted_of, counters_behind, element_of, fixed_kind, kind_of, member_of, members_of, own_kind, primitive_by_code}
 
 -- the same names are among them
 abbrev pub HaveSame : List (List ℕ) → List (List ℕ) → Type 0
@@ -30,7 +30,7 @@ module _ (cs ds : List (List ℕ)) (same : HaveSame cs ds) where
   kind_same : (e : Element) → kind_of cs e ≡ kind_of ds e
   unfolding kind_of
   kind_same e =
-      ap (λ (o : Option Kind). unwrap_or (option_or (option_map Plain (primitive_of e.code)) (option_or (fixed_kind e) (option_or o (own_kind e)))) (Other e.code))
+      ap (λ (o : Option Kind). unwrap_or (option_or (option_map Plain (primitive_by_code e.code)) (option_or (fixed_kind e) (option_or o (own_kind e)))) (Other e.code))
       (and_then_same (counted_of cs e.counter) (counted_of ds e.counter) (counted_same e.counter) _)
 
   member_same : (e : Option Element) → member_of cs e ≡ member_of ds e
@@ -54,21 +54,21 @@ pub members_same : (cs ds : List (List ℕ)) → HaveSame cs ds → (es : List (
 unfolding members_of
 members_same cs ds same [] = refl
 members_same cs ds same (e ∷ es) =
-    cond_same (is_some (option_and_then base_of e)) _ _ _ _ _ _ (members_same cs ds same es) (member_same cs ds same e) (members_same (counters_behind e cs) (counters_behind e ds) (behind_same cs ds same e) es)
+    cond_same (is_some (option_and_then base_of_element e)) _ _ _ _ _ _ (members_same cs ds same es) (member_same cs ds same e) (members_same (counters_behind e cs) (counters_behind e ds) (behind_same cs ds same e) es)
 
 module _ (items : List Value) (i : ℕ) (front : List Member) (counters : List (List ℕ)) (total : List Member) (so_far : front ++ members_of counters (map element_of (drop i items)) ≡ total) where
   split : (item : Value) → i < length items → item ≡ slice_index_or items i item → drop i items ≡ item ∷ drop (i + 1) items
   split item lt e = drop_more items i item lt ∙ ap (λ (v : Value). v ∷ drop (i + 1) items) (sym e)
 
   -- an item that is a base
-  pub passes : (item : Value) → i < length items → item ≡ slice_index_or items i item → is_some (option_and_then base_of (element_of item)) ≡ true → front ++ members_of counters (map element_of (drop (i + 1) items)) ≡ total
+  pub passes : (item : Value) → i < length items → item ≡ slice_index_or items i item → is_some (option_and_then base_of_element (element_of item)) ≡ true → front ++ members_of counters (map element_of (drop (i + 1) items)) ≡ total
   unfolding members_of
   passes item lt e is =
       let one : members_of counters (map element_of (drop i items)) ≡ members_of counters (map element_of (drop (i + 1) items)) = rw (split item lt e, is) refl in
       ap (λ (ms : List Member). front ++ ms) (sym one) ∙ so_far
 
   -- an item that is a member, behind which these counters count
-  pub goes_on : (item : Value) (next : List (List ℕ)) → i < length items → item ≡ slice_index_or items i item → is_some (option_and_then base_of (element_of item)) ≡ false → HaveSame next (counters_behind (element_of item) counters) → (front ++ member_of counters (element_of item) ∷ []) ++ members_of next (map element_of (drop (i + 1) items)) ≡ total
+  pub goes_on : (item : Value) (next : List (List ℕ)) → i < length items → item ≡ slice_index_or items i item → is_some (option_and_then base_of_element (element_of item)) ≡ false → HaveSame next (counters_behind (element_of item) counters) → (front ++ member_of counters (element_of item) ∷ []) ++ members_of next (map element_of (drop (i + 1) items)) ≡ total
   unfolding members_of
   goes_on item next lt e is same =
       let one : members_of counters (map element_of (drop i items)) ≡ member_of counters (element_of item) ∷ members_of (counters_behind (element_of item) counters) (map element_of (drop (i + 1) items)) = rw (split item lt e, is) refl in

@@ -11,10 +11,8 @@ use Rattle.rio_format.specs.Descriptions.{description_classes}
 use Rattle.rio_format.specs.Slots.{any_pointer, link}
 use Rattle.rio_buffer.specs.Writer.{Writer}
 use Rattle.rio_format.specs.Written.{Writing, all, both, headed_bytes, just, writing_of}
-use Rattle.rio_describe.specs.ElementViews.{element_as}
 use Rattle.rio_format.specs.WrittenElements.{WrittenElement, base_element, member_element, written_elements}
 use Rattle.rio_format.specs.WrittenList.{class_pointer, element_object, linked}
-use Rattle.rio_describe.specs.declared.element.Element.{Element}
 use Rattle.rio_describe.specs.declared.element.ElementClass.{ElementClass}
 use Rattle.rio_describe.specs.declared.element.ElementClass.TheVariants.{Base as BaseElement, BasicType, BasicPointer, Text, Object, ObjectAny, ObjectPointer, ObjectAnyPointer}
 use Rattle.rio_write.specs.Writing.{pointer_to}
@@ -36,8 +34,8 @@ abbrev pub named_bytes : List ℕ → List ℕ
 named_bytes name = headed_object (pos 1) (plain_bytes ++ (text_bytes name ++ text_bytes []))
 
 -- an i32, or a u32
-abbrev pub number_bytes : ℤ → List ℕ
-number_bytes z = big_bytes 4 (cast_unsigned w32 z)
+abbrev pub four_bytes : ℤ → List ℕ
+four_bytes z = big_bytes 4 (cast_unsigned w32 z)
 
 -- what stands before a text of this length
 abbrev pub length_bytes : ℕ → List ℕ
@@ -47,11 +45,11 @@ length_bytes len = if nat_lt len 255 then len ∷ [] else 255 ∷ big_bytes 4 le
 
 -- the greatest index in each of five dimensions, of which there is one at most
 abbrev pub index_bytes : ℕ → List ℕ
-index_bytes count = number_bytes (pos count) ++ (number_bytes (pos 0) ++ (number_bytes (pos 0) ++ (number_bytes (pos 0) ++ number_bytes (pos 0))))
+index_bytes count = four_bytes (pos count) ++ (four_bytes (pos 0) ++ (four_bytes (pos 0) ++ (four_bytes (pos 0) ++ four_bytes (pos 0))))
 
 -- what is written of an element between its name and the name of its type
 abbrev pub element_numbers : WrittenElement → List ℕ
-element_numbers e = number_bytes e.code ++ (number_bytes (pos e.size) ++ (number_bytes (pos e.count) ++ (number_bytes (pos e.dimensions) ++ index_bytes e.count)))
+element_numbers e = four_bytes e.code ++ (four_bytes (pos e.size) ++ (four_bytes (pos e.count) ++ (four_bytes (pos e.dimensions) ++ index_bytes e.count)))
 
 -- what an element says as a TStreamerElement
 abbrev pub stated_bytes : WrittenElement → List ℕ
@@ -59,15 +57,15 @@ stated_bytes e = headed_object (pos 4) (named_bytes e.name ++ (element_numbers e
 
 -- what the class of a counted array adds: the version of the class that has it, the counter and that class
 abbrev pub counted_added : ClassDef → List ℕ → List ℕ
-counted_added owner counter = number_bytes owner.version ++ (text_bytes counter ++ text_bytes owner.name)
+counted_added owner counter = four_bytes owner.version ++ (text_bytes counter ++ text_bytes owner.name)
 
 -- the object of an element that adds these bytes
 abbrev pub element_bytes : WrittenElement → List ℕ → List ℕ
 element_bytes e added = headed_object e.version (stated_bytes e ++ added)
 
--- what the class of an element of the code adds
+-- what the class of an element adds
 abbrev pub own_bytes : ElementClass → List ℕ
-own_bytes (BaseElement version) = number_bytes version
+own_bytes (BaseElement version) = four_bytes version
 own_bytes BasicType = []
 own_bytes (BasicPointer owner counter) = counted_added owner.now counter.now
 own_bytes Text = []
@@ -75,10 +73,6 @@ own_bytes Object = []
 own_bytes ObjectAny = []
 own_bytes ObjectPointer = []
 own_bytes ObjectAnyPointer = []
-
--- the object of an element of the code
-abbrev pub object_bytes : Element → List ℕ
-object_bytes e = element_bytes (element_as e) (own_bytes e.class)
 
 -- what is written for an element: a pointer to its object
 abbrev pub element_writing : WrittenElement → Writing
@@ -106,7 +100,7 @@ classes_items classes part = all link (map (class_writing classes) part)
 
 -- what stands in an array before so many elements: no name, and the lower bound 0
 abbrev pub array_front : ℕ → List ℕ
-array_front count = plain_bytes ++ (text_bytes [] ++ (big_bytes 4 count ++ number_bytes (pos 0)))
+array_front count = plain_bytes ++ (text_bytes [] ++ (big_bytes 4 count ++ four_bytes (pos 0)))
 
 -- the array of a class's elements
 abbrev pub array_writer : List ClassDef → ClassDef → Writer
@@ -118,7 +112,7 @@ elements_writer classes c = pointer_to (codes "TObjArray") (array_writer classes
 
 -- what stands in the object of a class before the pointer to the array
 abbrev pub class_front : ClassDef → List ℕ
-class_front c = named_bytes c.name ++ (number_bytes (pos c.sum) ++ number_bytes c.version)
+class_front c = named_bytes c.name ++ (four_bytes (pos c.sum) ++ four_bytes c.version)
 
 -- the object of a class
 abbrev pub info_writer : List ClassDef → ClassDef → Writer

@@ -1,6 +1,6 @@
 //! The classes that a list describes.
 ghost use Rattle.std.specs.Prelude.{◌≡◌, codes, option_and_then, option_copied, pos, IfOk};
-ghost use Rattle.rio_format.specs.ClassList.{class_of, class_with, classes_of, element_items, item_class, list_items};
+ghost use Rattle.rio_format.specs.ClassList.{class_with, classes_of, described_class, element_items, item_class, list_items};
 ghost use Rattle.rio_format.specs.ValueParts.{part_of, parts_behind};
 
 use crate::members::{bases_of, members_of};
@@ -46,9 +46,9 @@ fn class_with(alloc: Global, info: &[Part], named: &[Part]) -> Result<ClassDef, 
 }
 
 // The class that a pointer's object describes, if it describes one.
-#[tactic(auto, unfolding(rio_format::specs::ClassList::class_of))]
-fn class_of(alloc: Global, pointer: &Value) -> Result<Option<ClassDef>, NoMemory>
-    ensures { IfOk result (λ class. class ≡ class_of pointer.now) }
+#[tactic(auto, unfolding(rio_format::specs::ClassList::described_class))]
+fn described_class(alloc: Global, pointer: &Value) -> Result<Option<ClassDef>, NoMemory>
+    ensures { IfOk result (λ class. class ≡ described_class pointer.now) }
 {
     match parts_behind(b"TStreamerInfo", 9, pointer) {
         Some(info) => match base_parts(b"TNamed", 1, info) {
@@ -64,7 +64,7 @@ fn class_in(alloc: Global, item: &Value) -> Result<Option<ClassDef>, NoMemory>
     ensures { IfOk result (λ class. class ≡ item_class item.now) }
 {
     match items_in(item).first() {
-        Some(pointer) => class_of(alloc, pointer),
+        Some(pointer) => described_class(alloc, pointer),
         None => Ok(None),
     }
 }

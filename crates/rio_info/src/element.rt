@@ -4,7 +4,7 @@ ghost use Rattle.std.specs.Option.{option_copied};
 ghost use Rattle.std.specs.Ordering.{int_eq};
 ghost use Rattle.std.specs.Str.{bytes_eq};
 ghost use Rattle.rio_format.specs.Descriptions.{is_element};
-ghost use Rattle.rio_format.specs.Elements.{element_of, element_parts, element_with, layer_element};
+ghost use Rattle.rio_format.specs.Elements.{element_of, element_with, layer_element, pointed_element_parts};
 ghost use Rattle.rio_value.specs.declared.value.Value.{out-Value};
 
 use crate::parts::{base_parts, object_behind, part_of, signed_in, signed_of, text_in, text_of};
@@ -83,8 +83,8 @@ fn parts_of_element(value: &Value) -> Option<&[Part]>
 }
 
 // The parts of an object of one of the classes of elements, where it begins behind a pointer.
-fn element_parts(pointer: &Value) -> Option<&[Part]>
-    ensures { option_copied result ≡ element_parts pointer.now }
+fn pointed_element_parts(pointer: &Value) -> Option<&[Part]>
+    ensures { option_copied result ≡ pointed_element_parts pointer.now }
 {
     parts_of_element(object_behind(pointer)?)
 }
@@ -109,7 +109,7 @@ fn element_with<'a>(own: &'a [Part], stated: &'a [Part], named: &'a [Part]) -> E
 pub(crate) fn element_of(pointer: &Value) -> Option<Element<'_>>
     ensures { result ≡ element_of pointer.now }
 {
-    let own = element_parts(pointer)?;
+    let own = pointed_element_parts(pointer)?;
     let stated = base_parts(b"TStreamerElement", 4, own)?;
     let named = base_parts(b"TNamed", 1, stated)?;
     Some(element_with(own, stated, named))

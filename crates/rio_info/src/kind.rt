@@ -1,6 +1,6 @@
 //! The kinds of members.
 ghost use Rattle.std.specs.Prelude.{◌≡◌, IfOk};
-ghost use Rattle.rio_format.specs.Elements.{counted_kind, counted_of, fixed_kind, fixed_of, kind_of, own_kind, primitive_of, without_star};
+ghost use Rattle.rio_format.specs.Elements.{counted_kind, counted_of, fixed_kind, fixed_of, kind_of, own_kind, primitive_by_code, without_star};
 ghost use Rattle.rio_types.specs.declared.kind.Kind.TheVariants.{Inline as InlineKind, Pointer as PointerKind};
 
 use crate::element::Element;
@@ -9,9 +9,9 @@ use rio_types::{Kind, Prim};
 use std::alloc::Global;
 
 // The single values that a code stands for.
-#[tactic(auto, unfolding(rio_format::specs::Elements::primitive_of))]
-fn primitive_of(code: i64) -> Option<Prim>
-    ensures { result ≡ primitive_of code }
+#[tactic(auto, unfolding(rio_format::specs::Elements::primitive_by_code))]
+fn primitive_by_code(code: i64) -> Option<Prim>
+    ensures { result ≡ primitive_by_code code }
 {
     match code {
         1 => Some(Prim::I8),
@@ -43,7 +43,7 @@ fn without_star(name: &[u8]) -> &[u8]
 fn fixed_kind(element: &Element) -> Option<Kind>
     ensures { result ≡ fixed_kind element.now }
 {
-    let of = primitive_of(i64::from(element.code) - 20)?;
+    let of = primitive_by_code(i64::from(element.code) - 20)?;
     match u32::try_from(element.count) {
         Ok(count) => Some(Kind::Fixed { of, count }),
         Err(_) => None,
@@ -58,7 +58,10 @@ fn counted_kind(
 ) -> Result<Option<Kind>, NoMemory>
     ensures { IfOk result (λ kind. kind ≡ counted_kind counters.now element.now) }
 {
-    match (primitive_of(i64::from(element.code) - 40), element.counter) {
+    match (
+        primitive_by_code(i64::from(element.code) - 40),
+        element.counter,
+    ) {
         (Some(of), Some(counter)) if counters.has(counter) => Ok(Some(Kind::Counted {
             of,
             counter: Name::from_slice(alloc, counter)?,
@@ -104,7 +107,7 @@ fn own_kind(alloc: Global, element: &Element) -> Result<Option<Kind>, NoMemory>
 pub(crate) fn kind_of(alloc: Global, counters: &Names, element: &Element) -> Result<Kind, NoMemory>
     ensures { IfOk result (λ kind. kind ≡ kind_of counters.now element.now) }
 {
-    if let Some(of) = primitive_of(i64::from(element.code)) {
+    if let Some(of) = primitive_by_code(i64::from(element.code)) {
         return Ok(Kind::Plain { of });
     }
     if let Some(kind) = fixed_kind(element) {

@@ -3,7 +3,6 @@ ghost use Rattle.std.specs.Prelude.{◌≡◌, ◌+◌, [], ◌∷◌, ◌++◌,
 ghost use Rattle.rio_num.specs.Text.{text_bytes};
 ghost use Rattle.rio_format.specs.Slots.{any_pointer, link};
 ghost use Rattle.rio_format.specs.Lists.{listed};
-ghost use Rattle.rio_describe.specs.ElementViews.{element_as, type_name_as};
 ghost use Rattle.rio_write.specs.Measuring.{Measures, longer};
 ghost use Rattle.rio_write.specs.Writing.{pointer_to};
 ghost use Rattle.rio_format.specs.WrittenBytes.{class_list_bytes, told_length, written_list};
@@ -37,25 +36,25 @@ fn add_named(measure: &mut Measure, name: &[u8])
 }
 
 // The name of an element's type.
-fn add_type(measure: &mut Measure, type_name: TypeName)
-    ensures { measure.new
-        ≡ longer (length (text_bytes (type_name_as type_name.entry))) measure.old }
+fn add_type(measure: &mut Measure, type_name: &TypeName)
+    ensures { measure.new ≡ longer (length (text_bytes type_name.now)) measure.old }
 {
-    match type_name {
-        TypeName::Value(name) => measure.add(text_length(name)),
+    if type_name.is_pointer {
         // An asterisk stands behind the name.
-        TypeName::Pointer(name) => measure.add(text_length_of(name.len() as u64 + 1)),
+        measure.add(text_length_of(type_name.name.len() as u64 + 1));
+    } else {
+        measure.add(text_length(type_name.name));
     }
 }
 
 // What an element says as a TStreamerElement.
 fn add_stated(measure: &mut Measure, element: &Element)
-    ensures { measure.new ≡ longer (length (stated_bytes (element_as element.now))) measure.old }
+    ensures { measure.new ≡ longer (length (stated_bytes element.now)) measure.old }
 {
     measure.add(HEADER);
     add_named(measure, element.name);
     measure.add(9 * WORD);
-    add_type(measure, element.type_name);
+    add_type(measure, &element.type_name);
 }
 
 // What the class of an element adds.
@@ -75,11 +74,11 @@ fn add_own(measure: &mut Measure, class: ElementClass)
 
 // A pointer to the object of an element.
 fn measure_element(measure: &mut Measure, element: &Element) -> Result<(), NoMemory>
-    ensures { Measures ((element_writing (element_as element.now)).bytes any_pointer)
+    ensures { Measures ((element_writing element.now).bytes any_pointer)
         result measure.old measure.new }
 {
     measure.add(COUNT_WORD);
-    measure.add_class(element.class.name())?;
+    measure.add_class(element.class_name())?;
     measure.add(HEADER);
     add_stated(measure, element);
     add_own(measure, element.class);

@@ -2,7 +2,7 @@
 ghost use Rattle.std.specs.Prelude.{◌≡◌, ℕ, List, [], map, is_some, option_and_then, option_map, IfOk, OnOk};
 ghost use Rattle.std.specs.List.{list_any};
 ghost use Rattle.std.specs.Str.{bytes_eq};
-ghost use Rattle.rio_format.specs.Elements.{base_of, bases_of, counters_behind, element_of, member_of, members_of};
+ghost use Rattle.rio_format.specs.Elements.{base_of_element, bases_of, counters_behind, element_of, member_of, members_of};
 
 use crate::element::{Element, element_of};
 use crate::kind::kind_of;
@@ -14,7 +14,7 @@ use std::alloc::Global;
 // The version in which the class has the base that an element is, if it is one.
 fn base_version(element: &Element) -> Option<i32>
     ensures { option_map (λ version. record { name = element.now.name; version = version }) result
-        ≡ base_of element.now }
+        ≡ base_of_element element.now }
 {
     let version = element.base_version?;
     if matches!(element.code, 0 | 66 | 67) {
@@ -26,7 +26,7 @@ fn base_version(element: &Element) -> Option<i32>
 
 // The base that an item is, if it is one.
 fn base_in(alloc: Global, item: &Value) -> Result<Option<Base>, NoMemory>
-    ensures { IfOk result (λ base. base ≡ option_and_then base_of (element_of item.now)) }
+    ensures { IfOk result (λ base. base ≡ option_and_then base_of_element (element_of item.now)) }
 {
     match element_of(item) {
         Some(element) => match base_version(&element) {
@@ -54,7 +54,7 @@ pub(crate) fn bases_of(alloc: Global, items: &[Value]) -> Result<Bases, NoMemory
 }
 
 fn is_base(element: &Option<Element>) -> bool
-    ensures { result ≡ is_some (option_and_then base_of element.now) }
+    ensures { result ≡ is_some (option_and_then base_of_element element.now) }
 {
     match element {
         Some(element) => base_version(element).is_some(),

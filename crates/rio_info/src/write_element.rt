@@ -4,9 +4,8 @@ ghost use Rattle.byteorder.specs.Endian.{big_bytes};
 ghost use Rattle.rio_num.specs.Text.{text_bytes};
 ghost use Rattle.rio_format.specs.Slots.{any_pointer};
 ghost use Rattle.rio_format.specs.Written.{just};
-ghost use Rattle.rio_describe.specs.ElementViews.{element_as, type_name_as};
 ghost use Rattle.rio_write.specs.Writing.{HasRoom, Writes};
-ghost use Rattle.rio_info.specs.WrittenParts.{counted_added, element_numbers, element_writing, index_bytes, length_bytes, named_bytes, number_bytes, object_bytes, own_bytes, plain_bytes, stated_bytes};
+ghost use Rattle.rio_info.specs.WrittenParts.{counted_added, element_numbers, element_writing, four_bytes, index_bytes, length_bytes, named_bytes, own_bytes, plain_bytes, stated_bytes};
 
 use rio_buffer::ObjWriter;
 use rio_describe::{Element, ElementClass, TypeName};
@@ -44,7 +43,7 @@ pub(crate) fn write_count(writer: &mut ObjWriter, count: usize) -> Result<(), No
 
 // An i32.
 fn write_number(writer: &mut ObjWriter, number: i32) -> Result<(), NoMemory>
-    ensures { Writes (just (number_bytes number)) result writer.old writer.new }
+    ensures { Writes (just (four_bytes number)) result writer.old writer.new }
 {
     writer.put_u32(number.cast_unsigned())
 }
@@ -62,7 +61,7 @@ fn write_indices(writer: &mut ObjWriter, count: u32) -> Result<(), NoMemory>
 
 // The code, the size, and how many values there are in which dimensions.
 fn write_numbers(writer: &mut ObjWriter, element: &Element) -> Result<(), NoMemory>
-    ensures { Writes (just (element_numbers (element_as element.now)))
+    ensures { Writes (just (element_numbers element.now))
         result writer.old writer.new }
 {
     let count = element.array.unwrap_or(0);
@@ -96,26 +95,25 @@ fn write_joined(writer: &mut ObjWriter, front: &[u8], back: &[u8]) -> Result<(),
 }
 
 // The name of the element's type.
-fn write_type(writer: &mut ObjWriter, type_name: TypeName) -> Result<(), NoMemory>
-    requires { length (type_name_as type_name) < 2 ^ 32 }
-    ensures { Writes (just (text_bytes (type_name_as type_name.entry)))
-        result writer.old writer.new }
+fn write_type(writer: &mut ObjWriter, type_name: &TypeName) -> Result<(), NoMemory>
+    requires { length type_name.now < 2 ^ 32 }
+    ensures { Writes (just (text_bytes type_name.now)) result writer.old writer.new }
 {
-    match type_name {
-        TypeName::Value(name) => writer.put_text(name),
-        TypeName::Pointer(name) => write_joined(writer, name, b"*"),
+    if type_name.is_pointer {
+        return write_joined(writer, type_name.name, b"*");
     }
+    writer.put_text(type_name.name)
 }
 
 // What the element says as a TStreamerElement.
 fn write_stated(writer: &mut ObjWriter, element: &Element) -> Result<(), NoMemory>
-    requires { HasRoom (just (stated_bytes (element_as element.now))) writer.old }
-    ensures { Writes (just (stated_bytes (element_as element.now))) result writer.old writer.new }
+    requires { HasRoom (just (stated_bytes element.now)) writer.old }
+    ensures { Writes (just (stated_bytes element.now)) result writer.old writer.new }
 {
     let begun = writer.begin(4)?;
     write_named(writer, element.name)?;
     write_numbers(writer, element)?;
-    write_type(writer, element.type_name)?;
+    write_type(writer, &element.type_name)?;
     writer.end(begun);
     Ok(())
 }
@@ -142,26 +140,18 @@ fn write_own(writer: &mut ObjWriter, class: ElementClass) -> Result<(), NoMemory
     }
 }
 
-// The object of the element.
-fn write_element_object(writer: &mut ObjWriter, element: &Element) -> Result<(), NoMemory>
-    requires { HasRoom (just (object_bytes element.now)) writer.old }
-    ensures { Writes (just (object_bytes element.now)) result writer.old writer.new }
-{
-    let begun = writer.begin(element.class.version())?;
-    write_stated(writer, element)?;
-    write_own(writer, element.class)?;
-    writer.end(begun);
-    Ok(())
-}
-
 /// A pointer to the object of the element.
 pub(crate) fn write_element(writer: &mut ObjWriter, element: &Element) -> Result<(), NoMemory>
-    requires { HasRoom ((element_writing (element_as element.now)).bytes any_pointer) writer.old }
-    ensures { Writes ((element_writing (element_as element.now)).bytes any_pointer)
+    requires { HasRoom ((element_writing element.now).bytes any_pointer) writer.old }
+    ensures { Writes ((element_writing element.now).bytes any_pointer)
         result writer.old writer.new }
 {
-    let begun = writer.begin_pointer(element.class.name())?;
-    write_element_object(writer, element)?;
-    writer.end(begun);
+    let class = element.class;
+    let pointer = writer.begin_pointer(element.class_name())?;
+    let object = writer.begin(element.class_version())?;
+    write_stated(writer, element)?;
+    write_own(writer, class)?;
+    writer.end(object);
+    writer.end(pointer);
     Ok(())
 }

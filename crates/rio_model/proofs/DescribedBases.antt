@@ -5,7 +5,7 @@ use Rattle.std.specs.Str.{bytes_eq}
 use Rattle.std.proofs.lemmas.Bool.{and_parts}
 use Rattle.rio_types.specs.declared.class.Base.{Base}
 use Rattle.rio_value.specs.declared.value.Value.{Pointed}
-use Rattle.rio_format.specs.Elements.{Element, base_of, bases_of, element_of, is_code, members_of}
+use Rattle.rio_format.specs.Elements.{Element, base_of_element, bases_of, element_of, is_code, members_of}
 use Rattle.rio_format.specs.Fits.{fits_signed}
 use Rattle.rio_model.specs.Described.{is_base_number}
 use Rattle.rio_format.specs.WrittenElements.{base_code, base_element}
@@ -30,7 +30,7 @@ base_coded name = by_tests IsBaseCode (refl, refl) (refl, refl) (refl, refl) (by
 base_said : (b : Base) (label : ℕ) → element_of (Pointed label (element_object (base_element b))) ≡ Some (said (base_element b))
 base_said b label = element_said label (base_element b) refl (base_coded b.name).0 refl
 
-base_again : (b : Base) → is_base_number b ≡ true → base_of (said (base_element b)) ≡ Some b
+base_again : (b : Base) → is_base_number b ≡ true → base_of_element (said (base_element b)) ≡ Some b
 base_again b h = rw (signed_back b.version h, (base_coded b.name).1) refl
 
 -- ---- all bases
@@ -53,7 +53,7 @@ bases_read (b ∷ bs) es h =
     let parts = and_parts (is_base_number b) (list_all is_base_number bs) h in
     rw (base_again b parts.0) (ap (λ (l : List Base). b ∷ l) (bases_read bs es parts.1))
 
-base_passes : (e : Element) (b : Base) (es : List (Option Element)) (counters : List (List ℕ)) → base_of e ≡ Some b → members_of counters (Some e ∷ es) ≡ members_of counters es
+base_passes : (e : Element) (b : Base) (es : List (Option Element)) (counters : List (List ℕ)) → base_of_element e ≡ Some b → members_of counters (Some e ∷ es) ≡ members_of counters es
 unfolding members_of
 base_passes e b es counters h = rw h refl
 

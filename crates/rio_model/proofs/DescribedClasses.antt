@@ -11,7 +11,7 @@ use Rattle.rio_types.specs.declared.class.ClassDef.{ClassDef}
 use Rattle.rio_value.specs.declared.value.Part.{Part}
 use Rattle.rio_value.specs.declared.value.Value.{Value, Int, Text, List as Items, Object, Pointed}
 use Rattle.rio_format.specs.Bodies.{part}
-use Rattle.rio_format.specs.ClassList.{class_of, class_with, classes_of, element_items, elements_of, item_class, list_items}
+use Rattle.rio_format.specs.ClassList.{class_with, classes_of, described_class, element_items, elements_of, item_class, list_items}
 use Rattle.rio_format.specs.Elements.{Element, bases_of, element_of, members_of}
 use Rattle.rio_format.specs.Fits.{fits_signed}
 use Rattle.rio_format.specs.ValueParts.{parts_behind, parts_of}
@@ -92,8 +92,8 @@ info_back : (c : ClassDef) (label : ℕ) (elements : Value) → parts_behind (co
 unfolding info_object
 info_back c label elements = behind_back (codes "TStreamerInfo") (pos 9) label (info_parts c elements) refl
 
-class_again : (context : List ClassDef) (label : ℕ) (c : ClassDef) → Described c → class_of (class_pointer context label c) ≡ Some c
-unfolding class_of class_pointer
+class_again : (context : List ClassDef) (label : ℕ) (c : ClassDef) → Described c → described_class (class_pointer context label c) ≡ Some c
+unfolding described_class class_pointer
 class_again context label c is =
     let items = pointers_from (label + 2) (map element_object (written_elements context c)) in
     let elements = Pointed (label + 1) (array_object items) in
@@ -110,8 +110,8 @@ class_again context label c is =
 
 -- ---- the list
 
-item_back : (pointer : Value) → item_class (linked pointer) ≡ class_of pointer
-item_back pointer = ap (λ (vs : List Value). option_and_then class_of (slice_get vs 0)) (items_back (pointer ∷ Text [] ∷ []))
+item_back : (pointer : Value) → item_class (linked pointer) ≡ described_class pointer
+item_back pointer = ap (λ (vs : List Value). option_and_then described_class (slice_get vs 0)) (items_back (pointer ∷ Text [] ∷ []))
 
 links_back : (context : List ClassDef) (label : ℕ) (cs : List ClassDef) → list_all is_described cs ≡ true → filter_map item_class (class_links context label cs) ≡ cs
 unfolding class_links

@@ -4,7 +4,7 @@ use Rattle.rio_value.specs.declared.value.Part.{Part}
 use Rattle.rio_value.specs.declared.value.Value.{Text, Object, Pointed, out-Value}
 use Rattle.rio_format.specs.Bodies.{part}
 use Rattle.rio_format.specs.Descriptions.{is_element}
-use Rattle.rio_format.specs.Elements.{Element, element_of, element_parts as parts_behind_element, element_with, layer_element}
+use Rattle.rio_format.specs.Elements.{Element, element_of, element_with, layer_element, pointed_element_parts as parts_behind_element}
 use Rattle.rio_format.specs.Fits.{fits_signed}
 use Rattle.rio_format.specs.ValueParts.{base_parts, part_of, signed_in, text_in}
 use Rattle.rio_format.specs.WrittenList.{element_object, element_parts, named_object, plain_object}

@@ -11,7 +11,7 @@ use Rattle.rio_types.specs.declared.class.ClassDef.{ClassDef}
 use Rattle.rio_types.specs.declared.kind.Kind.TheVariants.{Plain, Counter, Fixed, Counted, Text, Inline, Pointer}
 use Rattle.rio_types.specs.declared.kind.Primitive.{Primitive}
 use Rattle.rio_types.specs.declared.kind.Primitive.TheVariants.{I8, I16, I32, I64, U8, U16, U32, U64, Bool as Boolean, F32, F64}
-use Rattle.rio_format.specs.Elements.{kind_of, own_kind, primitive_of, without_star}
+use Rattle.rio_format.specs.Elements.{kind_of, own_kind, primitive_by_code, without_star}
 use Rattle.rio_format.specs.WrittenElements.{counted_element, counter_element, fixed_element, inline_element, plain_element, pointer_element, text_element, starred}
 use Rattle.rio_model.proofs.DescribedElements.{said}
 use Rattle.rio_model.proofs.DescribedValues.{text_back}
@@ -19,7 +19,7 @@ use Rattle.rio_model.proofs.DescribedValues.{text_back}
 -- ---- numbers and texts
 
 pub plain_kind : (counters : List (List ℕ)) (name : List ℕ) (of : Primitive) → kind_of counters (said (plain_element name of)) ≡ Plain of
-unfolding kind_of primitive_of own_kind
+unfolding kind_of primitive_by_code own_kind
 plain_kind counters name I8 = refl
 plain_kind counters name I16 = refl
 plain_kind counters name I32 = refl
@@ -33,15 +33,15 @@ plain_kind counters name F32 = refl
 plain_kind counters name F64 = refl
 
 pub counter_kind : (counters : List (List ℕ)) (name : List ℕ) → kind_of counters (said (counter_element name)) ≡ Counter
-unfolding kind_of primitive_of own_kind
+unfolding kind_of primitive_by_code own_kind
 counter_kind counters name = refl
 
 pub text_kind : (counters : List (List ℕ)) (name : List ℕ) → kind_of counters (said (text_element name)) ≡ Text
-unfolding kind_of primitive_of own_kind
+unfolding kind_of primitive_by_code own_kind
 text_kind counters name = refl
 
 pub fixed_kind_back : (counters : List (List ℕ)) (name : List ℕ) (of : Primitive) (count : ℕ) → kind_of counters (said (fixed_element name of count)) ≡ Fixed of count
-unfolding kind_of primitive_of own_kind
+unfolding kind_of primitive_by_code own_kind
 fixed_kind_back counters name I8 count = refl
 fixed_kind_back counters name I16 count = refl
 fixed_kind_back counters name I32 count = refl
@@ -55,7 +55,7 @@ fixed_kind_back counters name F32 count = refl
 fixed_kind_back counters name F64 count = refl
 
 pub counted_kind_back : (counters : List (List ℕ)) (owner : ClassDef) (name : List ℕ) (of : Primitive) (counter : List ℕ) → list_any (bytes_eq counter) counters ≡ true → kind_of counters (said (counted_element owner name of counter)) ≡ Counted of counter
-unfolding kind_of primitive_of own_kind
+unfolding kind_of primitive_by_code own_kind
 counted_kind_back counters owner name I8 counter h = rw (text_back counter, h) refl
 counted_kind_back counters owner name I16 counter h = rw (text_back counter, h) refl
 counted_kind_back counters owner name I32 counter h = rw (text_back counter, h) refl
@@ -113,11 +113,11 @@ starred_name class =
     rw (e, drop-append_seam class (codes "*"), take-append_seam class (codes "*")) refl
 
 pub inline_kind : (counters : List (List ℕ)) (reaches : Bool) (name class : List ℕ) → is_name_text class ≡ true → kind_of counters (said (inline_element reaches name class)) ≡ Inline class
-unfolding kind_of primitive_of own_kind
+unfolding kind_of primitive_by_code own_kind
 inline_kind counters true name class h = ap Inline (bare_name class h)
 inline_kind counters false name class h = ap Inline (bare_name class h)
 
 pub pointer_kind : (counters : List (List ℕ)) (reaches : Bool) (name class : List ℕ) → kind_of counters (said (pointer_element reaches name class)) ≡ Pointer class
-unfolding kind_of primitive_of own_kind
+unfolding kind_of primitive_by_code own_kind
 pointer_kind counters true name class = ap Pointer (starred_name class)
 pointer_kind counters false name class = ap Pointer (starred_name class)

@@ -16,7 +16,7 @@ use Rattle.rio_types.specs.declared.kind.Primitive.{Primitive}
 use Rattle.rio_types.specs.declared.kind.Primitive.TheVariants.{I8, I16, I32, I64, U8, U16, U32, U64, Bool as Boolean, F32, F64}
 use Rattle.rio_types.specs.Members.{is_counter}
 use Rattle.rio_format.specs.Descriptions.{is_element}
-use Rattle.rio_format.specs.Elements.{Element, base_of, bases_of, counters_behind, element_of, kind_of, member_of, members_of}
+use Rattle.rio_format.specs.Elements.{Element, base_of_element, bases_of, counters_behind, element_of, kind_of, member_of, members_of}
 use Rattle.rio_format.specs.Fits.{fits_signed}
 use Rattle.rio_model.specs.Stated.{are_stated_members, has_counter, is_none, is_stated_kind, is_stated_member}
 use Rattle.rio_model.specs.ClassGrammar.{has_member, primitive_of}
@@ -37,7 +37,7 @@ pub record IsRead (counters : List (List ℕ)) (name : List ℕ) (kind : Kind) (
   pub code : fits_signed 32 e.code ≡ true
   pub count : fits_signed 32 (pos e.count) ≡ true
   pub named : e.name ≡ name
-  pub no_base : base_of (said e) ≡ None
+  pub no_base : base_of_element (said e) ≡ None
   pub kinds : kind_of counters (said e) ≡ kind
   pub behind : counters_behind (Some (said e)) counters ≡ with_counter (is_counter kind) name counters
 
@@ -161,7 +161,7 @@ stated_parts before m after h =
     let middle = and_parts (is_name_text m.name && not (has_member before m.name)) (is_stated_kind before m.name after m.kind) outer.0 in
     record { kind = middle.1; title = empty_title m.title outer.1 }
 
-pub member_passes : (counters : List (List ℕ)) (e : Element) (es : List (Option Element)) → base_of e ≡ None → members_of counters (Some e ∷ es) ≡ member_of counters (Some e) ∷ members_of (counters_behind (Some e) counters) es
+pub member_passes : (counters : List (List ℕ)) (e : Element) (es : List (Option Element)) → base_of_element e ≡ None → members_of counters (Some e ∷ es) ≡ member_of counters (Some e) ∷ members_of (counters_behind (Some e) counters) es
 unfolding members_of
 member_passes counters e es h = rw h refl
 

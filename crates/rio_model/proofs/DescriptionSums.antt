@@ -2,7 +2,7 @@
 use Rattle.std.proofs.Common.{◌≡◌, pos, codes, ℕ, ℤ, List, refl}
 use Rattle.std.specs.Fmt.{digits}
 use Rattle.rio_num.specs.Printed.{name_text}
-use Rattle.rio_format.specs.Descriptions.{bare_element, base_element, counted_element, description_classes, element_class, info_class}
+use Rattle.rio_format.specs.Descriptions.{bare_element, base_element_class, counted_element_class, description_classes, element_class, info_class}
 use Rattle.rio_model.specs.ClassGrammar.{checksum_of}
 use Rattle.rio_model.specs.ClassText.{text_of_class}
 use Rattle.rio_model.specs.Described.{DescriptionsHaveSums}
@@ -15,11 +15,11 @@ element_sum : checksum_of element_class ≡ 1842746706
 unfolding checksum_of text_of_class name_text digits
 element_sum = refl
 
-base_sum : checksum_of base_element ≡ 2469373253
+base_sum : checksum_of base_element_class ≡ 2469373253
 unfolding checksum_of text_of_class name_text digits
 base_sum = refl
 
-counted_sum : checksum_of counted_element ≡ 1505910659
+counted_sum : checksum_of counted_element_class ≡ 1505910659
 unfolding checksum_of text_of_class name_text digits
 counted_sum = refl
 

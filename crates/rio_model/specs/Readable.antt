@@ -5,6 +5,7 @@ use Rattle.rio_num.specs.Word.{is_name_text}
 use Rattle.rio_value.specs.declared.value.Value.{Value}
 use Rattle.rio_value.specs.declared.value.Value.TheOpen.{Value-F, Int, Bits32, Bits64, Bool as Truth, Text, List as Items, Object, Pointed, Null, Back, Opaque}
 use Rattle.rio_value.specs.declared.value.Value.TheFolds.{fold-Value}
+use Rattle.rio_token.specs.Marks.{closing_brace, closing_bracket, comma}
 use Rattle.rio_model.specs.Stated.{is_class_version}
 use Rattle.rio_model.specs.ValueGrammar.{bracket_limit, value_in}
 use Rattle.rio_model.specs.ValueText.{text_of_value}
@@ -79,7 +80,7 @@ is_readable v = (readability_of v).within bracket_limit
 -- what may stand behind a value: nothing, a comma or a closing bracket
 abbrev pub Follows : List ℕ → Type 0
 Follows [] = Unit {0}
-Follows (b ∷ bs) = (b ≡ 44) ⊎ ((b ≡ 93) ⊎ (b ≡ 125))
+Follows (b ∷ bs) = (b ≡ comma) ⊎ ((b ≡ closing_bracket) ⊎ (b ≡ closing_brace))
 
 -- the text of a value is read as the value, wherever it stands
 abbrev pub ValuesAreRead : Type 0

@@ -106,22 +106,22 @@ abbrev pub ResolvedStays : Type 0
 ResolvedStays = (classes : List ClassDef) (v w : Value) → resolved classes v ≡ Some w → resolved classes w ≡ Some w
 
 -- one layer of a value, with what is known of each child in its place
-abbrev pub versions_step : Value-F Bool Bool → Bool
-versions_step (Int z) = true
-versions_step (Bits32 n) = true
-versions_step (Bits64 n) = true
-versions_step (Truth b) = true
-versions_step (Text text) = true
-versions_step (Items items) = list_all (λ b. b) items
-versions_step (Object class version parts) = not (int_eq version (pos 0)) && list_all (λ b. b) parts
-versions_step (Pointed label object) = object
-versions_step Null = true
-versions_step (Back label) = true
-versions_step (Opaque class len) = true
+abbrev pub has_versions_step : Value-F Bool Bool → Bool
+has_versions_step (Int z) = true
+has_versions_step (Bits32 n) = true
+has_versions_step (Bits64 n) = true
+has_versions_step (Truth b) = true
+has_versions_step (Text text) = true
+has_versions_step (Items items) = list_all (λ b. b) items
+has_versions_step (Object class version parts) = not (int_eq version (pos 0)) && list_all (λ b. b) parts
+has_versions_step (Pointed label object) = object
+has_versions_step Null = true
+has_versions_step (Back label) = true
+has_versions_step (Opaque class len) = true
 
 -- no object in it leaves its version open
 abbrev pub has_all_versions : Value → Bool
-has_all_versions = fold-Value Bool Bool versions_step (λ p. p.value)
+has_all_versions = fold-Value Bool Bool has_versions_step (λ p. p.value)
 
 -- a resolved value leaves no version open, where no class is declared in version 0
 abbrev pub ResolvedHasVersions : Type 0

@@ -17,7 +17,7 @@ use Rattle.rio_format.specs.Bodies.{form_of, part}
 use Rattle.rio_format.specs.Slots.{is_headed}
 use Rattle.rio_format.proofs.Tests.{both_true}
 use Rattle.rio_format.proofs.ValueCases.{Each, by_cases, fold_Int, fold_Bits32, fold_Bits64, fold_Bool, fold_Text, fold_List, fold_Object, fold_Pointed, fold_Null, fold_Back, fold_Opaque}
-use Rattle.rio_model.specs.Resolving.{ResolvedHasVersions, Resolving, bases_in_version, built_in_version, each_resolved, has_all_versions, is_known_version, meant_version, object_resolved, part_resolved, resolved_version, resolving_of, resolving_of_part, resolving_step, versions_step}
+use Rattle.rio_model.specs.Resolving.{ResolvedHasVersions, Resolving, bases_in_version, built_in_version, each_resolved, has_all_versions, has_versions_step, is_known_version, meant_version, object_resolved, part_resolved, resolved_version, resolving_of, resolving_of_part, resolving_step}
 use Rattle.rio_valtext.proofs.ResolveLaws.{at, is_known_then, mapped, resolving-List, resolving-Object, resolving-Pointed}
 
 -- ---- versions
@@ -87,15 +87,15 @@ abbrev part_has_versions : Part → Bool
 part_has_versions p = has_all_versions p.value
 
 versions-List : (vs : List Value) → has_all_versions (Items vs) ≡ list_all (λ b. b) (map has_all_versions vs)
-versions-List vs = fold_List versions_step part_step vs
+versions-List vs = fold_List has_versions_step part_step vs
 
 versions-Object : (class : List ℕ) (version : ℤ) (parts : List Part) → has_all_versions (Object class version parts) ≡ (is_closed version && list_all (λ b. b) (map part_has_versions parts))
 versions-Object class version parts =
-    fold_Object versions_step part_step class version parts
-    ∙ ap (λ (f : Part → Bool). is_closed version && list_all (λ b. b) (map f parts)) (λ i p. fold_out-Part Bool Bool versions_step part_step p i)
+    fold_Object has_versions_step part_step class version parts
+    ∙ ap (λ (f : Part → Bool). is_closed version && list_all (λ b. b) (map f parts)) (λ i p. fold_out-Part Bool Bool has_versions_step part_step p i)
 
 versions-Pointed : (label : ℕ) (object : Value) → has_all_versions (Pointed label object) ≡ has_all_versions object
-versions-Pointed label object = fold_Pointed versions_step part_step label object
+versions-Pointed label object = fold_Pointed has_versions_step part_step label object
 
 module _ (classes : List ClassDef) (closed : list_all (λ c. is_closed c.version) classes ≡ true) where
   abbrev step : Value-F (Resolving Value) (Resolving Part) → Resolving Value
@@ -149,17 +149,17 @@ module _ (classes : List ClassDef) (closed : list_all (λ c. is_closed c.version
 
   each_value_closes : (v : Value) → Closes v
   each_value_closes = by_cases Closes (record {
-    int = λ z. leaf (Int z) _ (fold_Int step resolving_part_step z) (λ bases. refl) (fold_Int versions_step part_step z);
-    bits32 = λ n. leaf (Bits32 n) _ (fold_Bits32 step resolving_part_step n) (λ bases. refl) (fold_Bits32 versions_step part_step n);
-    bits64 = λ n. leaf (Bits64 n) _ (fold_Bits64 step resolving_part_step n) (λ bases. refl) (fold_Bits64 versions_step part_step n);
-    truth = λ b. leaf (Truth b) _ (fold_Bool step resolving_part_step b) (λ bases. refl) (fold_Bool versions_step part_step b);
-    text = λ t. leaf (Text t) _ (fold_Text step resolving_part_step t) (λ bases. refl) (fold_Text versions_step part_step t);
+    int = λ z. leaf (Int z) _ (fold_Int step resolving_part_step z) (λ bases. refl) (fold_Int has_versions_step part_step z);
+    bits32 = λ n. leaf (Bits32 n) _ (fold_Bits32 step resolving_part_step n) (λ bases. refl) (fold_Bits32 has_versions_step part_step n);
+    bits64 = λ n. leaf (Bits64 n) _ (fold_Bits64 step resolving_part_step n) (λ bases. refl) (fold_Bits64 has_versions_step part_step n);
+    truth = λ b. leaf (Truth b) _ (fold_Bool step resolving_part_step b) (λ bases. refl) (fold_Bool has_versions_step part_step b);
+    text = λ t. leaf (Text t) _ (fold_Text step resolving_part_step t) (λ bases. refl) (fold_Text has_versions_step part_step t);
     list = list_closes;
     object = object_closes;
     pointed = pointed_closes;
-    null = leaf Null _ (fold_Null step resolving_part_step) (λ bases. refl) (fold_Null versions_step part_step);
-    back = λ label. leaf (Back label) _ (fold_Back step resolving_part_step label) (λ bases. refl) (fold_Back versions_step part_step label);
-    opaque = λ class len. leaf (Opaque class len) _ (fold_Opaque step resolving_part_step class len) (λ bases. refl) (fold_Opaque versions_step part_step class len);
+    null = leaf Null _ (fold_Null step resolving_part_step) (λ bases. refl) (fold_Null has_versions_step part_step);
+    back = λ label. leaf (Back label) _ (fold_Back step resolving_part_step label) (λ bases. refl) (fold_Back has_versions_step part_step label);
+    opaque = λ class len. leaf (Opaque class len) _ (fold_Opaque step resolving_part_step class len) (λ bases. refl) (fold_Opaque has_versions_step part_step class len);
   })
 
 pub resolved_has_versions_so : ResolvedHasVersions

@@ -1,16 +1,8 @@
 -- What the code that resolves values returns.
-use Rattle.std.specs.Prelude.{◌≡◌, ◌≢◌, List, [], ◌∷◌, ◌++◌, Option, Some, None, Result, Ok, Err}
+use Rattle.std.specs.Prelude.{◌≡◌, ◌≢◌, List, ◌++◌, Option, Some, None, Result, Ok, Err}
 use Rattle.std.specs.Option.{option_map}
-use Rattle.rio_types.specs.declared.class.Base.{Base}
-use Rattle.rio_format.specs.Bodies.{t_object_base}
-use Rattle.rio_valtext.specs.declared.resolving.ClassBases.{ClassBases}
-use Rattle.rio_valtext.specs.declared.resolving.ClassBases.TheVariants.{Listed, TObject}
 use Rattle.rio_valtext.specs.declared.resolving.ResolveFault.{ResolveFault}
 use Rattle.rio_valtext.specs.declared.resolving.ResolveFault.TheVariants.{NoMemory}
-
-abbrev pub bases_as : ClassBases → List Base
-bases_as (Listed bases) = bases.now
-bases_as TObject = t_object_base ∷ []
 
 -- Ok holds the resolved value. With an Err other than NoMemory there is none.
 abbrev pub Resolves : {A : Type 0} → Result A ResolveFault → Option A → Type 0
@@ -18,5 +10,5 @@ Resolves (Ok x) o = o ≡ Some x
 Resolves (Err e) o = e ≢ NoMemory → o ≡ None
 
 -- the items that were resolved so far, before the others
-abbrev pub with_front : {A : Type 0} → List A → Option (List A) → Option (List A)
-with_front front = option_map (λ xs. front ++ xs)
+abbrev pub with_resolved : {A : Type 0} → List A → Option (List A) → Option (List A)
+with_resolved front = option_map (λ xs. front ++ xs)

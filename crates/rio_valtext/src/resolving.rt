@@ -1,9 +1,11 @@
 //! Values with the versions that their text leaves open.
-ghost use Rattle.std.specs.Prelude.{◌≡◌, [], map, option_and_then, IfOk, IfErr, Some, None};
-ghost use Rattle.rio_model.specs.Resolving.{ResolvedHasVersions, ResolvedStays, base_version, bases_in_version, built_in_version, each_resolved, is_known_version, meant_version, newest_known, object_resolved, resolved, resolved_row, resolved_version, resolving_of, resolving_of_part};
-ghost use Rattle.rio_valtext.specs.Resolves.{Resolves, bases_as};
+ghost use Rattle.std.specs.Prelude.{◌≡◌, [], ◌∷◌, map, option_and_then, IfOk, IfErr, Some, None};
+ghost use Rattle.rio_format.specs.Bodies.{t_object_base};
+ghost use Rattle.rio_format.specs.Slots.{body_bases, headed_body};
+ghost use Rattle.rio_model.specs.Resolving.{ResolvedHasVersions, ResolvedStays, base_version, built_in_version, each_resolved, is_known_version, meant_version, newest_known, object_resolved, resolved, resolved_row, resolved_version, resolving_of, resolving_of_part};
+ghost use Rattle.rio_valtext.specs.Resolves.{Resolves};
 
-use rio_format::{BodyKind, declared_body, headed_version, is_headed};
+use rio_format::{Body, BodyKind, declared_body, headed_version, is_headed};
 use rio_num::{Boxed, Name, NoMemory};
 use rio_types::{Base, Classes};
 use rio_value::{Part, Parts, Value, Values};
@@ -30,15 +32,6 @@ impl From<NoMemory> for ResolveFault {
     }
 }
 
-/// The bases of a class.
-#[derive(Clone, Copy)]
-enum ClassBases<'a> {
-    /// These, in order.
-    Listed(&'a [Base]),
-    /// TObject alone.
-    TObject,
-}
-
 // The one version of a built-in class.
 fn built_in_version(class: &[u8]) -> Option<i32>
     ensures { result ≡ built_in_version class.now }
@@ -59,33 +52,47 @@ fn newest_known(classes: &Classes, class: &[u8]) -> Option<i32>
     }
 }
 
-// The bases that the class has in the version.
-fn bases_in_version<'a>(classes: &'a Classes, class: &[u8], version: i32) -> ClassBases<'a>
-    ensures { bases_as result ≡ bases_in_version classes.now class.now version }
+// The body of the class's objects that begin with a header. It says which bases the class has in the version.
+fn headed_body<'a>(classes: &'a Classes, class: &[u8], version: i32) -> Option<Body<'a>>
+    ensures { result ≡ headed_body classes.now class.now version }
 {
-    if !is_headed(class) {
-        return ClassBases::Listed(&[]);
-    }
-    let Some(body) = declared_body(classes, class, version) else {
-        return ClassBases::Listed(&[]);
-    };
-    match body.0 {
-        BodyKind::Described(found) => ClassBases::Listed(found.bases.as_slice()),
-        BodyKind::Opaque => ClassBases::Listed(&[]),
-        BodyKind::Named | BodyKind::ObjString | BodyKind::Listed | BodyKind::Arrayed => {
-            ClassBases::TObject
-        }
+    if is_headed(class) {
+        declared_body(classes, class, version)
+    } else {
+        None
     }
 }
 
 // The version of the base of that name.
-fn base_version(bases: ClassBases, class: &[u8]) -> Option<i32>
-    ensures { result ≡ base_version (bases_as bases.entry) class.now }
+fn base_version(around: &Option<Body>, class: &[u8]) -> Option<i32>
+    ensures { result ≡ base_version (body_bases around.now) class.now }
 {
-    match bases {
-        ClassBases::Listed(bases) => listed_version(bases, class),
-        ClassBases::TObject if class == b"TObject".as_slice() => Some(1),
-        ClassBases::TObject => None,
+    match around {
+        Some(body) => version_in_body(body, class),
+        None => None,
+    }
+}
+
+fn version_in_body(body: &Body, class: &[u8]) -> Option<i32>
+    ensures { result ≡ base_version (body_bases (Some body.now)) class.now }
+{
+    match body.0 {
+        BodyKind::Described(found) => listed_version(found.bases.as_slice(), class),
+        BodyKind::Opaque => None,
+        BodyKind::Named | BodyKind::ObjString | BodyKind::Listed | BodyKind::Arrayed => {
+            object_version(class)
+        }
+    }
+}
+
+// The version of TObject, which is the one base.
+fn object_version(class: &[u8]) -> Option<i32>
+    ensures { result ≡ base_version (t_object_base ∷ []) class.now }
+{
+    if class == b"TObject".as_slice() {
+        Some(1)
+    } else {
+        None
     }
 }
 
@@ -101,13 +108,18 @@ fn listed_version(bases: &[Base], class: &[u8]) -> Option<i32>
 }
 
 // The version that an object means.
-fn meant_version(classes: &Classes, bases: ClassBases, class: &[u8], version: i32) -> Option<i32>
-    ensures { result ≡ meant_version classes.now (bases_as bases.entry) class.now version }
+fn meant_version(
+    classes: &Classes,
+    around: &Option<Body>,
+    class: &[u8],
+    version: i32,
+) -> Option<i32>
+    ensures { result ≡ meant_version classes.now (body_bases around.now) class.now version }
 {
     if version != 0 {
         return Some(version);
     }
-    match base_version(bases, class) {
+    match base_version(around, class) {
         Some(version) => Some(version),
         None => newest_known(classes, class),
     }
@@ -123,28 +135,28 @@ fn is_known_version(classes: &Classes, class: &[u8], version: i32) -> bool
 // The version that an object means, if its class is known in it.
 fn resolved_version(
     classes: &Classes,
-    bases: ClassBases,
+    around: &Option<Body>,
     class: &[u8],
     version: i32,
 ) -> Result<i32, ResolveFault>
-    ensures { let found = resolved_version classes.now (bases_as bases.entry) class.now version in
+    ensures { let found = resolved_version classes.now (body_bases around.now) class.now version in
         Resolves result found }
 {
-    match meant_version(classes, bases, class, version) {
+    match meant_version(classes, around, class, version) {
         Some(version) if is_known_version(classes, class, version) => Ok(version),
         _ => Err(ResolveFault::NoSuchClass),
     }
 }
 
-// The value, which is a base of a class with these bases if it stands in one.
+// The value, which is a base of an object with this body if it stands in one.
 #[cycle(resolve)]
 fn resolve_value(
     alloc: Global,
     classes: &Classes,
-    bases: ClassBases,
+    around: &Option<Body>,
     value: &Value,
 ) -> Result<Value, ResolveFault>
-    ensures { Resolves result (resolving_of classes.now value.now (bases_as bases.entry)) }
+    ensures { Resolves result (resolving_of classes.now value.now (body_bases around.now)) }
 {
     match value {
         Value::Int(n) => Ok(Value::Int(*n)),
@@ -160,13 +172,13 @@ fn resolve_value(
         } => resolve_object(
             alloc,
             classes,
-            bases,
+            around,
             class.as_slice(),
             *version,
             parts.as_slice(),
         ),
         Value::Pointed { label, object } => {
-            let object = resolve_value(alloc, classes, ClassBases::Listed(&[]), object.get())?;
+            let object = resolve_value(alloc, classes, &None, object.get())?;
             Ok(Value::Pointed {
                 label: *label,
                 object: Boxed::new(alloc, object)?,
@@ -185,16 +197,16 @@ fn resolve_value(
 fn resolve_object(
     alloc: Global,
     classes: &Classes,
-    bases: ClassBases,
+    around: &Option<Body>,
     class: &[u8],
     version: i32,
     parts: &[Part],
 ) -> Result<Value, ResolveFault>
     ensures { let within = map (resolving_of_part classes.now) parts.now in
-        let version = resolved_version classes.now (bases_as bases.entry) class.now version in
+        let version = resolved_version classes.now (body_bases around.now) class.now version in
         Resolves result (option_and_then (object_resolved classes.now class.now within) version) }
 {
-    let version = resolved_version(classes, bases, class, version)?;
+    let version = resolved_version(classes, around, class, version)?;
     resolve_in_version(alloc, classes, class, version, parts)
 }
 
@@ -210,8 +222,8 @@ fn resolve_in_version(
     ensures { let within = map (resolving_of_part classes.now) parts.now in
         Resolves result (object_resolved classes.now class.now within version) }
 {
-    let bases = bases_in_version(classes, class, version);
-    let parts = resolve_parts(alloc, classes, bases, parts)?;
+    let body = headed_body(classes, class, version);
+    let parts = resolve_parts(alloc, classes, &body, parts)?;
     Ok(Value::Object {
         class: Name::from_slice(alloc, class)?,
         version,
@@ -225,25 +237,25 @@ fn resolve_items(alloc: Global, classes: &Classes, items: &[Value]) -> Result<Va
 {
     let mut resolved = Values::new(alloc);
     for item in items {
-        resolved.push(resolve_value(alloc, classes, ClassBases::Listed(&[]), item)?)?;
+        resolved.push(resolve_value(alloc, classes, &None, item)?)?;
     }
     Ok(resolved)
 }
 
-// The parts of an object whose class has these bases.
+// The parts of an object with this body.
 #[cycle(resolve)]
 fn resolve_parts(
     alloc: Global,
     classes: &Classes,
-    bases: ClassBases,
+    around: &Option<Body>,
     parts: &[Part],
 ) -> Result<Parts, ResolveFault>
     ensures { let within = map (resolving_of_part classes.now) parts.now in
-        Resolves result (each_resolved (bases_as bases.entry) within) }
+        Resolves result (each_resolved (body_bases around.now) within) }
 {
     let mut resolved = Parts::new(alloc);
     for part in parts {
-        resolved.push(resolve_part(alloc, classes, bases, part)?)?;
+        resolved.push(resolve_part(alloc, classes, around, part)?)?;
     }
     Ok(resolved)
 }
@@ -252,17 +264,16 @@ fn resolve_parts(
 fn resolve_part(
     alloc: Global,
     classes: &Classes,
-    bases: ClassBases,
+    around: &Option<Body>,
     part: &Part,
 ) -> Result<Part, ResolveFault>
-    ensures { Resolves result (resolving_of_part classes.now part.now (bases_as bases.entry)) }
+    ensures { Resolves result (resolving_of_part classes.now part.now (body_bases around.now)) }
 {
-    let bases = if part.name.len() == 0 {
-        bases
+    let value = if part.name.len() == 0 {
+        resolve_value(alloc, classes, around, &part.value)?
     } else {
-        ClassBases::Listed(&[])
+        resolve_value(alloc, classes, &None, &part.value)?
     };
-    let value = resolve_value(alloc, classes, bases, &part.value)?;
     Ok(Part {
         name: part.name.copy()?,
         value,
@@ -278,7 +289,7 @@ pub fn resolved(alloc: Global, classes: &Classes, value: &Value) -> Result<Value
     ensures none { let found = resolved classes.now value.now in
         IfErr result (λ e. e ≡ ResolveFault.NoSuchClass → found ≡ None) }
 {
-    resolve_value(alloc, classes, ClassBases::Listed(&[]), value)
+    resolve_value(alloc, classes, &None, value)
 }
 
 /// The row with a version in each object of its values, as `resolved` gives it. `NoSuchClass` says that the class of an

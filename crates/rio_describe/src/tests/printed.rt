@@ -16,15 +16,13 @@ fn put_integer(printed: &mut Bytes, n: i32) -> Result<(), NoMemory> {
     }
 }
 
-fn put_type(printed: &mut Bytes, type_name: TypeName) -> Result<(), NoMemory> {
+fn put_type(printed: &mut Bytes, type_name: &TypeName) -> Result<(), NoMemory> {
     printed.put(b" ")?;
-    match type_name {
-        TypeName::Value(name) => printed.put(name),
-        TypeName::Pointer(name) => {
-            printed.put(name)?;
-            printed.put(b"*")
-        }
+    printed.put(type_name.name)?;
+    if type_name.is_pointer {
+        printed.put(b"*")?;
     }
+    Ok(())
 }
 
 fn put_added(printed: &mut Bytes, class: ElementClass) -> Result<(), NoMemory> {
@@ -48,15 +46,15 @@ fn put_added(printed: &mut Bytes, class: ElementClass) -> Result<(), NoMemory> {
 /// Class and version, code, size, the values of an array, type, and what the class adds.
 pub(crate) fn printed_element(alloc: Global, element: &Element) -> Result<Bytes, NoMemory> {
     let mut printed = Bytes::new(alloc);
-    printed.put(element.class.name())?;
-    put_number(&mut printed, u64::from(element.class.version()))?;
+    printed.put(element.class_name())?;
+    put_number(&mut printed, u64::from(element.class_version()))?;
     put_integer(&mut printed, element.code)?;
     put_number(&mut printed, element.size)?;
     match element.array {
         Some(count) => put_number(&mut printed, u64::from(count))?,
         None => printed.put(b" -")?,
     }
-    put_type(&mut printed, element.type_name)?;
+    put_type(&mut printed, &element.type_name)?;
     put_added(&mut printed, element.class)?;
     Ok(printed)
 }

@@ -1,6 +1,6 @@
 use Rattle.std.proofs.Common.{◌∙◌, ◌≡◌, ◌-◌, ℕ, suc, length, subst, sym, arith, ap, length-append}
 use Rattle.std.proofs.lemmas.Int.{to_z-of_z}
-use Rattle.rio_format.specs.Bases.{AreClosed, Expanded, any_below}
+use Rattle.rio_format.specs.Bases.{Expanded, HaveVisitedBases, any_below}
 use Rattle.rio_format.specs.Lists.{listed}
 use Rattle.rio_format.proofs.BaseLaws.{direct_below, none_below, nothing_below, whole_round}
 use Rattle.rio_format.proofs.bases.has_base.Goals as goal
@@ -15,7 +15,7 @@ loop-left-preserved c =
     let x : Expanded classes target old new (length old) = c.in_ok-expand_round.ensures.expanded c.if-branch.false in
     record {
       begin = omega (arith, c.len-end.ensures, ap length x.is, length-append old x.more);
-      closed = subst (AreClosed classes target new) (sym c.len-end.ensures) x.closed;
+      closed = subst (HaveVisitedBases classes target new) (sym c.len-end.ensures) x.closed;
       same = whole_round classes target (c.loop-left.left - 1) old new x ∙ ap (λ (k : ℕ). any_below classes target k old) left ∙ c.loop-left.invariant.same;
     }
 
@@ -25,7 +25,7 @@ returns-then-begin-end c =
     let target = c.args.target.now in
     let visits = c.loop-left.visits in
     let all : c.loop-left.begin ≡ length visits = omega (arith, c.len-end.ensures) in
-    simp (to_z-of_z, c.ranges.version) at (sym (none_below classes target visits (subst (AreClosed classes target visits) all c.loop-left.invariant.closed) c.loop-left.left) ∙ c.loop-left.invariant.same)
+    simp (to_z-of_z, c.ranges.version) at (sym (none_below classes target visits (subst (HaveVisitedBases classes target visits) all c.loop-left.invariant.closed) c.loop-left.left) ∙ c.loop-left.invariant.same)
 
 pub returns-then-branch : goal.returns-then-branch
 returns-then-branch c =

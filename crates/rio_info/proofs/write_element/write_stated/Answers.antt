@@ -1,9 +1,8 @@
-use Rattle.std.proofs.Common.{◌≡◌, ◌++◌, refl}
+use Rattle.std.proofs.Common.{◌≡◌, ◌++◌, ap, refl}
 use Rattle.std.specs.Prelude.{pos}
 use Rattle.rio_num.specs.Text.{text_bytes}
 use Rattle.rio_buffer.specs.Writer.{WriterState, Writer}
 use Rattle.rio_format.specs.Written.{just}
-use Rattle.rio_describe.specs.ElementViews.{element_as}
 use Rattle.rio_format.specs.WrittenElements.{WrittenElement}
 use Rattle.rio_write.specs.Writing.{with_written}
 use Rattle.rio_write.proofs.WriteLaws.{room_first, room_then, text_room}
@@ -26,30 +25,40 @@ module _ (e : WrittenElement) where
 
 pub write_named-requires : goal.write_named-requires
 write_named-requires c =
-    let e = element_as c.args.element.now in
-    room_first (just (named_bytes e.name)) (behind e) _ (body_room (pos 4) 4 (body e) _ _ _ refl c.in_ok-begun.ensures c.requires)
+    let e = c.args.element.now in
+    let name = ap (λ (w : WrittenElement). w.name) c.element.view_is in
+    rw name (room_first (just (named_bytes e.name)) (behind e) _ (body_room (pos 4) 4 (body e) _ _ _ refl c.in_ok-begun.ensures c.requires))
 
 pub write_type-requires : goal.write_type-requires
 write_type-requires c =
-    let e = element_as c.args.element.now in
+    let e = c.args.element.now in
+    let name = ap (λ (w : WrittenElement). w.name) c.element.view_is in
+    let type_name = ap (λ (w : WrittenElement). w.type_name) c.element.view_is in
     let room = body_room (pos 4) 4 (body e) _ _ _ refl c.in_ok-begun.ensures c.requires in
-    text_room e.type_name _ (room_then (just (element_numbers e)) (just (text_bytes e.type_name)) _ _ c.in_ok-write_numbers.ensures
-    (room_then (just (named_bytes e.name)) (behind e) _ _ c.in_ok-write_named.ensures room))
+    let named = rw name at c.in_ok-write_named.ensures in
+    rw type_name (text_room e.type_name _ (room_then (just (element_numbers e)) (just (text_bytes e.type_name)) _ _ c.in_ok-write_numbers.ensures
+    (room_then (just (named_bytes e.name)) (behind e) _ _ named room)))
 
 pub end-requires-clause-innermost : goal.end-requires-clause-innermost
 end-requires-clause-innermost c =
-    let e = element_as c.args.element.now in
-    let written = all_stated e _ _ _ _ c.in_ok-write_named.ensures c.in_ok-write_numbers.ensures c.in_ok-write_type.ensures in
+    let e = c.args.element.now in
+    let name = ap (λ (w : WrittenElement). w.name) c.element.view_is in
+    let type_name = ap (λ (w : WrittenElement). w.type_name) c.element.view_is in
+    let written = all_stated e _ _ _ _ (rw name at c.in_ok-write_named.ensures) c.in_ok-write_numbers.ensures (rw type_name at c.in_ok-write_type.ensures) in
     object_innermost (pos 4) 4 (body e) _ _ _ refl c.in_ok-begun.ensures _ written
 
 pub end-requires-clause-size : goal.end-requires-clause-size
 end-requires-clause-size c =
-    let e = element_as c.args.element.now in
-    let written = all_stated e _ _ _ _ c.in_ok-write_named.ensures c.in_ok-write_numbers.ensures c.in_ok-write_type.ensures in
+    let e = c.args.element.now in
+    let name = ap (λ (w : WrittenElement). w.name) c.element.view_is in
+    let type_name = ap (λ (w : WrittenElement). w.type_name) c.element.view_is in
+    let written = all_stated e _ _ _ _ (rw name at c.in_ok-write_named.ensures) c.in_ok-write_numbers.ensures (rw type_name at c.in_ok-write_type.ensures) in
     object_counted (pos 4) 4 (body e) _ _ _ refl c.in_ok-begun.ensures _ written c.requires
 
 pub returns : goal.returns
 returns c =
-    let e = element_as c.args.element.now in
-    let written = all_stated e _ _ _ _ c.in_ok-write_named.ensures c.in_ok-write_numbers.ensures c.in_ok-write_type.ensures in
+    let e = c.args.element.now in
+    let name = ap (λ (w : WrittenElement). w.name) c.element.view_is in
+    let type_name = ap (λ (w : WrittenElement). w.type_name) c.element.view_is in
+    let written = all_stated e _ _ _ _ (rw name at c.in_ok-write_named.ensures) c.in_ok-write_numbers.ensures (rw type_name at c.in_ok-write_type.ensures) in
     object_written (pos 4) 4 (body e) _ _ _ refl c.in_ok-begun.ensures _ written _ c.end.ensures

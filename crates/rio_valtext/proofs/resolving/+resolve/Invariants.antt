@@ -1,12 +1,13 @@
 use Rattle.std.proofs.Common.{◌≡◌, [], map, drop}
 use Rattle.rio_model.specs.Resolving.{each_resolved, resolving_of, resolving_of_part}
-use Rattle.rio_valtext.specs.Resolves.{bases_as, with_front}
+use Rattle.rio_format.specs.Slots.{body_bases}
+use Rattle.rio_valtext.specs.Resolves.{with_resolved}
 use Rattle.rio_valtext.proofs.resolving.+resolve.Given as goal
 
 abbrev pub invariant-resolve_items-loop-item : goal.invariant-resolve_items-loop-item
 invariant-resolve_items-loop-item l =
-    with_front l.resolved (each_resolved [] (map (resolving_of l.classes) (drop l.item-index l.items))) ≡ each_resolved [] (map (resolving_of l.classes) l.items)
+    with_resolved l.resolved (each_resolved [] (map (resolving_of l.classes) (drop l.item-index l.items))) ≡ each_resolved [] (map (resolving_of l.classes) l.items)
 
 abbrev pub invariant-resolve_parts-loop-part : goal.invariant-resolve_parts-loop-part
 invariant-resolve_parts-loop-part l =
-    with_front l.resolved (each_resolved (bases_as l.bases) (map (resolving_of_part l.classes) (drop l.part-index l.parts))) ≡ each_resolved (bases_as l.bases) (map (resolving_of_part l.classes) l.parts)
+    with_resolved l.resolved (each_resolved (body_bases l.around) (map (resolving_of_part l.classes) (drop l.part-index l.parts))) ≡ each_resolved (body_bases l.around) (map (resolving_of_part l.classes) l.parts)
