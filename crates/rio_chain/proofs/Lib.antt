@@ -1,2 +1,6 @@
+pub mod Finding
+pub mod Keys
+pub mod Links
 pub mod OneChain
+pub mod SoFar
 pub mod Words

@@ -1,7 +1,6 @@
 -- A file has one list of segments or one first break, and never both.
-use Rattle.std.proofs.Common.{◌≡◌, ℕ, ◌+◌, ◌-◌, ◌^◌, ◌<◌, ◌≤◌, List, [], ◌∷◌, length, refl, sym, ap, subst, ◌∙◌, arith}
-use Rattle.rio_host.specs.Image.{Has}
-use Rattle.rio_chain.specs.Segments.{Link, RecordAt, GapAt, link_length, end_from, chain_end, HasWord, HoldsRecord, HoldsGap, HoldsLink, HoldsLinks, HoldsEnd, IsChain, BreaksAt}
+use Rattle.std.proofs.Common.{◌≡◌, ℕ, ◌+◌, ◌-◌, ◌^◌, List, [], ◌∷◌, length, refl, sym, ap, subst, ◌∙◌, arith}
+use Rattle.rio_chain.specs.Segments.{Link, RecordAt, GapAt, link_length, end_from, chain_end, HoldsRecord, HoldsGap, HoldsLink, HoldsLinks, HoldsEnd, IsChain, BreaksAt}
 use Rattle.rio_chain.proofs.Words.{has_same, word_one, held_word, held_positive}
 
 -- a record's word is no gap's
@@ -63,8 +62,8 @@ module _ (file : List ℕ) where
   links_stuck (x ∷ xs) (y ∷ ys) place a sa b sb =
       let same = link_one file place x y a.0 b.0 in
       let rest = links_stuck xs ys (place + link_length x) a.1 sa
-          (subst (λ (l : Link). HoldsLinks file (place + link_length l) ys) (sym same) b.1)
-          (subst (λ (l : Link). IsStuck file (end_from (place + link_length l) ys)) (sym same) sb) in
+      (subst (λ (l : Link). HoldsLinks file (place + link_length l) ys) (sym same) b.1)
+      (subst (λ (l : Link). IsStuck file (end_from (place + link_length l) ys)) (sym same) sb) in
       rest ∙ ap (λ (l : Link). end_from (place + link_length l) ys) same
 
   pub chain_one : (xs ys : List Link) → IsChain xs file → IsChain ys file → xs ≡ ys

@@ -1,5 +1,5 @@
 -- Words and records at places: there is one.
-use Rattle.std.proofs.Common.{◌≡◌, ◌⊎◌, inl, inr, ℕ, ◌+◌, ◌-◌, ◌%◌, ◌^◌, ◌<◌, ◌≤◌, pos, List, [], ◌∷◌, ◌++◌, length, take, drop, get_or, Some, refl, sym, ap, subst, ◌∙◌, append_assoc, length-append, length-take, length-drop, arith}
+use Rattle.std.proofs.Common.{◌≡◌, ℕ, ◌+◌, ◌^◌, ◌<◌, ◌≤◌, pos, List, [], ◌++◌, length, take, drop, get_or, Some, refl, sym, ap, subst, ◌∙◌, append_assoc, length-append, length-take, length-drop, arith}
 use Rattle.std.proofs.lemmas.List.{ext_get_or}
 use Rattle.std.proofs.lemmas.Option.{slice_get-get_or, slice_get_within, same_Some}
 use Rattle.std.specs.List.{slice_get}
@@ -9,9 +9,7 @@ use Rattle.rio_host.specs.Image.{Has}
 use Rattle.rio_host.specs.ImageLaws.{slice_get-take, slice_get-drop}
 use Rattle.rio_host.proofs.Images.{has_keeps, has_length, has_front}
 use Rattle.rio_key.specs.Key.{place_len}
-use Rattle.rio_key.specs.Spelling.{SpellsKey, number_bytes}
-use Rattle.rio_key.specs.declared.head.KeyHead.{KeyHead}
-use Rattle.rio_chain.specs.Segments.{HasWord, HoldsRecord, HoldsGap, HoldsEnd, IsPositive, IsRecord}
+use Rattle.rio_chain.specs.Segments.{HasWord, HoldsRecord, IsPositive, IsRecord}
 
 -- as many bytes at one place are the same bytes
 pub has_same : (file : List ℕ) (place : ℕ) (xs ys : List ℕ) → length xs ≡ length ys → Has file place xs → Has file place ys → xs ≡ ys

@@ -1,6 +1,5 @@
 -- What holds of the segments of every file.
-use Rattle.std.specs.Prelude.{◌≡◌, ◌⊎◌, ℕ, List}
-use Rattle.rio_num.specs.At.{AreBytes}
+use Rattle.std.specs.Prelude.{◌≡◌, ℕ, List}
 use Rattle.rio_chain.specs.Segments.{Link, IsChain, BreaksAt}
 
 -- a file has one list of segments

@@ -1,2 +1,5 @@
+pub mod Adjoining
+pub mod Found
 pub mod Laws
 pub mod Segments
+pub mod Walks

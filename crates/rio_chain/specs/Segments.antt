@@ -1,7 +1,7 @@
 -- The segments of a file: records and gaps from place 100 to END, or the place where they break.
-use Rattle.std.specs.Prelude.{◌≡◌, ℕ, ◌+◌, ◌-◌, ◌%◌, ◌^◌, ◌<◌, ◌≤◌, List, [], ◌∷◌, codes, length, drop, map, pos, Result, Ok}
+use Rattle.std.specs.Prelude.{◌≡◌, ℕ, ◌+◌, ◌-◌, ◌%◌, ◌^◌, ◌<◌, ◌≤◌, List, [], ◌∷◌, codes, length, map, pos, Result, Ok}
 use Rattle.byteorder.specs.Endian.{big_number}
-use Rattle.rio_num.specs.At.{At}
+use Rattle.rio_num.specs.At.{At, standing_at}
 use Rattle.rio_num.specs.Reading.{◌>>=◌, text_at}
 use Rattle.rio_num.specs.declared.cursor.Short.{Short}
 use Rattle.rio_host.specs.Image.{Has}
@@ -64,7 +64,7 @@ pub record IsRecord (place : ℕ) (bytes : List ℕ) : Type 0 where
 -- where two texts end, which the data behind a key of this length begin with
 unfoldable pub texts_end_at : ℕ → List ℕ → Result At Short
 texts_end_at keylen bytes = do
-  name ← text_at (record { place = keylen; rest = drop keylen bytes })
+  name ← text_at (standing_at 0 keylen bytes)
   title ← text_at name.1
   Ok title.1
 

@@ -1,8 +1,14 @@
 //! The chain of a file: records and gaps, one behind the other from place 100 to END.
 #![tactic(auto)]
 
+mod fault;
+mod found;
 mod laws;
+mod reads;
 mod segment;
+mod walking;
 
+pub use fault::WalkFault;
 pub use laws::one_chain;
 pub use segment::{Segment, Segments};
+pub use walking::walk;
