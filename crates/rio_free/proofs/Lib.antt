@@ -1,0 +1,4 @@
+pub mod Best
+pub mod Given
+pub mod Order
+pub mod Taken
