@@ -12,6 +12,7 @@ use Rattle.rio_chain.specs.Found.{MayPrecede, FindsLink, FindsWord, IsKindOf, Is
 use Rattle.rio_chain.specs.Walks.{Told, TellsBreak}
 use Rattle.rio_chain.specs.declared.fault.WalkFault.{WalkFault}
 use Rattle.rio_chain.specs.declared.fault.WalkFault.TheVariants.{NoChain, NoMemory, HostFault}
+use Rattle.rio_chain.proofs.Chains.{end-append}
 use Rattle.rio_chain.proofs.Words.{held_word, word_one, word_within}
 
 -- ---- links up to a place
@@ -19,10 +20,6 @@ use Rattle.rio_chain.proofs.Words.{held_word, word_one, word_within}
 pub links-append : (file : List ℕ) (place : ℕ) (front back : List Link) → HoldsLinks file place front → HoldsLinks file (end_from place front) back → HoldsLinks file place (front ++ back)
 links-append file place [] back one two = two
 links-append file place (l ∷ front) back one two = (one.0, links-append file (place + link_length l) front back one.1 two)
-
-pub end-append : (place : ℕ) (front back : List Link) → end_from place (front ++ back) ≡ end_from (end_from place front) back
-end-append place [] back = refl
-end-append place (l ∷ front) back = end-append (place + link_length l) front back
 
 -- these links stand up to this place, and these are their segments
 pub record UpTo (place : ℕ) (segments : List Segment) (file : List ℕ) : Type 0 where

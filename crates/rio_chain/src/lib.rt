@@ -1,6 +1,7 @@
 //! The chain of a file: records and gaps, one behind the other from place 100 to END.
 #![tactic(auto)]
 
+mod behind;
 mod fault;
 mod found;
 mod laws;
