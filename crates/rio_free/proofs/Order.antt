@@ -55,3 +55,9 @@ pub ends_fit : (from : ℕ) (gaps : List Gap) → AreGapsFrom from gaps → (k :
 ends_fit from [] are k d lt = absurd (omega (arith, lt))
 ends_fit from (g ∷ gaps) are zero d lt = are.0.fits
 ends_fit from (g ∷ gaps) are (suc k) d lt = ends_fit (gap_end g + 1) gaps are.1 k d (omega arith)
+
+-- none is empty
+pub all_some : (from : ℕ) (gaps : List Gap) → AreGapsFrom from gaps → (k : ℕ) (d : Gap) → k < length gaps → 0 < (get_or gaps k d).length
+all_some from [] are k d lt = absurd (omega (arith, lt))
+all_some from (g ∷ gaps) are zero d lt = are.0.some
+all_some from (g ∷ gaps) are (suc k) d lt = all_some (gap_end g + 1) gaps are.1 k d (omega arith)

@@ -6,6 +6,8 @@ pub mod KeyFront
 pub mod KeyLaws
 pub mod KeyListLaws
 pub mod KeyRead
+pub mod KeyWritten
+pub mod Puts
 pub mod Signed
 pub mod Steps
 pub mod KeyRecord

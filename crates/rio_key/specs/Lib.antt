@@ -2,3 +2,4 @@ pub mod Key
 pub mod KeyList
 pub mod Laws
 pub mod Spelling
+pub mod Written

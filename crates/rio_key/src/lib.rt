@@ -6,12 +6,14 @@ mod head;
 mod laws;
 mod list;
 mod read;
+mod write;
 
 pub use fault::{KeyFault, ListFault};
 pub use head::KeyHead;
-pub use laws::{key_in_front, one_key, one_key_list};
+pub use laws::{key_in_front, one_key, one_key_list, written_key_is_spelled};
 pub use list::{Heads, read_heads};
 pub use read::read_key;
+pub use write::{key_length, write_key};
 
 #[cfg(test)]
 mod tests;

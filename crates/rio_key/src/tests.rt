@@ -1,5 +1,6 @@
 //! Keys and lists of heads of an empty file.
-use crate::{Heads, KeyFault, read_heads, read_key};
+use crate::{Heads, KeyFault, KeyHead, read_heads, read_key, write_key};
+use rio_num::{Bytes, Name};
 use std::alloc::Global;
 use std::test::Fail;
 
@@ -54,5 +55,26 @@ fn tells_where_a_key_lacks_bytes(rt: HostRuntime) -> Result<(), Fail> {
     };
     let text = format!(in rt.alloc(); "{fault}")?;
     assert_eq!(rt; text.as_str(), "fewer than 4 bytes are left at 252");
+    Ok(())
+}
+
+#[test]
+fn writes_a_key(rt: HostRuntime) -> Result<(), Fail> {
+    let head = KeyHead {
+        nbytes: 52,
+        version: 4,
+        objlen: 12,
+        datime: 1,
+        keylen: 40,
+        cycle: 1,
+        seek: 252,
+        pdir: 100,
+        class: Name::from_slice(rt.alloc(), b"TFile")?,
+        name: Name::from_slice(rt.alloc(), b"a.root")?,
+        title: Name::new(rt.alloc()),
+    };
+    let mut bytes = Bytes::new(rt.alloc());
+    write_key(&head, &mut bytes)?;
+    assert!(rt; bytes.as_slice() == FREE);
     Ok(())
 }

@@ -1,4 +1,4 @@
-use Rattle.std.proofs.Common.{◌≡◌, ◌∙◌, ◌-◌, ◌<◌, ◌||◌, ℕ, List, ltb, length, vec_len, vec_capacity, ap, sym, subst, arith}
+use Rattle.std.proofs.Common.{◌≡◌, ◌∙◌, ◌-◌, ◌+◌, ◌<◌, ◌≤◌, ◌||◌, ℕ, List, ltb, length, vec_len, vec_capacity, ap, sym, subst, arith}
 use Rattle.std.specs.List.{insert}
 use Rattle.std.proofs.lemmas.List.Sums.{prefix_len-le-length}
 use Rattle.rio_free.specs.Gaps.{AreGaps, FreeGaps, gap_of, is_free}
@@ -34,7 +34,7 @@ invariant_of-self-else-touches c =
     let spare : c.self.inside.spare ≡ c.args.self.now.spare = ap (λ (l : FreeGaps). l.spare) c.self.view_is in
     let room : vec_len c.join_next-gap.new.gaps < vec_capacity c.join_next-gap.new.gaps = omega (arith, c.join_next-gap.ensures.len, c.join_next-gap.ensures.room, c.self.invariant.room, c.requires.room, spare) in
     let is = inserted c.insert.result _ _ _ (c.insert.ensures.succeeds room) c.insert.ensures.items ∙ t.missed (sym c.if-touches.ensures) in
-    let long = one_more _ _ _ c.insert.ensures.len in
+    let long : vec_len c.insert.new.self ≤ vec_len c.join_next-gap.new.gaps + 1 = one_more _ _ _ c.insert.ensures.len in
     record { sorted = subst AreGaps (sym is) t.are; room = omega (arith, long, c.insert.ensures.capacity, c.join_next-gap.ensures.len, c.join_next-gap.ensures.room, c.self.invariant.room, c.requires.room, spare) }
 
 pub returns-then-touches-clause-exact : goal.returns-then-touches-clause-exact

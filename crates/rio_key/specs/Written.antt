@@ -1,0 +1,32 @@
+-- The one way in which a key is written.
+use Rattle.std.specs.Prelude.{◌≡◌, ℕ, ◌^◌, ◌<◌, ◌≤◌, pos, List, ◌++◌, length}
+use Rattle.std.specs.Int.{w32, cast_unsigned}
+use Rattle.rio_num.specs.Text.{text_bytes}
+use Rattle.rio_key.specs.Key.{place_len}
+use Rattle.rio_key.specs.Spelling.{AreWithinFields, SpellsKey, number_bytes}
+use Rattle.rio_key.specs.declared.head.KeyHead.{KeyHead}
+
+-- the bytes of a key from its first to its title's end, each text in its short form where it can be
+abbrev pub written_key : KeyHead → List ℕ
+written_key h = number_bytes h (cast_unsigned w32 h.nbytes) ++ (text_bytes h.class ++ (text_bytes h.name ++ text_bytes h.title))
+
+-- each text's length fits, and the places fit the form of the key's version
+pub record FitsKey (h : KeyHead) : Type 0 where
+  pub seek : h.seek < 256 ^ place_len h.version
+  pub pdir : h.pdir < 256 ^ place_len h.version
+  pub class : length h.class < 2 ^ 32
+  pub name : length h.name < 2 ^ 32
+  pub title : length h.title < 2 ^ 32
+
+-- numbers that fit their fields, a record that holds its key, and a key that holds what is written of it
+pub record HoldsItself (h : KeyHead) : Type 0 where
+  pub numbers : AreWithinFields h
+  pub nbytes : ℕ
+  pub length_is : h.nbytes ≡ pos nbytes
+  pub length_fits : nbytes < 2 ^ 31
+  pub key_held : h.keylen ≤ nbytes
+  pub title_held : length (written_key h) ≤ h.keylen
+
+-- what is written of such a key spells it, so it is read
+abbrev pub WrittenKeyIsSpelled : Type 0
+WrittenKeyIsSpelled = (h : KeyHead) → FitsKey h → HoldsItself h → SpellsKey h (written_key h)
