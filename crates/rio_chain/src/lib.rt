@@ -4,12 +4,14 @@
 mod behind;
 mod fault;
 mod found;
+mod kept;
 mod laws;
 mod reads;
 mod segment;
 mod walking;
 
 pub use fault::WalkFault;
+pub use kept::Chain;
 pub use laws::one_chain;
 pub use segment::{Segment, Segments};
 pub use walking::walk;
