@@ -1,0 +1,9 @@
+pub mod BehindSteps
+pub mod Chains
+pub mod Finding
+pub mod Keys
+pub mod Links
+pub mod OneChain
+pub mod Puts
+pub mod SoFar
+pub mod Words

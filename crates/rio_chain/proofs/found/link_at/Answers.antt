@@ -1,0 +1,20 @@
+use Rattle.std.proofs.Common.{◌∙◌, sym, refl, subst}
+use Rattle.std.proofs.lemmas.Bool.{false≢true}
+use Rattle.rio_chain.specs.Found.{FindsWord}
+use Rattle.rio_chain.proofs.Links.{link_found, not_alone}
+use Rattle.rio_chain.proofs.found.link_at.Goals as goal
+
+pub returns-then-not-are_apart-clause-none : goal.returns-then-not-are_apart-clause-none
+returns-then-not-are_apart-clause-none g c = (
+  refl,
+  λ file told.
+      not_alone file c.args.place c.args.word c.in_ok-segment.segment c.in_ok-behind.behind (c.requires.word file told) c.in_ok-segment.ensures.kind c.in_ok-segment.ensures.begins
+      c.in_ok-segment.ensures.length (subst (λ k. FindsWord k c.in_ok-behind.behind file) c.end.ensures (c.in_ok-behind.ensures.word file (c.segment_at.ensures.calls.holds ∙ told)))
+      (λ apart. false≢true (sym c.if-not-are_apart.true ∙ c.are_apart.ensures.1 apart)),
+)
+
+pub returns-clause-link : goal.returns-clause-link
+returns-clause-link g c file told =
+    link_found file c.args.place c.in_ok-segment.segment c.in_ok-behind.behind c.in_ok-segment.ensures.begins (c.in_ok-segment.ensures.segment file told)
+    (subst (λ k. FindsWord k c.in_ok-behind.behind file) c.end.ensures (c.in_ok-behind.ensures.word file (c.segment_at.ensures.calls.holds ∙ told)))
+    (c.are_apart.ensures.0 c.if-not-are_apart.false)

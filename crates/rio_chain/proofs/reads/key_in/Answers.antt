@@ -1,0 +1,20 @@
+use Rattle.std.proofs.Common.{◌∙◌, ap, subst, Option, Some}
+use Rattle.rio_key.specs.Spelling.{IsSpelledIn, SpellsKey}
+use Rattle.rio_key.specs.declared.head.KeyHead.{KeyHead}
+use Rattle.rio_chain.proofs.Keys.{standing_rest, no_key_found}
+use Rattle.rio_chain.proofs.reads.key_in.Goals as goal
+
+pub returns-in-Ok-clause-key : goal.returns-in-Ok-clause-key
+returns-in-Ok-clause-key c =
+    let is = standing_rest c.args.place c.args.bytes.now in record {
+      found_is = subst (IsSpelledIn (SpellsKey c.in-Ok.head)) is c.in-Ok.ensures.found;
+      only = λ h s. ap some (c.in-Ok.ensures.only h s.0 s.1 (is ∙ s.2) s.3);
+    }
+  where
+    some : KeyHead → Option KeyHead
+    some h = Some h
+
+pub returns-in-Err-clause-key : goal.returns-in-Err-clause-key
+returns-in-Err-clause-key c =
+    let is = standing_rest c.args.place c.args.bytes.now in
+    no_key_found c.args.bytes.now c.in-Err.fault c.no_key.result (λ ne h s. ne (c.in-Err.ensures.only h s.0 s.1 (is ∙ s.2) s.3)) c.no_key.ensures.key

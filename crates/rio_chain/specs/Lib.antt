@@ -1,0 +1,9 @@
+pub mod Adjoining
+pub mod Chains
+pub mod Changes
+pub mod Found
+pub mod Laws
+pub mod Placing
+pub mod Segments
+pub mod Stops
+pub mod Walks

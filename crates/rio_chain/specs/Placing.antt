@@ -1,0 +1,52 @@
+-- Where records go: the choice of place, and what a record makes of the segments.
+use Rattle.std.specs.Prelude.{◌≡◌, ◌⊎◌, ℕ, ◌+◌, ◌-◌, ◌==◌, List, [], ◌∷◌, if◌then◌else◌}
+use Rattle.std.specs.Option.{unwrap_or}
+use Rattle.rio_free.specs.Gaps.{best_place, gap_of}
+use Rattle.rio_free.specs.declared.gap.Gap.{Gap as FreeGap}
+use Rattle.rio_chain.specs.declared.segment.Segment.{Segment}
+use Rattle.rio_chain.specs.declared.segment.Segment.TheVariants.{Record, Gap}
+use Rattle.rio_chain.specs.Adjoining.{segments_end}
+
+-- the gaps among some segments
+abbrev pub gaps_in : List Segment → List FreeGap
+gaps_in [] = []
+gaps_in (Record place n ∷ segments) = gaps_in segments
+gaps_in (Gap place n ∷ segments) = gap_of place n ∷ gaps_in segments
+
+-- how many of them are records
+abbrev pub record_count : List Segment → ℕ
+record_count [] = 0
+record_count (Record place n ∷ segments) = record_count segments + 1
+record_count (Gap place n ∷ segments) = record_count segments
+
+-- END of a file's segments
+abbrev pub file_end : List Segment → ℕ
+file_end segments = segments_end 100 segments
+
+-- the place of a record of n bytes: the first gap as long, else the first that is longer by more than three, else END
+abbrev pub place_of : List Segment → ℕ → ℕ
+place_of segments n = unwrap_or (best_place n (gaps_in segments)) (file_end segments)
+
+-- what is left of a gap, in front of the segments behind it
+abbrev pub rest_of_gap : ℕ → ℕ → List Segment → List Segment
+rest_of_gap place n segments = if n == 0 then segments else Gap place n ∷ segments
+
+-- the segments with a record of n bytes at a place, which is that of a gap, or END
+abbrev pub with_segment : ℕ → ℕ → List Segment → List Segment
+with_segment place n [] = Record place n ∷ []
+with_segment place n (Record p m ∷ segments) = Record p m ∷ with_segment place n segments
+with_segment place n (Gap p m ∷ segments) = if p == place then Record place n ∷ rest_of_gap (place + n) (m - n) segments else Gap p m ∷ with_segment place n segments
+
+-- the segments once records of these lengths are laid, one after the other
+abbrev pub laid : List ℕ → List Segment → List Segment
+laid [] segments = segments
+laid (n ∷ lengths) segments = laid lengths (with_segment (place_of segments n) n segments)
+
+-- and where they are laid
+abbrev pub places_of : List ℕ → List Segment → List ℕ
+places_of [] segments = []
+places_of (n ∷ lengths) segments = place_of segments n ∷ places_of lengths (with_segment (place_of segments n) n segments)
+
+-- the place of the rule, or END
+abbrev pub IsPlaceFor : List Segment → ℕ → ℕ → Type 0
+IsPlaceFor segments n place = (place ≡ place_of segments n) ⊎ (place ≡ file_end segments)

@@ -1,0 +1,35 @@
+-- What a walk answers, of the file that its host tells, and why it fails.
+use Rattle.std.specs.Prelude.{◌≡◌, ◌*◌, ◌≤◌, ℕ, List, length, Some, Result, Ok, Err}
+use Rattle.rio_host.specs.Host.{View, Rose}
+use Rattle.rio_chain.specs.declared.segment.Segment.{Segment}
+use Rattle.rio_chain.specs.declared.fault.WalkFault.{WalkFault}
+use Rattle.rio_chain.specs.declared.fault.WalkFault.TheVariants.{NoChain, NoMemory, HostFault}
+use Rattle.rio_chain.specs.Segments.{BreaksAt}
+
+-- it holds of the file, where the host tells it
+abbrev pub Told : View → (List ℕ → Type 0) → Type 0
+Told v P = (file : List ℕ) → v.holds ≡ Some file → P file
+
+-- a chain that breaks does so there
+abbrev pub TellsBreak : View → WalkFault → Type 0
+TellsBreak v (NoChain place) = Told v (BreaksAt place)
+TellsBreak v NoMemory = Unit {0}
+TellsBreak v HostFault = Unit {0}
+
+-- a count of faults rises where a call of the host failed, and only there
+abbrev pub IsWalkCause : {X : Type 0} → View → View → Result X WalkFault → Type 0
+IsWalkCause old new (Ok x) = new.disk_faults ≡ old.disk_faults
+IsWalkCause old new (Err (NoChain place)) = new.disk_faults ≡ old.disk_faults
+IsWalkCause old new (Err NoMemory) = new.disk_faults ≡ old.disk_faults
+IsWalkCause old new (Err HostFault) = Rose old.disk_faults new.disk_faults
+
+-- a call that finds no fault in what it reads
+abbrev pub IsReadCause : {X : Type 0} → View → View → Result X WalkFault → Type 0
+IsReadCause old new (Ok x) = new.disk_faults ≡ old.disk_faults
+IsReadCause old new (Err (NoChain place)) = ⊥
+IsReadCause old new (Err NoMemory) = new.disk_faults ≡ old.disk_faults
+IsReadCause old new (Err HostFault) = Rose old.disk_faults new.disk_faults
+
+-- at most a quarter of the file's length
+abbrev pub AreFew : List ℕ → List Segment → Type 0
+AreFew file segments = 4 * length segments ≤ length file

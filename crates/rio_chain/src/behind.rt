@@ -1,0 +1,64 @@
+//! A word that makes what stands behind it count.
+ghost use Rattle.std.specs.Prelude.{◌≡◌, ◌≤◌, ◌<◌, ◌^◌, ◌+◌, ◌%◌, ℕ, List, Some, length, OnOk, IsOk, IsErr};
+ghost use Rattle.byteorder.specs.Endian.{big_bytes};
+ghost use Rattle.rio_host.specs.Image.{Put};
+ghost use Rattle.rio_host.specs.Host.{Becomes, Elapses, IsQuiet, IsWithin, Rose};
+ghost use Rattle.rio_chain.specs.Stops.{Any, BodyThenWord, IsBodyBehind, IsWordOrNot};
+
+use rio_host::{Failed, Host};
+
+// Writes bytes behind the word at `place`, and then, with them on the disk, the word.
+pub(crate) fn put_behind<H: Host>(
+    host: &mut H,
+    place: u64,
+    tail: &[u8],
+    word: u32,
+) -> Result<(), Failed>
+    requires within { IsWithin (H.view host.old) (place + 4) }
+    requires aligned { place % 4 ≡ 0 }
+    requires quiet { IsQuiet (H.view host.old) }
+    requires fits { place + 4 + length tail.now < 2 ^ 64 }
+    ensures any_moment { (file : List ℕ) → (H.view host.old).holds ≡ Some file
+        → Elapses (H.view host.old) (H.view host.new)
+        (IsBodyBehind (H.view host.old) file place tail.now (big_bytes 4 word)) }
+    ensures holds { OnOk result ((file : List ℕ) → (H.view host.old).holds ≡ Some file
+        → (new : List ℕ) × ((H.view host.new).holds ≡ Some new)
+        × BodyThenWord file place tail.now (big_bytes 4 word) new) }
+    ensures quiet { OnOk result (IsQuiet (H.view host.new)) }
+    ensures told { Becomes Any (H.view host.old).holds (H.view host.new).holds }
+    ensures said { (H.view host.new).said ≡ (H.view host.old).said }
+    ensures reads { (H.view host.new).reads ≡ (H.view host.old).reads }
+    ensures say_faults { (H.view host.new).say_faults ≡ (H.view host.old).say_faults }
+    ensures counted { IsOk result → (H.view host.new).disk_faults ≡ (H.view host.old).disk_faults }
+    ensures cause { IsErr result
+        → Rose (H.view host.old).disk_faults (H.view host.new).disk_faults }
+{
+    host.write(place + 4, tail)?;
+    host.sync()?;
+    host.write_word(place, word)?;
+    host.sync()
+}
+
+// Writes the word at `place`, with nothing behind it.
+pub(crate) fn put_word<H: Host>(host: &mut H, place: u64, word: u32) -> Result<(), Failed>
+    requires within { IsWithin (H.view host.old) place }
+    requires aligned { place % 4 ≡ 0 }
+    requires quiet { IsQuiet (H.view host.old) }
+    ensures any_moment { (file : List ℕ) → (H.view host.old).holds ≡ Some file
+        → Elapses (H.view host.old) (H.view host.new)
+        (IsWordOrNot (H.view host.old) file place (big_bytes 4 word)) }
+    ensures holds { OnOk result ((file : List ℕ) → (H.view host.old).holds ≡ Some file
+        → (new : List ℕ) × ((H.view host.new).holds ≡ Some new)
+        × Put place (big_bytes 4 word) file new) }
+    ensures quiet { OnOk result (IsQuiet (H.view host.new)) }
+    ensures told { Becomes Any (H.view host.old).holds (H.view host.new).holds }
+    ensures said { (H.view host.new).said ≡ (H.view host.old).said }
+    ensures reads { (H.view host.new).reads ≡ (H.view host.old).reads }
+    ensures say_faults { (H.view host.new).say_faults ≡ (H.view host.old).say_faults }
+    ensures counted { IsOk result → (H.view host.new).disk_faults ≡ (H.view host.old).disk_faults }
+    ensures cause { IsErr result
+        → Rose (H.view host.old).disk_faults (H.view host.new).disk_faults }
+{
+    host.write_word(place, word)?;
+    host.sync()
+}

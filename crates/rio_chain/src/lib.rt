@@ -1,0 +1,17 @@
+//! The chain of a file: records and gaps, one behind the other from place 100 to END.
+#![tactic(auto)]
+
+mod behind;
+mod fault;
+mod found;
+mod kept;
+mod laws;
+mod reads;
+mod segment;
+mod walking;
+
+pub use fault::WalkFault;
+pub use kept::Chain;
+pub use laws::one_chain;
+pub use segment::{Segment, Segments};
+pub use walking::walk;

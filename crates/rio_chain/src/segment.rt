@@ -1,0 +1,29 @@
+//! The segments of a chain.
+ghost use Rattle.std.specs.Prelude.{◌≡◌, ◌+◌, ◌<◌, ◌^◌};
+ghost use Rattle.rio_chain.specs.Adjoining.{segment_length, segment_place};
+
+use rio_num::Items;
+
+/// A part of a file between place 100 and its END.
+#[derive(Clone, Copy, Debug, PartialEq, Eq)]
+pub enum Segment {
+    /// A record: a key and its data. `place` is that of its first byte.
+    Record { place: u64, length: u64 },
+    /// Free bytes.
+    Gap { place: u64, length: u64 },
+}
+
+impl Segment {
+    /// The place behind it.
+    pub(crate) fn end(self) -> u64
+        requires { segment_place self + segment_length self < 2 ^ 64 }
+        ensures { result ≡ segment_place self + segment_length self }
+    {
+        match self {
+            Segment::Record { place, length } | Segment::Gap { place, length } => place + length,
+        }
+    }
+}
+
+/// The segments of a file, one behind the other.
+pub type Segments = Items<Segment>;
