@@ -1,5 +1,5 @@
 -- Which leaves may stand in a branch: names, dimensions, counters.
-use Rattle.std.specs.Prelude.{ℕ, List, [], ◌∷◌, ◌++◌, length, Bool, true, false, nat_le, ◌==◌, ◌&&◌, ◌||◌, not}
+use Rattle.std.specs.Prelude.{ℕ, List, [], ◌∷◌, ◌++◌, Bool, true, false, nat_le, ◌==◌, ◌&&◌, ◌||◌, not}
 use Rattle.std.specs.List.{list_any}
 use Rattle.std.specs.Str.{bytes_eq}
 use Rattle.rio_num.specs.Word.{is_name_text}
@@ -70,4 +70,5 @@ are_leaves_behind before (leaf ∷ leaves) = is_leaf_behind before leaf && are_l
 
 -- a leaf or more, which some tree has in one branch
 abbrev pub is_leaf_list : List Leaf → Bool
-is_leaf_list leaves = not (length leaves == 0) && are_leaves_behind [] leaves
+is_leaf_list [] = false
+is_leaf_list (leaf ∷ leaves) = are_leaves_behind [] (leaf ∷ leaves)

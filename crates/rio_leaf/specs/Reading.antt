@@ -4,7 +4,7 @@
 --   leaf   = NAME ["[" (NUM | NAME) "]"] "/" LETTER
 --
 -- A token is a word, a longest run of letters, digits and _ . - +, or another single byte. No blanks stand in the list.
-use Rattle.std.specs.Prelude.{◌≡◌, ◌≢◌, ℕ, ◌+◌, List, [], ◌∷◌, ◌++◌, length, take, slice_index, Result, Ok, Err, Option, Some, None, Bool, true, false, ◌==◌, ◌&&◌, not, if◌then◌else◌}
+use Rattle.std.specs.Prelude.{◌≡◌, ◌≢◌, ℕ, ◌+◌, List, [], ◌∷◌, ◌++◌, length, take, slice_index, Result, Ok, Err, Option, Some, None, Bool, false, ◌==◌, ◌&&◌, not, if◌then◌else◌}
 use Rattle.std.specs.List.{prefix_len, slice_split}
 use Rattle.std.specs.Str.{all_ascii_digits}
 use Rattle.std.specs.Str.Parse.{digits_value}
@@ -78,12 +78,16 @@ letter_in dim (letter ∷ other ∷ more) = None
 
 -- ---- leaves
 
--- what stands in square brackets, if they stand there
+-- what stands in square brackets, behind the opening one
+abbrev pub bracketed_at : List Leaf → List ℕ → At → ReadLeaf Dim
+bracketed_at before own s = do
+  dim ← said_at (dim_of before own) s
+  closed ← byte_at behind_dimension dim.1
+  Ok (dim.0, closed.1)
+
+-- the same, if an opening one comes
 unfoldable pub dim_at : List Leaf → List ℕ → At → ReadLeaf Dim
-dim_at before own s =
-    if begins_with before_dimension s.rest
-    then (said_at (dim_of before own) (skip 1 s) >>= λ dim. byte_at behind_dimension dim.1 >>= λ closed. Ok (dim.0, closed.1))
-    else Ok (One, s)
+dim_at before own s = if begins_with before_dimension s.rest then bracketed_at before own (skip 1 s) else Ok (One, s)
 
 -- a leaf behind others, which is all there is
 unfoldable pub leaf_at : List Leaf → At → ReadLeaf Leaf

@@ -1,9 +1,9 @@
 //! Lists of leaves are written.
-ghost use Rattle.std.specs.Prelude.{◌≡◌, ◌∷◌, ◌++◌, IsTrue, OnOk, OnErr};
+ghost use Rattle.std.specs.Prelude.{◌≡◌, ◌∷◌, ◌++◌, OnOk, OnErr};
 ghost use Rattle.std.specs.List.{flat_map};
 ghost use Rattle.rio_num.specs.Room.{with_more};
 ghost use Rattle.rio_leaf.specs.Marks.{between_leaves};
-ghost use Rattle.rio_leaf.specs.Text.{have_one_each, text_of_dim, text_of_leaf, text_of_leaves};
+ghost use Rattle.rio_leaf.specs.Text.{text_of_dim, text_of_leaf, text_of_leaves};
 
 use crate::{Dim, Leaf, Leaves};
 use rio_num::{Bytes, NoMemory};
@@ -60,10 +60,9 @@ fn put_leaves(leaves: &[Leaf], into: &mut Bytes) -> Result<(), NoMemory>
     }
 }
 
-/// Puts the text at the end that lists the leaves, as `read_leaves` reads it. A counted leaf has one value for each that
-/// its counter counts, since the text can't tell another number. Without memory nothing is put.
+/// Puts the text at the end that lists the leaves, as `read_leaves` reads it. How many values a leaf has for each that
+/// its counter counts isn't told, and is read as one. Without memory nothing is put.
 pub fn print_leaves(leaves: &Leaves, into: &mut Bytes) -> Result<(), NoMemory>
-    requires { IsTrue (have_one_each leaves.now) }
     ensures ok { OnOk result (into.new ≡ with_more into.old (text_of_leaves leaves.now)) }
     ensures err { OnErr result (into.new ≡ into.old) }
 {

@@ -1,9 +1,12 @@
 //! Lists of leaves are read.
-ghost use Rattle.std.specs.Prelude.{◌≡◌, ◌<◌, ◌≤◌, ◌^◌, ◌==◌, length};
+ghost use Rattle.std.specs.Prelude.{◌≡◌, ◌<◌, ◌≤◌, ◌^◌, ◌==◌, List, length, IfOk, IsTrue};
 ghost use Rattle.std.specs.List.{position_or_len};
 ghost use Rattle.std.specs.Option.{option_copied};
+ghost use Rattle.rio_leaf.specs.Leaves.{is_leaf_list};
+ghost use Rattle.rio_leaf.specs.Text.{text_of_leaves};
+ghost use Rattle.rio_leaf.specs.declared.leaf.Leaf.{Leaf};
 ghost use Rattle.rio_leaf.specs.Marks.{between_leaves};
-ghost use Rattle.rio_leaf.specs.Reading.{GivesLeaf, GivesLeafAt, dim_at, dim_of, leaf_at, leaf_name_of, leaves_in, length_with, letter_in, pieces, said_at, with_pieces};
+ghost use Rattle.rio_leaf.specs.Reading.{GivesLeaf, GivesLeafAt, IsLeafReadAs, dim_at, dim_of, leaf_at, leaf_name_of, leaves_in, length_with, letter_in, pieces, said_at, with_pieces};
 
 use crate::dim::{dim_in, letter_in};
 use crate::rules::is_taken;
@@ -103,10 +106,8 @@ fn first_piece(text: &[u8]) -> (&[u8], Option<&[u8]>)
     }
 }
 
-/// The leaves that the text lists: `name/I:more[3]/F:list[name]/D`. BadLeaf comes at the first token that can't stand.
-/// The counter of a leaf may be one of an earlier branch, which the text doesn't show.
 #[tactic(auto, unfolding(crate::specs::Reading::leaves_at))]
-pub fn read_leaves(alloc: Global, text: &[u8]) -> Result<Leaves, LeafFault>
+fn take_leaves(alloc: Global, text: &[u8]) -> Result<Leaves, LeafFault>
     requires { length text.now < 2 ^ 32 }
     ensures { GivesLeaf result (leaves_in text.now) }
 {
@@ -122,4 +123,17 @@ pub fn read_leaves(alloc: Global, text: &[u8]) -> Result<Leaves, LeafFault>
             None => return Ok(leaves),
         }
     }
+}
+
+/// The leaves that the text lists: `name/I:more[3]/F:list[name]/D`. BadLeaf comes at the first token that can't stand.
+/// The counter of a leaf may be one of an earlier branch, which the text doesn't show.
+pub fn read_leaves(alloc: Global, text: &[u8]) -> Result<Leaves, LeafFault>
+    requires { length text.now < 2 ^ 32 }
+    ensures exact { GivesLeaf result (leaves_in text.now) }
+    ensures found { IfOk result (λ leaves.
+        IsTrue (is_leaf_list leaves) × (text.now ≡ text_of_leaves leaves)) }
+    ensures only { (leaves : List Leaf) → IsTrue (is_leaf_list leaves)
+        → text.now ≡ text_of_leaves leaves → IsLeafReadAs result leaves }
+{
+    take_leaves(alloc, text)
 }

@@ -1,4 +1,4 @@
-use Rattle.std.proofs.Common.{rules, ◌≡◌, sym, ap, Bool, arith}
+use Rattle.std.proofs.Common.{rules, sym, ap, Bool, arith}
 use Rattle.std.specs.Str.Parse.{digits_value}
 use Rattle.rio_leaf.specs.Reading.{some_where}
 use Rattle.rio_leaf.proofs.DigitLaws.{no_digit, too_great}

@@ -1,4 +1,3 @@
-use Rattle.std.proofs.Common.{rules, arith}
 use Rattle.rio_leaf.proofs.SplitLaws.{cut_piece, whole_piece}
 use Rattle.rio_leaf.proofs.read.first_piece.Goals as goal
 

@@ -1,4 +1,4 @@
-use Rattle.std.proofs.Common.{◌≡◌, ◌≤◌, [], take, drop, length}
+use Rattle.std.proofs.Common.{◌≡◌, [], take, drop}
 use Rattle.rio_leaf.specs.Stated.{are_branches_behind}
 use Rattle.rio_leaf.proofs.stated.are_stated.Given as goal
 

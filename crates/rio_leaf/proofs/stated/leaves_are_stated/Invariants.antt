@@ -1,4 +1,4 @@
-use Rattle.std.proofs.Common.{◌≡◌, ◌≤◌, ◌++◌, take, drop, length}
+use Rattle.std.proofs.Common.{◌≡◌, ◌++◌, take, drop}
 use Rattle.rio_leaf.specs.Stated.{all_leaves, are_stated_leaves}
 use Rattle.rio_leaf.proofs.stated.leaves_are_stated.Given as goal
 

@@ -1,6 +1,6 @@
 use Rattle.std.proofs.Common.{◌≡◌, ◌-◌, ◌≤◌, length}
 use Rattle.rio_leaf.specs.Reading.{leaves_at, leaves_in, pieces}
-use Rattle.rio_leaf.proofs.read.read_leaves.Given as goal
+use Rattle.rio_leaf.proofs.read.take_leaves.Given as goal
 
 abbrev pub invariant-loop-leaves : goal.invariant-loop-leaves
 invariant-loop-leaves l =
