@@ -1,12 +1,14 @@
 //! Keys: the head of each record of a file, and lists of such heads.
 #![tactic(auto)]
 
+mod basket_head;
 mod fault;
 mod head;
 mod laws;
 mod list;
 mod read;
 
+pub use basket_head::{BasketHead, read_basket_head, write_basket_head};
 pub use fault::{KeyFault, ListFault};
 pub use head::KeyHead;
 pub use laws::{key_in_front, one_key, one_key_list};
