@@ -1,12 +1,15 @@
 -- What the key of a basket has behind its title: as it is read, and as it is written.
-use Rattle.std.specs.Prelude.{◌≡◌, ℕ, ◌^◌, ◌<◌, ℤ, List, ◌++◌, Result, Ok, Err}
+use Rattle.std.specs.Prelude.{◌≡◌, ℕ, ◌-◌, ◌^◌, ◌<◌, ℤ, List, ◌++◌, take, Result, Ok, Err}
 use Rattle.std.specs.Int.{w32, cast_signed, cast_unsigned}
 use Rattle.std.specs.Int.RustNames.{FitsSigned}
 use Rattle.byteorder.specs.Endian.{big_bytes}
 use Rattle.rio_num.specs.At.{At}
 use Rattle.rio_num.specs.Reading.{◌>>=◌, number_at}
 use Rattle.rio_num.specs.declared.cursor.Short.{Short as Shortage}
+use Rattle.rio_key.specs.Key.{key_head_at, whole}
+use Rattle.rio_key.specs.declared.basket_head.BasketFront.{BasketFront}
 use Rattle.rio_key.specs.declared.basket_head.BasketHead.{BasketHead}
+use Rattle.rio_key.specs.declared.fault.KeyFault.{KeyFault}
 
 -- an integer of 4 bytes, which may be negative
 abbrev pub integer_at : At → Result (ℤ × At) Shortage
@@ -42,3 +45,14 @@ pub record AreInRange (h : BasketHead) : Type 0 where
   pub nev : FitsSigned w32 h.nev
   pub last : FitsSigned w32 h.last
   pub flag : h.flag < 256
+
+-- no more than the next n bytes
+abbrev pub within : ℕ → At → At
+within n s = record { place = s.place; rest = take n s.rest }
+
+-- the key of a basket, and behind its title, but within its KeyLen, the basket's head
+unfoldable pub basket_front_at : At → Result BasketFront KeyFault
+basket_front_at s = do
+  key ← key_head_at s
+  head ← whole (basket_head_at (within (key.0.keylen - (key.1.place - s.place)) key.1))
+  Ok (record { key = key.0; head = head.0; place = key.1.place })

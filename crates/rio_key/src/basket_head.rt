@@ -1,12 +1,15 @@
 //! What the key of a basket has behind its title.
-ghost use Rattle.std.specs.Prelude.{◌≡◌, ◌+◌, ◌<◌, ◌^◌, ◌++◌, ℕ, List, length, Ok, IfOk, OnOk, OnErr};
+ghost use Rattle.std.specs.Prelude.{◌≡◌, ◌+◌, ◌<◌, ◌^◌, ◌++◌, ℕ, List, length, take, Ok, IfOk, OnOk, OnErr};
 ghost use Rattle.rio_num.specs.Reading.{Takes};
 ghost use Rattle.rio_num.specs.Room.{with_more};
-ghost use Rattle.rio_key.specs.BasketHead.{AreInRange, basket_head_at, basket_head_bytes, integer_at, integer_bytes, sizes_bytes};
-ghost use Rattle.rio_key.specs.Key.{value_of};
+ghost use Rattle.rio_key.specs.BasketHead.{AreInRange, basket_front_at, basket_head_at, basket_head_bytes, integer_at, integer_bytes, sizes_bytes, within};
+ghost use Rattle.rio_key.specs.Key.{Gives, value_of};
 ghost use Rattle.rio_key.specs.declared.basket_head.BasketHead.{BasketHead as Head};
 
+use crate::read::take_key;
+use crate::{KeyFault, KeyHead};
 use rio_num::{Bytes, Cursor, NoMemory, Short};
+use std::alloc::Global;
 
 /// What the key of a basket has behind its title (TBasket in ROOT).
 #[derive(Clone, Copy, Debug, PartialEq, Eq)]
@@ -55,6 +58,49 @@ pub fn read_basket_head(bytes: &[u8], place: u64) -> Result<BasketHead, Short>
         → bytes.now ≡ basket_head_bytes head ++ rest → result ≡ Ok head }
 {
     take_basket_head(&mut Cursor::new(bytes, place))
+}
+
+/// The key of a basket with the basket's head.
+#[derive(Debug, Drop)]
+pub struct BasketFront {
+    pub key: KeyHead,
+    pub head: BasketHead,
+    /// The place of the head, behind the key's title.
+    pub place: u64,
+}
+
+// The front of some bytes, as long as they are.
+fn front(bytes: &[u8], n: u64) -> &[u8]
+    ensures { result.now ≡ take n bytes.now }
+{
+    if n < bytes.len() as u64 {
+        &bytes[..n as usize]
+    } else {
+        bytes
+    }
+}
+
+// Reads no more than the next `n` bytes.
+fn within<'a>(cursor: &Cursor<'a>, n: u64) -> Cursor<'a>
+    ensures { result ≡ within n cursor.now }
+{
+    let left = cursor.left();
+    Cursor::new(front(cursor.rest(), n.min(left)), cursor.place())
+}
+
+/// The key of a basket and the basket's head that these bytes begin with, the first of which has the place `base`. The
+/// head stands behind the title and ends within KeyLen, else it is Short at the first field that isn't whole there.
+#[tactic(auto, unfolding(crate::specs::BasketHead::basket_front_at))]
+pub fn read_basket_front(alloc: Global, bytes: &[u8], base: u64) -> Result<BasketFront, KeyFault>
+    requires { base + length bytes.now < 2 ^ 64 }
+    ensures { Gives result (basket_front_at (record { place = base; rest = bytes.now })) }
+{
+    let mut cursor = Cursor::new(bytes, base);
+    let key = take_key(alloc, &mut cursor)?;
+    let place = cursor.place();
+    let left = u64::from(key.keylen).saturating_sub(place.saturating_sub(base));
+    let head = take_basket_head(&mut within(&cursor, left))?;
+    Ok(BasketFront { key, head, place })
 }
 
 #[tactic(auto, unfolding(crate::specs::BasketHead::integer_bytes))]

@@ -8,7 +8,9 @@ mod laws;
 mod list;
 mod read;
 
-pub use basket_head::{BasketHead, read_basket_head, write_basket_head};
+pub use basket_head::{
+    BasketFront, BasketHead, read_basket_front, read_basket_head, write_basket_head,
+};
 pub use fault::{KeyFault, ListFault};
 pub use head::KeyHead;
 pub use laws::{key_in_front, one_key, one_key_list};
