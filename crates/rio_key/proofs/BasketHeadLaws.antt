@@ -1,6 +1,7 @@
 -- The head of a basket: what is written is read, and what is read is written so.
-use Rattle.std.proofs.Common.{◌≡◌, ℕ, ◌+◌, ◌^◌, ◌<◌, ℤ, List, ◌++◌, Result, Ok, Err, refl, sym, ap, subst, ◌∙◌, append_assoc, arith}
+use Rattle.std.proofs.Common.{◌≡◌, ℕ, ◌+◌, ◌^◌, ◌<◌, ◌≤◌, ℤ, List, ◌++◌, length, Result, Ok, Err, refl, sym, ap, subst, ◌∙◌, append_assoc, arith}
 use Rattle.std.proofs.lemmas.Int.{ints, of_z-to_z, to_z-of_z}
+use Rattle.std.proofs.lemmas.List.{length-append}
 use Rattle.std.specs.Int.{w32, cast_signed, cast_unsigned}
 use Rattle.std.specs.Int.RustNames.{FitsSigned}
 use Rattle.byteorder.specs.Endian.{big_bytes}
@@ -10,7 +11,10 @@ use Rattle.rio_num.specs.declared.cursor.Short.{Short as Shortage}
 use Rattle.rio_num.proofs.ReadLaws.{IsBytes, IsNumber, Took, Took-then, back_1, back_2, back_4, bind_ok, number_again, number_found, ok_is}
 use Rattle.rio_key.specs.BasketHead.{AreInRange, basket_head_at, basket_head_bytes, integer_at, integer_bytes, sizes_bytes}
 use Rattle.rio_key.specs.declared.basket_head.BasketHead.{BasketHead}
+use Rattle.rio_key.specs.Key.{key_head_at}
+use Rattle.rio_key.specs.declared.head.KeyHead.{KeyHead}
 use Rattle.rio_key.proofs.KeyAgain.{standing}
+use Rattle.rio_key.proofs.KeyFound.{key_found}
 
 integer_again : (z : ℤ) (p : ℕ) (rest : List ℕ) → FitsSigned w32 z → integer_at (standing p (integer_bytes z ++ rest)) ≡ Ok (z, standing (p + 4) rest)
 unfolding integer_bytes
@@ -102,3 +106,9 @@ basket_head_found s h s' fits e =
     let sizes = Took-then a.0.1 (integer_bytes b.0.0) b.0.1 w2 f.0.1 tb (Took-then b.0.1 (integer_bytes c.0.0) c.0.1 w3 f.0.1 tc (Took-then c.0.1 (integer_bytes d.0.0) d.0.1 (integer_bytes f.0.0) f.0.1 td tf)) in
     let all = Took-then s (big_bytes 2 a.0.0) a.0.1 (w1 ++ big_bytes 1 g.0.0) g.0.1 ta.took (Took-then a.0.1 w1 f.0.1 (big_bytes 1 g.0.0) g.0.1 sizes tg.took) in
     subst (λ (q : BasketHead × At). Took s (basket_head_bytes q.0) q.1) same all
+
+-- the head's place, behind a key, is within the bytes
+pub place_within : (base : ℕ) (bytes : List ℕ) (h : KeyHead) (s' : At) → IsBytes bytes → key_head_at (standing base bytes) ≡ Ok (h, s') → s'.place ≤ base + length bytes
+place_within base bytes h s' fits e =
+    let key = key_found (standing base bytes) h s' fits e in
+    omega (arith, key.took.place, ap length key.took.parts, length-append key.bytes s'.rest)

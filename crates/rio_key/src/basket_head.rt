@@ -1,5 +1,5 @@
 //! What the key of a basket has behind its title.
-ghost use Rattle.std.specs.Prelude.{◌≡◌, ◌+◌, ◌<◌, ◌^◌, ◌++◌, ℕ, List, length, take, Ok, IfOk, OnOk, OnErr};
+ghost use Rattle.std.specs.Prelude.{◌≡◌, ◌+◌, ◌<◌, ◌≤◌, ◌^◌, ◌++◌, ℕ, List, length, take, Ok, IfOk, OnOk, OnErr};
 ghost use Rattle.rio_num.specs.Reading.{Takes};
 ghost use Rattle.rio_num.specs.Room.{with_more};
 ghost use Rattle.rio_key.specs.BasketHead.{AreInRange, basket_front_at, basket_head_at, basket_head_bytes, integer_at, integer_bytes, sizes_bytes, within};
@@ -93,7 +93,8 @@ fn within<'a>(cursor: &Cursor<'a>, n: u64) -> Cursor<'a>
 #[tactic(auto, unfolding(crate::specs::BasketHead::basket_front_at))]
 pub fn read_basket_front(alloc: Global, bytes: &[u8], base: u64) -> Result<BasketFront, KeyFault>
     requires { base + length bytes.now < 2 ^ 64 }
-    ensures { Gives result (basket_front_at (record { place = base; rest = bytes.now })) }
+    ensures exact { Gives result (basket_front_at (record { place = base; rest = bytes.now })) }
+    ensures within { IfOk result (λ front. front.place ≤ base + length bytes.now) }
 {
     let mut cursor = Cursor::new(bytes, base);
     let key = take_key(alloc, &mut cursor)?;

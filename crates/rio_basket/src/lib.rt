@@ -1,0 +1,7 @@
+//! Baskets.
+#![tactic(auto)]
+
+mod fault;
+mod layout;
+
+pub use fault::BasketFault;
