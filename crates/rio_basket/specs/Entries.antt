@@ -1,5 +1,5 @@
 -- The entries of a basket, read by their places.
-use Rattle.std.specs.Prelude.{◌≡◌, ℕ, zero, suc, ◌+◌, ◌-◌, ◌*◌, ◌/◌, List, map, drop, Result, Ok, Err, Bool, nat_lt, ◌==◌, ◌||◌, ◌&&◌, not, slice_range, if◌then◌else◌}
+use Rattle.std.specs.Prelude.{◌≡◌, ℕ, zero, suc, ◌+◌, ◌-◌, ◌*◌, ◌/◌, List, map, drop, Option, Some, None, Result, Ok, Err, Bool, nat_lt, ◌==◌, ◌||◌, ◌&&◌, not, slice_range, if◌then◌else◌}
 use Rattle.std.specs.List.{range_with_len}
 use Rattle.byteorder.specs.Endian.{big_number}
 use Rattle.rio_num.specs.Reading.{◌>>=◌}
@@ -37,6 +37,10 @@ is_offset layout bytes k =
     is_whole_at layout (offset_place layout k)
     && not (nat_lt (offset_at layout bytes k) (offset_before layout bytes k) || nat_lt layout.last (offset_at layout bytes k))
 
+-- the k-th offset, if it can stand
+abbrev pub sound_offset : Layout → List ℕ → ℕ → Option ℕ
+sound_offset layout bytes k = if is_offset layout bytes k then Some (offset_at layout bytes k) else None
+
 -- so many offsets from the k-th on, or the first that can't stand
 abbrev pub offsets_from : Layout → List ℕ → ℕ → ℕ → Result (Unit {0}) BasketFault
 offsets_from layout bytes zero k = Ok tt
@@ -49,11 +53,16 @@ spare_offset layout said =
     if (said == layout.count) || is_whole_at layout (offset_place layout layout.count) then Ok tt
     else Err (BadOffsets (offset_place layout layout.count))
 
--- how many there are: one for each entry, or one more
+-- how many there are said to be: one for each entry, or one more
+abbrev pub has_count : Layout → List ℕ → Bool
+has_count layout bytes =
+    is_whole_at layout layout.last
+    && ((number_there bytes layout.last == layout.count) || (number_there bytes layout.last == layout.count + 1))
+
+-- the offsets behind the entries' data, or the first that can't stand
 abbrev pub offsets_in : Layout → List ℕ → Result (Unit {0}) BasketFault
 offsets_in layout bytes =
-    if is_whole_at layout layout.last
-    && ((number_there bytes layout.last == layout.count) || (number_there bytes layout.last == layout.count + 1))
+    if has_count layout bytes
     then (offsets_from layout bytes layout.count 0 >>= λ all. spare_offset layout (number_there bytes layout.last))
     else Err (BadOffsets layout.last)
 
@@ -63,6 +72,10 @@ offsets_in layout bytes =
 abbrev pub entry_length : Layout → ℕ
 entry_length layout = (layout.last - layout.first) / layout.count
 
+-- where the k-th entry begins there
+abbrev pub equal_place : Layout → ℕ → ℕ
+equal_place layout k = layout.first + k * entry_length layout
+
 -- where the k-th entry ends: where the next one begins, or with the data
 abbrev pub offset_behind : Layout → List ℕ → ℕ → ℕ
 offset_behind layout bytes k = if k + 1 == layout.count then layout.last else offset_at layout bytes (k + 1)
@@ -71,7 +84,7 @@ offset_behind layout bytes k = if k + 1 == layout.count then layout.last else of
 abbrev pub entry_of : Bool → Layout → List ℕ → ℕ → List ℕ
 entry_of offsets layout bytes k =
     if offsets then slice_range bytes (offset_at layout bytes k) (offset_behind layout bytes k)
-    else slice_range bytes (layout.first + k * entry_length layout) (layout.first + (k + 1) * entry_length layout)
+    else slice_range bytes (equal_place layout k) (equal_place layout k + entry_length layout)
 
 abbrev pub entries_of : Bool → Layout → List ℕ → List (List ℕ)
 entries_of offsets layout bytes = map (entry_of offsets layout bytes) (range_with_len 0 layout.count)
