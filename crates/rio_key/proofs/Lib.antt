@@ -1,3 +1,4 @@
+pub mod BasketHeadLaws
 pub mod Front
 pub mod Heads
 pub mod KeyAgain

@@ -1,3 +1,4 @@
+pub mod BasketHead
 pub mod Key
 pub mod KeyList
 pub mod Laws

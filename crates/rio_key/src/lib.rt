@@ -1,6 +1,7 @@
 //! Keys: the head of each record of a file, and lists of such heads.
 #![tactic(auto)]
 
+mod basket_head;
 mod fault;
 mod head;
 mod laws;
@@ -8,6 +9,9 @@ mod list;
 mod read;
 mod write;
 
+pub use basket_head::{
+    BasketFront, BasketHead, read_basket_front, read_basket_head, write_basket_head,
+};
 pub use fault::{KeyFault, ListFault};
 pub use head::KeyHead;
 pub use laws::{key_in_front, one_key, one_key_list, written_key_is_spelled};

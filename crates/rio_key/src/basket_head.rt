@@ -1,0 +1,166 @@
+//! What the key of a basket has behind its title.
+ghost use Rattle.std.specs.Prelude.{◌≡◌, ◌+◌, ◌<◌, ◌≤◌, ◌^◌, ◌++◌, ℕ, List, length, take, Ok, IfOk, OnOk, OnErr};
+ghost use Rattle.rio_num.specs.Reading.{Takes};
+ghost use Rattle.rio_num.specs.Room.{with_more};
+ghost use Rattle.rio_key.specs.BasketHead.{AreInRange, basket_front_at, basket_head_at, basket_head_bytes, integer_at, integer_bytes, sizes_bytes, within};
+ghost use Rattle.rio_key.specs.Key.{Gives, value_of};
+ghost use Rattle.rio_key.specs.declared.basket_head.BasketHead.{BasketHead as Head};
+
+use crate::read::take_key;
+use crate::{KeyFault, KeyHead};
+use rio_num::{Bytes, Cursor, NoMemory, Short};
+use std::alloc::Global;
+
+/// What the key of a basket has behind its title (TBasket in ROOT).
+#[derive(Clone, Copy, Debug, PartialEq, Eq)]
+pub struct BasketHead {
+    pub version: u16,
+    /// The length of the buffer that the basket was filled in.
+    pub buffer_size: i32,
+    /// The length of an entry where all have the same length, else the number of entries or more.
+    pub nev_size: i32,
+    /// The number of entries.
+    pub nev: i32,
+    /// Where the last entry ends, counted from the key's first byte.
+    pub last: i32,
+    pub flag: u8,
+}
+
+fn take_i32(cursor: &mut Cursor) -> Result<i32, Short>
+    ensures { Takes (λ x. x) result (integer_at cursor.old) cursor.old cursor.new }
+{
+    Ok(cursor.take_u32()?.cast_signed())
+}
+
+#[tactic(auto, unfolding(crate::specs::BasketHead::basket_head_at))]
+fn take_basket_head(cursor: &mut Cursor) -> Result<BasketHead, Short>
+    ensures { result ≡ value_of (basket_head_at cursor.old) }
+{
+    Ok(BasketHead {
+        version: cursor.take_u16()?,
+        buffer_size: take_i32(cursor)?,
+        nev_size: take_i32(cursor)?,
+        nev: take_i32(cursor)?,
+        last: take_i32(cursor)?,
+        flag: cursor.take_u8()?,
+    })
+}
+
+/// The head of a basket that these bytes begin with, the first of which has the place `place`. Short comes at the first
+/// field that isn't whole.
+pub fn read_basket_head(bytes: &[u8], place: u64) -> Result<BasketHead, Short>
+    requires { place + length bytes.now < 2 ^ 64 }
+    ensures exact { result
+        ≡ value_of (basket_head_at (record { place = place; rest = bytes.now })) }
+    ensures found { IfOk result (λ head.
+        (rest : List ℕ) × (bytes.now ≡ basket_head_bytes head ++ rest)) }
+    ensures only { (head : Head) (rest : List ℕ) → AreInRange head
+        → bytes.now ≡ basket_head_bytes head ++ rest → result ≡ Ok head }
+{
+    take_basket_head(&mut Cursor::new(bytes, place))
+}
+
+/// The key of a basket with the basket's head.
+#[derive(Debug, Drop)]
+pub struct BasketFront {
+    pub key: KeyHead,
+    pub head: BasketHead,
+    /// The place of the head, behind the key's title.
+    pub place: u64,
+}
+
+// The front of some bytes, as long as they are.
+fn front(bytes: &[u8], n: u64) -> &[u8]
+    ensures { result.now ≡ take n bytes.now }
+{
+    if n < bytes.len() as u64 {
+        &bytes[..n as usize]
+    } else {
+        bytes
+    }
+}
+
+// Reads no more than the next `n` bytes.
+fn within<'a>(cursor: &Cursor<'a>, n: u64) -> Cursor<'a>
+    ensures { result ≡ within n cursor.now }
+{
+    let left = cursor.left();
+    Cursor::new(front(cursor.rest(), n.min(left)), cursor.place())
+}
+
+/// The key of a basket and the basket's head that these bytes begin with, the first of which has the place `base`. The
+/// head stands behind the title and ends within KeyLen, else it is Short at the first field that isn't whole there.
+#[tactic(auto, unfolding(crate::specs::BasketHead::basket_front_at))]
+pub fn read_basket_front(alloc: Global, bytes: &[u8], base: u64) -> Result<BasketFront, KeyFault>
+    requires { base + length bytes.now < 2 ^ 64 }
+    ensures exact { Gives result (basket_front_at (record { place = base; rest = bytes.now })) }
+    ensures within { IfOk result (λ front. front.place ≤ base + length bytes.now) }
+{
+    let mut cursor = Cursor::new(bytes, base);
+    let key = take_key(alloc, &mut cursor)?;
+    let place = cursor.place();
+    let left = u64::from(key.keylen).saturating_sub(place.saturating_sub(base));
+    let head = take_basket_head(&mut within(&cursor, left))?;
+    Ok(BasketFront { key, head, place })
+}
+
+#[tactic(auto, unfolding(crate::specs::BasketHead::integer_bytes))]
+fn put_i32(number: i32, into: &mut Bytes) -> Result<(), NoMemory>
+    ensures { OnOk result (into.new.bytes ≡ into.old.bytes ++ integer_bytes number) }
+{
+    into.put_u32(number.cast_unsigned())
+}
+
+#[tactic(auto, unfolding(crate::specs::BasketHead::sizes_bytes))]
+fn put_sizes(head: &BasketHead, into: &mut Bytes) -> Result<(), NoMemory>
+    ensures { OnOk result (into.new.bytes ≡ into.old.bytes ++ sizes_bytes head.now) }
+{
+    put_i32(head.buffer_size, into)?;
+    put_i32(head.nev_size, into)?;
+    put_i32(head.nev, into)?;
+    put_i32(head.last, into)
+}
+
+fn put_basket_head(head: &BasketHead, into: &mut Bytes) -> Result<(), NoMemory>
+    ensures { OnOk result (into.new.bytes ≡ into.old.bytes ++ basket_head_bytes head.now) }
+{
+    into.put_u16(head.version)?;
+    put_sizes(head, into)?;
+    into.put_u8(head.flag)
+}
+
+/// Puts the head of a basket at the end, as `read_basket_head` reads it. Without memory nothing is put.
+pub fn write_basket_head(head: &BasketHead, into: &mut Bytes) -> Result<(), NoMemory>
+    ensures ok { OnOk result (into.new ≡ with_more into.old (basket_head_bytes head.now)) }
+    ensures err { OnErr result (into.new ≡ into.old) }
+{
+    let mut bytes = Bytes::new(into.allocator());
+    put_basket_head(head, &mut bytes)?;
+    into.put(bytes.as_slice())
+}
+
+#[cfg(test)]
+mod tests {
+    use super::*;
+    use std::test::Fail;
+
+    // Of the basket of three entries of 4 bytes each, behind a key of 57 bytes.
+    const HEAD: &[u8] = b"\0\x03\0\0\x7d\0\0\0\0\x04\0\0\0\x03\0\0\0\x45\0";
+
+    #[test]
+    fn reads_and_writes_the_head_of_a_basket(rt: HostRuntime) -> Result<(), Fail> {
+        let head = BasketHead {
+            version: 3,
+            buffer_size: 32000,
+            nev_size: 4,
+            nev: 3,
+            last: 69,
+            flag: 0,
+        };
+        assert_eq!(rt; read_basket_head(HEAD, 38)?, head);
+        let mut bytes = Bytes::new(rt.alloc());
+        write_basket_head(&head, &mut bytes)?;
+        assert!(rt; bytes.as_slice() == HEAD);
+        Ok(())
+    }
+}

@@ -1,0 +1,28 @@
+use Rattle.std.proofs.Common.{◌≡◌, ℕ, List, true, Result, Ok, Err, IfOk, IsTrue, refl, sym, ap, ◌∙◌}
+use Rattle.rio_num.proofs.ReadLaws.{ok_is}
+use Rattle.rio_leaf.specs.declared.fault.LeafFault.{LeafFault}
+use Rattle.rio_leaf.specs.declared.fault.LeafFault.TheVariants.{NoMemory, BadLeaf}
+use Rattle.rio_leaf.specs.declared.leaf.Leaf.{Leaf}
+use Rattle.rio_leaf.specs.Leaves.{is_leaf_list}
+use Rattle.rio_leaf.specs.Reading.{GivesLeaf, IsLeafReadAs, leaves_in}
+use Rattle.rio_leaf.specs.Text.{text_of_leaves}
+use Rattle.rio_leaf.proofs.ListLaws.{list_again, list_found}
+use Rattle.rio_leaf.proofs.read.read_leaves.Goals as goal
+
+found : (text : List ℕ) (r : Result (List Leaf) LeafFault) → GivesLeaf r (leaves_in text) → IfOk r (λ leaves. IsTrue (is_leaf_list leaves) × (text ≡ text_of_leaves leaves))
+found text (Ok leaves) h = let f = list_found text leaves h in (f.is, f.parts)
+found text (Err e) h = tt
+
+only : (text : List ℕ) (leaves : List Leaf) (r : Result (List Leaf) LeafFault) → GivesLeaf r (leaves_in text) → is_leaf_list leaves ≡ true → text ≡ text_of_leaves leaves → IsLeafReadAs r leaves
+only text leaves (Ok others) h is parts = ok_is {E = LeafFault} others leaves (sym h ∙ ap leaves_in parts ∙ list_again leaves is)
+only text leaves (Err NoMemory) h is parts = refl
+only text leaves (Err (BadLeaf place)) h is parts =
+    let fault : LeafFault = BadLeaf place in
+    let bad : leaves_in text ≡ Err (BadLeaf place) = h (λ q. cc) in
+    absurd (let clash = sym bad ∙ ap leaves_in parts ∙ list_again leaves is in cc)
+
+pub returns-clause-found : goal.returns-clause-found
+returns-clause-found c = found c.args.text.now c.take_leaves.result c.take_leaves.ensures
+
+pub returns-clause-only : goal.returns-clause-only
+returns-clause-only c = λ leaves is parts. only c.args.text.now leaves c.take_leaves.result c.take_leaves.ensures is parts

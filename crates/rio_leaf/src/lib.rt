@@ -1,0 +1,28 @@
+//! The branches of a tree and their leaves, and the text that lists leaves.
+//!
+//! A leaf has a name, a letter that tells what its values are, and a dimension: one value, a list of so many, or a list
+//! that an earlier leaf counts. [`read_leaves`] reads a text as `n/I:list[n]/F`, or tells the first token that can't
+//! stand; [`print_leaves`] writes the text, and what is read is written so and the other way round. [`are_stated`] tells
+//! whether a tree may be declared with such branches. `specs/Reading.antt` has the grammar, `specs/Leaves.antt` and
+//! `specs/Stated.antt` which leaves and branches may stand together, `specs/Text.antt` the written form.
+#![tactic(auto)]
+
+mod branch;
+mod dim;
+mod fault;
+mod leaf;
+mod print;
+mod read;
+mod rules;
+mod scan;
+mod stated;
+
+pub use branch::{BranchDef, BranchDefs, Shape};
+pub use fault::LeafFault;
+pub use leaf::{Dim, Leaf, Leaves};
+pub use print::print_leaves;
+pub use read::read_leaves;
+pub use stated::are_stated;
+
+#[cfg(test)]
+mod tests;
