@@ -1,0 +1,5 @@
+pub mod Mapping
+pub mod Refusing
+pub mod ReplyText
+pub mod Runs
+pub mod Step

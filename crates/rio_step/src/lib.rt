@@ -1,0 +1,8 @@
+//! What commands do: the state after a command and what is said of it, or the first rule that refuses it; the states and the
+//! texts of a run; objects as their class has them in another version. Definitions that contracts cite, in `specs/`, laws
+//! about them, and the fault that a version is refused for.
+#![tactic(auto)]
+
+mod fault;
+
+pub use fault::MapFault;
