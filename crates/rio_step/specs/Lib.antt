@@ -1,3 +1,4 @@
+pub mod Laws
 pub mod Mapping
 pub mod Refusing
 pub mod ReplyText

@@ -1,0 +1,4 @@
+pub mod ApartLaws
+pub mod ClosedLaws
+pub mod RunLaws
+pub mod StepLaws
