@@ -1,0 +1,7 @@
+use Rattle.std.proofs.Common.{◌≡◌, ◌++◌, drop}
+use Rattle.rio_leaf.specs.Leaves.{has_leaf}
+use Rattle.rio_leaf.specs.Stated.{all_leaves}
+use Rattle.rio_leaf.proofs.stated.is_leaf_name.Given as goal
+
+abbrev pub invariant-loop-branch : goal.invariant-loop-branch
+invariant-loop-branch l = has_leaf (all_leaves (drop l.branch-index l.branches) ++ l.before) l.name ≡ has_leaf (all_leaves l.branches ++ l.before) l.name

@@ -1,0 +1,5 @@
+pub mod Leaves
+pub mod Marks
+pub mod Reading
+pub mod Stated
+pub mod Text

@@ -1,0 +1,36 @@
+-- The bytes that stand for something in a list of leaves, by their names.
+use Rattle.std.specs.Prelude.{ℕ, List, codes, Bool, ◌==◌, ◌||◌}
+use Rattle.std.specs.List.{list_any}
+
+-- a colon
+abbrev pub between_leaves : ℕ
+between_leaves = 58
+
+-- a slash
+abbrev pub before_letter : ℕ
+before_letter = 47
+
+-- square brackets
+abbrev pub before_dimension : ℕ
+before_dimension = 91
+
+abbrev pub behind_dimension : ℕ
+behind_dimension = 93
+
+-- the letter of texts, and that of leaves that may count
+abbrev pub letter_of_texts : ℕ
+letter_of_texts = 67
+
+abbrev pub letter_of_counters : ℕ
+letter_of_counters = 73
+
+-- the letters of leaves
+abbrev pub leaf_letters : List ℕ
+leaf_letters = codes "BbSsIiLlFDOC"
+
+abbrev pub is_leaf_letter : ℕ → Bool
+is_leaf_letter b = list_any (λ letter. b == letter) leaf_letters
+
+-- a space or a tab
+abbrev pub is_blank_byte : ℕ → Bool
+is_blank_byte b = (b == 32) || (b == 9)
