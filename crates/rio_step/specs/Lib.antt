@@ -3,4 +3,7 @@ pub mod Mapping
 pub mod Refusing
 pub mod ReplyText
 pub mod Runs
+pub mod Script
+pub mod Statable
 pub mod Step
+pub mod TreeGrammar
