@@ -3,23 +3,21 @@ use Rattle.std.proofs.Common.{◌≡◌, ℕ, pos, List, [], ◌∷◌, ◌++◌
 use Rattle.std.specs.Prelude.{codes}
 use Rattle.std.specs.Fmt.{digits}
 use Rattle.rio_num.specs.Printed.{name_text}
-use Rattle.rio_token.specs.Reading.{list_at, mark_at, more_at, num_at, num_between_at, some_at, string_at, word_at, word_that_at, end_at}
+use Rattle.rio_token.specs.Reading.{list_at, mark_at, num_at, num_between_at, some_at, word_at, word_that_at, end_at}
 use Rattle.rio_token.specs.Tokens.{scan_of}
-use Rattle.rio_token.specs.Words.{decimal, number_of, written}
+use Rattle.rio_token.specs.Words.{decimal, written}
 use Rattle.rio_leaf.specs.declared.branch.BranchDef.{BranchDef}
 use Rattle.rio_leaf.specs.declared.branch.Shape.TheVariants.{Leaves, Class as Objects}
 use Rattle.rio_leaf.specs.declared.leaf.Dim.{Dim}
 use Rattle.rio_leaf.specs.declared.leaf.Dim.TheVariants.{One, Fixed, Counted}
 use Rattle.rio_leaf.specs.declared.leaf.Leaf.{Leaf}
-use Rattle.rio_model.specs.ClassGrammar.{class_at}
-use Rattle.rio_model.specs.ValueGrammar.{class_version_at, enclosed_at, enclosed_by, named_object_at, object_at, part_at, pointer_at, text_value_at, value_at, values_at, word_value, word_value_at}
+use Rattle.rio_model.specs.ValueGrammar.{class_version_at, enclosed_at, enclosed_by, object_at, part_at, value_at, word_value_at}
 use Rattle.rio_machine.specs.RefusalText.{refusal_text}
-use Rattle.rio_machine.specs.declared.command.Command.{Command}
-use Rattle.rio_machine.specs.declared.command.Command.TheVariants.{Bad, Delete, Tree as MakeTree, Fill, Save, Get, Scan, Ls}
+use Rattle.rio_machine.specs.declared.command.Command.TheVariants.{Bad, Delete, Tree as MakeTree, Save, Get, Scan, Ls}
 use Rattle.rio_machine.specs.declared.refusal.Refusal.TheVariants.{BadLine, KindChanged, Full}
 use Rattle.rio_step.specs.ReplyText.{text_of}
-use Rattle.rio_step.specs.Script.{asked_class_at, asked_version_at, command_at, commands_from, cycle_at, delete_at, fill_at, get_at, line_command, put_at, save_at, scan_at, script_of, tree_at}
-use Rattle.rio_step.specs.Step.{object_listed, tree_listed, object_put, item_deleted, row_added, rows_saved, items_listed, refused}
+use Rattle.rio_step.specs.Script.{asked_class_at, asked_version_at, command_at, commands_from, cycle_at, delete_at, get_at, line_command, put_at, save_at, scan_at, script_of, tree_at}
+use Rattle.rio_step.specs.Step.{object_listed, tree_listed, object_put, item_deleted, row_added, rows_saved, items_listed}
 use Rattle.rio_step.specs.TreeGrammar.{branch_at, branch_class_at, branch_leaves_at, branches_at, glued_at, glued_mark_at, leaf_dim_at, leaf_dimension, more_branches_at, more_leaves_at, tree_leaf_at}
 
 -- ---- scripts

@@ -9,7 +9,7 @@
 --   get    = "get" ITEM [";" NUM] ["as" NUM]
 --   scan   = "scan" ITEM ["as" NAME "#" NUM]
 --   ls     = "ls"
-use Rattle.std.specs.Prelude.{ℕ, ◌+◌, ℤ, pos, List, [], ◌∷◌, codes, Option, Some, None, Result, Ok, Err, Bool, true, false, not, ◌==◌, if◌then◌else◌}
+use Rattle.std.specs.Prelude.{ℕ, ◌+◌, ℤ, pos, List, [], ◌∷◌, codes, Option, Some, None, Ok, Err, Bool, false, not, ◌==◌, if◌then◌else◌}
 use Rattle.std.specs.Option.{option_map_or}
 use Rattle.std.specs.Str.{bytes_eq}
 use Rattle.std.specs.Str.Lines.{lines}
@@ -17,7 +17,7 @@ use Rattle.rio_num.specs.At.{At}
 use Rattle.rio_num.specs.Reading.{◌>>=◌}
 use Rattle.rio_token.specs.declared.fault.TextFault.TheVariants.{BadText, NoMemory}
 use Rattle.rio_token.specs.Marks.{number_sign, semicolon}
-use Rattle.rio_token.specs.Reading.{Read, bad_at, end_at, item_at, keyword_at, mark_at, marked, name_at, next_word, num_at, version_at}
+use Rattle.rio_token.specs.Reading.{Read, bad_at, end_at, item_at, mark_at, marked, name_at, next_word, num_at, version_at}
 use Rattle.rio_token.specs.Tokens.{behind, standing_in}
 use Rattle.rio_types.specs.declared.class.Base.{Base}
 use Rattle.rio_model.specs.ClassGrammar.{class_at}

@@ -1,5 +1,5 @@
 -- Commands that a script can state.
-use Rattle.std.specs.Prelude.{◌≡◌, ℕ, List, Bool, true, false, ◌&&◌, IsTrue}
+use Rattle.std.specs.Prelude.{◌≡◌, ℕ, List, Bool, true, ◌&&◌, IsTrue}
 use Rattle.std.specs.List.{list_all}
 use Rattle.rio_num.specs.Word.{is_item_text}
 use Rattle.rio_model.specs.Stated.{is_stated_class}

@@ -4,7 +4,7 @@
 --   leaf   = NAME ["[" (NUM | NAME) "]"] "/" LETTER
 --
 -- No blanks stand within a branch.
-use Rattle.std.specs.Prelude.{ℕ, zero, suc, List, [], ◌∷◌, ◌++◌, length, codes, Option, Some, None, option_and_then, Ok, Bool, true, false, ◌&&◌, ◌||◌, not, if◌then◌else◌}
+use Rattle.std.specs.Prelude.{ℕ, zero, suc, List, [], ◌∷◌, ◌++◌, length, codes, Option, None, option_and_then, Ok, Bool, false, ◌&&◌, not, if◌then◌else◌}
 use Rattle.std.specs.Option.{option_map, option_map_or, option_or}
 use Rattle.std.specs.Str.{bytes_eq}
 use Rattle.rio_num.specs.At.{At}
@@ -49,7 +49,7 @@ new_leaf_name before word = some_if (is_name_text word && not (has_leaf before w
 -- how many values there are, or which leaf before counts them
 unfoldable pub leaf_dimension : List Leaf → List ℕ → Option Dim
 leaf_dimension before word =
-    option_or (option_map Fixed (num_between_of 2 100000 word)) (some_if (has_counting_leaf before word) (Counted word 1))
+    option_or (option_map Fixed (num_between_of 2 100000 word)) (some_if (is_name_text word && has_counting_leaf before word) (Counted word 1))
 
 -- what stands in square brackets, behind the opening one
 abbrev pub leaf_size_at : List Leaf → At → Read Dim
@@ -81,8 +81,8 @@ unfoldable pub more_leaves_at : ℕ → List Leaf → List Leaf → At → Read 
 more_leaves_at zero before own s = Ok (own, s)
 more_leaves_at (suc left) before own s =
     if is_glued_mark colon s
-        then (tree_leaf_at (before ++ own) (behind s) >>= λ leaf. more_leaves_at left before (own ++ leaf.0 ∷ []) leaf.1)
-        else Ok (own, s)
+    then (tree_leaf_at (before ++ own) (behind s) >>= λ leaf. more_leaves_at left before (own ++ leaf.0 ∷ []) leaf.1)
+    else Ok (own, s)
 
 unfoldable pub branch_leaves_at : List Leaf → At → Read Shape
 branch_leaves_at before s = do
@@ -124,8 +124,8 @@ unfoldable pub more_branches_at : ℕ → List BranchDef → At → Read (List B
 more_branches_at zero branches s = Ok (branches, s)
 more_branches_at (suc left) branches s =
     if is_end (next_at s).token
-        then Ok (branches, s)
-        else (branch_at branches s >>= λ next. more_branches_at left (branches ++ next.0 ∷ []) next.1)
+    then Ok (branches, s)
+    else (branch_at branches s >>= λ next. more_branches_at left (branches ++ next.0 ∷ []) next.1)
 
 -- at least one branch
 unfoldable pub branches_at : At → Read (List BranchDef)

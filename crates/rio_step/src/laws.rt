@@ -1,5 +1,6 @@
 //! Laws of steps and of runs.
 ghost use Rattle.rio_step.specs.Laws.{ClosedHasNonePending, EachSaysItsReply, NamesStayApart, PutsAddOne, RefusedChangesNothing, RunsEndClosed, RunsHaveStates};
+ghost use Rattle.rio_step.specs.Statable.{ScriptsAreStatable};
 
 /// A refused command changes nothing. A put that isn't refused adds its object, in a cycle where nothing was, and changes
 /// nothing else.
@@ -24,4 +25,10 @@ pub fn runs_end_closed()
     ensures states { RunsHaveStates }
     ensures last { RunsEndClosed }
     ensures closed { ClosedHasNonePending }
+{}
+
+/// Every command of a script can be stated: its names are such as objects and trees have, the class that it declares and
+/// the branches that it lists are such as a line can give.
+pub fn scripts_are_statable()
+    ensures { ScriptsAreStatable }
 {}

@@ -7,4 +7,7 @@ mod fault;
 mod laws;
 
 pub use fault::MapFault;
-pub use laws::{each_says_its_reply, names_stay_apart, runs_end_closed, steps_change_one_thing};
+pub use laws::{
+    each_says_its_reply, names_stay_apart, runs_end_closed, scripts_are_statable,
+    steps_change_one_thing,
+};
