@@ -65,7 +65,7 @@ object_cycle name m e =
     let key = key_named name (keys m.objects) e in
     (key.0, contains_key-keys m.objects (name, key.0) ∙ key.1)
 
-cycle_object : (name : List ℕ) (m : State) (cycle : ℕ) → contains_key m.objects (name, cycle) ≡ true → names_object m name ≡ true
+pub cycle_object : (name : List ℕ) (m : State) (cycle : ℕ) → contains_key m.objects (name, cycle) ≡ true → names_object m name ≡ true
 cycle_object name m cycle e = named_key name cycle (keys m.objects) (sym (contains_key-keys m.objects (name, cycle)) ∙ e)
 
 -- ---- what changes
@@ -128,13 +128,13 @@ item_deleted_apart m name cycle apart = by (names_tree m name)
 
 -- ---- tests that didn't hold
 
-none_at : (xs : List (Option Refusal)) (k : ℕ) → first_of xs ≡ None → slice_index_or xs k None ≡ None
+pub none_at : (xs : List (Option Refusal)) (k : ℕ) → first_of xs ≡ None → slice_index_or xs k None ≡ None
 none_at [] k e = refl
 none_at (None ∷ xs) zero e = refl
 none_at (None ∷ xs) (suc k) e = none_at xs k e
 none_at (Some x ∷ xs) k e = absurd cc
 
-not_refused : (b : Bool) (r : Refusal) → refused_if b r ≡ None → b ≡ false
+pub not_refused : (b : Bool) (r : Refusal) → refused_if b r ≡ None → b ≡ false
 not_refused true r e = absurd cc
 not_refused false r e = refl
 

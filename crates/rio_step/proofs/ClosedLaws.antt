@@ -1,8 +1,8 @@
 -- A closed state has no pending rows.
 use Rattle.std.proofs.Common.{◌≡◌, ℕ, List, [], ◌∷◌, map, Bool, true, false, cond, not, ◌||◌, ◌⊎◌, inl, inr, Option, Some, None, refl, sym, ap, ◌∙◌}
-use Rattle.std.specs.FinMap.{entries, find, get, get-entries, get-insert, insert}
+use Rattle.std.specs.FinMap.{entries, find, get, get-entries, get-from_entries, get-insert, insert}
 use Rattle.std.specs.List.{filter, fold, list_any}
-use Rattle.std.specs.Option.{option_map_or, unwrap_or}
+use Rattle.std.specs.Option.{option_map, option_map_or, unwrap_or}
 use Rattle.std.specs.Ordering.{eq_by_cmp}
 use Rattle.std.proofs.lemmas.Bool.{eqb-true}
 use Rattle.std.proofs.lemmas.List.{nil_from_length}
@@ -11,8 +11,8 @@ use Rattle.rio_machine.proofs.OrderLaws.{names_tie, names_total}
 use Rattle.rio_machine.specs.State.{State, Tree, name_order}
 use Rattle.rio_machine.specs.declared.command.Command.{Command}
 use Rattle.rio_machine.specs.declared.command.Command.TheVariants.{Save}
-use Rattle.rio_step.specs.Laws.{ClosedHasNonePending}
-use Rattle.rio_step.specs.Runs.{closed_of, closing_saves, has_pending}
+use Rattle.rio_step.specs.Laws.{ClosedHasNonePending, SavedKeepsTheRest}
+use Rattle.rio_step.specs.Runs.{closed_of, closing_saves, has_pending, saved_of, saved_tree}
 use Rattle.rio_step.specs.Step.{state_behind, tree_saved, with_tree}
 
 abbrev Named : Type 0
@@ -103,3 +103,21 @@ closed_has_none_pending m name t e = by (closes (filter (λ e. has_pending e.1) 
     by : Closes m (filter (λ e. has_pending e.1) (entries m.trees)) name t → t.pending ≡ []
     by (inl p) = p
     by (inr p) = none_pending t (false_when (has_pending t) (λ pending. let h = sym (pending_among (entries m.trees) name t (sym (get-entries m.trees name) ∙ p.0) pending) ∙ p.1 in absurd cc))
+
+-- ---- without pending rows
+
+find_changed : (es : List Named) (change : Tree → Tree) (name : List ℕ) → find name_order name (map (λ e. (e.0, change e.1)) es) ≡ option_map change (find name_order name es)
+find_changed [] change name = refl
+find_changed (first ∷ es) change name = by (eq_by_cmp name_order name first.0) (find_changed es change name)
+  where
+    by : (b : Bool) → find name_order name (map (λ e. (e.0, change e.1)) es) ≡ option_map change (find name_order name es)
+        → cond b (Some (change first.1)) (find name_order name (map (λ e. (e.0, change e.1)) es)) ≡ option_map change (cond b (Some first.1) (find name_order name es))
+    by true later = refl
+    by false later = later
+
+pub saved_keeps_the_rest : SavedKeepsTheRest
+unfolding saved_of
+saved_keeps_the_rest m name =
+    get-from_entries names_total (map (λ e. (e.0, saved_tree e.1)) (entries m.trees)) name
+    ∙ find_changed (entries m.trees) saved_tree name
+    ∙ ap (option_map saved_tree) (sym (get-entries m.trees name))

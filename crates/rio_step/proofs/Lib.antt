@@ -1,7 +1,9 @@
 pub mod ApartLaws
 pub mod ClosedLaws
+pub mod DeleteLaws
 mod Examples
 pub mod GivenLaws
+pub mod LowestLaws
 pub mod RunLaws
 pub mod ScriptLaws
 pub mod StepLaws

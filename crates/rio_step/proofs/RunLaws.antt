@@ -1,10 +1,10 @@
 -- The states and the texts of a run.
-use Rattle.std.proofs.Common.{◌≡◌, ℕ, suc, ◌+◌, List, [], ◌∷◌, ◌++◌, drop, length, Option, Some, None, refl, sym, ap, ◌∙◌, arith, append_assoc}
-use Rattle.std.specs.List.{fold, last_or}
+use Rattle.std.proofs.Common.{◌≡◌, ◌≤◌, take, zero, ℕ, suc, ◌+◌, List, [], ◌∷◌, ◌++◌, drop, length, Option, Some, None, refl, sym, ap, ◌∙◌, arith, append_assoc}
+use Rattle.std.specs.List.{fold, last_or, slice_get}
 use Rattle.std.proofs.lemmas.List.{append-nil, drop-drop}
 use Rattle.rio_machine.specs.State.{State}
 use Rattle.rio_machine.specs.declared.command.Command.{Command}
-use Rattle.rio_step.specs.Laws.{EachSaysItsReply, RunsEndClosed, RunsHaveStates}
+use Rattle.rio_step.specs.Laws.{EachSaysItsReply, RunsBeginAlike, RunsEndClosed, RunsHaveStates}
 use Rattle.rio_step.specs.ReplyText.{text_of}
 use Rattle.rio_step.specs.Runs.{Marks, closed_of, closing_saves, first_step, later_marks, said_of, state_after, states_behind, states_of_run}
 use Rattle.rio_step.specs.Step.{state_behind}
@@ -44,3 +44,13 @@ run_end_behind before m (c ∷ cs) marks = run_end_behind (Some m) (first_step m
 
 pub run_end : RunsEndClosed
 run_end m cs marks = run_end_behind None m cs marks
+
+begin_alike : (m : State) (cs : List Command) (marks : Marks) (k : ℕ) → k ≤ length cs → slice_get (states_of_run m cs marks) k ≡ Some (state_after m (take k cs) marks)
+unfolding states_of_run state_after
+begin_alike m [] marks zero within = refl
+begin_alike m [] marks (suc k) within = absurd (omega (arith, within))
+begin_alike m (c ∷ cs) marks zero within = refl
+begin_alike m (c ∷ cs) marks (suc k) within = begin_alike (first_step m c marks).state cs (later_marks marks) k (omega (arith, within))
+
+pub runs_begin_alike : RunsBeginAlike
+runs_begin_alike m cs marks k within = begin_alike m cs marks k within

@@ -58,7 +58,7 @@ named_apart name n item rest below e =
     let within : greatest (item.1 ∷ rest) < n = subst (λ b. greatest (cond b (item.1 ∷ rest) rest) < n) named below in
     omega (arith, within, cycle)
 
-false_from : (b : Bool) → (b ≡ true → ⊥) → b ≡ false
+pub false_from : (b : Bool) → (b ≡ true → ⊥) → b ≡ false
 false_from true f = absurd (f refl)
 false_from false f = refl
 
