@@ -4,6 +4,7 @@ pub mod DeleteLaws
 mod Examples
 pub mod GivenLaws
 pub mod LowestLaws
+mod Refusals
 pub mod RunLaws
 pub mod ScriptLaws
 pub mod StepLaws
