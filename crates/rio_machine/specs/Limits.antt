@@ -5,6 +5,7 @@ use Rattle.rio_num.specs.Text.{text_bytes}
 use Rattle.rio_leaf.specs.declared.branch.BranchDef.{BranchDef}
 use Rattle.rio_leaf.specs.declared.branch.Shape.{Shape}
 use Rattle.rio_leaf.specs.declared.branch.Shape.TheVariants.{Leaves, Class}
+use Rattle.rio_format.specs.Objects.{depth_limit}
 use Rattle.rio_format.specs.Written.{written_form}
 use Rattle.rio_format.specs.WrittenBytes.{length_limit}
 use Rattle.rio_types.specs.declared.class.ClassDef.{ClassDef}
@@ -25,10 +26,6 @@ item_limit = 100000
 -- the values of a list
 abbrev pub list_limit : ℕ
 list_limit = 100000
-
--- the levels of objects in a value
-abbrev pub depth_limit : ℕ
-depth_limit = 256
 
 -- the branches of a tree
 abbrev pub branch_limit : ℕ

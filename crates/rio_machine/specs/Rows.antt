@@ -45,15 +45,15 @@ abbrev pub unread : Kind
 unread = Other (pos 0)
 
 -- a list of so many values for each that was counted; a count below 0 leaves nothing that fits
-abbrev pub counted_kind : Primitive → ℕ → Option ℤ → Kind
-counted_kind of times (Some (pos count)) = Fixed of (count * times)
-counted_kind of times other = unread
+abbrev pub counted_leaf_kind : Primitive → ℕ → Option ℤ → Kind
+counted_leaf_kind of times (Some (pos count)) = Fixed of (count * times)
+counted_leaf_kind of times other = unread
 
 -- one value, or a list
 abbrev pub sized_kind : Counters → Primitive → Dim → Kind
 sized_kind counters of One = Plain of
 sized_kind counters of (Several count) = Fixed of count
-sized_kind counters of (Counted counter times) = counted_kind of times (lookup (bytes_eq counter) counters)
+sized_kind counters of (Counted counter times) = counted_leaf_kind of times (lookup (bytes_eq counter) counters)
 
 -- A text, for the letter C, has no dimension.
 abbrev pub leaf_kind : Counters → Leaf → Kind
@@ -83,9 +83,9 @@ column_slot counters (leaf_column leaf) = kinded (leaf_kind counters leaf)
 column_slot counters (object_column class) = kinded (Inline class)
 
 -- the numbers of the leaves so far, the nearest first
-abbrev pub counters_behind : Column → Value → Counters → Counters
-counters_behind (leaf_column leaf) v counters = (leaf.name, number_in (out-Value v)) ∷ counters
-counters_behind (object_column class) v counters = counters
+abbrev pub leaf_numbers_behind : Column → Value → Counters → Counters
+leaf_numbers_behind (leaf_column leaf) v counters = (leaf.name, number_in (out-Value v)) ∷ counters
+leaf_numbers_behind (object_column class) v counters = counters
 
 -- ---- rows
 
@@ -98,7 +98,7 @@ columns_fit classes [] [] counters = true
 columns_fit classes [] (v ∷ vs) counters = false
 columns_fit classes (c ∷ cs) [] counters = false
 columns_fit classes (c ∷ cs) (v ∷ vs) counters =
-    stands_in classes (column_slot counters c) v && columns_fit classes cs vs (counters_behind c v counters)
+    stands_in classes (column_slot counters c) v && columns_fit classes cs vs (leaf_numbers_behind c v counters)
 
 -- a row fits the branches: one value for each column, and it fits there
 abbrev pub row_fits : List ClassDef → List BranchDef → List Value → Bool
@@ -111,20 +111,20 @@ abbrev pub columns_bytes : List ClassDef → List Column → List Value → Coun
 columns_bytes classes [] row counters = []
 columns_bytes classes (c ∷ cs) [] counters = []
 columns_bytes classes (c ∷ cs) (v ∷ vs) counters =
-    ((writing_of classes v).bytes (column_slot counters c) 0 no_words).0 ++ columns_bytes classes cs vs (counters_behind c v counters)
+    ((writing_of classes v).bytes (column_slot counters c) 0 no_words).0 ++ columns_bytes classes cs vs (leaf_numbers_behind c v counters)
 
 -- the numbers of the leaves behind these columns
-abbrev pub counters_after : List Column → List Value → Counters → Counters
-counters_after [] row counters = counters
-counters_after (c ∷ cs) [] counters = counters
-counters_after (c ∷ cs) (v ∷ vs) counters = counters_after cs vs (counters_behind c v counters)
+abbrev pub leaf_numbers_after : List Column → List Value → Counters → Counters
+leaf_numbers_after [] row counters = counters
+leaf_numbers_after (c ∷ cs) [] counters = counters
+leaf_numbers_after (c ∷ cs) (v ∷ vs) counters = leaf_numbers_after cs vs (leaf_numbers_behind c v counters)
 
 abbrev pub entries_from : List ClassDef → List BranchDef → List Value → Counters → List (List ℕ)
 entries_from classes [] row counters = []
 entries_from classes (b ∷ bs) row counters =
     let columns = shape_columns b.shape in
     columns_bytes classes columns row counters
-    ∷ entries_from classes bs (drop (length columns) row) (counters_after columns row counters)
+    ∷ entries_from classes bs (drop (length columns) row) (leaf_numbers_after columns row counters)
 
 -- the bytes of a row's entries, one for each branch
 abbrev pub entries_of : List ClassDef → List BranchDef → List Value → List (List ℕ)

@@ -17,7 +17,7 @@ use Rattle.rio_machine.specs.declared.command.Command.TheVariants.{Bad, Class, P
 use Rattle.rio_machine.specs.declared.refusal.Refusal.{Refusal}
 use Rattle.rio_machine.specs.declared.refusal.Refusal.TheVariants.{NameIsTree, NameInUse}
 use Rattle.rio_step.specs.Laws.{AreApart, NamesStayApart}
-use Rattle.rio_step.specs.Refusing.{FullMark, first_of, refusals, is_tree_name, is_name_in_use, refusal_of, refused_if, stored_row, stored_value}
+use Rattle.rio_step.specs.Refusing.{FullMark, first_of, refusals, is_tree_name, is_name_in_use, refusal_of, refused_if, fill_row, put_value}
 use Rattle.rio_step.specs.Step.{by_refusal, new_tree, state_behind, step, tree_filled, tree_saved, with_tree, without_item}
 
 -- ---- a name has an object exactly where one cycle does
@@ -153,10 +153,10 @@ no_name_in_use m c mark e = not_refused (is_name_in_use m c) NameInUse (none_at 
 accepted_apart : (m : State) (c : Command) (mark : Option FullMark) → refusal_of m c mark ≡ None → AreApart m → AreApart (state_behind m c)
 accepted_apart m (Bad line place) mark e apart = apart
 accepted_apart m (Class class) mark e apart = apart
-accepted_apart m (Put name v) mark e apart = put_apart m name (next_cycle m name) (stored_value m v) (no_tree_name m (Put name v) mark e) apart
+accepted_apart m (Put name v) mark e apart = put_apart m name (next_cycle m name) (put_value m v) (no_tree_name m (Put name v) mark e) apart
 accepted_apart m (Delete name cycle) mark e apart = item_deleted_apart m name cycle apart
 accepted_apart m (MakeTree name branches) mark e apart = tree_apart m name (new_tree branches) (neither _ _ (no_name_in_use m (MakeTree name branches) mark e)) apart
-accepted_apart m (Fill name row) mark e apart = changed_apart m name (tree_filled (stored_row m row)) apart
+accepted_apart m (Fill name row) mark e apart = changed_apart m name (tree_filled (fill_row m row)) apart
 accepted_apart m (Save name) mark e apart = changed_apart m name tree_saved apart
 accepted_apart m (Get name cycle version) mark e apart = apart
 accepted_apart m (Scan name class) mark e apart = apart

@@ -20,7 +20,7 @@ use Rattle.rio_machine.specs.declared.command.Command.{Command}
 use Rattle.rio_machine.specs.declared.command.Command.TheVariants.{Class, Put, Delete, Tree as MakeTree, Fill, Save, Get, Scan, Ls}
 use Rattle.rio_step.proofs.GivenLaws.{Given, item_given, one_given, then_any, then_given}
 use Rattle.rio_step.proofs.TreeLaws.{branches_given}
-use Rattle.rio_step.specs.Script.{asked_class_at, asked_version_at, class_command_at, command_at, comes_next, commands_from, cycle_at, delete_at, ended_at, fill_at, get_at, is_command_line, line_command, or_bad_line, put_at, save_at, scan_at, tree_at}
+use Rattle.rio_step.specs.Script.{asked_class_at, asked_version_at, class_command_at, command_at, comes_next, commands_from, cycle_at, delete_command_at, ended_at, fill_command_at, get_command_at, is_command_line, line_command, or_bad_line, put_command_at, save_command_at, scan_command_at, tree_command_at}
 use Rattle.rio_step.specs.Statable.{ScriptsAreStatable, is_statable}
 use Rattle.rio_step.specs.TreeGrammar.{branches_at}
 
@@ -34,45 +34,45 @@ both : (a b : Bool) → a ≡ true → b ≡ true → (a && b) ≡ true
 both true b h k = k
 both false b h k = absurd cc
 
-put_given : (s : At) → Given Stated (put_at s)
-unfolding put_at
+put_given : (s : At) → Given Stated (put_command_at s)
+unfolding put_command_at
 put_given s =
     then_given IsItem Stated (item_at s) (λ name. value_at (enclosed_at bracket_limit) name.1 >>= λ value. Ok (Put name.0 value.0, value.1)) (item_given s)
     (λ name named. then_any Stated (value_at (enclosed_at bracket_limit) name.1) (λ value. Ok (Put name.0 value.0, value.1)) (λ value. named))
 
-delete_given : (s : At) → Given Stated (delete_at s)
-unfolding delete_at
+delete_given : (s : At) → Given Stated (delete_command_at s)
+unfolding delete_command_at
 delete_given s =
     then_given IsItem Stated (item_at s) (λ name. mark_at semicolon name.1 >>= λ passed. num_at passed.1 >>= λ cycle. Ok (Delete name.0 cycle.0, cycle.1)) (item_given s)
     (λ name named. then_any Stated (mark_at semicolon name.1) (λ passed. num_at passed.1 >>= λ cycle. Ok (Delete name.0 cycle.0, cycle.1))
     (λ passed. then_any Stated (num_at passed.1) (λ cycle. Ok (Delete name.0 cycle.0, cycle.1)) (λ cycle. named)))
 
-tree_given : (s : At) → Given Stated (tree_at s)
-unfolding tree_at
+tree_given : (s : At) → Given Stated (tree_command_at s)
+unfolding tree_command_at
 tree_given s =
     then_given IsItem Stated (item_at s) (λ name. branches_at name.1 >>= λ branches. Ok (MakeTree name.0 branches.0, branches.1)) (item_given s)
     (λ name named. then_given (λ bs. are_stated_branches bs ≡ true) Stated (branches_at name.1) (λ branches. Ok (MakeTree name.0 branches.0, branches.1)) (branches_given name.1)
     (λ branches stated. both _ _ named stated))
 
-fill_given : (s : At) → Given Stated (fill_at s)
-unfolding fill_at
+fill_given : (s : At) → Given Stated (fill_command_at s)
+unfolding fill_command_at
 fill_given s =
     then_given IsItem Stated (item_at s) (λ name. row_at name.1 >>= λ row. Ok (Fill name.0 row.0, row.1)) (item_given s)
     (λ name named. then_any Stated (row_at name.1) (λ row. Ok (Fill name.0 row.0, row.1)) (λ row. named))
 
-save_given : (s : At) → Given Stated (save_at s)
-unfolding save_at
+save_given : (s : At) → Given Stated (save_command_at s)
+unfolding save_command_at
 save_given s = then_given IsItem Stated (item_at s) (λ name. Ok (Save name.0, name.1)) (item_given s) (λ name named. named)
 
-get_given : (s : At) → Given Stated (get_at s)
-unfolding get_at
+get_given : (s : At) → Given Stated (get_command_at s)
+unfolding get_command_at
 get_given s =
     then_given IsItem Stated (item_at s) (λ name. cycle_at name.1 >>= λ cycle. asked_version_at cycle.1 >>= λ version. Ok (Get name.0 cycle.0 version.0, version.1)) (item_given s)
     (λ name named. then_any Stated (cycle_at name.1) (λ cycle. asked_version_at cycle.1 >>= λ version. Ok (Get name.0 cycle.0 version.0, version.1))
     (λ cycle. then_any Stated (asked_version_at cycle.1) (λ version. Ok (Get name.0 cycle.0 version.0, version.1)) (λ version. named)))
 
-scan_given : (s : At) → Given Stated (scan_at s)
-unfolding scan_at
+scan_given : (s : At) → Given Stated (scan_command_at s)
+unfolding scan_command_at
 scan_given s =
     then_given IsItem Stated (item_at s) (λ name. asked_class_at name.1 >>= λ class. Ok (Scan name.0 class.0, class.1)) (item_given s)
     (λ name named. then_any Stated (asked_class_at name.1) (λ class. Ok (Scan name.0 class.0, class.1)) (λ class. named))
@@ -96,21 +96,21 @@ unfolding command_at
 command_given line =
     let s = standing_in 0 line in
     let next = behind s in
-    let scan = if comes_next (codes "scan") s then ended_at (scan_at next) else if comes_next (codes "ls") s then ended_at (Ok (Ls, next)) else bad_at s in
-    let get = if comes_next (codes "get") s then ended_at (get_at next) else scan in
-    let save = if comes_next (codes "save") s then ended_at (save_at next) else get in
-    let fill = if comes_next (codes "fill") s then ended_at (fill_at next) else save in
-    let tree = if comes_next (codes "tree") s then ended_at (tree_at next) else fill in
-    let delete = if comes_next (codes "delete") s then ended_at (delete_at next) else tree in
-    let put = if comes_next (codes "put") s then ended_at (put_at next) else delete in
+    let scan = if comes_next (codes "scan") s then ended_at (scan_command_at next) else if comes_next (codes "ls") s then ended_at (Ok (Ls, next)) else bad_at s in
+    let get = if comes_next (codes "get") s then ended_at (get_command_at next) else scan in
+    let save = if comes_next (codes "save") s then ended_at (save_command_at next) else get in
+    let fill = if comes_next (codes "fill") s then ended_at (fill_command_at next) else save in
+    let tree = if comes_next (codes "tree") s then ended_at (tree_command_at next) else fill in
+    let delete = if comes_next (codes "delete") s then ended_at (delete_command_at next) else tree in
+    let put = if comes_next (codes "put") s then ended_at (put_command_at next) else delete in
     one_given Stated (comes_next (codes "class") s) (class_command_at s) put (λ _. class_given line)
-    (λ _. one_given Stated (comes_next (codes "put") s) (ended_at (put_at next)) delete (λ _. ended_given _ (put_given next))
-    (λ _. one_given Stated (comes_next (codes "delete") s) (ended_at (delete_at next)) tree (λ _. ended_given _ (delete_given next))
-    (λ _. one_given Stated (comes_next (codes "tree") s) (ended_at (tree_at next)) fill (λ _. ended_given _ (tree_given next))
-    (λ _. one_given Stated (comes_next (codes "fill") s) (ended_at (fill_at next)) save (λ _. ended_given _ (fill_given next))
-    (λ _. one_given Stated (comes_next (codes "save") s) (ended_at (save_at next)) get (λ _. ended_given _ (save_given next))
-    (λ _. one_given Stated (comes_next (codes "get") s) (ended_at (get_at next)) scan (λ _. ended_given _ (get_given next))
-    (λ _. one_given Stated (comes_next (codes "scan") s) (ended_at (scan_at next)) (if comes_next (codes "ls") s then ended_at (Ok (Ls, next)) else bad_at s) (λ _. ended_given _ (scan_given next))
+    (λ _. one_given Stated (comes_next (codes "put") s) (ended_at (put_command_at next)) delete (λ _. ended_given _ (put_given next))
+    (λ _. one_given Stated (comes_next (codes "delete") s) (ended_at (delete_command_at next)) tree (λ _. ended_given _ (delete_given next))
+    (λ _. one_given Stated (comes_next (codes "tree") s) (ended_at (tree_command_at next)) fill (λ _. ended_given _ (tree_given next))
+    (λ _. one_given Stated (comes_next (codes "fill") s) (ended_at (fill_command_at next)) save (λ _. ended_given _ (fill_given next))
+    (λ _. one_given Stated (comes_next (codes "save") s) (ended_at (save_command_at next)) get (λ _. ended_given _ (save_given next))
+    (λ _. one_given Stated (comes_next (codes "get") s) (ended_at (get_command_at next)) scan (λ _. ended_given _ (get_given next))
+    (λ _. one_given Stated (comes_next (codes "scan") s) (ended_at (scan_command_at next)) (if comes_next (codes "ls") s then ended_at (Ok (Ls, next)) else bad_at s) (λ _. ended_given _ (scan_given next))
     (λ _. one_given Stated (comes_next (codes "ls") s) (ended_at (Ok (Ls, next))) (bad_at s) (λ _. ended_given (Ok (Ls, next)) refl) (λ _. tt)))))))))
 
 bad_or_stated : (number : ℕ) (r : Read Command) → Given Stated r → Stated (or_bad_line number r)

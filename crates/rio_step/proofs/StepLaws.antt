@@ -16,7 +16,7 @@ use Rattle.rio_machine.specs.declared.command.Command.{Command}
 use Rattle.rio_machine.specs.declared.command.Command.TheVariants.{Bad, Class, Put, Delete, Tree as MakeTree, Fill, Save, Get, Scan, Ls}
 use Rattle.rio_machine.specs.declared.refusal.Refusal.{Refusal}
 use Rattle.rio_step.specs.Laws.{HasOneMore, PutsAddOne, RefusedChangesNothing}
-use Rattle.rio_step.specs.Refusing.{FullMark, refusal_of, stored_value}
+use Rattle.rio_step.specs.Refusing.{FullMark, refusal_of, put_value}
 use Rattle.rio_step.specs.Step.{by_refusal, refused, reply_to, state_behind, step}
 
 -- ---- refused commands
@@ -106,8 +106,8 @@ one_more m name v = record {
   classes = refl;
   trees = refl;
   free = next_is_free m name;
-  object = put_there m (name, next_cycle m name) (stored_value m v);
-  others = put_elsewhere m (name, next_cycle m name) (stored_value m v);
+  object = put_there m (name, next_cycle m name) (put_value m v);
+  others = put_elsewhere m (name, next_cycle m name) (put_value m v);
 }
 
 pub puts_add_one : PutsAddOne

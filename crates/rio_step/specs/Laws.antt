@@ -9,7 +9,7 @@ use Rattle.rio_machine.specs.State.{NameAndCycle, State, Tree, names_object, nam
 use Rattle.rio_machine.specs.declared.command.Command.{Command}
 use Rattle.rio_machine.specs.declared.command.Command.TheVariants.{Put, Delete}
 use Rattle.rio_machine.specs.declared.refusal.Refusal.{Refusal}
-use Rattle.rio_step.specs.Refusing.{FullMark, refusal_of, refusals, stored_value}
+use Rattle.rio_step.specs.Refusing.{FullMark, refusal_of, refusals, put_value}
 use Rattle.rio_step.specs.ReplyText.{text_of}
 use Rattle.rio_step.specs.Runs.{Marks, closed_of, closing_saves, first_step, said_of, saved_of, saved_tree, state_after, states_of_run}
 use Rattle.rio_step.specs.Step.{refused, step}
@@ -40,7 +40,7 @@ pub record HasOneMore (m n : State) (name : List ℕ) (v : Value) : Type 0 where
   pub classes : n.classes ≡ m.classes
   pub trees : n.trees ≡ m.trees
   pub free : get m.objects (name, next_cycle m name) ≡ None
-  pub object : get n.objects (name, next_cycle m name) ≡ Some (stored_value m v)
+  pub object : get n.objects (name, next_cycle m name) ≡ Some (put_value m v)
   pub others : (item : NameAndCycle) → item ≢ (name, next_cycle m name) → get n.objects item ≡ get m.objects item
 
 -- a put that isn't refused adds its object and changes nothing else

@@ -98,21 +98,21 @@ list_as from to v = if converts from to then by (out-Value v) else None
 
 -- ---- forms
 
-abbrev pub is_text : Value-F Value Part → Bool
-is_text (Chars text) = true
-is_text other = false
+abbrev pub is_text_value : Value-F Value Part → Bool
+is_text_value (Chars text) = true
+is_text_value other = false
 
 -- an object, or one that isn't read
-abbrev pub is_object : Value-F Value Part → Bool
-is_object (Object class version parts) = true
-is_object (Opaque class len) = true
-is_object other = false
+abbrev pub is_object_value : Value-F Value Part → Bool
+is_object_value (Object class version parts) = true
+is_object_value (Opaque class len) = true
+is_object_value other = false
 
-abbrev pub is_pointer : Value-F Value Part → Bool
-is_pointer (Pointed label object) = true
-is_pointer Null = true
-is_pointer (Back label) = true
-is_pointer other = false
+abbrev pub is_pointer_value : Value-F Value Part → Bool
+is_pointer_value (Pointed label object) = true
+is_pointer_value Null = true
+is_pointer_value (Back label) = true
+is_pointer_value other = false
 
 -- the class of an object
 abbrev pub class_named : Value-F Value Part → List ℕ
@@ -187,9 +187,9 @@ convert Counter (Plain to) m = option_map Ok (single_as I32 to m.as_is)
 convert Counter Counter m = option_map Ok (single_as I32 I32 m.as_is)
 convert (Fixed from count) (Fixed to wanted) m = if count == wanted then option_map Ok (list_as from to m.as_is) else None
 convert (Counted from counter) (Counted to other) m = option_map Ok (list_as from to m.as_is)
-convert Text Text m = if is_text (out-Value m.as_is) then Some (Ok m.as_is) else None
-convert (Inline class) (Inline other) m = if bytes_eq class other && is_object (out-Value m.as_is) then Some m.mapped else None
-convert (Pointer class) (Pointer other) m = if bytes_eq class other && is_pointer (out-Value m.as_is) then Some m.mapped else None
+convert Text Text m = if is_text_value (out-Value m.as_is) then Some (Ok m.as_is) else None
+convert (Inline class) (Inline other) m = if bytes_eq class other && is_object_value (out-Value m.as_is) then Some m.mapped else None
+convert (Pointer class) (Pointer other) m = if bytes_eq class other && is_pointer_value (out-Value m.as_is) then Some m.mapped else None
 convert from to m = None
 
 -- the bases and members of an object, where it is described: what isn't described counts as absent

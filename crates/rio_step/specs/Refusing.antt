@@ -31,11 +31,11 @@ use Rattle.rio_step.specs.declared.fault.MapFault.TheVariants.{KindChanged as Ch
 -- ---- what a command is about
 
 -- the value that a put stores, and the row that a fill adds: with its versions, or as it is where it names no known class
-abbrev pub stored_value : State → Value → Value
-stored_value m v = unwrap_or (resolved m.classes v) v
+abbrev pub put_value : State → Value → Value
+put_value m v = unwrap_or (resolved m.classes v) v
 
-abbrev pub stored_row : State → Row → Row
-stored_row m row = unwrap_or (resolved_row m.classes row) row
+abbrev pub fill_row : State → Row → Row
+fill_row m row = unwrap_or (resolved_row m.classes row) row
 
 -- the class of an object; none of another value
 abbrev pub object_class : Value → Option (List ℕ)
@@ -154,11 +154,11 @@ abbrev pub is_fit : List ClassDef → Value → Bool
 is_fit classes v = option_map_or (λ class. fits classes class v) (object_class v) false
 
 abbrev pub is_unfit : State → Command → Bool
-is_unfit m (Put name v) = not (is_fit m.classes (stored_value m v))
+is_unfit m (Put name v) = not (is_fit m.classes (put_value m v))
 is_unfit m other = false
 
 abbrev pub is_bad_row : State → Command → Bool
-is_bad_row m (Fill name row) = tree_passes m name (λ t. not (row_fits m.classes t.branches (stored_row m row)))
+is_bad_row m (Fill name row) = tree_passes m name (λ t. not (row_fits m.classes t.branches (fill_row m row)))
 is_bad_row m other = false
 
 -- ---- objects in another version
@@ -220,20 +220,20 @@ with_class classes class = classes ++ declared classes class ∷ []
 
 abbrev pub is_too_large : State → Command → Bool
 is_too_large m (Class class) = is_too_long (length (written_list 0 (with_class m.classes class)))
-is_too_large m (Put name v) = is_too_long (object_length m name (stored_value m v))
-is_too_large m (Fill name row) = tree_passes m name (λ t. has_long_entry m.classes t.branches (stored_row m row))
+is_too_large m (Put name v) = is_too_long (object_length m name (put_value m v))
+is_too_large m (Fill name row) = tree_passes m name (λ t. has_long_entry m.classes t.branches (fill_row m row))
 is_too_large m other = false
 
 abbrev pub goes_too_deep : State → Command → Bool
-goes_too_deep m (Put name v) = is_too_deep (stored_value m v)
-goes_too_deep m (Fill name row) = list_any is_too_deep (stored_row m row)
+goes_too_deep m (Put name v) = is_too_deep (put_value m v)
+goes_too_deep m (Fill name row) = list_any is_too_deep (fill_row m row)
 goes_too_deep m other = false
 
 abbrev pub has_too_many : State → Command → Bool
 has_too_many m (Class class) = nat_le class_limit (length m.classes)
-has_too_many m (Put name v) = has_long_list (stored_value m v) || has_all_items m
+has_too_many m (Put name v) = has_long_list (put_value m v) || has_all_items m
 has_too_many m (MakeTree name branches) = has_all_items m || has_many_branches branches
-has_too_many m (Fill name row) = list_any has_long_list (stored_row m row)
+has_too_many m (Fill name row) = list_any has_long_list (fill_row m row)
 has_too_many m other = false
 
 -- ---- all tests

@@ -35,33 +35,33 @@ ended_at read = do
   done ← end_at command.1
   Ok (command.0, done.1)
 
-unfoldable pub put_at : At → Read Command
-put_at s = do
+unfoldable pub put_command_at : At → Read Command
+put_command_at s = do
   name ← item_at s
   value ← value_at (enclosed_at bracket_limit) name.1
   Ok (Put name.0 value.0, value.1)
 
-unfoldable pub delete_at : At → Read Command
-delete_at s = do
+unfoldable pub delete_command_at : At → Read Command
+delete_command_at s = do
   name ← item_at s
   passed ← mark_at semicolon name.1
   cycle ← num_at passed.1
   Ok (Delete name.0 cycle.0, cycle.1)
 
-unfoldable pub tree_at : At → Read Command
-tree_at s = do
+unfoldable pub tree_command_at : At → Read Command
+tree_command_at s = do
   name ← item_at s
   branches ← branches_at name.1
   Ok (MakeTree name.0 branches.0, branches.1)
 
-unfoldable pub fill_at : At → Read Command
-fill_at s = do
+unfoldable pub fill_command_at : At → Read Command
+fill_command_at s = do
   name ← item_at s
   row ← row_at name.1
   Ok (Fill name.0 row.0, row.1)
 
-unfoldable pub save_at : At → Read Command
-save_at s = do
+unfoldable pub save_command_at : At → Read Command
+save_command_at s = do
   name ← item_at s
   Ok (Save name.0, name.1)
 
@@ -81,8 +81,8 @@ asked_version_at s =
     if comes_next (codes "as") s then (version_at (behind s) >>= λ version. Ok (Some (pos version.0), version.1))
     else Ok (None, s)
 
-unfoldable pub get_at : At → Read Command
-get_at s = do
+unfoldable pub get_command_at : At → Read Command
+get_command_at s = do
   name ← item_at s
   cycle ← cycle_at name.1
   version ← asked_version_at cycle.1
@@ -103,8 +103,8 @@ class_version_in s = do
 unfoldable pub asked_class_at : At → Read (Option Base)
 asked_class_at s = if comes_next (codes "as") s then class_version_in (behind s) else Ok (None, s)
 
-unfoldable pub scan_at : At → Read Command
-scan_at s = do
+unfoldable pub scan_command_at : At → Read Command
+scan_command_at s = do
   name ← item_at s
   class ← asked_class_at name.1
   Ok (Scan name.0 class.0, class.1)
@@ -119,13 +119,13 @@ class_command_at s = class_at s >>= λ class. Ok (Class class.0, class.1)
 unfoldable pub command_at : At → Read Command
 command_at s =
     if comes_next (codes "class") s then class_command_at s
-    else if comes_next (codes "put") s then ended_at (put_at (behind s))
-    else if comes_next (codes "delete") s then ended_at (delete_at (behind s))
-    else if comes_next (codes "tree") s then ended_at (tree_at (behind s))
-    else if comes_next (codes "fill") s then ended_at (fill_at (behind s))
-    else if comes_next (codes "save") s then ended_at (save_at (behind s))
-    else if comes_next (codes "get") s then ended_at (get_at (behind s))
-    else if comes_next (codes "scan") s then ended_at (scan_at (behind s))
+    else if comes_next (codes "put") s then ended_at (put_command_at (behind s))
+    else if comes_next (codes "delete") s then ended_at (delete_command_at (behind s))
+    else if comes_next (codes "tree") s then ended_at (tree_command_at (behind s))
+    else if comes_next (codes "fill") s then ended_at (fill_command_at (behind s))
+    else if comes_next (codes "save") s then ended_at (save_command_at (behind s))
+    else if comes_next (codes "get") s then ended_at (get_command_at (behind s))
+    else if comes_next (codes "scan") s then ended_at (scan_command_at (behind s))
     else if comes_next (codes "ls") s then ended_at (Ok (Ls, behind s))
     else bad_at s
 

@@ -13,7 +13,7 @@ use Rattle.rio_machine.specs.declared.command.Outcome.TheVariants.{Accepted, Ref
 use Rattle.rio_machine.specs.declared.refusal.Refusal.{Refusal}
 use Rattle.rio_machine.specs.declared.refusal.Refusal.TheVariants.{BadLine}
 use Rattle.rio_step.specs.Mapping.{Mapped}
-use Rattle.rio_step.specs.Refusing.{FullMark, meant_cycle, meant_object, object_class, refusal_of, rows_of_tree, rows_seen_in, seen_in, stored_row, stored_value, with_class}
+use Rattle.rio_step.specs.Refusing.{FullMark, meant_cycle, meant_object, object_class, refusal_of, rows_of_tree, rows_seen_in, seen_in, fill_row, put_value, with_class}
 
 -- ---- states
 
@@ -40,10 +40,10 @@ without_item m name cycle =
 abbrev pub state_behind : State → Command → State
 state_behind m (Bad line place) = m
 state_behind m (Class class) = record m { classes = with_class m.classes class }
-state_behind m (Put name v) = record m { objects = insert m.objects (name, next_cycle m name) (stored_value m v) }
+state_behind m (Put name v) = record m { objects = insert m.objects (name, next_cycle m name) (put_value m v) }
 state_behind m (Delete name cycle) = without_item m name cycle
 state_behind m (MakeTree name branches) = record m { trees = insert m.trees name (new_tree branches) }
-state_behind m (Fill name row) = with_tree m name (tree_filled (stored_row m row))
+state_behind m (Fill name row) = with_tree m name (tree_filled (fill_row m row))
 state_behind m (Save name) = with_tree m name tree_saved
 state_behind m (Get name cycle version) = m
 state_behind m (Scan name class) = m
