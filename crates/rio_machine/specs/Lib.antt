@@ -1,0 +1,4 @@
+pub mod Limits
+pub mod RefusalText
+pub mod Rows
+pub mod State

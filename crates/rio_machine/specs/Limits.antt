@@ -1,0 +1,77 @@
+-- What is too large, too deep or too many.
+use Rattle.std.specs.Prelude.{ℕ, ◌+◌, ◌-◌, ◌%◌, List, [], length, Bool, false, ◌||◌, nat_lt, nat_le}
+use Rattle.std.specs.List.{list_any}
+use Rattle.rio_num.specs.Text.{text_bytes}
+use Rattle.rio_leaf.specs.declared.branch.BranchDef.{BranchDef}
+use Rattle.rio_leaf.specs.declared.branch.Shape.{Shape}
+use Rattle.rio_leaf.specs.declared.branch.Shape.TheVariants.{Leaves, Class}
+use Rattle.rio_format.specs.Objects.{depth_limit}
+use Rattle.rio_format.specs.Written.{written_form}
+use Rattle.rio_format.specs.WrittenBytes.{length_limit}
+use Rattle.rio_types.specs.declared.class.ClassDef.{ClassDef}
+use Rattle.rio_value.specs.Depth.{depth_of}
+use Rattle.rio_value.specs.LongestList.{longest_list_of}
+use Rattle.rio_value.specs.declared.value.Value.{Value}
+use Rattle.rio_machine.specs.Rows.{entries_of}
+use Rattle.rio_machine.specs.State.{State, item_count}
+
+-- the greatest cycle that a command gives, and the greatest that a tree may have to be filled or saved is one less
+abbrev pub cycle_limit : ℕ
+cycle_limit = 32767
+
+-- the objects and trees of a state together
+abbrev pub item_limit : ℕ
+item_limit = 100000
+
+-- the values of a list
+abbrev pub list_limit : ℕ
+list_limit = 100000
+
+-- the branches of a tree
+abbrev pub branch_limit : ℕ
+branch_limit = 64
+
+-- the leaves of a branch
+abbrev pub leaf_limit : ℕ
+leaf_limit = 64
+
+-- ---- lengths
+
+-- how long a record's key is: its numbers have 26 bytes, and the title of an object is empty
+abbrev pub head_length : List ℕ → List ℕ → ℕ
+head_length class name = 26 + length (text_bytes class) + length (text_bytes name) + length (text_bytes [])
+
+-- how many zero bytes bring a length to a multiple of four
+abbrev pub zeros_behind : ℕ → ℕ
+zeros_behind n = (4 - n % 4) % 4
+
+-- how long an object's data are, with the zero bytes that bring its record's length to a multiple of four
+abbrev pub data_length : List ClassDef → List ℕ → List ℕ → Value → ℕ
+data_length classes class name v =
+    let size = length (written_form classes 0 v) in size + zeros_behind (head_length class name + size)
+
+abbrev pub is_too_long : ℕ → Bool
+is_too_long n = nat_lt length_limit n
+
+-- one branch's entry is too long
+abbrev pub has_long_entry : List ClassDef → List BranchDef → List Value → Bool
+has_long_entry classes branches row = list_any (λ entry. is_too_long (length entry)) (entries_of classes branches row)
+
+-- ---- depths and counts
+
+abbrev pub is_too_deep : Value → Bool
+is_too_deep v = nat_lt depth_limit (depth_of v)
+
+abbrev pub has_long_list : Value → Bool
+has_long_list v = nat_lt list_limit (longest_list_of v)
+
+-- there is no room for one more object or tree
+abbrev pub has_all_items : State → Bool
+has_all_items m = nat_le item_limit (item_count m)
+
+abbrev pub has_many_leaves : Shape → Bool
+has_many_leaves (Leaves leaves) = nat_lt leaf_limit (length leaves)
+has_many_leaves (Class class) = false
+
+abbrev pub has_many_branches : List BranchDef → Bool
+has_many_branches branches = nat_lt branch_limit (length branches) || list_any (λ b. has_many_leaves b.shape) branches

@@ -1,0 +1,67 @@
+//! The commands of a script, and what became of one.
+use crate::Refusal;
+use rio_leaf::BranchDefs;
+use rio_num::{Items, Name};
+use rio_types::{Base, ClassDef};
+use rio_value::{Value, Values};
+
+/// A command. An object of a value in a command may have the version 0, which stands for the newest.
+#[derive(Drop)]
+pub enum Command {
+    /// A line that is no command: its number, counted from 1, and the place in it of the first token that can't stand,
+    /// counted from 0.
+    Bad {
+        line: u32,
+        place: u32,
+    },
+    /// Declares a class.
+    Class(ClassDef),
+    /// Stores an object in the next cycle of the name.
+    Put {
+        name: Name,
+        value: Value,
+    },
+    /// Takes an object or a tree away.
+    Delete {
+        name: Name,
+        cycle: u32,
+    },
+    /// Makes a tree without rows.
+    Tree {
+        name: Name,
+        branches: BranchDefs,
+    },
+    /// Puts a row at the end of a tree. It is pending until the tree is saved.
+    Fill {
+        name: Name,
+        row: Values,
+    },
+    /// Saves the pending rows of a tree.
+    Save {
+        name: Name,
+    },
+    /// Tells an object: the one of the greatest cycle, if none is named. A version asks for the object as its class
+    /// has it in that version.
+    Get {
+        name: Name,
+        cycle: Option<u32>,
+        version: Option<i32>,
+    },
+    /// Tells the rows of a tree. A class asks for its objects in them as it has them in that version.
+    Scan {
+        name: Name,
+        class: Option<Base>,
+    },
+    /// Tells the names of all objects and trees.
+    Ls,
+}
+
+/// A list of commands.
+pub type Commands = Items<Command>;
+
+/// What became of a command.
+#[derive(Debug, Drop)]
+pub enum Outcome {
+    Accepted,
+    Refused(Refusal),
+}

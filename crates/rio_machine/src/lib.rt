@@ -1,0 +1,14 @@
+//! The machine that a file is: the commands that change its state, why one of them is refused, and the state that they
+//! change. A state has declared classes, objects by name and cycle, and trees by name, and nothing of keys, records or
+//! places. What a command does to it is defined above, where the texts of classes and values are.
+#![tactic(auto)]
+
+mod command;
+mod laws;
+mod print;
+mod refusal;
+
+pub use command::{Command, Commands, Outcome};
+pub use laws::orders_are_total;
+pub use print::print_refusal;
+pub use refusal::Refusal;

@@ -1,0 +1,93 @@
+//! Refusals as they are said.
+ghost use Rattle.std.specs.Prelude.{◌≡◌, ◌++◌, OnOk, OnErr, codes};
+ghost use Rattle.std.specs.Fmt.{decimal};
+ghost use Rattle.rio_num.specs.Printed.{name_text};
+ghost use Rattle.rio_num.specs.Room.{with_more};
+ghost use Rattle.rio_machine.specs.RefusalText.{refusal_details, refusal_text, numbered};
+
+use crate::Refusal;
+use rio_num::{Bytes, NoMemory};
+
+// A blank and a number.
+fn put_number(text: &mut Bytes, n: u64) -> Result<(), NoMemory>
+    ensures { OnOk result (text.new.bytes ≡ text.old.bytes ++ numbered n) }
+{
+    text.put(b" ")?;
+    text.put_decimal(n)
+}
+
+fn put_numbers(text: &mut Bytes, n: u64, other: u64) -> Result<(), NoMemory>
+    ensures { OnOk result (text.new.bytes ≡
+        text.old.bytes ++ (numbered n ++ numbered other)) }
+{
+    put_number(text, n)?;
+    put_number(text, other)
+}
+
+// A blank and a name.
+fn put_member(text: &mut Bytes, member: &[u8]) -> Result<(), NoMemory>
+    ensures { OnOk result (text.new.bytes ≡ text.old.bytes ++ (codes " " ++ name_text member.now)) }
+{
+    text.put(b" ")?;
+    text.put_name(member)
+}
+
+fn put_details(text: &mut Bytes, refusal: &Refusal) -> Result<(), NoMemory>
+    ensures { OnOk result (text.new.bytes ≡ text.old.bytes ++ refusal_details refusal.now) }
+{
+    match refusal {
+        Refusal::BadLine { line, place } => {
+            put_numbers(text, u64::from(*line), u64::from(*place))
+        }
+        Refusal::KindChanged { member } => put_member(text, member.as_slice()),
+        Refusal::Full { end, wanted } => put_numbers(text, *end, *wanted),
+        _ => Ok(()),
+    }
+}
+
+fn put_refusal(text: &mut Bytes, refusal: &Refusal) -> Result<(), NoMemory>
+    ensures { OnOk result (text.new.bytes ≡ text.old.bytes ++ refusal_text refusal.now) }
+{
+    text.put(b"no ")?;
+    text.put_decimal(u64::from(refusal.number()))?;
+    text.put(b" ")?;
+    text.put(refusal.name())?;
+    put_details(text, refusal)?;
+    text.put(b"\n")
+}
+
+/// Puts a refusal at the end as it is said, with its line feed: `no NUMBER NAME`, followed for BadLine by line and
+/// place, for KindChanged by the member, for Full by end and wanted. Without memory nothing is put.
+pub fn print_refusal(refusal: &Refusal, into: &mut Bytes) -> Result<(), NoMemory>
+    ensures ok { OnOk result (into.new ≡ with_more into.old (refusal_text refusal.now)) }
+    ensures err { OnErr result (into.new ≡ into.old) }
+{
+    let mut text = Bytes::new(into.allocator());
+    put_refusal(&mut text, refusal)?;
+    into.put(text.as_slice())
+}
+
+#[cfg(test)]
+mod tests {
+    use super::*;
+    use rio_num::Name;
+    use std::test::Fail;
+
+    #[test]
+    fn says(rt: HostRuntime) -> Result<(), Fail> {
+        let mut text = Bytes::new(rt.alloc());
+        print_refusal(&Refusal::BadLine { line: 1, place: 17 }, &mut text)?;
+        let member = Name::from_slice(rt.alloc(), b"f")?;
+        print_refusal(&Refusal::KindChanged { member }, &mut text)?;
+        print_refusal(&Refusal::TooDeep, &mut text)?;
+        let full = Refusal::Full {
+            end: 1_999_999_000,
+            wanted: 1000,
+        };
+        print_refusal(&full, &mut text)?;
+        let expected =
+            b"no 1 BadLine 1 17\nno 13 KindChanged f\nno 17 TooDeep\nno 19 Full 1999999000 1000\n";
+        assert!(rt; text.as_slice() == expected.as_slice());
+        Ok(())
+    }
+}

@@ -1,0 +1,11 @@
+pub mod ApartLaws
+pub mod ClosedLaws
+pub mod DeleteLaws
+mod Examples
+pub mod GivenLaws
+pub mod LowestLaws
+mod Refusals
+pub mod RunLaws
+pub mod ScriptLaws
+pub mod StepLaws
+pub mod TreeLaws

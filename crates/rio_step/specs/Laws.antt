@@ -1,0 +1,109 @@
+-- Laws of steps and of runs.
+use Rattle.std.specs.Prelude.{◌≡◌, ◌≢◌, ◌<◌, ◌≤◌, ◌⊎◌, ℕ, ◌+◌, ◌-◌, List, [], ◌∷◌, ◌++◌, drop, length, slice_get, take, Option, Some, None, IfSome, IsSome, true, false}
+use Rattle.std.specs.FinMap.{get}
+use Rattle.std.specs.List.{last_or}
+use Rattle.std.specs.Option.{option_map}
+use Rattle.rio_value.specs.declared.value.Value.{Value}
+use Rattle.rio_machine.specs.RefusalText.{refusal_number}
+use Rattle.rio_machine.specs.State.{NameAndCycle, State, Tree, names_object, names_tree, next_cycle}
+use Rattle.rio_machine.specs.declared.command.Command.{Command}
+use Rattle.rio_machine.specs.declared.command.Command.TheVariants.{Put, Delete}
+use Rattle.rio_machine.specs.declared.refusal.Refusal.{Refusal}
+use Rattle.rio_step.specs.Refusing.{FullMark, refusal_of, refusals, put_value}
+use Rattle.rio_step.specs.ReplyText.{text_of}
+use Rattle.rio_step.specs.Runs.{Marks, closed_of, closing_saves, first_step, said_of, saved_of, saved_tree, state_after, states_of_run}
+use Rattle.rio_step.specs.Step.{refused, step}
+
+-- ---- refusals
+
+-- the test with the refusal's number gives the refusal, and no test before it gives one
+pub record IsLowest (tests : List (Option Refusal)) (refusal : Refusal) : Type 0 where
+  pub told : slice_get tests (refusal_number refusal - 1) ≡ Some (Some refusal)
+  pub none_before : (k : ℕ) → k + 1 < refusal_number refusal → slice_get tests k ≡ Some None
+
+-- of several refusals the one of the lowest number is told, and none is told where no test gives one
+pub record LowestIsTold : Type 0 where
+  pub some : (m : State) (c : Command) (mark : Option FullMark) (refusal : Refusal)
+      → refusal_of m c mark ≡ Some refusal → IsLowest (refusals m c mark) refusal
+  pub none : (m : State) (c : Command) (mark : Option FullMark)
+      → refusal_of m c mark ≡ None → (k : ℕ) → k < 19 → slice_get (refusals m c mark) k ≡ Some None
+
+-- ---- steps
+
+-- a refused command changes nothing
+abbrev pub RefusedChangesNothing : Type 0
+RefusedChangesNothing = (m : State) (c : Command) (mark : Option FullMark) (refusal : Refusal)
+    → (step m c mark).reply ≡ refused refusal → (step m c mark).state ≡ m
+
+-- the second state has one object more: the value, in the next cycle of its name, where nothing was
+pub record HasOneMore (m n : State) (name : List ℕ) (v : Value) : Type 0 where
+  pub classes : n.classes ≡ m.classes
+  pub trees : n.trees ≡ m.trees
+  pub free : get m.objects (name, next_cycle m name) ≡ None
+  pub object : get n.objects (name, next_cycle m name) ≡ Some (put_value m v)
+  pub others : (item : NameAndCycle) → item ≢ (name, next_cycle m name) → get n.objects item ≡ get m.objects item
+
+-- a put that isn't refused adds its object and changes nothing else
+abbrev pub PutsAddOne : Type 0
+PutsAddOne = (m : State) (name : List ℕ) (v : Value) (mark : Option FullMark)
+    → refusal_of m (Put name v) mark ≡ None → HasOneMore m (step m (Put name v) mark).state name v
+
+-- no name is that of an object and of a tree
+abbrev pub AreApart : State → Type 0
+AreApart m = (name : List ℕ) → names_object m name ≡ true → names_tree m name ≡ false
+
+-- the second state has one object less
+pub record HasOneLess (m n : State) (item : NameAndCycle) : Type 0 where
+  pub classes : n.classes ≡ m.classes
+  pub trees : n.trees ≡ m.trees
+  pub there : IsSome (get m.objects item)
+  pub object : get n.objects item ≡ None
+  pub others : (other : NameAndCycle) → other ≢ item → get n.objects other ≡ get m.objects other
+
+-- the second state has one tree less
+pub record HasOneTreeLess (m n : State) (name : List ℕ) (cycle : ℕ) : Type 0 where
+  pub classes : n.classes ≡ m.classes
+  pub objects : n.objects ≡ m.objects
+  pub there : IfSome (get m.trees name) (λ t. t.cycle ≡ cycle)
+  pub tree : get n.trees name ≡ None
+  pub others : (other : List ℕ) → other ≢ name → get n.trees other ≡ get m.trees other
+
+-- a delete that isn't refused takes its object away, or its tree with all rows, and changes nothing else
+abbrev pub DeletesTakeOne : Type 0
+DeletesTakeOne = (m : State) (name : List ℕ) (cycle : ℕ) (mark : Option FullMark) → AreApart m → refusal_of m (Delete name cycle) mark ≡ None
+    → let n = (step m (Delete name cycle) mark).state in HasOneLess m n (name, cycle) ⊎ HasOneTreeLess m n name cycle
+
+abbrev pub NamesStayApart : Type 0
+NamesStayApart = (m : State) (c : Command) (mark : Option FullMark) → AreApart m → AreApart (step m c mark).state
+
+-- ---- runs
+
+-- a run with one command more says its reply more
+abbrev pub EachSaysItsReply : Type 0
+EachSaysItsReply = (m : State) (cs : List Command) (c : Command) (marks : Marks)
+    → said_of m (cs ++ c ∷ []) marks ≡ said_of m cs marks ++ text_of (first_step (state_after m cs marks) c (drop (length cs) marks)).reply
+
+-- one state at the start, one behind each command and one behind each closing save
+abbrev pub RunsHaveStates : Type 0
+RunsHaveStates = (m : State) (cs : List Command) (marks : Marks)
+    → length (states_of_run m cs marks) ≡ length cs + 1 + length (closing_saves (state_after m cs marks))
+
+-- the last of them is the state behind the commands with all pending rows saved
+abbrev pub RunsEndClosed : Type 0
+RunsEndClosed = (m : State) (cs : List Command) (marks : Marks)
+    → last_or None (states_of_run m cs marks) ≡ Some (closed_of (state_after m cs marks))
+
+-- the states are those behind the first commands, so a run of fewer commands has the same at its front
+abbrev pub RunsBeginAlike : Type 0
+RunsBeginAlike = (m : State) (cs : List Command) (marks : Marks) (k : ℕ) → k ≤ length cs
+    → slice_get (states_of_run m cs marks) k ≡ Some (state_after m (take k cs) marks)
+
+-- ---- rows
+
+-- a state without its pending rows has the same trees, each without its own
+abbrev pub SavedKeepsTheRest : Type 0
+SavedKeepsTheRest = (m : State) (name : List ℕ) → get (saved_of m).trees name ≡ option_map saved_tree (get m.trees name)
+
+-- a closed state has no pending rows
+abbrev pub ClosedHasNonePending : Type 0
+ClosedHasNonePending = (m : State) (name : List ℕ) (t : Tree) → get (closed_of m).trees name ≡ Some t → t.pending ≡ []

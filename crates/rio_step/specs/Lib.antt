@@ -1,0 +1,9 @@
+pub mod Laws
+pub mod Mapping
+pub mod Refusing
+pub mod ReplyText
+pub mod Runs
+pub mod Script
+pub mod Statable
+pub mod Step
+pub mod TreeGrammar

@@ -1,0 +1,47 @@
+//! Laws of steps and of runs.
+ghost use Rattle.rio_step.specs.Laws.{ClosedHasNonePending, DeletesTakeOne, EachSaysItsReply, LowestIsTold, NamesStayApart, PutsAddOne, RefusedChangesNothing, RunsBeginAlike, RunsEndClosed, RunsHaveStates, SavedKeepsTheRest};
+ghost use Rattle.rio_step.specs.Statable.{ScriptsAreStatable};
+
+/// Of several refusals that hold the one of the lowest number is told, and none is told where none holds.
+pub fn lowest_is_told()
+    ensures { LowestIsTold }
+{}
+
+/// A refused command changes nothing. A put that isn't refused adds its object, in a cycle where nothing was, and changes
+/// nothing else. A delete takes its object away, or its tree with all rows, and changes nothing else.
+pub fn steps_change_one_thing()
+    ensures refused { RefusedChangesNothing }
+    ensures put { PutsAddOne }
+    ensures delete { DeletesTakeOne }
+{}
+
+/// If no name is that of an object and of a tree, no command makes one so.
+pub fn names_stay_apart()
+    ensures { NamesStayApart }
+{}
+
+/// A run says one reply for each command, in order.
+pub fn each_says_its_reply()
+    ensures { EachSaysItsReply }
+{}
+
+/// A run has a state at its start, one behind each command and one behind each closing save. Those behind the first
+/// commands are the same whatever follows.
+pub fn runs_have_states()
+    ensures states { RunsHaveStates }
+    ensures front { RunsBeginAlike }
+{}
+
+/// In the last state of a run all pending rows are saved. A state without its pending rows has the same trees, each without
+/// its own.
+pub fn runs_end_closed()
+    ensures last { RunsEndClosed }
+    ensures closed { ClosedHasNonePending }
+    ensures saved { SavedKeepsTheRest }
+{}
+
+/// Every command of a script can be stated: its names are such as objects and trees have, the class that it declares and
+/// the branches that it lists are such as a line can give.
+pub fn scripts_are_statable()
+    ensures { ScriptsAreStatable }
+{}

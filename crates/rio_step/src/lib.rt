@@ -1,0 +1,13 @@
+//! What commands do: the state after a command and what is said of it, or the first rule that refuses it; the states and the
+//! texts of a run; objects as their class has them in another version. Definitions that contracts cite, in `specs/`, laws
+//! about them, and the fault that a version is refused for.
+#![tactic(auto)]
+
+mod fault;
+mod laws;
+
+pub use fault::MapFault;
+pub use laws::{
+    each_says_its_reply, lowest_is_told, names_stay_apart, runs_end_closed, runs_have_states,
+    scripts_are_statable, steps_change_one_thing,
+};
