@@ -13,3 +13,6 @@ pub use entry::FreeEntry;
 pub use gap::Gap;
 pub use list::FreeList;
 pub use write::write_free;
+
+#[cfg(test)]
+mod tests;

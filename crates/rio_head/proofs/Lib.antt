@@ -7,4 +7,6 @@ pub mod HeadCut
 pub mod HeadFound
 pub mod HeadRead
 pub mod HeadSteps
+pub mod Lengths
 pub mod Parts
+pub mod Puts

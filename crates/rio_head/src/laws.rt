@@ -1,5 +1,6 @@
 //! Laws of headers and directory records.
 ghost use Rattle.rio_head.specs.Laws.{DirInFront, HeadInFront, OneDir, OneHead};
+ghost use Rattle.rio_head.specs.Written.{WrittenDirIsRead, WrittenHeadIsRead};
 
 /// A header is read from the first 100 bytes of a file alone.
 pub fn header_in_front()
@@ -19,4 +20,14 @@ pub fn one_head()
 /// One directory record is spelled at the beginning of some bytes.
 pub fn one_dir()
     ensures { OneDir }
+{}
+
+/// What is written of a header is read as it, where its places fit its form and it says where they begin.
+pub fn written_head_is_read()
+    ensures { WrittenHeadIsRead }
+{}
+
+/// What is written of a directory record is read as it, where its places fit its form.
+pub fn written_dir_is_read()
+    ensures { WrittenDirIsRead }
 {}

@@ -1,16 +1,25 @@
-//! The header of a file, and the record of its directory.
+//! The header of a file, and the record of its directory: both are read and written, in both forms. Beside them stand the
+//! kinds of faults of a file, the reasons against writing to it, and the identifier that its name gives it.
 #![tactic(auto)]
 
 mod dir;
 mod fault;
 mod head;
 mod laws;
+mod reason;
 mod take;
+mod uuid;
+mod write;
 
 pub use dir::{DirRecord, read_dir};
 pub use fault::{FileFault, HeadFault};
 pub use head::{FileHead, read_head};
-pub use laws::{dir_in_front, header_in_front, one_dir, one_head};
+pub use laws::{
+    dir_in_front, header_in_front, one_dir, one_head, written_dir_is_read, written_head_is_read,
+};
+pub use reason::Reason;
+pub use uuid::file_uuid;
+pub use write::{write_dir, write_head};
 
 #[cfg(test)]
 mod tests;

@@ -1,5 +1,9 @@
 //! The header and the directory of an empty file.
-use crate::{FileFault, HeadFault, read_dir, read_head};
+use crate::{
+    DirRecord, FileFault, FileHead, HeadFault, Reason, file_uuid, read_dir, read_head, write_dir,
+    write_head,
+};
+use rio_num::Bytes;
 use std::test::Fail;
 
 // The header of an empty file `a.root`, and the record of its directory.
@@ -83,5 +87,51 @@ fn tells_where_a_file_breaks_a_rule(rt: HostRuntime) -> Result<(), Fail> {
         text.as_str(),
         "at 174: the record of the directory isn't whole"
     );
+    Ok(())
+}
+
+#[test]
+fn writes_the_header_of_an_empty_file(rt: HostRuntime) -> Result<(), Fail> {
+    let head = FileHead {
+        version: 60000,
+        begin: 100,
+        end: 304,
+        seek_free: 252,
+        nbytes_free: 52,
+        nfree: 1,
+        nbytes_name: 48,
+        units: 4,
+        compress: 0,
+        seek_info: 0,
+        nbytes_info: 0,
+        uuid: file_uuid(b"a.root"),
+    };
+    let mut bytes = Bytes::new(rt.alloc());
+    write_head(&head, &mut bytes)?;
+    assert_eq!(rt; bytes.len(), 100);
+    assert!(rt; bytes.as_slice().starts_with(HEAD));
+    assert!(rt; bytes.as_slice().ends_with(&[0; 37]));
+    Ok(())
+}
+
+#[test]
+fn writes_a_directory(rt: HostRuntime) -> Result<(), Fail> {
+    let dir = DirRecord {
+        version: 5,
+        created: 1,
+        changed: 1,
+        nbytes_keys: 44,
+        nbytes_name: 48,
+        seek_dir: 100,
+        seek_parent: 0,
+        seek_keys: 208,
+        uuid: file_uuid(b"a.root"),
+    };
+    let mut bytes = Bytes::new(rt.alloc());
+    write_dir(&dir, &mut bytes)?;
+    assert_eq!(rt; bytes.len(), 60);
+    assert!(rt; bytes.as_slice().starts_with(DIR));
+    assert!(rt; bytes.as_slice().ends_with(&[0; 12]));
+    assert_eq!(rt; Reason::NoChain.name(), "NoChain");
     Ok(())
 }
