@@ -1,11 +1,10 @@
 -- A chain as its parts: what stands at each place, and gaps that are apart in the list.
-use Rattle.std.proofs.Common.{◌≡◌, ◌⊎◌, inl, inr, ℕ, ◌+◌, ◌-◌, ◌%◌, ◌^◌, ◌<◌, ◌≤◌, List, [], ◌∷◌, ◌++◌, length, Some, refl, sym, ap, subst, ◌∙◌, arith}
+use Rattle.std.proofs.Common.{◌≡◌, ℕ, ◌+◌, ◌-◌, ◌%◌, ◌^◌, ◌<◌, ◌≤◌, List, [], ◌∷◌, ◌++◌, length, Some, refl, subst, arith}
 use Rattle.std.specs.List.{slice_get}
-use Rattle.rio_host.specs.Image.{Has}
-use Rattle.rio_host.proofs.Images.{has_keeps, has_length}
-use Rattle.rio_chain.specs.Segments.{Link, RecordAt, GapAt, link_length, end_from, chain_end, HasWord, HoldsEnd, HoldsGap, HoldsLink, HoldsLinks, HoldsRecord, IsChain, IsFirst, IsPositive}
+use Rattle.rio_host.proofs.Images.{has_keeps}
+use Rattle.rio_chain.specs.Segments.{Link, RecordAt, GapAt, link_length, end_from, chain_end, HasWord, HoldsEnd, HoldsLinks, HoldsRecord, IsChain, IsFirst, IsPositive}
 use Rattle.rio_chain.specs.Stops.{KeepsFront}
-use Rattle.rio_chain.proofs.Words.{held_long, held_positive, held_word, word_keeps, word_one, word_within}
+use Rattle.rio_chain.proofs.Words.{held_positive, held_word, word_keeps, word_one, word_within}
 
 -- a gap, whatever stands behind it
 pub record PlainGap (file : List ℕ) (place n : ℕ) : Type 0 where

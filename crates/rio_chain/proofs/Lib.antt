@@ -1,9 +1,12 @@
 pub mod BehindSteps
 pub mod Chains
 pub mod Finding
+pub mod Indices
 pub mod Keys
 pub mod Links
 pub mod OneChain
+pub mod Placed
+pub mod PutChain
 pub mod Puts
 pub mod SoFar
 pub mod Words

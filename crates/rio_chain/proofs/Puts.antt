@@ -1,16 +1,16 @@
 -- What a put makes of a chain: at END, and in a gap.
-use Rattle.std.proofs.Common.{◌≡◌, ◌⊎◌, inl, inr, ⊎_elim, ℕ, zero, suc, ◌+◌, ◌-◌, ◌%◌, ◌^◌, ◌<◌, ◌≤◌, List, [], ◌∷◌, ◌++◌, length, length-append, drop, take, Some, refl, sym, ap, subst, ◌∙◌, append_assoc, arith}
+use Rattle.std.proofs.Common.{◌≡◌, ◌⊎◌, inl, inr, ⊎_elim, ℕ, zero, suc, ◌+◌, ◌-◌, ◌%◌, ◌^◌, ◌<◌, ◌≤◌, List, [], ◌∷◌, ◌++◌, length, length-append, Some, refl, sym, ap, subst, ◌∙◌, arith}
 use Rattle.std.proofs.lemmas.List.{append-nil}
 use Rattle.std.specs.List.{slice_get}
-use Rattle.byteorder.specs.Endian.{big_bytes, big_number}
+use Rattle.byteorder.specs.Endian.{big_bytes}
 use Rattle.byteorder.specs.Numbers.{length-bytes_high_first}
-use Rattle.rio_host.specs.Image.{Has, Torn, Put}
+use Rattle.rio_host.specs.Image.{Has, Torn}
 use Rattle.rio_host.specs.Host.{View}
-use Rattle.rio_host.proofs.Images.{has_keeps, has_length, has_front, has_back, slice_get-append_cases}
-use Rattle.rio_chain.specs.Segments.{Link, RecordAt, GapAt, link_length, end_from, chain_end, HasWord, HoldsEnd, HoldsRecord, IsChain, IsRecord}
+use Rattle.rio_host.proofs.Images.{has_keeps, has_front, has_back, slice_get-append_cases}
+use Rattle.rio_chain.specs.Segments.{Link, RecordAt, GapAt, end_from, chain_end, HoldsEnd, HoldsRecord, IsChain, IsRecord}
 use Rattle.rio_chain.specs.Stops.{BodyThenWord, IsBodyBehind, IsEither, KeepsFront}
-use Rattle.rio_chain.proofs.Words.{Word, held_positive, record_long, record_word, word_keeps, word_of_bytes, word_within}
-use Rattle.rio_chain.proofs.Chains.{BeginsRecord, KeepsIn, Parts, PlainGap, PlainLinks, Spaced, chain_of, end-append, end-le, end_keeps, parts_of, plain-append, plain_cut, plain_keeps, spaced_as, spaced_back}
+use Rattle.rio_chain.proofs.Words.{word_keeps, word_of_bytes, word_within}
+use Rattle.rio_chain.proofs.Chains.{BeginsRecord, Parts, PlainGap, PlainLinks, Spaced, chain_of, end-append, end-le, end_keeps, parts_of, plain-append, plain_cut, plain_keeps, spaced_as, spaced_back}
 
 -- bytes that stand one behind the other
 pub has_join : (file : List ℕ) (place : ℕ) (one two : List ℕ) → Has file place one → Has file (place + length one) two → Has file place (one ++ two)
@@ -150,6 +150,10 @@ module _ (links front back : List Link) (place m : ℕ) (is : links ≡ front ++
   pub gap_later : 100 < place
   gap_later = gap.later
 
+  -- what stands before it, and the gap
+  pub gap_plain : PlainLinks file 100 front × PlainGap file place m
+  gap_plain = (cut.0, gap)
+
   pub gap_within : place + 4 ≤ length file
   gap_within = word_within file place (2 ^ 32 - m) gap.word
 
@@ -182,7 +186,7 @@ module _ (links front back : List Link) (place m : ℕ) (is : links ≡ front ++
       same_end = end_keeps file image (end_from (place + m) back) (λ i x low high was. torn.outside i x (inr (omega (arith, low, fits, end-le (place + m) back))) was) ends_there
 
   module _ (bytes tail : List ℕ) (k : ℕ) (fits : length bytes + k ≡ m) (some : IsRest k) (whole : IsRecord place bytes) (tail_is : Tail bytes tail (filler k)) where
-    tail_fits : 4 + length tail ≤ m
+    pub tail_fits : 4 + length tail ≤ m
     tail_fits = omega (arith, fits, filler_length k some, tail_long)
       where
         tail_long : length tail + 4 ≡ length bytes + length (filler k)

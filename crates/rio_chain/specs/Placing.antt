@@ -1,5 +1,6 @@
 -- Where records go: the choice of place, and what a record makes of the segments.
-use Rattle.std.specs.Prelude.{◌≡◌, ◌⊎◌, ℕ, ◌+◌, ◌-◌, ◌==◌, List, [], ◌∷◌, if◌then◌else◌}
+use Rattle.std.specs.Prelude.{◌≡◌, ◌⊎◌, ℕ, zero, suc, ◌+◌, ◌-◌, ◌^◌, ◌≤◌, ◌==◌, List, [], ◌∷◌, ◌++◌, Option, Some, None, if◌then◌else◌}
+use Rattle.byteorder.specs.Endian.{big_bytes}
 use Rattle.std.specs.Option.{unwrap_or}
 use Rattle.rio_free.specs.Gaps.{best_place, gap_of}
 use Rattle.rio_free.specs.declared.gap.Gap.{Gap as FreeGap}
@@ -50,3 +51,13 @@ places_of (n ∷ lengths) segments = place_of segments n ∷ places_of lengths (
 -- the place of the rule, or END
 abbrev pub IsPlaceFor : List Segment → ℕ → ℕ → Type 0
 IsPlaceFor segments n place = (place ≡ place_of segments n) ⊎ (place ≡ file_end segments)
+
+-- a gap of n bytes and a rest begins at a place: the rest is none, or enough for a gap
+abbrev pub HasRest : List Segment → ℕ → ℕ → ℕ → Type 0
+HasRest segments place n rest = (front : List Segment) × (back : List Segment) × (segments ≡ front ++ Gap place (n + rest) ∷ back) × ((rest ≡ 0) ⊎ (4 ≤ rest))
+
+-- the word of what is left of a gap behind a record, or END's
+abbrev pub word_behind : Option ℕ → List ℕ
+word_behind None = big_bytes 4 0
+word_behind (Some zero) = []
+word_behind (Some (suc rest)) = big_bytes 4 (2 ^ 32 - suc rest)

@@ -1,6 +1,9 @@
 //! The chain that is kept beside a file.
-ghost use Rattle.std.specs.Prelude.{◌≡◌, ◌+◌, ◌<◌, ◌≤◌, length, vec_len, vec_capacity};
-ghost use Rattle.rio_chain.specs.Placing.{gaps_in, record_count};
+ghost use Rattle.std.specs.Prelude.{◌≡◌, ◌+◌, ◌<◌, ◌≤◌, ◌^◌, nat_lt, vec_len, vec_capacity};
+ghost use Rattle.std.specs.List.{prefix_len};
+ghost use Rattle.rio_free.specs.Gaps.{HasGapFor};
+ghost use Rattle.rio_chain.specs.Adjoining.{AreAdjacent, segment_place};
+ghost use Rattle.rio_chain.specs.Placing.{gaps_in, with_segment};
 
 use crate::{Segment, Segments};
 use rio_free::FreeList;
@@ -16,7 +19,7 @@ pub struct Chain {
     end: u64,
     live: u64,
     spare: usize,
-    spent: bool,
+    pub(crate) spent: bool,
 }
 
 impl Model for Chain {
@@ -99,5 +102,116 @@ impl Chain {
         self.segments.reserve(2 * n as usize)?;
         self.spare = n as usize;
         Ok(())
+    }
+}
+
+// How many segments begin before the place.
+fn count_before(segments: &[Segment], place: u64) -> usize
+    requires { AreAdjacent 100 segments.now }
+    ensures { result ≡ prefix_len (λ s. nat_lt (segment_place s) place) segments.now }
+{
+    segments.partition_point(|segment| segment.place() < place)
+}
+
+// Puts a record at the front of the gap at `place`, where there is room for one segment more.
+fn fill_gap(segments: &mut Vec<Segment>, place: u64, n: u64)
+    requires adjacent { AreAdjacent 100 segments.old.items }
+    requires fit { HasGapFor (gaps_in segments.old.items) place n }
+    requires room { vec_len segments.old + 1 ≤ vec_capacity segments.old }
+    requires fits { place + n < 2 ^ 64 }
+    ensures items { segments.new.items ≡ with_segment place n segments.old.items }
+    ensures len { vec_len segments.new ≤ vec_len segments.old + 1 }
+    ensures room { vec_capacity segments.old ≤ vec_capacity segments.new }
+{
+    let at = count_before(segments, place);
+    let rest = segments[at].length() - n;
+    segments[at] = Segment::Record { place, length: n };
+    if rest > 0 {
+        let gap = Segment::Gap {
+            place: place + n,
+            length: rest,
+        };
+        let _ = segments.insert(at + 1, gap);
+    }
+}
+
+impl Chain {
+    ghost use Rattle.std.specs.Prelude.{◌≡◌, ◌+◌, ◌-◌, ◌%◌, ◌≤◌, ◌∷◌, ◌++◌, [], MatchOption, IfSome, false};
+    ghost use Rattle.rio_free.specs.Gaps.{HasGapFor};
+    ghost use Rattle.rio_chain.specs.declared.segment.Segment.TheVariants.{Record};
+    ghost use Rattle.rio_chain.specs.Placing.{HasRest, IsPlaceFor, file_end, gaps_in, with_segment};
+
+    // How many bytes are left behind a record of `n` bytes in the gap at `place`: None at END.
+    pub(crate) fn rest_behind(&self, place: u64, n: u64) -> Option<u64>
+        requires { IsPlaceFor self.now.segments n place }
+        ensures rest { MatchOption result (place ≡ file_end self.now.segments)
+            (λ rest. HasRest self.now.segments place n rest) }
+        ensures small { IfSome result (λ rest. rest ≤ 1999999996) }
+        ensures aligned { place % 4 ≡ 0 }
+        ensures low { place ≤ 1999999996 }
+    {
+        if place == self.end {
+            return None;
+        }
+        let at = count_before(&self.segments, place);
+        Some(self.segments[at].length() - n)
+    }
+
+    // Puts a record of `n` bytes behind the last segment.
+    fn note_end(&mut self, n: u64)
+        requires low { file_end self.old.segments + n ≤ 1999999996 }
+        requires aligned { n % 4 ≡ 0 }
+        requires some { 4 ≤ n }
+        requires room { 1 ≤ self.old.spare }
+        ensures { self.new ≡ record self.old {
+          segments = self.old.segments ++ Record (file_end self.old.segments) n ∷ [];
+          spare = self.old.spare - 1;
+        } }
+    {
+        let record = Segment::Record {
+            place: self.end,
+            length: n,
+        };
+        let _ = self.segments.push(record);
+        self.end += n;
+        self.live += 1;
+        self.spare -= 1;
+    }
+
+    // Puts a record of `n` bytes at the front of the gap at `place`.
+    fn note_gap(&mut self, place: u64, n: u64)
+        requires fit { HasGapFor (gaps_in self.old.segments) place n }
+        requires aligned { n % 4 ≡ 0 }
+        requires some { 4 ≤ n }
+        requires room { 1 ≤ self.old.spare }
+        ensures { self.new ≡ record self.old {
+          segments = with_segment place n self.old.segments;
+          spare = self.old.spare - 1;
+        } }
+    {
+        fill_gap(&mut self.segments, place, n);
+        self.gaps.take(place, n);
+        self.live += 1;
+        self.spare -= 1;
+    }
+
+    /// Changes the chain as `put_record` of `n` bytes at `place` does, with no file.
+    pub fn note_put(&mut self, place: u64, n: u64)
+        requires fresh { self.old.spent ≡ false }
+        requires place { IsPlaceFor self.old.segments n place }
+        requires low { file_end (with_segment place n self.old.segments) ≤ 1999999996 }
+        requires aligned { n % 4 ≡ 0 }
+        requires some { 4 ≤ n }
+        requires room { 1 ≤ self.old.spare }
+        ensures { self.new ≡ record self.old {
+          segments = with_segment place n self.old.segments;
+          spare = self.old.spare - 1;
+        } }
+    {
+        if place == self.end {
+            self.note_end(n);
+        } else {
+            self.note_gap(place, n);
+        }
     }
 }

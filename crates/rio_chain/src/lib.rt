@@ -6,6 +6,7 @@ mod fault;
 mod found;
 mod kept;
 mod laws;
+mod put;
 mod reads;
 mod segment;
 mod walking;

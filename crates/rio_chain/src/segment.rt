@@ -14,6 +14,24 @@ pub enum Segment {
 }
 
 impl Segment {
+    /// The place of its first byte.
+    pub fn place(&self) -> u64
+        ensures { result ≡ segment_place self.now }
+    {
+        match self {
+            Segment::Record { place, .. } | Segment::Gap { place, .. } => *place,
+        }
+    }
+
+    /// How many bytes it has.
+    pub fn length(&self) -> u64
+        ensures { result ≡ segment_length self.now }
+    {
+        match self {
+            Segment::Record { length, .. } | Segment::Gap { length, .. } => *length,
+        }
+    }
+
     /// The place behind it.
     pub(crate) fn end(self) -> u64
         requires { segment_place self + segment_length self < 2 ^ 64 }

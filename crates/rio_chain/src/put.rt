@@ -1,0 +1,94 @@
+//! A record is put into the chain of a file.
+ghost use Rattle.std.specs.Prelude.{◌≡◌, ◌≤◌, ◌<◌, ◌^◌, ◌++◌, IfSome};
+ghost use Rattle.rio_chain.specs.Placing.{word_behind};
+
+use crate::Chain;
+use crate::behind::put_behind;
+use rio_host::{Host, HostFault};
+use rio_num::Bytes;
+
+// Puts the word behind a record at the end of its bytes, which have room for it: that of what is left
+// of a gap, or END's.
+fn append_word(body: &mut Bytes, rest: Option<u64>)
+    requires room { 4 ≤ body.old.spare }
+    requires small { IfSome rest (λ rest. rest < 2 ^ 32) }
+    ensures { body.new.bytes ≡ body.old.bytes ++ word_behind rest }
+{
+    match rest {
+        None => {
+            let _ = body.put_u32(0);
+        }
+        Some(0) => {}
+        Some(rest) => {
+            let _ = body.put_u32(((1 << 32) - rest) as u32);
+        }
+    }
+}
+
+impl Chain {
+    ghost use Rattle.std.specs.Prelude.{◌≡◌, ◌+◌, ◌-◌, ◌≤◌, ℕ, List, Some, length, true, false, IsOk, IsErr, OnOk, OnErr};
+    ghost use Rattle.rio_host.specs.Host.{Becomes, Elapses, IsQuiet, Rose};
+    ghost use Rattle.rio_chain.specs.Chains.{HasChain, HoldsChain};
+    ghost use Rattle.rio_chain.specs.Changes.{with_record};
+    ghost use Rattle.rio_chain.specs.Placing.{IsPlaceFor, file_end, with_segment};
+    ghost use Rattle.rio_chain.specs.Segments.{Link, IsRecord};
+    ghost use Rattle.rio_chain.specs.Stops.{Any, IsEither, KeepsFront};
+
+    /// Puts a record at `place`, which is the rule's for its length, or END. The body is the whole
+    /// record for this place, with four bytes spare, which are used. A stop at any moment leaves the
+    /// segments of before or of after. HostFault comes only where a call on the file failed; the chain
+    /// is spent then, and the file has to be walked again.
+    pub fn put_record<H: Host>(
+        &mut self,
+        host: &mut H,
+        place: u64,
+        body: &mut Bytes,
+    ) -> Result<(), HostFault>
+        requires fresh { self.old.spent ≡ false }
+        requires holds { HoldsChain (H.view host.old) self.old.segments }
+        requires quiet { IsQuiet (H.view host.old) }
+        requires whole { IsRecord place body.old.bytes }
+        requires place { IsPlaceFor self.old.segments (length body.old.bytes) place }
+        requires low { file_end (with_segment place (length body.old.bytes) self.old.segments)
+            ≤ 1999999996 }
+        requires spare { 4 ≤ body.old.spare }
+        requires room { 1 ≤ self.old.spare }
+        ensures any_moment { (file : List ℕ) (links : List Link)
+            → (H.view host.old).holds ≡ Some file → HasChain links self.old.segments file
+            → Elapses (H.view host.old) (H.view host.new)
+            (IsEither (H.view host.old) file links (with_record place body.old.bytes links)) }
+        ensures holds { OnOk result ((file : List ℕ) (links : List Link)
+            → (H.view host.old).holds ≡ Some file → HasChain links self.old.segments file
+            → (new : List ℕ) × ((H.view host.new).holds ≡ Some new)
+            × HasChain (with_record place body.old.bytes links) self.new.segments new
+            × KeepsFront file new) }
+        ensures quiet { OnOk result (IsQuiet (H.view host.new)) }
+        ensures chain { OnOk result (self.new ≡ record self.old {
+          segments = with_segment place (length body.old.bytes) self.old.segments;
+          spare = self.old.spare - 1;
+        }) }
+        ensures spent { OnErr result (self.new.spent ≡ true) }
+        ensures told { Becomes Any (H.view host.old).holds (H.view host.new).holds }
+        ensures said { (H.view host.new).said ≡ (H.view host.old).said }
+        ensures reads { (H.view host.new).reads ≡ (H.view host.old).reads }
+        ensures say_faults { (H.view host.new).say_faults ≡ (H.view host.old).say_faults }
+        ensures counted { IsOk result
+            → (H.view host.new).disk_faults ≡ (H.view host.old).disk_faults }
+        ensures cause { IsErr result
+            → Rose (H.view host.old).disk_faults (H.view host.new).disk_faults }
+    {
+        let n = body.len() as u64;
+        let rest = self.rest_behind(place, n);
+        append_word(body, rest);
+        match put_behind(host, place, &body.as_slice()[4..], n as u32) {
+            Ok(()) => {
+                self.note_put(place, n);
+                Ok(())
+            }
+            Err(_) => {
+                self.spent = true;
+                Err(HostFault)
+            }
+        }
+    }
+}
