@@ -4,10 +4,10 @@ use Rattle.std.specs.List.{fold, last_or, slice_get}
 use Rattle.std.proofs.lemmas.List.{append-nil, drop-drop}
 use Rattle.rio_machine.specs.State.{State}
 use Rattle.rio_machine.specs.declared.command.Command.{Command}
-use Rattle.rio_step.specs.Laws.{EachSaysItsReply, RunsBeginAlike, RunsEndClosed, RunsHaveStates}
+use Rattle.rio_step.specs.Laws.{EachSaysItsReply, RepliesSaySomething, RunsBeginAlike, RunsEndClosed, RunsHaveStates, SaidInParts}
 use Rattle.rio_step.specs.ReplyText.{text_of}
 use Rattle.rio_step.specs.Runs.{Marks, closed_of, closing_saves, first_step, later_marks, said_of, state_after, states_behind, states_of_run}
-use Rattle.rio_step.specs.Step.{state_behind}
+use Rattle.rio_step.specs.Step.{class_declared, object_put, item_deleted, tree_made, row_added, rows_saved, object_told, rows_told, items_listed, refused, state_behind}
 
 drop_later : (n : ℕ) (marks : Marks) → drop n (later_marks marks) ≡ drop (suc n) marks
 drop_later n marks = let e : 1 + n ≡ suc n = omega arith in drop-drop n 1 marks ∙ ap (λ k. drop k marks) e
@@ -54,3 +54,32 @@ begin_alike m (c ∷ cs) marks (suc k) within = begin_alike (first_step m c mark
 
 pub runs_begin_alike : RunsBeginAlike
 runs_begin_alike m cs marks k within = begin_alike m cs marks k within
+
+said_none : (m : State) (marks : Marks) (k : ℕ) → said_of m [] marks ≡ said_of m (take k []) marks ++ said_of (state_after m (take k []) marks) (drop k []) (drop k marks)
+unfolding said_of state_after
+said_none m marks zero = refl
+said_none m marks (suc k) = refl
+
+pub said_in_parts : SaidInParts
+unfolding said_of state_after
+said_in_parts m [] marks k = said_none m marks k
+said_in_parts m (c ∷ cs) marks zero = refl
+said_in_parts m (c ∷ cs) marks (suc k) =
+    let next = first_step m c marks in
+    let later = state_after next.state (take k cs) (later_marks marks) in
+    ap (λ t. text_of next.reply ++ t) (said_in_parts next.state cs (later_marks marks) k)
+    ∙ sym (append_assoc (text_of next.reply) _ _)
+    ∙ ap (λ left. (text_of next.reply ++ said_of next.state (take k cs) (later_marks marks)) ++ said_of later (drop k cs) left) (drop_later k marks)
+
+pub replies_say_something : RepliesSaySomething
+unfolding text_of
+replies_say_something (class_declared name version) = omega arith
+replies_say_something (object_put name cycle) = omega arith
+replies_say_something (item_deleted name cycle) = omega arith
+replies_say_something (tree_made name cycle) = omega arith
+replies_say_something (row_added name entry) = omega arith
+replies_say_something (rows_saved name cycle entries) = omega arith
+replies_say_something (object_told name cycle v) = omega arith
+replies_say_something (rows_told name rows) = omega arith
+replies_say_something (items_listed items) = omega arith
+replies_say_something (refused refusal) = omega arith

@@ -1,6 +1,6 @@
 -- The commands of a script can be stated.
-use Rattle.std.proofs.Common.{◌≡◌, ℕ, ◌+◌, List, [], ◌∷◌, Bool, true, false, ◌&&◌, Ok, Err, refl, sym, codes}
-use Rattle.std.specs.List.{list_all}
+use Rattle.std.proofs.Common.{ap, length, suc, ◌≡◌, ℕ, ◌+◌, List, [], ◌∷◌, Bool, true, false, ◌&&◌, Ok, Err, refl, sym, codes}
+use Rattle.std.specs.List.{filter, list_all}
 use Rattle.std.specs.Prelude.{if◌then◌else◌}
 use Rattle.std.specs.Str.Lines.{lines}
 use Rattle.rio_num.specs.At.{At}
@@ -20,7 +20,7 @@ use Rattle.rio_machine.specs.declared.command.Command.{Command}
 use Rattle.rio_machine.specs.declared.command.Command.TheVariants.{Class, Put, Delete, Tree as MakeTree, Fill, Save, Get, Scan, Ls}
 use Rattle.rio_step.proofs.GivenLaws.{Given, item_given, one_given, then_any, then_given}
 use Rattle.rio_step.proofs.TreeLaws.{branches_given}
-use Rattle.rio_step.specs.Script.{asked_class_at, asked_version_at, class_command_at, command_at, comes_next, commands_from, cycle_at, delete_command_at, ended_at, fill_command_at, get_command_at, is_command_line, line_command, or_bad_line, put_command_at, save_command_at, scan_command_at, tree_command_at}
+use Rattle.rio_step.specs.Script.{asked_class_at, asked_version_at, class_command_at, command_at, comes_next, commands_from, cycle_at, delete_command_at, ended_at, LinesGiveCommands, fill_command_at, get_command_at, is_command_line, line_command, or_bad_line, put_command_at, save_command_at, scan_command_at, tree_command_at}
 use Rattle.rio_step.specs.Statable.{ScriptsAreStatable, is_statable}
 use Rattle.rio_step.specs.TreeGrammar.{branches_at}
 
@@ -134,3 +134,16 @@ lines_stated number (line ∷ rest) = by (is_command_line line) (lines_stated (n
 
 pub scripts_are_statable : ScriptsAreStatable
 scripts_are_statable bytes = lines_stated 1 (lines bytes)
+
+lines_give : (number : ℕ) (ls : List (List ℕ)) → length (commands_from number ls) ≡ length (filter is_command_line ls)
+unfolding commands_from
+lines_give number [] = refl
+lines_give number (line ∷ rest) = by (is_command_line line) (lines_give (number + 1) rest)
+  where
+    by : (b : Bool) → length (commands_from (number + 1) rest) ≡ length (filter is_command_line rest)
+        → length (if b then line_command number line ∷ commands_from (number + 1) rest else commands_from (number + 1) rest) ≡ length (if b then line ∷ filter is_command_line rest else filter is_command_line rest)
+    by true later = ap suc later
+    by false later = later
+
+pub lines_give_commands : LinesGiveCommands
+lines_give_commands bytes = lines_give 1 (lines bytes)

@@ -12,7 +12,7 @@ use Rattle.rio_machine.specs.declared.refusal.Refusal.{Refusal}
 use Rattle.rio_step.specs.Refusing.{FullMark, refusal_of, refusals, put_value}
 use Rattle.rio_step.specs.ReplyText.{text_of}
 use Rattle.rio_step.specs.Runs.{Marks, closed_of, closing_saves, first_step, said_of, saved_of, saved_tree, state_after, states_of_run}
-use Rattle.rio_step.specs.Step.{refused, step}
+use Rattle.rio_step.specs.Step.{Reply, refused, step}
 
 -- ---- refusals
 
@@ -82,6 +82,15 @@ NamesStayApart = (m : State) (c : Command) (mark : Option FullMark) → AreApart
 abbrev pub EachSaysItsReply : Type 0
 EachSaysItsReply = (m : State) (cs : List Command) (c : Command) (marks : Marks)
     → said_of m (cs ++ c ∷ []) marks ≡ said_of m cs marks ++ text_of (first_step (state_after m cs marks) c (drop (length cs) marks)).reply
+
+-- what a run says begins with what its first commands say, and goes on as a run from the state behind them
+abbrev pub SaidInParts : Type 0
+SaidInParts = (m : State) (cs : List Command) (marks : Marks) (k : ℕ)
+    → said_of m cs marks ≡ said_of m (take k cs) marks ++ said_of (state_after m (take k cs) marks) (drop k cs) (drop k marks)
+
+-- each reply says something
+abbrev pub RepliesSaySomething : Type 0
+RepliesSaySomething = (reply : Reply) → 0 < length (text_of reply)
 
 -- one state at the start, one behind each command and one behind each closing save
 abbrev pub RunsHaveStates : Type 0

@@ -9,7 +9,8 @@
 --   get    = "get" ITEM [";" NUM] ["as" NUM]
 --   scan   = "scan" ITEM ["as" NAME "#" NUM]
 --   ls     = "ls"
-use Rattle.std.specs.Prelude.{ℕ, ◌+◌, ℤ, pos, List, [], ◌∷◌, codes, Option, Some, None, Ok, Err, Bool, false, not, ◌==◌, if◌then◌else◌}
+use Rattle.std.specs.Prelude.{◌≡◌, ℕ, ◌+◌, ℤ, pos, List, [], ◌∷◌, length, codes, Option, Some, None, Ok, Err, Bool, false, not, ◌==◌, if◌then◌else◌}
+use Rattle.std.specs.List.{filter}
 use Rattle.std.specs.Option.{option_map_or}
 use Rattle.std.specs.Str.{bytes_eq}
 use Rattle.std.specs.Str.Lines.{lines}
@@ -155,3 +156,7 @@ commands_from number (line ∷ rest) =
 -- lack it. They are numbered from 1.
 abbrev pub script_of : List ℕ → List Command
 script_of bytes = commands_from 1 (lines bytes)
+
+-- each line that counts gives one command
+abbrev pub LinesGiveCommands : Type 0
+LinesGiveCommands = (bytes : List ℕ) → length (script_of bytes) ≡ length (filter is_command_line (lines bytes))

@@ -1,5 +1,6 @@
 //! Laws of steps and of runs.
-ghost use Rattle.rio_step.specs.Laws.{ClosedHasNonePending, DeletesTakeOne, EachSaysItsReply, LowestIsTold, NamesStayApart, PutsAddOne, RefusedChangesNothing, RunsBeginAlike, RunsEndClosed, RunsHaveStates, SavedKeepsTheRest};
+ghost use Rattle.rio_step.specs.Laws.{ClosedHasNonePending, DeletesTakeOne, EachSaysItsReply, LowestIsTold, NamesStayApart, PutsAddOne, RefusedChangesNothing, RepliesSaySomething, RunsBeginAlike, RunsEndClosed, RunsHaveStates, SaidInParts, SavedKeepsTheRest};
+ghost use Rattle.rio_step.specs.Script.{LinesGiveCommands};
 ghost use Rattle.rio_step.specs.Statable.{ScriptsAreStatable};
 
 /// Of several refusals that hold the one of the lowest number is told, and none is told where none holds.
@@ -20,9 +21,12 @@ pub fn names_stay_apart()
     ensures { NamesStayApart }
 {}
 
-/// A run says one reply for each command, in order.
+/// A run says one reply for each command, in order, and each reply says something. What it says begins with what its first
+/// commands say.
 pub fn each_says_its_reply()
-    ensures { EachSaysItsReply }
+    ensures each { EachSaysItsReply }
+    ensures parts { SaidInParts }
+    ensures something { RepliesSaySomething }
 {}
 
 /// A run has a state at its start, one behind each command and one behind each closing save. Those behind the first
@@ -40,8 +44,9 @@ pub fn runs_end_closed()
     ensures saved { SavedKeepsTheRest }
 {}
 
-/// Every command of a script can be stated: its names are such as objects and trees have, the class that it declares and
-/// the branches that it lists are such as a line can give.
+/// A script has one command for each line that counts. Each can be stated: its names are such as objects and trees have,
+/// and the class that it declares and the branches that it lists are such as a line can give.
 pub fn scripts_are_statable()
-    ensures { ScriptsAreStatable }
+    ensures lines { LinesGiveCommands }
+    ensures statable { ScriptsAreStatable }
 {}
