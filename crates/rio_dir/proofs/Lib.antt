@@ -1,2 +1,4 @@
 pub mod ClosedLaws
 pub mod Examples
+pub mod TableLists
+pub mod TableOrder

@@ -7,11 +7,13 @@
 mod closed;
 mod laws;
 mod list;
+mod table;
 
 pub use closed::Closed;
 pub use laws::{closed_file_is_spelled, one_listing};
 pub use list::read_key_list;
 pub use rio_key::{Heads, ListFault, read_heads};
+pub use table::KeyTable;
 
 #[cfg(test)]
 mod tests;
