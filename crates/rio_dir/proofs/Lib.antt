@@ -2,3 +2,5 @@ pub mod ClosedLaws
 pub mod Examples
 pub mod TableLists
 pub mod TableOrder
+pub mod Puts
+pub mod TableWritten

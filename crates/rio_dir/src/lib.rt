@@ -8,12 +8,14 @@ mod closed;
 mod laws;
 mod list;
 mod table;
+mod write;
 
 pub use closed::Closed;
 pub use laws::{closed_file_is_spelled, one_listing};
 pub use list::read_key_list;
 pub use rio_key::{Heads, ListFault, read_heads};
 pub use table::KeyTable;
+pub use write::write_key_list;
 
 #[cfg(test)]
 mod tests;
