@@ -4,3 +4,4 @@ pub mod TableLists
 pub mod TableOrder
 pub mod Puts
 pub mod TableWritten
+pub mod TableLaws

@@ -9,7 +9,8 @@ use Rattle.std.specs.declared.cmp.Ordering.{Ordering}
 use Rattle.std.specs.declared.cmp.Ordering.TheVariants.{Less, Equal, Greater}
 use Rattle.byteorder.specs.Endian.{big_bytes}
 use Rattle.rio_key.specs.declared.head.KeyHead.{KeyHead}
-use Rattle.rio_key.specs.Written.{written_key}
+use Rattle.rio_key.specs.Spelling.{SpellsKeyList}
+use Rattle.rio_key.specs.Written.{FitsKey, HoldsItself, written_key}
 
 -- heads in order, and for how many more there is room
 pub record TableRoom : Type 0 where
@@ -82,3 +83,12 @@ heads_size heads = sum_by (λ h. length (written_key h)) heads
 -- the data of the key list: the count, and the heads in order
 abbrev pub key_list_bytes : List KeyHead → List ℕ
 key_list_bytes heads = big_bytes 4 (length heads) ++ flat_map written_key heads
+
+-- heads that fit what is written of them, in records that hold them
+abbrev pub AreWritable : List KeyHead → Type 0
+AreWritable [] = Unit {0}
+AreWritable (h ∷ hs) = (FitsKey h × HoldsItself h) × AreWritable hs
+
+-- what is written of such heads spells them as a key list, so it is read as they are
+abbrev pub WrittenListIsSpelled : Type 0
+WrittenListIsSpelled = (heads : List KeyHead) → length heads < 2 ^ 32 → AreWritable heads → SpellsKeyList heads (key_list_bytes heads)
