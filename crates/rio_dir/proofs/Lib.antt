@@ -1,2 +1,7 @@
 pub mod ClosedLaws
 pub mod Examples
+pub mod TableLists
+pub mod TableOrder
+pub mod Puts
+pub mod TableWritten
+pub mod TableLaws

@@ -1,5 +1,6 @@
 //! Laws of closed files, each the contract of a function that does nothing.
 ghost use Rattle.rio_dir.specs.Grammar.{IsListedOnce, ClosedIsSpelled, SpelledIsClosed};
+ghost use Rattle.rio_dir.specs.Table.{WrittenListIsSpelled};
 
 /// What is read of a closed file is spelled there, by the grammar of each part, and what is spelled
 /// there is read.
@@ -11,4 +12,10 @@ pub fn closed_file_is_spelled()
 /// The bytes of a file determine its listing.
 pub fn one_listing()
     ensures { IsListedOnce }
+{}
+
+/// What is written of a key list spells its heads, where each fits what is written of it and its record holds it. So such
+/// a list is read as it was written.
+pub fn written_key_list_is_spelled()
+    ensures { WrittenListIsSpelled }
 {}

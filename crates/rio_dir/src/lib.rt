@@ -1,17 +1,23 @@
 //! What stands at the front of a closed file: its header, its directory record and its key list, what they
-//! are together, and the first rule that they break. The definitions stand in `specs/`: `Closed` (what is
-//! read of a file), `Grammar` (what stands where, and the laws that tie the two) and `Listing` (what `ls`
-//! says of it).
+//! are together, and the first rule that they break; and the key table, a map from name and cycle in the order
+//! of the key list, in which a binary search finds a key, and from which the list is written. The definitions
+//! stand in `specs/`: `Closed` (what is read of a file), `Grammar` (what stands where, and the laws that tie
+//! the two), `Listing` (what `ls` says of it) and `Table` (the order, what each call of the table answers, and
+//! the written list).
 #![tactic(auto)]
 
 mod closed;
 mod laws;
 mod list;
+mod table;
+mod write;
 
 pub use closed::Closed;
-pub use laws::{closed_file_is_spelled, one_listing};
+pub use laws::{closed_file_is_spelled, one_listing, written_key_list_is_spelled};
 pub use list::read_key_list;
 pub use rio_key::{Heads, ListFault, read_heads};
+pub use table::KeyTable;
+pub use write::write_key_list;
 
 #[cfg(test)]
 mod tests;

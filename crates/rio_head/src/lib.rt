@@ -5,20 +5,20 @@
 mod dir;
 mod fault;
 mod head;
+mod identifier;
 mod laws;
 mod reason;
 mod take;
-mod uuid;
 mod write;
 
 pub use dir::{DirRecord, read_dir};
 pub use fault::{FileFault, HeadFault};
 pub use head::{FileHead, read_head};
+pub use identifier::file_uuid;
 pub use laws::{
     dir_in_front, header_in_front, one_dir, one_head, written_dir_is_read, written_head_is_read,
 };
 pub use reason::Reason;
-pub use uuid::file_uuid;
 pub use write::{write_dir, write_head};
 
 #[cfg(test)]
