@@ -1,6 +1,7 @@
 pub mod BehindSteps
 pub mod Chains
 pub mod Finding
+pub mod Gathered
 pub mod Held
 pub mod Indices
 pub mod Keys

@@ -17,8 +17,8 @@ pub struct Chain {
     pub(crate) segments: Vec<Segment>,
     pub(crate) gaps: FreeList,
     pub(crate) end: u64,
-    live: u64,
-    spare: usize,
+    pub(crate) live: u64,
+    pub(crate) spare: usize,
     pub(crate) spent: bool,
 }
 

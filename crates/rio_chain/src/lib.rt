@@ -4,6 +4,7 @@
 mod behind;
 mod fault;
 mod found;
+mod gather;
 mod kept;
 mod laws;
 mod plan;
