@@ -1,8 +1,11 @@
 pub mod BehindSteps
 pub mod Chains
 pub mod Finding
+pub mod Gathered
+pub mod Held
 pub mod Indices
 pub mod Keys
+pub mod Laying
 pub mod Links
 pub mod OneChain
 pub mod Placed

@@ -1,7 +1,8 @@
 -- The chain that is kept beside a file.
-use Rattle.std.specs.Prelude.{◌≡◌, ℕ, Bool, List, map}
+use Rattle.std.specs.Prelude.{◌≡◌, ℕ, Bool, List, ◌∷◌, ◌++◌, map}
 use Rattle.rio_host.specs.Host.{View}
 use Rattle.rio_chain.specs.declared.segment.Segment.{Segment}
+use Rattle.rio_chain.specs.declared.segment.Segment.TheVariants.{Record}
 use Rattle.rio_chain.specs.Segments.{Link, IsChain, segment_of}
 use Rattle.rio_chain.specs.Walks.{Told}
 
@@ -19,3 +20,7 @@ pub record HasChain (links : List Link) (segments : List Segment) (file : List �
 -- where the host tells its bytes, they have these segments
 abbrev pub HoldsChain : View → List Segment → Type 0
 HoldsChain v segments = Told v (λ file. (links : List Link) × HasChain links segments file)
+
+-- a record of these segments begins at a place
+abbrev pub HasRecordSegment : List Segment → ℕ → Type 0
+HasRecordSegment segments place = (front : List Segment) × (n : ℕ) × (back : List Segment) × (segments ≡ front ++ Record place n ∷ back)

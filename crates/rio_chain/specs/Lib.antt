@@ -4,6 +4,7 @@ pub mod Changes
 pub mod Found
 pub mod Laws
 pub mod Placing
+pub mod Plans
 pub mod Segments
 pub mod Stops
 pub mod Walks

@@ -2,7 +2,7 @@
 use Rattle.std.specs.Prelude.{◌≡◌, ◌⊎◌, ℕ, zero, suc, ◌+◌, ◌-◌, ◌^◌, ◌≤◌, ◌==◌, List, [], ◌∷◌, ◌++◌, Option, Some, None, if◌then◌else◌}
 use Rattle.byteorder.specs.Endian.{big_bytes}
 use Rattle.std.specs.Option.{unwrap_or}
-use Rattle.rio_free.specs.Gaps.{best_place, gap_of}
+use Rattle.rio_free.specs.Gaps.{best_place, gap_of, taken}
 use Rattle.rio_free.specs.declared.gap.Gap.{Gap as FreeGap}
 use Rattle.rio_chain.specs.declared.segment.Segment.{Segment}
 use Rattle.rio_chain.specs.declared.segment.Segment.TheVariants.{Record, Gap}
@@ -38,15 +38,31 @@ with_segment place n [] = Record place n ∷ []
 with_segment place n (Record p m ∷ segments) = Record p m ∷ with_segment place n segments
 with_segment place n (Gap p m ∷ segments) = if p == place then Record place n ∷ rest_of_gap (place + n) (m - n) segments else Gap p m ∷ with_segment place n segments
 
--- the segments once records of these lengths are laid, one after the other
-abbrev pub laid : List ℕ → List Segment → List Segment
-laid [] segments = segments
-laid (n ∷ lengths) segments = laid lengths (with_segment (place_of segments n) n segments)
+-- what is free: gaps, and all from END on
+pub record FreeSpace : Type 0 where
+  pub gaps : List FreeGap
+  pub end : ℕ
 
--- and where they are laid
-abbrev pub places_of : List ℕ → List Segment → List ℕ
-places_of [] segments = []
-places_of (n ∷ lengths) segments = place_of segments n ∷ places_of lengths (with_segment (place_of segments n) n segments)
+abbrev pub space_of : List Segment → FreeSpace
+space_of segments = record { gaps = gaps_in segments; end = file_end segments }
+
+-- what is free once n bytes are laid: at the front of a gap, or at END
+abbrev pub laid_at : Option ℕ → ℕ → FreeSpace → FreeSpace
+laid_at (Some place) n space = record space { gaps = taken place n space.gaps }
+laid_at None n space = record space { end = space.end + n }
+
+abbrev pub laid : ℕ → FreeSpace → FreeSpace
+laid n space = laid_at (best_place n space.gaps) n space
+
+-- the places of records of these lengths, laid one after the other
+abbrev pub places_of : List ℕ → FreeSpace → List ℕ
+places_of [] space = []
+places_of (n ∷ lengths) space = unwrap_or (best_place n space.gaps) space.end ∷ places_of lengths (laid n space)
+
+-- and END then
+abbrev pub end_after : List ℕ → FreeSpace → ℕ
+end_after [] space = space.end
+end_after (n ∷ lengths) space = end_after lengths (laid n space)
 
 -- the place of the rule, or END
 abbrev pub IsPlaceFor : List Segment → ℕ → ℕ → Type 0

@@ -4,6 +4,8 @@ use Rattle.rio_host.specs.Host.{View, Rose}
 use Rattle.rio_chain.specs.declared.segment.Segment.{Segment}
 use Rattle.rio_chain.specs.declared.fault.WalkFault.{WalkFault}
 use Rattle.rio_chain.specs.declared.fault.WalkFault.TheVariants.{NoChain, NoMemory, HostFault}
+use Rattle.rio_chain.specs.declared.fault.ReadFault.{ReadFault}
+use Rattle.rio_chain.specs.declared.fault.ReadFault.TheVariants.{NoMemory as NoRoom, HostFault as DiskFault}
 use Rattle.rio_chain.specs.Segments.{BreaksAt}
 
 -- it holds of the file, where the host tells it
@@ -33,3 +35,9 @@ IsReadCause old new (Err HostFault) = Rose old.disk_faults new.disk_faults
 -- at most a quarter of the file's length
 abbrev pub AreFew : List ℕ → List Segment → Type 0
 AreFew file segments = 4 * length segments ≤ length file
+
+-- the same of a call that reads a record
+abbrev pub IsRecordCause : {X : Type 0} → View → View → Result X ReadFault → Type 0
+IsRecordCause old new (Ok x) = new.disk_faults ≡ old.disk_faults
+IsRecordCause old new (Err NoRoom) = new.disk_faults ≡ old.disk_faults
+IsRecordCause old new (Err DiskFault) = Rose old.disk_faults new.disk_faults

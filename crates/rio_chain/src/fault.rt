@@ -49,3 +49,67 @@ impl From<AllocError> for WalkFault {
         WalkFault::NoMemory
     }
 }
+
+/// Why records could not be placed.
+#[derive(Clone, Copy, Debug, PartialEq, Eq, Error)]
+pub enum PlanFault {
+    /// The end of the file is `end`, and would pass the limit with `wanted` bytes more of records.
+    #[error("full at {end}: {wanted} bytes wanted")]
+    Full { end: u64, wanted: u64 },
+    #[error("no memory")]
+    NoMemory,
+}
+
+impl From<NoMemory> for PlanFault {
+    ghost use Rattle.std.specs.Prelude.{◌≡◌};
+    ghost use Rattle.rio_chain.specs.declared.fault.PlanFault.TheVariants.{NoMemory as OutOfMemory};
+
+    ghost from_gives = { λ _ e. e ≡ OutOfMemory };
+
+    fn from(_e: NoMemory) -> PlanFault {
+        PlanFault::NoMemory
+    }
+}
+
+/// Why a record could not be read.
+#[derive(Clone, Copy, Debug, PartialEq, Eq, Error)]
+pub enum ReadFault {
+    #[error("no memory")]
+    NoMemory,
+    /// A call on the file failed.
+    #[error("disk fault")]
+    HostFault,
+}
+
+impl From<Failed> for ReadFault {
+    ghost use Rattle.std.specs.Prelude.{◌≡◌};
+    ghost use Rattle.rio_chain.specs.declared.fault.ReadFault.TheVariants.{HostFault};
+
+    ghost from_gives = { λ _ e. e ≡ HostFault };
+
+    fn from(_e: Failed) -> ReadFault {
+        ReadFault::HostFault
+    }
+}
+
+impl From<AllocError> for ReadFault {
+    ghost use Rattle.std.specs.Prelude.{◌≡◌};
+    ghost use Rattle.rio_chain.specs.declared.fault.ReadFault.TheVariants.{NoMemory as OutOfMemory};
+
+    ghost from_gives = { λ _ e. e ≡ OutOfMemory };
+
+    fn from(_e: AllocError) -> ReadFault {
+        ReadFault::NoMemory
+    }
+}
+
+impl From<NoMemory> for ReadFault {
+    ghost use Rattle.std.specs.Prelude.{◌≡◌};
+    ghost use Rattle.rio_chain.specs.declared.fault.ReadFault.TheVariants.{NoMemory as OutOfMemory};
+
+    ghost from_gives = { λ _ e. e ≡ OutOfMemory };
+
+    fn from(_e: NoMemory) -> ReadFault {
+        ReadFault::NoMemory
+    }
+}

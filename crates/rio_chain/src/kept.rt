@@ -14,11 +14,11 @@ use std::marker::Model;
 /// The chain of a file: its segments, with room for later changes. It changes as the file does.
 #[derive(Debug, Drop)]
 pub struct Chain {
-    segments: Vec<Segment>,
-    gaps: FreeList,
-    end: u64,
-    live: u64,
-    spare: usize,
+    pub(crate) segments: Vec<Segment>,
+    pub(crate) gaps: FreeList,
+    pub(crate) end: u64,
+    pub(crate) live: u64,
+    pub(crate) spare: usize,
     pub(crate) spent: bool,
 }
 
@@ -106,7 +106,7 @@ impl Chain {
 }
 
 // How many segments begin before the place.
-fn count_before(segments: &[Segment], place: u64) -> usize
+pub(crate) fn count_before(segments: &[Segment], place: u64) -> usize
     requires { AreAdjacent 100 segments.now }
     ensures { result ≡ prefix_len (λ s. nat_lt (segment_place s) place) segments.now }
 {

@@ -4,14 +4,17 @@
 mod behind;
 mod fault;
 mod found;
+mod gather;
 mod kept;
 mod laws;
+mod plan;
 mod put;
+mod read_back;
 mod reads;
 mod segment;
 mod walking;
 
-pub use fault::WalkFault;
+pub use fault::{PlanFault, ReadFault, WalkFault};
 pub use kept::Chain;
 pub use laws::one_chain;
 pub use segment::{Segment, Segments};
