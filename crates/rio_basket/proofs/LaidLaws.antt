@@ -1,5 +1,5 @@
 -- What is known of a basket's places once its layout is read.
-use Rattle.std.proofs.Common.{◌≡◌, ◌⊎◌, inl, inr, ℕ, zero, suc, ◌+◌, ◌-◌, ◌*◌, ◌/◌, ◌<◌, ◌≤◌, ℤ, pos, List, length, Bool, true, false, cond, ◌&&◌, ◌||◌, not, nat_lt, int_le, int_lt, unsigned_abs, Result, Ok, Err, refl, sym, ap, subst, ◌∙◌, arith, add-one}
+use Rattle.std.proofs.Common.{◌≡◌, ◌⊎◌, inl, inr, ℕ, zero, suc, ◌+◌, ◌<◌, ◌≤◌, ℤ, pos, List, length, Bool, true, false, cond, ◌&&◌, ◌||◌, not, nat_lt, int_le, unsigned_abs, Result, Ok, Err, refl, sym, subst, arith}
 use Rattle.std.proofs.lemmas.Bool.{and_parts, cases_lt}
 use Rattle.std.proofs.lemmas.Bool.Decides.{nat_tests}
 use Rattle.std.proofs.lemmas.Int.{ints}
@@ -12,7 +12,7 @@ use Rattle.rio_key.specs.declared.fault.KeyFault.{KeyFault}
 use Rattle.rio_basket.specs.declared.fault.BasketFault.{BasketFault}
 use Rattle.rio_basket.specs.declared.fault.BasketFault.TheVariants.{BadLast, BadOffsets, Compressed}
 use Rattle.rio_basket.specs.declared.layout.Layout.{Layout}
-use Rattle.rio_basket.specs.Entries.{has_count, is_offset, is_whole_at, number_there, offset_at, offset_before, offset_place, offsets_from, offsets_in, sound_layout_in, spare_offset}
+use Rattle.rio_basket.specs.Entries.{has_count, is_offset, is_whole_at, number_there, offset_at, offset_before, offset_place, offsets_from, offsets_in, spare_offset}
 use Rattle.rio_basket.specs.Laid.{AreOffsets, IsLaid, IsWithin}
 use Rattle.rio_basket.specs.Stored.{ends_within, from_first, has_negative, has_one_length, is_sound, last_place, layout_by, layout_in, layout_of}
 use Rattle.rio_basket.proofs.OffsetLaws.{before_next}

@@ -1,2 +1,3 @@
 pub mod OffsetLaws
 pub mod LaidLaws
+pub mod PlaceLaws

@@ -1,6 +1,5 @@
 -- Offsets, one behind the other.
-use Rattle.std.proofs.Common.{◌≡◌, ℕ, zero, suc, ◌+◌, ◌-◌, ◌<◌, ◌≤◌, List, Bool, true, false, cond, Option, Some, None, Result, Ok, Err, refl, sym, ap, ◌∙◌, arith, add-one}
-use Rattle.rio_basket.specs.declared.fault.BasketFault.{BasketFault}
+use Rattle.std.proofs.Common.{◌≡◌, ℕ, suc, ◌+◌, ◌-◌, ◌<◌, List, Bool, true, false, cond, Some, None, Err, refl, sym, arith, add-one}
 use Rattle.rio_basket.specs.declared.fault.BasketFault.TheVariants.{BadOffsets}
 use Rattle.rio_basket.specs.declared.layout.Layout.{Layout}
 use Rattle.rio_basket.specs.Entries.{is_offset, offset_at, offset_before, offset_place, offsets_from, sound_offset}

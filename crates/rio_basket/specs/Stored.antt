@@ -7,7 +7,7 @@ use Rattle.rio_key.specs.declared.basket_head.BasketFront.{BasketFront}
 use Rattle.rio_key.specs.declared.basket_head.BasketHead.{BasketHead}
 use Rattle.rio_key.specs.declared.fault.KeyFault.{KeyFault}
 use Rattle.rio_basket.specs.declared.fault.BasketFault.{BasketFault}
-use Rattle.rio_basket.specs.declared.fault.BasketFault.TheVariants.{BadLast, BadOffsets, Compressed, NoMemory}
+use Rattle.rio_basket.specs.declared.fault.BasketFault.TheVariants.{BadLast, Compressed, NoMemory}
 use Rattle.rio_basket.specs.declared.layout.Layout.{Layout}
 
 -- A number is so many times another; of those of 0 there is 0 alone.

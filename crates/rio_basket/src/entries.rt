@@ -2,9 +2,14 @@
 ghost use Rattle.std.specs.Prelude.{◌≡◌, ◌+◌, ◌<◌, ◌≤◌, length, true, false, slice_range};
 ghost use Rattle.rio_basket.specs.Entries.{entry_length, entry_of, entries_in, entries_of, offset_at, offset_behind, offset_place};
 ghost use Rattle.rio_basket.specs.Laid.{AreOffsets, IsLaid, IsWithin};
+ghost use Rattle.rio_basket.specs.Stored.{GivesBasket};
 
+use crate::BasketFault;
 use crate::layout::Layout;
-use crate::offsets::{number_there, offset_place};
+use crate::offsets::{number_there, offset_place, read_sound_layout};
+use rio_num::{Bytes, Items, NoMemory};
+use std::alloc::Global;
+use std::marker::Model;
 
 // Where the k-th entry begins.
 fn offset_at(layout: &Layout, bytes: &[u8], k: u32) -> usize
@@ -61,4 +66,94 @@ pub(crate) fn entry_of<'a>(offsets: bool, layout: &Layout, bytes: &'a [u8], k: u
     } else {
         equal_entry(layout, bytes, k)
     }
+}
+
+/// The entries of a basket, each of them bytes of its own.
+#[derive(Debug, Drop)]
+pub struct Entries {
+    items: Items<Bytes>,
+}
+
+impl Model for Entries {
+    ghost use Rattle.std.specs.Prelude.{ℕ, List, map};
+
+    ghost Value = { List (List ℕ) };
+
+    ghost view = { λ entries. map (λ entry. entry.bytes) entries.items };
+}
+
+impl Entries {
+    ghost use Rattle.std.specs.Prelude.{◌≡◌, [], ◌∷◌, ◌++◌, ◌↔◌, length, slice_get, option_map, IsTrue, OnOk, OnErr};
+    ghost use Rattle.std.specs.Option.{option_copied};
+
+    /// No entries.
+    pub fn new(alloc: Global) -> Entries
+        ensures { result ≡ [] }
+    {
+        Entries {
+            items: Items::new(alloc),
+        }
+    }
+
+    /// Puts an entry at the end. Where there is no memory for it, it is dropped.
+    pub fn push(&mut self, item: Bytes) -> Result<(), NoMemory>
+        ensures ok { OnOk result (self.new ≡ self.old ++ item.bytes ∷ []) }
+        ensures err { OnErr result (self.new ≡ self.old) }
+    {
+        self.items.push(item)
+    }
+
+    pub fn len(&self) -> usize
+        ensures { result ≡ length self.now }
+    {
+        self.items.len()
+    }
+
+    pub fn is_empty(&self) -> bool
+        ensures { IsTrue result ↔ (self.now ≡ []) }
+    {
+        self.items.len() == 0
+    }
+
+    /// The entry at `k`, counted from 0.
+    pub fn get(&self, k: usize) -> Option<&Bytes>
+        ensures { option_map (λ entry. entry.bytes) (option_copied result) ≡ slice_get self.now k }
+    {
+        self.items.get(k)
+    }
+
+    /// How many entries there are.
+    pub fn count(&self) -> usize
+        ensures { result ≡ length self.now }
+    {
+        self.items.len()
+    }
+
+    /// The bytes of the entry at `k`, counted from 0.
+    pub fn entry(&self, k: usize) -> Option<&[u8]>
+        ensures { option_copied result ≡ slice_get self.now k }
+    {
+        match self.items.get(k) {
+            Some(entry) => Some(entry.as_slice()),
+            None => None,
+        }
+    }
+}
+
+/// The entries of a basket that these bytes begin with: a record of the class TBasket, whose entries have offsets or all
+/// have one length. Bytes without a whole key and a basket's head, or fewer than the record's, are BadLast at place 0;
+/// then Compressed comes; then BadLast at the place of fLast where a number of the head is negative, the entries don't
+/// end within the record, or they can't all have one length; then BadOffsets at the number of offsets or at the first
+/// offset that isn't whole or can't stand. Places count from the first byte.
+#[tactic(auto, unfolding(crate::specs::Entries::entries_in))]
+pub fn read_basket(alloc: Global, bytes: &[u8], offsets: bool) -> Result<Entries, BasketFault>
+    ensures { GivesBasket result (entries_in offsets bytes.now) }
+{
+    let layout = read_sound_layout(alloc, bytes, offsets)?;
+    let mut entries = Entries::new(alloc);
+    for k in 0..layout.count {
+        let entry = entry_of(offsets, &layout, bytes, k);
+        entries.push(Bytes::from_slice(alloc, entry)?)?;
+    }
+    Ok(entries)
 }

@@ -1,9 +1,20 @@
-//! Baskets.
+//! Baskets: the records that hold the entries of a tree's branches.
+//!
+//! A basket is a record of the class TBasket whose entries all have one length, or stand behind offsets. [`read_basket`]
+//! gives its entries, or the first fault with its place. A [`StoredBasket`] keeps the basket's bytes and shows each entry
+//! in its place, with no copy. `specs/Stored.antt` has the rules of the key and the head, `specs/Entries.antt` those of
+//! the offsets and where each entry stands.
 #![tactic(auto)]
 
 mod entries;
 mod fault;
 mod layout;
 mod offsets;
+mod stored;
 
+pub use entries::{Entries, read_basket};
 pub use fault::BasketFault;
+pub use stored::StoredBasket;
+
+#[cfg(test)]
+mod tests;

@@ -1,12 +1,13 @@
 //! The offsets of a basket's entries, and the entries.
-ghost use Rattle.std.specs.Prelude.{◌≡◌, ◌+◌, ◌<◌, ◌≤◌, ◌^◌, ◌==◌, ◌||◌, drop, length, nat_lt, not, true};
-ghost use Rattle.rio_basket.specs.Entries.{entry_of, has_count, is_whole_at, number_there, offset_at, offset_before, offset_place, offsets_from, offsets_in, sound_offset, spare_offset};
-ghost use Rattle.rio_basket.specs.Laid.{IsLaid, IsWithin};
-ghost use Rattle.rio_basket.specs.declared.layout.Layout.{Layout as Laid};
+ghost use Rattle.std.specs.Prelude.{◌≡◌, ◌+◌, ◌<◌, ◌≤◌, ◌^◌, ◌==◌, ◌||◌, drop, length, nat_lt, not, IfOk};
+ghost use Rattle.rio_basket.specs.Entries.{entry_of, has_count, is_whole_at, number_there, offset_at, offset_before, offset_place, offsets_from, offsets_in, sound_layout_in, sound_offset, spare_offset};
+ghost use Rattle.rio_basket.specs.Laid.{IsLaid};
+ghost use Rattle.rio_basket.specs.Stored.{GivesBasket};
 
 use crate::BasketFault;
-use crate::layout::Layout;
+use crate::layout::{Layout, read_layout};
 use byteorder::{BigEndian, ByteOrder};
+use std::alloc::Global;
 
 // The bytes from the one at `n` on.
 fn bytes_from(bytes: &[u8], n: usize) -> &[u8]
@@ -122,4 +123,21 @@ pub(crate) fn check_table(layout: &Layout, bytes: &[u8]) -> Result<(), BasketFau
     }
     check_offsets(layout, bytes)?;
     check_spare(layout, number_there(bytes, layout.last as usize))
+}
+
+/// How the entries of a basket are laid out, or its first fault.
+#[tactic(auto, unfolding(crate::specs::Entries::sound_layout_in))]
+pub(crate) fn read_sound_layout(
+    alloc: Global,
+    bytes: &[u8],
+    offsets: bool,
+) -> Result<Layout, BasketFault>
+    ensures exact { GivesBasket result (sound_layout_in offsets bytes.now) }
+    ensures laid { IfOk result (λ layout. IsLaid offsets layout bytes.now) }
+{
+    let layout = read_layout(alloc, bytes, offsets)?;
+    if offsets {
+        check_table(&layout, bytes)?;
+    }
+    Ok(layout)
 }

@@ -1,5 +1,5 @@
 -- The head of a basket: what is written is read, and what is read is written so.
-use Rattle.std.proofs.Common.{◌≡◌, ℕ, ◌+◌, ◌^◌, ◌<◌, ◌≤◌, ℤ, List, ◌++◌, length, Result, Ok, Err, refl, sym, ap, subst, ◌∙◌, append_assoc, arith}
+use Rattle.std.proofs.Common.{◌≡◌, ℕ, ◌+◌, ◌^◌, ◌<◌, ◌≤◌, ℤ, List, ◌++◌, length, Result, Ok, refl, sym, ap, subst, ◌∙◌, append_assoc, arith}
 use Rattle.std.proofs.lemmas.Int.{ints, of_z-to_z, to_z-of_z}
 use Rattle.std.proofs.lemmas.List.{length-append}
 use Rattle.std.specs.Int.{w32, cast_signed, cast_unsigned}
@@ -8,7 +8,7 @@ use Rattle.byteorder.specs.Endian.{big_bytes}
 use Rattle.rio_num.specs.At.{At}
 use Rattle.rio_num.specs.Reading.{◌>>=◌, number_at}
 use Rattle.rio_num.specs.declared.cursor.Short.{Short as Shortage}
-use Rattle.rio_num.proofs.ReadLaws.{IsBytes, IsNumber, Took, Took-then, back_1, back_2, back_4, bind_ok, number_again, number_found, ok_is}
+use Rattle.rio_num.proofs.ReadLaws.{IsBytes, Took, Took-then, back_1, back_2, back_4, bind_ok, number_again, number_found, ok_is}
 use Rattle.rio_key.specs.BasketHead.{AreInRange, basket_head_at, basket_head_bytes, integer_at, integer_bytes, sizes_bytes}
 use Rattle.rio_key.specs.declared.basket_head.BasketHead.{BasketHead}
 use Rattle.rio_key.specs.Key.{key_head_at}

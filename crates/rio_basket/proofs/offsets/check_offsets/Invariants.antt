@@ -1,4 +1,4 @@
-use Rattle.std.proofs.Common.{◌≡◌, ◌-◌, ◌≤◌}
+use Rattle.std.proofs.Common.{◌≡◌, ◌-◌}
 use Rattle.rio_basket.specs.Entries.{offset_before, offsets_from}
 use Rattle.rio_basket.proofs.offsets.check_offsets.Given as goal
 

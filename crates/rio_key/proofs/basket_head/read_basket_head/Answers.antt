@@ -2,7 +2,7 @@ use Rattle.std.proofs.Common.{◌≡◌, ℕ, List, ◌++◌, Result, Ok, Err, I
 use Rattle.rio_num.specs.At.{At}
 use Rattle.rio_num.specs.declared.cursor.Short.{Short as Shortage}
 use Rattle.rio_num.proofs.ReadLaws.{IsBytes}
-use Rattle.rio_key.specs.BasketHead.{AreInRange, basket_head_at, basket_head_bytes}
+use Rattle.rio_key.specs.BasketHead.{basket_head_at, basket_head_bytes}
 use Rattle.rio_key.specs.Key.{value_of}
 use Rattle.rio_key.specs.declared.basket_head.BasketHead.{BasketHead}
 use Rattle.rio_key.proofs.BasketHeadLaws.{basket_head_again, basket_head_found}

@@ -1,0 +1,67 @@
+//! A basket as it is stored, with its entries in place.
+use crate::BasketFault;
+use crate::entries::entry_of;
+use crate::layout::Layout;
+use crate::offsets::read_sound_layout;
+use rio_num::Bytes;
+use std::alloc::Global;
+use std::marker::Model;
+
+/// A basket as it is stored, which contracts see as the list of its entries. The entries stand in the basket's bytes, so
+/// a scan that holds one makes no copy of it.
+#[derive(Debug, Drop)]
+pub struct StoredBasket {
+    bytes: Bytes,
+    offsets: bool,
+    layout: Layout,
+}
+
+impl Model for StoredBasket {
+    ghost use Rattle.std.specs.Prelude.{ℕ, List};
+    ghost use Rattle.rio_basket.specs.Entries.{entries_of};
+    ghost use Rattle.rio_basket.specs.Laid.{IsLaid};
+
+    ghost Value = { List (List ℕ) };
+
+    ghost view = { λ basket. entries_of basket.offsets basket.layout basket.bytes.bytes };
+
+    ghost invariant = { λ basket. IsLaid basket.offsets basket.layout basket.bytes.bytes };
+}
+
+impl StoredBasket {
+    ghost use Rattle.std.specs.Prelude.{◌≡◌, length, slice_get};
+    ghost use Rattle.std.specs.Option.{option_copied};
+    ghost use Rattle.rio_basket.specs.Entries.{entries_in};
+    ghost use Rattle.rio_basket.specs.Stored.{GivesBasket};
+
+    /// The basket that these bytes begin with, with the faults of `read_basket`.
+    #[tactic(auto, unfolding(crate::specs::Entries::entries_in))]
+    pub fn read(alloc: Global, bytes: Bytes, offsets: bool) -> Result<StoredBasket, BasketFault>
+        ensures { GivesBasket result (entries_in offsets bytes.bytes) }
+    {
+        let layout = read_sound_layout(alloc, bytes.as_slice(), offsets)?;
+        Ok(StoredBasket {
+            bytes,
+            offsets,
+            layout,
+        })
+    }
+
+    /// How many entries there are.
+    pub fn count(&self) -> usize
+        ensures { result ≡ length self.now }
+    {
+        self.layout.count as usize
+    }
+
+    /// The entry at `k`, counted from 0, in its place.
+    pub fn entry(&self, k: usize) -> Option<&[u8]>
+        ensures { option_copied result ≡ slice_get self.now k }
+    {
+        if k < self.layout.count as usize {
+            Some(entry_of(self.offsets, &self.layout, self.bytes.as_slice(), k as u32))
+        } else {
+            None
+        }
+    }
+}
