@@ -9,3 +9,4 @@ pub mod RunLaws
 pub mod ScriptLaws
 pub mod StepLaws
 pub mod TreeLaws
+mod WorkedRun
