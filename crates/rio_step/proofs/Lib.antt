@@ -3,6 +3,7 @@ pub mod ClosedLaws
 pub mod DeleteLaws
 mod Examples
 pub mod GivenLaws
+pub mod KeptLaws
 pub mod LowestLaws
 mod Refusals
 pub mod RunLaws
