@@ -146,7 +146,7 @@ no_tree_name : (m : State) (c : Command) (mark : Option FullMark) → refusal_of
 unfolding refusal_of
 no_tree_name m c mark e = not_refused (is_tree_name m c) NameIsTree (none_at (refusals m c mark) 4 e)
 
-no_name_in_use : (m : State) (c : Command) (mark : Option FullMark) → refusal_of m c mark ≡ None → is_name_in_use m c ≡ false
+pub no_name_in_use : (m : State) (c : Command) (mark : Option FullMark) → refusal_of m c mark ≡ None → is_name_in_use m c ≡ false
 unfolding refusal_of
 no_name_in_use m c mark e = not_refused (is_name_in_use m c) NameInUse (none_at (refusals m c mark) 6 e)
 

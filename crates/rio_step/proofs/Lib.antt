@@ -3,9 +3,11 @@ pub mod ClosedLaws
 pub mod DeleteLaws
 mod Examples
 pub mod GivenLaws
+pub mod KeptLaws
 pub mod LowestLaws
 mod Refusals
 pub mod RunLaws
 pub mod ScriptLaws
 pub mod StepLaws
 pub mod TreeLaws
+mod WorkedRun

@@ -87,7 +87,7 @@ none_from : {A : Type 0} (x : Option A) → is_some x ≡ false → x ≡ None
 none_from None e = refl
 none_from (Some x) e = absurd cc
 
-next_is_free : (m : State) (name : List ℕ) → get m.objects (name, next_cycle m name) ≡ None
+pub next_is_free : (m : State) (name : List ℕ) → get m.objects (name, next_cycle m name) ≡ None
 unfolding cycles_in
 next_is_free m name =
     none_from _ (contains_key-keys m.objects (name, next_cycle m name) ∙ none_above name (next_cycle m name) (keys m.objects) (omega arith))

@@ -1,15 +1,16 @@
 -- Laws of steps and of runs.
-use Rattle.std.specs.Prelude.{◌≡◌, ◌≢◌, ◌<◌, ◌≤◌, ◌⊎◌, ℕ, ◌+◌, ◌-◌, List, [], ◌∷◌, ◌++◌, drop, length, slice_get, take, Option, Some, None, IfSome, IsSome, true, false}
-use Rattle.std.specs.FinMap.{get}
+use Rattle.std.specs.Prelude.{◌≡◌, ◌≢◌, ◌<◌, ◌≤◌, ◌⊎◌, ℕ, ◌+◌, ◌-◌, List, [], ◌∷◌, ◌++◌, drop, length, slice_get, take, Option, Some, None, IfSome, IsSome, Bool, true, false}
+use Rattle.std.specs.declared.cmp.Ordering.{Ordering}
+use Rattle.std.specs.FinMap.{FinMap, get}
 use Rattle.std.specs.List.{last_or}
 use Rattle.std.specs.Option.{option_map}
 use Rattle.rio_value.specs.declared.value.Value.{Value}
 use Rattle.rio_machine.specs.RefusalText.{refusal_number}
-use Rattle.rio_machine.specs.State.{NameAndCycle, State, Tree, names_object, names_tree, next_cycle}
+use Rattle.rio_machine.specs.State.{NameAndCycle, Row, State, Tree, names_object, names_tree, next_cycle}
 use Rattle.rio_machine.specs.declared.command.Command.{Command}
 use Rattle.rio_machine.specs.declared.command.Command.TheVariants.{Put, Delete}
 use Rattle.rio_machine.specs.declared.refusal.Refusal.{Refusal}
-use Rattle.rio_step.specs.Refusing.{FullMark, refusal_of, refusals, put_value}
+use Rattle.rio_step.specs.Refusing.{FullMark, refusal_of, refusals, put_value, rows_of_tree}
 use Rattle.rio_step.specs.ReplyText.{text_of}
 use Rattle.rio_step.specs.Runs.{Marks, closed_of, closing_saves, first_step, said_of, saved_of, saved_tree, state_after, states_of_run}
 use Rattle.rio_step.specs.Step.{Reply, refused, step}
@@ -75,6 +76,29 @@ DeletesTakeOne = (m : State) (name : List ℕ) (cycle : ℕ) (mark : Option Full
 
 abbrev pub NamesStayApart : Type 0
 NamesStayApart = (m : State) (c : Command) (mark : Option FullMark) → AreApart m → AreApart (step m c mark).state
+
+-- what stands in the first map stands in the second
+abbrev pub Keeps : {K X : Type 0} {R : K → K → Ordering} → FinMap R X → FinMap R X → Type 0
+Keeps {K} {X} old new = (k : K) (x : X) → get old k ≡ Some x → get new k ≡ Some x
+
+-- the tree has the same branches, and all its rows, with more rows behind them or without
+pub record HasRowsOf (old new : Tree) : Type 0 where
+  pub branches : new.branches ≡ old.branches
+  pub more : List Row
+  pub rows : rows_of_tree new ≡ rows_of_tree old ++ more
+
+-- each tree of the first state is there in the second, with all its rows
+abbrev pub KeepsRows : State → State → Type 0
+KeepsRows m n = (name : List ℕ) (t : Tree) → get m.trees name ≡ Some t → (u : Tree) × (get n.trees name ≡ Some u) × HasRowsOf t u
+
+abbrev pub is_delete : Command → Bool
+is_delete (Delete name cycle) = true
+is_delete other = false
+
+-- no command but a delete takes an object or a row away, or changes one
+pub record NothingIsLost : Type 0 where
+  pub objects : (m : State) (c : Command) (mark : Option FullMark) → is_delete c ≡ false → Keeps m.objects (step m c mark).state.objects
+  pub rows : (m : State) (c : Command) (mark : Option FullMark) → is_delete c ≡ false → KeepsRows m (step m c mark).state
 
 -- ---- runs
 

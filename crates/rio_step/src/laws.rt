@@ -1,5 +1,5 @@
 //! Laws of steps and of runs.
-ghost use Rattle.rio_step.specs.Laws.{ClosedHasNonePending, DeletesTakeOne, EachSaysItsReply, LowestIsTold, NamesStayApart, PutsAddOne, RefusedChangesNothing, RepliesSaySomething, RunsBeginAlike, RunsEndClosed, RunsHaveStates, SaidInParts, SavedKeepsTheRest};
+ghost use Rattle.rio_step.specs.Laws.{ClosedHasNonePending, DeletesTakeOne, EachSaysItsReply, LowestIsTold, NamesStayApart, NothingIsLost, PutsAddOne, RefusedChangesNothing, RepliesSaySomething, RunsBeginAlike, RunsEndClosed, RunsHaveStates, SaidInParts, SavedKeepsTheRest};
 ghost use Rattle.rio_step.specs.Script.{LinesGiveCommands};
 ghost use Rattle.rio_step.specs.Statable.{ScriptsAreStatable};
 
@@ -14,6 +14,11 @@ pub fn steps_change_one_thing()
     ensures refused { RefusedChangesNothing }
     ensures put { PutsAddOne }
     ensures delete { DeletesTakeOne }
+{}
+
+/// No command but a delete takes an object or a row away, or changes one.
+pub fn nothing_is_lost()
+    ensures { NothingIsLost }
 {}
 
 /// If no name is that of an object and of a tree, no command makes one so.
