@@ -9,7 +9,7 @@ use Rattle.rio_chain.specs.declared.segment.Segment.TheVariants.{Record, Gap}
 use Rattle.rio_chain.specs.Adjoining.{AreAdjacent, AreGapsApart, AreSegments, BeginsAt, BeginsWithRecord, segment_length, segments_end}
 use Rattle.rio_chain.specs.Segments.{Link, RecordAt, GapAt, BreaksAt, HasSegments, HasWord, HoldsEnd, HoldsLink, HoldsLinks, chain_end, end_from, link_length, segment_of}
 use Rattle.rio_chain.specs.Found.{MayPrecede, FindsLink, FindsWord, IsKindOf, IsNoGap, TellsNoLink}
-use Rattle.rio_chain.specs.Walks.{Told, TellsBreak}
+use Rattle.rio_chain.specs.Walks.{Told, TellsFirstBreak}
 use Rattle.rio_chain.specs.declared.fault.WalkFault.{WalkFault}
 use Rattle.rio_chain.specs.declared.fault.WalkFault.TheVariants.{NoChain, NoMemory, HostFault}
 use Rattle.rio_chain.proofs.Chains.{end-append}
@@ -136,7 +136,7 @@ pub breaks_here : (file : List ℕ) (place found : ℕ) (segments : List Segment
 breaks_here file place found segments up word live none = breaks file place segments up none
     (λ end. ⊎_elim (λ some. some (word_one file place found 0 word end.zero_word)) (λ low. omega (arith, low, end.later)) live)
 
-pub tells_break : (start now : View) (place found : ℕ) (segments : List Segment) (fault : WalkFault) → now.holds ≡ start.holds → Told start (UpTo place segments) → Told start (FindsWord place (Some found)) → (found ≢ 0) ⊎ (place ≤ 100) → TellsNoLink now place fault → TellsBreak start fault
+pub tells_break : (start now : View) (place found : ℕ) (segments : List Segment) (fault : WalkFault) → now.holds ≡ start.holds → Told start (UpTo place segments) → Told start (FindsWord place (Some found)) → (found ≢ 0) ⊎ (place ≤ 100) → TellsNoLink now place fault → TellsFirstBreak start fault
 tells_break start now place found segments (NoChain p) same up here live none =
     λ file told. subst (λ (q : ℕ). BreaksAt q file) (sym none.0) (breaks_here file place found segments (up file told) (here file told) live (none.1 file (same ∙ told)))
 tells_break start now place found segments NoMemory same up here live none = tt

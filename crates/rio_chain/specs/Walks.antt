@@ -13,10 +13,10 @@ abbrev pub Told : View → (List ℕ → Type 0) → Type 0
 Told v P = (file : List ℕ) → v.holds ≡ Some file → P file
 
 -- a chain that breaks does so there
-abbrev pub TellsBreak : View → WalkFault → Type 0
-TellsBreak v (NoChain place) = Told v (BreaksAt place)
-TellsBreak v NoMemory = Unit {0}
-TellsBreak v HostFault = Unit {0}
+abbrev pub TellsFirstBreak : View → WalkFault → Type 0
+TellsFirstBreak v (NoChain place) = Told v (BreaksAt place)
+TellsFirstBreak v NoMemory = Unit {0}
+TellsFirstBreak v HostFault = Unit {0}
 
 -- a count of faults rises where a call of the host failed, and only there
 abbrev pub IsWalkCause : {X : Type 0} → View → View → Result X WalkFault → Type 0

@@ -3,7 +3,7 @@ ghost use Rattle.std.specs.Prelude.{◌≡◌, IfOk, IfErr};
 ghost use Rattle.rio_host.specs.OnlyReads.{OnlyReads};
 ghost use Rattle.rio_chain.specs.Adjoining.{AreSegments};
 ghost use Rattle.rio_chain.specs.Segments.{HasSegments};
-ghost use Rattle.rio_chain.specs.Walks.{AreFew, IsWalkCause, Told, TellsBreak};
+ghost use Rattle.rio_chain.specs.Walks.{AreFew, IsWalkCause, Told, TellsFirstBreak};
 
 use crate::found::link_at;
 use crate::reads::word_at;
@@ -19,7 +19,7 @@ pub fn walk<H: Host>(alloc: Global, host: &mut H) -> Result<Segments, WalkFault>
         (λ segments. Told (H.view host.old) (λ file. HasSegments file segments)) }
     ensures shape { IfOk result AreSegments }
     ensures few { IfOk result (λ segments. Told (H.view host.old) (λ file. AreFew file segments)) }
-    ensures broken { IfErr result (TellsBreak (H.view host.old)) }
+    ensures broken { IfErr result (TellsFirstBreak (H.view host.old)) }
     ensures calls { OnlyReads (H.view host.old) (H.view host.new) }
     ensures cause { IsWalkCause (H.view host.old) (H.view host.new) result }
 {

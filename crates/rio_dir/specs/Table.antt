@@ -90,5 +90,5 @@ AreWritable [] = Unit {0}
 AreWritable (h ∷ hs) = (FitsKey h × HoldsItself h) × AreWritable hs
 
 -- what is written of such heads spells them as a key list, so it is read as they are
-abbrev pub WrittenListIsSpelled : Type 0
-WrittenListIsSpelled = (heads : List KeyHead) → length heads < 2 ^ 32 → AreWritable heads → SpellsKeyList heads (key_list_bytes heads)
+abbrev pub WrittenKeysAreSpelled : Type 0
+WrittenKeysAreSpelled = (heads : List KeyHead) → length heads < 2 ^ 32 → AreWritable heads → SpellsKeyList heads (key_list_bytes heads)

@@ -1,6 +1,6 @@
 //! Laws of closed files, each the contract of a function that does nothing.
 ghost use Rattle.rio_dir.specs.Grammar.{IsListedOnce, ClosedIsSpelled, SpelledIsClosed};
-ghost use Rattle.rio_dir.specs.Table.{WrittenListIsSpelled};
+ghost use Rattle.rio_dir.specs.Table.{WrittenKeysAreSpelled};
 
 /// What is read of a closed file is spelled there, by the grammar of each part, and what is spelled
 /// there is read.
@@ -17,5 +17,5 @@ pub fn one_listing()
 /// What is written of a key list spells its heads, where each fits what is written of it and its record holds it. So such
 /// a list is read as it was written.
 pub fn written_key_list_is_spelled()
-    ensures { WrittenListIsSpelled }
+    ensures { WrittenKeysAreSpelled }
 {}

@@ -49,7 +49,8 @@ pub fn key_length(head: &KeyHead) -> u64
 fn put_numbers(head: &KeyHead, into: &mut Bytes) -> Result<(), NoMemory>
     requires fits { FitsKey head.now }
     requires room { length (written_key head.now) ≤ into.old.spare }
-    ensures { Appends into.old into.new (number_bytes head.now (cast_unsigned w32 head.now.nbytes)) result }
+    ensures { Appends into.old into.new
+        (number_bytes head.now (cast_unsigned w32 head.now.nbytes)) result }
 {
     into.put_u32(head.nbytes.cast_unsigned())?;
     into.put_u16(head.version)?;

@@ -81,7 +81,8 @@ impl<'a> Scan<'a> {
 
     /// The fault of the next token, which can't stand where it does.
     pub(crate) fn bad(&self) -> LeafFault
-        ensures { result ≡ LeafFault.BadLeaf (self.now.place + prefix_len is_blank_byte self.now.rest) }
+        ensures { result
+            ≡ LeafFault.BadLeaf (self.now.place + prefix_len is_blank_byte self.now.rest) }
     {
         LeafFault::BadLeaf {
             place: (self.place + blanks(self.rest)) as u32,

@@ -16,7 +16,7 @@ use Rattle.rio_machine.specs.declared.command.Command.{Command}
 use Rattle.rio_machine.specs.declared.command.Command.TheVariants.{Bad, Class, Put, Delete, Tree as MakeTree, Fill, Save, Get, Scan, Ls}
 use Rattle.rio_machine.specs.declared.refusal.Refusal.{Refusal}
 use Rattle.rio_machine.specs.declared.refusal.Refusal.TheVariants.{NameIsTree, NameInUse}
-use Rattle.rio_step.specs.Laws.{AreApart, NamesStayApart}
+use Rattle.rio_step.specs.Laws.{AreNamesApart, NamesStayApart}
 use Rattle.rio_step.specs.Refusing.{FullMark, first_of, refusals, is_tree_name, is_name_in_use, refusal_of, refused_if, fill_row, put_value}
 use Rattle.rio_step.specs.Step.{by_refusal, new_tree, state_behind, step, tree_filled, tree_saved, with_tree, without_item}
 
@@ -71,7 +71,7 @@ cycle_object name m cycle e = named_key name cycle (keys m.objects) (sym (contai
 -- ---- what changes
 
 -- an object more, of a name that is no tree's
-put_apart : (m : State) (name : List ℕ) (cycle : ℕ) (v : Value) → names_tree m name ≡ false → AreApart m → AreApart (record m { objects = insert m.objects (name, cycle) v })
+put_apart : (m : State) (name : List ℕ) (cycle : ℕ) (v : Value) → names_tree m name ≡ false → AreNamesApart m → AreNamesApart (record m { objects = insert m.objects (name, cycle) v })
 put_apart m name cycle v none apart q e = by (eq_by_cmp item_order (q, own.0) (name, cycle)) refl (sym (ap is_some (get-insert items_total m.objects (name, cycle) v (q, own.0))) ∙ own.1)
   where
     own : (c : ℕ) × (contains_key (insert m.objects (name, cycle) v) (q, c) ≡ true)
@@ -82,7 +82,7 @@ put_apart m name cycle v none apart q e = by (eq_by_cmp item_order (q, own.0) (n
     by false is f = apart q (cycle_object q m own.0 f)
 
 -- an object less
-delete_apart : (m : State) (item : NameAndCycle) → AreApart m → AreApart (record m { objects = remove m.objects item })
+delete_apart : (m : State) (item : NameAndCycle) → AreNamesApart m → AreNamesApart (record m { objects = remove m.objects item })
 delete_apart m item apart q e = by (eq_by_cmp item_order (q, own.0) item) (sym (ap is_some (get-remove items_total m.objects item (q, own.0))) ∙ own.1)
   where
     own : (c : ℕ) × (contains_key (remove m.objects item) (q, c) ≡ true)
@@ -93,7 +93,7 @@ delete_apart m item apart q e = by (eq_by_cmp item_order (q, own.0) item) (sym (
     by false f = apart q (cycle_object q m own.0 f)
 
 -- a tree more or another one, of a name that is no object's
-tree_apart : (m : State) (name : List ℕ) (t : Tree) → names_object m name ≡ false → AreApart m → AreApart (record m { trees = insert m.trees name t })
+tree_apart : (m : State) (name : List ℕ) (t : Tree) → names_object m name ≡ false → AreNamesApart m → AreNamesApart (record m { trees = insert m.trees name t })
 tree_apart m name t none apart q e = ap is_some (get-insert names_total m.trees name t q) ∙ by (eq_by_cmp name_order q name) refl
   where
     by : (b : Bool) → eq_by_cmp name_order q name ≡ b → is_some (cond b (Some t) (get m.trees q)) ≡ false
@@ -101,7 +101,7 @@ tree_apart m name t none apart q e = ap is_some (get-insert names_total m.trees 
     by false is = apart q e
 
 -- a tree less
-tree_deleted_apart : (m : State) (name : List ℕ) → AreApart m → AreApart (record m { trees = remove m.trees name })
+tree_deleted_apart : (m : State) (name : List ℕ) → AreNamesApart m → AreNamesApart (record m { trees = remove m.trees name })
 tree_deleted_apart m name apart q e = ap is_some (get-remove names_total m.trees name q) ∙ by (eq_by_cmp name_order q name)
   where
     by : (b : Bool) → is_some (cond b None (get m.trees q)) ≡ false
@@ -112,17 +112,17 @@ false_if : (b : Bool) → (b ≡ true → ⊥) → b ≡ false
 false_if true f = absurd (f refl)
 false_if false f = refl
 
-changed_apart : (m : State) (name : List ℕ) (change : Tree → Tree) → AreApart m → AreApart (with_tree m name change)
+changed_apart : (m : State) (name : List ℕ) (change : Tree → Tree) → AreNamesApart m → AreNamesApart (with_tree m name change)
 changed_apart m name change apart = by (get m.trees name) refl
   where
-    by : (t : Option Tree) → get m.trees name ≡ t → AreApart (option_map_or (λ t. record m { trees = insert m.trees name (change t) }) t m)
+    by : (t : Option Tree) → get m.trees name ≡ t → AreNamesApart (option_map_or (λ t. record m { trees = insert m.trees name (change t) }) t m)
     by None e = apart
     by (Some t) e = tree_apart m name (change t) (false_if _ (λ o. let h = sym (ap is_some e) ∙ apart name o in absurd cc)) apart
 
-item_deleted_apart : (m : State) (name : List ℕ) (cycle : ℕ) → AreApart m → AreApart (without_item m name cycle)
+item_deleted_apart : (m : State) (name : List ℕ) (cycle : ℕ) → AreNamesApart m → AreNamesApart (without_item m name cycle)
 item_deleted_apart m name cycle apart = by (names_tree m name)
   where
-    by : (b : Bool) → AreApart (cond b (record m { trees = remove m.trees name }) (record m { objects = remove m.objects (name, cycle) }))
+    by : (b : Bool) → AreNamesApart (cond b (record m { trees = remove m.trees name }) (record m { objects = remove m.objects (name, cycle) }))
     by true = tree_deleted_apart m name apart
     by false = delete_apart m (name, cycle) apart
 
@@ -150,7 +150,7 @@ pub no_name_in_use : (m : State) (c : Command) (mark : Option FullMark) → refu
 unfolding refusal_of
 no_name_in_use m c mark e = not_refused (is_name_in_use m c) NameInUse (none_at (refusals m c mark) 6 e)
 
-accepted_apart : (m : State) (c : Command) (mark : Option FullMark) → refusal_of m c mark ≡ None → AreApart m → AreApart (state_behind m c)
+accepted_apart : (m : State) (c : Command) (mark : Option FullMark) → refusal_of m c mark ≡ None → AreNamesApart m → AreNamesApart (state_behind m c)
 accepted_apart m (Bad line place) mark e apart = apart
 accepted_apart m (Class class) mark e apart = apart
 accepted_apart m (Put name v) mark e apart = put_apart m name (next_cycle m name) (put_value m v) (no_tree_name m (Put name v) mark e) apart
@@ -166,6 +166,6 @@ pub names_stay_apart : NamesStayApart
 unfolding step
 names_stay_apart m c mark apart = by (refusal_of m c mark) refl
   where
-    by : (r : Option Refusal) → refusal_of m c mark ≡ r → AreApart (by_refusal m c r).state
+    by : (r : Option Refusal) → refusal_of m c mark ≡ r → AreNamesApart (by_refusal m c r).state
     by None e = accepted_apart m c mark e apart
     by (Some refusal) e = apart

@@ -1,6 +1,6 @@
 -- A delete takes one object or one tree away.
 use Rattle.std.proofs.Common.{◌≡◌, ◌≢◌, ℕ, List, Bool, true, false, cond, not, ◌||◌, ◌&&◌, ◌==◌, ◌⊎◌, inl, inr, Option, Some, None, refl, sym, ap, subst, ◌∙◌}
-use Rattle.std.specs.Prelude.{IfSome}
+use Rattle.std.specs.Option.{IsSomeAnd}
 use Rattle.std.specs.Cmp.{eq_by_cmp_equiv}
 use Rattle.std.specs.FinMap.{contains_key, get, get-remove, remove}
 use Rattle.std.specs.Option.{is_some, option_map_or}
@@ -12,7 +12,7 @@ use Rattle.rio_machine.specs.declared.command.Command.TheVariants.{Delete}
 use Rattle.rio_machine.specs.declared.refusal.Refusal.TheVariants.{NoSuchName, NoSuchCycle}
 use Rattle.rio_step.proofs.ApartLaws.{cycle_object, none_at, not_refused}
 use Rattle.rio_step.proofs.StepLaws.{false_from, step_accepted}
-use Rattle.rio_step.specs.Laws.{AreApart, DeletesTakeOne, HasOneLess, HasOneTreeLess}
+use Rattle.rio_step.specs.Laws.{AreNamesApart, DeletesTakeOne, HasOneLess, HasOneTreeLess}
 use Rattle.rio_step.specs.Refusing.{FullMark, has_cycle, lacks_cycle, lacks_name, refusal_of, refusals}
 
 -- ---- maps without a key
@@ -51,7 +51,7 @@ or_right : (a b : Bool) → (a || b) ≡ true → a ≡ false → b ≡ true
 or_right true b e h = absurd cc
 or_right false b e h = e
 
-tree_has_cycle : (t : Option Tree) (cycle : ℕ) → option_map_or (λ t. t.cycle == cycle) t false ≡ true → IfSome t (λ t. t.cycle ≡ cycle)
+tree_has_cycle : (t : Option Tree) (cycle : ℕ) → option_map_or (λ t. t.cycle == cycle) t false ≡ true → IsSomeAnd t (λ t. t.cycle ≡ cycle)
 tree_has_cycle None cycle e = absurd cc
 tree_has_cycle (Some t) cycle e = eqb-true t.cycle cycle e
 
@@ -68,7 +68,7 @@ cycle_there m name cycle mark e =
 
 -- ---- deletes
 
-one_less : (m : State) (name : List ℕ) (cycle : ℕ) → AreApart m → has_cycle m name cycle ≡ true → (b : Bool) → names_tree m name ≡ b
+one_less : (m : State) (name : List ℕ) (cycle : ℕ) → AreNamesApart m → has_cycle m name cycle ≡ true → (b : Bool) → names_tree m name ≡ b
     → HasOneLess m (cond b (record m { trees = remove m.trees name }) (record m { objects = remove m.objects (name, cycle) })) (name, cycle)
     ⊎ HasOneTreeLess m (cond b (record m { trees = remove m.trees name }) (record m { objects = remove m.objects (name, cycle) })) name cycle
 one_less m name cycle apart there true is =

@@ -1,9 +1,9 @@
 -- Laws of steps and of runs.
-use Rattle.std.specs.Prelude.{◌≡◌, ◌≢◌, ◌<◌, ◌≤◌, ◌⊎◌, ℕ, ◌+◌, ◌-◌, List, [], ◌∷◌, ◌++◌, drop, length, slice_get, take, Option, Some, None, IfSome, IsSome, Bool, true, false}
+use Rattle.std.specs.Prelude.{◌≡◌, ◌≢◌, ◌<◌, ◌≤◌, ◌⊎◌, ℕ, ◌+◌, ◌-◌, List, [], ◌∷◌, ◌++◌, drop, length, slice_get, take, Option, Some, None, IsSome, Bool, true, false}
 use Rattle.std.specs.declared.cmp.Ordering.{Ordering}
 use Rattle.std.specs.FinMap.{FinMap, get}
 use Rattle.std.specs.List.{last_or}
-use Rattle.std.specs.Option.{option_map}
+use Rattle.std.specs.Option.{IsSomeAnd, option_map}
 use Rattle.rio_value.specs.declared.value.Value.{Value}
 use Rattle.rio_machine.specs.RefusalText.{refusal_number}
 use Rattle.rio_machine.specs.State.{NameAndCycle, Row, State, Tree, names_object, names_tree, next_cycle}
@@ -50,8 +50,8 @@ PutsAddOne = (m : State) (name : List ℕ) (v : Value) (mark : Option FullMark)
     → refusal_of m (Put name v) mark ≡ None → HasOneMore m (step m (Put name v) mark).state name v
 
 -- no name is that of an object and of a tree
-abbrev pub AreApart : State → Type 0
-AreApart m = (name : List ℕ) → names_object m name ≡ true → names_tree m name ≡ false
+abbrev pub AreNamesApart : State → Type 0
+AreNamesApart m = (name : List ℕ) → names_object m name ≡ true → names_tree m name ≡ false
 
 -- the second state has one object less
 pub record HasOneLess (m n : State) (item : NameAndCycle) : Type 0 where
@@ -65,17 +65,17 @@ pub record HasOneLess (m n : State) (item : NameAndCycle) : Type 0 where
 pub record HasOneTreeLess (m n : State) (name : List ℕ) (cycle : ℕ) : Type 0 where
   pub classes : n.classes ≡ m.classes
   pub objects : n.objects ≡ m.objects
-  pub there : IfSome (get m.trees name) (λ t. t.cycle ≡ cycle)
+  pub there : IsSomeAnd (get m.trees name) (λ t. t.cycle ≡ cycle)
   pub tree : get n.trees name ≡ None
   pub others : (other : List ℕ) → other ≢ name → get n.trees other ≡ get m.trees other
 
 -- a delete that isn't refused takes its object away, or its tree with all rows, and changes nothing else
 abbrev pub DeletesTakeOne : Type 0
-DeletesTakeOne = (m : State) (name : List ℕ) (cycle : ℕ) (mark : Option FullMark) → AreApart m → refusal_of m (Delete name cycle) mark ≡ None
+DeletesTakeOne = (m : State) (name : List ℕ) (cycle : ℕ) (mark : Option FullMark) → AreNamesApart m → refusal_of m (Delete name cycle) mark ≡ None
     → let n = (step m (Delete name cycle) mark).state in HasOneLess m n (name, cycle) ⊎ HasOneTreeLess m n name cycle
 
 abbrev pub NamesStayApart : Type 0
-NamesStayApart = (m : State) (c : Command) (mark : Option FullMark) → AreApart m → AreApart (step m c mark).state
+NamesStayApart = (m : State) (c : Command) (mark : Option FullMark) → AreNamesApart m → AreNamesApart (step m c mark).state
 
 -- what stands in the first map stands in the second
 abbrev pub Keeps : {K X : Type 0} {R : K → K → Ordering} → FinMap R X → FinMap R X → Type 0
