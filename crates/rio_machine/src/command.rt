@@ -5,7 +5,8 @@ use rio_num::{Items, Name};
 use rio_types::{Base, ClassDef};
 use rio_value::{Value, Values};
 
-/// A command. An object of a value in a command may have the version 0, which stands for the newest.
+/// A command. An object of a value in a command may have the version 0, which stands for the newest, and in a base for
+/// the one that the class has it in.
 #[derive(Drop)]
 pub enum Command {
     /// A line that is no command: its number, counted from 1, and the place in it of the first token that can't stand,

@@ -22,7 +22,7 @@ pub enum Refusal {
     NotATree,
     /// Something has the name already.
     NameInUse,
-    /// A class that is named isn't declared, or may not stand there.
+    /// A class that is named isn't declared, or not in the version that is named, or it may not stand there.
     NoSuchClass,
     /// The class is declared in this version.
     SameVersion,

@@ -102,6 +102,11 @@ abbrev pub is_text_value : Value-F Value Part → Bool
 is_text_value (Chars text) = true
 is_text_value other = false
 
+-- a list of so many values
+abbrev pub is_list_of : ℕ → Value-F Value Part → Bool
+is_list_of count (Items items) = length items == count
+is_list_of count other = false
+
 -- an object, or one that isn't read
 abbrev pub is_object_value : Value-F Value Part → Bool
 is_object_value (Object class version parts) = true
@@ -185,7 +190,7 @@ convert (Plain from) (Plain to) m = option_map Ok (single_as from to m.as_is)
 convert (Plain from) Counter m = option_map Ok (single_as from I32 m.as_is)
 convert Counter (Plain to) m = option_map Ok (single_as I32 to m.as_is)
 convert Counter Counter m = option_map Ok (single_as I32 I32 m.as_is)
-convert (Fixed from count) (Fixed to wanted) m = if count == wanted then option_map Ok (list_as from to m.as_is) else None
+convert (Fixed from count) (Fixed to wanted) m = if count == wanted && is_list_of count (out-Value m.as_is) then option_map Ok (list_as from to m.as_is) else None
 convert (Counted from counter) (Counted to other) m = option_map Ok (list_as from to m.as_is)
 convert Text Text m = if is_text_value (out-Value m.as_is) then Some (Ok m.as_is) else None
 convert (Inline class) (Inline other) m = if bytes_eq class other && is_object_value (out-Value m.as_is) then Some m.mapped else None
