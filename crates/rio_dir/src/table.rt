@@ -97,8 +97,7 @@ fn cycle_after(cycle: u16) -> u32
 
 // How many bytes are written of some heads.
 fn heads_length(heads: &[KeyHead]) -> u64
-    requires fit { All FitsKey heads.now }
-    requires sum { heads_size heads.now < 2 ^ 64 }
+    requires { heads_size heads.now < 2 ^ 64 }
     ensures { result ≡ heads_size heads.now }
 {
     let mut length: u64 = 0;
@@ -224,10 +223,9 @@ impl KeyTable {
         }
     }
 
-    /// How many bytes are written of the heads. Each fits what is written of it.
+    /// How many bytes are written of the heads: a number that fits 64 bits.
     pub fn heads_length(&self) -> u64
-        requires fit { All FitsKey self.now.heads }
-        requires sum { heads_size self.now.heads < 2 ^ 64 }
+        requires { heads_size self.now.heads < 2 ^ 64 }
         ensures { result ≡ heads_size self.now.heads }
     {
         heads_length(&self.heads)

@@ -25,16 +25,16 @@ fn put_place(version: u16, place: u64, into: &mut Bytes) -> Result<(), NoMemory>
 
 // How many bytes a text takes with its length.
 fn text_length(text: &[u8]) -> u64
-    requires { length text.now < 2 ^ 32 }
+    requires { length (text_bytes text.now) < 2 ^ 64 }
     ensures { result ≡ length (text_bytes text.now) }
 {
     let own = text.len() as u64;
     if own < 255 { own + 1 } else { own + 5 }
 }
 
-/// How many bytes a key takes that is written, up to its title's end.
+/// How many bytes a key takes that is written, up to its title's end: a number that fits 64 bits.
 pub fn key_length(head: &KeyHead) -> u64
-    requires { FitsKey head.now }
+    requires { length (written_key head.now) < 2 ^ 64 }
     ensures { result ≡ length (written_key head.now) }
 {
     let places = if head.version > 1000 { 16 } else { 8 };
