@@ -1,13 +1,13 @@
 -- A record among the segments is one of the file.
-use Rattle.std.proofs.Common.{◌≡◌, ℕ, zero, suc, ◌+◌, ◌-◌, ◌<◌, ◌≤◌, true, false, ltb, List, [], ◌∷◌, ◌++◌, length, length-append, map, get_or, Some, refl, sym, ap, subst, ◌∙◌, arith}
+use Rattle.std.proofs.Common.{◌≡◌, ℕ, ◌+◌, ◌-◌, ◌<◌, ◌≤◌, true, false, ltb, List, [], ◌∷◌, ◌++◌, length, length-append, map, get_or, refl, sym, ap, subst, ◌∙◌, arith}
 use Rattle.std.specs.List.{prefix_len, Contains}
 use Rattle.std.proofs.lemmas.Bool.Decides.{nat_tests}
 use Rattle.rio_host.specs.Image.{Has}
 use Rattle.rio_host.proofs.Images.{has_length}
 use Rattle.rio_chain.specs.declared.segment.Segment.{Segment}
-use Rattle.rio_chain.specs.declared.segment.Segment.TheVariants.{Record, Gap}
+use Rattle.rio_chain.specs.declared.segment.Segment.TheVariants.{Record}
 use Rattle.rio_chain.specs.Adjoining.{AreAdjacent, segment_length, segment_place}
-use Rattle.rio_chain.specs.Segments.{Link, RecordAt, GapAt, chain_end, segment_of, HoldsRecord, IsChain}
+use Rattle.rio_chain.specs.Segments.{Link, RecordAt, GapAt, segment_of, HoldsRecord, IsChain}
 use Rattle.rio_chain.specs.Chains.{HasChain}
 use Rattle.rio_chain.proofs.Words.{has_same, held_long}
 use Rattle.rio_chain.proofs.Chains.{parts_of, plain_cut}

@@ -1,4 +1,11 @@
-//! The chain of a file: records and gaps, one behind the other from place 100 to END.
+//! The chain of a file: records and gaps, one behind the other from place 100 to END. `walk` reads them, or tells the
+//! first place where they break, and reads nothing of a record but its word and its key. `Chain` keeps them beside the
+//! file: `plan` places records by the rule, and `put_record` puts one, at END or in a gap, so that a stop at any moment
+//! leaves the segments of before or of after.
+//!
+//! The definitions stand in `specs/`: `Segments` (what stands at each place, END, and where the chain breaks), `Laws`
+//! (a file has one list of segments or one first break), `Adjoining` (segments without what they hold), `Placing` (the
+//! choice of place), `Changes` (what a put makes of the segments) and `Stops` (what a stop leaves).
 #![tactic(auto)]
 
 mod behind;
@@ -19,3 +26,6 @@ pub use kept::Chain;
 pub use laws::one_chain;
 pub use segment::{Segment, Segments};
 pub use walking::walk;
+
+#[cfg(test)]
+mod tests;

@@ -1,4 +1,4 @@
-use Rattle.std.proofs.Common.{◌≡◌, ◌∙◌, ◌+◌, add-one, get_or, take, suc, ℕ, List, refl, sym, ap, subst, arith}
+use Rattle.std.proofs.Common.{◌≡◌, ◌∙◌, ◌+◌, get_or, take, suc, ℕ, List, refl, sym, ap, subst, arith}
 use Rattle.rio_free.specs.Gaps.{FreeGaps, IsApart, gap_of, given}
 use Rattle.rio_free.specs.declared.gap.Gap.{Gap as FreeGap}
 use Rattle.rio_chain.specs.declared.segment.Segment.TheVariants.{Record}

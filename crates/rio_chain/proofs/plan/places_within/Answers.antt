@@ -1,4 +1,4 @@
-use Rattle.std.proofs.Common.{◌≡◌, ◌+◌, ◌<◌, ℕ, get_or, subst, refl, arith}
+use Rattle.std.proofs.Common.{◌<◌, ℕ, get_or, subst, refl, arith}
 use Rattle.rio_chain.proofs.Laying.{full_here}
 use Rattle.rio_chain.proofs.plan.places_within.Goals as goal
 
