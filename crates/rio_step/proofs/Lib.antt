@@ -2,7 +2,10 @@ pub mod ApartLaws
 pub mod ClosedLaws
 pub mod DeleteLaws
 mod Examples
+pub mod FitLaws
+pub mod FitStays
 pub mod GivenLaws
+pub mod GrowthLaws
 pub mod KeptLaws
 pub mod LowestLaws
 mod Refusals

@@ -2,15 +2,16 @@
 use Rattle.std.specs.Prelude.{◌≡◌, ◌≢◌, ◌<◌, ◌≤◌, ◌⊎◌, ℕ, ◌+◌, ◌-◌, List, [], ◌∷◌, ◌++◌, drop, length, slice_get, take, Option, Some, None, IsSome, Bool, true, false}
 use Rattle.std.specs.declared.cmp.Ordering.{Ordering}
 use Rattle.std.specs.FinMap.{FinMap, get}
-use Rattle.std.specs.List.{last_or}
+use Rattle.std.specs.List.{last_or, list_all}
 use Rattle.std.specs.Option.{IsSomeAnd, option_map}
 use Rattle.rio_value.specs.declared.value.Value.{Value}
 use Rattle.rio_machine.specs.RefusalText.{refusal_number}
+use Rattle.rio_machine.specs.Rows.{row_fits}
 use Rattle.rio_machine.specs.State.{NameAndCycle, Row, State, Tree, names_object, names_tree, next_cycle}
 use Rattle.rio_machine.specs.declared.command.Command.{Command}
 use Rattle.rio_machine.specs.declared.command.Command.TheVariants.{Put, Delete}
 use Rattle.rio_machine.specs.declared.refusal.Refusal.{Refusal}
-use Rattle.rio_step.specs.Refusing.{FullMark, refusal_of, refusals, put_value, rows_of_tree}
+use Rattle.rio_step.specs.Refusing.{FullMark, is_fit, refusal_of, refusals, put_value, rows_of_tree}
 use Rattle.rio_step.specs.ReplyText.{text_of}
 use Rattle.rio_step.specs.Runs.{Marks, closed_of, closing_saves, first_step, said_of, saved_of, saved_tree, state_after, states_of_run}
 use Rattle.rio_step.specs.Step.{Reply, refused, step}
@@ -99,6 +100,16 @@ is_delete other = false
 pub record NothingIsLost : Type 0 where
   pub objects : (m : State) (c : Command) (mark : Option FullMark) → is_delete c ≡ false → Keeps m.objects (step m c mark).state.objects
   pub rows : (m : State) (c : Command) (mark : Option FullMark) → is_delete c ≡ false → KeepsRows m (step m c mark).state
+
+-- every object fits its class, and every row of a tree its branches
+pub record AllFit (m : State) : Type 0 where
+  pub objects : (item : NameAndCycle) (v : Value) → get m.objects item ≡ Some v → is_fit m.classes v ≡ true
+  pub rows : (name : List ℕ) (t : Tree) → get m.trees name ≡ Some t
+      → list_all (row_fits m.classes t.branches) (rows_of_tree t) ≡ true
+
+-- no command makes an object or a row one that doesn't fit, a declaration neither
+abbrev pub AllStayFit : Type 0
+AllStayFit = (m : State) (c : Command) (mark : Option FullMark) → AllFit m → AllFit (step m c mark).state
 
 -- ---- runs
 

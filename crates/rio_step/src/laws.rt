@@ -1,5 +1,5 @@
 //! Laws of steps and of runs.
-ghost use Rattle.rio_step.specs.Laws.{ClosedHasNonePending, DeletesTakeOne, EachSaysItsReply, LowestIsTold, NamesStayApart, NothingIsLost, PutsAddOne, RefusedChangesNothing, RepliesSaySomething, RunsBeginAlike, RunsEndClosed, RunsHaveStates, SaidInParts, SavedKeepsTheRest};
+ghost use Rattle.rio_step.specs.Laws.{AllStayFit, ClosedHasNonePending, DeletesTakeOne, EachSaysItsReply, LowestIsTold, NamesStayApart, NothingIsLost, PutsAddOne, RefusedChangesNothing, RepliesSaySomething, RunsBeginAlike, RunsEndClosed, RunsHaveStates, SaidInParts, SavedKeepsTheRest};
 ghost use Rattle.rio_step.specs.Script.{LinesGiveCommands};
 ghost use Rattle.rio_step.specs.Statable.{ScriptsAreStatable};
 
@@ -19,6 +19,11 @@ pub fn steps_change_one_thing()
 /// No command but a delete takes an object or a row away, or changes one.
 pub fn nothing_is_lost()
     ensures { NothingIsLost }
+{}
+
+/// If every object fits its class and every row its tree, they do so behind any command: also behind a declaration.
+pub fn all_stay_fit()
+    ensures { AllStayFit }
 {}
 
 /// If no name is that of an object and of a tree, no command makes one so.

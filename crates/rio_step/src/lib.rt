@@ -8,6 +8,6 @@ mod laws;
 
 pub use fault::MapFault;
 pub use laws::{
-    each_says_its_reply, lowest_is_told, names_stay_apart, nothing_is_lost, runs_end_closed,
-    runs_have_states, scripts_are_statable, steps_change_one_thing,
+    all_stay_fit, each_says_its_reply, lowest_is_told, names_stay_apart, nothing_is_lost,
+    runs_end_closed, runs_have_states, scripts_are_statable, steps_change_one_thing,
 };
