@@ -1,8 +1,6 @@
 //! A key list is read.
 use crate::{KeyTable, read_key_list, write_key_list};
-use rio_key::KeyHead;
-use rio_num::{Bytes, Name};
-use std::alloc::Global;
+use rio_num::Bytes;
 use std::test::Fail;
 
 // The count, the heads of the first record and of the free record of an empty file `a.root`, and a byte
@@ -20,42 +18,6 @@ fn reads_the_heads_of_a_key_list(rt: HostRuntime) -> Result<(), Fail> {
     assert_eq!(rt; seeks, [100, 252]);
     let lengths = [heads.as_slice()[0].nbytes, heads.as_slice()[1].nbytes];
     assert_eq!(rt; lengths, [108, 52]);
-    Ok(())
-}
-
-// The key of an object `s` of this cycle.
-fn key(alloc: Global, cycle: u16) -> Result<KeyHead, Fail> {
-    Ok(KeyHead {
-        nbytes: 60,
-        version: 4,
-        objlen: 20,
-        datime: 1,
-        keylen: 40,
-        cycle,
-        seek: 208,
-        pdir: 100,
-        class: Name::from_slice(alloc, b"TObjString")?,
-        name: Name::from_slice(alloc, b"s")?,
-        title: Name::new(alloc),
-    })
-}
-
-#[test]
-fn keeps_the_greatest_cycle_first(rt: HostRuntime) -> Result<(), Fail> {
-    let mut table = KeyTable::new(rt.alloc());
-    for cycle in 1..3 {
-        table.reserve_one()?;
-        if table.find(b"s", Some(cycle)).is_none() {
-            table.insert(key(rt.alloc(), cycle)?);
-        }
-    }
-    assert_eq!(rt; table.count(), 2);
-    assert_eq!(rt; table.head(0).map_or(0, |head| head.cycle), 2);
-    assert_eq!(rt; table.find(b"s", None).map_or(0, |head| head.cycle), 2);
-    assert_eq!(rt; table.next_cycle(b"s"), 3);
-    assert_eq!(rt; table.next_cycle(b"t"), 1);
-    assert!(rt; table.remove(b"s", 2).is_some());
-    assert_eq!(rt; table.next_cycle(b"s"), 2);
     Ok(())
 }
 
