@@ -14,8 +14,8 @@ pub fn one_listing()
     ensures { IsListedOnce }
 {}
 
-/// What is written of a key list spells its heads, where each fits what is written of it and its
-/// record holds it. So such a list is read as it was written.
+/// What is written of a key list spells its heads, where each fits what is written of it and its record holds it. So such
+/// a list is read as it was written.
 pub fn written_key_list_is_spelled()
     ensures { WrittenKeysAreSpelled }
 {}

@@ -1,6 +1,5 @@
-//! The header of a file, and the record of its directory: both are read and written, in both forms.
-//! Beside them stand the kinds of faults of a file, the reasons against writing to it, and the
-//! identifier that its name gives it.
+//! The header of a file, and the record of its directory: both are read and written, in both forms. Beside them stand the
+//! kinds of faults of a file, the reasons against writing to it, and the identifier that its name gives it.
 #![tactic(auto)]
 
 mod dir;

@@ -69,8 +69,8 @@ fn put_back(head: &FileHead, into: &mut Bytes) -> Result<(), NoMemory>
     into.put(&head.uuid)
 }
 
-/// Writes a header at the end of some bytes, up to place 100: its places have 8 bytes each from
-/// version 1,000,000 on and else 4, which they fit, and zero bytes stand behind its UUID.
+/// Writes a header at the end of some bytes, up to place 100: its places have 8 bytes each from version 1,000,000 on and
+/// else 4, which they fit, and zero bytes stand behind its UUID.
 pub fn write_head(head: &FileHead, into: &mut Bytes) -> Result<(), NoMemory>
     requires { FitsHead head.now }
     ensures { Appends into.old into.new (written_head head.now) result }
@@ -81,9 +81,8 @@ pub fn write_head(head: &FileHead, into: &mut Bytes) -> Result<(), NoMemory>
     put_zeros(head.version >= 1_000_000, into)
 }
 
-/// Writes a directory record at the end of some bytes: the places with 8 bytes each where its
-/// version is above 1000 and else with 4, which they fit, and in that form twelve reserved zero
-/// bytes behind the UUID.
+/// Writes a directory record at the end of some bytes: the places with 8 bytes each where its version is above 1000 and
+/// else with 4, which they fit, and in that form twelve reserved zero bytes behind the UUID.
 pub fn write_dir(dir: &DirRecord, into: &mut Bytes) -> Result<(), NoMemory>
     requires { FitsDir dir.now }
     ensures { Appends into.old into.new (written_dir dir.now) result }

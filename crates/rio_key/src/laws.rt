@@ -19,8 +19,8 @@ pub fn key_in_front()
     ensures from_front { KeyFromFront }
 {}
 
-/// What is written of a key spells it, where its numbers and texts fit their fields, its record
-/// holds it and it holds its title. So such a key is read as it was written.
+/// What is written of a key spells it, where its numbers and texts fit their fields, its record holds it and it holds its
+/// title. So such a key is read as it was written.
 pub fn written_key_is_spelled()
     ensures { WrittenKeyIsSpelled }
 {}

@@ -62,9 +62,9 @@ fn put_numbers(head: &KeyHead, into: &mut Bytes) -> Result<(), NoMemory>
     put_place(head.version, head.pdir, into)
 }
 
-/// Writes a key at the end of some bytes, from its first byte to its title's end: its numbers, the
-/// places with 8 bytes each where its version is above 1000 and else with 4, and its class, its
-/// name and its title. Each text's length fits four bytes and each place its field.
+/// Writes a key at the end of some bytes, from its first byte to its title's end: its numbers, the places with 8 bytes
+/// each where its version is above 1000 and else with 4, and its class, its name and its title. Each text's length fits four bytes and
+/// each place its field.
 pub fn write_key(head: &KeyHead, into: &mut Bytes) -> Result<(), NoMemory>
     requires { FitsKey head.now }
     ensures { Appends into.old into.new (written_key head.now) result }
