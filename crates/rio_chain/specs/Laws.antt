@@ -1,5 +1,6 @@
 -- What holds of the segments of every file.
-use Rattle.std.specs.Prelude.{◌≡◌, ℕ, List}
+use Rattle.std.specs.Prelude.{◌≡◌, ◌⊎◌, ℕ, List}
+use Rattle.rio_num.specs.At.{AreBytes}
 use Rattle.rio_chain.specs.Segments.{Link, IsChain, BreaksAt}
 
 -- a file has one list of segments
@@ -13,3 +14,7 @@ HasOneBreak = (file : List ℕ) (p q : ℕ) → BreaksAt p file → BreaksAt q f
 -- never both
 abbrev pub IsNeverBoth : Type 0
 IsNeverBoth = (file : List ℕ) (links : List Link) (place : ℕ) → IsChain links file → ¬ BreaksAt place file
+
+-- always one of them
+abbrev pub IsAlwaysOne : Type 0
+IsAlwaysOne = (file : List ℕ) → AreBytes file → ((links : List Link) × IsChain links file) ⊎ ((place : ℕ) × BreaksAt place file)

@@ -23,7 +23,7 @@ mod walking;
 
 pub use fault::{PlanFault, ReadFault, WalkFault};
 pub use kept::Chain;
-pub use laws::one_chain;
+pub use laws::{chain_or_break, one_chain};
 pub use segment::{Segment, Segments};
 pub use walking::walk;
 
