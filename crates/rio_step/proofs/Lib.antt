@@ -1,5 +1,6 @@
 pub mod ApartLaws
 pub mod ClosedLaws
+pub mod DeclaredLaws
 pub mod DeleteLaws
 mod Examples
 pub mod FitLaws

@@ -1,7 +1,7 @@
 //! Laws of steps and of runs.
 ghost use Rattle.rio_step.specs.Laws.{AllStayFit, ClosedHasNonePending, DeletesTakeOne, EachSaysItsReply, LowestIsTold, NamesStayApart, NothingIsLost, PutsAddOne, RefusedChangesNothing, RepliesSaySomething, RunsBeginAlike, RunsEndClosed, RunsHaveStates, SaidInParts, SavedKeepsTheRest};
 ghost use Rattle.rio_step.specs.Script.{LinesGiveCommands};
-ghost use Rattle.rio_step.specs.Statable.{ScriptsAreStatable};
+ghost use Rattle.rio_step.specs.Statable.{ClassesStayDeclared, ScriptsAreStatable};
 
 /// Of several refusals that hold the one of the lowest number is told, and none is told where none holds.
 pub fn lowest_is_told()
@@ -24,6 +24,12 @@ pub fn nothing_is_lost()
 /// If every object fits its class and every row its tree, they do so behind any command: also behind a declaration.
 pub fn all_stay_fit()
     ensures { AllStayFit }
+{}
+
+/// If the classes of a state are such as class commands have declared from no classes on, they are so behind any command
+/// that a script can state.
+pub fn classes_stay_declared()
+    ensures { ClassesStayDeclared }
 {}
 
 /// If no name is that of an object and of a tree, no command makes one so.
