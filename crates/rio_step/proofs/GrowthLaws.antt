@@ -21,7 +21,7 @@ record Grows (f g : Fitting) : Type 0 where
   number : f.number ≡ g.number
   fits : (slot : Slot) (labels after : Labels) → f.fits slot labels ≡ Some after → g.fits slot labels ≡ Some after
 
-then_some : {A B : Type 0} (k : A → Option B) (x : Option A) (b : B) → option_and_then k x ≡ Some b → (a : A) × (x ≡ Some a) × (k a ≡ Some b)
+pub then_some : {A B : Type 0} (k : A → Option B) (x : Option A) (b : B) → option_and_then k x ≡ Some b → (a : A) × (x ≡ Some a) × (k a ≡ Some b)
 then_some k None b e = absurd cc
 then_some k (Some a) b e = (a, refl, e)
 
