@@ -86,9 +86,6 @@ list_grows fs gs all any_pointer labels after e = absurd cc
 
 -- ---- objects
 
-Named : Type 0
-Named = List ℕ × Fitting
-
 NamedGrow : List (List ℕ × Fitting) → List (List ℕ × Fitting) → Type 0
 NamedGrow [] [] = Unit {0}
 NamedGrow [] (z ∷ zs) = ⊥

@@ -158,10 +158,6 @@ fields_write (f ∷ fs) (y ∷ ys) (w ∷ ws) [] known counters labels after e =
 
 -- ---- objects
 
-and_false : (b : Bool) → (b && false) ≡ true → ⊥
-and_false true e = absurd cc
-and_false false e = absurd cc
-
 module _ (classes : List ClassDef) (class : ClassDef) where
   abbrev more : List ClassDef
   more = classes ++ class ∷ []
