@@ -24,7 +24,7 @@ use Rattle.rio_machine.specs.declared.refusal.Refusal.TheVariants.{DoesNotFit, B
 use Rattle.rio_model.specs.Declaring.{declared}
 use Rattle.rio_step.proofs.ApartLaws.{none_at, not_refused}
 use Rattle.rio_step.proofs.GrowthLaws.{slot_more}
-use Rattle.rio_step.specs.Laws.{AllFit, AllStayFit}
+use Rattle.rio_step.specs.Laws.{AllFit, AllStayFit, FitsStay}
 use Rattle.rio_step.specs.Refusing.{FullMark, fill_row, is_bad_row, is_fit, is_unfit, object_class, put_value, refusal_of, refusals, rows_of_tree}
 use Rattle.rio_step.specs.Step.{by_refusal, new_tree, state_behind, step, tree_filled, tree_saved, with_tree, without_item}
 
@@ -72,6 +72,9 @@ module _ (classes : List ClassDef) (class : ClassDef) where
   rows_more branches (r ∷ rs) e =
       let parts = and_parts (row_fits classes branches r) (list_all (row_fits classes branches) rs) e in
       both _ _ (columns_more (columns_of branches) r [] parts.0) (rows_more branches rs parts.1)
+
+pub fits_stay : FitsStay
+fits_stay classes class own v e = stands_more classes class (kinded (Inline own)) v e
 
 all_pushed : (p : Row → Bool) (rows : List Row) (row : Row) → list_all p rows ≡ true → p row ≡ true → list_all p (rows ++ row ∷ []) ≡ true
 all_pushed p [] row all e = both _ _ e refl

@@ -15,3 +15,4 @@ pub mod ScriptLaws
 pub mod StepLaws
 pub mod TreeLaws
 mod WorkedRun
+pub mod WritingLaws

@@ -1,5 +1,5 @@
 //! Laws of steps and of runs.
-ghost use Rattle.rio_step.specs.Laws.{AllStayFit, ClosedHasNonePending, DeletesTakeOne, EachSaysItsReply, LowestIsTold, NamesStayApart, NothingIsLost, PutsAddOne, RefusedChangesNothing, RepliesSaySomething, RunsBeginAlike, RunsEndClosed, RunsHaveStates, SaidInParts, SavedKeepsTheRest};
+ghost use Rattle.rio_step.specs.Laws.{AllStayFit, ClosedHasNonePending, DeletesTakeOne, EachSaysItsReply, FitsStay, LowestIsTold, NamesStayApart, NothingIsLost, PutsAddOne, RefusedChangesNothing, RepliesSaySomething, RunsBeginAlike, RunsEndClosed, RunsHaveStates, SaidInParts, SavedKeepsTheRest, WrittenStays};
 ghost use Rattle.rio_step.specs.Script.{LinesGiveCommands};
 ghost use Rattle.rio_step.specs.Statable.{ClassesStayDeclared, ScriptsAreStatable};
 
@@ -19,6 +19,12 @@ pub fn steps_change_one_thing()
 /// No command but a delete takes an object or a row away, or changes one.
 pub fn nothing_is_lost()
     ensures { NothingIsLost }
+{}
+
+/// With one class more a value that fits still fits, and what is written for it is the same.
+pub fn values_stay()
+    ensures fits { FitsStay }
+    ensures written { WrittenStays }
 {}
 
 /// If every object fits its class and every row its tree, they do so behind any command: also behind a declaration.
