@@ -2,3 +2,4 @@ pub mod Closed
 pub mod Grammar
 pub mod KeyList
 pub mod Listing
+pub mod Unborn
