@@ -1,3 +1,4 @@
 mod Examples
+mod Vectors
 pub mod OneReason
 pub mod OneState
