@@ -1,4 +1,6 @@
 mod Examples
-mod Vectors
+pub mod MeetsNoReason
+pub mod NoReason
 pub mod OneReason
 pub mod OneState
+mod Vectors

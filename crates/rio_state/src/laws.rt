@@ -1,5 +1,5 @@
 //! Laws of what files read as.
-ghost use Rattle.rio_state.specs.Laws.{HasOneReason, ReadsAsOneState};
+ghost use Rattle.rio_state.specs.Laws.{HasOneReason, ReadsAsOneState, ReadsMeetsNoReason};
 
 /// A file reads as at most one state.
 pub fn one_state()
@@ -9,4 +9,10 @@ pub fn one_state()
 /// A file has one first reason against writing to it, or none.
 pub fn one_reason()
     ensures { HasOneReason }
+{}
+
+/// Where a file reads as a state its header breaks no rule, and nothing stands against writing to it but too many items or
+/// want of room.
+pub fn meets_no_reason()
+    ensures { ReadsMeetsNoReason }
 {}
