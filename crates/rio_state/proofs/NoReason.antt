@@ -19,11 +19,11 @@ both : (a b : Bool) → (a && b) ≡ true → (a ≡ true) × (b ≡ true)
 both true b e = (refl, e)
 both false b e = absurd cc
 
-neither : (a b : Bool) → (a || b) ≡ false → (a ≡ false) × (b ≡ false)
+pub neither : (a b : Bool) → (a || b) ≡ false → (a ≡ false) × (b ≡ false)
 neither true b e = absurd cc
 neither false b e = (refl, e)
 
-not_true : (b : Bool) → not b ≡ true → b ≡ false
+pub not_true : (b : Bool) → not b ≡ true → b ≡ false
 not_true true e = absurd cc
 not_true false e = refl
 
@@ -59,11 +59,11 @@ any_behind t (s ∷ before) r a b =
     let rest = any_behind t before r x.1 b in
     λ i. x.0 i || rest i
 
-item_turned : (r s : KeyedRecord) → has_item (item_of_key r.head) s ≡ has_item (item_of_key s.head) r
+pub item_turned : (r s : KeyedRecord) → has_item (item_of_key r.head) s ≡ has_item (item_of_key s.head) r
 item_turned r s = λ i. bytes_eq-sym s.head.name r.head.name i && eqb_turned s.head.cycle r.head.cycle i
 
 -- no key among these has the item of a record
-abbrev is_new : List KeyedRecord → KeyedRecord → Bool
+abbrev pub is_new : List KeyedRecord → KeyedRecord → Bool
 is_new before s = not (list_any (has_item (item_of_key s.head)) before)
 
 all_new : (rs : List KeyedRecord) → list_all (is_new []) rs ≡ true
@@ -88,16 +88,16 @@ kept false p r rs e = (refl, e)
 
 -- ---- keys
 
-abbrev IsNamed : KeyedRecord → Bool
+abbrev pub IsNamed : KeyedRecord → Bool
 IsNamed r = is_named_key r.head
 
-abbrev is_object_read : Beside → KeyedRecord → Bool
+abbrev pub is_object_read : Beside → KeyedRecord → Bool
 is_object_read beside r = is_some (object_in beside.classes r)
 
-abbrev is_tree_read : Beside → KeyedRecord → Bool
+abbrev pub is_tree_read : Beside → KeyedRecord → Bool
 is_tree_read beside r = is_some (tree_of beside.classes beside.records (tree_records beside.tops) r)
 
-abbrev is_apart : Beside → KeyedRecord → Bool
+abbrev pub is_apart : Beside → KeyedRecord → Bool
 is_apart beside r = not (is_mixed_name beside.tops r.head.name)
 
 no_key : (beside : Beside) (before : List KeyedRecord) (r : KeyedRecord) → IsNamed r ≡ true → is_bad_object beside r ≡ false
@@ -133,7 +133,7 @@ no_keys beside before (r ∷ rs) named apart objects trees distinct new =
     (no_key beside before r n.0 o.0 t.0 w.0 a.0)
     (no_keys beside (before ++ r ∷ []) rs n.1 a.1 o.1 t.1 d.1 next)
 
-abbrev beside_of : List KeyedRecord → Beside
+abbrev pub beside_of : List KeyedRecord → Beside
 beside_of records = record { classes = state_classes (info_key records); records = records; tops = top_keys records }
 
 -- records that stand for a state give no reason

@@ -26,3 +26,7 @@ pub record HasRoomReasonsAlone (file : List ℕ) : Type 0 where
 
 abbrev pub ReadsMeetsNoReason : Type 0
 ReadsMeetsNoReason = (file : List ℕ) (m : State) → Reads file m → HasRoomReasonsAlone file
+
+-- and where nothing stands against writing but want of room, a file whose header breaks no rule reads as a state
+abbrev pub NoReasonIsRead : Type 0
+NoReasonIsRead = (file : List ℕ) (found : Option ReasonAt) → IsFirstReason file found → IsOfRoom found → (m : State) × Reads file m

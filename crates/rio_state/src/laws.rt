@@ -1,5 +1,5 @@
 //! Laws of what files read as.
-ghost use Rattle.rio_state.specs.Laws.{HasOneReason, ReadsAsOneState, ReadsMeetsNoReason};
+ghost use Rattle.rio_state.specs.Laws.{HasOneReason, NoReasonIsRead, ReadsAsOneState, ReadsMeetsNoReason};
 
 /// A file reads as at most one state.
 pub fn one_state()
@@ -15,4 +15,9 @@ pub fn one_reason()
 /// want of room.
 pub fn meets_no_reason()
     ensures { ReadsMeetsNoReason }
+{}
+
+/// A file of which it is told that nothing stands against writing but too many items or want of room reads as a state.
+pub fn no_reason_is_read()
+    ensures { NoReasonIsRead }
 {}

@@ -5,4 +5,4 @@
 
 mod laws;
 
-pub use laws::{meets_no_reason, one_reason, one_state};
+pub use laws::{meets_no_reason, no_reason_is_read, one_reason, one_state};
