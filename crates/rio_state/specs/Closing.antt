@@ -17,7 +17,8 @@ end_limit = 1999999996
 -- ---- what a close writes
 
 -- What a file keeps, as far as a close writes of it: the file's name, the heads of its objects and trees, and how many records
--- are kept in all: the first record, the class list that counts, those of objects and trees, and the baskets of the trees.
+-- are kept in all: the first record, the class list that counts, those of objects and trees, and the baskets of the trees. (No
+-- tree is read or written yet, so there are no baskets.)
 pub record KeptRecords : Type 0 where
   pub name : List ℕ
   pub heads : List KeyHead
@@ -31,7 +32,8 @@ list_length kept = head_length (codes "TFile") kept.name + 4 + sum_by (λ h. len
 abbrev pub free_length : KeptRecords → ℕ
 free_length kept = head_length (codes "TFile") kept.name + 10 * (kept.count + 2)
 
--- the records that a close would write now, each without its zero bytes at the end; no tree has pending rows
+-- the records that a close would write now, each without its zero bytes at the end: no tree has pending rows, so there is no
+-- basket and no header among them
 abbrev pub closing_lengths : KeptRecords → List ℕ
 closing_lengths kept = list_length kept ∷ free_length kept ∷ []
 
@@ -76,6 +78,6 @@ unfoldable pub is_full : List Segment → List ℕ → ℕ → Bool
 is_full segments lengths need = nat_lt end_limit (lay_all lengths segments + need)
 
 -- How much a file holds: END and what a close needs, with three bytes for the zero bytes of each record. A command raises it by
--- no more than its cost.
+-- no more than its cost. Trees will count in it with their next headers and their open baskets; none is written yet.
 unfoldable pub held_of : List Link → ℕ
 held_of links = chain_end links + sum_by (λ n. n + 3) (closing_lengths (kept_in links))

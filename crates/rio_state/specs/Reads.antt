@@ -76,8 +76,8 @@ pub record ReadsAsMade (file : List ℕ) (m : State) : Type 0 where
   pub records : AreRecordsOf (keyed_records links) m
 
 -- a file reads as a state by the walk; one that isn't made yet as the empty state
-abbrev pub Reads : List ℕ → State → Type 0
-Reads file m = MatchBool (is_unborn file) (m ≡ empty_state) (ReadsAsMade file m)
+abbrev pub ReadsAs : List ℕ → State → Type 0
+ReadsAs file m = MatchBool (is_unborn file) (m ≡ empty_state) (ReadsAsMade file m)
 
 -- ---- by the key list
 
@@ -97,7 +97,8 @@ pub record IsFreeRecordAt (links : List Link) (place : ℕ) : Type 0 where
 
 -- A closed file reads as the state by its key list: header, directory record and key list break no rule; each head of the list
 -- is the key of a record of the file, the class list is where the header says, and these records stand for the state. The
--- header says END, and the free record is written for the gaps.
+-- header says END, and the free record is written for the gaps. (The class list of a record of the chain is never compressed,
+-- and it has a reading where it stands for classes; so the file breaks no rule of the class list either.)
 pub record ReadsClosed (file : List ℕ) (m : State) : Type 0 where
   pub closed : Closed
   pub closed_is : closed_file file ≡ Ok closed
