@@ -15,7 +15,7 @@ use Rattle.rio_state.specs.Reasons.{Beside, ReasonAt, directory_reasons, is_bad_
 
 -- ---- truth values
 
-both : (a b : Bool) → (a && b) ≡ true → (a ≡ true) × (b ≡ true)
+pub both : (a b : Bool) → (a && b) ≡ true → (a ≡ true) × (b ≡ true)
 both true b e = (refl, e)
 both false b e = absurd cc
 

@@ -13,7 +13,7 @@ use Rattle.rio_machine.proofs.OrderLaws.{items_total, names_total}
 use Rattle.rio_machine.specs.State.{State, empty_state, item_order, name_order}
 use Rattle.rio_state.proofs.Collected.{held, item_same, name_same, pairs}
 use Rattle.rio_state.proofs.NoReason.{beside_of}
-use Rattle.rio_state.proofs.Unreasoned.{directory_kept, if_none, keys_kept, nil_two}
+use Rattle.rio_state.proofs.Unreasoned.{directory_kept, if_none, keys_kept, nil_two, not_false}
 use Rattle.rio_state.specs.Contents.{HasStateClasses, object_in, state_classes, tree_of}
 use Rattle.rio_state.specs.KeyedRecords.{KeyedRecord, has_item, info_key, is_elsewhere, is_mixed_name, item_of_key, keyed_records, object_records, top_keys, tree_records}
 use Rattle.rio_state.specs.Laws.{IsOfRoom, NoReasonIsRead}
@@ -108,10 +108,6 @@ listed_is_true : (listed : Bool) (P : Type 0) → MatchBool listed P (¬ P) → 
 listed_is_true true P is e = is
 listed_is_true false P is e = absurd cc
 
-not_listed : (b : Bool) → not b ≡ false → b ≡ true
-not_listed true e = refl
-not_listed false e = absurd cc
-
 records_stand : (listed : Bool) (records : List KeyedRecord) → MatchBool listed (HasStateClasses (info_key records)) (¬ HasStateClasses (info_key records))
     → state_reasons listed records ≡ [] → AreRecordsOf records (state_of records)
 unfolding state_reasons
@@ -123,7 +119,7 @@ records_stand listed records is e =
     let keys = keys_reasons (beside_of records) [] tops in
     let x = nil_two (directory_reasons records) (info ++ keys) e in
     let y = nil_two info keys x.1 in
-    let told = not_listed listed (if_none (not listed) (info_place records) BadInfo y.0) in
+    let told = not_false listed (if_none (not listed) (info_place records) BadInfo y.0) in
     let kept = keys_kept (beside_of records) [] tops y.1 in
     let stand : StandsForState records (info_key records) tops (state_of records) = record {
       listed = listed_is_true listed (HasStateClasses (info_key records)) is told;

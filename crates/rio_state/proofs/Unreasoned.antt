@@ -4,12 +4,12 @@ use Rattle.std.specs.List.{filter, list_all, list_any}
 use Rattle.rio_num.specs.Word.{is_item_text}
 use Rattle.rio_head.specs.declared.reason.Reason.{Reason}
 use Rattle.rio_head.specs.declared.reason.Reason.TheVariants.{OtherDirectory, BadName, BadKey, BadObject, BadTree, DoubleKey, MixedName}
-use Rattle.rio_state.proofs.NoReason.{IsNamed, is_apart, is_new, is_object_read, is_tree_read, item_turned, neither, not_true}
+use Rattle.rio_state.proofs.NoReason.{IsNamed, both, is_apart, is_new, is_object_read, is_tree_read, item_turned, neither, not_true}
 use Rattle.rio_state.specs.KeyedRecords.{KeyedRecord, has_item, is_elsewhere, is_mixed_name, is_tree_key, is_tree_record, item_of_key, object_records}
 use Rattle.rio_state.specs.Reads.{are_distinct}
 use Rattle.rio_state.specs.Reasons.{Beside, ReasonAt, directory_reasons, is_bad_object, is_bad_tree, key_reasons, keys_reasons, reason_if}
 
-not_false : (b : Bool) → not b ≡ false → b ≡ true
+pub not_false : (b : Bool) → not b ≡ false → b ≡ true
 not_false true e = refl
 not_false false e = absurd cc
 
@@ -40,15 +40,11 @@ any_split t (s ∷ before) r e =
     let y = any_split t before r x.1 in
     ((λ i. x.0 i || y.0 i), y.1)
 
-all_two : (a b : Bool) → (a && b) ≡ true → (a ≡ true) × (b ≡ true)
-all_two true b e = (refl, e)
-all_two false b e = absurd cc
-
 none_later : (before : List KeyedRecord) (r : KeyedRecord) (rs : List KeyedRecord) → list_all (is_new (before ++ r ∷ [])) rs ≡ true
     → (list_any (has_item (item_of_key r.head)) rs ≡ false) × (list_all (is_new before) rs ≡ true)
 none_later before r [] e = (refl, refl)
 none_later before r (s ∷ rs) e =
-    let x = all_two (is_new (before ++ r ∷ []) s) (list_all (is_new (before ++ r ∷ [])) rs) e in
+    let x = both (is_new (before ++ r ∷ []) s) (list_all (is_new (before ++ r ∷ [])) rs) e in
     let t = has_item (item_of_key s.head) in
     let y = any_split t before r (not_true (list_any t (before ++ r ∷ [])) x.0) in
     let rest = none_later before r rs x.1 in

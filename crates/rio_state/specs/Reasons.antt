@@ -90,7 +90,7 @@ room_reasons links =
 
 -- ---- the first
 
--- the segments have a reading or they don't, and this is the first of all reasons
+-- the file has segments; whether its classes have a reading is told, and this is the first of all reasons
 pub record IsReasonOfChain (file : List ℕ) (found : Option ReasonAt) : Type 0 where
   pub links : List Link
   pub chain : IsChain links file
