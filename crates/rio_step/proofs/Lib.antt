@@ -13,6 +13,7 @@ mod Refusals
 pub mod RunLaws
 pub mod ScriptLaws
 pub mod StepLaws
+pub mod StorableLaws
 pub mod TreeLaws
 mod WorkedRun
 pub mod WritingLaws

@@ -418,5 +418,9 @@ module _ (classes : List ClassDef) (class : ClassDef) where
       ap (λ n. (writing_of more v).bytes (kinded (Inline n))) (sym known.class ∙ named) ∙ sym (known.bytes (kinded (Inline own)) [] there.0 there.1) ∙ ap (λ n. (writing_of classes v).bytes (kinded (Inline n))) (sym named) in
       λ i. (bytes i start no_words).0
 
+pub slot_written : (classes : List ClassDef) (class : ClassDef) (v : Value) (slot : Slot) (labels after : Labels) → (fitting_of classes v).fits slot labels ≡ Some after → (writing_of (classes ++ class ∷ []) v).bytes slot ≡ (writing_of classes v).bytes slot
+unfolding Same
+slot_written classes class v slot labels after e = sym ((each_same classes class v).bytes slot labels after e)
+
 pub written_stays : WrittenStays
 written_stays classes class own v start e = written_same classes class own v start e

@@ -1,6 +1,7 @@
 //! Laws of steps and of runs.
 ghost use Rattle.rio_step.specs.Laws.{AllStayFit, ClosedHasNonePending, DeletesTakeOne, EachSaysItsReply, FitsStay, LowestIsTold, NamesStayApart, NothingIsLost, PutsAddOne, RefusedChangesNothing, RepliesSaySomething, RunsBeginAlike, RunsEndClosed, RunsHaveStates, SaidInParts, SavedKeepsTheRest, WrittenStays};
 ghost use Rattle.rio_step.specs.Script.{LinesGiveCommands};
+ghost use Rattle.rio_step.specs.Storable.{StaysStorable};
 ghost use Rattle.rio_step.specs.Statable.{ClassesStayDeclared, ScriptsAreStatable};
 
 /// Of several refusals that hold the one of the lowest number is told, and none is told where none holds.
@@ -36,6 +37,12 @@ pub fn all_stay_fit()
 /// that a script can state.
 pub fn classes_stay_declared()
     ensures { ClassesStayDeclared }
+{}
+
+/// The state of a file that isn't made yet is one that a file can hold, and so is the state behind any command that a script
+/// can state: names, cycles, classes, objects and trees are as a file has them, and pass no limit.
+pub fn stays_storable()
+    ensures { StaysStorable }
 {}
 
 /// If no name is that of an object and of a tree, no command makes one so.
