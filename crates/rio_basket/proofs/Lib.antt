@@ -1,3 +1,4 @@
 pub mod OffsetLaws
 pub mod LaidLaws
 pub mod PlaceLaws
+pub mod OpenLaws

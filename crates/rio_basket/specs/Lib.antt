@@ -1,3 +1,4 @@
 pub mod Entries
 pub mod Laid
+pub mod Open
 pub mod Stored

@@ -2,7 +2,8 @@
 //!
 //! A basket is a record of the class TBasket whose entries all have one length, or stand behind offsets. [`read_basket`]
 //! gives its entries, or the first fault with its place. A [`StoredBasket`] keeps the basket's bytes and shows each entry
-//! in its place, with no copy. `specs/Stored.antt` has the rules of the key and the head, `specs/Entries.antt` those of
+//! in its place, with no copy. A [`Basket`] is filled entry by entry, and tells when it is to be written.
+//! `specs/Stored.antt` has the rules of the key and the head, `specs/Entries.antt` those of
 //! the offsets and where each entry stands.
 #![tactic(auto)]
 
@@ -10,10 +11,12 @@ mod entries;
 mod fault;
 mod layout;
 mod offsets;
+mod open;
 mod stored;
 
 pub use entries::{Entries, read_basket};
 pub use fault::BasketFault;
+pub use open::Basket;
 pub use stored::StoredBasket;
 
 #[cfg(test)]

@@ -1,5 +1,5 @@
 //! Baskets of a file, good and bad.
-use crate::{BasketFault, Entries, StoredBasket, read_basket};
+use crate::{Basket, BasketFault, Entries, StoredBasket, read_basket};
 use rio_num::Bytes;
 use std::alloc::Global;
 use std::test::Fail;
@@ -71,5 +71,23 @@ fn reads_entries_with_offsets(rt: HostRuntime) -> Result<(), Fail> {
     let bytes = joined(rt.alloc(), &parts)?;
     let entries = read_basket(rt.alloc(), bytes.as_slice(), true)?;
     assert!(rt; are(&entries, &[b"", b"\x3f\x80\0\0\x40\0\0\0\x40\x40\0\0", b""]));
+    Ok(())
+}
+
+#[test]
+fn fills_a_basket(rt: HostRuntime) -> Result<(), Fail> {
+    let mut basket = Basket::new(rt.alloc(), true);
+    assert!(rt; basket.takes(40_000));
+    basket.reserve(31_999)?;
+    basket.add(b"ab")?;
+    basket.add(b"")?;
+    basket.add(b"cde")?;
+    assert_eq!(rt; basket.count(), 3);
+    assert!(rt; basket.entry(0) == Some(b"ab".as_slice()));
+    assert!(rt; basket.entry(1) == Some(b"".as_slice()));
+    assert!(rt; basket.entry(2) == Some(b"cde".as_slice()));
+    assert!(rt; basket.entry(3).is_none());
+    assert!(rt; basket.takes(31_995));
+    assert!(rt; !basket.takes(31_996));
     Ok(())
 }

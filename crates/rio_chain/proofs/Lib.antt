@@ -1,3 +1,4 @@
+pub mod Always
 pub mod BehindSteps
 pub mod Chains
 pub mod Finding

@@ -19,10 +19,10 @@ pub record Sized (file : List ℕ) (place word : ℕ) (link : Link) : Type 0 whe
   pub aligned : link_length link % 4 ≡ 0
   pub within : place + link_length link ≤ length file
 
-small_length : (n : ℕ) → n < 2 ^ 31 → segment_length_of n ≡ n
+pub small_length : (n : ℕ) → n < 2 ^ 31 → segment_length_of n ≡ n
 small_length n lt = grind (arith, nat_tests)
 
-large_length : (n : ℕ) → 2 ^ 31 ≤ n → segment_length_of n ≡ 2 ^ 32 - n
+pub large_length : (n : ℕ) → 2 ^ 31 ≤ n → segment_length_of n ≡ 2 ^ 32 - n
 large_length n le = grind (arith, nat_tests)
 
 pub sized : (file : List ℕ) (place word : ℕ) (link : Link) → HasWord file place word → HoldsLink file place link → Sized file place word link

@@ -299,7 +299,7 @@ pub record Keeps (segments new : List Segment) (gaps : List FreeGap) (end count 
   pub end_is : end ≡ file_end new
   pub live_is : count ≡ record_count new
 
-gaps_end : (segments : List Segment) (place n : ℕ) → gaps_in (segments ++ Record place n ∷ []) ≡ gaps_in segments
+pub gaps_end : (segments : List Segment) (place n : ℕ) → gaps_in (segments ++ Record place n ∷ []) ≡ gaps_in segments
 gaps_end [] place n = refl
 gaps_end (Record p m ∷ segments) place n = gaps_end segments place n
 gaps_end (Gap p m ∷ segments) place n = ap (λ (l : List FreeGap). gap_of p m ∷ l) (gaps_end segments place n)

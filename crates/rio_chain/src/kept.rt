@@ -45,12 +45,14 @@ impl Model for Chain {
 
 impl Chain {
     ghost use Rattle.std.specs.Prelude.{◌≡◌, ◌+◌, ◌<◌, ◌≤◌, max, length, OnOk, OnErr, IfOk};
+    ghost use Rattle.rio_chain.specs.Adjoining.{AreSegments};
     ghost use Rattle.rio_chain.specs.Placing.{file_end, gaps_in, record_count};
 
     /// END: the place behind the last segment.
     pub fn end(&self) -> u64
         ensures end { result ≡ file_end self.now.segments }
         ensures low { result ≤ 1999999996 }
+        ensures shape { AreSegments self.now.segments }
     {
         self.end
     }

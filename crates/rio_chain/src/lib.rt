@@ -23,7 +23,7 @@ mod walking;
 
 pub use fault::{PlanFault, ReadFault, WalkFault};
 pub use kept::Chain;
-pub use laws::one_chain;
+pub use laws::{chain_or_break, laid_by_puts, one_chain, record_key};
 pub use segment::{Segment, Segments};
 pub use walking::walk;
 

@@ -3,3 +3,4 @@ pub mod Grammar
 pub mod KeyList
 pub mod Listing
 pub mod Table
+pub mod Unborn

@@ -1,7 +1,7 @@
 //! A key list is read.
 use crate::{KeyTable, read_key_list, write_key_list};
 use rio_key::KeyHead;
-use rio_num::{Bytes, Name};
+use rio_num::{Bytes, Name, NoMemory};
 use std::alloc::Global;
 use std::test::Fail;
 
@@ -24,7 +24,7 @@ fn reads_the_heads_of_a_key_list(rt: HostRuntime) -> Result<(), Fail> {
 }
 
 // The key of an object `s` of this cycle.
-fn key(alloc: Global, cycle: u16) -> Result<KeyHead, Fail> {
+fn key(alloc: Global, cycle: u16) -> Result<KeyHead, NoMemory> {
     Ok(KeyHead {
         nbytes: 60,
         version: 4,
@@ -40,18 +40,27 @@ fn key(alloc: Global, cycle: u16) -> Result<KeyHead, Fail> {
     })
 }
 
+// Puts a key whose name and cycle are new.
+fn put(table: &mut KeyTable, head: KeyHead) -> Result<(), NoMemory> {
+    table.reserve_one()?;
+    if table.find(head.name.as_slice(), Some(head.cycle)).is_none() {
+        table.insert(head);
+    }
+    Ok(())
+}
+
+fn cycle_of(head: Option<&KeyHead>) -> u16 {
+    head.map_or(0, |head| head.cycle)
+}
+
 #[test]
 fn keeps_the_greatest_cycle_first(rt: HostRuntime) -> Result<(), Fail> {
     let mut table = KeyTable::new(rt.alloc());
-    for cycle in 1..3 {
-        table.reserve_one()?;
-        if table.find(b"s", Some(cycle)).is_none() {
-            table.insert(key(rt.alloc(), cycle)?);
-        }
-    }
+    put(&mut table, key(rt.alloc(), 1)?)?;
+    put(&mut table, key(rt.alloc(), 2)?)?;
     assert_eq!(rt; table.count(), 2);
-    assert_eq!(rt; table.head(0).map_or(0, |head| head.cycle), 2);
-    assert_eq!(rt; table.find(b"s", None).map_or(0, |head| head.cycle), 2);
+    assert_eq!(rt; cycle_of(table.head(0)), 2);
+    assert_eq!(rt; cycle_of(table.find(b"s", None)), 2);
     assert_eq!(rt; table.next_cycle(b"s"), 3);
     assert_eq!(rt; table.next_cycle(b"t"), 1);
     assert!(rt; table.remove(b"s", 2).is_some());

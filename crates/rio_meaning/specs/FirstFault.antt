@@ -1,14 +1,9 @@
 -- The rules of a file that a verb tests, and the first of them that the file breaks.
-use Rattle.std.specs.Prelude.{ℕ, List, length, Option, None, Bool, ◌==◌, ◌||◌, nat_lt, if◌then◌else◌}
-use Rattle.byteorder.specs.Endian.{big_number}
+use Rattle.std.specs.Prelude.{ℕ, List, Option}
 use Rattle.rio_head.specs.declared.fault.HeadFault.{HeadFault}
-use Rattle.rio_head.specs.Head.{head_at}
 use Rattle.rio_dir.specs.Closed.{closed_file, fault_of}
+use Rattle.rio_dir.specs.Unborn.{header_fault}
 use Rattle.rio_meaning.specs.Described.{described_file}
-
--- a file that isn't made yet: it has fewer than four bytes, or its first word is zero
-abbrev pub is_unborn : List ℕ → Bool
-is_unborn file = nat_lt (length file) 4 || (big_number 4 file == 0)
 
 -- How far a verb tests a file before it does anything: the header alone, where the file is made; or that the file is closed,
 -- with its directory record and its key list; or also the class list.
@@ -19,6 +14,6 @@ pub data Tests : Type 0 where
 
 -- the first rule that is broken of those that are tested, and the place where
 abbrev pub first_fault : Tests → List ℕ → Option HeadFault
-first_fault HeaderAlone file = if is_unborn file then None else fault_of (head_at file)
+first_fault HeaderAlone file = header_fault file
 first_fault ToKeyList file = fault_of (closed_file file)
 first_fault ToClassList file = fault_of (described_file file)

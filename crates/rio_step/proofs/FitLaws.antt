@@ -76,7 +76,7 @@ module _ (classes : List ClassDef) (class : ClassDef) where
   abbrev more : List ClassDef
   more = classes ++ class ∷ []
 
-  body_more : (name : List ℕ) (version : ℤ) (b : Body) → declared_body classes name version ≡ Some b → declared_body more name version ≡ Some b
+  pub body_more : (name : List ℕ) (version : ℤ) (b : Body) → declared_body classes name version ≡ Some b → declared_body more name version ≡ Some b
   body_more name version b e =
       body_is more name version ∙ two_more (built_in name version) (find_in classes name version) (find_in more name version) b (found_more classes class name version) (sym (body_is classes name version) ∙ e)
 

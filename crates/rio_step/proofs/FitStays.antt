@@ -24,7 +24,7 @@ use Rattle.rio_machine.specs.declared.refusal.Refusal.TheVariants.{DoesNotFit, B
 use Rattle.rio_model.specs.Declaring.{declared}
 use Rattle.rio_step.proofs.ApartLaws.{none_at, not_refused}
 use Rattle.rio_step.proofs.GrowthLaws.{slot_more}
-use Rattle.rio_step.specs.Laws.{AllFit, AllStayFit}
+use Rattle.rio_step.specs.Laws.{AllFit, AllStayFit, FitsStay}
 use Rattle.rio_step.specs.Refusing.{FullMark, fill_row, is_bad_row, is_fit, is_unfit, object_class, put_value, refusal_of, refusals, rows_of_tree}
 use Rattle.rio_step.specs.Step.{by_refusal, new_tree, state_behind, step, tree_filled, tree_saved, with_tree, without_item}
 
@@ -35,7 +35,7 @@ both false b h k = absurd cc
 same_some : {A : Type 0} (x y : A) → Some x ≡ Some y → x ≡ y
 same_some x y e = ap (λ o. unwrap_or o x) e
 
-true_from_not : (b : Bool) → not b ≡ false → b ≡ true
+pub true_from_not : (b : Bool) → not b ≡ false → b ≡ true
 true_from_not true e = refl
 true_from_not false e = absurd cc
 
@@ -56,10 +56,10 @@ module _ (classes : List ClassDef) (class : ClassDef) where
   class_fit None v e = absurd cc
   class_fit (Some c) v e = stands_more (kinded (Inline c)) v e
 
-  object_more : (v : Value) → is_fit classes v ≡ true → is_fit more v ≡ true
+  pub object_more : (v : Value) → is_fit classes v ≡ true → is_fit more v ≡ true
   object_more v e = class_fit (object_class v) v e
 
-  columns_more : (cs : List Column) (row : List Value) (counters : Counters) → columns_fit classes cs row counters ≡ true → columns_fit more cs row counters ≡ true
+  pub columns_more : (cs : List Column) (row : List Value) (counters : Counters) → columns_fit classes cs row counters ≡ true → columns_fit more cs row counters ≡ true
   columns_more [] [] counters e = refl
   columns_more [] (v ∷ vs) counters e = absurd cc
   columns_more (c ∷ cs) [] counters e = absurd cc
@@ -67,11 +67,14 @@ module _ (classes : List ClassDef) (class : ClassDef) where
       let parts = and_parts (stands_in classes (column_slot counters c) v) (columns_fit classes cs vs (leaf_numbers_behind c v counters)) e in
       both _ _ (stands_more (column_slot counters c) v parts.0) (columns_more cs vs (leaf_numbers_behind c v counters) parts.1)
 
-  rows_more : (branches : List BranchDef) (rows : List Row) → list_all (row_fits classes branches) rows ≡ true → list_all (row_fits more branches) rows ≡ true
+  pub rows_more : (branches : List BranchDef) (rows : List Row) → list_all (row_fits classes branches) rows ≡ true → list_all (row_fits more branches) rows ≡ true
   rows_more branches [] e = refl
   rows_more branches (r ∷ rs) e =
       let parts = and_parts (row_fits classes branches r) (list_all (row_fits classes branches) rs) e in
       both _ _ (columns_more (columns_of branches) r [] parts.0) (rows_more branches rs parts.1)
+
+pub fits_stay : FitsStay
+fits_stay classes class own v e = stands_more classes class (kinded (Inline own)) v e
 
 all_pushed : (p : Row → Bool) (rows : List Row) (row : Row) → list_all p rows ≡ true → p row ≡ true → list_all p (rows ++ row ∷ []) ≡ true
 all_pushed p [] row all e = both _ _ e refl
@@ -139,7 +142,7 @@ without_fit m name cycle all = by (names_tree m name)
 
 -- ---- commands
 
-unrefused_fit : (m : State) (name : List ℕ) (v : Value) (mark : Option FullMark) → refusal_of m (Put name v) mark ≡ None → is_fit m.classes (put_value m v) ≡ true
+pub unrefused_fit : (m : State) (name : List ℕ) (v : Value) (mark : Option FullMark) → refusal_of m (Put name v) mark ≡ None → is_fit m.classes (put_value m v) ≡ true
 unfolding refusal_of
 unrefused_fit m name v mark e = true_from_not _ (not_refused (is_unfit m (Put name v)) DoesNotFit (none_at (refusals m (Put name v) mark) 10 e))
 
@@ -147,7 +150,7 @@ passed_row : (m : State) (row : Row) (t : Option Tree) (u : Tree) → t ≡ Some
 passed_row m row None u is e = absurd cc
 passed_row m row (Some t) u is e = ap (λ x. row_fits m.classes x.branches row) (sym (same_some t u is)) ∙ true_from_not _ e
 
-unrefused_row : (m : State) (name : List ℕ) (row : Row) (mark : Option FullMark) → refusal_of m (Fill name row) mark ≡ None → (t : Tree) → get m.trees name ≡ Some t → row_fits m.classes t.branches (fill_row m row) ≡ true
+pub unrefused_row : (m : State) (name : List ℕ) (row : Row) (mark : Option FullMark) → refusal_of m (Fill name row) mark ≡ None → (t : Tree) → get m.trees name ≡ Some t → row_fits m.classes t.branches (fill_row m row) ≡ true
 unfolding refusal_of
 unrefused_row m name row mark e t is =
     passed_row m (fill_row m row) (get m.trees name) t is (not_refused (is_bad_row m (Fill name row)) BadRow (none_at (refusals m (Fill name row) mark) 11 e))

@@ -12,7 +12,7 @@ use Rattle.rio_format.proofs.ValueCases.{Each, by_cases, fold_Int, fold_Bits32, 
 use Rattle.rio_format.proofs.WrittenValues.{fit_object}
 use Rattle.rio_format.specs.Bodies.{Counters}
 use Rattle.rio_format.specs.Fits.{Fitting, Labels, all_fit, back_fits, counted_slot, counted_so_far, fields_fit, fitting_of, fitting_step, link_fits, list_fits, may_point, object_may_stand, parts_fit, pointed_fits}
-use Rattle.rio_format.specs.Slots.{Field, Slot, kinded, based, flags, any_pointer, link, many, fields_of, is_word}
+use Rattle.rio_format.specs.Slots.{Field, Slot, kinded, based, flags, any_pointer, link, many, fields_of, can_be_word}
 use Rattle.rio_step.proofs.FitLaws.{and_true, derives_more, fields_more, put_more}
 
 -- the second fits wherever the first does, with the same labels behind it
@@ -21,7 +21,7 @@ record Grows (f g : Fitting) : Type 0 where
   number : f.number ≡ g.number
   fits : (slot : Slot) (labels after : Labels) → f.fits slot labels ≡ Some after → g.fits slot labels ≡ Some after
 
-then_some : {A B : Type 0} (k : A → Option B) (x : Option A) (b : B) → option_and_then k x ≡ Some b → (a : A) × (x ≡ Some a) × (k a ≡ Some b)
+pub then_some : {A B : Type 0} (k : A → Option B) (x : Option A) (b : B) → option_and_then k x ≡ Some b → (a : A) × (x ≡ Some a) × (k a ≡ Some b)
 then_some k None b e = absurd cc
 then_some k (Some a) b e = (a, refl, e)
 
@@ -86,9 +86,6 @@ list_grows fs gs all any_pointer labels after e = absurd cc
 
 -- ---- objects
 
-Named : Type 0
-Named = List ℕ × Fitting
-
 NamedGrow : List (List ℕ × Fitting) → List (List ℕ × Fitting) → Type 0
 NamedGrow [] [] = Unit {0}
 NamedGrow [] (z ∷ zs) = ⊥
@@ -132,8 +129,8 @@ module _ (classes : List ClassDef) (class : ClassDef) where
   -- ---- pointers
 
   point_more : (own : List ℕ × ℤ) (slot : Slot) → may_point classes own slot ≡ true → may_point more own slot ≡ true
-  point_more own (kinded (Pointer c)) e = and_true (is_word own.0) _ _ (derives_more classes class c own.0 own.1) e
-  point_more own any_pointer e = and_true (is_word own.0) _ _ (put_more classes class own.0) e
+  point_more own (kinded (Pointer c)) e = and_true (can_be_word own.0) _ _ (derives_more classes class c own.0 own.1) e
+  point_more own any_pointer e = and_true (can_be_word own.0) _ _ (put_more classes class own.0) e
   point_more own (kinded (Plain of)) e = absurd cc
   point_more own (kinded Counter) e = absurd cc
   point_more own (kinded (Fixed of count)) e = absurd cc

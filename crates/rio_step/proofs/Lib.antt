@@ -1,5 +1,6 @@
 pub mod ApartLaws
 pub mod ClosedLaws
+pub mod DeclaredLaws
 pub mod DeleteLaws
 mod Examples
 pub mod FitLaws
@@ -12,5 +13,7 @@ mod Refusals
 pub mod RunLaws
 pub mod ScriptLaws
 pub mod StepLaws
+pub mod StorableLaws
 pub mod TreeLaws
 mod WorkedRun
+pub mod WritingLaws

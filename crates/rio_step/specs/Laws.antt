@@ -4,7 +4,10 @@ use Rattle.std.specs.declared.cmp.Ordering.{Ordering}
 use Rattle.std.specs.FinMap.{FinMap, get}
 use Rattle.std.specs.List.{last_or, list_all}
 use Rattle.std.specs.Option.{IsSomeAnd, option_map}
+use Rattle.rio_types.specs.declared.class.ClassDef.{ClassDef}
 use Rattle.rio_value.specs.declared.value.Value.{Value}
+use Rattle.rio_format.specs.Fits.{fits}
+use Rattle.rio_format.specs.Written.{written_form}
 use Rattle.rio_machine.specs.RefusalText.{refusal_number}
 use Rattle.rio_machine.specs.Rows.{row_fits}
 use Rattle.rio_machine.specs.State.{NameAndCycle, Row, State, Tree, names_object, names_tree, next_cycle}
@@ -100,6 +103,18 @@ is_delete other = false
 pub record NothingIsLost : Type 0 where
   pub objects : (m : State) (c : Command) (mark : Option FullMark) → is_delete c ≡ false → Keeps m.objects (step m c mark).state.objects
   pub rows : (m : State) (c : Command) (mark : Option FullMark) → is_delete c ≡ false → KeepsRows m (step m c mark).state
+
+-- ---- one class more
+
+-- a value that fits its class still fits it
+abbrev pub FitsStay : Type 0
+FitsStay = (classes : List ClassDef) (class : ClassDef) (own : List ℕ) (v : Value)
+    → fits classes own v ≡ true → fits (classes ++ class ∷ []) own v ≡ true
+
+-- and what is written for it is the same
+abbrev pub WrittenStays : Type 0
+WrittenStays = (classes : List ClassDef) (class : ClassDef) (own : List ℕ) (v : Value) (start : ℕ)
+    → fits classes own v ≡ true → written_form (classes ++ class ∷ []) start v ≡ written_form classes start v
 
 -- every object fits its class, and every row of a tree its branches
 pub record AllFit (m : State) : Type 0 where

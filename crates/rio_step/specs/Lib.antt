@@ -1,3 +1,4 @@
+pub mod Costs
 pub mod Laws
 pub mod Mapping
 pub mod Refusing
@@ -5,5 +6,6 @@ pub mod ReplyText
 pub mod Runs
 pub mod Script
 pub mod Statable
+pub mod Storable
 pub mod Step
 pub mod TreeGrammar

@@ -23,7 +23,7 @@ use Rattle.rio_value.specs.declared.value.Value.TheFolds.{fold-Value}
 use Rattle.rio_format.specs.Bodies.{part}
 use Rattle.rio_format.specs.Prims.{width_of}
 use Rattle.rio_format.specs.Slots.{Slot, kinded, based, flags, any_pointer, link, many, Field, fields_of}
-use Rattle.rio_format.specs.Written.{bits_of}
+use Rattle.rio_format.specs.Written.{width_in_bits}
 use Rattle.rio_model.specs.Resolving.{built_in_version, newest_known}
 use Rattle.rio_step.specs.declared.fault.MapFault.{MapFault}
 use Rattle.rio_step.specs.declared.fault.MapFault.TheVariants.{KindChanged, NoVersion}
@@ -59,7 +59,7 @@ abbrev pub number_as : Primitive → ℤ → Option Value
 number_as Truth z = Some (whole.Bool (not (int_eq z (pos 0))))
 number_as F32 z = None
 number_as F64 z = None
-number_as of z = Some (whole.Int (if is_signed of then int_wrap (bits_of of) z else int_rem_euclid z (pos (2 ^ (8 * width_of of)))))
+number_as of z = Some (whole.Int (if is_signed of then int_wrap (width_in_bits of) z else int_rem_euclid z (pos (2 ^ (8 * width_of of)))))
 
 -- a bit pattern of the kind
 abbrev pub bits_as : Primitive → Value-F Value Part → Option Value

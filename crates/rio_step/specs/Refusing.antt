@@ -133,7 +133,7 @@ shape_lacks_class classes (Objects class) = not (is_declared classes class)
 -- a class is named that isn't known, or may not stand there; the class of a branch or of a scan is a declared one
 abbrev pub lacks_class : State → Command → Bool
 lacks_class m (Class class) = not (knows_all m.classes class)
-lacks_class m (Put name v) = not (is_some (resolved m.classes v)) || is_kept_out m.classes v
+lacks_class m (Put name v) = not (is_some (resolved m.classes v)) || is_kept_out m.classes (put_value m v)
 lacks_class m (MakeTree name branches) = list_any (λ b. shape_lacks_class m.classes b.shape) branches
 lacks_class m (Fill name row) = not (is_some (resolved_row m.classes row))
 lacks_class m (Scan name class) = option_map_or (λ asked. not (is_declared m.classes asked.name)) class false
@@ -211,8 +211,8 @@ is_at_last_cycle m (Save name) = tree_passes m name (λ t. nat_le cycle_limit t.
 is_at_last_cycle m other = false
 
 -- how long the data of an object would be
-abbrev pub object_length : State → List ℕ → Value → ℕ
-object_length m name v = data_length m.classes (unwrap_or (object_class v) []) name v
+abbrev pub object_length : List ClassDef → List ℕ → Value → ℕ
+object_length classes name v = data_length classes (unwrap_or (object_class v) []) name v
 
 -- the classes with one more
 abbrev pub with_class : List ClassDef → ClassDef → List ClassDef
@@ -220,7 +220,7 @@ with_class classes class = classes ++ declared classes class ∷ []
 
 abbrev pub is_too_large : State → Command → Bool
 is_too_large m (Class class) = is_too_long (length (written_list 0 (with_class m.classes class)))
-is_too_large m (Put name v) = is_too_long (object_length m name (put_value m v))
+is_too_large m (Put name v) = is_too_long (object_length m.classes name (put_value m v))
 is_too_large m (Fill name row) = tree_passes m name (λ t. has_long_entry m.classes t.branches (fill_row m row))
 is_too_large m other = false
 

@@ -1,12 +1,16 @@
 -- Commands that a script can state.
-use Rattle.std.specs.Prelude.{◌≡◌, ℕ, List, Bool, true, ◌&&◌, IsTrue}
+use Rattle.std.specs.Prelude.{◌≡◌, ℕ, List, Option, Bool, true, ◌&&◌, IsTrue}
 use Rattle.std.specs.List.{list_all}
 use Rattle.rio_num.specs.Word.{is_item_text}
 use Rattle.rio_model.specs.Stated.{is_stated_class}
+use Rattle.rio_model.specs.StateClasses.{StateClasses}
 use Rattle.rio_leaf.specs.Stated.{are_stated_branches}
 use Rattle.rio_machine.specs.declared.command.Command.{Command}
 use Rattle.rio_machine.specs.declared.command.Command.TheVariants.{Bad, Class, Put, Delete, Tree as MakeTree, Fill, Save, Get, Scan, Ls}
+use Rattle.rio_machine.specs.State.{State}
+use Rattle.rio_step.specs.Refusing.{FullMark}
 use Rattle.rio_step.specs.Script.{script_of}
+use Rattle.rio_step.specs.Step.{step}
 
 -- its name is one that objects and trees have, the class that it declares one that a declaration can give, whatever
 -- versions its bases have, and its branches are such that a line can state them
@@ -28,3 +32,8 @@ IsStatable c = IsTrue (is_statable c)
 -- all commands of a script are such
 abbrev pub ScriptsAreStatable : Type 0
 ScriptsAreStatable = (bytes : List ℕ) → list_all is_statable (script_of bytes) ≡ true
+
+-- The classes of a state are always such as class commands have declared, one after the other, from no classes on.
+abbrev pub ClassesStayDeclared : Type 0
+ClassesStayDeclared = (m : State) (c : Command) (mark : Option FullMark)
+    → is_statable c ≡ true → StateClasses m.classes → StateClasses (step m c mark).state.classes

@@ -1,7 +1,8 @@
 //! Laws of steps and of runs.
-ghost use Rattle.rio_step.specs.Laws.{AllStayFit, ClosedHasNonePending, DeletesTakeOne, EachSaysItsReply, LowestIsTold, NamesStayApart, NothingIsLost, PutsAddOne, RefusedChangesNothing, RepliesSaySomething, RunsBeginAlike, RunsEndClosed, RunsHaveStates, SaidInParts, SavedKeepsTheRest};
+ghost use Rattle.rio_step.specs.Laws.{AllStayFit, ClosedHasNonePending, DeletesTakeOne, EachSaysItsReply, FitsStay, LowestIsTold, NamesStayApart, NothingIsLost, PutsAddOne, RefusedChangesNothing, RepliesSaySomething, RunsBeginAlike, RunsEndClosed, RunsHaveStates, SaidInParts, SavedKeepsTheRest, WrittenStays};
 ghost use Rattle.rio_step.specs.Script.{LinesGiveCommands};
-ghost use Rattle.rio_step.specs.Statable.{ScriptsAreStatable};
+ghost use Rattle.rio_step.specs.Storable.{StaysStorable};
+ghost use Rattle.rio_step.specs.Statable.{ClassesStayDeclared, ScriptsAreStatable};
 
 /// Of several refusals that hold the one of the lowest number is told, and none is told where none holds.
 pub fn lowest_is_told()
@@ -21,9 +22,27 @@ pub fn nothing_is_lost()
     ensures { NothingIsLost }
 {}
 
+/// With one class more a value that fits still fits, and what is written for it is the same.
+pub fn values_stay()
+    ensures fits { FitsStay }
+    ensures written { WrittenStays }
+{}
+
 /// If every object fits its class and every row its tree, they do so behind any command: also behind a declaration.
 pub fn all_stay_fit()
     ensures { AllStayFit }
+{}
+
+/// If the classes of a state are such as class commands have declared from no classes on, they are so behind any command
+/// that a script can state.
+pub fn classes_stay_declared()
+    ensures { ClassesStayDeclared }
+{}
+
+/// The state of a file that isn't made yet is one that a file can hold, and so is the state behind any command that a script
+/// can state: names, cycles, classes, objects and trees are as a file has them, and pass no limit.
+pub fn stays_storable()
+    ensures { StaysStorable }
 {}
 
 /// If no name is that of an object and of a tree, no command makes one so.

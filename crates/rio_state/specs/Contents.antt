@@ -1,0 +1,74 @@
+-- What stands in the record of a class list, of an object and of a tree: over the record's bytes, so that it is the same for a
+-- walk through the file and for its key list.
+use Rattle.std.specs.Prelude.{◌≡◌, ◌≤◌, ℕ, ◌+◌, List, [], drop, length, codes, Bool, ◌==◌, ◌&&◌, not, nat_lt, Option, Some, None, Result, Ok, Err, if◌then◌else◌}
+use Rattle.std.specs.List.{list_all}
+use Rattle.rio_types.specs.declared.class.ClassDef.{ClassDef}
+use Rattle.rio_value.specs.declared.value.Value.{Value}
+use Rattle.rio_buffer.specs.Frames.{Step}
+use Rattle.rio_buffer.specs.declared.fault.ObjFault.{ObjFault}
+use Rattle.rio_format.specs.ClassList.{class_list_at}
+use Rattle.rio_format.specs.Fits.{fits}
+use Rattle.rio_format.specs.Objects.{first_at}
+use Rattle.rio_format.specs.Slots.{can_be_put}
+use Rattle.rio_format.specs.TreeClasses.{tree_classes, written_classes}
+use Rattle.rio_model.specs.StateClasses.{StateClasses}
+use Rattle.rio_machine.specs.Limits.{has_long_list, is_too_deep, is_too_long}
+use Rattle.rio_machine.specs.State.{Tree}
+use Rattle.rio_state.specs.KeyedRecords.{KeyedRecord, record_data}
+
+-- zero bytes that make a record's length a multiple of four
+abbrev pub is_padding : List ℕ → Bool
+is_padding bytes = nat_lt (length bytes) 4 && list_all (λ b. b == 0) bytes
+
+-- ---- classes
+
+-- the classes that the data of a class list describe, or the first fault; bytes behind the list are ignored
+abbrev pub described_in : KeyedRecord → Result (List ClassDef) ObjFault
+described_in r = class_list_at r.head.keylen (record_data r)
+
+abbrev pub classes_behind : Result (List ClassDef) ObjFault → List ClassDef
+classes_behind (Ok classes) = drop (length tree_classes) classes
+classes_behind (Err e) = []
+
+-- the classes of a state by the class list that counts, if there is one: those behind the classes of trees
+abbrev pub state_classes : Option KeyedRecord → List ClassDef
+state_classes None = []
+state_classes (Some info) = classes_behind (described_in info)
+
+-- A class list stands for declared classes: it describes the classes of trees and then those, which class commands can have
+-- declared from no classes on, and its cycle isn't higher than so many commands make it.
+pub record IsStateList (info : KeyedRecord) (classes : List ClassDef) : Type 0 where
+  pub class : info.head.class ≡ codes "TList"
+  pub list : described_in info ≡ Ok (written_classes classes)
+  pub declared : StateClasses classes
+  pub cycle : info.head.cycle ≤ length classes + 1
+
+-- the classes have a reading: a file without a class list has no classes
+abbrev pub HasStateClasses : Option KeyedRecord → Type 0
+HasStateClasses None = Unit {0}
+HasStateClasses (Some info) = IsStateList info (state_classes (Some info))
+
+-- ---- objects
+
+-- a value that a put takes and stores in data of this length, by classes and by the record's class
+abbrev pub can_be_stored : List ClassDef → KeyedRecord → Value → Bool
+can_be_stored classes r v =
+    fits classes r.head.class v && can_be_put classes r.head.class
+    && not (is_too_long r.head.objlen) && not (is_too_deep v) && not (has_long_list v)
+
+abbrev pub stored_in : List ClassDef → KeyedRecord → Step Value → Option Value
+stored_in classes r (Ok x) = if is_padding x.1.at.rest && can_be_stored classes r x.0 then Some x.0 else None
+stored_in classes r (Err e) = None
+
+-- The object that a record stands for, if it does: its data spell a value of its class, and at most three zero bytes follow.
+-- The value fits, is one that a put takes and passes no limit. Places in the data count from the key's first byte.
+unfoldable pub object_in : List ClassDef → KeyedRecord → Option Value
+object_in classes r = stored_in classes r (first_at classes r.head.class r.head.keylen (record_data r))
+
+-- ---- trees
+
+-- The tree that a header's record stands for, with its saved rows, if it does; among all records of the file, where its
+-- baskets are, and beside the headers of all trees, no two of which name a basket.
+-- Trees aren't read yet: no record stands for one, so a file with a tree reads as no state.
+unfoldable pub tree_of : List ClassDef → List KeyedRecord → List KeyedRecord → KeyedRecord → Option Tree
+tree_of classes records headers r = None

@@ -1,0 +1,6 @@
+pub mod Closing
+pub mod Contents
+pub mod KeyedRecords
+pub mod Laws
+pub mod Reads
+pub mod Reasons
