@@ -2,6 +2,7 @@ pub mod AgainNumbers
 pub mod AgainObjects
 pub mod AgainParts
 pub mod AgainPointers
+pub mod Before
 pub mod Examples
 pub mod OneAnswer
 pub mod ToldNumbers

@@ -3,6 +3,7 @@ use Rattle.std.specs.Prelude.{◌≡◌, ◌⊎◌, ℕ, List, ◌++◌, Err}
 use Rattle.rio_types.specs.declared.class.ClassDef.{ClassDef}
 use Rattle.rio_value.specs.declared.value.Value.{Value}
 use Rattle.rio_num.specs.At.{AreBytes}
+use Rattle.rio_format.specs.Layouts.{BreaksObject}
 use Rattle.rio_format.specs.Objects.{value_at}
 use Rattle.rio_format.specs.Spelling.{Spells}
 use Rattle.rio_buffer.specs.declared.fault.ObjFault.{ObjFault}
@@ -28,3 +29,8 @@ BrokenIsNotSpelled = (classes : List ClassDef) (class : List ℕ) (start : ℕ) 
 -- and with one fault
 abbrev pub IsBrokenOnce : Type 0
 IsBrokenOnce = (classes : List ClassDef) (class : List ℕ) (start : ℕ) (bytes : List ℕ) (fault other : ObjFault) → BreaksFirst classes start class bytes fault → BreaksFirst classes start class bytes other → fault ≡ other
+
+-- the first fault by the description of objects is this one
+abbrev pub BrokenAsBefore : Type 0
+BrokenAsBefore = (classes : List ClassDef) (class : List ℕ) (start : ℕ) (bytes : List ℕ) (fault : ObjFault) → AreBytes bytes
+    → (BreaksFirst classes start class bytes fault → BreaksObject classes start class bytes fault) × (BreaksObject classes start class bytes fault → BreaksFirst classes start class bytes fault)

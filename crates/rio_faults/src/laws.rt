@@ -1,5 +1,5 @@
 //! Laws: the first fault of a spelling is the one that reading gives.
-ghost use Rattle.rio_faults.specs.Laws.{BrokenIsFault, BrokenIsNotSpelled, FaultIsBroken, IsBrokenOnce, SpelledOrBroken};
+ghost use Rattle.rio_faults.specs.Laws.{BrokenAsBefore, BrokenIsFault, BrokenIsNotSpelled, FaultIsBroken, IsBrokenOnce, SpelledOrBroken};
 
 /// Where reading gives a fault, every part before one is spelled, and this one breaks its rule with the fault at its place.
 pub fn fault_is_broken()
@@ -16,4 +16,9 @@ pub fn one_answer()
     ensures some { SpelledOrBroken }
     ensures apart { BrokenIsNotSpelled }
     ensures one { IsBrokenOnce }
+{}
+
+/// The first fault by the description of objects is this one.
+pub fn breaks_as_before()
+    ensures { BrokenAsBefore }
 {}

@@ -3,4 +3,4 @@
 
 mod laws;
 
-pub use laws::{broken_is_fault, fault_is_broken, one_answer};
+pub use laws::{breaks_as_before, broken_is_fault, fault_is_broken, one_answer};

@@ -4,14 +4,18 @@ pub mod AgainParts
 pub mod AgainPointers
 pub mod BaseDepth
 pub mod BaseLaws
+pub mod Before
+pub mod Closed
 pub mod Examples
 pub mod FoundLists
 pub mod FoundNumbers
 pub mod FoundObjects
 pub mod FoundParts
 pub mod FoundPointers
+pub mod LayoutLaws
 mod ListLaws
 pub mod ObjectLaws
+pub mod Same
 pub mod Tests
 pub mod ValueCases
 mod VisitLaws

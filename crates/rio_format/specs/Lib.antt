@@ -8,6 +8,8 @@ pub mod Descriptions
 pub mod Elements
 pub mod Fits
 pub mod Laws
+pub mod LayoutLaws
+pub mod Layouts
 pub mod Lists
 pub mod Objects
 pub mod Prims

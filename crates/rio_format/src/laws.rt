@@ -1,4 +1,5 @@
 //! Laws: how reading, spelling and writing of objects belong together.
+ghost use Rattle.rio_format.specs.LayoutLaws.{ObjectBrokenIsFault, ObjectFaultIsBroken, ObjectReadIsSpelled, ObjectSpelledIsRead, ReadsAsBefore, SpelledAsBefore};
 ghost use Rattle.rio_format.specs.Laws.{FaultIsNotSpelled, IsSpelledOnce, NoBaseIsDeeper, ReadIsSpelled, SpelledIsRead, WrittenIsSpelled};
 
 /// What spells an object is read as it, whatever follows, and reading stands behind it.
@@ -30,4 +31,18 @@ pub fn written_is_spelled()
 /// A class that has another among its bases has it within as many levels as there are classes and one more.
 pub fn no_base_is_deeper()
     ensures { NoBaseIsDeeper }
+{}
+
+/// What reading, spelling and first faults of objects, by their description, have to do with one another.
+pub fn meanings_agree()
+    ensures spelled { ObjectSpelledIsRead }
+    ensures read { ObjectReadIsSpelled }
+    ensures broken { ObjectBrokenIsFault }
+    ensures fault { ObjectFaultIsBroken }
+{}
+
+/// Reading and spelling by the description are reading and spelling as they are said without it.
+pub fn reads_as_before()
+    ensures reads { ReadsAsBefore }
+    ensures spelled { SpelledAsBefore }
 {}

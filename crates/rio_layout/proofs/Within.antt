@@ -191,6 +191,9 @@ module _ {W F : Type 0} where
   free_choice true l m x y = record { free = λ end end' p t z b t' c. x.free end end' p t z b t' c }
   free_choice false l m x y = record { free = λ end end' p t z b t' c. y.free end end' p t z b t' c }
 
+  pub free_must : (b : Bool) (f : F) → IsFree {W = W} (must b f)
+  free_must b f = free_choice b (done tt) (broken f) (free_done tt) (free_broken f)
+
   pub free_behind : {A B : Type 0} {l : Layout W F B} {k : B → Layout W F A} → IsFree l → ((x : B) → IsFree (k x)) → IsFree (behind l k)
   free_behind first next = record { free = λ end end' p t y b t' c. (c.0, c.1, c.2, c.3, c.4, first.free end end' p t c.0 c.1 c.3 c.5, (next c.0).free end end' (p + length c.1) c.3 y c.2 t' c.6) }
 

@@ -1,0 +1,94 @@
+-- What stands around objects: byte counts, headers and the words of pointers. Each rule stands here once; the meanings of
+-- descriptions say how it is read, spelled and broken.
+use Rattle.std.specs.Prelude.{◌==◌, ℕ, ◌+◌, ◌-◌, ◌*◌, ◌^◌, pos, List, length, Option, Some, None, nat_eq, nat_lt, nat_le, if◌then◌else◌, position}
+use Rattle.std.specs.Map.{lookup}
+use Rattle.rio_layout.specs.Layout.{Layout, done, broken, number, name, here, reaches, met, note, must, known, ◌>>=◌, when◌then◌else◌}
+use Rattle.rio_buffer.specs.Frames.{is_count, counted_end}
+use Rattle.rio_buffer.specs.ReaderState.{WordsMet, with_label, with_name}
+use Rattle.rio_buffer.specs.declared.words.Header.{Header}
+use Rattle.rio_buffer.specs.declared.words.PointerWord.{PointerWord}
+use Rattle.rio_buffer.specs.declared.words.PointerWord.TheVariants.{Null, New, Back}
+use Rattle.rio_buffer.specs.declared.fault.ObjFault.{ObjFault}
+use Rattle.rio_buffer.specs.declared.fault.ObjFault.TheVariants.{Short, BadCount, UnknownClassWord, UnknownRef, NoCount, CountMismatch}
+
+-- a description of a part of the data of objects
+abbrev pub ObjLayout : Type 0 → Type 1
+ObjLayout A = Layout WordsMet ObjFault A
+
+-- ---- byte counts
+
+-- the end that the count word at the place gives, within the data
+abbrev pub end_of : ℕ → ℕ → ObjLayout ℕ
+end_of place w = do
+  _ ← reaches (counted_end place w) (BadCount place)
+  done (counted_end place w)
+
+-- the bytes end where the count word at the place says
+abbrev pub finish : ℕ → ℕ → ObjLayout (Unit {0})
+finish place end = do
+  q ← here
+  must (q == end) (CountMismatch place (end - place - 4) (q - place - 4))
+
+-- the end that a header's word gives; with both upper bits there is no count that could be right
+abbrev pub header_end : ℕ → ℕ → ObjLayout ℕ
+header_end place w = when is_count w then end_of place w else when nat_le (3 * 2 ^ 30) w then broken (BadCount place) else broken (NoCount place)
+
+abbrev pub checksum : ℕ → ObjLayout (Option ℕ)
+checksum version =
+    when version == 0
+    then (do sum ← number Short 4; done (Some sum))
+    else done None
+
+-- a byte count, a version, and behind version 0 a checksum
+unfoldable pub header : ObjLayout Header
+header = do
+  place ← here
+  w ← number Short 4
+  end ← header_end place w
+  version ← number Short 2
+  sum ← checksum version
+  done (record { place = place; end = end; version = pos version; sum = sum })
+
+-- ---- pointers
+
+-- a class word that spells the name out
+unfoldable pub new_class : ℕ → ObjLayout (List ℕ)
+new_class place = do
+  class ← name Short
+  t ← met
+  _ ← note (with_name t place class)
+  done class
+
+-- a class word that names an earlier one
+abbrev pub known_class : ℕ → ℕ → ObjLayout (List ℕ)
+known_class place w = do
+  t ← met
+  known (UnknownClassWord place w) (if nat_lt w (2 ^ 31 + 2) then None else lookup (nat_eq (w - (2 ^ 31 + 2))) t.names)
+
+unfoldable pub class_word : ObjLayout (List ℕ)
+class_word = do
+  place ← here
+  w ← number Short 4
+  when w == 2 ^ 32 - 1 then new_class place else known_class place w
+
+-- an object begins behind its count word and its class word, with the next label
+unfoldable pub new_word : ℕ → ℕ → ObjLayout PointerWord
+new_word place w = do
+  end ← end_of place w
+  class ← class_word
+  t ← met
+  _ ← note (with_label t place)
+  done (New (length t.labels) place end class)
+
+-- a reference to an earlier object
+abbrev pub reference : ℕ → ℕ → ObjLayout PointerWord
+reference place w = do
+  t ← met
+  label ← known (UnknownRef place w) (if nat_lt w 2 then None else position (nat_eq (w - 2)) t.labels)
+  done (Back label)
+
+unfoldable pub pointer_word : ObjLayout PointerWord
+pointer_word = do
+  place ← here
+  w ← number Short 4
+  when w == 0 then done Null else when is_count w then new_word place w else reference place w

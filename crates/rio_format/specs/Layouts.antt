@@ -1,0 +1,231 @@
+-- Objects in bytes. Each rule stands here once; the meanings of descriptions say how it is read, spelled and broken.
+use Rattle.std.specs.Prelude.{◌==◌, ℕ, zero, suc, ◌+◌, ◌-◌, ◌*◌, ◌^◌, ℤ, pos, negsuc, List, [], ◌∷◌, ◌++◌, length, codes, nat_lt, nat_le}
+use Rattle.rio_types.specs.declared.class.Base.{Base}
+use Rattle.rio_types.specs.declared.class.ClassDef.{ClassDef}
+use Rattle.rio_types.specs.declared.class.Member.{Member}
+use Rattle.rio_types.specs.declared.kind.Kind.{Kind}
+use Rattle.rio_types.specs.declared.kind.Kind.TheVariants.{Plain, Counter, Fixed, Counted, Text as Texted, Inline, Pointer, Other}
+use Rattle.rio_types.specs.declared.kind.Primitive.{Primitive}
+use Rattle.rio_types.specs.declared.kind.Primitive.TheVariants.{I32}
+use Rattle.rio_value.specs.declared.value.Value.{Value, Text, List as Items, Object, Pointed, Null as Nothing, Back as Earlier, Opaque}
+use Rattle.rio_value.specs.declared.value.Part.{Part}
+use Rattle.rio_layout.specs.Layout.{Layout, done, broken, number, text, any, here, reaches, must, each, times, ◌>>=◌, when◌then◌else◌}
+use Rattle.rio_layout.specs.Meanings.{read, Spells, Breaks}
+use Rattle.rio_buffer.specs.Frames.{Step}
+use Rattle.rio_buffer.specs.ReaderState.{WordsMet, no_words, standing}
+use Rattle.rio_buffer.specs.Words.{ObjLayout, finish, header, pointer_word}
+use Rattle.rio_buffer.specs.declared.words.Header.{Header}
+use Rattle.rio_buffer.specs.declared.words.PointerWord.{PointerWord}
+use Rattle.rio_buffer.specs.declared.words.PointerWord.TheVariants.{Null, New, Back}
+use Rattle.rio_buffer.specs.declared.fault.ObjFault.{ObjFault}
+use Rattle.rio_buffer.specs.declared.fault.ObjFault.TheVariants.{Short, BadCount, NoCount, BadFlag, CountMismatch, TooDeep}
+use Rattle.rio_format.specs.Bodies.{part, Form, bare, numbers as numbered, headed as with_header, form_of, Body, described, listed, arrayed, opaque, body_of, Counters, counters_with, count_by}
+use Rattle.rio_format.specs.Objects.{depth_limit, has_pid, bare_object, pid_part}
+use Rattle.rio_format.specs.Prims.{width_of, value_of}
+
+-- what an object of a class is
+abbrev pub Objects : Type 1
+Objects = List ℕ → ObjLayout Value
+
+-- ---- pointers
+
+-- the object behind a pointer's word
+unfoldable pub pointed : Objects → PointerWord → ObjLayout Value
+pointed object Null = done Nothing
+pointed object (Back label) = done (Earlier label)
+pointed object (New label place end class) = do
+  o ← object class
+  _ ← finish place end
+  done (Pointed label o)
+
+unfoldable pub pointer : Objects → ObjLayout Value
+pointer object = do
+  w ← pointer_word
+  pointed object w
+
+-- ---- members
+
+unfoldable pub number_value : Primitive → ObjLayout Value
+number_value of = do
+  n ← number Short (width_of of)
+  done (value_of of n)
+
+unfoldable pub numbers : Primitive → ℕ → ObjLayout Value
+numbers of count = do
+  vs ← times count (number_value of)
+  done (Items vs)
+
+-- as many values as a counter said, behind the byte 1 at the place
+abbrev pub filled : Primitive → ℕ → ℤ → ObjLayout Value
+filled of place (pos count) = numbers of count
+filled of place (negsuc count) = broken (BadCount place)
+
+-- the byte 0 for nothing, or the byte 1 and the values
+unfoldable pub counted : Primitive → ℤ → ObjLayout Value
+counted of count = do
+  place ← here
+  flag ← number Short 1
+  when flag == 0 then done (Items []) else when flag == 1 then filled of place count else broken (BadFlag place)
+
+unfoldable pub text_value : ObjLayout Value
+text_value = do
+  t ← text Short
+  done (Text t)
+
+-- A value of the kind, behind these counters. A kind that can't be read is never asked for, since the object is opaque.
+unfoldable pub kind_value : Objects → Counters → Kind → ObjLayout Value
+kind_value object counters (Plain of) = number_value of
+kind_value object counters Counter = number_value I32
+kind_value object counters (Fixed of count) = numbers of count
+kind_value object counters (Counted of counter) = counted of (count_by counter counters)
+kind_value object counters Texted = text_value
+kind_value object counters (Inline class) = object class
+kind_value object counters (Pointer class) = pointer object
+kind_value object counters (Other code) = do place ← here; broken (NoCount place)
+
+-- a part of an object, behind these counters
+unfoldable pub member_part : Objects → Counters → Member → ObjLayout Part
+member_part object counters m = do
+  v ← kind_value object counters m.kind
+  done (part m.name v)
+
+unfoldable pub member_parts : Objects → Counters → List Member → ObjLayout (List Part)
+member_parts object counters [] = done []
+member_parts object counters (m ∷ ms) = do
+  p ← member_part object counters m
+  ps ← member_parts object (counters_with m p.value counters) ms
+  done (p ∷ ps)
+
+unfoldable pub base_part : Objects → Base → ObjLayout Part
+base_part object b = do
+  v ← object b.name
+  done (part [] v)
+
+-- bases in order, and members in order
+unfoldable pub parts : Objects → ClassDef → ObjLayout (List Part)
+parts object c = do
+  bs ← each (base_part object) c.bases
+  ms ← member_parts object [] c.members
+  done (bs ++ ms)
+
+-- ---- built-in classes
+
+-- a count of items of at least so many bytes each, which the data have behind it
+unfoldable pub count_of : ℕ → ObjLayout ℕ
+count_of width = do
+  place ← here
+  n ← number Short 4
+  first ← here
+  _ ← must (nat_lt n (2 ^ 31)) (BadCount place)
+  _ ← reaches (first + n * width) (BadCount place)
+  done n
+
+-- the base that most of them have
+abbrev pub base : Objects → ObjLayout Value
+base object = object (codes "TObject")
+
+-- an item of a TList: a pointer and an option text
+unfoldable pub link : Objects → ObjLayout Value
+link object = do
+  p ← pointer object
+  option ← text Short
+  done (Items (p ∷ Text option ∷ []))
+
+unfoldable pub list_parts : Objects → ObjLayout (List Part)
+list_parts object = do
+  b ← base object
+  n ← text Short
+  count ← count_of 4
+  items ← times count (link object)
+  done (part [] b ∷ part (codes "fName") (Text n) ∷ part (codes "items") (Items items) ∷ [])
+
+unfoldable pub array_parts : Objects → ObjLayout (List Part)
+array_parts object = do
+  b ← base object
+  n ← text Short
+  count ← count_of 4
+  lower ← number_value I32
+  items ← times count (pointer object)
+  done (part [] b ∷ part (codes "fName") (Text n) ∷ part (codes "fLowerBound") lower ∷ part (codes "items") (Items items) ∷ [])
+
+-- fPid, which stands only where bit 4 of fBits does
+abbrev pub pid_of : ℕ → ObjLayout (List Part)
+pid_of bits =
+    when has_pid bits
+    then (do pid ← number Short 2; done (pid_part pid ∷ []))
+    else done []
+
+-- a TObject, which has no byte count
+unfoldable pub bare_layout : ObjLayout Value
+bare_layout = do
+  place ← here
+  version ← number Short 2
+  _ ← must (version == 1) (NoCount place)
+  id ← number Short 4
+  bits ← number Short 4
+  pid ← pid_of bits
+  done (bare_object id bits pid)
+
+-- a TArray of a class, which is a count and its numbers
+unfoldable pub array : List ℕ → Primitive → ObjLayout Value
+array class of = do
+  count ← count_of (width_of of)
+  items ← numbers of count
+  done (Object class (pos 1) (part (codes "items") items ∷ []))
+
+-- ---- objects
+
+-- parts, as many as the header's count says
+unfoldable pub closed : List ℕ → ℤ → Header → List Part → ObjLayout Value
+closed class version h ps = do
+  _ ← finish h.place h.end
+  done (Object class version ps)
+
+unfoldable pub whole : List ℕ → ℤ → Header → ObjLayout (List Part) → ObjLayout Value
+whole class version h inside = do
+  ps ← inside
+  closed class version h ps
+
+-- an object that isn't read, with the bytes counted; the header that was read is among them
+unfoldable pub unread : List ℕ → Header → ObjLayout Value
+unread class h = do
+  place ← here
+  _ ← must (nat_le place h.end) (CountMismatch h.place (h.end - h.place - 4) (place - h.place - 4))
+  _ ← any Short (h.end - place)
+  done (Opaque class (h.end - h.place - 4))
+
+unfoldable pub body : Objects → List ℕ → Header → Body → ObjLayout Value
+body object class h (described c) = whole class c.version h (parts object c)
+body object class h listed = whole class (pos 5) h (list_parts object)
+body object class h arrayed = whole class (pos 3) h (array_parts object)
+body object class h opaque = unread class h
+
+unfoldable pub headed : Objects → List ClassDef → List ℕ → ObjLayout Value
+headed object classes class = do
+  h ← header
+  body object class h (body_of classes class h.version h.sum)
+
+unfoldable pub formed : Objects → List ClassDef → List ℕ → Form → ObjLayout Value
+formed object classes class bare = bare_layout
+formed object classes class (numbered of) = array class of
+formed object classes class with_header = headed object classes class
+
+-- an object of a class, with at most so many levels of objects
+unfoldable pub object_of : ℕ → List ClassDef → Objects
+object_of zero classes class = do place ← here; broken (TooDeep place)
+object_of (suc levels) classes class = formed (object_of levels classes) classes class (form_of class)
+
+-- ---- what data are
+
+-- what data give whose first byte has the place, and where reading stands behind it
+abbrev pub first_read : List ClassDef → List ℕ → ℕ → List ℕ → Step Value
+first_read classes class start bytes = read (object_of depth_limit classes class) (standing start bytes no_words)
+
+-- bytes that begin the data, the first of which has the place, spell the value as an object of the class
+unfoldable pub SpellsObject : List ClassDef → ℕ → List ℕ → Value → List ℕ → Type 0
+SpellsObject classes start class v bytes =
+    (t : WordsMet) × Spells (object_of depth_limit classes class) (start + length bytes) start no_words v bytes t
+
+-- the data, whose first byte has the place, break with this fault as an object of the class
+unfoldable pub BreaksObject : List ClassDef → ℕ → List ℕ → List ℕ → ObjFault → Type 0
+BreaksObject classes start class bytes fault = Breaks (object_of depth_limit classes class) start no_words bytes fault
