@@ -11,8 +11,6 @@ use Rattle.rio_types.specs.declared.kind.Primitive.{Primitive}
 use Rattle.rio_types.specs.declared.kind.Primitive.TheVariants.{I32}
 use Rattle.rio_value.specs.declared.value.Part.{Part}
 use Rattle.rio_format.specs.Bodies.{Form, bare, numbers as numbered, headed as with_header, form_of, Body, described, listed, arrayed, opaque, body_of, Counters, counters_with, count_by}
-use Rattle.rio_buffer.specs.Frames.{is_count}
-use Rattle.rio_format.specs.Objects.{has_pid}
 use Rattle.rio_format.specs.Prims.{width_of}
 use Rattle.rio_buffer.specs.ReaderState.{WordsMet, with_label, with_name}
 use Rattle.rio_buffer.specs.declared.words.Header.{Header}
@@ -20,10 +18,10 @@ use Rattle.rio_buffer.specs.declared.words.PointerWord.{PointerWord}
 use Rattle.rio_buffer.specs.declared.words.PointerWord.TheVariants.{Null, New, Back}
 use Rattle.rio_buffer.specs.declared.fault.ObjFault.{ObjFault}
 use Rattle.rio_buffer.specs.declared.fault.ObjFault.TheVariants.{Short, BadCount, NoCount, CountMismatch}
-use Rattle.rio_layout.specs.Layout.{Layout, done, broken, behind, must}
+use Rattle.rio_layout.specs.Layout.{behind, must}
 use Rattle.rio_layout.specs.Meanings.{Spells}
-use Rattle.rio_buffer.specs.Words.{ObjLayout, end_of, finish, header_end, checksum, header, new_class, class_word, new_word, pointer_word}
-use Rattle.rio_format.specs.Layouts.{Objects, pointed, pointer, number_value, numbers, filled, counted, text_value, kind_value, member_part, member_parts, base_part, parts, count_of, link, list_parts, array_parts, pid_of, bare_layout, array, closed as closed_by, whole, unread, body, headed, formed, object_of}
+use Rattle.rio_buffer.specs.Frames.{ObjLayout, is_count, end_of, finish, header_end, checksum, header, new_class, class_word, new_word, pointer_word}
+use Rattle.rio_format.specs.Objects.{has_pid, Objects, pointed, pointer, number_value, numbers, filled, counted, text_value, kind_value, member_part, member_parts, base_part, parts, count_of, link, list_parts, array_parts, pid_of, bare_layout, array, closed as closed_by, whole, unread, body, headed, formed, object_of}
 use Rattle.rio_layout.proofs.Within.{Within, Closed, IsLong, GoesTo, IsFree, closed_behind, closed_over, within_behind, long_first, long_next, goes_first, goes_next, closed_done, closed_broken, closed_number, closed_text, closed_any, closed_here, closed_choice, closed_must, closed_each, closed_times, within_free, within_choice, free_number, free_here, free_name, free_met, free_note, free_done, free_broken, free_known, free_choice, free_behind, free_must, long_number, long_times}
 
 -- ---- byte counts
@@ -106,6 +104,14 @@ pub long_pointer_word : IsLong 4 pointer_word
 unfolding pointer_word
 long_pointer_word = long_next 4 (λ place. long_first 4 (long_number Short 4))
 
+pub long_pointer : (object : Objects) → IsLong 4 (pointer object)
+unfolding pointer
+long_pointer object = long_first 4 long_pointer_word
+
+pub long_link : (object : Objects) → IsLong 4 (link object)
+unfolding link
+long_link object = long_first 4 (long_pointer object)
+
 module _ (object : Objects) (inner : (class : List ℕ) → Closed (object class)) where
   pointed_goes : (w : PointerWord) → GoesTo (word_far w) (pointed object w)
   unfolding pointed
@@ -123,17 +129,13 @@ module _ (object : Objects) (inner : (class : List ℕ) → Closed (object class
   unfolding pointer
   closed_pointer = closed_over word_far pointer_word_within pointed_goes closed_pointed
 
-  long_pointer : IsLong 4 (pointer object)
-  unfolding pointer
-  long_pointer = long_first 4 long_pointer_word
-
 -- ---- members
 
 closed_number_value : (of : Primitive) → Closed (number_value of)
 unfolding number_value
 closed_number_value of = closed_behind (closed_number Short (width_of of)) (λ n. closed_done _)
 
-long_number_value : (of : Primitive) → IsLong (width_of of) (number_value of)
+pub long_number_value : (of : Primitive) → IsLong (width_of of) (number_value of)
 unfolding number_value
 long_number_value of = long_first (width_of of) (long_number Short (width_of of))
 
@@ -236,20 +238,16 @@ module _ (object : Objects) (inner : (class : List ℕ) → Closed (object class
   unfolding link
   closed_link = closed_behind (closed_pointer object inner) (λ p. closed_behind (closed_text Short) (λ option. closed_done _))
 
-  long_link : IsLong 4 (link object)
-  unfolding link
-  long_link = long_first 4 (long_pointer object inner)
-
   closed_list : Closed (list_parts object)
   unfolding list_parts
   closed_list =
-      closed_behind (inner (codes "TObject")) (λ b. closed_behind (closed_text Short) (λ n. closed_items 4 _ (λ count. long_first (count * 4) (long_times count 4 _ long_link)) (λ count. closed_behind (closed_times count _ closed_link) (λ items. closed_done _))))
+      closed_behind (inner (codes "TObject")) (λ b. closed_behind (closed_text Short) (λ n. closed_items 4 _ (λ count. long_first (count * 4) (long_times count 4 _ (long_link object))) (λ count. closed_behind (closed_times count _ closed_link) (λ items. closed_done _))))
 
   closed_arrayed : Closed (array_parts object)
   unfolding array_parts
   closed_arrayed =
       closed_behind (inner (codes "TObject")) (λ b. closed_behind (closed_text Short) (λ n. closed_items 4 _
-      (λ count. long_next (count * 4) (λ lower. long_first (count * 4) (long_times count 4 _ (long_pointer object inner))))
+      (λ count. long_next (count * 4) (λ lower. long_first (count * 4) (long_times count 4 _ (long_pointer object))))
       (λ count. closed_behind (closed_number_value I32) (λ lower. closed_behind (closed_times count _ (closed_pointer object inner)) (λ items. closed_done _)))))
 
   closed_whole : (class : List ℕ) (version : ℤ) (h : Header) (inside : ObjLayout (List Part)) → Closed inside → Closed (whole class version h inside)

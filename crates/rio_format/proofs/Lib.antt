@@ -1,21 +1,12 @@
-pub mod AgainNumbers
-pub mod AgainObjects
-pub mod AgainParts
-pub mod AgainPointers
 pub mod BaseDepth
 pub mod BaseLaws
-pub mod Before
 pub mod Closed
+pub mod Composed
+pub mod ComposedLengths
+pub mod ComposedSpells
 pub mod Examples
-pub mod FoundLists
-pub mod FoundNumbers
-pub mod FoundObjects
-pub mod FoundParts
-pub mod FoundPointers
-pub mod LayoutLaws
 mod ListLaws
 pub mod ObjectLaws
-pub mod Same
 pub mod Tests
 pub mod ValueCases
 mod VisitLaws

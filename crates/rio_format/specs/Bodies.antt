@@ -13,7 +13,6 @@ use Rattle.rio_types.specs.declared.class.ClassDef.{ClassDef}
 use Rattle.rio_types.specs.declared.class.Member.{Member}
 use Rattle.rio_types.specs.declared.kind.Kind.{Kind}
 use Rattle.rio_types.specs.declared.kind.Kind.TheVariants.{Text, Inline}
-use Rattle.rio_types.specs.declared.kind.Primitive.{Primitive}
 use Rattle.rio_types.specs.declared.kind.Primitive.TheVariants.{I8, I16, I32, I64, F32, F64}
 use Rattle.rio_value.specs.declared.value.Value.{Value, out-Value}
 use Rattle.rio_value.specs.declared.value.Value.TheOpen.{Value-F, Int}

@@ -8,15 +8,12 @@ pub mod Descriptions
 pub mod Elements
 pub mod Fits
 pub mod Laws
-pub mod LayoutLaws
-pub mod Layouts
 pub mod Lists
 pub mod Objects
 pub mod Prims
 pub mod SlotCode
 pub mod SlotKinds
 pub mod Slots
-pub mod Spelling
 pub mod TreeClasses
 pub mod ValueParts
 pub mod Visits

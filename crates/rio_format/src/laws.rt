@@ -1,6 +1,5 @@
 //! Laws: how reading, spelling and writing of objects belong together.
-ghost use Rattle.rio_format.specs.LayoutLaws.{ObjectBrokenIsFault, ObjectFaultIsBroken, ObjectReadIsSpelled, ObjectSpelledIsRead, ReadsAsBefore, SpelledAsBefore};
-ghost use Rattle.rio_format.specs.Laws.{FaultIsNotSpelled, IsSpelledOnce, NoBaseIsDeeper, ReadIsSpelled, SpelledIsRead, WrittenIsSpelled};
+ghost use Rattle.rio_format.specs.Laws.{BrokenIsFault, BrokenIsNotSpelled, FaultIsBroken, FaultIsNotSpelled, IsBrokenOnce, IsSpelledOnce, NoBaseIsDeeper, ReadIsSpelled, SpelledIsRead, SpelledOrBroken, WrittenIsSpelled};
 
 /// What spells an object is read as it, whatever follows, and reading stands behind it.
 pub fn spelled_is_read()
@@ -33,16 +32,19 @@ pub fn no_base_is_deeper()
     ensures { NoBaseIsDeeper }
 {}
 
-/// What reading, spelling and first faults of objects, by their description, have to do with one another.
-pub fn meanings_agree()
-    ensures spelled { ObjectSpelledIsRead }
-    ensures read { ObjectReadIsSpelled }
-    ensures broken { ObjectBrokenIsFault }
-    ensures fault { ObjectFaultIsBroken }
+/// Where reading gives a fault, every part before one is spelled, and this one breaks its rule with the fault at its place.
+pub fn fault_is_broken()
+    ensures { FaultIsBroken }
 {}
 
-/// Reading and spelling by the description are reading and spelling as they are said without it.
-pub fn reads_as_before()
-    ensures reads { ReadsAsBefore }
-    ensures spelled { SpelledAsBefore }
+/// Where bytes break their rule with a fault, and every part before is spelled, reading gives the fault.
+pub fn broken_is_fault()
+    ensures { BrokenIsFault }
+{}
+
+/// Of all bytes a front spells an object of the class, or they break with a fault: one of the two, and with one fault.
+pub fn one_answer()
+    ensures some { SpelledOrBroken }
+    ensures apart { BrokenIsNotSpelled }
+    ensures one { IsBrokenOnce }
 {}

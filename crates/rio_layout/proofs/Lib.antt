@@ -1,6 +1,7 @@
 pub mod Agree
 pub mod Bytes
 pub mod Examples
+pub mod Intro
 pub mod Names
 pub mod Texts
 pub mod Retold

@@ -1,5 +1,5 @@
--- What spells an object: a relation over whole lists of bytes, by cases on the value.
-use Rattle.std.specs.Prelude.{◌≡◌, ◌==◌, ◌⊎◌, ℕ, zero, suc, ◌+◌, ◌-◌, ◌^◌, ◌<◌, ℤ, pos, List, [], ◌∷◌, ◌++◌, length, replicate, codes, Option, Some, None, nat_eq, Bool, true, false, position}
+-- How bytes are put together that spell an object, by cases on the value: what the proofs about the written form hand in.
+use Rattle.std.specs.Prelude.{◌≡◌, ◌⊎◌, ℕ, zero, suc, ◌+◌, ◌-◌, ◌^◌, ◌<◌, ℤ, pos, List, [], ◌∷◌, ◌++◌, length, replicate, codes, Option, Some, None, nat_eq, Bool, true, false, position}
 use Rattle.std.specs.Map.{lookup}
 use Rattle.byteorder.specs.Endian.{big_bytes}
 use Rattle.rio_num.specs.Text.{SpellsText}
@@ -12,10 +12,11 @@ use Rattle.rio_types.specs.declared.kind.Primitive.TheVariants.{I32}
 use Rattle.rio_value.specs.declared.value.Value.{Value, Text, List as Items, Object, Pointed, Null, Back, Opaque}
 use Rattle.rio_value.specs.declared.value.Part.{Part}
 use Rattle.rio_format.specs.Bodies.{part, Form, bare, numbers, headed, form_of, Body, described, listed, arrayed, opaque, body_of, slots_of, Counters, counters_with, count_by}
+use Rattle.rio_layout.specs.Meanings.{HasNoZero}
 use Rattle.rio_buffer.specs.Frames.{is_count}
-use Rattle.rio_format.specs.Objects.{has_pid, bare_object, pid_part, depth_limit}
+use Rattle.rio_format.specs.Objects.{has_pid, bare_object, pid_part}
 use Rattle.rio_format.specs.Prims.{width_of, value_of}
-use Rattle.rio_buffer.specs.ReaderState.{WordsMet, no_words, with_label, with_name}
+use Rattle.rio_buffer.specs.ReaderState.{WordsMet, with_label, with_name}
 
 -- Bytes whose first has the place, behind these words, spell this value, and these words stand before what follows.
 abbrev pub Spelling : Type 0 → Type 1
@@ -96,14 +97,9 @@ SpellsCounted of counter p t v bytes t' = IsNone t v bytes t' ⊎ IsFilled of co
 
 -- ---- pointers
 
--- no byte is 0
-abbrev pub IsPlain : List ℕ → Type 0
-IsPlain [] = Unit {0}
-IsPlain (b ∷ bs) = ((b == 0) ≡ false) × IsPlain bs
-
 -- a class word that spells the name out
 pub record IsNewClass (p : ℕ) (t : WordsMet) (name bytes : List ℕ) (t' : WordsMet) : Type 0 where
-  pub plain : IsPlain name
+  pub plain : HasNoZero name
   pub spelled : bytes ≡ big_bytes 4 (2 ^ 32 - 1) ++ (name ++ 0 ∷ [])
   pub words : t' ≡ with_name t p name
 
@@ -290,10 +286,6 @@ SpellsForm object classes class (numbers of) p t v bytes t' = IsArray class of p
 SpellsForm object classes class headed p t v bytes t' = IsHeaded object classes class p t v bytes t'
 
 -- an object of the class, with at most so many levels of objects
-unfoldable pub SpellsObject : ℕ → List ClassDef → Spellings
-SpellsObject zero classes class p t v bytes t' = ⊥
-SpellsObject (suc levels) classes class p t v bytes t' = SpellsForm (SpellsObject levels classes) classes class (form_of class) p t v bytes t'
-
--- bytes that begin the data, the first of which has the place, spell the value as an object of the class
-unfoldable pub Spells : List ClassDef → ℕ → List ℕ → Value → List ℕ → Type 0
-Spells classes start class v bytes = (t : WordsMet) × SpellsObject depth_limit classes class start no_words v bytes t
+unfoldable pub Composes : ℕ → List ClassDef → Spellings
+Composes zero classes class p t v bytes t' = ⊥
+Composes (suc levels) classes class p t v bytes t' = SpellsForm (Composes levels classes) classes class (form_of class) p t v bytes t'
