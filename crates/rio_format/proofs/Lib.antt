@@ -5,6 +5,7 @@ pub mod Composed
 pub mod ComposedLengths
 pub mod ComposedSpells
 pub mod Examples
+pub mod FaultExamples
 mod ListLaws
 pub mod ObjectLaws
 pub mod Tests

@@ -6,7 +6,7 @@ use Rattle.rio_value.specs.declared.value.Value.{Value}
 use Rattle.rio_format.specs.Descriptions.{description_classes}
 use Rattle.rio_format.specs.Objects.{only_value}
 use Rattle.rio_buffer.specs.ReaderState.{ReaderState}
-use Rattle.rio_format.specs.Spelling.{Spells}
+use Rattle.rio_format.specs.Objects.{SpellsObject}
 use Rattle.rio_buffer.specs.declared.fault.ObjFault.{ObjFault}
 use Rattle.rio_format.proofs.ObjectLaws.{spelled_is_read}
 use Rattle.rio_format.proofs.WrittenValues.{written_is_spelled}
@@ -20,7 +20,7 @@ use Rattle.rio_model.proofs.ListNumbers.{described_have_numbers}
 
 module _ (classes : List ClassDef) (described : list_all is_described classes ≡ true) (start : ℕ) (room : HasPlaces start classes) where
   -- the bytes spell the list
-  list_is_spelled : Spells description_classes start (codes "TList") (class_list_value classes) (class_list_bytes start classes)
+  list_is_spelled : SpellsObject description_classes start (codes "TList") (class_list_value classes) (class_list_bytes start classes)
   list_is_spelled =
       let fits = written_list_fits classes (described_have_numbers classes described) in
       written_is_spelled description_classes (codes "TList") start (class_list_value classes) fits (written_list_is_shallow classes) (written_list_has_versions classes) room
