@@ -79,7 +79,8 @@ impl<'a> ObjReader<'a> {
 
     /// The next byte.
     pub fn take_u8(&mut self) -> Result<u8, ObjFault>
-        ensures exact { Takes (λ x. x) result (read (number ObjFault.Short 1) self.old) self.old self.new }
+        ensures exact { Takes (λ x. x) result
+            (read (number ObjFault.Short 1) self.old) self.old self.new }
         ensures goes { GoesOn self.old.at self.new.at }
     {
         Ok(self.cursor.take_u8()?)
@@ -87,7 +88,8 @@ impl<'a> ObjReader<'a> {
 
     /// The number in the next two bytes, in big-endian order.
     pub fn take_u16(&mut self) -> Result<u16, ObjFault>
-        ensures exact { Takes (λ x. x) result (read (number ObjFault.Short 2) self.old) self.old self.new }
+        ensures exact { Takes (λ x. x) result
+            (read (number ObjFault.Short 2) self.old) self.old self.new }
         ensures goes { GoesOn self.old.at self.new.at }
     {
         Ok(self.cursor.take_u16()?)
@@ -95,7 +97,8 @@ impl<'a> ObjReader<'a> {
 
     /// The number in the next four bytes, in big-endian order.
     pub fn take_u32(&mut self) -> Result<u32, ObjFault>
-        ensures exact { Takes (λ x. x) result (read (number ObjFault.Short 4) self.old) self.old self.new }
+        ensures exact { Takes (λ x. x) result
+            (read (number ObjFault.Short 4) self.old) self.old self.new }
         ensures goes { GoesOn self.old.at self.new.at }
     {
         Ok(self.cursor.take_u32()?)
@@ -103,7 +106,8 @@ impl<'a> ObjReader<'a> {
 
     /// The number in the next eight bytes, in big-endian order.
     pub fn take_u64(&mut self) -> Result<u64, ObjFault>
-        ensures exact { Takes (λ x. x) result (read (number ObjFault.Short 8) self.old) self.old self.new }
+        ensures exact { Takes (λ x. x) result
+            (read (number ObjFault.Short 8) self.old) self.old self.new }
         ensures goes { GoesOn self.old.at self.new.at }
     {
         Ok(self.cursor.take_u64()?)
@@ -111,7 +115,8 @@ impl<'a> ObjReader<'a> {
 
     /// The next text, which lives as long as the data.
     pub fn take_text(&mut self) -> Result<&'a [u8], ObjFault>
-        ensures exact { Takes (λ t. t.now) result (read (text ObjFault.Short) self.old) self.old self.new }
+        ensures exact { Takes (λ t. t.now) result
+            (read (text ObjFault.Short) self.old) self.old self.new }
         ensures goes { GoesOn self.old.at self.new.at }
     {
         Ok(self.cursor.take_text()?)
@@ -119,7 +124,8 @@ impl<'a> ObjReader<'a> {
 
     /// Passes over the next `n` bytes.
     pub fn skip(&mut self, n: u64) -> Result<(), ObjFault>
-        ensures exact { Takes (λ _. tt) result (read (any ObjFault.Short n) self.old) self.old self.new }
+        ensures exact { Takes (λ _. tt) result
+            (read (any ObjFault.Short n) self.old) self.old self.new }
         ensures goes { GoesOn self.old.at self.new.at }
     {
         Ok(self.cursor.skip(n)?)
@@ -128,7 +134,8 @@ impl<'a> ObjReader<'a> {
     /// Compares the bytes used since the count word at `place` with its count, by which they end at `end`.
     pub fn finish(&mut self, place: u64, end: u64) -> Result<(), ObjFault>
         requires { IsCounted place end self.old }
-        ensures exact { Takes (λ _. tt) result (read (finish place end) self.old) self.old self.new }
+        ensures exact { Takes (λ _. tt) result
+            (read (finish place end) self.old) self.old self.new }
         ensures goes { GoesOn self.old.at self.new.at }
     {
         let used_to = self.cursor.place();
@@ -156,7 +163,8 @@ impl<'a> ObjReader<'a> {
         requires count { IsTrue (is_count word) }
         requires behind { place + 4 ≤ self.now.at.place }
         requires near { data_end self.now < place + 2 ^ 32 }
-        ensures exact { Takes (λ x. x) result (read (end_of place word) self.now) self.now self.now }
+        ensures exact { Takes (λ x. x) result
+            (read (end_of place word) self.now) self.now self.now }
         ensures within { IfOk result (λ end. IsCounted place end self.now) }
     {
         let data_end = self.cursor.place() + self.cursor.left();

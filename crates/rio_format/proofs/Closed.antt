@@ -21,7 +21,7 @@ use Rattle.rio_buffer.specs.declared.fault.ObjFault.TheVariants.{Short, BadCount
 use Rattle.rio_layout.specs.Layout.{behind, must}
 use Rattle.rio_layout.specs.Meanings.{Spells}
 use Rattle.rio_buffer.specs.Frames.{ObjLayout, is_count, end_of, finish, header_end, checksum, header, new_class, class_word, new_word, pointer_word}
-use Rattle.rio_format.specs.Objects.{has_pid, Objects, pointed, pointer, number_value, numbers, filled, counted, text_value, kind_value, member_part, member_parts, base_part, parts, count_of, link, list_parts, array_parts, pid_of, bare_layout, array, closed as closed_by, whole, unread, body, headed, formed, object_of}
+use Rattle.rio_format.specs.Objects.{has_pid, Objects, pointed, pointer, number_value, numbers, filled, counted_values, text_value, kind_value, member_part, member_parts, base_part, parts, count_of, link, list_parts, array_parts, pid_of, bare_layout, array, closed as closed_by, whole_object, unread, body, headed, formed, object_of}
 use Rattle.rio_layout.proofs.Within.{Within, Closed, IsLong, GoesTo, IsFree, closed_behind, closed_over, within_behind, long_first, long_next, goes_first, goes_next, closed_done, closed_broken, closed_number, closed_text, closed_any, closed_here, closed_choice, closed_must, closed_each, closed_times, within_free, within_choice, free_number, free_here, free_name, free_met, free_note, free_done, free_broken, free_known, free_choice, free_behind, free_must, long_number, long_times}
 
 -- ---- byte counts
@@ -147,8 +147,8 @@ closed_filled : (of : Primitive) (place : ℕ) (count : ℤ) → Closed (filled 
 closed_filled of place (pos count) = closed_numbers of count
 closed_filled of place (negsuc count) = closed_broken (BadCount place)
 
-closed_counted : (of : Primitive) (count : ℤ) → Closed (counted of count)
-unfolding counted
+closed_counted : (of : Primitive) (count : ℤ) → Closed (counted_values of count)
+unfolding counted_values
 closed_counted of count = closed_behind closed_here (λ place. closed_behind (closed_number Short 1) (λ flag. closed_choice (flag == 0) _ _ (closed_done _) (closed_choice (flag == 1) _ _ (closed_filled of place count) (closed_broken _))))
 
 closed_text_value : Closed text_value
@@ -250,12 +250,12 @@ module _ (object : Objects) (inner : (class : List ℕ) → Closed (object class
       (λ count. long_next (count * 4) (λ lower. long_first (count * 4) (long_times count 4 _ (long_pointer object))))
       (λ count. closed_behind (closed_number_value I32) (λ lower. closed_behind (closed_times count _ (closed_pointer object inner)) (λ items. closed_done _)))))
 
-  closed_whole : (class : List ℕ) (version : ℤ) (h : Header) (inside : ObjLayout (List Part)) → Closed inside → Closed (whole class version h inside)
-  unfolding whole closed_by
+  closed_whole : (class : List ℕ) (version : ℤ) (h : Header) (inside : ObjLayout (List Part)) → Closed inside → Closed (whole_object class version h inside)
+  unfolding whole_object closed_by
   closed_whole class version h inside c = closed_behind c (λ ps. closed_behind (closed_finish h.place h.end) (λ u. closed_done _))
 
-  whole_goes : (class : List ℕ) (version : ℤ) (h : Header) (inside : ObjLayout (List Part)) → GoesTo h.end (whole class version h inside)
-  unfolding whole closed_by
+  whole_goes : (class : List ℕ) (version : ℤ) (h : Header) (inside : ObjLayout (List Part)) → GoesTo h.end (whole_object class version h inside)
+  unfolding whole_object closed_by
   whole_goes class version h inside = goes_next h.end (λ ps. goes_first h.end (finish_goes h.place h.end))
 
   closed_unread : (class : List ℕ) (h : Header) → Closed (unread class h)

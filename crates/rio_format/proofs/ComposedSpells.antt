@@ -23,7 +23,7 @@ use Rattle.rio_buffer.specs.declared.words.Header.{Header}
 use Rattle.rio_buffer.specs.declared.words.PointerWord.TheVariants.{Null, New, Back}
 use Rattle.rio_buffer.specs.declared.fault.ObjFault.TheVariants.{Short, UnknownClassWord, UnknownRef}
 use Rattle.rio_format.specs.Bodies.{part, Form, bare, numbers as numbered, headed as with_header, form_of, Body, described, listed, arrayed, opaque, body_of, base_slot, Counters, counters_with, count_by}
-use Rattle.rio_format.specs.Objects.{Objects, has_pid, bare_object, pid_part, pointed, pointer, number_value, numbers, filled, counted, text_value, kind_value, member_part, member_parts, base_part, parts, count_of, link, list_parts, array_parts, pid_of, bare_layout, array, closed, whole, unread, body, headed, formed, object_of}
+use Rattle.rio_format.specs.Objects.{Objects, has_pid, bare_object, pid_part, pointed, pointer, number_value, numbers, filled, counted_values, text_value, kind_value, member_part, member_parts, base_part, parts, count_of, link, list_parts, array_parts, pid_of, bare_layout, array, closed, whole_object, unread, body, headed, formed, object_of}
 use Rattle.rio_format.specs.Prims.{width_of}
 use Rattle.rio_format.proofs.Composed.{Spelling, Spellings, SpellsEach, SpellsTimes, SpellsNumber, SpellsNumbers, IsText, SpellsCounted, SpellsClass, SpellsPointer, SpellsKind, IsPart, IsParts, IsLink, IsListParts, IsArrayParts, SpellsPid, IsBare, IsArray, SpellsVersion, IsWhole, SpellsBody, IsHeaded, SpellsForm, Composes}
 use Rattle.rio_format.proofs.Closed.{long_number_value, long_pointer, long_link}
@@ -71,18 +71,18 @@ text_in = record { into = λ end p t v b t' le c. record { so = (c.text, b, [], 
 
 -- ---- counted arrays
 
-counted_in : (of : Primitive) (counter : ℤ) → In (SpellsCounted of counter) (counted of counter)
-unfolding counted
+counted_in : (of : Primitive) (counter : ℤ) → In (SpellsCounted of counter) (counted_values of counter)
+unfolding counted_values
 counted_in of counter = record { into = by }
   where
-    by : (end p : ℕ) (t : WordsMet) (v : Value) (b : List ℕ) (t' : WordsMet) → p + length b ≤ end → SpellsCounted of counter p t v b t' → IsSo (counted of counter) end p t v b t'
+    by : (end p : ℕ) (t : WordsMet) (v : Value) (b : List ℕ) (t' : WordsMet) → p + length b ≤ end → SpellsCounted of counter p t v b t' → IsSo (counted_values of counter) end p t v b t'
     by end p t v b t' le (inl c) =
-        let all : IsSo (counted of counter) end p t (Items []) (0 ∷ []) t = here_then (number_then 0 (lit< tt) (first_is (0 == 0) refl done_is)) in
+        let all : IsSo (counted_values of counter) end p t (Items []) (0 ∷ []) t = here_then (number_then 0 (lit< tt) (first_is (0 == 0) refl done_is)) in
         so_by all c.value c.spelled c.words
     by end p t v b t' le (inr c) =
         let inside = (numbers_in of c.count).into end (p + 1) t v c.inner t' (omega (arith, le, ap length c.spelled)) c.values in
         let some : IsSo (filled of p counter) end (p + 1) t v c.inner t' = subst (λ (z : ℤ). IsSo (filled of p z) end (p + 1) t v c.inner t') (sym c.counted) inside in
-        let all : IsSo (counted of counter) end p t v (1 ∷ c.inner) t' = here_then (number_then 1 (lit< tt) (second_is (1 == 0) refl (first_is (1 == 1) refl some))) in
+        let all : IsSo (counted_values of counter) end p t v (1 ∷ c.inner) t' = here_then (number_then 1 (lit< tt) (second_is (1 == 0) refl (first_is (1 == 1) refl some))) in
         so_by all refl c.spelled refl
 
 -- ---- pointers
@@ -372,11 +372,11 @@ header_is end p n t version (Some sum) b low room c =
 abbrev counted_by : Header → ℕ
 counted_by h = h.end - h.place - 4
 
-whole_in : (class : List ℕ) (version : ℤ) (h : Header) (one : Spelling (List Part)) (l : ObjLayout (List Part)) → In one l → (end q : ℕ) (t : WordsMet) (v : Value) (b : List ℕ) (t' : WordsMet) → q + length b ≤ end → q + length b ≡ h.end → IsWhole class version one q t v b t' → IsSo (whole class version h l) end q t v b t'
-unfolding whole closed
+whole_in : (class : List ℕ) (version : ℤ) (h : Header) (one : Spelling (List Part)) (l : ObjLayout (List Part)) → In one l → (end q : ℕ) (t : WordsMet) (v : Value) (b : List ℕ) (t' : WordsMet) → q + length b ≤ end → q + length b ≡ h.end → IsWhole class version one q t v b t' → IsSo (whole_object class version h l) end q t v b t'
+unfolding whole_object closed
 whole_in class version h one l inner end q t v b t' le to c =
     let inside = inner.into end q t c.parts b t' le c.inside in
-    let all : IsSo (whole class version h l) end q t (Object class version c.parts) b t' = ends_with c.parts t' inside (still_then tt (finish_is h.place h.end to) done_is) in
+    let all : IsSo (whole_object class version h l) end q t (Object class version c.parts) b t' = ends_with c.parts t' inside (still_then tt (finish_is h.place h.end to) done_is) in
     so_by all c.value refl refl
 
 unread_in : (class : List ℕ) (h : Header) (end q : ℕ) (t : WordsMet) (b : List ℕ) → q + length b ≡ h.end → IsSo (unread class h) end q t (Opaque class (counted_by h)) b t

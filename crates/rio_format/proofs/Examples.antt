@@ -17,7 +17,7 @@ use Rattle.rio_format.proofs.ValueCases.{fold_Int, fold_Pointed, fold_Back}
 use Rattle.rio_format.proofs.WrittenValues.{fit_object, write_object}
 use Rattle.rio_layout.specs.Layout.{each}
 use Rattle.rio_buffer.specs.Frames.{header, pointer_word, new_word, class_word, new_class}
-use Rattle.rio_format.specs.Objects.{value_at, object_of, formed, headed, body, whole, closed, parts, base_part, member_part, member_parts, kind_value, number_value, count_of, text_value, pointer, pointed, bare_layout, list_parts, link, unread}
+use Rattle.rio_format.specs.Objects.{value_at, object_of, formed, headed, body, whole_object, closed, parts, base_part, member_part, member_parts, kind_value, number_value, count_of, text_value, pointer, pointed, bare_layout, list_parts, link, unread}
 use Rattle.rio_buffer.specs.declared.fault.ObjFault.TheVariants.{CountMismatch}
 
 node_class : ClassDef
@@ -34,7 +34,7 @@ loop : Value
 loop = node 1 (Pointed 0 (node 2 (Back 0)))
 
 loop_read : value_at (node_class ∷ []) (codes "Node") 34 (loop_bytes ++ 0 ∷ []) ≡ Ok loop
-unfolding node_class node loop_bytes loop object_of formed headed body unread header whole closed parts base_part member_parts member_part each kind_value number_value pointer pointer_word pointed new_word class_word new_class
+unfolding node_class node loop_bytes loop object_of formed headed body unread header whole_object closed parts base_part member_parts member_part each kind_value number_value pointer pointer_word pointed new_word class_word new_class
 loop_read = refl
 
 -- three nodes
@@ -42,16 +42,16 @@ chain_bytes : List ℕ
 chain_bytes = big_bytes 4 0x40000033 ++ big_bytes 2 1 ++ big_bytes 4 1 ++ big_bytes 4 0x40000029 ++ big_bytes 4 0xFFFFFFFF ++ codes "Node" ++ (0 ∷ []) ++ big_bytes 4 0x4000001C ++ big_bytes 2 1 ++ big_bytes 4 2 ++ big_bytes 4 0x40000012 ++ big_bytes 4 0x80000032 ++ big_bytes 4 0x4000000A ++ big_bytes 2 1 ++ big_bytes 4 3 ++ big_bytes 4 0
 
 chain_read : value_at (node_class ∷ []) (codes "Node") 34 (chain_bytes ++ 0 ∷ 0 ∷ 0 ∷ []) ≡ Ok (node 1 (Pointed 0 (node 2 (Pointed 1 (node 3 Null)))))
-unfolding node_class node chain_bytes object_of formed headed body unread header whole closed parts base_part member_parts member_part each kind_value number_value pointer pointer_word pointed new_word class_word new_class
+unfolding node_class node chain_bytes object_of formed headed body unread header whole_object closed parts base_part member_parts member_part each kind_value number_value pointer pointer_word pointed new_word class_word new_class
 chain_read = refl
 
 -- a string, and the same with a count that is one too high
 string_read : value_at [] (codes "TObjString") 40 (big_bytes 4 0x4000000F ++ big_bytes 2 1 ++ big_bytes 2 1 ++ big_bytes 8 0 ++ 2 ∷ 0x68 ∷ 0x69 ∷ 0 ∷ []) ≡ Ok (Object (codes "TObjString") (pos 1) (part [] (Object (codes "TObject") (pos 1) (part (codes "fUniqueID") (Int (pos 0)) ∷ part (codes "fBits") (Int (pos 0)) ∷ [])) ∷ part (codes "fString") (Text (codes "hi")) ∷ []))
-unfolding object_of formed headed body unread header whole closed parts base_part member_parts member_part each kind_value text_value bare_layout text_at
+unfolding object_of formed headed body unread header whole_object closed parts base_part member_parts member_part each kind_value text_value bare_layout text_at
 string_read = refl
 
 string_fault : value_at [] (codes "TObjString") 40 (big_bytes 4 0x40000010 ++ big_bytes 2 1 ++ big_bytes 2 1 ++ big_bytes 8 0 ++ 2 ∷ 0x68 ∷ 0x69 ∷ 0 ∷ []) ≡ Err (CountMismatch 40 16 15)
-unfolding object_of formed headed body unread header whole closed parts base_part member_parts member_part each kind_value text_value bare_layout text_at
+unfolding object_of formed headed body unread header whole_object closed parts base_part member_parts member_part each kind_value text_value bare_layout text_at
 string_fault = refl
 
 -- a string of another version
@@ -66,7 +66,7 @@ string_opaque_short = refl
 
 -- a list whose count is one too low
 list_fault : value_at [] (codes "TList") 0 (big_bytes 4 0x4000001B ++ big_bytes 2 5 ++ big_bytes 2 1 ++ big_bytes 8 0 ++ 0 ∷ (big_bytes 4 2 ++ big_bytes 4 0 ++ 1 ∷ 65 ∷ (big_bytes 4 0 ++ 0 ∷ []))) ≡ Err (CountMismatch 0 27 28)
-unfolding object_of formed headed body unread header whole closed each text_at bare_layout list_parts count_of link pointer pointer_word pointed
+unfolding object_of formed headed body unread header whole_object closed each text_at bare_layout list_parts count_of link pointer pointer_word pointed
 list_fault = refl
 
 -- the nodes fit their class, and these bytes are written for them

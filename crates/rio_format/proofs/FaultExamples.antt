@@ -8,7 +8,7 @@ use Rattle.rio_buffer.specs.Frames.{class_word, finish, header, pointer_word}
 use Rattle.rio_buffer.specs.ReaderState.{WordsMet, no_words}
 use Rattle.rio_buffer.specs.declared.fault.ObjFault.{ObjFault}
 use Rattle.rio_buffer.specs.declared.fault.ObjFault.TheVariants.{Short, BadCount, UnknownClassWord, UnknownRef, NoCount, BadFlag, CountMismatch, TooDeep}
-use Rattle.rio_format.specs.Objects.{BreaksObject, bare_layout, body, count_of, counted, formed, headed, object_of, unread}
+use Rattle.rio_format.specs.Objects.{BreaksObject, bare_layout, body, count_of, counted_values, formed, headed, object_of, unread}
 
 -- nothing stands where a header is wanted
 no_header : BreaksObject [] 34 (codes "TNamed") [] (Short 34 4)
@@ -78,8 +78,8 @@ unfolding BreaksObject object_of formed bare_layout
 another_version = inr (34, [], 0 ∷ 2 ∷ 0 ∷ [], no_words, refl, (refl, refl, refl), inr (2, 0 ∷ 2 ∷ [], 0 ∷ [], no_words, refl, (lit< tt, refl, refl), inl refl))
 
 -- the byte before a counted array is 2
-bad_flag : Breaks (counted U8 (pos 2)) 44 no_words (2 ∷ 7 ∷ 255 ∷ []) (BadFlag 44)
-unfolding counted
+bad_flag : Breaks (counted_values U8 (pos 2)) 44 no_words (2 ∷ 7 ∷ 255 ∷ []) (BadFlag 44)
+unfolding counted_values
 bad_flag = inr (44, [], 2 ∷ 7 ∷ 255 ∷ [], no_words, refl, (refl, refl, refl), inr (2, 2 ∷ [], 7 ∷ 255 ∷ [], no_words, refl, (lit< tt, refl, refl), refl))
 
 -- a reference to nothing, at its word

@@ -59,8 +59,8 @@ filled of place (pos count) = numbers of count
 filled of place (negsuc count) = broken (BadCount place)
 
 -- the byte 0 for nothing, or the byte 1 and the values
-unfoldable pub counted : Primitive → ℤ → ObjLayout Value
-counted of count = do
+unfoldable pub counted_values : Primitive → ℤ → ObjLayout Value
+counted_values of count = do
   place ← here
   flag ← number Short 1
   when flag == 0 then done (Items []) else when flag == 1 then filled of place count else broken (BadFlag place)
@@ -75,7 +75,7 @@ unfoldable pub kind_value : Objects → Counters → Kind → ObjLayout Value
 kind_value object counters (Plain of) = number_value of
 kind_value object counters Counter = number_value I32
 kind_value object counters (Fixed of count) = numbers of count
-kind_value object counters (Counted of counter) = counted of (count_by counter counters)
+kind_value object counters (Counted of counter) = counted_values of (count_by counter counters)
 kind_value object counters Texted = text_value
 kind_value object counters (Inline class) = object class
 kind_value object counters (Pointer class) = pointer object
@@ -119,8 +119,8 @@ count_of width = do
   done n
 
 -- the base that most of them have
-abbrev pub base : Objects → ObjLayout Value
-base object = object (codes "TObject")
+abbrev pub base_object : Objects → ObjLayout Value
+base_object object = object (codes "TObject")
 
 -- an item of a TList: a pointer and an option text
 unfoldable pub link : Objects → ObjLayout Value
@@ -131,7 +131,7 @@ link object = do
 
 unfoldable pub list_parts : Objects → ObjLayout (List Part)
 list_parts object = do
-  b ← base object
+  b ← base_object object
   n ← text Short
   count ← count_of 4
   items ← times count (link object)
@@ -139,7 +139,7 @@ list_parts object = do
 
 unfoldable pub array_parts : Objects → ObjLayout (List Part)
 array_parts object = do
-  b ← base object
+  b ← base_object object
   n ← text Short
   count ← count_of 4
   lower ← number_value I32
@@ -189,8 +189,8 @@ closed class version h ps = do
   _ ← finish h.place h.end
   done (Object class version ps)
 
-unfoldable pub whole : List ℕ → ℤ → Header → ObjLayout (List Part) → ObjLayout Value
-whole class version h inside = do
+unfoldable pub whole_object : List ℕ → ℤ → Header → ObjLayout (List Part) → ObjLayout Value
+whole_object class version h inside = do
   ps ← inside
   closed class version h ps
 
@@ -203,9 +203,9 @@ unread class h = do
   done (Opaque class (h.end - h.place - 4))
 
 unfoldable pub body : Objects → List ℕ → Header → Body → ObjLayout Value
-body object class h (described c) = whole class c.version h (parts object c)
-body object class h listed = whole class (pos 5) h (list_parts object)
-body object class h arrayed = whole class (pos 3) h (array_parts object)
+body object class h (described c) = whole_object class c.version h (parts object c)
+body object class h listed = whole_object class (pos 5) h (list_parts object)
+body object class h arrayed = whole_object class (pos 3) h (array_parts object)
 body object class h opaque = unread class h
 
 unfoldable pub headed : Objects → List ClassDef → List ℕ → ObjLayout Value

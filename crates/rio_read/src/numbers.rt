@@ -2,7 +2,7 @@
 ghost use Rattle.std.specs.Prelude.{◌≡◌, ◌<◌, ◌^◌, IfOk};
 ghost use Rattle.rio_num.specs.At.{GoesOn};
 ghost use Rattle.rio_buffer.specs.Frames.{ReadsAs};
-ghost use Rattle.rio_format.specs.Objects.{count_of, counted, filled, number_value, numbers, text_value};
+ghost use Rattle.rio_format.specs.Objects.{count_of, counted_values, filled, number_value, numbers, text_value};
 ghost use Rattle.rio_layout.specs.Layout.{text, times};
 ghost use Rattle.rio_layout.specs.Meanings.{read};
 
@@ -99,14 +99,14 @@ fn read_filled(
 }
 
 /// The byte 0 for nothing, or the byte 1 and `count` values.
-#[tactic(auto, unfolding(rio_format::specs::Objects::counted))]
+#[tactic(auto, unfolding(rio_format::specs::Objects::counted_values))]
 pub(crate) fn read_counted(
     alloc: Global,
     reader: &mut ObjReader,
     of: Prim,
     count: i32,
 ) -> Result<Value, ObjFault>
-    ensures exact { ReadsAs (λ x. x) result (read (counted of count) reader.old) reader.new }
+    ensures exact { ReadsAs (λ x. x) result (read (counted_values of count) reader.old) reader.new }
     ensures goes { GoesOn reader.old.at reader.new.at }
 {
     let place = reader.place();

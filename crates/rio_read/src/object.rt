@@ -32,8 +32,8 @@ pub(crate) fn read_object(
     class: &[u8],
     levels: u32,
 ) -> Result<Value, ObjFault>
-    ensures exact { ReadsAs (λ x. x) result (read (object_of levels classes.now class.now) reader.old)
-        reader.new }
+    ensures exact { ReadsAs (λ x. x) result
+        (read (object_of levels classes.now class.now) reader.old) reader.new }
     ensures bytes { AreBytes reader.old.at.rest }
     ensures goes { GoesOn reader.old.at reader.new.at }
 {
@@ -82,7 +82,7 @@ fn read_headed(
 }
 
 #[cycle(object)]
-#[tactic(auto, unfolding(rio_format::specs::Objects::body, rio_format::specs::Objects::whole))]
+#[tactic(auto, unfolding(rio_format::specs::Objects::body, rio_format::specs::Objects::whole_object))]
 fn read_body(
     alloc: Global,
     classes: &Classes,
@@ -266,8 +266,8 @@ fn read_pointer(
     reader: &mut ObjReader,
     levels: u32,
 ) -> Result<Value, ObjFault>
-    ensures exact { ReadsAs (λ x. x) result (read (pointer (object_of levels classes.now)) reader.old)
-        reader.new }
+    ensures exact { ReadsAs (λ x. x) result
+        (read (pointer (object_of levels classes.now)) reader.old) reader.new }
     ensures goes { GoesOn reader.old.at reader.new.at }
 {
     match reader.pointer()? {

@@ -23,8 +23,8 @@ pub(crate) fn whole(
     parts: Parts,
 ) -> Result<Value, ObjFault>
     requires { IsCounted header.place header.end reader.old }
-    ensures exact { ReadsAs (λ x. x) result (read (closed class.now version header parts) reader.old)
-        reader.new }
+    ensures exact { ReadsAs (λ x. x) result
+        (read (closed class.now version header parts) reader.old) reader.new }
     ensures goes { GoesOn reader.old.at reader.new.at }
 {
     reader.finish(header.place, header.end)?;
