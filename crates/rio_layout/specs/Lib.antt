@@ -1,0 +1,4 @@
+pub mod Books
+pub mod Laws
+pub mod Layout
+pub mod Meanings
