@@ -41,14 +41,15 @@ made_found file m x =
 abbrev Tells : List ℕ → Bool → Type 0
 Tells file unborn =
     (cond unborn None (fault_of (head_at file)) ≡ None)
+    × ((found : Option ReasonAt) × MatchBool unborn (found ≡ None) (IsReasonOfMade file found))
     × ((found : Option ReasonAt) → ((other : Option ReasonAt) → MatchBool unborn (other ≡ None) (IsReasonOfMade file other) → found ≡ other) → IsOfRoom found)
 
 told_by : (unborn : Bool) (file : List ℕ) (m : State) → MatchBool unborn (m ≡ empty_state) (ReadsAsMade file m) → Tells file unborn
-told_by true file m x = (refl, λ found same. subst IsOfRoom (sym (same None refl)) tt)
+told_by true file m x = (refl, (None, refl), λ found same. subst IsOfRoom (sym (same None refl)) tt)
 told_by false file m x =
-    (ap fault_of x.head_is, λ found same. subst IsOfRoom (sym (same (slice_get (room_reasons x.links) 0) (made_found file m x))) (room_told x.links))
+    (ap fault_of x.head_is, (slice_get (room_reasons x.links) 0, made_found file m x), λ found same. subst IsOfRoom (sym (same (slice_get (room_reasons x.links) 0) (made_found file m x))) (room_told x.links))
 
 pub meets_no_reason : ReadsMeetsNoReason
 meets_no_reason file m x =
     let told = told_by (is_unborn file) file m x in
-    record { fault = told.0; reason = λ found is. told.1 found (λ other that. reason_one file found other is that) }
+    record { fault = told.0; some = told.1; reason = λ found is. told.2 found (λ other that. reason_one file found other is that) }

@@ -21,7 +21,7 @@ use Rattle.rio_dir.specs.declared.closed.Closed.{Closed}
 use Rattle.rio_chain.specs.Segments.{HasWord, HoldsRecord, IsChain, IsFirst, IsRecord, Link, RecordAt, texts_end_at}
 use Rattle.rio_machine.specs.State.{empty_state, item_order, name_order}
 use Rattle.rio_state.specs.KeyedRecords.{KeyedRecord, keyed_records}
-use Rattle.rio_state.specs.Reads.{AreRecordsOf, ReadsAs, ReadsAsMade, ReadsClosed}
+use Rattle.rio_state.specs.Reads.{AreRecordsOf, ReadsAsState, ReadsAsMade, ReadsClosed}
 
 -- ---- the bytes
 
@@ -266,7 +266,7 @@ read_as_made : ReadsAsMade image empty_state
 unfolding head
 read_as_made = record { head = head; head_is = head_read; small = refl; links = links; chain = chain; records = records }
 
-pub image_reads : ReadsAs image empty_state
+pub image_reads : ReadsAsState image empty_state
 image_reads = read_as_made
 
 dir : DirRecord
@@ -291,11 +291,11 @@ image_reads_closed = record {
   links = links;
   chain = chain;
   here = refl;
-  info = None;
-  info_there = refl;
+  info = refl;
   listed = [];
   heads = refl;
   there = λ k d lt. absurd (omega (arith, lt));
+  tops = refl;
   stand = records.stand;
   end = refl;
   free = record {

@@ -4,7 +4,7 @@ use Rattle.std.specs.List.{sum_by}
 use Rattle.std.specs.Option.{option_map_or}
 use Rattle.rio_key.specs.Written.{written_key}
 use Rattle.rio_key.specs.declared.head.KeyHead.{KeyHead}
-use Rattle.rio_chain.specs.Placing.{file_end, laid}
+use Rattle.rio_chain.specs.Placing.{end_after, space_of}
 use Rattle.rio_chain.specs.Segments.{Link, chain_end}
 use Rattle.rio_chain.specs.declared.segment.Segment.{Segment}
 use Rattle.rio_machine.specs.Limits.{head_length, zeros_behind}
@@ -71,7 +71,7 @@ kept_in links =
 
 -- the greatest END that is reached when records of these lengths are laid one after the other
 unfoldable pub lay_all : List ℕ → List Segment → ℕ
-lay_all lengths segments = file_end (laid lengths segments)
+lay_all lengths segments = end_after lengths (space_of segments)
 
 -- There is no room for a command's records, with what a close needs behind the command: its mark is Full.
 unfoldable pub is_full : List Segment → List ℕ → ℕ → Bool

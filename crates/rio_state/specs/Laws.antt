@@ -3,12 +3,12 @@ use Rattle.std.specs.Prelude.{◌≡◌, ◌⊎◌, ℕ, List, Option, Some, Non
 use Rattle.rio_head.specs.declared.reason.Reason.TheVariants.{TooMany, NoRoom}
 use Rattle.rio_dir.specs.Unborn.{header_fault}
 use Rattle.rio_machine.specs.State.{State}
-use Rattle.rio_state.specs.Reads.{ReadsAs}
+use Rattle.rio_state.specs.Reads.{ReadsAsState}
 use Rattle.rio_state.specs.Reasons.{IsFirstReason, ReasonAt}
 
 -- a file reads as at most one state
 abbrev pub ReadsAsOneState : Type 0
-ReadsAsOneState = (file : List ℕ) (m n : State) → ReadsAs file m → ReadsAs file n → m ≡ n
+ReadsAsOneState = (file : List ℕ) (m n : State) → ReadsAsState file m → ReadsAsState file n → m ≡ n
 
 -- a file has one first reason, or none
 abbrev pub HasOneReason : Type 0
@@ -22,11 +22,12 @@ IsOfRoom (Some r) = (r.reason ≡ TooMany) ⊎ (r.reason ≡ NoRoom)
 -- where a file reads as a state, its header breaks no rule, and nothing stands against writing but want of room
 pub record HasRoomReasonsAlone (file : List ℕ) : Type 0 where
   pub fault : header_fault file ≡ None
+  pub some : (found : Option ReasonAt) × IsFirstReason file found
   pub reason : (found : Option ReasonAt) → IsFirstReason file found → IsOfRoom found
 
 abbrev pub ReadsMeetsNoReason : Type 0
-ReadsMeetsNoReason = (file : List ℕ) (m : State) → ReadsAs file m → HasRoomReasonsAlone file
+ReadsMeetsNoReason = (file : List ℕ) (m : State) → ReadsAsState file m → HasRoomReasonsAlone file
 
 -- and where nothing stands against writing but want of room, a file whose header breaks no rule reads as a state
 abbrev pub NoReasonIsRead : Type 0
-NoReasonIsRead = (file : List ℕ) (found : Option ReasonAt) → IsFirstReason file found → IsOfRoom found → (m : State) × ReadsAs file m
+NoReasonIsRead = (file : List ℕ) (found : Option ReasonAt) → IsFirstReason file found → IsOfRoom found → (m : State) × ReadsAsState file m

@@ -19,7 +19,7 @@ use Rattle.rio_chain.specs.Placing.{gaps_in}
 use Rattle.rio_chain.specs.Segments.{IsChain, Link, chain_end, segment_of}
 use Rattle.rio_machine.specs.State.{NameAndCycle, State, Tree, empty_state}
 use Rattle.rio_state.specs.Contents.{HasStateClasses, is_padding, object_in, state_classes, tree_of}
-use Rattle.rio_state.specs.KeyedRecords.{KeyedRecord, has_item, info_key, is_elsewhere, is_mixed_name, item_of_key, keyed_records, object_records, record_data, top_keys, tree_records}
+use Rattle.rio_state.specs.KeyedRecords.{KeyedRecord, has_item, info_key, is_elsewhere, is_mixed_name, is_top_key, item_of_key, keyed_records, object_records, record_data, top_keys, tree_records}
 
 -- ---- keys with their records
 
@@ -76,15 +76,15 @@ pub record ReadsAsMade (file : List ℕ) (m : State) : Type 0 where
   pub records : AreRecordsOf (keyed_records links) m
 
 -- a file reads as a state by the walk; one that isn't made yet as the empty state
-abbrev pub ReadsAs : List ℕ → State → Type 0
-ReadsAs file m = MatchBool (is_unborn file) (m ≡ empty_state) (ReadsAsMade file m)
+abbrev pub ReadsAsState : List ℕ → State → Type 0
+ReadsAsState file m = MatchBool (is_unborn file) (m ≡ empty_state) (ReadsAsMade file m)
 
 -- ---- by the key list
 
--- place 0 stands for no class list, any other place for that of the record there
-abbrev pub IsInfoAt : List KeyedRecord → ℕ → Option KeyedRecord → Type 0
-IsInfoAt records place None = place ≡ 0
-IsInfoAt records place (Some r) = Contains records r × (r.head.seek ≡ place)
+-- the place of the class list that counts, and 0 where there is none
+abbrev pub info_place : Option KeyedRecord → ℕ
+info_place None = 0
+info_place (Some r) = r.head.seek
 
 -- the free record at a place holds the entries of the file's gaps and of what is behind its END
 pub record IsFreeRecordAt (links : List Link) (place : ℕ) : Type 0 where
@@ -96,8 +96,8 @@ pub record IsFreeRecordAt (links : List Link) (place : ℕ) : Type 0 where
   pub written : record_data r ≡ free_bytes (gaps_in (map segment_of links)) (chain_end links) ++ zeros
 
 -- A closed file reads as the state by its key list: header, directory record and key list break no rule; each head of the list
--- is the key of a record of the file, the class list is where the header says, and these records stand for the state. The
--- header says END, and the free record is written for the gaps. (The class list of a record of the chain is never compressed,
+-- is the key of a record of the file that may be an object or a tree, the class list that counts is where the header says, and
+-- these records stand for the state. The header says END, and the free record is written for the gaps. (The class list of a record of the chain is never compressed,
 -- and it has a reading where it stands for classes; so the file breaks no rule of the class list either.)
 pub record ReadsClosed (file : List ℕ) (m : State) : Type 0 where
   pub closed : Closed
@@ -106,11 +106,11 @@ pub record ReadsClosed (file : List ℕ) (m : State) : Type 0 where
   pub links : List Link
   pub chain : IsChain links file
   pub here : list_all (λ r. not (is_elsewhere r.head)) (keyed_records links) ≡ true
-  pub info : Option KeyedRecord
-  pub info_there : IsInfoAt (keyed_records links) closed.head.seek_info info
+  pub info : closed.head.seek_info ≡ info_place (info_key (keyed_records links))
   pub listed : List KeyedRecord
   pub heads : map (λ r. r.head) listed ≡ closed.keys
   pub there : All (Contains (keyed_records links)) listed
-  pub stand : StandsForState (keyed_records links) info listed m
+  pub tops : list_all (λ r. is_top_key r.head) listed ≡ true
+  pub stand : StandsForState (keyed_records links) (info_key (keyed_records links)) listed m
   pub end : closed.head.end ≡ chain_end links
   pub free : IsFreeRecordAt links closed.head.seek_free
