@@ -12,7 +12,7 @@ use Rattle.rio_machine.specs.Limits.{cycle_limit, has_long_entry, has_long_list,
 use Rattle.rio_machine.specs.Rows.{row_fits}
 use Rattle.rio_machine.specs.State.{NameAndCycle, Row, State, Tree, empty_state}
 use Rattle.rio_machine.specs.declared.command.Command.{Command}
-use Rattle.rio_step.specs.Laws.{AreApart}
+use Rattle.rio_step.specs.Laws.{AreNamesApart}
 use Rattle.rio_step.specs.Refusing.{FullMark, is_fit, is_kept_out, is_list_name, object_length, rows_of_tree, shape_lacks_class}
 use Rattle.rio_step.specs.Statable.{is_statable}
 use Rattle.rio_step.specs.Step.{step}
@@ -47,7 +47,7 @@ pub record IsStoredTree (classes : List ClassDef) (t : Tree) : Type 0 where
 -- the classes are such as class commands declare; names and cycles, objects and trees are as a file has them
 pub record IsStorable (m : State) : Type 0 where
   pub classes : StateClasses m.classes
-  pub apart : AreApart m
+  pub apart : AreNamesApart m
   pub object_names : (item : NameAndCycle) (v : Value) → get m.objects item ≡ Some v → IsStoredName item.0 item.1
   pub objects : (item : NameAndCycle) (v : Value) → get m.objects item ≡ Some v → IsStoredObject m.classes item.0 v
   pub tree_names : (name : List ℕ) (t : Tree) → get m.trees name ≡ Some t → IsStoredName name t.cycle

@@ -7,8 +7,14 @@ use rio_value::{Part, Value};
 pub(crate) fn put_value(printed: &mut Bytes, value: &Value) -> Result<(), NoMemory> {
     match value {
         Value::Int(n) => printed.put_integer(*n),
-        Value::Bits32(bits) => printed.put_hex8(*bits),
-        Value::Bits64(bits) => printed.put_hex16(*bits),
+        Value::Bits32(bits) => {
+            printed.put(b"0x")?;
+            printed.put_hex8(*bits)
+        }
+        Value::Bits64(bits) => {
+            printed.put(b"0x")?;
+            printed.put_hex16(*bits)
+        }
         Value::Bool(true) => printed.put(b"true"),
         Value::Bool(false) => printed.put(b"false"),
         Value::Text(text) => printed.put_string(text.as_slice()),
