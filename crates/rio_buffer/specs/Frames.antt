@@ -3,8 +3,8 @@
 use Rattle.std.specs.Prelude.{◌≡◌, ◌≢◌, ◌==◌, ◌&&◌, ℕ, ◌+◌, ◌-◌, ◌*◌, ◌^◌, pos, List, length, Option, Some, None, Result, Ok, Err, nat_eq, nat_lt, nat_le, Bool, if◌then◌else◌, position}
 use Rattle.std.specs.Map.{lookup}
 use Rattle.rio_num.specs.At.{end_place}
-use Rattle.rio_layout.specs.Layout.{Layout, done, broken, number, name, here, reaches, met, note, must, known, ◌>>=◌, when◌then◌else◌}
-use Rattle.rio_layout.specs.Meanings.{Reading}
+use Rattle.rio_num.specs.Layout.{Layout, done, broken, number, name, here, reaches, met, note, must, known, ◌>>=◌, when◌then◌else◌}
+use Rattle.rio_num.specs.Meanings.{Reading}
 use Rattle.rio_buffer.specs.ReaderState.{ReaderState, WordsMet, with_label, with_name}
 use Rattle.rio_buffer.specs.declared.words.Header.{Header}
 use Rattle.rio_buffer.specs.declared.words.PointerWord.{PointerWord}

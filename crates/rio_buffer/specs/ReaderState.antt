@@ -3,7 +3,7 @@ use Rattle.std.specs.Prelude.{ℕ, List, []}
 use Rattle.std.specs.Prelude.{nat_eq}
 use Rattle.indexmap.specs.IndexSet.{insert_key}
 use Rattle.indexmap.specs.IndexMap.{insert_entry}
-use Rattle.rio_layout.specs.Meanings.{Standing, stand}
+use Rattle.rio_num.specs.Meanings.{Standing, stand}
 
 -- The places of the count words of pointed objects, in order: an object's label is its number in this list. And the class
 -- names by the places of the class words that spell them out.

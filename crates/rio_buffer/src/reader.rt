@@ -39,8 +39,8 @@ enum ClassWord {
 impl<'a> ObjReader<'a> {
     ghost use Rattle.std.specs.Prelude.{◌≡◌, ◌+◌, ◌<◌, ◌≤◌, ◌^◌, length, IsTrue, IfOk, IfErr, OnErr, Ok, Err};
     ghost use Rattle.rio_num.specs.At.{AreBytes, GoesOn};
-    ghost use Rattle.rio_layout.specs.Layout.{any, name, number, text};
-    ghost use Rattle.rio_layout.specs.Meanings.{read};
+    ghost use Rattle.rio_num.specs.Layout.{any, name, number, text};
+    ghost use Rattle.rio_num.specs.Meanings.{read};
     ghost use Rattle.rio_buffer.specs.ReaderState.{standing, no_words, with_label, with_name};
     ghost use Rattle.rio_buffer.specs.Frames.{ReadsAs, Fails, is_count, data_end, end_of, finish, header_end, header, class_word, known_class, new_word, reference, pointer_word};
     ghost use Rattle.rio_buffer.specs.Reader.{Takes, MayTake, IsCounted, IsPointerWithin, name_of, noted};

@@ -18,11 +18,11 @@ use Rattle.rio_buffer.specs.declared.words.PointerWord.{PointerWord}
 use Rattle.rio_buffer.specs.declared.words.PointerWord.TheVariants.{Null, New, Back}
 use Rattle.rio_buffer.specs.declared.fault.ObjFault.{ObjFault}
 use Rattle.rio_buffer.specs.declared.fault.ObjFault.TheVariants.{Short, BadCount, NoCount, CountMismatch}
-use Rattle.rio_layout.specs.Layout.{behind, must}
-use Rattle.rio_layout.specs.Meanings.{Spells}
+use Rattle.rio_num.specs.Layout.{behind, must}
+use Rattle.rio_num.specs.Meanings.{Spells}
 use Rattle.rio_buffer.specs.Frames.{ObjLayout, is_count, end_of, finish, header_end, checksum, header, new_class, class_word, new_word, pointer_word}
 use Rattle.rio_format.specs.Objects.{has_pid, Objects, pointed, pointer, number_value, numbers, filled, counted_values, text_value, kind_value, member_part, member_parts, base_part, parts, count_of, link, list_parts, array_parts, pid_of, bare_layout, array, closed as closed_by, whole_object, unread, body, headed, formed, object_of}
-use Rattle.rio_layout.proofs.Within.{Within, Closed, IsLong, GoesTo, IsFree, closed_behind, closed_over, within_behind, long_first, long_next, goes_first, goes_next, closed_done, closed_broken, closed_number, closed_text, closed_any, closed_here, closed_choice, closed_must, closed_each, closed_times, within_free, within_choice, free_number, free_here, free_name, free_met, free_note, free_done, free_broken, free_known, free_choice, free_behind, free_must, long_number, long_times}
+use Rattle.rio_num.proofs.Within.{Within, Closed, IsLong, GoesTo, IsFree, closed_behind, closed_over, within_behind, long_first, long_next, goes_first, goes_next, closed_done, closed_broken, closed_number, closed_text, closed_any, closed_here, closed_choice, closed_must, closed_each, closed_times, within_free, within_choice, free_number, free_here, free_name, free_met, free_note, free_done, free_broken, free_known, free_choice, free_behind, free_must, long_number, long_times}
 
 -- ---- byte counts
 

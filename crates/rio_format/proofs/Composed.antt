@@ -12,7 +12,7 @@ use Rattle.rio_types.specs.declared.kind.Primitive.TheVariants.{I32}
 use Rattle.rio_value.specs.declared.value.Value.{Value, Text, List as Items, Object, Pointed, Null, Back, Opaque}
 use Rattle.rio_value.specs.declared.value.Part.{Part}
 use Rattle.rio_format.specs.Bodies.{part, Form, bare, numbers, headed, form_of, Body, described, listed, arrayed, opaque, body_of, slots_of, Counters, counters_with, count_by}
-use Rattle.rio_layout.specs.Meanings.{HasNoZero}
+use Rattle.rio_num.specs.Meanings.{HasNoZero}
 use Rattle.rio_buffer.specs.Frames.{is_count}
 use Rattle.rio_format.specs.Objects.{has_pid, bare_object, pid_part}
 use Rattle.rio_format.specs.Prims.{width_of, value_of_prim}

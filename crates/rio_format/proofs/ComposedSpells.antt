@@ -14,9 +14,9 @@ use Rattle.rio_types.specs.declared.kind.Primitive.{Primitive}
 use Rattle.rio_types.specs.declared.kind.Primitive.TheVariants.{I32}
 use Rattle.rio_value.specs.declared.value.Value.{Value, Text, List as Items, Object, Pointed, Null as Nothing, Back as Earlier, Opaque}
 use Rattle.rio_value.specs.declared.value.Part.{Part}
-use Rattle.rio_layout.specs.Layout.{done, name, text, each, times, ◌>>=◌}
-use Rattle.rio_layout.proofs.Intro.{IsSo, so_by, first_is, second_is, here_then, reaches_then, met_then, number_then, still_then, note_then, done_is, known_is, ends_with, both_are, any_is}
-use Rattle.rio_layout.proofs.Within.{IsLong, long_times}
+use Rattle.rio_num.specs.Layout.{done, name, text, each, times, ◌>>=◌}
+use Rattle.rio_num.proofs.Intro.{IsSo, so_by, first_is, second_is, here_then, reaches_then, met_then, number_then, still_then, note_then, done_is, known_is, ends_with, both_are, any_is}
+use Rattle.rio_num.proofs.Within.{IsLong, long_times}
 use Rattle.rio_buffer.specs.Frames.{ObjLayout, is_count, counted_end, end_of, finish, checksum, header, new_class, class_word, new_word, pointer_word}
 use Rattle.rio_buffer.specs.ReaderState.{WordsMet, with_label, with_name}
 use Rattle.rio_buffer.specs.declared.words.Header.{Header}

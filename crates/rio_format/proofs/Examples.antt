@@ -15,7 +15,7 @@ use Rattle.rio_buffer.specs.ReaderState.{no_words}
 use Rattle.rio_format.specs.Written.{Writing, written_form, writing_step, writing_of}
 use Rattle.rio_format.proofs.ValueCases.{fold_Int, fold_Pointed, fold_Back}
 use Rattle.rio_format.proofs.WrittenValues.{fit_object, write_object}
-use Rattle.rio_layout.specs.Layout.{each}
+use Rattle.rio_num.specs.Layout.{each}
 use Rattle.rio_buffer.specs.Frames.{header, pointer_word, new_word, class_word, new_class}
 use Rattle.rio_format.specs.Objects.{value_at, object_of, formed, headed, body, whole_object, closed, parts, base_part, member_part, member_parts, kind_value, number_value, count_of, text_value, pointer, pointed, bare_layout, list_parts, link, unread}
 use Rattle.rio_buffer.specs.declared.fault.ObjFault.TheVariants.{CountMismatch}

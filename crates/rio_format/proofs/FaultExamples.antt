@@ -2,8 +2,8 @@
 use Rattle.std.proofs.Common.{◌<◌, pos, [], ◌∷◌, ◌++◌, codes, None, inl, inr, refl, arith, lit<, lit≤}
 use Rattle.byteorder.specs.Endian.{big_bytes}
 use Rattle.rio_types.specs.declared.kind.Primitive.TheVariants.{U8}
-use Rattle.rio_layout.specs.Layout.{number}
-use Rattle.rio_layout.specs.Meanings.{Breaks}
+use Rattle.rio_num.specs.Layout.{number}
+use Rattle.rio_num.specs.Meanings.{Breaks}
 use Rattle.rio_buffer.specs.Frames.{class_word, finish, header, pointer_word}
 use Rattle.rio_buffer.specs.ReaderState.{WordsMet, no_words}
 use Rattle.rio_buffer.specs.declared.fault.ObjFault.{ObjFault}

@@ -5,7 +5,7 @@ use Rattle.rio_num.specs.At.{AreBytes}
 use Rattle.rio_num.proofs.ReadLaws.{ok_is}
 use Rattle.rio_types.specs.declared.class.ClassDef.{ClassDef}
 use Rattle.rio_value.specs.declared.value.Value.{Value}
-use Rattle.rio_layout.proofs.Agree as Agree
+use Rattle.rio_num.proofs.Agree as Agree
 use Rattle.rio_buffer.specs.Frames.{Step}
 use Rattle.rio_buffer.specs.ReaderState.{ReaderState, no_words, standing}
 use Rattle.rio_buffer.specs.declared.fault.ObjFault.{ObjFault}

@@ -15,7 +15,7 @@ use Rattle.rio_value.specs.declared.value.Value.TheFolds.{fold_out-Value, fold-P
 use Rattle.rio_value.specs.declared.value.Part.{Part}
 use Rattle.rio_format.specs.Fits.{Labels, Fitting, pass, may_point, back_fits, pointed_fits, fitting_step, fitting_of}
 use Rattle.rio_format.specs.Slots.{kinded, any_pointer, can_be_word}
-use Rattle.rio_layout.specs.Meanings.{HasNoZero}
+use Rattle.rio_num.specs.Meanings.{HasNoZero}
 use Rattle.rio_format.proofs.Composed.{Spellings, SpellsClass, SpellsPointer, IsNew}
 use Rattle.rio_buffer.specs.ReaderState.{WordsMet, with_label}
 use Rattle.rio_buffer.specs.Writer.{class_by, class_bytes}

@@ -9,8 +9,8 @@ use Rattle.rio_types.specs.declared.kind.Primitive.{Primitive}
 use Rattle.rio_types.specs.declared.kind.Primitive.TheVariants.{I32}
 use Rattle.rio_value.specs.declared.value.Value.{Value, Int, Text, List as Items, Object, Pointed, Null as Nothing, Back as Earlier, Opaque}
 use Rattle.rio_value.specs.declared.value.Part.{Part}
-use Rattle.rio_layout.specs.Layout.{done, broken, number, text, any, here, reaches, must, each, times, ◌>>=◌, when◌then◌else◌}
-use Rattle.rio_layout.specs.Meanings.{read, Spells, Breaks}
+use Rattle.rio_num.specs.Layout.{done, broken, number, text, any, here, reaches, must, each, times, ◌>>=◌, when◌then◌else◌}
+use Rattle.rio_num.specs.Meanings.{read, Spells, Breaks}
 use Rattle.rio_buffer.specs.ReaderState.{WordsMet, no_words, standing}
 use Rattle.rio_buffer.specs.Frames.{Step, ObjLayout, finish, header, pointer_word}
 use Rattle.rio_buffer.specs.declared.words.Header.{Header}

@@ -5,7 +5,7 @@ use Rattle.rio_num.specs.Reading.{◌>>=◌}
 use Rattle.rio_buffer.specs.Frames.{ObjLayout, Step}
 use Rattle.rio_buffer.specs.ReaderState.{ReaderState}
 use Rattle.rio_buffer.specs.declared.fault.ObjFault.{ObjFault}
-use Rattle.rio_layout.specs.Layout.{each, times}
+use Rattle.rio_num.specs.Layout.{each, times}
 use Rattle.rio_types.specs.declared.class.Member.{Member}
 use Rattle.rio_types.specs.declared.kind.Kind.TheVariants.{Counter}
 use Rattle.rio_value.specs.declared.value.Part.{Part}
@@ -13,7 +13,7 @@ use Rattle.rio_format.specs.Bodies.{Counters, counters_with}
 use Rattle.rio_read.specs.Lists.{with_front}
 use Rattle.rio_read.specs.Members.{counter_part}
 use Rattle.rio_format.specs.Objects.{Objects, kind_value, member_part, member_parts}
-use Rattle.rio_layout.specs.Meanings.{read}
+use Rattle.rio_num.specs.Meanings.{read}
 
 module _ {Y S E : Type 0} where
   pub with_front-more : (front : List Y) (y : Y) (given : Result (List Y × S) E) → with_front front (given >>= λ ys. Ok (y ∷ ys.0, ys.1)) ≡ with_front (front ++ y ∷ []) given

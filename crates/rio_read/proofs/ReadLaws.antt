@@ -6,8 +6,8 @@ use Rattle.rio_value.specs.declared.value.Value.{Value}
 use Rattle.rio_num.specs.At.{AreBytes}
 use Rattle.rio_buffer.specs.Frames.{Step, ReadsAs}
 use Rattle.rio_format.specs.Objects.{SpellsObject, depth_limit, first_at, object_of, only_value, value_at}
-use Rattle.rio_layout.specs.Meanings.{read}
-use Rattle.rio_layout.proofs.Agree as Agree
+use Rattle.rio_num.specs.Meanings.{read}
+use Rattle.rio_num.proofs.Agree as Agree
 use Rattle.rio_buffer.specs.ReaderState.{ReaderState, standing}
 use Rattle.rio_buffer.specs.declared.fault.ObjFault.{ObjFault}
 use Rattle.rio_format.proofs.ObjectLaws.{read_is_spelled, spelled_is_read}

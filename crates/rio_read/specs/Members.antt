@@ -2,7 +2,7 @@
 use Rattle.std.specs.Prelude.{ℕ, List, [], ◌∷◌, Option, Some, None}
 use Rattle.rio_types.specs.declared.kind.Primitive.TheVariants.{I32}
 use Rattle.rio_value.specs.declared.value.Part.{Part}
-use Rattle.rio_layout.specs.Layout.{done, ◌>>=◌}
+use Rattle.rio_num.specs.Layout.{done, ◌>>=◌}
 use Rattle.rio_buffer.specs.Frames.{ObjLayout}
 use Rattle.rio_format.specs.Bodies.{part}
 use Rattle.rio_format.specs.Objects.{number_value, pid_part}

@@ -3,7 +3,7 @@ use Rattle.std.specs.Prelude.{◌≡◌, ℕ, ◌+◌, List, ◌++◌, length, R
 use Rattle.rio_types.specs.declared.class.ClassDef.{ClassDef}
 use Rattle.rio_value.specs.declared.value.Value.{Value}
 use Rattle.rio_buffer.specs.Frames.{Fails, ReadsAs}
-use Rattle.rio_layout.specs.Meanings.{HasTaken, Spells, read}
+use Rattle.rio_num.specs.Meanings.{HasTaken, Spells, read}
 use Rattle.rio_format.specs.Objects.{SpellsObject, depth_limit, object_of}
 use Rattle.rio_buffer.specs.ReaderState.{ReaderState, WordsMet, standing}
 use Rattle.rio_buffer.specs.declared.fault.ObjFault.{ObjFault}

@@ -4,7 +4,7 @@ ghost use Rattle.rio_num.specs.At.{GoesOn};
 ghost use Rattle.rio_format.specs.Bodies.{part, t_named, t_obj_string};
 ghost use Rattle.rio_buffer.specs.Frames.{ReadsAs};
 ghost use Rattle.rio_format.specs.Objects.{object_of, parts};
-ghost use Rattle.rio_layout.specs.Meanings.{read};
+ghost use Rattle.rio_num.specs.Meanings.{read};
 ghost use Rattle.rio_value.specs.declared.value.Value.{Text, List as Listing};
 
 use crate::bare::read_base;

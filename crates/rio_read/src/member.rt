@@ -4,7 +4,7 @@ ghost use Rattle.rio_num.specs.At.{GoesOn};
 ghost use Rattle.rio_format.specs.Bodies.{number_in, part};
 ghost use Rattle.rio_buffer.specs.Frames.{ReadsAs};
 ghost use Rattle.rio_value.specs.declared.value.Value.{out-Value, Text, List as Listing};
-ghost use Rattle.rio_layout.specs.Meanings.{read};
+ghost use Rattle.rio_num.specs.Meanings.{read};
 ghost use Rattle.rio_read.specs.Members.{counter_part};
 
 use rio_buffer::{ObjFault, ObjReader};

@@ -3,8 +3,8 @@ ghost use Rattle.std.specs.Prelude.{◌≡◌, ◌<◌, ◌^◌, IfOk};
 ghost use Rattle.rio_num.specs.At.{GoesOn};
 ghost use Rattle.rio_buffer.specs.Frames.{ReadsAs};
 ghost use Rattle.rio_format.specs.Objects.{count_of, counted_values, filled, number_value, numbers, text_value};
-ghost use Rattle.rio_layout.specs.Layout.{text, times};
-ghost use Rattle.rio_layout.specs.Meanings.{read};
+ghost use Rattle.rio_num.specs.Layout.{text, times};
+ghost use Rattle.rio_num.specs.Meanings.{read};
 
 use rio_buffer::{ObjFault, ObjReader};
 use rio_num::Name;

@@ -5,8 +5,8 @@ ghost use Rattle.rio_num.specs.At.{AreBytes, GoesOn};
 ghost use Rattle.rio_format.specs.Bodies.{form_of, body_of, counters_with, t_named, t_obj_string};
 ghost use Rattle.rio_buffer.specs.Frames.{ReadsAs};
 ghost use Rattle.rio_format.specs.Objects.{array_parts, base_part, body, formed, headed, kind_value, link, list_parts, member_part, member_parts, object_of, parts, pointer};
-ghost use Rattle.rio_layout.specs.Layout.{each, times};
-ghost use Rattle.rio_layout.specs.Meanings.{read};
+ghost use Rattle.rio_num.specs.Layout.{each, times};
+ghost use Rattle.rio_num.specs.Meanings.{read};
 ghost use Rattle.rio_buffer.specs.Reader.{IsCounted};
 ghost use Rattle.rio_read.specs.Lists.{with_front};
 

@@ -7,8 +7,8 @@ use Rattle.rio_buffer.specs.ReaderState.{ReaderState}
 use Rattle.rio_buffer.specs.declared.fault.ObjFault.{ObjFault}
 use Rattle.rio_format.specs.Objects.{BreaksObject, depth_limit, object_of, only_value, value_at}
 use Rattle.rio_format.proofs.ObjectLaws.{broken_is_fault, fault_is_broken, not_both}
-use Rattle.rio_layout.specs.Meanings.{read}
-use Rattle.rio_layout.proofs.Agree as Agree
+use Rattle.rio_num.specs.Meanings.{read}
+use Rattle.rio_num.proofs.Agree as Agree
 use Rattle.rio_read.specs.Reading.{Answers, ReadsNext}
 use Rattle.rio_stream.specs.FirstFault.{BreaksNext, RefusesBreak, TellsBreak}
 

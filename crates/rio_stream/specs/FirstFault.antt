@@ -5,7 +5,7 @@ use Rattle.rio_value.specs.declared.value.Value.{Value}
 use Rattle.rio_buffer.specs.ReaderState.{ReaderState}
 use Rattle.rio_buffer.specs.declared.fault.ObjFault.{ObjFault}
 use Rattle.rio_buffer.specs.declared.fault.ObjFault.TheVariants.{NoMemory}
-use Rattle.rio_layout.specs.Meanings.{Breaks}
+use Rattle.rio_num.specs.Meanings.{Breaks}
 use Rattle.rio_format.specs.Objects.{depth_limit, object_of}
 use Rattle.rio_read.specs.Reading.{Answers}
 

@@ -8,7 +8,7 @@ use Rattle.rio_num.specs.At.{At}
 use Rattle.rio_num.specs.Reading.{skip, short, text_at, text_head}
 use Rattle.rio_num.specs.declared.cursor.Short.{Short}
 use Rattle.rio_num.proofs.ReadLaws.{IsBytes, back_4}
-use Rattle.rio_layout.specs.Meanings.{IsCutText}
+use Rattle.rio_num.specs.Meanings.{IsCutText}
 
 -- ---- cut bytes are short
 

@@ -3,9 +3,9 @@ use Rattle.std.proofs.Common.{◌≡◌, ℕ, List, [], ◌∷◌, ◌++◌, cod
 use Rattle.byteorder.specs.Endian.{big_bytes}
 use Rattle.rio_num.specs.Reading.{short, text_at}
 use Rattle.rio_num.specs.declared.cursor.Short.{Short}
-use Rattle.rio_layout.specs.Books.{Authors, Book, too_few, too_far, nobody, book, books, author}
-use Rattle.rio_layout.specs.Layout.{Layout, done, number, text, each, times, retold, ◌>>=◌}
-use Rattle.rio_layout.specs.Meanings.{read, stand, Spells, Breaks}
+use Rattle.rio_num.specs.Books.{Authors, Book, too_few, too_far, nobody, book, books, author}
+use Rattle.rio_num.specs.Layout.{Layout, done, number, text, each, times, retold, ◌>>=◌}
+use Rattle.rio_num.specs.Meanings.{read, stand, Spells, Breaks}
 
 -- ---- books
 

@@ -5,7 +5,7 @@ use Rattle.rio_num.specs.At.{At, end_place}
 use Rattle.rio_num.specs.Reading.{◌>>=◌, bytes_at, number_at, skip, text_at}
 use Rattle.rio_num.specs.Text.{SpellsText}
 use Rattle.rio_num.specs.declared.cursor.Short.{Short}
-use Rattle.rio_layout.specs.Layout.{Layout, done, broken, number, bytes, text, name, here, reaches, met, note, choice, behind}
+use Rattle.rio_num.specs.Layout.{Layout, done, broken, number, bytes, text, name, here, reaches, met, note, choice, behind}
 
 -- ---- reading
 

@@ -5,8 +5,8 @@ use Rattle.std.proofs.lemmas.List.{length-append, length-take, take_at, take_all
 use Rattle.std.specs.List.{position_or_len}
 use Rattle.rio_num.specs.Reading.{skip}
 use Rattle.rio_num.proofs.ReadLaws.{ok_is}
-use Rattle.rio_layout.specs.Layout.{name}
-use Rattle.rio_layout.specs.Meanings.{Standing, HasNoZero, ended_name, read, stand}
+use Rattle.rio_num.specs.Layout.{name}
+use Rattle.rio_num.specs.Meanings.{Standing, HasNoZero, ended_name, read, stand}
 
 -- how many bytes stand before the first zero byte
 abbrev pub before_zero : List ℕ → ℕ

@@ -8,12 +8,12 @@ use Rattle.rio_num.specs.At.{At, AreBytes, end_place}
 use Rattle.rio_num.specs.Reading.{◌>>=◌, skip, short, text_at}
 use Rattle.rio_num.specs.declared.cursor.Short.{Short}
 use Rattle.rio_num.proofs.ReadLaws.{IsBytes-drop, ok_is, bind_ok, text_again, text_found}
-use Rattle.rio_layout.specs.Layout.{Layout, done, broken, number, bytes, text, name, here, reaches, met, note, choice, behind}
-use Rattle.rio_layout.specs.Meanings.{Standing, Reading, read, of_bytes, stand, Spells, Breaks, HasTaken}
-use Rattle.rio_layout.specs.Laws.{Agrees}
-use Rattle.rio_layout.proofs.Bytes.{reads_back}
-use Rattle.rio_layout.proofs.Names.{name_again, name_endless, name_found, name_told}
-use Rattle.rio_layout.proofs.Texts.{text_fault, text_told}
+use Rattle.rio_num.specs.Layout.{Layout, done, broken, number, bytes, text, name, here, reaches, met, note, choice, behind}
+use Rattle.rio_num.specs.Meanings.{Standing, Reading, read, of_bytes, stand, Spells, Breaks, HasTaken}
+use Rattle.rio_num.specs.Laws.{Agrees}
+use Rattle.rio_num.proofs.LayoutBytes.{reads_back}
+use Rattle.rio_num.proofs.LayoutNames.{name_again, name_endless, name_found, name_told}
+use Rattle.rio_num.proofs.LayoutTexts.{text_fault, text_told}
 
 -- nothing is taken of the bytes
 still : {W F A : Type 0} (p : ℕ) (b more : List ℕ) (u : W) (a : A) → b ≡ [] → read {F = F} (done a) (stand p (b ++ more) u) ≡ Ok (a, stand (p + length b) more u)

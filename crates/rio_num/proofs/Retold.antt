@@ -3,8 +3,8 @@ use Rattle.std.proofs.Common.{◌≡◌, ℕ, ◌+◌, Bool, true, false, cond, 
 use Rattle.rio_num.specs.At.{At, end_place}
 use Rattle.rio_num.specs.Reading.{◌>>=◌, bytes_at, number_at, text_at}
 use Rattle.rio_num.specs.declared.cursor.Short.{Short}
-use Rattle.rio_layout.specs.Layout.{Layout, done, broken, number, bytes, text, name, here, reaches, met, note, choice, behind, retold}
-use Rattle.rio_layout.specs.Meanings.{Standing, Reading, ended_name, of_bytes, read, Spells}
+use Rattle.rio_num.specs.Layout.{Layout, done, broken, number, bytes, text, name, here, reaches, met, note, choice, behind, retold}
+use Rattle.rio_num.specs.Meanings.{Standing, Reading, ended_name, of_bytes, read, Spells}
 
 -- the same, or the same fault in other words
 abbrev pub with_fault : {F G X : Type 0} → (G → F) → Result X G → Result X F

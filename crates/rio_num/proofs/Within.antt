@@ -3,8 +3,8 @@ use Rattle.std.proofs.Common.{◌≡◌, ℕ, ◌+◌, ◌*◌, ◌≤◌, Bool,
 use Rattle.std.proofs.lemmas.List.{length-append, length-replicate}
 use Rattle.std.proofs.Math.Nat.{suc-mul}
 use Rattle.byteorder.specs.Numbers.{length-bytes_high_first}
-use Rattle.rio_layout.specs.Layout.{Layout, done, broken, number, bytes, text, name, any, here, reaches, met, note, choice, behind, known, must, each, times}
-use Rattle.rio_layout.specs.Meanings.{Spells}
+use Rattle.rio_num.specs.Layout.{Layout, done, broken, number, bytes, text, name, any, here, reaches, met, note, choice, behind, known, must, each, times}
+use Rattle.rio_num.specs.Meanings.{Spells}
 
 -- what is spelled within some data is spelled within longer ones
 pub widen : {W F A : Type 0} (l : Layout W F A) (end end' p : ℕ) (t : W) (y : A) (b : List ℕ) (t' : W) → end ≤ end' → Spells l end p t y b t' → Spells l end' p t y b t'

@@ -3,8 +3,8 @@ use Rattle.std.proofs.Common.{◌≡◌, ℕ, ◌+◌, ◌^◌, ◌<◌, ◌≤�
 use Rattle.std.proofs.lemmas.List.{append-nil}
 use Rattle.byteorder.specs.Endian.{big_bytes}
 use Rattle.byteorder.specs.Numbers.{length-bytes_high_first}
-use Rattle.rio_layout.specs.Layout.{Layout, done, number, bytes, here, reaches, met, note, choice, behind, known, any}
-use Rattle.rio_layout.specs.Meanings.{Spells}
+use Rattle.rio_num.specs.Layout.{Layout, done, number, bytes, here, reaches, met, note, choice, behind, known, any}
+use Rattle.rio_num.specs.Meanings.{Spells}
 
 abbrev nothing : List ℕ
 nothing = []

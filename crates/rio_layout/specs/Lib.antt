@@ -1,4 +1,0 @@
-pub mod Books
-pub mod Laws
-pub mod Layout
-pub mod Meanings
