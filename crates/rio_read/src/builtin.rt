@@ -76,7 +76,7 @@ pub(crate) fn array_parts(
 }
 
 /// The parts of a TNamed.
-#[tactic(auto, unfolding(rio_format::specs::Objects::parts, rio_format::specs::Objects::member_parts, rio_format::specs::Objects::member_part, rio_format::specs::Objects::kind_value, rio_format::specs::Objects::base_part, rio_format::specs::Objects::text_value, rio_layout::specs::Layout::each))]
+#[tactic(auto, unfolding(rio_format::specs::Objects::parts, rio_format::specs::Objects::member_parts, rio_format::specs::Objects::member_part, rio_format::specs::Objects::kind_value, rio_format::specs::Objects::base_part, rio_format::specs::Objects::text_value, rio_num::specs::Layout::each))]
 pub(crate) fn read_named_parts(
     alloc: Global,
     classes: &Classes,
@@ -94,7 +94,7 @@ pub(crate) fn read_named_parts(
 }
 
 /// The parts of a TObjString.
-#[tactic(auto, unfolding(rio_format::specs::Objects::parts, rio_format::specs::Objects::member_parts, rio_format::specs::Objects::member_part, rio_format::specs::Objects::kind_value, rio_format::specs::Objects::base_part, rio_format::specs::Objects::text_value, rio_layout::specs::Layout::each))]
+#[tactic(auto, unfolding(rio_format::specs::Objects::parts, rio_format::specs::Objects::member_parts, rio_format::specs::Objects::member_part, rio_format::specs::Objects::kind_value, rio_format::specs::Objects::base_part, rio_format::specs::Objects::text_value, rio_num::specs::Layout::each))]
 pub(crate) fn read_obj_string_parts(
     alloc: Global,
     classes: &Classes,
