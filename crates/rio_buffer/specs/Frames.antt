@@ -1,33 +1,28 @@
--- What stands around objects, read from left to right: numbers, texts, byte counts, headers and the words of pointers.
-use Rattle.std.specs.Prelude.{◌≡◌, ◌≢◌, ◌==◌, ◌&&◌, ℕ, ◌+◌, ◌-◌, ◌*◌, ◌^◌, pos, List, length, take, Option, Some, None, Result, Ok, Err, nat_eq, nat_lt, nat_le, Bool, if◌then◌else◌, position}
+-- What stands around objects: byte counts, headers and the words of pointers. Each rule stands here once; the meanings of
+-- descriptions say how it is read, spelled and broken.
+use Rattle.std.specs.Prelude.{◌≡◌, ◌≢◌, ◌==◌, ◌&&◌, ℕ, ◌+◌, ◌-◌, ◌*◌, ◌^◌, pos, List, length, Option, Some, None, Result, Ok, Err, nat_eq, nat_lt, nat_le, Bool, if◌then◌else◌, position}
 use Rattle.std.specs.Map.{lookup}
-use Rattle.rio_num.specs.At.{At}
-use Rattle.rio_num.specs.Reading.{◌>>=◌, number_at, text_at, skip}
-use Rattle.rio_num.specs.declared.cursor.Short.{Short as Shortage}
-use Rattle.rio_buffer.specs.ReaderState.{ReaderState, with_label, with_name}
+use Rattle.rio_num.specs.At.{end_place}
+use Rattle.rio_num.specs.Layout.{Layout, done, broken, number, name, here, reaches, met, note, must, known, ◌>>=◌, when◌then◌else◌}
+use Rattle.rio_num.specs.Meanings.{Reading}
+use Rattle.rio_buffer.specs.ReaderState.{ReaderState, WordsMet, with_label, with_name}
 use Rattle.rio_buffer.specs.declared.words.Header.{Header}
 use Rattle.rio_buffer.specs.declared.words.PointerWord.{PointerWord}
 use Rattle.rio_buffer.specs.declared.words.PointerWord.TheVariants.{Null, New, Back}
 use Rattle.rio_buffer.specs.declared.fault.ObjFault.{ObjFault}
 use Rattle.rio_buffer.specs.declared.fault.ObjFault.TheVariants.{Short, BadCount, UnknownClassWord, UnknownRef, NoCount, CountMismatch, NoMemory}
 
+-- a description of a part of the data of objects
+abbrev pub ObjLayout : Type 0 → Type 1
+ObjLayout A = Layout WordsMet ObjFault A
+
 -- what is read, and where reading stands behind it, or the first fault
 abbrev pub Step : Type 0 → Type 0
-Step A = Result (A × ReaderState) ObjFault
+Step A = Reading WordsMet ObjFault A
 
--- ---- numbers and texts
-
--- what is read of the bytes alone
-abbrev pub lifted : {A : Type 0} → ReaderState → Result (A × At) Shortage → Step A
-lifted s (Ok x) = Ok (x.0, record s { at = x.1 })
-lifted s (Err e) = Err (Short e.place e.wanted)
-
--- a number of n bytes
-abbrev pub word_at : ℕ → ReaderState → Step ℕ
-word_at n s = lifted s (number_at n s.at)
-
-abbrev pub chars_at : ReaderState → Step (List ℕ)
-chars_at s = lifted s (text_at s.at)
+-- where the data end
+abbrev pub data_end : ReaderState → ℕ
+data_end s = end_place s.at
 
 -- ---- byte counts
 
@@ -39,87 +34,81 @@ is_count w = nat_le (2 ^ 30) w && nat_lt w (2 ^ 31)
 abbrev pub counted_end : ℕ → ℕ → ℕ
 counted_end place w = place + 4 + (w - 2 ^ 30)
 
--- where the data end
-abbrev pub data_end : ReaderState → ℕ
-data_end s = s.at.place + length s.at.rest
+-- the end that the count word at the place gives, within the data
+abbrev pub end_of : ℕ → ℕ → ObjLayout ℕ
+end_of place w = do
+  _ ← reaches (counted_end place w) (BadCount place)
+  done (counted_end place w)
 
--- the end that a count word gives, within the data
-abbrev pub end_at : ℕ → ℕ → ReaderState → Step ℕ
-end_at place w s = if nat_lt (data_end s) (counted_end place w) then Err (BadCount place) else Ok (counted_end place w, s)
-
--- reading stands where the count said
-abbrev pub finish_at : ℕ → ℕ → ReaderState → Step (Unit {0})
-finish_at place end s =
-    if s.at.place == end then Ok (tt, s) else Err (CountMismatch place (end - place - 4) (s.at.place - place - 4))
-
--- ---- headers
+-- the bytes end where the count word at the place says
+abbrev pub finish : ℕ → ℕ → ObjLayout (Unit {0})
+finish place end = do
+  q ← here
+  must (q == end) (CountMismatch place (end - place - 4) (q - place - 4))
 
 -- the end that a header's word gives; with both upper bits there is no count that could be right
-abbrev pub header_end_at : ℕ → ℕ → ReaderState → Step ℕ
-header_end_at place w s =
-    if is_count w then end_at place w s else if nat_le (3 * 2 ^ 30) w then Err (BadCount place) else Err (NoCount place)
+abbrev pub header_end : ℕ → ℕ → ObjLayout ℕ
+header_end place w = when is_count w then end_of place w else when nat_le (3 * 2 ^ 30) w then broken (BadCount place) else broken (NoCount place)
 
--- a header: a byte count, a version, and behind version 0 a checksum
-unfoldable pub header_at : ReaderState → Step Header
-header_at s = do
-  w ← word_at 4 s
-  end ← header_end_at s.at.place w.0 w.1
-  version ← word_at 2 end.1
-  if version.0 == 0
-      then (word_at 4 version.1 >>= λ sum. Ok (record { place = s.at.place; end = end.0; version = pos 0; sum = Some sum.0 }, sum.1))
-      else Ok (record { place = s.at.place; end = end.0; version = pos version.0; sum = None }, version.1)
+abbrev pub checksum : ℕ → ObjLayout (Option ℕ)
+checksum version =
+    when version == 0
+    then (do sum ← number Short 4; done (Some sum))
+    else done None
+
+-- a byte count, a version, and behind version 0 a checksum
+unfoldable pub header : ObjLayout Header
+header = do
+  place ← here
+  w ← number Short 4
+  end ← header_end place w
+  version ← number Short 2
+  sum ← checksum version
+  done (record { place = place; end = end; version = pos version; sum = sum })
 
 -- ---- pointers
 
--- a name that ends before a zero byte
-abbrev pub named : ReaderState → Option ℕ → Step (List ℕ)
-named s None = Err (Short (data_end s) 1)
-named s (Some k) = Ok (take k s.at.rest, record s { at = skip (k + 1) s.at })
-
-abbrev pub name_at : ReaderState → Step (List ℕ)
-name_at s = named s (position (λ b. b == 0) s.at.rest)
-
 -- a class word that spells the name out
-unfoldable pub new_class_at : ℕ → ReaderState → Step (List ℕ)
-new_class_at place s = do
-  name ← name_at s
-  Ok (name.0, record name.1 { words = with_name name.1.words place name.0 })
+unfoldable pub new_class : ℕ → ObjLayout (List ℕ)
+new_class place = do
+  class ← name Short
+  t ← met
+  _ ← note (with_name t place class)
+  done class
 
 -- a class word that names an earlier one
-abbrev pub known_class : ℕ → ℕ → ReaderState → Option (List ℕ) → Step (List ℕ)
-known_class place w s None = Err (UnknownClassWord place w)
-known_class place w s (Some name) = Ok (name, s)
+abbrev pub known_class : ℕ → ℕ → ObjLayout (List ℕ)
+known_class place w = do
+  t ← met
+  known (UnknownClassWord place w) (if nat_lt w (2 ^ 31 + 2) then None else lookup (nat_eq (w - (2 ^ 31 + 2))) t.names)
 
-abbrev pub known_class_at : ℕ → ℕ → ReaderState → Step (List ℕ)
-known_class_at place w s =
-    if nat_lt w (2 ^ 31 + 2) then Err (UnknownClassWord place w) else known_class place w s (lookup (nat_eq (w - (2 ^ 31 + 2))) s.words.names)
-
-unfoldable pub class_at : ReaderState → Step (List ℕ)
-class_at s = do
-  w ← word_at 4 s
-  if w.0 == 2 ^ 32 - 1 then new_class_at s.at.place w.1 else known_class_at s.at.place w.0 w.1
+unfoldable pub class_word : ObjLayout (List ℕ)
+class_word = do
+  place ← here
+  w ← number Short 4
+  when w == 2 ^ 32 - 1 then new_class place else known_class place w
 
 -- an object begins behind its count word and its class word, with the next label
-unfoldable pub new_word_at : ℕ → ℕ → ReaderState → Step PointerWord
-new_word_at place w s = do
-  end ← end_at place w s
-  class ← class_at end.1
-  Ok (New (length class.1.words.labels) place end.0 class.0, record class.1 { words = with_label class.1.words place })
+unfoldable pub new_word : ℕ → ℕ → ObjLayout PointerWord
+new_word place w = do
+  end ← end_of place w
+  class ← class_word
+  t ← met
+  _ ← note (with_label t place)
+  done (New (length t.labels) place end class)
 
 -- a reference to an earlier object
-abbrev pub referred : ℕ → ℕ → ReaderState → Option ℕ → Step PointerWord
-referred place w s None = Err (UnknownRef place w)
-referred place w s (Some label) = Ok (Back label, s)
+abbrev pub reference : ℕ → ℕ → ObjLayout PointerWord
+reference place w = do
+  t ← met
+  label ← known (UnknownRef place w) (if nat_lt w 2 then None else position (nat_eq (w - 2)) t.labels)
+  done (Back label)
 
-abbrev pub reference_at : ℕ → ℕ → ReaderState → Step PointerWord
-reference_at place w s =
-    if nat_lt w 2 then Err (UnknownRef place w) else referred place w s (position (nat_eq (w - 2)) s.words.labels)
-
-unfoldable pub pointer_word_at : ReaderState → Step PointerWord
-pointer_word_at s = do
-  w ← word_at 4 s
-  if w.0 == 0 then Ok (Null, w.1)
-      else if is_count w.0 then new_word_at s.at.place w.0 w.1 else reference_at s.at.place w.0 w.1
+unfoldable pub pointer_word : ObjLayout PointerWord
+pointer_word = do
+  place ← here
+  w ← number Short 4
+  when w == 0 then done Null else when is_count w then new_word place w else reference place w
 
 -- ---- what a reader does
 

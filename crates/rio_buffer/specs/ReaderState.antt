@@ -3,7 +3,7 @@ use Rattle.std.specs.Prelude.{ℕ, List, []}
 use Rattle.std.specs.Prelude.{nat_eq}
 use Rattle.indexmap.specs.IndexSet.{insert_key}
 use Rattle.indexmap.specs.IndexMap.{insert_entry}
-use Rattle.rio_num.specs.At.{At}
+use Rattle.rio_num.specs.Meanings.{Standing, stand}
 
 -- The places of the count words of pointed objects, in order: an object's label is its number in this list. And the class
 -- names by the places of the class words that spell them out.
@@ -22,10 +22,9 @@ with_label t place = record t { labels = insert_key nat_eq t.labels place }
 abbrev pub with_name : WordsMet → ℕ → List ℕ → WordsMet
 with_name t place name = record t { names = insert_entry nat_eq t.names place name }
 
-pub record ReaderState : Type 0 where
-  pub at : At
-  pub words : WordsMet
+abbrev pub ReaderState : Type 0
+ReaderState = Standing WordsMet
 
 -- reading stands at a place, before the bytes, behind the words
 abbrev pub standing : ℕ → List ℕ → WordsMet → ReaderState
-standing place rest t = record { at = record { place = place; rest = rest }; words = t }
+standing place rest t = stand place rest t

@@ -39,9 +39,10 @@ enum ClassWord {
 impl<'a> ObjReader<'a> {
     ghost use Rattle.std.specs.Prelude.{◌≡◌, ◌+◌, ◌<◌, ◌≤◌, ◌^◌, length, IsTrue, IfOk, IfErr, OnErr, Ok, Err};
     ghost use Rattle.rio_num.specs.At.{AreBytes, GoesOn};
-    ghost use Rattle.rio_num.specs.Reading.{skip_at};
+    ghost use Rattle.rio_num.specs.Layout.{any, name, number, text};
+    ghost use Rattle.rio_num.specs.Meanings.{read};
     ghost use Rattle.rio_buffer.specs.ReaderState.{standing, no_words, with_label, with_name};
-    ghost use Rattle.rio_buffer.specs.Frames.{ReadsAs, Fails, lifted, word_at, chars_at, is_count, data_end, end_at, finish_at, header_end_at, header_at, name_at, class_at, known_class_at, new_word_at, reference_at, pointer_word_at};
+    ghost use Rattle.rio_buffer.specs.Frames.{ReadsAs, Fails, is_count, data_end, end_of, finish, header_end, header, class_word, known_class, new_word, reference, pointer_word};
     ghost use Rattle.rio_buffer.specs.Reader.{Takes, MayTake, IsCounted, IsPointerWithin, name_of, noted};
 
     /// Reads data whose first byte has the place `start`.
@@ -78,7 +79,8 @@ impl<'a> ObjReader<'a> {
 
     /// The next byte.
     pub fn take_u8(&mut self) -> Result<u8, ObjFault>
-        ensures exact { Takes (λ x. x) result (word_at 1 self.old) self.old self.new }
+        ensures exact { Takes (λ x. x) result
+            (read (number ObjFault.Short 1) self.old) self.old self.new }
         ensures goes { GoesOn self.old.at self.new.at }
     {
         Ok(self.cursor.take_u8()?)
@@ -86,7 +88,8 @@ impl<'a> ObjReader<'a> {
 
     /// The number in the next two bytes, in big-endian order.
     pub fn take_u16(&mut self) -> Result<u16, ObjFault>
-        ensures exact { Takes (λ x. x) result (word_at 2 self.old) self.old self.new }
+        ensures exact { Takes (λ x. x) result
+            (read (number ObjFault.Short 2) self.old) self.old self.new }
         ensures goes { GoesOn self.old.at self.new.at }
     {
         Ok(self.cursor.take_u16()?)
@@ -94,7 +97,8 @@ impl<'a> ObjReader<'a> {
 
     /// The number in the next four bytes, in big-endian order.
     pub fn take_u32(&mut self) -> Result<u32, ObjFault>
-        ensures exact { Takes (λ x. x) result (word_at 4 self.old) self.old self.new }
+        ensures exact { Takes (λ x. x) result
+            (read (number ObjFault.Short 4) self.old) self.old self.new }
         ensures goes { GoesOn self.old.at self.new.at }
     {
         Ok(self.cursor.take_u32()?)
@@ -102,7 +106,8 @@ impl<'a> ObjReader<'a> {
 
     /// The number in the next eight bytes, in big-endian order.
     pub fn take_u64(&mut self) -> Result<u64, ObjFault>
-        ensures exact { Takes (λ x. x) result (word_at 8 self.old) self.old self.new }
+        ensures exact { Takes (λ x. x) result
+            (read (number ObjFault.Short 8) self.old) self.old self.new }
         ensures goes { GoesOn self.old.at self.new.at }
     {
         Ok(self.cursor.take_u64()?)
@@ -110,7 +115,8 @@ impl<'a> ObjReader<'a> {
 
     /// The next text, which lives as long as the data.
     pub fn take_text(&mut self) -> Result<&'a [u8], ObjFault>
-        ensures exact { Takes (λ t. t.now) result (chars_at self.old) self.old self.new }
+        ensures exact { Takes (λ t. t.now) result
+            (read (text ObjFault.Short) self.old) self.old self.new }
         ensures goes { GoesOn self.old.at self.new.at }
     {
         Ok(self.cursor.take_text()?)
@@ -118,8 +124,8 @@ impl<'a> ObjReader<'a> {
 
     /// Passes over the next `n` bytes.
     pub fn skip(&mut self, n: u64) -> Result<(), ObjFault>
-        ensures exact { Takes (λ _. tt) result (lifted self.old (skip_at n self.old.at)) self.old
-            self.new }
+        ensures exact { Takes (λ _. tt) result
+            (read (any ObjFault.Short n) self.old) self.old self.new }
         ensures goes { GoesOn self.old.at self.new.at }
     {
         Ok(self.cursor.skip(n)?)
@@ -128,7 +134,8 @@ impl<'a> ObjReader<'a> {
     /// Compares the bytes used since the count word at `place` with its count, by which they end at `end`.
     pub fn finish(&mut self, place: u64, end: u64) -> Result<(), ObjFault>
         requires { IsCounted place end self.old }
-        ensures exact { Takes (λ _. tt) result (finish_at place end self.old) self.old self.new }
+        ensures exact { Takes (λ _. tt) result
+            (read (finish place end) self.old) self.old self.new }
         ensures goes { GoesOn self.old.at self.new.at }
     {
         let used_to = self.cursor.place();
@@ -156,7 +163,8 @@ impl<'a> ObjReader<'a> {
         requires count { IsTrue (is_count word) }
         requires behind { place + 4 ≤ self.now.at.place }
         requires near { data_end self.now < place + 2 ^ 32 }
-        ensures exact { Takes (λ x. x) result (end_at place word self.now) self.now self.now }
+        ensures exact { Takes (λ x. x) result
+            (read (end_of place word) self.now) self.now self.now }
         ensures within { IfOk result (λ end. IsCounted place end self.now) }
     {
         let data_end = self.cursor.place() + self.cursor.left();
@@ -174,7 +182,7 @@ impl<'a> ObjReader<'a> {
         requires behind { place + 4 ≤ self.now.at.place }
         requires near { data_end self.now < place + 2 ^ 32 }
         ensures exact { Takes (λ x. x) result
-            (header_end_at place word self.now) self.now self.now }
+            (read (header_end place word) self.now) self.now self.now }
         ensures within { IfOk result (λ end. IsCounted place end self.now) }
     {
         if (0x4000_0000..0x8000_0000).contains(&word) {
@@ -187,10 +195,10 @@ impl<'a> ObjReader<'a> {
     }
 
     // The same as `header`, but where it refuses, reading may have gone on.
-    #[tactic(auto, unfolding(crate::specs::Frames::header_at))]
+    #[tactic(auto, unfolding(crate::specs::Frames::header))]
     fn read_header(&mut self) -> Result<Header, ObjFault>
-        ensures ok { IfOk result (λ h. header_at self.old ≡ Ok (h, self.new)) }
-        ensures err { IfErr result (λ e. header_at self.old ≡ Err e) }
+        ensures ok { IfOk result (λ h. read header self.old ≡ Ok (h, self.new)) }
+        ensures err { IfErr result (λ e. read header self.old ≡ Err e) }
         ensures within { IfOk result (λ h. IsCounted h.place h.end self.new) }
         ensures words { self.new.words ≡ self.old.words }
         ensures goes { GoesOn self.old.at self.new.at }
@@ -214,7 +222,7 @@ impl<'a> ObjReader<'a> {
 
     /// The header of an object, whose count is within the data.
     pub fn header(&mut self) -> Result<Header, ObjFault>
-        ensures exact { Takes (λ x. x) result (header_at self.old) self.old self.new }
+        ensures exact { Takes (λ x. x) result (read header self.old) self.old self.new }
         ensures within { IfOk result (λ h. IsCounted h.place h.end self.new) }
         ensures goes { GoesOn self.old.at self.new.at }
     {
@@ -232,7 +240,7 @@ impl<'a> ObjReader<'a> {
 
     // A name that ends before a zero byte.
     fn class_name(&mut self) -> Result<Name, ObjFault>
-        ensures exact { ReadsAs (λ x. x) result (name_at self.old) self.new }
+        ensures exact { ReadsAs (λ x. x) result (read (name ObjFault.Short) self.old) self.new }
         ensures words { self.new.words ≡ self.old.words }
         ensures goes { GoesOn self.old.at self.new.at }
     {
@@ -249,7 +257,7 @@ impl<'a> ObjReader<'a> {
 
     // The class that an earlier class word spells out.
     fn earlier_class(&self, place: u64, word: u32) -> Result<Name, ObjFault>
-        ensures { ReadsAs (λ x. x) result (known_class_at place word self.now) self.now }
+        ensures { ReadsAs (λ x. x) result (read (known_class place word) self.now) self.now }
     {
         if word < 0x8000_0002 {
             return Err(ObjFault::UnknownClassWord { place, word });
@@ -261,11 +269,11 @@ impl<'a> ObjReader<'a> {
     }
 
     // A class word. A name that it spells out isn't kept yet.
-    #[tactic(auto, unfolding(crate::specs::Frames::class_at, crate::specs::Frames::new_class_at))]
+    #[tactic(auto, unfolding(crate::specs::Frames::class_word, crate::specs::Frames::new_class))]
     fn class_word(&mut self) -> Result<ClassWord, ObjFault>
-        ensures ok { IfOk result (λ c. class_at self.old
+        ensures ok { IfOk result (λ c. read class_word self.old
             ≡ Ok (name_of c, noted self.old.at.place c self.new)) }
-        ensures err { IfErr result (λ e. Fails e (class_at self.old)) }
+        ensures err { IfErr result (λ e. Fails e (read class_word self.old)) }
         ensures words { self.new.words ≡ self.old.words }
         ensures goes { GoesOn self.old.at self.new.at }
     {
@@ -305,13 +313,13 @@ impl<'a> ObjReader<'a> {
     }
 
     // The object that begins behind the count word at `place`.
-    #[tactic(auto, unfolding(crate::specs::Frames::new_word_at))]
+    #[tactic(auto, unfolding(crate::specs::Frames::new_word))]
     fn new_object(&mut self, place: u64, word: u32) -> Result<PointerWord, ObjFault>
         requires count { IsTrue (is_count word) }
         requires behind { place + 4 ≤ self.old.at.place }
         requires near { data_end self.old < place + 2 ^ 32 }
         requires labels { length self.old.words.labels + length self.old.at.rest + 1 < 2 ^ 32 }
-        ensures exact { ReadsAs (λ x. x) result (new_word_at place word self.old) self.new }
+        ensures exact { ReadsAs (λ x. x) result (read (new_word place word) self.old) self.new }
         ensures within { IfOk result (λ w. IsPointerWithin w self.new) }
         ensures words { OnErr result (self.new.words ≡ self.old.words) }
         ensures goes { GoesOn self.old.at self.new.at }
@@ -343,7 +351,7 @@ impl<'a> ObjReader<'a> {
 
     // The earlier object that the word refers to.
     fn reference(&self, place: u64, word: u32) -> Result<PointerWord, ObjFault>
-        ensures { Takes (λ x. x) result (reference_at place word self.now) self.now self.now }
+        ensures { Takes (λ x. x) result (read (reference place word) self.now) self.now self.now }
     {
         if word < 2 {
             return Err(ObjFault::UnknownRef { place, word });
@@ -357,9 +365,9 @@ impl<'a> ObjReader<'a> {
     }
 
     // The same as `pointer`, but where it refuses, reading may have gone on.
-    #[tactic(auto, unfolding(crate::specs::Frames::pointer_word_at))]
+    #[tactic(auto, unfolding(crate::specs::Frames::pointer_word))]
     fn read_pointer(&mut self) -> Result<PointerWord, ObjFault>
-        ensures exact { ReadsAs (λ x. x) result (pointer_word_at self.old) self.new }
+        ensures exact { ReadsAs (λ x. x) result (read pointer_word self.old) self.new }
         ensures within { IfOk result (λ w. IsPointerWithin w self.new) }
         ensures words { OnErr result (self.new.words ≡ self.old.words) }
         ensures goes { GoesOn self.old.at self.new.at }
@@ -377,7 +385,7 @@ impl<'a> ObjReader<'a> {
 
     /// The first word of a pointer, and for a new object its class word, behind which the object stands.
     pub fn pointer(&mut self) -> Result<PointerWord, ObjFault>
-        ensures exact { MayTake (λ x. x) result (pointer_word_at self.old) self.old self.new }
+        ensures exact { MayTake (λ x. x) result (read pointer_word self.old) self.old self.new }
         ensures within { IfOk result (λ w. IsPointerWithin w self.new) }
         ensures goes { GoesOn self.old.at self.new.at }
     {

@@ -15,8 +15,9 @@ use Rattle.rio_buffer.specs.ReaderState.{no_words}
 use Rattle.rio_format.specs.Written.{Writing, written_form, writing_step, writing_of}
 use Rattle.rio_format.proofs.ValueCases.{fold_Int, fold_Pointed, fold_Back}
 use Rattle.rio_format.proofs.WrittenValues.{fit_object, write_object}
-use Rattle.rio_buffer.specs.Frames.{header_at, pointer_word_at, new_word_at, class_at, new_class_at}
-use Rattle.rio_format.specs.Objects.{value_at, object_at, formed_at, headed_at, body_at, whole_at, parts_at, member_at, each_at, kind_at, number_value_at, count_at, text_value_at, pointer_at, pointed_at, bare_at, list_parts_at, link_at}
+use Rattle.rio_num.specs.Layout.{each}
+use Rattle.rio_buffer.specs.Frames.{header, pointer_word, new_word, class_word, new_class}
+use Rattle.rio_format.specs.Objects.{value_at, object_of, formed, headed, body, whole_object, closed, parts, base_part, member_part, member_parts, kind_value, number_value, count_of, text_value, pointer, pointed, bare_layout, list_parts, link, unread}
 use Rattle.rio_buffer.specs.declared.fault.ObjFault.TheVariants.{CountMismatch}
 
 node_class : ClassDef
@@ -33,7 +34,7 @@ loop : Value
 loop = node 1 (Pointed 0 (node 2 (Back 0)))
 
 loop_read : value_at (node_class ∷ []) (codes "Node") 34 (loop_bytes ++ 0 ∷ []) ≡ Ok loop
-unfolding node_class node loop_bytes loop object_at formed_at headed_at body_at header_at whole_at parts_at member_at each_at kind_at number_value_at pointer_at pointer_word_at pointed_at new_word_at class_at new_class_at
+unfolding node_class node loop_bytes loop object_of formed headed body unread header whole_object closed parts base_part member_parts member_part each kind_value number_value pointer pointer_word pointed new_word class_word new_class
 loop_read = refl
 
 -- three nodes
@@ -41,31 +42,31 @@ chain_bytes : List ℕ
 chain_bytes = big_bytes 4 0x40000033 ++ big_bytes 2 1 ++ big_bytes 4 1 ++ big_bytes 4 0x40000029 ++ big_bytes 4 0xFFFFFFFF ++ codes "Node" ++ (0 ∷ []) ++ big_bytes 4 0x4000001C ++ big_bytes 2 1 ++ big_bytes 4 2 ++ big_bytes 4 0x40000012 ++ big_bytes 4 0x80000032 ++ big_bytes 4 0x4000000A ++ big_bytes 2 1 ++ big_bytes 4 3 ++ big_bytes 4 0
 
 chain_read : value_at (node_class ∷ []) (codes "Node") 34 (chain_bytes ++ 0 ∷ 0 ∷ 0 ∷ []) ≡ Ok (node 1 (Pointed 0 (node 2 (Pointed 1 (node 3 Null)))))
-unfolding node_class node chain_bytes object_at formed_at headed_at body_at header_at whole_at parts_at member_at each_at kind_at number_value_at pointer_at pointer_word_at pointed_at new_word_at class_at new_class_at
+unfolding node_class node chain_bytes object_of formed headed body unread header whole_object closed parts base_part member_parts member_part each kind_value number_value pointer pointer_word pointed new_word class_word new_class
 chain_read = refl
 
 -- a string, and the same with a count that is one too high
 string_read : value_at [] (codes "TObjString") 40 (big_bytes 4 0x4000000F ++ big_bytes 2 1 ++ big_bytes 2 1 ++ big_bytes 8 0 ++ 2 ∷ 0x68 ∷ 0x69 ∷ 0 ∷ []) ≡ Ok (Object (codes "TObjString") (pos 1) (part [] (Object (codes "TObject") (pos 1) (part (codes "fUniqueID") (Int (pos 0)) ∷ part (codes "fBits") (Int (pos 0)) ∷ [])) ∷ part (codes "fString") (Text (codes "hi")) ∷ []))
-unfolding object_at formed_at headed_at body_at header_at whole_at parts_at member_at each_at kind_at text_value_at bare_at text_at
+unfolding object_of formed headed body unread header whole_object closed parts base_part member_parts member_part each kind_value text_value bare_layout text_at
 string_read = refl
 
 string_fault : value_at [] (codes "TObjString") 40 (big_bytes 4 0x40000010 ++ big_bytes 2 1 ++ big_bytes 2 1 ++ big_bytes 8 0 ++ 2 ∷ 0x68 ∷ 0x69 ∷ 0 ∷ []) ≡ Err (CountMismatch 40 16 15)
-unfolding object_at formed_at headed_at body_at header_at whole_at parts_at member_at each_at kind_at text_value_at bare_at text_at
+unfolding object_of formed headed body unread header whole_object closed parts base_part member_parts member_part each kind_value text_value bare_layout text_at
 string_fault = refl
 
 -- a string of another version
 string_opaque : value_at [] (codes "TObjString") 40 (big_bytes 4 0x40000004 ++ big_bytes 2 2 ++ big_bytes 2 7 ++ 5 ∷ []) ≡ Ok (Opaque (codes "TObjString") 4)
-unfolding object_at formed_at headed_at body_at header_at
+unfolding object_of formed headed body unread header
 string_opaque = refl
 
 -- a checksum that picks no class, and a count that does not hold it
 string_opaque_short : value_at [] (codes "TObjString") 40 (big_bytes 4 0x40000004 ++ big_bytes 2 0 ++ big_bytes 4 7 ++ 5 ∷ []) ≡ Err (CountMismatch 40 4 6)
-unfolding object_at formed_at headed_at body_at header_at
+unfolding object_of formed headed body unread header
 string_opaque_short = refl
 
 -- a list whose count is one too low
 list_fault : value_at [] (codes "TList") 0 (big_bytes 4 0x4000001B ++ big_bytes 2 5 ++ big_bytes 2 1 ++ big_bytes 8 0 ++ 0 ∷ (big_bytes 4 2 ++ big_bytes 4 0 ++ 1 ∷ 65 ∷ (big_bytes 4 0 ++ 0 ∷ []))) ≡ Err (CountMismatch 0 27 28)
-unfolding object_at formed_at headed_at body_at header_at whole_at each_at text_at bare_at list_parts_at count_at link_at pointer_at pointer_word_at pointed_at
+unfolding object_of formed headed body unread header whole_object closed each text_at bare_layout list_parts count_of link pointer pointer_word pointed
 list_fault = refl
 
 -- the nodes fit their class, and these bytes are written for them

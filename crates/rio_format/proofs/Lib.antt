@@ -1,15 +1,11 @@
-pub mod AgainNumbers
-pub mod AgainObjects
-pub mod AgainParts
-pub mod AgainPointers
 pub mod BaseDepth
 pub mod BaseLaws
+pub mod Closed
+pub mod Composed
+pub mod ComposedLengths
+pub mod ComposedSpells
 pub mod Examples
-pub mod FoundLists
-pub mod FoundNumbers
-pub mod FoundObjects
-pub mod FoundParts
-pub mod FoundPointers
+pub mod FaultExamples
 mod ListLaws
 pub mod ObjectLaws
 pub mod Tests

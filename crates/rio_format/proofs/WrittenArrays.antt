@@ -11,10 +11,10 @@ use Rattle.rio_value.specs.declared.value.Part.{Part}
 use Rattle.rio_format.specs.Bodies.{part, Counters}
 use Rattle.rio_format.specs.Fits.{Labels, Fitting, fields_fit, counted_slot, counted_so_far}
 use Rattle.rio_format.specs.Slots.{Slot, kinded, based, any_pointer, link, many, Field, field}
-use Rattle.rio_format.specs.Spelling.{Spellings, SpellsTimes, SpellsPointer, IsListParts, IsArrayParts, IsLink}
+use Rattle.rio_format.proofs.Composed.{Spellings, SpellsTimes, SpellsPointer, IsListParts, IsArrayParts, IsLink}
 use Rattle.rio_buffer.specs.ReaderState.{WordsMet}
 use Rattle.rio_format.specs.Written.{listed_bytes, arrayed_bytes, writing_of}
-use Rattle.rio_format.proofs.AgainParts.{pointer_long, link_long}
+use Rattle.rio_format.proofs.ComposedLengths.{pointer_long, link_long}
 use Rattle.rio_format.proofs.WrittenPlaces.{Stands, stands_more}
 use Rattle.rio_format.proofs.WrittenWays.{in_slot, SpellsSlot, last_place}
 use Rattle.rio_format.proofs.WrittenLists.{AreKnown, fittings, writings, stands_at, some_is}

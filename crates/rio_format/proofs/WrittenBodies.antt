@@ -16,11 +16,11 @@ use Rattle.rio_format.specs.Bodies.{part}
 use Rattle.rio_format.specs.Fits.{Labels, fields_fit, fitting_of}
 use Rattle.rio_format.specs.Prims.{width_of}
 use Rattle.rio_format.specs.Slots.{Slot, kinded, flags, many, Field, field}
-use Rattle.rio_format.specs.Spelling.{Spelling, Spellings, SpellsTimes, SpellsNumber, SpellsPid, IsBare, IsArray}
+use Rattle.rio_format.proofs.Composed.{Spelling, Spellings, SpellsTimes, SpellsNumber, SpellsPid, IsBare, IsArray}
 use Rattle.rio_buffer.specs.ReaderState.{WordsMet}
 use Rattle.rio_format.specs.Written.{Writing, bare_bytes, array_bytes, writing_step, writing_of}
 use Rattle.rio_format.proofs.Tests.{named_as}
-use Rattle.rio_format.proofs.AgainParts.{IsLong, times_room, number_long, width_some}
+use Rattle.rio_format.proofs.ComposedLengths.{IsLong, times_room, number_long, width_some}
 use Rattle.rio_format.proofs.ValueCases.{fold_List}
 use Rattle.rio_format.proofs.WrittenPlaces.{Stands, stands_more}
 use Rattle.rio_format.proofs.WrittenWays.{in_slot, last_place}

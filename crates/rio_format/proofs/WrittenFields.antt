@@ -20,7 +20,7 @@ use Rattle.rio_format.specs.Bodies.{part, Counters, counters_with, count_by, num
 use Rattle.rio_types.specs.Members.{can_read, can_read_all, names_with}
 use Rattle.rio_format.specs.Fits.{Labels, Fitting, fields_fit, fixed_by, counted_slot, counted_so_far, fitting_step, fitting_of}
 use Rattle.rio_format.specs.Slots.{kinded, based, base_field, member_field}
-use Rattle.rio_format.specs.Spelling.{Spellings, SpellsKind, SpellsCounted, SpellsEach, IsPart}
+use Rattle.rio_format.proofs.Composed.{Spellings, SpellsKind, SpellsCounted, SpellsEach, IsPart}
 use Rattle.rio_buffer.specs.ReaderState.{WordsMet}
 use Rattle.rio_format.specs.Written.{fields_bytes, writing_of}
 use Rattle.rio_format.proofs.Tests.{named_as}

@@ -11,7 +11,7 @@ use Rattle.rio_value.specs.declared.value.Value.TheOpen as layer
 use Rattle.rio_value.specs.declared.value.Part.{Part}
 use Rattle.rio_format.specs.Fits.{Labels, Fitting, all_fit, fitting_step, fitting_of}
 use Rattle.rio_format.specs.Slots.{Slot, kinded, any_pointer, link, many}
-use Rattle.rio_format.specs.Spelling.{Spellings, SpellsTimes, SpellsNumber, SpellsNumbers, IsLink}
+use Rattle.rio_format.proofs.Composed.{Spellings, SpellsTimes, SpellsNumber, SpellsNumbers, IsLink}
 use Rattle.rio_buffer.specs.ReaderState.{WordsMet}
 use Rattle.rio_format.specs.Written.{Writing, all, writing_step, writing_of}
 use Rattle.rio_format.proofs.ValueCases.{Each}

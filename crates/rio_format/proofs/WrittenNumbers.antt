@@ -9,7 +9,7 @@ use Rattle.rio_types.specs.declared.kind.Primitive.TheVariants.{I8, I16, I32, I6
 use Rattle.rio_value.specs.declared.value.Value.{Int, Bits32, Bits64, Bool as Truth}
 use Rattle.rio_format.specs.Fits.{fits_prim, fits_signed, fits_unsigned}
 use Rattle.rio_format.specs.Prims.{width_of, value_of_prim}
-use Rattle.rio_format.specs.Spelling.{IsNumber}
+use Rattle.rio_format.proofs.Composed.{IsNumber}
 use Rattle.rio_buffer.specs.ReaderState.{WordsMet}
 use Rattle.rio_format.specs.Written.{truth_byte, width_in_bits}
 

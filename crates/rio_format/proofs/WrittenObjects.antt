@@ -18,7 +18,7 @@ use Rattle.rio_format.specs.Bodies.{Form, bare, numbers, headed, form_of, Body, 
 use Rattle.rio_types.specs.Members.{can_read_all}
 use Rattle.rio_format.specs.Fits.{Labels, Fitting, fields_fit, parts_fit}
 use Rattle.rio_format.specs.Slots.{Field, field, kinded, many, body_fields, form_fields}
-use Rattle.rio_format.specs.Spelling.{Spellings, SpellsBody, SpellsForm, SpellsVersion, IsBare, IsArray}
+use Rattle.rio_format.proofs.Composed.{Spellings, SpellsBody, SpellsForm, SpellsVersion, IsBare, IsArray}
 use Rattle.rio_buffer.specs.ReaderState.{WordsMet}
 use Rattle.rio_format.specs.Written.{bare_bytes, array_bytes, body_bytes, form_bytes}
 use Rattle.rio_format.proofs.WrittenPlaces.{Stands, stands_more}

@@ -15,7 +15,8 @@ use Rattle.rio_value.specs.declared.value.Value.TheFolds.{fold_out-Value, fold-P
 use Rattle.rio_value.specs.declared.value.Part.{Part}
 use Rattle.rio_format.specs.Fits.{Labels, Fitting, pass, may_point, back_fits, pointed_fits, fitting_step, fitting_of}
 use Rattle.rio_format.specs.Slots.{kinded, any_pointer, can_be_word}
-use Rattle.rio_format.specs.Spelling.{Spellings, IsPlain, SpellsClass, SpellsPointer, IsNew}
+use Rattle.rio_num.specs.Meanings.{HasNoZero}
+use Rattle.rio_format.proofs.Composed.{Spellings, SpellsClass, SpellsPointer, IsNew}
 use Rattle.rio_buffer.specs.ReaderState.{WordsMet, with_label}
 use Rattle.rio_buffer.specs.Writer.{class_by, class_bytes}
 use Rattle.rio_format.specs.Written.{Writing, labelled, counted, both, writing_step, writing_of}
@@ -66,11 +67,11 @@ inline_class classes v class before after e =
 
 -- ---- class words
 
-plain_by : (class : List ℕ) → list_any (λ b. b == 0) class ≡ false → IsPlain class
+plain_by : (class : List ℕ) → list_any (λ b. b == 0) class ≡ false → HasNoZero class
 plain_by [] e = tt
 plain_by (b ∷ bs) e = by (b == 0) refl e (plain_by bs)
   where
-    by : (c : Bool) → (b == 0) ≡ c → (c || list_any (λ b. b == 0) bs) ≡ false → (list_any (λ b. b == 0) bs ≡ false → IsPlain bs) → ((b == 0) ≡ false) × IsPlain bs
+    by : (c : Bool) → (b == 0) ≡ c → (c || list_any (λ b. b == 0) bs) ≡ false → (list_any (λ b. b == 0) bs ≡ false → HasNoZero bs) → ((b == 0) ≡ false) × HasNoZero bs
     by true t e rest = absurd cc
     by false t e rest = (t, rest e)
 

@@ -16,9 +16,10 @@ use Rattle.rio_value.specs.declared.value.Part.{Part}
 use Rattle.rio_format.specs.Bodies.{form_of}
 use Rattle.rio_format.specs.Fits.{Labels, Fitting, parts_fit, fitting_step, fitting_of}
 use Rattle.rio_format.specs.Laws.{versions_step, has_versions, WrittenIsSpelled}
-use Rattle.rio_format.specs.Objects.{depth_limit}
+use Rattle.rio_format.specs.Objects.{depth_limit, SpellsObject}
 use Rattle.rio_format.specs.Slots.{kinded, based, fields_of}
-use Rattle.rio_format.specs.Spelling.{Spellings, SpellsObject, Spells}
+use Rattle.rio_format.proofs.Composed.{Spellings, Composes}
+use Rattle.rio_format.proofs.ComposedSpells.{object_in}
 use Rattle.rio_buffer.specs.ReaderState.{WordsMet, no_words}
 use Rattle.rio_format.specs.Written.{Writing, form_bytes, writing_step, writing_of}
 use Rattle.rio_format.proofs.Tests.{both_true, named_as}
@@ -45,16 +46,16 @@ module _ (classes : List ClassDef) where
   object_writing class version parts = writing_step classes (layer.Object class version (writings classes parts))
 
   -- one level above its parts
-  module _ (levels : ℕ) (class : List ℕ) (n : ℕ) (parts : List Part) (ih : AreKnown (SpellsObject levels classes) classes parts) (some : 0 < n) (low : n < 2 ^ 16) (same : cast_unsigned w16 (pos n) ≡ n) where
+  module _ (levels : ℕ) (class : List ℕ) (n : ℕ) (parts : List Part) (ih : AreKnown (Composes levels classes) classes parts) (some : 0 < n) (low : n < 2 ^ 16) (same : cast_unsigned w16 (pos n) ≡ n) where
     own_written : (c : List ℕ) (before after : Labels) (p : ℕ) (t : WordsMet) → class ≡ c → parts_fit (fields_of classes class (pos n)) (fittings classes parts) before ≡ Some after → Stands before p t → p + length (form_bytes classes class (pos n) (form_of class) (writings classes parts) p t).0 ≤ last_place
-        → IsWrittenAt (SpellsObject (suc levels) classes) (in_slot (kinded (Inline c))) (Object class (pos n) parts) after p t (form_bytes classes class (pos n) (form_of class) (writings classes parts) p t)
-    unfolding SpellsObject
+        → IsWrittenAt (Composes (suc levels) classes) (in_slot (kinded (Inline c))) (Object class (pos n) parts) after p t (form_bytes classes class (pos n) (form_of class) (writings classes parts) p t)
+    unfolding Composes
     own_written c before after p t is e s room =
         let b = form_bytes classes class (pos n) (form_of class) (writings classes parts) p t in
-        let r = formed_written (SpellsObject levels classes) classes class n parts ih some low same (form_of class) refl before after p t e s room in
-        (subst (λ (k : List ℕ). SpellsObject (suc levels) classes k p t (Object class (pos n) parts) b.0 b.1) is r.0, r.1)
+        let r = formed_written (Composes levels classes) classes class n parts ih some low same (form_of class) refl before after p t e s room in
+        (subst (λ (k : List ℕ). Composes (suc levels) classes k p t (Object class (pos n) parts) b.0 b.1) is r.0, r.1)
 
-    object_written : (way : Way) → IsWritten (SpellsObject (suc levels) classes) way (Object class (pos n) parts) (object_fitting class (pos n) parts) (object_writing class (pos n) parts)
+    object_written : (way : Way) → IsWritten (Composes (suc levels) classes) way (Object class (pos n) parts) (object_fitting class (pos n) parts) (object_writing class (pos n) parts)
     object_written (in_slot (kinded (Inline c))) before after p t e s room =
         let f = named_as c class after (bytes_eq class c) (parts_fit (fields_of classes class (pos n)) (fittings classes parts) before) refl e in
         own_written c before after p t f.0 f.1 s room
@@ -67,7 +68,7 @@ module _ (classes : List ClassDef) where
 
   -- it is written at any levels that it has
   abbrev IsWrittenDeep : Value → Type 0
-  IsWrittenDeep v = (levels : ℕ) → depth_of v ≤ levels → IsTrue (has_versions v) → IsWrittenAnywhere (SpellsObject levels classes) classes v
+  IsWrittenDeep v = (levels : ℕ) → depth_of v ≤ levels → IsTrue (has_versions v) → IsWrittenAnywhere (Composes levels classes) classes v
 
   -- what is known of one layer is known of the value
   by_layer : (object : Spellings) (v : Value) (f : Fitting) (w : Writing) (way : Way) → fitting_of classes v ≡ f → writing_of classes v ≡ w → IsWritten object way v f w → IsWritten object way v (fitting_of classes v) (writing_of classes v)
@@ -88,13 +89,13 @@ module _ (classes : List ClassDef) where
   pub write_object : (class : List ℕ) (version : ℤ) (parts : List Part) → writing_of classes (Object class version parts) ≡ object_writing class version parts
   write_object class version parts = fold_Object (writing_step classes) (λ p. p.value) class version parts ∙ ap (λ (g : Part → Writing). writing_step classes (layer.Object class version (map g parts))) (λ i p. part_writes p i)
 
-  each_deep : (vs : List Value) (levels : ℕ) → Each IsWrittenDeep vs → greatest (map depth_of vs) ≤ levels → list_all (λ b. b) (map has_versions vs) ≡ true → Each (IsWrittenAnywhere (SpellsObject levels classes) classes) vs
+  each_deep : (vs : List Value) (levels : ℕ) → Each IsWrittenDeep vs → greatest (map depth_of vs) ≤ levels → list_all (λ b. b) (map has_versions vs) ≡ true → Each (IsWrittenAnywhere (Composes levels classes) classes) vs
   each_deep [] levels known le versions = tt
   each_deep (v ∷ vs) levels known le versions =
       let e = both_true (has_versions v) (list_all (λ b. b) (map has_versions vs)) versions in
       (known.0 levels (omega (arith, le)) e.0, each_deep vs levels known.1 (omega (arith, le)) e.1)
 
-  each_part_deep : (ps : List Part) (levels : ℕ) → Each (λ y. IsWrittenDeep y.value) ps → greatest (map (λ y. depth_of y.value) ps) ≤ levels → list_all (λ b. b) (map (λ y. has_versions y.value) ps) ≡ true → Each (λ y. IsWrittenAnywhere (SpellsObject levels classes) classes y.value) ps
+  each_part_deep : (ps : List Part) (levels : ℕ) → Each (λ y. IsWrittenDeep y.value) ps → greatest (map (λ y. depth_of y.value) ps) ≤ levels → list_all (λ b. b) (map (λ y. has_versions y.value) ps) ≡ true → Each (λ y. IsWrittenAnywhere (Composes levels classes) classes y.value) ps
   each_part_deep [] levels known le versions = tt
   each_part_deep (y ∷ ys) levels known le versions =
       let e = both_true (has_versions y.value) (list_all (λ b. b) (map (λ y. has_versions y.value) ys)) versions in
@@ -108,15 +109,15 @@ module _ (classes : List ClassDef) where
       let depth : depth_of (Items vs) ≡ greatest (map depth_of vs) = fold_List depth_step (λ p. p.value) vs in
       let all : list_all (λ b. b) (map has_versions vs) ≡ true = sym (fold_List versions_step (λ p. p.value) vs) ∙ versions in
       let items = each_deep vs levels known (omega (arith, le, depth)) all in
-      by_layer (SpellsObject levels classes) (Items vs) _ _ way (fold_List (fitting_step classes) (λ p. (p.name, p.value)) vs) (fold_List (writing_step classes) (λ p. p.value) vs) (list_written (SpellsObject levels classes) classes vs items way)
+      by_layer (Composes levels classes) (Items vs) _ _ way (fold_List (fitting_step classes) (λ p. (p.name, p.value)) vs) (fold_List (writing_step classes) (λ p. p.value) vs) (list_written (Composes levels classes) classes vs items way)
 
   object_deep : (class : List ℕ) (version : ℤ) (parts : List Part) (levels : ℕ) → Each (λ y. IsWrittenDeep y.value) parts → greatest (map (λ y. depth_of y.value) parts) + 1 ≤ levels
-      → (int_le (pos 1) version && int_le version (pos 65535)) ≡ true → list_all (λ b. b) (map (λ y. has_versions y.value) parts) ≡ true → (way : Way) → IsWritten (SpellsObject levels classes) way (Object class version parts) (object_fitting class version parts) (object_writing class version parts)
+      → (int_le (pos 1) version && int_le version (pos 65535)) ≡ true → list_all (λ b. b) (map (λ y. has_versions y.value) parts) ≡ true → (way : Way) → IsWritten (Composes levels classes) way (Object class version parts) (object_fitting class version parts) (object_writing class version parts)
   object_deep class version parts zero known le range all way = absurd (omega arith)
   object_deep class version parts (suc levels) known le range all way =
       let n = version_bytes version range in
       let items = each_part_deep parts levels known (omega (arith, le)) all in
-      subst (λ (z : ℤ). IsWritten (SpellsObject (suc levels) classes) way (Object class z parts) (object_fitting class z parts) (object_writing class z parts)) (sym n.1) (object_written levels class n.0 parts items n.2 n.3 n.4 way)
+      subst (λ (z : ℤ). IsWritten (Composes (suc levels) classes) way (Object class z parts) (object_fitting class z parts) (object_writing class z parts)) (sym n.1) (object_written levels class n.0 parts items n.2 n.3 n.4 way)
 
   part_depth : (p : Part) → fold-Part ℕ ℕ depth_step (λ p. p.value) p ≡ depth_of p.value
   part_depth p = fold_out-Part ℕ ℕ depth_step (λ p. p.value) p
@@ -131,29 +132,29 @@ module _ (classes : List ClassDef) where
       let whole : (int_le (pos 1) version && int_le version (pos 65535) && list_all (λ b. b) (map (λ y. has_versions y.value) parts)) ≡ true =
       sym (fold_Object versions_step (λ p. p.value) class version parts ∙ ap (λ (g : Part → Bool). int_le (pos 1) version && int_le version (pos 65535) && list_all (λ b. b) (map g parts)) (λ i p. part_versions p i)) ∙ versions in
       let v = both_true (int_le (pos 1) version && int_le version (pos 65535)) (list_all (λ b. b) (map (λ y. has_versions y.value) parts)) whole in
-      by_layer (SpellsObject levels classes) (Object class version parts) (object_fitting class version parts) (object_writing class version parts) way (fit_object class version parts) (write_object class version parts) (object_deep class version parts levels known (omega (arith, le, depth)) v.0 v.1 way)
+      by_layer (Composes levels classes) (Object class version parts) (object_fitting class version parts) (object_writing class version parts) way (fit_object class version parts) (write_object class version parts) (object_deep class version parts levels known (omega (arith, le, depth)) v.0 v.1 way)
 
   pointed_deep : (label : ℕ) (object : Value) → IsWrittenDeep object → IsWrittenDeep (Pointed label object)
   pointed_deep label object known levels le versions way =
       let depth : depth_of (Pointed label object) ≡ depth_of object = fold_Pointed depth_step (λ p. p.value) label object in
       let own : has_versions object ≡ true = sym (fold_Pointed versions_step (λ p. p.value) label object) ∙ versions in
       let inner = known levels (omega (arith, le, depth)) own in
-      by_layer (SpellsObject levels classes) (Pointed label object) _ _ way (fold_Pointed (fitting_step classes) (λ p. (p.name, p.value)) label object) (fold_Pointed (writing_step classes) (λ p. p.value) label object)
-      (pointed_written (SpellsObject levels classes) classes label object inner way)
+      by_layer (Composes levels classes) (Pointed label object) _ _ way (fold_Pointed (fitting_step classes) (λ p. (p.name, p.value)) label object) (fold_Pointed (writing_step classes) (λ p. p.value) label object)
+      (pointed_written (Composes levels classes) classes label object inner way)
 
   deep : Steps IsWrittenDeep
   deep = record {
-    int = λ z levels le versions way. by_layer (SpellsObject levels classes) (Int z) _ _ way (fold_Int (fitting_step classes) (λ p. (p.name, p.value)) z) (fold_Int (writing_step classes) (λ p. p.value) z) (int_written (SpellsObject levels classes) classes z way);
-    bits32 = λ n levels le versions way. by_layer (SpellsObject levels classes) (Bits32 n) _ _ way (fold_Bits32 (fitting_step classes) (λ p. (p.name, p.value)) n) (fold_Bits32 (writing_step classes) (λ p. p.value) n) (bits32_written (SpellsObject levels classes) classes n way);
-    bits64 = λ n levels le versions way. by_layer (SpellsObject levels classes) (Bits64 n) _ _ way (fold_Bits64 (fitting_step classes) (λ p. (p.name, p.value)) n) (fold_Bits64 (writing_step classes) (λ p. p.value) n) (bits64_written (SpellsObject levels classes) classes n way);
-    truth = λ b levels le versions way. by_layer (SpellsObject levels classes) (Truth b) _ _ way (fold_Bool (fitting_step classes) (λ p. (p.name, p.value)) b) (fold_Bool (writing_step classes) (λ p. p.value) b) (truth_written (SpellsObject levels classes) classes b way);
-    text = λ t levels le versions way. by_layer (SpellsObject levels classes) (Text t) _ _ way (fold_Text (fitting_step classes) (λ p. (p.name, p.value)) t) (fold_Text (writing_step classes) (λ p. p.value) t) (text_written (SpellsObject levels classes) classes t way);
+    int = λ z levels le versions way. by_layer (Composes levels classes) (Int z) _ _ way (fold_Int (fitting_step classes) (λ p. (p.name, p.value)) z) (fold_Int (writing_step classes) (λ p. p.value) z) (int_written (Composes levels classes) classes z way);
+    bits32 = λ n levels le versions way. by_layer (Composes levels classes) (Bits32 n) _ _ way (fold_Bits32 (fitting_step classes) (λ p. (p.name, p.value)) n) (fold_Bits32 (writing_step classes) (λ p. p.value) n) (bits32_written (Composes levels classes) classes n way);
+    bits64 = λ n levels le versions way. by_layer (Composes levels classes) (Bits64 n) _ _ way (fold_Bits64 (fitting_step classes) (λ p. (p.name, p.value)) n) (fold_Bits64 (writing_step classes) (λ p. p.value) n) (bits64_written (Composes levels classes) classes n way);
+    truth = λ b levels le versions way. by_layer (Composes levels classes) (Truth b) _ _ way (fold_Bool (fitting_step classes) (λ p. (p.name, p.value)) b) (fold_Bool (writing_step classes) (λ p. p.value) b) (truth_written (Composes levels classes) classes b way);
+    text = λ t levels le versions way. by_layer (Composes levels classes) (Text t) _ _ way (fold_Text (fitting_step classes) (λ p. (p.name, p.value)) t) (fold_Text (writing_step classes) (λ p. p.value) t) (text_written (Composes levels classes) classes t way);
     list = list_deep;
     object = object_of;
     pointed = pointed_deep;
-    null = λ levels le versions way. by_layer (SpellsObject levels classes) Null _ _ way (fold_Null (fitting_step classes) (λ p. (p.name, p.value))) (fold_Null (writing_step classes) (λ p. p.value)) (null_written (SpellsObject levels classes) classes way);
-    back = λ l levels le versions way. by_layer (SpellsObject levels classes) (Back l) _ _ way (fold_Back (fitting_step classes) (λ p. (p.name, p.value)) l) (fold_Back (writing_step classes) (λ p. p.value) l) (back_written (SpellsObject levels classes) classes l way);
-    opaque = λ class len levels le versions way. by_layer (SpellsObject levels classes) (Opaque class len) _ _ way (fold_Opaque (fitting_step classes) (λ p. (p.name, p.value)) class len) (fold_Opaque (writing_step classes) (λ p. p.value) class len) (opaque_written (SpellsObject levels classes) class len way);
+    null = λ levels le versions way. by_layer (Composes levels classes) Null _ _ way (fold_Null (fitting_step classes) (λ p. (p.name, p.value))) (fold_Null (writing_step classes) (λ p. p.value)) (null_written (Composes levels classes) classes way);
+    back = λ l levels le versions way. by_layer (Composes levels classes) (Back l) _ _ way (fold_Back (fitting_step classes) (λ p. (p.name, p.value)) l) (fold_Back (writing_step classes) (λ p. p.value) l) (back_written (Composes levels classes) classes l way);
+    opaque = λ class len levels le versions way. by_layer (Composes levels classes) (Opaque class len) _ _ way (fold_Opaque (fitting_step classes) (λ p. (p.name, p.value)) class len) (fold_Opaque (writing_step classes) (λ p. p.value) class len) (opaque_written (Composes levels classes) class len way);
   }
 
 -- ---- the whole
@@ -163,7 +164,7 @@ has_fit None e = absurd cc
 has_fit (Some after) e = (after, refl)
 
 pub written_is_spelled : WrittenIsSpelled
-unfolding Spells
+unfolding SpellsObject
 written_is_spelled classes class start v fit le versions room =
     let w = writing_of classes v in
     let h = has_fit ((fitting_of classes v).fits (kinded (Inline class)) []) fit in
@@ -171,5 +172,5 @@ written_is_spelled classes class start v fit le versions room =
     let room1 = subst (λ (c : List ℕ). start + length (w.bytes (kinded (Inline c)) start no_words).0 ≤ last_place) same room in
     let r = by_cases (IsWrittenDeep classes) (deep classes) v depth_limit le versions (in_slot (kinded (Inline class))) [] h.0 start no_words h.1 (stands_none start) room1 in
     let b = w.bytes (kinded (Inline class)) start no_words in
-    let own : Spells classes start class v b.0 = (b.1, r.0) in
-    subst (λ (c : List ℕ). Spells classes start class v (w.bytes (kinded (Inline c)) start no_words).0) (sym same) own
+    let own : SpellsObject classes start class v b.0 = (b.1, ((object_in depth_limit classes class).into (start + length b.0) start no_words v b.0 b.1 (omega arith) r.0).so) in
+    subst (λ (c : List ℕ). SpellsObject classes start class v (w.bytes (kinded (Inline c)) start no_words).0) (sym same) own

@@ -14,7 +14,7 @@ use Rattle.rio_value.specs.declared.value.Value.TheOpen as layer
 use Rattle.rio_format.specs.Fits.{Labels, Fitting, pass, fitting_step, back_fits}
 use Rattle.rio_format.specs.Objects.{has_pid}
 use Rattle.rio_format.specs.Slots.{Slot, kinded, based, flags, any_pointer, link, many}
-use Rattle.rio_format.specs.Spelling.{Spelling, Spellings, SpellsKind, SpellsCounted, SpellsTimes, SpellsPointer, IsLink, IsBack}
+use Rattle.rio_format.proofs.Composed.{Spelling, Spellings, SpellsKind, SpellsCounted, SpellsTimes, SpellsPointer, IsLink, IsBack}
 use Rattle.rio_buffer.specs.ReaderState.{WordsMet}
 use Rattle.rio_format.specs.Written.{Writing, writing_step}
 use Rattle.rio_format.proofs.Tests.{both_true}

@@ -14,7 +14,6 @@ pub mod Prims
 pub mod SlotCode
 pub mod SlotKinds
 pub mod Slots
-pub mod Spelling
 pub mod TreeClasses
 pub mod ValueParts
 pub mod Visits

@@ -1,6 +1,6 @@
--- Objects, read from left to right: the value, or the first fault.
-use Rattle.std.specs.Prelude.{◌==◌, ◌||◌, not, ℕ, zero, suc, ◌-◌, ◌/◌, ◌^◌, ℤ, pos, negsuc, List, [], ◌∷◌, length, replicate, codes, Result, Ok, Err, nat_lt, nat_le, bit_and, Bool, if◌then◌else◌}
-use Rattle.rio_num.specs.Reading.{◌>>=◌, skip}
+-- Objects in bytes. Each rule stands here once; the meanings of descriptions say how it is read, spelled and broken.
+use Rattle.std.specs.Prelude.{◌==◌, not, ℕ, zero, suc, ◌+◌, ◌-◌, ◌*◌, ◌^◌, ℤ, pos, negsuc, List, [], ◌∷◌, ◌++◌, length, codes, Result, Ok, Err, nat_lt, nat_le, bit_and, Bool}
+use Rattle.rio_types.specs.declared.class.Base.{Base}
 use Rattle.rio_types.specs.declared.class.ClassDef.{ClassDef}
 use Rattle.rio_types.specs.declared.class.Member.{Member}
 use Rattle.rio_types.specs.declared.kind.Kind.{Kind}
@@ -9,139 +9,142 @@ use Rattle.rio_types.specs.declared.kind.Primitive.{Primitive}
 use Rattle.rio_types.specs.declared.kind.Primitive.TheVariants.{I32}
 use Rattle.rio_value.specs.declared.value.Value.{Value, Int, Text, List as Items, Object, Pointed, Null as Nothing, Back as Earlier, Opaque}
 use Rattle.rio_value.specs.declared.value.Part.{Part}
-use Rattle.rio_format.specs.Bodies.{part, Form, bare, numbers, headed, form_of, Body, described, listed, arrayed, opaque, body_of, slots_of, Counters, counters_with, count_by}
-use Rattle.rio_format.specs.Prims.{width_of, value_of_prim}
-use Rattle.rio_buffer.specs.Frames.{Step, word_at, chars_at, finish_at, header_at, pointer_word_at}
-use Rattle.rio_buffer.specs.ReaderState.{ReaderState, standing, no_words}
+use Rattle.rio_num.specs.Layout.{done, broken, number, text, any, here, reaches, must, each, times, ◌>>=◌, when◌then◌else◌}
+use Rattle.rio_num.specs.Meanings.{read, Spells, Breaks}
+use Rattle.rio_buffer.specs.ReaderState.{WordsMet, no_words, standing}
+use Rattle.rio_buffer.specs.Frames.{Step, ObjLayout, finish, header, pointer_word}
 use Rattle.rio_buffer.specs.declared.words.Header.{Header}
 use Rattle.rio_buffer.specs.declared.words.PointerWord.{PointerWord}
 use Rattle.rio_buffer.specs.declared.words.PointerWord.TheVariants.{Null, New, Back}
 use Rattle.rio_buffer.specs.declared.fault.ObjFault.{ObjFault}
-use Rattle.rio_buffer.specs.declared.fault.ObjFault.TheVariants.{BadCount, NoCount, BadFlag, CountMismatch, TooDeep}
+use Rattle.rio_buffer.specs.declared.fault.ObjFault.TheVariants.{Short, BadCount, NoCount, BadFlag, CountMismatch, TooDeep}
+use Rattle.rio_format.specs.Bodies.{part, Form, bare, numbers as numbered, headed as with_header, form_of, Body, described, listed, arrayed, opaque, body_of, Counters, counters_with, count_by}
+use Rattle.rio_format.specs.Prims.{width_of, value_of_prim}
 
--- how an object of a class is read
-abbrev pub Reader : Type 0
-Reader = List ℕ → ReaderState → Step Value
+-- what an object of a class is
+abbrev pub Objects : Type 1
+Objects = List ℕ → ObjLayout Value
 
--- ---- one thing after the other
-
--- what f reads for each of a list, in order
-unfoldable pub each_at : {X Y S E : Type 0} → (X → S → Result (Y × S) E) → List X → S → Result (List Y × S) E
-each_at f [] s = Ok ([], s)
-each_at f (x ∷ xs) s = do
-  y ← f x s
-  ys ← each_at f xs y.1
-  Ok (y.0 ∷ ys.0, ys.1)
-
--- the same thing so many times
-abbrev pub times_at : {Y : Type 0} → ℕ → (ReaderState → Step Y) → ReaderState → Step (List Y)
-times_at n f s = each_at (λ (x : Unit {0}). f) (replicate n tt) s
-
-unfoldable pub number_value_at : Primitive → ReaderState → Step Value
-number_value_at of s = do
-  n ← word_at (width_of of) s
-  Ok (value_of_prim of n.0, n.1)
-
-unfoldable pub numbers_at : Primitive → ℕ → ReaderState → Step Value
-numbers_at of count s = do
-  vs ← times_at count (number_value_at of) s
-  Ok (Items vs.0, vs.1)
-
--- ---- counts of items
-
--- a count of items of at least so many bytes each, which are behind it
-unfoldable pub count_at : ℕ → ReaderState → Step ℕ
-count_at width s = do
-  n ← word_at 4 s
-  if nat_le (2 ^ 31) n.0 || nat_lt (length n.1.at.rest / width) n.0 then Err (BadCount s.at.place) else Ok n
+-- ---- pointers
 
 -- the object behind a pointer's word
-unfoldable pub pointed_at : Reader → PointerWord → ReaderState → Step Value
-pointed_at object Null s = Ok (Nothing, s)
-pointed_at object (Back label) s = Ok (Earlier label, s)
-pointed_at object (New label place end class) s = do
-  o ← object class s
-  done ← finish_at place end o.1
-  Ok (Pointed label o.0, done.1)
+unfoldable pub pointed : Objects → PointerWord → ObjLayout Value
+pointed object Null = done Nothing
+pointed object (Back label) = done (Earlier label)
+pointed object (New label place end class) = do
+  o ← object class
+  _ ← finish place end
+  done (Pointed label o)
 
-unfoldable pub pointer_at : Reader → ReaderState → Step Value
-pointer_at object s = do
-  w ← pointer_word_at s
-  pointed_at object w.0 w.1
+unfoldable pub pointer : Objects → ObjLayout Value
+pointer object = do
+  w ← pointer_word
+  pointed object w
 
 -- ---- members
 
+unfoldable pub number_value : Primitive → ObjLayout Value
+number_value of = do
+  n ← number Short (width_of of)
+  done (value_of_prim of n)
+
+unfoldable pub numbers : Primitive → ℕ → ObjLayout Value
+numbers of count = do
+  vs ← times count (number_value of)
+  done (Items vs)
+
 -- as many values as a counter said, behind the byte 1 at the place
-abbrev pub filled_at : Primitive → ℕ → ℤ → ReaderState → Step Value
-filled_at of place (pos count) s = numbers_at of count s
-filled_at of place (negsuc count) s = Err (BadCount place)
+abbrev pub filled : Primitive → ℕ → ℤ → ObjLayout Value
+filled of place (pos count) = numbers of count
+filled of place (negsuc count) = broken (BadCount place)
 
 -- the byte 0 for nothing, or the byte 1 and the values
-unfoldable pub counted_at : Primitive → ℤ → ReaderState → Step Value
-counted_at of count s = do
-  flag ← word_at 1 s
-  if flag.0 == 0 then Ok (Items [], flag.1)
-      else if flag.0 == 1 then filled_at of s.at.place count flag.1 else Err (BadFlag s.at.place)
+unfoldable pub counted_values : Primitive → ℤ → ObjLayout Value
+counted_values of count = do
+  place ← here
+  flag ← number Short 1
+  when flag == 0 then done (Items []) else when flag == 1 then filled of place count else broken (BadFlag place)
 
-unfoldable pub text_value_at : ReaderState → Step Value
-text_value_at s = do
-  text ← chars_at s
-  Ok (Text text.0, text.1)
+unfoldable pub text_value : ObjLayout Value
+text_value = do
+  t ← text Short
+  done (Text t)
 
 -- A value of the kind, behind these counters. A kind that can't be read is never asked for, since the object is opaque.
-unfoldable pub kind_at : Reader → Counters → Kind → ReaderState → Step Value
-kind_at object counters (Plain of) s = number_value_at of s
-kind_at object counters Counter s = number_value_at I32 s
-kind_at object counters (Fixed of count) s = numbers_at of count s
-kind_at object counters (Counted of counter) s = counted_at of (count_by counter counters) s
-kind_at object counters Texted s = text_value_at s
-kind_at object counters (Inline class) s = object class s
-kind_at object counters (Pointer class) s = pointer_at object s
-kind_at object counters (Other code) s = Err (NoCount s.at.place)
+unfoldable pub kind_value : Objects → Counters → Kind → ObjLayout Value
+kind_value object counters (Plain of) = number_value of
+kind_value object counters Counter = number_value I32
+kind_value object counters (Fixed of count) = numbers of count
+kind_value object counters (Counted of counter) = counted_values of (count_by counter counters)
+kind_value object counters Texted = text_value
+kind_value object counters (Inline class) = object class
+kind_value object counters (Pointer class) = pointer object
+kind_value object counters (Other code) = do place ← here; broken (NoCount place)
 
--- where reading stands within the parts of an object, with the counters that it met there
-abbrev pub Within : Type 0
-Within = ReaderState × Counters
+-- a part of an object, behind these counters
+unfoldable pub member_part : Objects → Counters → Member → ObjLayout Part
+member_part object counters m = do
+  v ← kind_value object counters m.kind
+  done (part m.name v)
 
-unfoldable pub member_at : Reader → Member → Within → Result (Part × Within) ObjFault
-member_at object m s = do
-  v ← kind_at object s.1 m.kind s.0
-  Ok (part m.name v.0, (v.1, counters_with m v.0 s.1))
+unfoldable pub member_parts : Objects → Counters → List Member → ObjLayout (List Part)
+member_parts object counters [] = done []
+member_parts object counters (m ∷ ms) = do
+  p ← member_part object counters m
+  ps ← member_parts object (counters_with m p.value counters) ms
+  done (p ∷ ps)
 
-unfoldable pub parts_at : Reader → List Member → ReaderState → Step (List Part)
-parts_at object members s = do
-  ps ← each_at (member_at object) members (s, [])
-  Ok (ps.0, ps.1.0)
+unfoldable pub base_part : Objects → Base → ObjLayout Part
+base_part object b = do
+  v ← object b.name
+  done (part [] v)
+
+-- bases in order, and members in order
+unfoldable pub parts : Objects → ClassDef → ObjLayout (List Part)
+parts object c = do
+  bs ← each (base_part object) c.bases
+  ms ← member_parts object [] c.members
+  done (bs ++ ms)
 
 -- ---- built-in classes
 
+-- a count of items of at least so many bytes each, which the data have behind it
+unfoldable pub count_of : ℕ → ObjLayout ℕ
+count_of width = do
+  place ← here
+  n ← number Short 4
+  first ← here
+  _ ← must (nat_lt n (2 ^ 31)) (BadCount place)
+  _ ← reaches (first + n * width) (BadCount place)
+  done n
+
 -- the base that most of them have
-abbrev pub base_at : Reader → ReaderState → Step Value
-base_at object s = object (codes "TObject") s
+abbrev pub base_object : Objects → ObjLayout Value
+base_object object = object (codes "TObject")
 
 -- an item of a TList: a pointer and an option text
-unfoldable pub link_at : Reader → ReaderState → Step Value
-link_at object s = do
-  pointer ← pointer_at object s
-  option ← chars_at pointer.1
-  Ok (Items (pointer.0 ∷ Text option.0 ∷ []), option.1)
+unfoldable pub link : Objects → ObjLayout Value
+link object = do
+  p ← pointer object
+  option ← text Short
+  done (Items (p ∷ Text option ∷ []))
 
-unfoldable pub list_parts_at : Reader → ReaderState → Step (List Part)
-list_parts_at object s = do
-  base ← base_at object s
-  name ← chars_at base.1
-  count ← count_at 4 name.1
-  items ← times_at count.0 (link_at object) count.1
-  Ok (part [] base.0 ∷ part (codes "fName") (Text name.0) ∷ part (codes "items") (Items items.0) ∷ [], items.1)
+unfoldable pub list_parts : Objects → ObjLayout (List Part)
+list_parts object = do
+  b ← base_object object
+  n ← text Short
+  count ← count_of 4
+  items ← times count (link object)
+  done (part [] b ∷ part (codes "fName") (Text n) ∷ part (codes "items") (Items items) ∷ [])
 
-unfoldable pub array_parts_at : Reader → ReaderState → Step (List Part)
-array_parts_at object s = do
-  base ← base_at object s
-  name ← chars_at base.1
-  count ← count_at 4 name.1
-  lower ← number_value_at I32 count.1
-  items ← times_at count.0 (pointer_at object) lower.1
-  Ok (part [] base.0 ∷ part (codes "fName") (Text name.0) ∷ part (codes "fLowerBound") lower.0 ∷ part (codes "items") (Items items.0) ∷ [], items.1)
+unfoldable pub array_parts : Objects → ObjLayout (List Part)
+array_parts object = do
+  b ← base_object object
+  n ← text Short
+  count ← count_of 4
+  lower ← number_value I32
+  items ← times count (pointer object)
+  done (part [] b ∷ part (codes "fName") (Text n) ∷ part (codes "fLowerBound") lower ∷ part (codes "items") (Items items) ∷ [])
 
 -- whether fBits has its bit 4, behind which fPid stands
 abbrev pub has_pid : ℕ → Bool
@@ -153,59 +156,74 @@ bare_object id bits pid = Object (codes "TObject") (pos 1) (part (codes "fUnique
 abbrev pub pid_part : ℕ → Part
 pid_part pid = part (codes "fPid") (Int (pos pid))
 
+-- fPid, which stands only where bit 4 of fBits does
+abbrev pub pid_of : ℕ → ObjLayout (List Part)
+pid_of bits =
+    when has_pid bits
+    then (do pid ← number Short 2; done (pid_part pid ∷ []))
+    else done []
+
 -- a TObject, which has no byte count
-unfoldable pub bare_at : ReaderState → Step Value
-bare_at s = do
-  version ← word_at 2 s
-  id ← if version.0 == 1 then word_at 4 version.1 else Err (NoCount s.at.place)
-  bits ← word_at 4 id.1
-  if has_pid bits.0
-      then (word_at 2 bits.1 >>= λ pid. Ok (bare_object id.0 bits.0 (pid_part pid.0 ∷ []), pid.1))
-      else Ok (bare_object id.0 bits.0 [], bits.1)
+unfoldable pub bare_layout : ObjLayout Value
+bare_layout = do
+  place ← here
+  version ← number Short 2
+  _ ← must (version == 1) (NoCount place)
+  id ← number Short 4
+  bits ← number Short 4
+  pid ← pid_of bits
+  done (bare_object id bits pid)
 
 -- a TArray of a class, which is a count and its numbers
-unfoldable pub array_at : List ℕ → Primitive → ReaderState → Step Value
-array_at class of s = do
-  count ← count_at (width_of of) s
-  items ← numbers_at of count.0 count.1
-  Ok (Object class (pos 1) (part (codes "items") items.0 ∷ []), items.1)
+unfoldable pub array : List ℕ → Primitive → ObjLayout Value
+array class of = do
+  count ← count_of (width_of of)
+  items ← numbers of count
+  done (Object class (pos 1) (part (codes "items") items ∷ []))
 
 -- ---- objects
 
 -- parts, as many as the header's count says
-unfoldable pub whole_at : List ℕ → ℤ → Header → (ReaderState → Step (List Part)) → ReaderState → Step Value
-whole_at class version h parts s = do
-  ps ← parts s
-  done ← finish_at h.place h.end ps.1
-  Ok (Object class version ps.0, done.1)
+unfoldable pub closed : List ℕ → ℤ → Header → List Part → ObjLayout Value
+closed class version h ps = do
+  _ ← finish h.place h.end
+  done (Object class version ps)
+
+unfoldable pub whole_object : List ℕ → ℤ → Header → ObjLayout (List Part) → ObjLayout Value
+whole_object class version h inside = do
+  ps ← inside
+  closed class version h ps
 
 -- an object that isn't read, with the bytes counted; the header that was read is among them
-abbrev pub opaque_at : List ℕ → Header → ReaderState → Step Value
-opaque_at class h s =
-    if nat_lt h.end s.at.place
-    then Err (CountMismatch h.place (h.end - h.place - 4) (s.at.place - h.place - 4))
-    else Ok (Opaque class (h.end - h.place - 4), record s { at = skip (h.end - s.at.place) s.at })
+unfoldable pub unread : List ℕ → Header → ObjLayout Value
+unread class h = do
+  place ← here
+  _ ← must (nat_le place h.end) (CountMismatch h.place (h.end - h.place - 4) (place - h.place - 4))
+  _ ← any Short (h.end - place)
+  done (Opaque class (h.end - h.place - 4))
 
-unfoldable pub body_at : Reader → List ℕ → Header → Body → ReaderState → Step Value
-body_at object class h (described c) s = whole_at class c.version h (parts_at object (slots_of c)) s
-body_at object class h listed s = whole_at class (pos 5) h (list_parts_at object) s
-body_at object class h arrayed s = whole_at class (pos 3) h (array_parts_at object) s
-body_at object class h opaque s = opaque_at class h s
+unfoldable pub body : Objects → List ℕ → Header → Body → ObjLayout Value
+body object class h (described c) = whole_object class c.version h (parts object c)
+body object class h listed = whole_object class (pos 5) h (list_parts object)
+body object class h arrayed = whole_object class (pos 3) h (array_parts object)
+body object class h opaque = unread class h
 
-unfoldable pub headed_at : Reader → List ClassDef → List ℕ → ReaderState → Step Value
-headed_at object classes class s = do
-  h ← header_at s
-  body_at object class h.0 (body_of classes class h.0.version h.0.sum) h.1
+unfoldable pub headed : Objects → List ClassDef → List ℕ → ObjLayout Value
+headed object classes class = do
+  h ← header
+  body object class h (body_of classes class h.version h.sum)
 
-unfoldable pub formed_at : Reader → List ClassDef → List ℕ → Form → ReaderState → Step Value
-formed_at object classes class bare s = bare_at s
-formed_at object classes class (numbers of) s = array_at class of s
-formed_at object classes class headed s = headed_at object classes class s
+unfoldable pub formed : Objects → List ClassDef → List ℕ → Form → ObjLayout Value
+formed object classes class bare = bare_layout
+formed object classes class (numbered of) = array class of
+formed object classes class with_header = headed object classes class
 
 -- an object of a class, with at most so many levels of objects
-unfoldable pub object_at : ℕ → List ClassDef → Reader
-object_at zero classes class s = Err (TooDeep s.at.place)
-object_at (suc levels) classes class s = formed_at (object_at levels classes) classes class (form_of class) s
+unfoldable pub object_of : ℕ → List ClassDef → Objects
+object_of zero classes class = do place ← here; broken (TooDeep place)
+object_of (suc levels) classes class = formed (object_of levels classes) classes class (form_of class)
+
+-- ---- what data are
 
 -- how deep an object may be
 abbrev pub depth_limit : ℕ
@@ -213,7 +231,7 @@ depth_limit = 256
 
 -- what data give whose first byte has the place, and where reading stands behind it
 abbrev pub first_at : List ClassDef → List ℕ → ℕ → List ℕ → Step Value
-first_at classes class start bytes = object_at depth_limit classes class (standing start bytes no_words)
+first_at classes class start bytes = read (object_of depth_limit classes class) (standing start bytes no_words)
 
 abbrev pub only_value : Step Value → Result Value ObjFault
 only_value (Ok x) = Ok x.0
@@ -222,3 +240,12 @@ only_value (Err e) = Err e
 -- the value that a prefix of the data spells, or the first fault
 abbrev pub value_at : List ClassDef → List ℕ → ℕ → List ℕ → Result Value ObjFault
 value_at classes class start bytes = only_value (first_at classes class start bytes)
+
+-- bytes that begin the data, the first of which has the place, spell the value as an object of the class
+unfoldable pub SpellsObject : List ClassDef → ℕ → List ℕ → Value → List ℕ → Type 0
+SpellsObject classes start class v bytes =
+    (t : WordsMet) × Spells (object_of depth_limit classes class) (start + length bytes) start no_words v bytes t
+
+-- the data, whose first byte has the place, break with this fault as an object of the class
+unfoldable pub BreaksObject : List ClassDef → ℕ → List ℕ → List ℕ → ObjFault → Type 0
+BreaksObject classes start class bytes fault = Breaks (object_of depth_limit classes class) start no_words bytes fault

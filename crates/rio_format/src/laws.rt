@@ -1,5 +1,5 @@
 //! Laws: how reading, spelling and writing of objects belong together.
-ghost use Rattle.rio_format.specs.Laws.{FaultIsNotSpelled, IsSpelledOnce, NoBaseIsDeeper, ReadIsSpelled, SpelledIsRead, WrittenIsSpelled};
+ghost use Rattle.rio_format.specs.Laws.{BrokenIsFault, BrokenIsNotSpelled, FaultIsBroken, FaultIsNotSpelled, IsBrokenOnce, IsSpelledOnce, NoBaseIsDeeper, ReadIsSpelled, SpelledIsRead, SpelledOrBroken, WrittenIsSpelled};
 
 /// What spells an object is read as it, whatever follows, and reading stands behind it.
 pub fn spelled_is_read()
@@ -30,4 +30,21 @@ pub fn written_is_spelled()
 /// A class that has another among its bases has it within as many levels as there are classes and one more.
 pub fn no_base_is_deeper()
     ensures { NoBaseIsDeeper }
+{}
+
+/// Where reading gives a fault, every part before one is spelled, and this one breaks its rule with the fault at its place.
+pub fn fault_is_broken()
+    ensures { FaultIsBroken }
+{}
+
+/// Where bytes break their rule with a fault, and every part before is spelled, reading gives the fault.
+pub fn broken_is_fault()
+    ensures { BrokenIsFault }
+{}
+
+/// Of all bytes a front spells an object of the class, or they break with a fault: one of the two, and with one fault.
+pub fn one_answer()
+    ensures some { SpelledOrBroken }
+    ensures apart { BrokenIsNotSpelled }
+    ensures one { IsBrokenOnce }
 {}

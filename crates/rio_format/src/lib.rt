@@ -18,8 +18,8 @@ pub use bases::{derives_from, is_headed};
 pub use body::{Body, BodyKind, body_of, declared_body, headed_version};
 pub use counters::Counters;
 pub use laws::{
-    fault_is_not_spelled, is_spelled_once, no_base_is_deeper, read_is_spelled, spelled_is_read,
-    written_is_spelled,
+    broken_is_fault, fault_is_broken, fault_is_not_spelled, is_spelled_once, no_base_is_deeper,
+    one_answer, read_is_spelled, spelled_is_read, written_is_spelled,
 };
 pub use lists::ClassLists;
 pub use rio_buffer::{Header, ObjFault, PointerWord};

@@ -2,7 +2,7 @@
 ghost use Rattle.std.specs.Prelude.{◌≡◌, ℕ, ◌+◌, ◌<◌, ◌^◌, List, ◌++◌, length, codes, Ok, IfOk};
 ghost use Rattle.rio_format.specs.ClassList.{class_list_at, classes_of};
 ghost use Rattle.rio_format.specs.Descriptions.{description_classes};
-ghost use Rattle.rio_format.specs.Spelling.{Spells};
+ghost use Rattle.rio_format.specs.Objects.{SpellsObject};
 ghost use Rattle.rio_value.specs.declared.value.Value.{Value as Spelled};
 ghost use Rattle.rio_read.specs.Reading.{Answers};
 
@@ -23,10 +23,10 @@ pub fn read_info(alloc: Global, bytes: &[u8], start: u64) -> Result<Classes, Obj
     // The classes are those of a list that the front of the data spells.
     ensures found { IfOk result (λ classes. (v : Spelled) × (front : List ℕ) × (rest : List ℕ)
         × (bytes.now ≡ front ++ rest)
-        × Spells description_classes start (codes "TList") v front × (classes ≡ classes_of v)) }
+        × SpellsObject description_classes start (codes "TList") v front × (classes ≡ classes_of v)) }
     // What the front of the data spells is read, unless memory runs out.
     ensures only { (v : Spelled) (front rest : List ℕ) → bytes.now ≡ front ++ rest
-        → Spells description_classes start (codes "TList") v front
+        → SpellsObject description_classes start (codes "TList") v front
         → Answers result (Ok (classes_of v)) }
     // Which classes they are, or which fault.
     ensures exact { Answers result (class_list_at start bytes.now) }

@@ -11,9 +11,8 @@ use Rattle.rio_format.specs.ClassList.{class_list_at, classes_of}
 use Rattle.rio_format.specs.Descriptions.{description_classes}
 use Rattle.rio_format.specs.Fits.{Fits, fits_signed}
 use Rattle.rio_format.specs.Laws.{has_versions}
-use Rattle.rio_format.specs.Objects.{depth_limit, value_at}
+use Rattle.rio_format.specs.Objects.{SpellsObject, depth_limit, value_at}
 use Rattle.rio_format.specs.Prims.{width_of}
-use Rattle.rio_format.specs.Spelling.{Spells}
 use Rattle.rio_format.specs.TreeClasses.{tree_classes, written_classes}
 use Rattle.rio_format.specs.WrittenBytes.{class_list_bytes}
 use Rattle.rio_format.specs.WrittenList.{class_list_value}
@@ -82,7 +81,7 @@ HasPlaces start classes = start + length (class_list_bytes start classes) ≤ 2 
 -- the bytes of the list spell it
 abbrev pub WrittenListIsSpelled : Type 0
 WrittenListIsSpelled = (classes : List ClassDef) (start : ℕ) → HaveNumbers classes → HasPlaces start classes
-    → Spells description_classes start (codes "TList") (class_list_value classes) (class_list_bytes start classes)
+    → SpellsObject description_classes start (codes "TList") (class_list_value classes) (class_list_bytes start classes)
 
 -- they are read as the list, whatever follows
 abbrev pub WrittenBytesAreRead : Type 0

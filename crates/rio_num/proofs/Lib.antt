@@ -1,3 +1,11 @@
 pub mod NameSets
 pub mod BytesEq
 pub mod ReadLaws
+pub mod Agree
+pub mod LayoutBytes
+pub mod Examples
+pub mod Intro
+pub mod LayoutNames
+pub mod LayoutTexts
+pub mod Retold
+pub mod Within

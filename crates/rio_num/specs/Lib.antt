@@ -5,3 +5,7 @@ pub mod Room
 pub mod Text
 pub mod Word
 pub mod formers
+pub mod Books
+pub mod Laws
+pub mod Layout
+pub mod Meanings

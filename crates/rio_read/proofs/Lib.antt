@@ -1,4 +1,3 @@
-pub mod Closed
+pub mod Counts
 pub mod Each
-pub mod Parts
 pub mod ReadLaws

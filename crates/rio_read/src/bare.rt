@@ -3,7 +3,8 @@ ghost use Rattle.std.specs.Prelude.{◌≡◌, ◌∷◌, ◌++◌, [], pos, cod
 ghost use Rattle.rio_num.specs.At.{GoesOn};
 ghost use Rattle.rio_format.specs.Bodies.{part};
 ghost use Rattle.rio_buffer.specs.Frames.{ReadsAs};
-ghost use Rattle.rio_format.specs.Objects.{array_at, bare_at, bare_object, object_at};
+ghost use Rattle.rio_format.specs.Objects.{array, bare_layout, bare_object, object_of};
+ghost use Rattle.rio_num.specs.Meanings.{read};
 ghost use Rattle.rio_value.specs.declared.value.Value.{Int, Object};
 ghost use Rattle.rio_read.specs.Members.{pid_parts};
 
@@ -49,9 +50,9 @@ fn bare_object(alloc: Global, id: u32, bits: u32, pid: Option<u16>) -> Result<Va
 }
 
 /// A TObject.
-#[tactic(auto, unfolding(rio_format::specs::Objects::bare_at))]
+#[tactic(auto, unfolding(rio_format::specs::Objects::bare_layout))]
 pub(crate) fn read_bare(alloc: Global, reader: &mut ObjReader) -> Result<Value, ObjFault>
-    ensures exact { ReadsAs (λ x. x) result (bare_at reader.old) reader.new }
+    ensures exact { ReadsAs (λ x. x) result (read bare_layout reader.old) reader.new }
     ensures goes { GoesOn reader.old.at reader.new.at }
 {
     let place = reader.place();
@@ -69,7 +70,7 @@ pub(crate) fn read_bare(alloc: Global, reader: &mut ObjReader) -> Result<Value, 
 }
 
 /// The TObject that is a base of another built-in class, with at most `levels` levels of objects.
-#[tactic(auto, unfolding(rio_format::specs::Objects::object_at, rio_format::specs::Objects::formed_at))]
+#[tactic(auto, unfolding(rio_format::specs::Objects::object_of, rio_format::specs::Objects::formed))]
 pub(crate) fn read_base(
     alloc: Global,
     classes: &Classes,
@@ -77,7 +78,7 @@ pub(crate) fn read_base(
     levels: u32,
 ) -> Result<Value, ObjFault>
     ensures exact { ReadsAs (λ x. x) result
-        (object_at levels classes.now (codes "TObject") reader.old) reader.new }
+        (read (object_of levels classes.now (codes "TObject")) reader.old) reader.new }
     ensures goes { GoesOn reader.old.at reader.new.at }
 {
     if levels == 0 {
@@ -101,14 +102,14 @@ fn array_of(alloc: Global, class: &[u8], items: Value) -> Result<Value, NoMemory
 }
 
 /// A TArray of the class.
-#[tactic(auto, unfolding(rio_format::specs::Objects::array_at))]
+#[tactic(auto, unfolding(rio_format::specs::Objects::array))]
 pub(crate) fn read_array(
     alloc: Global,
     reader: &mut ObjReader,
     class: &[u8],
     of: Prim,
 ) -> Result<Value, ObjFault>
-    ensures exact { ReadsAs (λ x. x) result (array_at class.now of reader.old) reader.new }
+    ensures exact { ReadsAs (λ x. x) result (read (array class.now of) reader.old) reader.new }
     ensures goes { GoesOn reader.old.at reader.new.at }
 {
     let count = read_count(reader, width_of(of))?;

@@ -1,11 +1,11 @@
 //! The parts of built-in classes with a header.
 ghost use Rattle.std.specs.Prelude.{◌≡◌, [], ◌∷◌, codes, IfOk};
 ghost use Rattle.rio_num.specs.At.{GoesOn};
-ghost use Rattle.rio_format.specs.Bodies.{part, slots_of, t_named, t_obj_string};
+ghost use Rattle.rio_format.specs.Bodies.{part, t_named, t_obj_string};
 ghost use Rattle.rio_buffer.specs.Frames.{ReadsAs};
-ghost use Rattle.rio_format.specs.Objects.{object_at, parts_at};
+ghost use Rattle.rio_format.specs.Objects.{object_of, parts};
+ghost use Rattle.rio_num.specs.Meanings.{read};
 ghost use Rattle.rio_value.specs.declared.value.Value.{Text, List as Listing};
-ghost use Rattle.rio_read.specs.Members.{named_parts_at, obj_string_parts_at};
 
 use crate::bare::read_base;
 use crate::member::part_with;
@@ -75,15 +75,16 @@ pub(crate) fn array_parts(
     Ok(parts)
 }
 
-#[tactic(auto, unfolding(crate::specs::Members::named_parts_at))]
-fn read_named(
+/// The parts of a TNamed.
+#[tactic(auto, unfolding(rio_format::specs::Objects::parts, rio_format::specs::Objects::member_parts, rio_format::specs::Objects::member_part, rio_format::specs::Objects::kind_value, rio_format::specs::Objects::base_part, rio_format::specs::Objects::text_value, rio_num::specs::Layout::each))]
+pub(crate) fn read_named_parts(
     alloc: Global,
     classes: &Classes,
     reader: &mut ObjReader,
     levels: u32,
 ) -> Result<Parts, ObjFault>
     ensures exact { ReadsAs (λ x. x) result
-        (named_parts_at (object_at levels classes.now) reader.old) reader.new }
+        (read (parts (object_of levels classes.now) t_named) reader.old) reader.new }
     ensures goes { GoesOn reader.old.at reader.new.at }
 {
     let base = read_base(alloc, classes, reader, levels)?;
@@ -92,37 +93,8 @@ fn read_named(
     Ok(named_parts(alloc, base, name, title)?)
 }
 
-#[tactic(auto, unfolding(crate::specs::Members::obj_string_parts_at))]
-fn read_obj_string(
-    alloc: Global,
-    classes: &Classes,
-    reader: &mut ObjReader,
-    levels: u32,
-) -> Result<Parts, ObjFault>
-    ensures exact { ReadsAs (λ x. x) result
-        (obj_string_parts_at (object_at levels classes.now) reader.old) reader.new }
-    ensures goes { GoesOn reader.old.at reader.new.at }
-{
-    let base = read_base(alloc, classes, reader, levels)?;
-    let text = read_name(alloc, reader)?;
-    Ok(obj_string_parts(alloc, base, text)?)
-}
-
-/// The parts of a TNamed.
-pub(crate) fn read_named_parts(
-    alloc: Global,
-    classes: &Classes,
-    reader: &mut ObjReader,
-    levels: u32,
-) -> Result<Parts, ObjFault>
-    ensures exact { ReadsAs (λ x. x) result
-        (parts_at (object_at levels classes.now) (slots_of t_named) reader.old) reader.new }
-    ensures goes { GoesOn reader.old.at reader.new.at }
-{
-    read_named(alloc, classes, reader, levels)
-}
-
 /// The parts of a TObjString.
+#[tactic(auto, unfolding(rio_format::specs::Objects::parts, rio_format::specs::Objects::member_parts, rio_format::specs::Objects::member_part, rio_format::specs::Objects::kind_value, rio_format::specs::Objects::base_part, rio_format::specs::Objects::text_value, rio_num::specs::Layout::each))]
 pub(crate) fn read_obj_string_parts(
     alloc: Global,
     classes: &Classes,
@@ -130,8 +102,10 @@ pub(crate) fn read_obj_string_parts(
     levels: u32,
 ) -> Result<Parts, ObjFault>
     ensures exact { ReadsAs (λ x. x) result
-        (parts_at (object_at levels classes.now) (slots_of t_obj_string) reader.old) reader.new }
+        (read (parts (object_of levels classes.now) t_obj_string) reader.old) reader.new }
     ensures goes { GoesOn reader.old.at reader.new.at }
 {
-    read_obj_string(alloc, classes, reader, levels)
+    let base = read_base(alloc, classes, reader, levels)?;
+    let text = read_name(alloc, reader)?;
+    Ok(obj_string_parts(alloc, base, text)?)
 }

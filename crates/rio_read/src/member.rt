@@ -1,9 +1,11 @@
 //! Parts of objects and items of lists.
 ghost use Rattle.std.specs.Prelude.{◌≡◌, [], ◌∷◌, IfOk};
 ghost use Rattle.rio_num.specs.At.{GoesOn};
-ghost use Rattle.rio_format.specs.Bodies.{part};
-ghost use Rattle.rio_value.specs.declared.value.Value.{Text, List as Listing};
-ghost use Rattle.rio_read.specs.Members.{ReadsWithin, counter_at};
+ghost use Rattle.rio_format.specs.Bodies.{number_in, part};
+ghost use Rattle.rio_buffer.specs.Frames.{ReadsAs};
+ghost use Rattle.rio_value.specs.declared.value.Value.{out-Value, Text, List as Listing};
+ghost use Rattle.rio_num.specs.Meanings.{read};
+ghost use Rattle.rio_read.specs.Members.{counter_part};
 
 use rio_buffer::{ObjFault, ObjReader};
 use rio_format::Counters;
@@ -32,14 +34,15 @@ pub(crate) fn link(alloc: Global, pointer: Value, option: Name) -> Result<Value,
 }
 
 /// A counter of this name, which counts from then on.
-#[tactic(auto, unfolding(crate::specs::Members::counter_at))]
+#[tactic(auto, unfolding(crate::specs::Members::counter_part, rio_format::specs::Objects::number_value))]
 pub(crate) fn read_counter(
     reader: &mut ObjReader,
     name: &Name,
     counters: &mut Counters,
 ) -> Result<Part, ObjFault>
-    ensures exact { ReadsWithin result (counter_at name.now (reader.old, counters.old)) reader.new
-        counters.new }
+    ensures exact { ReadsAs (λ x. x) result (read (counter_part name.now) reader.old) reader.new }
+    ensures counters { IfOk result (λ p. counters.new
+        ≡ (name.now, number_in (out-Value p.value)) ∷ counters.old) }
     ensures goes { GoesOn reader.old.at reader.new.at }
 {
     let said = reader.take_u32()?.cast_signed();

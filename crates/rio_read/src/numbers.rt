@@ -1,8 +1,10 @@
 //! Numbers, and lists of them.
 ghost use Rattle.std.specs.Prelude.{◌≡◌, ◌<◌, ◌^◌, IfOk};
 ghost use Rattle.rio_num.specs.At.{GoesOn};
-ghost use Rattle.rio_buffer.specs.Frames.{ReadsAs, chars_at};
-ghost use Rattle.rio_format.specs.Objects.{count_at, counted_at, filled_at, number_value_at, numbers_at, text_value_at, times_at};
+ghost use Rattle.rio_buffer.specs.Frames.{ReadsAs};
+ghost use Rattle.rio_format.specs.Objects.{count_of, counted_values, filled, number_value, numbers, text_value};
+ghost use Rattle.rio_num.specs.Layout.{text, times};
+ghost use Rattle.rio_num.specs.Meanings.{read};
 
 use rio_buffer::{ObjFault, ObjReader};
 use rio_num::Name;
@@ -10,9 +12,9 @@ use rio_types::Prim;
 use rio_value::{Value, Values};
 use std::alloc::Global;
 
-#[tactic(auto, unfolding(rio_format::specs::Objects::number_value_at))]
+#[tactic(auto, unfolding(rio_format::specs::Objects::number_value))]
 pub(crate) fn read_number(reader: &mut ObjReader, of: Prim) -> Result<Value, ObjFault>
-    ensures exact { ReadsAs (λ x. x) result (number_value_at of reader.old) reader.new }
+    ensures exact { ReadsAs (λ x. x) result (read (number_value of) reader.old) reader.new }
     ensures goes { GoesOn reader.old.at reader.new.at }
 {
     match of {
@@ -36,7 +38,7 @@ fn read_times(
     of: Prim,
     count: u32,
 ) -> Result<Values, ObjFault>
-    ensures exact { ReadsAs (λ x. x) result (times_at count (number_value_at of) reader.old)
+    ensures exact { ReadsAs (λ x. x) result (read (times count (number_value of)) reader.old)
         reader.new }
     ensures goes { GoesOn reader.old.at reader.new.at }
 {
@@ -48,29 +50,32 @@ fn read_times(
 }
 
 /// A list of `count` numbers.
-#[tactic(auto, unfolding(rio_format::specs::Objects::numbers_at))]
+#[tactic(auto, unfolding(rio_format::specs::Objects::numbers))]
 pub(crate) fn read_numbers(
     alloc: Global,
     reader: &mut ObjReader,
     of: Prim,
     count: u32,
 ) -> Result<Value, ObjFault>
-    ensures exact { ReadsAs (λ x. x) result (numbers_at of count reader.old) reader.new }
+    ensures exact { ReadsAs (λ x. x) result (read (numbers of count) reader.old) reader.new }
     ensures goes { GoesOn reader.old.at reader.new.at }
 {
     Ok(Value::List(read_times(alloc, reader, of, count)?))
 }
 
 /// A count of items of at least `width` bytes each, which are behind it.
-#[tactic(auto, unfolding(rio_format::specs::Objects::count_at))]
+#[tactic(auto, using(crate::proofs::Counts::few_same), unfolding(rio_format::specs::Objects::count_of))]
 pub(crate) fn read_count(reader: &mut ObjReader, width: u64) -> Result<u32, ObjFault>
     requires { 0 < width }
-    ensures exact { ReadsAs (λ x. x) result (count_at width reader.old) reader.new }
+    ensures exact { ReadsAs (λ x. x) result (read (count_of width) reader.old) reader.new }
     ensures goes { GoesOn reader.old.at reader.new.at }
 {
     let place = reader.place();
     let count = reader.take_u32()?;
-    if count >= 0x8000_0000 || reader.left() / width < u64::from(count) {
+    if count >= 0x8000_0000 {
+        return Err(ObjFault::BadCount { place });
+    }
+    if reader.left() / width < u64::from(count) {
         return Err(ObjFault::BadCount { place });
     }
     Ok(count)
@@ -84,7 +89,7 @@ fn read_filled(
     place: u64,
     count: i32,
 ) -> Result<Value, ObjFault>
-    ensures exact { ReadsAs (λ x. x) result (filled_at of place count reader.old) reader.new }
+    ensures exact { ReadsAs (λ x. x) result (read (filled of place count) reader.old) reader.new }
     ensures goes { GoesOn reader.old.at reader.new.at }
 {
     if count < 0 {
@@ -94,14 +99,14 @@ fn read_filled(
 }
 
 /// The byte 0 for nothing, or the byte 1 and `count` values.
-#[tactic(auto, unfolding(rio_format::specs::Objects::counted_at))]
+#[tactic(auto, unfolding(rio_format::specs::Objects::counted_values))]
 pub(crate) fn read_counted(
     alloc: Global,
     reader: &mut ObjReader,
     of: Prim,
     count: i32,
 ) -> Result<Value, ObjFault>
-    ensures exact { ReadsAs (λ x. x) result (counted_at of count reader.old) reader.new }
+    ensures exact { ReadsAs (λ x. x) result (read (counted_values of count) reader.old) reader.new }
     ensures goes { GoesOn reader.old.at reader.new.at }
 {
     let place = reader.place();
@@ -113,16 +118,16 @@ pub(crate) fn read_counted(
 }
 
 pub(crate) fn read_name(alloc: Global, reader: &mut ObjReader) -> Result<Name, ObjFault>
-    ensures exact { ReadsAs (λ x. x) result (chars_at reader.old) reader.new }
+    ensures exact { ReadsAs (λ x. x) result (read (text ObjFault.Short) reader.old) reader.new }
     ensures goes { GoesOn reader.old.at reader.new.at }
 {
     let text = reader.take_text()?;
     Ok(Name::from_slice(alloc, text)?)
 }
 
-#[tactic(auto, unfolding(rio_format::specs::Objects::text_value_at))]
+#[tactic(auto, unfolding(rio_format::specs::Objects::text_value))]
 pub(crate) fn read_text(alloc: Global, reader: &mut ObjReader) -> Result<Value, ObjFault>
-    ensures exact { ReadsAs (λ x. x) result (text_value_at reader.old) reader.new }
+    ensures exact { ReadsAs (λ x. x) result (read text_value reader.old) reader.new }
     ensures goes { GoesOn reader.old.at reader.new.at }
 {
     Ok(Value::Text(read_name(alloc, reader)?))

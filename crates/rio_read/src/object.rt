@@ -1,12 +1,14 @@
 //! Objects of the classes that a file describes. A call reads an object with at most `levels` levels of
 //! objects inside.
-ghost use Rattle.std.specs.Prelude.{◌≡◌, [], ◌∷◌};
+ghost use Rattle.std.specs.Prelude.{◌≡◌, [], ◌∷◌, IfOk};
 ghost use Rattle.rio_num.specs.At.{AreBytes, GoesOn};
-ghost use Rattle.rio_format.specs.Bodies.{base_slot, form_of, body_of, slots_of, t_named, t_obj_string};
+ghost use Rattle.rio_format.specs.Bodies.{form_of, body_of, counters_with, t_named, t_obj_string};
 ghost use Rattle.rio_buffer.specs.Frames.{ReadsAs};
-ghost use Rattle.rio_format.specs.Objects.{array_parts_at, body_at, each_at, formed_at, headed_at, kind_at, link_at, list_parts_at, member_at, object_at, parts_at, pointer_at, times_at};
+ghost use Rattle.rio_format.specs.Objects.{array_parts, base_part, body, formed, headed, kind_value, link, list_parts, member_part, member_parts, object_of, parts, pointer};
+ghost use Rattle.rio_num.specs.Layout.{each, times};
+ghost use Rattle.rio_num.specs.Meanings.{read};
 ghost use Rattle.rio_buffer.specs.Reader.{IsCounted};
-ghost use Rattle.rio_read.specs.Members.{ReadsWithin, members_at};
+ghost use Rattle.rio_read.specs.Lists.{with_front};
 
 use crate::bare::{read_array, read_bare, read_base};
 use crate::builtin::{array_parts, list_parts, read_named_parts, read_obj_string_parts};
@@ -22,7 +24,7 @@ use std::alloc::Global;
 
 /// An object of the class.
 #[cycle(object)]
-#[tactic(auto, unfolding(rio_format::specs::Objects::object_at))]
+#[tactic(auto, unfolding(rio_format::specs::Objects::object_of))]
 pub(crate) fn read_object(
     alloc: Global,
     classes: &Classes,
@@ -30,8 +32,8 @@ pub(crate) fn read_object(
     class: &[u8],
     levels: u32,
 ) -> Result<Value, ObjFault>
-    ensures exact { ReadsAs (λ x. x) result (object_at levels classes.now class.now reader.old)
-        reader.new }
+    ensures exact { ReadsAs (λ x. x) result
+        (read (object_of levels classes.now class.now) reader.old) reader.new }
     ensures bytes { AreBytes reader.old.at.rest }
     ensures goes { GoesOn reader.old.at reader.new.at }
 {
@@ -43,7 +45,7 @@ pub(crate) fn read_object(
 }
 
 #[cycle(object)]
-#[tactic(auto, unfolding(rio_format::specs::Objects::formed_at))]
+#[tactic(auto, unfolding(rio_format::specs::Objects::formed))]
 fn read_formed(
     alloc: Global,
     classes: &Classes,
@@ -52,8 +54,7 @@ fn read_formed(
     levels: u32,
 ) -> Result<Value, ObjFault>
     ensures exact { ReadsAs (λ x. x) result
-        (formed_at (object_at levels classes.now) classes.now class.now (form_of class.now)
-        reader.old) reader.new }
+        (read (formed (object_of levels classes.now) classes.now class.now (form_of class.now)) reader.old) reader.new }
     ensures goes { GoesOn reader.old.at reader.new.at }
 {
     match shape_of(class) {
@@ -64,7 +65,7 @@ fn read_formed(
 }
 
 #[cycle(object)]
-#[tactic(auto, unfolding(rio_format::specs::Objects::headed_at))]
+#[tactic(auto, unfolding(rio_format::specs::Objects::headed))]
 fn read_headed(
     alloc: Global,
     classes: &Classes,
@@ -73,7 +74,7 @@ fn read_headed(
     levels: u32,
 ) -> Result<Value, ObjFault>
     ensures exact { ReadsAs (λ x. x) result
-        (headed_at (object_at levels classes.now) classes.now class.now reader.old) reader.new }
+        (read (headed (object_of levels classes.now) classes.now class.now) reader.old) reader.new }
     ensures goes { GoesOn reader.old.at reader.new.at }
 {
     let header = reader.header()?;
@@ -81,7 +82,7 @@ fn read_headed(
 }
 
 #[cycle(object)]
-#[tactic(auto, unfolding(rio_format::specs::Objects::body_at, rio_format::specs::Objects::whole_at))]
+#[tactic(auto, unfolding(rio_format::specs::Objects::body, rio_format::specs::Objects::whole_object))]
 fn read_body(
     alloc: Global,
     classes: &Classes,
@@ -92,8 +93,8 @@ fn read_body(
 ) -> Result<Value, ObjFault>
     requires { IsCounted header.place header.end reader.old }
     ensures exact { ReadsAs (λ x. x) result
-        (body_at (object_at levels classes.now) class.now header
-        (body_of classes.now class.now header.version header.sum) reader.old) reader.new }
+        (read (body (object_of levels classes.now) class.now header
+        (body_of classes.now class.now header.version header.sum)) reader.old) reader.new }
     ensures goes { GoesOn reader.old.at reader.new.at }
 {
     let body = body_of(classes, class, &header);
@@ -124,6 +125,7 @@ fn read_body(
 
 // The bases and then the members of a class.
 #[cycle(object)]
+#[tactic(auto, unfolding(rio_format::specs::Objects::parts))]
 fn read_parts(
     alloc: Global,
     classes: &Classes,
@@ -132,7 +134,7 @@ fn read_parts(
     levels: u32,
 ) -> Result<Parts, ObjFault>
     ensures exact { ReadsAs (λ x. x) result
-        (parts_at (object_at levels classes.now) (slots_of described.now) reader.old) reader.new }
+        (read (parts (object_of levels classes.now) described.now) reader.old) reader.new }
     ensures goes { GoesOn reader.old.at reader.new.at }
 {
     let bases = described.bases.as_slice();
@@ -149,9 +151,8 @@ fn read_bases(
     bases: &[Base],
     levels: u32,
 ) -> Result<Parts, ObjFault>
-    ensures exact { ReadsWithin result
-        (each_at (λ b. member_at (object_at levels classes.now) (base_slot b)) bases.now
-        (reader.old, [])) reader.new [] }
+    ensures exact { ReadsAs (λ x. x) result
+        (read (each (base_part (object_of levels classes.now)) bases.now) reader.old) reader.new }
     ensures goes { GoesOn reader.old.at reader.new.at }
 {
     let mut parts = Parts::new(alloc);
@@ -162,7 +163,7 @@ fn read_bases(
 }
 
 #[cycle(object)]
-#[tactic(auto, unfolding(rio_format::specs::Objects::member_at, rio_format::specs::Objects::kind_at))]
+#[tactic(auto, unfolding(rio_format::specs::Objects::base_part))]
 fn read_base_part(
     alloc: Global,
     classes: &Classes,
@@ -170,9 +171,8 @@ fn read_base_part(
     base: &Base,
     levels: u32,
 ) -> Result<Part, ObjFault>
-    ensures exact { ReadsWithin result
-        (member_at (object_at levels classes.now) (base_slot base.now) (reader.old, [])) reader.new
-        [] }
+    ensures exact { ReadsAs (λ x. x) result
+        (read (base_part (object_of levels classes.now) base.now) reader.old) reader.new }
     ensures goes { GoesOn reader.old.at reader.new.at }
 {
     let value = read_object(alloc, classes, reader, base.name.as_slice(), levels)?;
@@ -190,7 +190,8 @@ fn read_members(
     levels: u32,
 ) -> Result<Parts, ObjFault>
     ensures exact { ReadsAs (λ x. x) result
-        (members_at (object_at levels classes.now) parts members.now reader.old) reader.new }
+        (with_front parts
+        (read (member_parts (object_of levels classes.now) [] members.now) reader.old)) reader.new }
     ensures goes { GoesOn reader.old.at reader.new.at }
 {
     let mut counters = Counters::new(alloc);
@@ -201,7 +202,7 @@ fn read_members(
 }
 
 #[cycle(object)]
-#[tactic(auto, unfolding(rio_format::specs::Objects::member_at))]
+#[tactic(auto, unfolding(rio_format::specs::Objects::member_part))]
 fn read_member(
     alloc: Global,
     classes: &Classes,
@@ -210,9 +211,11 @@ fn read_member(
     counters: &mut Counters,
     levels: u32,
 ) -> Result<Part, ObjFault>
-    ensures exact { ReadsWithin result
-        (member_at (object_at levels classes.now) member.now (reader.old, counters.old)) reader.new
-        counters.new }
+    ensures exact { ReadsAs (λ x. x) result
+        (read (member_part (object_of levels classes.now) counters.old member.now) reader.old)
+        reader.new }
+    ensures counters { IfOk result (λ p. counters.new
+        ≡ counters_with member.now p.value counters.old) }
     ensures goes { GoesOn reader.old.at reader.new.at }
 {
     match &member.kind {
@@ -226,7 +229,7 @@ fn read_member(
 
 // A value of the kind, behind these counters.
 #[cycle(object)]
-#[tactic(auto, unfolding(rio_format::specs::Objects::kind_at))]
+#[tactic(auto, unfolding(rio_format::specs::Objects::kind_value))]
 fn read_kind(
     alloc: Global,
     classes: &Classes,
@@ -236,7 +239,7 @@ fn read_kind(
     levels: u32,
 ) -> Result<Value, ObjFault>
     ensures exact { ReadsAs (λ x. x) result
-        (kind_at (object_at levels classes.now) counters.now kind.now reader.old) reader.new }
+        (read (kind_value (object_of levels classes.now) counters.now kind.now) reader.old) reader.new }
     ensures goes { GoesOn reader.old.at reader.new.at }
 {
     match kind {
@@ -256,15 +259,15 @@ fn read_kind(
 }
 
 #[cycle(object)]
-#[tactic(auto, unfolding(rio_format::specs::Objects::pointer_at, rio_format::specs::Objects::pointed_at))]
+#[tactic(auto, unfolding(rio_format::specs::Objects::pointer, rio_format::specs::Objects::pointed))]
 fn read_pointer(
     alloc: Global,
     classes: &Classes,
     reader: &mut ObjReader,
     levels: u32,
 ) -> Result<Value, ObjFault>
-    ensures exact { ReadsAs (λ x. x) result (pointer_at (object_at levels classes.now) reader.old)
-        reader.new }
+    ensures exact { ReadsAs (λ x. x) result
+        (read (pointer (object_of levels classes.now)) reader.old) reader.new }
     ensures goes { GoesOn reader.old.at reader.new.at }
 {
     match reader.pointer()? {
@@ -288,7 +291,7 @@ fn read_pointer(
 
 // The parts of a TList.
 #[cycle(object)]
-#[tactic(auto, unfolding(rio_format::specs::Objects::list_parts_at))]
+#[tactic(auto, unfolding(rio_format::specs::Objects::list_parts))]
 fn read_list_parts(
     alloc: Global,
     classes: &Classes,
@@ -296,7 +299,7 @@ fn read_list_parts(
     levels: u32,
 ) -> Result<Parts, ObjFault>
     ensures exact { ReadsAs (λ x. x) result
-        (list_parts_at (object_at levels classes.now) reader.old) reader.new }
+        (read (list_parts (object_of levels classes.now)) reader.old) reader.new }
     ensures goes { GoesOn reader.old.at reader.new.at }
 {
     let base = read_base(alloc, classes, reader, levels)?;
@@ -315,7 +318,7 @@ fn read_links(
     levels: u32,
 ) -> Result<Values, ObjFault>
     ensures exact { ReadsAs (λ x. x) result
-        (times_at count (link_at (object_at levels classes.now)) reader.old) reader.new }
+        (read (times count (link (object_of levels classes.now))) reader.old) reader.new }
     ensures goes { GoesOn reader.old.at reader.new.at }
 {
     let mut links = Values::new(alloc);
@@ -327,14 +330,14 @@ fn read_links(
 
 // An item of a TList.
 #[cycle(object)]
-#[tactic(auto, unfolding(rio_format::specs::Objects::link_at))]
+#[tactic(auto, unfolding(rio_format::specs::Objects::link))]
 fn read_link(
     alloc: Global,
     classes: &Classes,
     reader: &mut ObjReader,
     levels: u32,
 ) -> Result<Value, ObjFault>
-    ensures exact { ReadsAs (λ x. x) result (link_at (object_at levels classes.now) reader.old)
+    ensures exact { ReadsAs (λ x. x) result (read (link (object_of levels classes.now)) reader.old)
         reader.new }
     ensures goes { GoesOn reader.old.at reader.new.at }
 {
@@ -345,7 +348,7 @@ fn read_link(
 
 // The parts of a TObjArray.
 #[cycle(object)]
-#[tactic(auto, unfolding(rio_format::specs::Objects::array_parts_at))]
+#[tactic(auto, unfolding(rio_format::specs::Objects::array_parts))]
 fn read_array_parts(
     alloc: Global,
     classes: &Classes,
@@ -353,7 +356,7 @@ fn read_array_parts(
     levels: u32,
 ) -> Result<Parts, ObjFault>
     ensures exact { ReadsAs (λ x. x) result
-        (array_parts_at (object_at levels classes.now) reader.old) reader.new }
+        (read (array_parts (object_of levels classes.now)) reader.old) reader.new }
     ensures goes { GoesOn reader.old.at reader.new.at }
 {
     let base = read_base(alloc, classes, reader, levels)?;
@@ -373,7 +376,7 @@ fn read_pointers(
     levels: u32,
 ) -> Result<Values, ObjFault>
     ensures exact { ReadsAs (λ x. x) result
-        (times_at count (pointer_at (object_at levels classes.now)) reader.old) reader.new }
+        (read (times count (pointer (object_of levels classes.now))) reader.old) reader.new }
     ensures goes { GoesOn reader.old.at reader.new.at }
 {
     let mut pointers = Values::new(alloc);

@@ -2,9 +2,9 @@
 ghost use Rattle.std.specs.Prelude.{◌≡◌, IfOk};
 ghost use Rattle.rio_num.specs.At.{GoesOn};
 ghost use Rattle.rio_buffer.specs.Frames.{ReadsAs};
-ghost use Rattle.rio_format.specs.Objects.{opaque_at};
+ghost use Rattle.rio_format.specs.Objects.{closed, unread};
+ghost use Rattle.rio_num.specs.Meanings.{read};
 ghost use Rattle.rio_buffer.specs.Reader.{IsCounted};
-ghost use Rattle.rio_read.specs.Members.{closed_at};
 
 use rio_buffer::{Header, ObjFault, ObjReader};
 use rio_num::Name;
@@ -13,7 +13,7 @@ use rio_value::{Parts, Value};
 use std::alloc::Global;
 
 /// The object of these parts, which end where the header says.
-#[tactic(auto, unfolding(crate::specs::Members::closed_at))]
+#[tactic(auto, unfolding(rio_format::specs::Objects::closed))]
 pub(crate) fn whole(
     alloc: Global,
     reader: &mut ObjReader,
@@ -23,8 +23,8 @@ pub(crate) fn whole(
     parts: Parts,
 ) -> Result<Value, ObjFault>
     requires { IsCounted header.place header.end reader.old }
-    ensures exact { ReadsAs (λ x. x) result (closed_at class.now version header parts reader.old)
-        reader.new }
+    ensures exact { ReadsAs (λ x. x) result
+        (read (closed class.now version header parts) reader.old) reader.new }
     ensures goes { GoesOn reader.old.at reader.new.at }
 {
     reader.finish(header.place, header.end)?;
@@ -46,13 +46,14 @@ pub(crate) fn whole_described(
 ) -> Result<Value, ObjFault>
     requires { IsCounted header.place header.end reader.old }
     ensures exact { ReadsAs (λ x. x) result
-        (closed_at class.now described.now.version header parts reader.old) reader.new }
+        (read (closed class.now described.now.version header parts) reader.old) reader.new }
     ensures goes { GoesOn reader.old.at reader.new.at }
 {
     whole(alloc, reader, class, described.version, header, parts)
 }
 
 /// An object that isn't read, up to where the header says.
+#[tactic(auto, unfolding(rio_format::specs::Objects::unread))]
 pub(crate) fn read_opaque(
     alloc: Global,
     reader: &mut ObjReader,
@@ -60,7 +61,7 @@ pub(crate) fn read_opaque(
     header: Header,
 ) -> Result<Value, ObjFault>
     requires { IsCounted header.place header.end reader.old }
-    ensures exact { ReadsAs (λ x. x) result (opaque_at class.now header reader.old) reader.new }
+    ensures exact { ReadsAs (λ x. x) result (read (unread class.now header) reader.old) reader.new }
     ensures goes { GoesOn reader.old.at reader.new.at }
 {
     let place = reader.place();

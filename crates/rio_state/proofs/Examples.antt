@@ -6,8 +6,9 @@ use Rattle.byteorder.specs.Endian.{big_bytes}
 use Rattle.rio_num.specs.Reading.{text_at}
 use Rattle.rio_key.specs.Key.{fields_at, key_head_at}
 use Rattle.rio_head.specs.declared.reason.Reason.TheVariants.{OtherDirectory, BadInfo, BadName, BadKey, BadObject, BadTree}
-use Rattle.rio_buffer.specs.Frames.{header_at}
-use Rattle.rio_format.specs.Objects.{object_at, formed_at, headed_at, body_at, whole_at, parts_at, member_at, each_at, kind_at, text_value_at, bare_at}
+use Rattle.rio_num.specs.Layout.{each}
+use Rattle.rio_buffer.specs.Frames.{header}
+use Rattle.rio_format.specs.Objects.{object_of, formed, headed, body, unread, whole_object, closed, parts, base_part, member_parts, member_part, kind_value, text_value, bare_layout}
 use Rattle.rio_chain.specs.Segments.{Link, RecordAt}
 use Rattle.rio_chain.specs.declared.segment.Segment.TheVariants.{Record, Gap}
 use Rattle.rio_machine.specs.State.{empty_state, item_order, name_order}
@@ -111,7 +112,7 @@ some_title = refl
 
 -- four zero bytes behind the object
 many_zeros : state_reasons true (keyed_records (first_record ∷ string_record (codes "abcd") [] 100 4 ∷ [])) ≡ reason_at 208 BadObject ∷ []
-unfolding first_record string_record key_bytes short_text key_head_at fields_at text_at state_reasons object_in object_at formed_at headed_at body_at header_at whole_at parts_at member_at each_at kind_at text_value_at bare_at
+unfolding first_record string_record key_bytes short_text key_head_at fields_at text_at state_reasons object_in object_of formed headed body unread header whole_object closed each parts base_part member_parts member_part kind_value text_value bare_layout
 many_zeros = refl
 
 -- trees aren't read yet; the lower cycle of a name isn't looked at

@@ -1,8 +1,7 @@
 //! Objects are read: which value the data spell, or their first fault.
 ghost use Rattle.std.specs.Prelude.{◌+◌, ◌<◌, ◌^◌, length, IfOk, IsTrue};
 ghost use Rattle.rio_num.specs.At.{GoesOn};
-ghost use Rattle.rio_format.specs.Objects.{value_at};
-ghost use Rattle.rio_faults.specs.ObjectFaults.{BreaksFirst};
+ghost use Rattle.rio_format.specs.Objects.{BreaksObject, value_at};
 ghost use Rattle.rio_format.specs.BuiltIn.{is_small_builtin};
 ghost use Rattle.rio_read.specs.Reading.{Answers, AnswersFront, HasFront, IsRead, IsSpelled, ReadsNext};
 ghost use Rattle.rio_stream.specs.FirstFault.{BreaksNext, RefusesBreak, TellsBreak};
@@ -29,9 +28,9 @@ pub fn read_object(
     // What the front of the data spells is read, unless memory runs out.
     ensures only { AnswersFront classes.now start class.now bytes.now result }
     // A fault is the first one of the data: what stands before its place is spelled, and there a rule is broken.
-    ensures broken { TellsBreak (BreaksFirst classes.now start class.now bytes.now) result }
+    ensures broken { TellsBreak (BreaksObject classes.now start class.now bytes.now) result }
     // The first fault of the data is answered, unless memory runs out.
-    ensures refused { RefusesBreak (BreaksFirst classes.now start class.now bytes.now) result }
+    ensures refused { RefusesBreak (BreaksObject classes.now start class.now bytes.now) result }
     // Which value it is, or which fault, as reading from left to right gives it.
     ensures exact { Answers result (value_at classes.now class.now start bytes.now) }
 {

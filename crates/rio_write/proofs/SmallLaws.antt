@@ -1,5 +1,5 @@
 -- What is written for a small built-in object is the same at every place.
-use Rattle.std.proofs.Common.{◌≡◌, ◌≤◌, ◌⊎◌, inl, inr, ℕ, ℤ, pos, negsuc, Bool, true, false, cond, ◌&&◌, List, [], length, map, codes, slice_get, IsTrue, is_some, Option, Some, None, refl, sym, ap, subst, ◌∙◌, arith}
+use Rattle.std.proofs.Common.{◌≡◌, ◌⊎◌, inl, inr, ℕ, ℤ, pos, negsuc, Bool, true, false, cond, ◌&&◌, List, [], map, codes, slice_get, IsTrue, is_some, Option, Some, None, refl, sym, ap, subst, ◌∙◌}
 use Rattle.std.proofs.lemmas.Slice.Eq.{bytes_eq-Decides}
 use Rattle.std.specs.Prelude.{◌==◌}
 use Rattle.rio_types.specs.declared.class.ClassDef.{ClassDef}

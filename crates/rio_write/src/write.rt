@@ -7,7 +7,7 @@ ghost use Rattle.rio_format.specs.Written.{all, array_bytes, arrayed_bytes, bare
 ghost use Rattle.rio_format.specs.Fits.{Fits};
 ghost use Rattle.rio_format.specs.Laws.{has_versions};
 ghost use Rattle.rio_format.specs.Objects.{depth_limit};
-ghost use Rattle.rio_format.specs.Spelling.{Spells};
+ghost use Rattle.rio_format.specs.Objects.{SpellsObject};
 ghost use Rattle.rio_num.specs.Room.{room_of};
 ghost use Rattle.rio_value.specs.Depth.{depth_of};
 ghost use Rattle.rio_write.specs.Writing.{HasRoom, Writes, part_writing};
@@ -494,7 +494,7 @@ pub fn write_object(
     // What is written for a value that fits spells it, if it isn't too deep and its versions can be written.
     ensures spelled { (class : List ℕ) → Fits classes.now class value.now
         → depth_of value.now ≤ depth_limit → IsTrue (has_versions value.now)
-        → IfOk result (λ b. Spells classes.now start class value.now b.bytes) }
+        → IfOk result (λ b. SpellsObject classes.now start class value.now b.bytes) }
 {
     let mut writer = ObjWriter::new(alloc, start);
     let class = class_of(value);

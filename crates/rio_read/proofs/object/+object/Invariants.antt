@@ -1,7 +1,8 @@
 use Rattle.std.proofs.Common.{◌≡◌, ◌*◌, ◌+◌, ◌-◌, [], drop}
 use Rattle.rio_num.specs.At.{GoesOn}
-use Rattle.rio_format.specs.Bodies.{base_slot}
-use Rattle.rio_format.specs.Objects.{each_at, link_at, member_at, object_at, pointer_at, times_at}
+use Rattle.rio_num.specs.Layout.{each, times}
+use Rattle.rio_num.specs.Meanings.{read}
+use Rattle.rio_format.specs.Objects.{base_part, link, member_parts, object_of, pointer}
 use Rattle.rio_read.specs.Lists.{with_front}
 use Rattle.rio_read.proofs.object.+object.Given as goal
 
@@ -55,20 +56,20 @@ decreases-read_formed l = 9 * l.levels + 8
 
 abbrev pub invariant-read_bases-loop-base : goal.invariant-read_bases-loop-base
 invariant-read_bases-loop-base l =
-    (with_front l.parts (each_at (λ b. member_at (object_at l.levels l.classes) (base_slot b)) (drop l.base-index l.bases) (l.reader, [])) ≡ each_at (λ b. member_at (object_at l.levels l.classes) (base_slot b)) l.bases (l.fn.reader, []))
+    (with_front l.parts (read (each (base_part (object_of l.levels l.classes)) (drop l.base-index l.bases)) l.reader) ≡ read (each (base_part (object_of l.levels l.classes)) l.bases) l.fn.reader)
     × GoesOn l.fn.reader.at l.reader.at
 
 abbrev pub invariant-read_members-loop-member : goal.invariant-read_members-loop-member
 invariant-read_members-loop-member l =
-    (with_front l.parts (each_at (member_at (object_at l.levels l.classes)) (drop l.member-index l.members) (l.reader, l.counters)) ≡ with_front l.fn.parts (each_at (member_at (object_at l.levels l.classes)) l.members (l.fn.reader, [])))
+    (with_front l.parts (read (member_parts (object_of l.levels l.classes) l.counters (drop l.member-index l.members)) l.reader) ≡ with_front l.fn.parts (read (member_parts (object_of l.levels l.classes) [] l.members) l.fn.reader))
     × GoesOn l.fn.reader.at l.reader.at
 
 abbrev pub invariant-read_links-loop-done : goal.invariant-read_links-loop-done
 invariant-read_links-loop-done l =
-    (with_front l.links (times_at (l.count - l._done) (link_at (object_at l.levels l.classes)) l.reader) ≡ times_at l.count (link_at (object_at l.levels l.classes)) l.fn.reader)
+    (with_front l.links (read (times (l.count - l._done) (link (object_of l.levels l.classes))) l.reader) ≡ read (times l.count (link (object_of l.levels l.classes))) l.fn.reader)
     × GoesOn l.fn.reader.at l.reader.at
 
 abbrev pub invariant-read_pointers-loop-done : goal.invariant-read_pointers-loop-done
 invariant-read_pointers-loop-done l =
-    (with_front l.pointers (times_at (l.count - l._done) (pointer_at (object_at l.levels l.classes)) l.reader) ≡ times_at l.count (pointer_at (object_at l.levels l.classes)) l.fn.reader)
+    (with_front l.pointers (read (times (l.count - l._done) (pointer (object_of l.levels l.classes))) l.reader) ≡ read (times l.count (pointer (object_of l.levels l.classes))) l.fn.reader)
     × GoesOn l.fn.reader.at l.reader.at

@@ -3,7 +3,7 @@ use Rattle.rio_num.specs.Room.{Room, room_of}
 use Rattle.rio_types.specs.declared.kind.Kind.TheVariants.{Inline}
 use Rattle.rio_buffer.specs.ReaderState.{no_words}
 use Rattle.rio_format.specs.Slots.{kinded}
-use Rattle.rio_format.specs.Spelling.{Spells}
+use Rattle.rio_format.specs.Objects.{SpellsObject}
 use Rattle.rio_format.specs.Written.{writing_of, written_form}
 use Rattle.rio_format.proofs.WrittenValues.{written_is_spelled}
 use Rattle.rio_buffer.specs.Writer.{nothing_written}
@@ -38,4 +38,4 @@ pub returns-clause-spelled : goal.returns-clause-spelled
 returns-clause-spelled c = λ class fits depth versions.
     let room : c.args.start + length (written_form c.args.classes.now c.args.start c.args.value.now) ≤ 2 ^ 30 - 2 = omega (arith, c.requires) in
     let spells = written_is_spelled c.args.classes.now class c.args.start c.args.value.now fits depth versions room in
-    subst (λ (b : Room). Spells c.args.classes.now c.args.start class c.args.value.now b.bytes) (sym (bytes_are c)) spells
+    subst (λ (b : Room). SpellsObject c.args.classes.now c.args.start class c.args.value.now b.bytes) (sym (bytes_are c)) spells
