@@ -1,4 +1,5 @@
 pub mod Costs
+pub mod ItemKeys
 pub mod Laws
 pub mod Mapping
 pub mod Refusing

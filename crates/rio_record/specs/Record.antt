@@ -1,0 +1,52 @@
+-- A record as it is put into a file: a key of the small form, data, and zero bytes up to a length that is a multiple of four,
+-- which count as data.
+use Rattle.std.specs.Prelude.{◌≡◌, ℕ, ◌+◌, ◌%◌, ◌^◌, ◌<◌, ◌≤◌, pos, List, ◌++◌, length, replicate}
+use Rattle.rio_num.specs.Room.{padding}
+use Rattle.rio_num.specs.Text.{text_bytes}
+use Rattle.rio_key.specs.Written.{written_key}
+use Rattle.rio_key.specs.declared.head.KeyHead.{KeyHead}
+use Rattle.rio_record.specs.declared.words.KeyWords.{KeyWords}
+
+-- how long the key is: 26 bytes of numbers, and its texts
+abbrev pub key_size : KeyWords → ℕ
+key_size words = 26 + length (text_bytes words.class) + length (text_bytes words.name) + length (text_bytes words.title)
+
+-- how long the data are with the zero bytes behind them
+abbrev pub padded_size : ℕ → ℕ → ℕ
+padded_size keylen n = n + (4 - (keylen + n) % 4) % 4
+
+-- the key of a record with n bytes of data
+abbrev pub new_key : KeyWords → ℕ → KeyHead
+new_key words n =
+    let keylen = key_size words in
+    let objlen = padded_size keylen n in
+    record {
+      nbytes = pos (keylen + objlen);
+      version = 4;
+      objlen = objlen;
+      datime = words.datime;
+      keylen = keylen;
+      cycle = words.cycle;
+      seek = words.place;
+      pdir = words.directory;
+      class = words.class;
+      name = words.name;
+      title = words.title;
+    }
+
+-- the key and the data, without the zero bytes
+abbrev pub unpadded : KeyWords → List ℕ → List ℕ
+unpadded words contents = written_key (new_key words (length contents)) ++ contents
+
+-- the record
+unfoldable pub record_bytes : KeyWords → List ℕ → List ℕ
+record_bytes words contents = let front = unpadded words contents in front ++ padding front
+
+-- its numbers fit their fields
+pub record FitsWords (words : KeyWords) (n : ℕ) : Type 0 where
+  pub place : words.place < 2 ^ 32
+  pub directory : words.directory < 2 ^ 32
+  pub datime : words.datime < 2 ^ 32
+  pub cycle : words.cycle < 2 ^ 16
+  pub key : key_size words < 2 ^ 16
+  pub whole : key_size words + padded_size (key_size words) n < 2 ^ 31
