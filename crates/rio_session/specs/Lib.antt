@@ -1,0 +1,3 @@
+pub mod Causes
+pub mod Marks
+pub mod Session

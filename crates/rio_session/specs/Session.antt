@@ -1,0 +1,111 @@
+-- A session: what it keeps beside a file, what of a state it stands for, and what a stop leaves while a command is done.
+use Rattle.std.specs.Prelude.{◌≡◌, ◌⊎◌, ◌<◌, ◌≤◌, ℕ, ◌+◌, ◌*◌, ◌^◌, Bool, false, List, [], ◌∷◌, ◌++◌, take, slice_get, Option, Some, option_map, Ok}
+use Rattle.rio_types.specs.declared.class.ClassDef.{ClassDef}
+use Rattle.rio_key.specs.declared.head.KeyHead.{KeyHead}
+use Rattle.rio_head.specs.Form.{is_large_head}
+use Rattle.rio_head.specs.Head.{head_at}
+use Rattle.rio_head.specs.declared.head.FileHead.{FileHead}
+use Rattle.rio_host.specs.Host.{Elapses, IsQuiet, View}
+use Rattle.rio_chain.specs.Chains.{HasChain, HoldsChain}
+use Rattle.rio_chain.specs.Placing.{record_count}
+use Rattle.rio_chain.specs.Segments.{Link}
+use Rattle.rio_chain.specs.declared.segment.Segment.{Segment}
+use Rattle.rio_machine.specs.State.{State}
+use Rattle.rio_machine.specs.declared.command.Command.{Command}
+use Rattle.rio_machine.specs.declared.command.Outcome.{Outcome}
+use Rattle.rio_step.specs.ReplyText.{text_of}
+use Rattle.rio_step.specs.Runs.{saved_of, states_of_run}
+use Rattle.rio_step.specs.Step.{Stepped, outcome_of, step}
+use Rattle.rio_state.specs.Closing.{held_of, kept_in}
+use Rattle.rio_state.specs.DirectoryKeys.{AreKeysOf}
+use Rattle.rio_state.specs.KeyedRecords.{KeyedRecord, info_key, keyed_records}
+use Rattle.rio_state.specs.Left.{IsLeftAs, IsMarkedOpen, open_end}
+use Rattle.rio_state.specs.Reads.{AreRecordsOf}
+use Rattle.rio_session.specs.Marks.{mark_of}
+
+-- ---- what a session keeps
+
+pub record SessionState : Type 0 where
+  pub segments : List Segment
+  pub classes : List ClassDef
+  -- the keys of objects and trees, in the order of the key list
+  pub heads : List KeyHead
+  -- the key of the class list that counts
+  pub info : Option KeyHead
+  -- the file's name, and what its header says how long key and texts of the first record are
+  pub name : List ℕ
+  pub nbytes_name : ℕ
+  pub datime : ℕ
+  -- the file's length when it was opened, 0 for one that wasn't made yet, and the costs of all commands together
+  pub opened : ℕ
+  pub costs : ℕ
+  pub failed : Bool
+
+-- ---- what it stands for
+
+-- the header is of the small form and says that the file is open, and how long key and texts of the first record are
+pub record HasOpenHead (file : List ℕ) (nbytes_name : ℕ) : Type 0 where
+  pub head : FileHead
+  pub head_is : head_at file ≡ Ok head
+  pub small : is_large_head head.version ≡ false
+  pub open : head.end ≡ open_end
+  pub name : head.nbytes_name ≡ nbytes_name
+
+abbrev pub info_head : Option KeyedRecord → Option KeyHead
+info_head info = option_map (λ r. r.head) info
+
+-- The file reads as the state without its pending rows, and what the session keeps of it is so. All of its records count.
+pub record HoldsState (s : SessionState) (m : State) (file : List ℕ) : Type 0 where
+  pub links : List Link
+  pub chain : HasChain links s.segments file
+  pub head : HasOpenHead file s.nbytes_name
+  pub records : AreRecordsOf (keyed_records links) (saved_of m)
+  pub classes : s.classes ≡ m.classes
+  pub keys : AreKeysOf (keyed_records links) s.heads
+  pub info : s.info ≡ info_head (info_key (keyed_records links))
+  pub name : (kept_in links).name ≡ s.name
+  pub count : (kept_in links).count ≡ record_count s.segments
+  -- what the file holds is bounded by its length when it was opened and the costs of the commands since
+  pub held : s.costs < 2 ^ 64 - 1 → held_of links ≤ 3 * s.opened + s.costs + 10000
+
+-- Session and host stand for the state, with this text said.
+pub record StandsFor (v : View) (s : SessionState) (m : State) (text : List ℕ) : Type 0 where
+  pub file : List ℕ
+  pub holds : v.holds ≡ Some file
+  pub said : v.said ≡ Some text
+  pub state : HoldsState s m file
+
+-- a host as a session leaves it, also where it tells nothing
+pub record IsReady (v : View) (s : SessionState) : Type 0 where
+  pub quiet : IsQuiet v
+  pub chain : HoldsChain v s.segments
+
+-- ---- what a stop leaves
+
+-- a file that is marked as open and reads as the state without its pending rows
+pub record IsOpenAs (m : State) (image : List ℕ) : Type 0 where
+  pub left : IsLeftAs (saved_of m) image
+  pub open : IsMarkedOpen image
+
+-- While a command is done: the state of before with the text of before, or the state of after with a front of the reply.
+abbrev pub Steps : State → Stepped → List ℕ → List ℕ → List ℕ → Type 0
+Steps m next text image said =
+    (IsOpenAs m image × (said ≡ text)) ⊎ (IsOpenAs next.state image × ((k : ℕ) × (said ≡ text ++ take k (text_of next.reply))))
+
+-- a command is done and its reply is said
+pub record Went (old new : View) (s : SessionState) (m : State) (next : Stepped) (text : List ℕ) (outcome : Outcome) : Type 0 where
+  pub time : Elapses old new (Steps m next text)
+  pub stands : StandsFor new s next.state (text ++ text_of next.reply)
+  pub outcome : outcome ≡ outcome_of next.reply
+
+-- the command's step, with its mark
+abbrev pub next_of : SessionState → State → Command → Stepped
+next_of s m c = step m c (mark_of s.name s.segments m c)
+
+-- while a session is closed: a state of the closing saves, with nothing said
+pub record ClosesAs (m : State) (text image said : List ℕ) : Type 0 where
+  pub k : ℕ
+  pub state : State
+  pub state_is : slice_get (states_of_run m [] []) k ≡ Some state
+  pub left : IsLeftAs (saved_of state) image
+  pub text_is : said ≡ text
