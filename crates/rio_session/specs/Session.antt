@@ -1,10 +1,7 @@
 -- A session: what it keeps beside a file, what of a state it stands for, and what a stop leaves while a command is done.
-use Rattle.std.specs.Prelude.{◌≡◌, ◌⊎◌, ◌<◌, ◌≤◌, ℕ, ◌+◌, ◌*◌, ◌^◌, Bool, false, List, [], ◌∷◌, ◌++◌, take, slice_get, Option, Some, option_map, Ok}
+use Rattle.std.specs.Prelude.{◌≡◌, ◌⊎◌, ◌<◌, ◌≤◌, ℕ, ◌+◌, ◌*◌, ◌^◌, Bool, false, List, [], ◌++◌, take, slice_get, Option, Some}
 use Rattle.rio_types.specs.declared.class.ClassDef.{ClassDef}
 use Rattle.rio_key.specs.declared.head.KeyHead.{KeyHead}
-use Rattle.rio_head.specs.Form.{is_large_head}
-use Rattle.rio_head.specs.Head.{head_at}
-use Rattle.rio_head.specs.declared.head.FileHead.{FileHead}
 use Rattle.rio_host.specs.Host.{Elapses, IsQuiet, View}
 use Rattle.rio_chain.specs.Chains.{HasChain, HoldsChain}
 use Rattle.rio_chain.specs.Placing.{record_count}
@@ -18,8 +15,8 @@ use Rattle.rio_step.specs.Runs.{saved_of, states_of_run}
 use Rattle.rio_step.specs.Step.{Stepped, outcome_of, step}
 use Rattle.rio_state.specs.Closing.{held_of, kept_in}
 use Rattle.rio_state.specs.DirectoryKeys.{AreKeysOf}
-use Rattle.rio_state.specs.KeyedRecords.{KeyedRecord, info_key, keyed_records}
-use Rattle.rio_state.specs.Left.{IsLeftAs, IsMarkedOpen, open_end}
+use Rattle.rio_state.specs.KeyedRecords.{info_key, keyed_records}
+use Rattle.rio_state.specs.Left.{HasOpenHead, IsLeftAs, IsMarkedOpen, info_head}
 use Rattle.rio_state.specs.Reads.{AreRecordsOf}
 use Rattle.rio_session.specs.Marks.{mark_of}
 
@@ -42,17 +39,6 @@ pub record SessionState : Type 0 where
   pub failed : Bool
 
 -- ---- what it stands for
-
--- the header is of the small form and says that the file is open, and how long key and texts of the first record are
-pub record HasOpenHead (file : List ℕ) (nbytes_name : ℕ) : Type 0 where
-  pub head : FileHead
-  pub head_is : head_at file ≡ Ok head
-  pub small : is_large_head head.version ≡ false
-  pub open : head.end ≡ open_end
-  pub name : head.nbytes_name ≡ nbytes_name
-
-abbrev pub info_head : Option KeyedRecord → Option KeyHead
-info_head info = option_map (λ r. r.head) info
 
 -- The file reads as the state without its pending rows, and what the session keeps of it is so. All of its records count.
 pub record HoldsState (s : SessionState) (m : State) (file : List ℕ) : Type 0 where

@@ -1,8 +1,13 @@
 -- What a stop leaves of a file that is written to.
-use Rattle.std.specs.Prelude.{◌≡◌, ◌≢◌, ℕ, List, codes}
+use Rattle.std.specs.Prelude.{◌≡◌, ◌≢◌, ℕ, List, codes, false, Option, option_map, Ok}
+use Rattle.rio_key.specs.declared.head.KeyHead.{KeyHead}
+use Rattle.rio_head.specs.Form.{is_large_head}
+use Rattle.rio_head.specs.Head.{head_at}
+use Rattle.rio_head.specs.declared.head.FileHead.{FileHead}
 use Rattle.rio_host.specs.Image.{Has}
 use Rattle.rio_chain.specs.Segments.{HasWord}
 use Rattle.rio_machine.specs.State.{State}
+use Rattle.rio_state.specs.KeyedRecords.{KeyedRecord}
 use Rattle.rio_state.specs.Reads.{ReadsAsState, ReadsClosed}
 
 -- where the header says END while the file is open for writing
@@ -20,3 +25,16 @@ ReadsClosedUnlessOpen file m = (word : ℕ) → Has file 0 (codes "root") → Ha
 pub record IsLeftAs (m : State) (file : List ℕ) : Type 0 where
   pub reads : ReadsAsState file m
   pub closed : ReadsClosedUnlessOpen file m
+
+-- ---- while it is open
+
+-- the header is of the small form and says that the file is open, and how long key and texts of the first record are
+pub record HasOpenHead (file : List ℕ) (nbytes_name : ℕ) : Type 0 where
+  pub head : FileHead
+  pub head_is : head_at file ≡ Ok head
+  pub small : is_large_head head.version ≡ false
+  pub open : head.end ≡ open_end
+  pub name : head.nbytes_name ≡ nbytes_name
+
+abbrev pub info_head : Option KeyedRecord → Option KeyHead
+info_head info = option_map (λ r. r.head) info
