@@ -1,5 +1,5 @@
 -- A key list that is written is spelled by what was written.
-use Rattle.std.proofs.Common.{◌≡◌, ℕ, ◌^◌, ◌<◌, List, [], ◌∷◌, length, refl}
+use Rattle.std.proofs.Common.{◌^◌, ◌<◌, List, [], ◌∷◌, length, refl}
 use Rattle.std.specs.List.{flat_map}
 use Rattle.rio_key.specs.Spelling.{SpellsHeads, SpellsKeyList}
 use Rattle.rio_key.specs.Written.{written_key}

@@ -1,5 +1,5 @@
 -- What a search among ordered heads finds, and what they are once one is put in or taken out.
-use Rattle.std.proofs.Common.{◌≡◌, inl, inr, ℕ, zero, suc, ◌+◌, ◌<◌, ◌≤◌, Bool, true, false, cond, ltb, max, pos, List, [], ◌∷◌, ◌++◌, length, get_or, take, drop, Option, Some, None, Result, Ok, Err, IsOk, is_ok, rules, refl, ap, sym, subst, ◌∙◌, arith}
+use Rattle.std.proofs.Common.{◌≡◌, inl, inr, ℕ, zero, suc, ◌+◌, ◌<◌, ◌≤◌, Bool, true, false, cond, max, pos, List, [], ◌∷◌, length, get_or, Option, Some, None, Result, Ok, Err, IsOk, is_ok, rules, refl, ap, sym, ◌∙◌, arith}
 use Rattle.std.specs.List.{find, insert, prefix_len, remove, slice_get}
 use Rattle.std.specs.List.Sorted.{IsPartitionedBy, IsPartitionPoint}
 use Rattle.std.specs.Option.{option_map_or}

@@ -1,13 +1,13 @@
 -- What the gaps are once a range of bytes is given.
-use Rattle.std.proofs.Common.{◌≡◌, ◌≢◌, ◌⊎◌, inl, inr, ℕ, zero, suc, ◌+◌, ◌-◌, ◌^◌, ◌<◌, ◌≤◌, ◌||◌, Bool, true, false, cond, ltb, leb, eqb, List, [], ◌∷◌, ◌++◌, length, get_or, set, take, drop, Option, None, Result, Ok, Err, IsOk, is_ok, rules, refl, ap, sym, subst, ◌∙◌, Some, append_assoc, arith}
-use Rattle.std.specs.List.{prefix_len, slice_get, insert, remove, All}
-use Rattle.std.proofs.lemmas.Bool.{cases_lt, ltb-true, ltb-false, eq-eqb, ne_eqb, eqb-true, eqb-false}
+use Rattle.std.proofs.Common.{◌≡◌, ◌≢◌, inl, inr, ℕ, zero, suc, ◌+◌, ◌-◌, ◌^◌, ◌<◌, ◌≤◌, ◌||◌, Bool, true, false, cond, ltb, eqb, List, [], ◌∷◌, ◌++◌, length, get_or, set, take, drop, Option, None, Result, Ok, Err, IsOk, is_ok, rules, refl, ap, sym, subst, ◌∙◌, Some, arith}
+use Rattle.std.specs.List.{prefix_len, slice_get, insert, remove}
+use Rattle.std.proofs.lemmas.Bool.{ltb-true, ltb-false, eq-eqb, ne_eqb, eqb-true, eqb-false}
 use Rattle.std.proofs.lemmas.Bool.Decides.{nat_tests}
 use Rattle.std.proofs.Math.Numerals.{one-add}
 use Rattle.std.proofs.lemmas.List.{length-append, length-set, length-take, take-append-drop, drop_at, get_or-set_same}
 use Rattle.std.proofs.lemmas.Option.{slice_get-get_or}
 use Rattle.std.proofs.lemmas.List.Sums.{prefix_len-le-length}
-use Rattle.rio_free.specs.Gaps.{gap_of, gap_end, AreGaps, AreGapsFrom, AreApart, IsApart, IsGapFrom, ends_before, is_free, length_at, lies_in, joined, given}
+use Rattle.rio_free.specs.Gaps.{gap_of, gap_end, AreGaps, AreGapsFrom, IsApart, IsGapFrom, ends_before, is_free, length_at, lies_in, joined, given}
 use Rattle.rio_free.specs.declared.gap.Gap.{Gap}
 use Rattle.rio_free.proofs.Order.{start_of, from_lower, ends_fit}
 

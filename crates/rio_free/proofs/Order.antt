@@ -1,11 +1,11 @@
 -- What is known of gaps in order.
-use Rattle.std.proofs.Common.{◌≡◌, ◌⊎◌, inl, inr, ℕ, zero, suc, ◌+◌, ◌^◌, ◌<◌, ◌≤◌, Bool, true, false, ltb, leb, List, [], ◌∷◌, length, get_or, refl, ap, arith}
-use Rattle.std.specs.List.{prefix_len, find}
+use Rattle.std.proofs.Common.{◌≡◌, inl, inr, ℕ, zero, suc, ◌+◌, ◌^◌, ◌<◌, ◌≤◌, Bool, true, false, List, [], ◌∷◌, length, get_or, ap, arith}
+use Rattle.std.specs.List.{prefix_len}
 use Rattle.std.specs.List.Sorted.{IsNonDecreasingBy, IsPartitionPoint}
 use Rattle.std.proofs.lemmas.Bool.{cases_lt}
 use Rattle.std.proofs.lemmas.Bool.Decides.{nat_tests}
 use Rattle.std.proofs.lemmas.List.Sums.{prefix_len-le-length, prefix_len_passes, prefix_len_stops}
-use Rattle.rio_free.specs.Gaps.{gap_of, gap_end, AreGapsFrom, HasGapFor, is_free, lies_in, IsGapFrom}
+use Rattle.rio_free.specs.Gaps.{gap_of, gap_end, AreGapsFrom, HasGapFor, is_free}
 use Rattle.rio_free.specs.declared.gap.Gap.{Gap}
 
 abbrev pub start_of : Gap → ℕ

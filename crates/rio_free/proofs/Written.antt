@@ -1,8 +1,6 @@
 -- How long the entries are.
-use Rattle.std.proofs.Common.{◌≡◌, ℕ, zero, suc, ◌+◌, ◌*◌, ◌<◌, ◌≤◌, List, [], ◌∷◌, ◌++◌, length, get_or, take, drop, refl, ap, sym, ◌∙◌, append_assoc, arith}
+use Rattle.std.proofs.Common.{◌≡◌, ℕ, ◌+◌, ◌*◌, ◌≤◌, List, [], ◌∷◌, ◌++◌, length, drop, refl, arith}
 use Rattle.std.proofs.lemmas.List.{append-nil, drop_all, length-append}
-use Rattle.byteorder.specs.Numbers.{length-bytes_high_first}
-use Rattle.byteorder.specs.Endian.{big_bytes}
 use Rattle.rio_free.specs.Record.{end_entry, entry_bytes, entry_of, free_bytes, gaps_bytes}
 use Rattle.rio_free.specs.declared.gap.Gap.{Gap}
 use Rattle.rio_free.specs.declared.entry.FreeEntry.{FreeEntry}

@@ -1,11 +1,8 @@
 -- How long headers and directory records are.
-use Rattle.std.proofs.Common.{◌≡◌, ℕ, ◌+◌, ◌≤◌, Bool, true, false, List, ◌++◌, length, replicate, codes, if◌then◌else◌, refl, ap, sym, ◌∙◌, append_assoc, arith}
-use Rattle.std.proofs.lemmas.List.{length-append, length-replicate}
+use Rattle.std.proofs.Common.{◌≡◌, ℕ, ◌+◌, ◌≤◌, Bool, true, false, List, ◌++◌, length, replicate, codes, if◌then◌else◌, refl, sym, append_assoc, arith}
+use Rattle.std.proofs.lemmas.List.{length-append}
 use Rattle.byteorder.specs.Endian.{big_bytes}
-use Rattle.byteorder.specs.Numbers.{length-bytes_high_first}
 use Rattle.rio_head.specs.Form.{place_len, is_large_head, is_large_dir}
-use Rattle.rio_head.specs.Head.{head_bytes}
-use Rattle.rio_head.specs.Dir.{dir_bytes}
 use Rattle.rio_head.specs.Written.{front_bytes, back_bytes, written_dir, written_head}
 use Rattle.rio_head.specs.declared.head.FileHead.{FileHead}
 use Rattle.rio_head.specs.declared.dir.DirRecord.{DirRecord}

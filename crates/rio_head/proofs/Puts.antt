@@ -1,5 +1,5 @@
 -- Puts one after the other, where there is room for all of them.
-use Rattle.std.proofs.Common.{◌≡◌, ℕ, ◌-◌, ◌<◌, ◌≤◌, List, ◌++◌, length, max, Result, Ok, Err, sym, ap, ◌∙◌, append_assoc, arith}
+use Rattle.std.proofs.Common.{◌≡◌, ℕ, ◌-◌, ◌≤◌, List, ◌++◌, length, max, Result, Ok, Err, ap, ◌∙◌, append_assoc, arith}
 use Rattle.std.proofs.lemmas.List.{length-append}
 use Rattle.rio_num.specs.Room.{Room, Appends, with_more}
 use Rattle.rio_num.specs.declared.no_memory.NoMemory.{NoMemory}

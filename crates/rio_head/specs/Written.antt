@@ -1,5 +1,5 @@
 -- The one way in which a header and a directory record are written.
-use Rattle.std.specs.Prelude.{◌≡◌, ℕ, ◌^◌, ◌<◌, List, [], ◌++◌, replicate, codes, Ok, if◌then◌else◌}
+use Rattle.std.specs.Prelude.{◌≡◌, ℕ, ◌^◌, ◌<◌, List, ◌++◌, replicate, codes, Ok, if◌then◌else◌}
 use Rattle.byteorder.specs.Endian.{big_bytes}
 use Rattle.rio_head.specs.Form.{place_len, is_large_head, is_large_dir}
 use Rattle.rio_head.specs.Head.{head_at, head_bytes, IsHead}

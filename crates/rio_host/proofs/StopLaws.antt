@@ -1,5 +1,5 @@
 -- What a choice for each write in flight leaves is one of the images that a stop may leave.
-use Rattle.std.specs.Prelude.{◌≡◌, ℕ, ◌+◌, ◌-◌, ◌≤◌, ◌<◌, min, max, List, [], ◌∷◌, ◌++◌, length, take, replicate}
+use Rattle.std.specs.Prelude.{◌≡◌, ℕ, ◌+◌, ◌-◌, ◌≤◌, min, List, [], ◌∷◌, ◌++◌, length, take, replicate}
 use Rattle.std.proofs.Common.{⊎_elim, inl, inr, refl, sym, subst, arith, length-append, length-take}
 use Rattle.std.proofs.lemmas.List.{length-replicate, take_min}
 use Rattle.rio_host.specs.declared.change.Change.{Change}

@@ -1,11 +1,11 @@
 -- A key that is written is spelled by what was written.
-use Rattle.std.proofs.Common.{◌≡◌, inl, inr, ℕ, ◌^◌, ◌<◌, ◌≤◌, pos, Bool, true, false, cond, ltb, List, ◌++◌, length, refl, ap, sym, ◌∙◌, arith}
+use Rattle.std.proofs.Common.{◌≡◌, inl, inr, ℕ, ◌^◌, ◌<◌, pos, Bool, true, false, cond, ltb, List, length, refl, ap, sym, ◌∙◌, arith}
 use Rattle.std.specs.Int.{w32, cast_signed, cast_unsigned}
 use Rattle.std.proofs.lemmas.Int.{of_z-to_z}
-use Rattle.std.proofs.lemmas.Bool.{ltb-true, ltb-false}
+use Rattle.std.proofs.lemmas.Bool.{ltb-true}
 use Rattle.rio_key.proofs.Signed.{signed_is}
 use Rattle.rio_num.specs.Text.{SpellsText, text_bytes, short_form, long_form}
-use Rattle.rio_key.specs.Spelling.{AreWithinFields, SpellsKey, number_bytes}
+use Rattle.rio_key.specs.Spelling.{SpellsKey}
 use Rattle.rio_key.specs.Written.{FitsKey, HoldsItself, written_key}
 use Rattle.rio_key.specs.declared.head.KeyHead.{KeyHead}
 

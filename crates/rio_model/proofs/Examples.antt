@@ -1,18 +1,18 @@
 -- Some texts, and what they are read as.
-use Rattle.std.proofs.Common.{◌≡◌, ℕ, pos, List, [], ◌∷◌, Ok, Err, refl}
+use Rattle.std.proofs.Common.{◌≡◌, pos, [], ◌∷◌, Err, refl}
 use Rattle.std.specs.Prelude.{codes}
 use Rattle.rio_types.specs.declared.class.ClassDef.{ClassDef}
 use Rattle.rio_types.specs.declared.kind.Kind.TheVariants.{Plain, Pointer}
 use Rattle.rio_types.specs.declared.kind.Primitive.TheVariants.{I32}
 use Rattle.rio_token.specs.declared.fault.TextFault.TheVariants.{BadText}
-use Rattle.rio_token.specs.Reading.{list_at, mark_at, more_at, num_at, num_between_at, some_at, string_at, word_at, word_that_at, end_at}
+use Rattle.rio_token.specs.Reading.{list_at, mark_at, more_at, num_between_at, some_at, string_at, word_at, word_that_at}
 use Rattle.rio_token.specs.Tokens.{scan_of}
 use Rattle.rio_token.specs.Words.{decimal, number_of, written}
 use Rattle.rio_num.specs.Printed.{name_text}
 use Rattle.std.specs.Fmt.{digits}
-use Rattle.rio_model.specs.ClassGrammar.{base_at, bases_at, class_at, class_in, dimension_of, kind_at, member, member_at, primitive_of, sized_at, with_counters}
+use Rattle.rio_model.specs.ClassGrammar.{bases_at, class_at, class_in, dimension_of, kind_at, member, member_at, primitive_of, sized_at}
 use Rattle.rio_model.specs.ClassText.{text_of_class}
-use Rattle.rio_model.specs.ValueGrammar.{class_version_at, enclosed_at, enclosed_by, named_object_at, object_at, part_at, pointer_at, text_value_at, value_and_end, value_at, value_in, values_at, word_value, word_value_at}
+use Rattle.rio_model.specs.ValueGrammar.{class_version_at, enclosed_at, enclosed_by, object_at, part_at, text_value_at, value_and_end, value_at, value_in, values_at, word_value, word_value_at}
 
 node_class : ClassDef
 node_class = record { name = codes "Node"; version = pos 1; sum = 0; bases = []; members = member (codes "val") (Plain I32) ∷ member (codes "next") (Pointer (codes "Node")) ∷ [] }

@@ -1,5 +1,5 @@
 -- The class list isn't too deep, and the versions of its objects can be written.
-use Rattle.std.proofs.Common.{◌≡◌, ◌≤◌, ◌∙◌, ◌&&◌, ℕ, ◌+◌, ℤ, pos, int_le, IsTrue, Bool, true, false, List, [], ◌∷◌, ◌++◌, map, codes, refl, ap, arith}
+use Rattle.std.proofs.Common.{◌≡◌, ◌≤◌, ◌∙◌, ◌&&◌, ℕ, ◌+◌, ℤ, pos, int_le, Bool, true, false, List, [], ◌∷◌, ◌++◌, map, codes, refl, ap, arith}
 use Rattle.std.specs.List.{list_all}
 use Rattle.rio_types.specs.declared.class.Base.{Base}
 use Rattle.rio_types.specs.declared.class.ClassDef.{ClassDef}
@@ -11,7 +11,6 @@ use Rattle.rio_value.specs.declared.value.Part.{Part}
 use Rattle.rio_value.specs.declared.value.Value.{Value, Int, Text, List as Items, Object, Pointed}
 use Rattle.rio_value.specs.declared.value.Value.TheFolds.{fold-Part, fold_out-Part}
 use Rattle.rio_format.specs.Laws.{versions_step, has_versions}
-use Rattle.rio_format.specs.Objects.{depth_limit}
 use Rattle.rio_format.proofs.ValueCases.{Each, fold_Int, fold_Text, fold_List, fold_Object, fold_Pointed}
 use Rattle.rio_format.specs.WrittenElements.{base_element, inline_element, kind_element, member_element, pointer_element, reaches_object, written_elements}
 use Rattle.rio_format.specs.WrittenList.{array_object, class_links, class_list_value, class_pointer, element_object, element_parts, info_object, label_count, list_object, named_object, plain_object, pointers_from}

@@ -8,7 +8,7 @@ use Rattle.rio_types.specs.declared.kind.Kind.TheVariants.{Inline, Pointer}
 use Rattle.rio_types.specs.declared.kind.Primitive.TheVariants.{I32, U32}
 use Rattle.rio_value.specs.declared.value.Value.{Value, Pointed}
 use Rattle.rio_format.specs.Descriptions.{description_classes}
-use Rattle.rio_format.specs.Fits.{Fits, Labels, all_fit, fits_signed, fits_unsigned, fitting_step}
+use Rattle.rio_format.specs.Fits.{Labels, all_fit, fits_signed, fits_unsigned, fitting_step}
 use Rattle.rio_format.specs.Slots.{kinded, any_pointer, link}
 use Rattle.rio_format.proofs.Tests.{both_true}
 use Rattle.rio_format.proofs.ValueCases.{Each, fold_List}

@@ -1,5 +1,5 @@
 -- The reading of a value goes on in the same text.
-use Rattle.std.proofs.Common.{◌&&◌, ◌==◌, ℕ, zero, suc, ◌-◌, ℤ, List, Bool, true, false, Option, Some, None}
+use Rattle.std.proofs.Common.{◌&&◌, ◌==◌, ℕ, zero, suc, ◌-◌, List, Bool, true, false, Option, Some, None}
 use Rattle.rio_num.specs.At.{At}
 use Rattle.rio_num.specs.Word.{is_name_text}
 use Rattle.rio_value.specs.declared.value.Value.{Value}

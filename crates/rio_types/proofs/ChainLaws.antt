@@ -1,17 +1,17 @@
 -- The classes of one name, from the last of them back.
-use Rattle.std.proofs.Common.{◌≡◌, ◌≢◌, ◌≤◌, ◌<◌, ℕ, suc, zero, ◌+◌, List, [], ◌∷◌, ◌++◌, length, drop, set, take, Bool, true, false, if◌then◌else◌, ◌⊎◌, inl, inr, ⊎_elim, Option, Some, None, refl, sym, ap, subst, ◌∙◌, arith}
+use Rattle.std.proofs.Common.{◌≡◌, ◌≢◌, ◌≤◌, ◌<◌, ℕ, suc, zero, List, [], ◌∷◌, ◌++◌, length, drop, set, take, Bool, true, false, if◌then◌else◌, ◌⊎◌, inl, inr, ⊎_elim, Option, Some, None, refl, sym, ap, subst, ◌∙◌, arith}
 use Rattle.std.specs.List.{slice_get}
 use Rattle.std.specs.Option.{option_and_then, option_map_or}
 use Rattle.std.specs.Str.{bytes_eq}
-use Rattle.std.proofs.lemmas.List.{length-append, length-set, length-take-le}
-use Rattle.std.proofs.lemmas.Option.{slice_get-get_or, slice_get_within, slice_get_past}
-use Rattle.rio_types.specs.Chain.{BeforeLead, IsChainOf, LastLead, last_before}
+use Rattle.std.proofs.lemmas.List.{length-append, length-take-le}
+use Rattle.std.proofs.lemmas.Option.{slice_get_within, slice_get_past}
+use Rattle.rio_types.specs.Chain.{BeforeLead, LastLead, last_before}
 use Rattle.rio_types.specs.Classes.{newer_of, newest_in}
 use Rattle.rio_types.specs.Places.{is_named, place}
 use Rattle.rio_types.specs.declared.class.ClassDef.{ClassDef}
-use Rattle.rio_types.proofs.LeadLaws.{slice_get-front, slice_get-last, slice_get-either, bytes_same, bytes_self, one_name, true_or_false, place-push_failing, place-push_first, place-push_found}
+use Rattle.rio_types.proofs.LeadLaws.{slice_get-front, slice_get-last, bytes_same, bytes_self, one_name, true_or_false, place-push_failing, place-push_first, place-push_found}
 use Rattle.rio_types.proofs.NewestLaws.{place_below, slice_get-set_other, slice_get-set_same, slice_get-take}
-use Rattle.rio_types.proofs.PlaceLaws.{place_passes, no_place_fails}
+use Rattle.rio_types.proofs.PlaceLaws.{no_place_fails}
 
 -- ---- the last that passes
 

@@ -1,12 +1,12 @@
 -- The maps of an index once the last class is taken out again.
-use Rattle.std.proofs.Common.{◌≡◌, ◌≢◌, ℕ, ℤ, suc, zero, ◌+◌, ◌<◌, List, [], ◌∷◌, ◌++◌, length, get_or, set, take, Bool, true, false, ◌&&◌, if◌then◌else◌, ⊎_elim, Option, Some, None, refl, sym, ap, ◌∙◌, arith}
+use Rattle.std.proofs.Common.{◌≡◌, ◌≢◌, ℕ, ℤ, ◌<◌, List, [], ◌∷◌, ◌++◌, length, get_or, set, take, Bool, true, false, ◌&&◌, if◌then◌else◌, ⊎_elim, Option, Some, None, refl, sym, ap, ◌∙◌, arith}
 use Rattle.std.specs.Prelude.{int_le}
 use Rattle.std.specs.List.{slice_get}
 use Rattle.std.specs.Ordering.{int_eq}
 use Rattle.std.specs.Option.{option_and_then}
 use Rattle.std.specs.Str.{bytes_eq}
-use Rattle.std.proofs.lemmas.List.{length-append, length-take-le, take_more}
-use Rattle.std.proofs.lemmas.Option.{slice_get-get_or, slice_get_within, get_or_from_slice_get}
+use Rattle.std.proofs.lemmas.List.{length-append, length-take-le}
+use Rattle.std.proofs.lemmas.Option.{slice_get-get_or}
 use Rattle.rio_types.specs.Classes.{newest_in, newer_of}
 use Rattle.rio_types.specs.Index.{has_number, NamesLead, NumbersLead, NewestLead}
 use Rattle.rio_types.specs.Places.{place, is_named}

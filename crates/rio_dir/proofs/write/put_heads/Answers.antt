@@ -1,8 +1,7 @@
-use Rattle.std.proofs.Common.{◌≡◌, ◌∙◌, ◌+◌, ◌-◌, ◌≤◌, length, drop, ap, arith}
+use Rattle.std.proofs.Common.{◌≡◌, ◌-◌, length, ap, arith}
 use Rattle.std.specs.List.{flat_map}
 use Rattle.rio_num.specs.Room.{Room}
 use Rattle.rio_key.specs.Written.{written_key}
-use Rattle.rio_dir.specs.Table.{heads_size}
 use Rattle.rio_dir.proofs.TableWritten.{all_written, length-flat, none_left, one_written, size_left}
 use Rattle.rio_dir.proofs.write.put_heads.Goals as goal
 

@@ -1,4 +1,4 @@
-use Rattle.std.proofs.Common.{◌≡◌, ◌∙◌, List, length, arith}
+use Rattle.std.proofs.Common.{◌≡◌, length, arith}
 use Rattle.std.specs.List.{flat_map}
 use Rattle.byteorder.specs.Endian.{big_bytes}
 use Rattle.rio_num.specs.Room.{Appends}

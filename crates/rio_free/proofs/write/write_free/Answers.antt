@@ -1,8 +1,6 @@
-use Rattle.std.proofs.Common.{◌≡◌, ◌∙◌, ◌+◌, ◌*◌, ◌<◌, ◌≤◌, List, length, Result, Ok, Err, ap, arith}
-use Rattle.std.proofs.lemmas.List.{length-append}
+use Rattle.std.proofs.Common.{◌+◌, ◌*◌, ◌<◌, length, ap, arith}
 use Rattle.rio_num.specs.Room.{Room}
 use Rattle.rio_free.specs.Record.{end_entry, entry_bytes, free_bytes, gaps_bytes}
-use Rattle.rio_free.specs.declared.gap.Gap.{Gap}
 use Rattle.rio_free.proofs.Order.{all_some}
 use Rattle.rio_free.proofs.Puts.{puts_then, puts_reserved, refuses}
 use Rattle.rio_free.proofs.Written.{length-free, length-gaps}

@@ -1,11 +1,8 @@
-use Rattle.std.proofs.Common.{◌≡◌, ◌+◌, ◌++◌, ◌≤◌, length, replicate, codes, if◌then◌else◌, rules, arith}
+use Rattle.std.proofs.Common.{◌≡◌, ◌++◌, length, replicate, if◌then◌else◌, rules}
 use Rattle.byteorder.specs.Endian.{big_bytes}
-use Rattle.rio_head.specs.Form.{place_len, is_large_head, is_large_dir}
-use Rattle.rio_head.specs.Written.{front_bytes, back_bytes, written_dir, written_head}
-use Rattle.rio_head.specs.Head.{head_bytes}
-use Rattle.rio_head.specs.Dir.{dir_bytes}
+use Rattle.rio_head.specs.Form.{place_len, is_large_dir}
 use Rattle.rio_head.proofs.Puts.{puts_then, puts_reserved}
-use Rattle.rio_head.proofs.Lengths.{length-front, length-back, length-head, length-dir, dir_parts, dir_bytes_all}
+use Rattle.rio_head.proofs.Lengths.{length-dir, dir_parts, dir_bytes_all}
 use Rattle.rio_head.proofs.write.write_dir.Goals as goal
 
 pub returns : goal.returns

@@ -1,11 +1,8 @@
-use Rattle.std.proofs.Common.{◌≡◌, ◌+◌, ◌++◌, ◌≤◌, length, replicate, codes, if◌then◌else◌, rules, arith}
-use Rattle.byteorder.specs.Endian.{big_bytes}
-use Rattle.rio_head.specs.Form.{place_len, is_large_head, is_large_dir}
-use Rattle.rio_head.specs.Written.{front_bytes, back_bytes, written_dir, written_head}
-use Rattle.rio_head.specs.Head.{head_bytes}
-use Rattle.rio_head.specs.Dir.{dir_bytes}
+use Rattle.std.proofs.Common.{◌≡◌, ◌++◌, length, replicate, if◌then◌else◌, rules}
+use Rattle.rio_head.specs.Form.{is_large_head}
+use Rattle.rio_head.specs.Written.{front_bytes, back_bytes}
 use Rattle.rio_head.proofs.Puts.{puts_then, puts_reserved}
-use Rattle.rio_head.proofs.Lengths.{length-front, length-back, length-head, length-dir, head_parts}
+use Rattle.rio_head.proofs.Lengths.{length-head, head_parts}
 use Rattle.rio_head.proofs.write.write_head.Goals as goal
 
 pub returns : goal.returns

@@ -1,4 +1,4 @@
-use Rattle.std.proofs.Common.{◌∙◌, ℕ, List, ◌++◌, ap, subst, arith}
+use Rattle.std.proofs.Common.{◌∙◌, ℕ, List, ◌++◌, ap, subst}
 use Rattle.std.specs.Int.{w32, cast_unsigned}
 use Rattle.rio_num.specs.Room.{Appends, with_more}
 use Rattle.rio_num.specs.Text.{text_bytes}

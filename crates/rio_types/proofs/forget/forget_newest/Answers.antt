@@ -1,6 +1,5 @@
-use Rattle.std.proofs.Common.{ℕ, List, [], ◌∷◌, set, subst, sym, ap, ◌∙◌, arith}
+use Rattle.std.proofs.Common.{ℕ, List, [], ◌∷◌, set, subst, sym, ◌∙◌, arith}
 use Rattle.std.proofs.lemmas.List.{length-append}
-use Rattle.rio_types.specs.Classes.{newest_in}
 use Rattle.rio_types.specs.Index.{NewestLead}
 use Rattle.rio_types.specs.Places.{is_named}
 use Rattle.rio_types.proofs.ForgetLaws.{back_alone, back_beside}

@@ -1,4 +1,4 @@
-use Rattle.std.proofs.Common.{◌≡◌, ◌∙◌, ℕ, List, Option, None, Some, ap, subst, sym}
+use Rattle.std.proofs.Common.{◌≡◌, ◌∙◌, ℕ, List, Option, ap, sym}
 use Rattle.std.specs.List.{find, prefix_len, slice_get}
 use Rattle.std.specs.Option.{option_copied}
 use Rattle.rio_dir.specs.Table.{TableRoom, head_of, if_matching, is_at_cycle, is_before, is_name_before, is_of_name}

@@ -1,4 +1,4 @@
-use Rattle.std.proofs.Common.{◌≡◌, ◌∙◌, ◌+◌, ℕ, List, Option, ap, subst, sym, arith}
+use Rattle.std.proofs.Common.{◌≡◌, ◌∙◌, ℕ, List, ap, subst, sym, arith}
 use Rattle.std.specs.List.{find, prefix_len, slice_get}
 use Rattle.std.specs.Option.{option_copied}
 use Rattle.rio_dir.specs.Table.{AreOrdered, TableRoom, greatest_cycle, if_matching, is_name_before, is_of_name}

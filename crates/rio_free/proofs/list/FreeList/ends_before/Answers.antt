@@ -1,4 +1,4 @@
-use Rattle.std.proofs.Common.{◌≡◌, ◌∙◌, ◌-◌, ◌<◌, length, ap, arith}
+use Rattle.std.proofs.Common.{◌-◌, ◌<◌, length, ap, arith}
 use Rattle.rio_free.specs.Gaps.{FreeGaps}
 use Rattle.rio_free.proofs.Order.{ends_fit}
 use Rattle.rio_free.proofs.Given.{ends_at}

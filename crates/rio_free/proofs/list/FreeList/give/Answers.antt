@@ -1,5 +1,4 @@
-use Rattle.std.proofs.Common.{◌≡◌, ◌∙◌, ◌-◌, ◌+◌, ◌<◌, ◌≤◌, ◌||◌, ℕ, List, ltb, length, vec_len, vec_capacity, ap, sym, subst, arith}
-use Rattle.std.specs.List.{insert}
+use Rattle.std.proofs.Common.{◌≡◌, ◌∙◌, ◌-◌, ◌+◌, ◌<◌, ◌≤◌, List, ltb, length, vec_len, vec_capacity, ap, sym, subst, arith}
 use Rattle.std.proofs.lemmas.List.Sums.{prefix_len-le-length}
 use Rattle.rio_free.specs.Gaps.{AreGaps, FreeGaps, gap_of, is_free}
 use Rattle.rio_free.specs.declared.gap.Gap.{Gap}

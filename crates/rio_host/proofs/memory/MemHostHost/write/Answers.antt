@@ -1,4 +1,4 @@
-use Rattle.std.proofs.Common.{ℕ, List, Option, Some, inl, refl, sym, ap, subst, length, rules}
+use Rattle.std.proofs.Common.{ℕ, List, Option, Some, inl, refl, sym, ap, subst, rules}
 use Rattle.rio_host.specs.declared.call.Call.TheVariants.{Write, FailedWrite}
 use Rattle.rio_host.specs.Host.{Becomes}
 use Rattle.rio_host.specs.Image.{Put}

@@ -1,4 +1,4 @@
-use Rattle.std.proofs.Common.{◌≡◌, List, [], ◌∷◌, ◌++◌, Option, subst, sym, ap, ◌∙◌}
+use Rattle.std.proofs.Common.{◌≡◌, List, [], ◌∷◌, ◌++◌, subst, sym, ap, ◌∙◌}
 use Rattle.rio_model.specs.Declaring.{declared}
 use Rattle.rio_types.specs.declared.class.ClassDef.{ClassDef}
 use Rattle.rio_registry.specs.Fronts.{AreClosed}

@@ -1,4 +1,4 @@
-use Rattle.std.proofs.Common.{◌≡◌, ◌<◌, ℕ, List, [], ◌∷◌, ◌++◌, length, set, take, Option, Some, subst, sym, ap, ◌∙◌, arith}
+use Rattle.std.proofs.Common.{◌≡◌, ℕ, List, [], ◌∷◌, length, set, take, Option, subst, sym, ap, ◌∙◌, arith}
 use Rattle.std.proofs.lemmas.List.{length-append, length-set, length-take-le}
 use Rattle.rio_types.specs.Chain.{BeforeLead, LastLead, last_before}
 use Rattle.rio_types.specs.Places.{is_named}

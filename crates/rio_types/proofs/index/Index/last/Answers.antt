@@ -1,5 +1,4 @@
-use Rattle.std.proofs.Common.{length, sym, ap, ◌∙◌}
-use Rattle.std.specs.Option.{option_and_then}
+use Rattle.std.proofs.Common.{length, sym, ◌∙◌}
 use Rattle.rio_types.specs.Places.{is_named}
 use Rattle.rio_types.proofs.ChainLaws.{last_none}
 use Rattle.rio_types.proofs.PlaceLaws.{no_place_fails}
