@@ -1,0 +1,42 @@
+-- Scripts as they are read as yet: the verbs `put`, `get` without a version, and `ls`. A line is bad at any other verb, and at
+-- an `as` behind `get`. All else is that of the whole language, which stands in rio_step/specs/Script.antt.
+--
+-- These definitions go out when all verbs are built: `script_of` then takes the place of `built_script`.
+use Rattle.std.specs.Prelude.{ℕ, ◌+◌, List, [], ◌∷◌, codes, None, Ok, if◌then◌else◌}
+use Rattle.std.specs.Str.Lines.{lines}
+use Rattle.rio_num.specs.At.{At}
+use Rattle.rio_num.specs.Reading.{◌>>=◌}
+use Rattle.rio_token.specs.Reading.{Read, bad_at, item_at}
+use Rattle.rio_token.specs.Tokens.{behind, standing_in}
+use Rattle.rio_machine.specs.declared.command.Command.{Command}
+use Rattle.rio_machine.specs.declared.command.Command.TheVariants.{Get, Ls}
+use Rattle.rio_step.specs.Script.{comes_next, cycle_at, ended_at, is_command_line, or_bad_line, put_command_at}
+
+-- get = "get" ITEM [";" NUM], behind its verb
+unfoldable pub built_get_at : At → Read Command
+built_get_at s = do
+  name ← item_at s
+  cycle ← cycle_at name.1
+  Ok (Get name.0 cycle.0 None, cycle.1)
+
+-- the command that a line is, by its first word
+unfoldable pub built_command_at : At → Read Command
+built_command_at s =
+    if comes_next (codes "put") s then ended_at (put_command_at (behind s))
+    else if comes_next (codes "get") s then ended_at (built_get_at (behind s))
+    else if comes_next (codes "ls") s then ended_at (Ok (Ls, behind s))
+    else bad_at s
+
+-- the command of the line that has this number
+unfoldable pub built_line : ℕ → List ℕ → Command
+built_line number line = or_bad_line number (built_command_at (standing_in 0 line))
+
+-- the commands of lines, which are numbered from this one on
+unfoldable pub built_from : ℕ → List (List ℕ) → List Command
+built_from number [] = []
+built_from number (line ∷ rest) =
+    if is_command_line line then built_line number line ∷ built_from (number + 1) rest else built_from (number + 1) rest
+
+-- the commands of a script, whose lines are numbered from 1
+abbrev pub built_script : List ℕ → List Command
+built_script bytes = built_from 1 (lines bytes)

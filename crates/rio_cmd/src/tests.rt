@@ -1,0 +1,82 @@
+//! Scripts as they are read, by the rules of the language.
+use crate::read_script;
+use rio_machine::Command;
+use rio_num::{Bytes, NoMemory};
+use rio_valtext::print_value;
+use std::alloc::Global;
+use std::test::Fail;
+
+fn put_number(text: &mut Bytes, before: &[u8], number: u32) -> Result<(), NoMemory> {
+    text.put(before)?;
+    text.put_decimal(u64::from(number))
+}
+
+fn put_command(text: &mut Bytes, command: &Command) -> Result<(), NoMemory> {
+    match command {
+        Command::Bad { line, place } => {
+            put_number(text, b"bad ", *line)?;
+            put_number(text, b" ", *place)
+        }
+        Command::Put { name, value } => {
+            text.put(b"put ")?;
+            text.put(name.as_slice())?;
+            text.put(b" ")?;
+            print_value(value, text)
+        }
+        Command::Get {
+            name,
+            cycle,
+            version: None,
+        } => {
+            text.put(b"get ")?;
+            text.put(name.as_slice())?;
+            match cycle {
+                Some(cycle) => put_number(text, b";", *cycle),
+                None => Ok(()),
+            }
+        }
+        Command::Ls => text.put(b"ls"),
+        _ => text.put(b"another"),
+    }
+}
+
+// The commands of a script, a line for each.
+fn commands_of(alloc: Global, script: &[u8]) -> Result<Bytes, NoMemory> {
+    if script.len() >= 0x1_0000_0000 {
+        return Err(NoMemory);
+    }
+    let commands = read_script(alloc, script)?;
+    let mut text = Bytes::new(alloc);
+    for command in commands.as_slice() {
+        put_command(&mut text, command)?;
+        text.put(b"\n")?;
+    }
+    Ok(text)
+}
+
+#[test]
+fn reads_scripts(rt: HostRuntime) -> Result<(), Fail> {
+    let stored =
+        b"put s TObjString{TObject{fUniqueID: 0, fBits: 0}, fString: \"hi\"}\nget s\nget s;2\nls";
+    let printed =
+        b"put s TObjString#0{TObject#0{fUniqueID: 0, fBits: 0}, fString: \"hi\"}\nget s\nget s;2\nls\n";
+    let table: [(&[u8], &[u8]); 9] = [
+        (b"put s TObjString{\n\nfrob x\n", b"bad 1 17\nbad 3 0\n"),
+        (stored, printed),
+        (b"get s as 2\nclass A 1 { }\n", b"bad 1 6\nbad 2 0\n"),
+        (b"put s 5 x\nget s;007\n", b"bad 1 8\nbad 2 6\n"),
+        (
+            b"put 007 5\n get\t.-+ ; 4294967295 \n",
+            b"put 007 5\nget .-+;4294967295\n",
+        ),
+        (b"ls\r\n# ls\n\r\nls\r\r\nls\r", b"ls\nbad 4 2\nbad 5 2\n"),
+        (b"get s \"x\nput s \"x\nget", b"bad 1 6\nbad 2 8\nbad 3 3\n"),
+        (b"", b""),
+        (b"\n\n\n #\nlsx\n", b"bad 4 1\nbad 5 0\n"),
+    ];
+    for (script, expected) in table {
+        let text = commands_of(rt.alloc(), script)?;
+        assert!(rt; text.as_slice() == expected);
+    }
+    Ok(())
+}
