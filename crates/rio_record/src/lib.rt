@@ -10,3 +10,6 @@ mod words;
 pub use laws::new_record_is_whole;
 pub use record::{NewRecord, new_record};
 pub use words::KeyWords;
+
+#[cfg(test)]
+mod tests;
