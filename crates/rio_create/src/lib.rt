@@ -7,7 +7,9 @@
 #![tactic(auto)]
 
 mod fault;
+mod laws;
 mod making;
 
 pub use fault::CreateFault;
+pub use laws::new_file_is_read;
 pub use making::{Created, create};
