@@ -1,0 +1,5 @@
+pub mod Born
+pub mod Images
+pub mod Lengths
+pub mod NewFiles
+pub mod Uuids

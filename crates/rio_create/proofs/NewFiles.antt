@@ -1,0 +1,117 @@
+-- What a new file's bytes stand for.
+use Rattle.std.proofs.Common.{◌≡◌, ℕ, ◌+◌, ◌^◌, ◌<◌, ◌≤◌, Bool, true, false, List, [], ◌∷◌, ◌++◌, length, take, drop, codes, Result, Ok, Some, None, refl, sym, ap, subst, ◌∙◌, append_assoc, length-append, length-take, arith}
+use Rattle.std.specs.Prelude.{replicate}
+use Rattle.std.specs.FinMap.{get-empty}
+use Rattle.std.specs.List.{Contains, cons_option, sum_by}
+use Rattle.byteorder.specs.Endian.{big_bytes, big_number}
+use Rattle.byteorder.specs.Numbers.{big_number-reads_back, length-bytes_high_first}
+use Rattle.rio_num.specs.At.{At}
+use Rattle.rio_num.specs.Text.{text_bytes}
+use Rattle.rio_num.specs.declared.cursor.Short.{Short}
+use Rattle.rio_num.proofs.ReadLaws.{text_again}
+use Rattle.rio_host.specs.Image.{Has}
+use Rattle.rio_host.proofs.Images.{has_back, has_front, has_length}
+use Rattle.rio_key.specs.declared.head.KeyHead.{KeyHead}
+use Rattle.rio_key.specs.declared.fault.KeyFault.{KeyFault}
+use Rattle.rio_head.specs.Head.{IsHead, head_at, head_bytes}
+use Rattle.rio_head.specs.Written.{written_dir, written_head}
+use Rattle.rio_head.specs.declared.dir.DirRecord.{DirRecord}
+use Rattle.rio_head.specs.declared.head.FileHead.{FileHead}
+use Rattle.rio_head.proofs.HeadAgain.{head_only}
+use Rattle.rio_chain.specs.Chains.{HasChain}
+use Rattle.rio_chain.specs.Segments.{HasWord, HoldsRecord, IsChain, IsFirst, Link, RecordAt, texts_end_at}
+use Rattle.rio_chain.specs.declared.segment.Segment.{Segment}
+use Rattle.rio_chain.specs.declared.segment.Segment.TheVariants.{Record}
+use Rattle.rio_chain.proofs.Words.{word_of_bytes, word_one}
+use Rattle.rio_record.specs.Laws.{IsNewRecord}
+use Rattle.rio_record.specs.Record.{key_size, new_key, record_bytes}
+use Rattle.rio_record.proofs.Records.{are_new_records}
+use Rattle.rio_machine.specs.State.{empty_state, item_order, name_order}
+use Rattle.rio_state.specs.Closing.{KeptRecords, closing_lengths, free_length, held_of, item_heads, kept_count, kept_in, list_length, name_in}
+use Rattle.rio_state.specs.DirectoryKeys.{AreKeysOf}
+use Rattle.rio_state.specs.KeyedRecords.{KeyedRecord, info_key, keyed_records, top_keys, with_head}
+use Rattle.rio_state.specs.Left.{HasOpenHead, open_end}
+use Rattle.rio_state.specs.Reads.{AreRecordsOf, ReadsAsMade}
+use Rattle.rio_create.specs.NewFile.{file_bytes, file_texts, first_data, first_length, first_record, first_segments, first_words, nbytes_name_of, new_directory, new_head}
+use Rattle.rio_create.proofs.Lengths.{data_long, dir_long, first_low, head_long, key_long, name_long, nbytes_name_low, short_spelled, size_is, texts_long, words_fit}
+
+-- ---- the records
+
+-- the one record of a new file
+abbrev first_only : KeyHead → List ℕ → List KeyedRecord
+first_only head bytes = record { head = head; bytes = bytes } ∷ []
+
+-- what is kept of it
+abbrev kept : List ℕ → KeptRecords
+kept name = record { name = name; heads = []; count = 1 }
+
+-- by the key that the words make, whatever its lengths are
+module _ (name : List ℕ) (datime n : ℕ) (bytes : List ℕ) where
+  abbrev first_key : KeyHead
+  first_key = new_key (first_words name datime) n
+
+  only_stands : AreRecordsOf (first_only first_key bytes) empty_state
+  only_stands = record {
+    here = refl;
+    stand = record {
+      listed = tt;
+      classes = refl;
+      named = refl;
+      distinct = refl;
+      apart = refl;
+      readable = refl;
+      objects = λ item. get-empty item_order item;
+      tree_readable = refl;
+      trees = λ key. get-empty name_order key;
+    };
+  }
+
+  only_keys : AreKeysOf (first_only first_key bytes) []
+  only_keys = record { ordered = tt; each = λ head. (λ c. c, λ c. c) }
+
+  only_info : info_key (first_only first_key bytes) ≡ None
+  only_info = refl
+
+module _ (name uuid : List ℕ) (datime : ℕ) (short : length name ≤ 200) (long : length uuid ≡ 18) (low : datime < 2 ^ 32) where
+  abbrev first : List ℕ
+  first = first_record name uuid datime
+
+  abbrev count : ℕ
+  count = length (first_data name uuid datime)
+
+  abbrev pub head_of_first : KeyHead
+  head_of_first = new_key (first_words name datime) count
+
+  pub made : IsNewRecord (first_words name datime) (first_data name uuid datime)
+  made = are_new_records (first_words name datime) (first_data name uuid datime) (words_fit name short uuid datime long low)
+
+  pub first_size : length (first_record name uuid datime) ≡ first_length name
+  first_size = made.size ∙ size_is name short uuid datime long
+
+  abbrev pub links : List Link
+  links = RecordAt 100 (first_record name uuid datime) ∷ []
+
+  keyed : keyed_records links ≡ first_only head_of_first first
+  keyed = ap (λ (r : Result KeyHead KeyFault). cons_option (with_head first r) []) (made.key_read 100)
+
+  pub new_records : AreRecordsOf (keyed_records links) empty_state
+  new_records = subst (λ (rs : List KeyedRecord). AreRecordsOf rs empty_state) (sym keyed) (only_stands name datime count first)
+
+  pub new_keys : AreKeysOf (keyed_records links) []
+  new_keys = subst (λ (rs : List KeyedRecord). AreKeysOf rs []) (sym keyed) (only_keys name datime count first)
+
+  pub new_info : info_key (keyed_records links) ≡ None
+  new_info = ap info_key keyed ∙ only_info name datime count first
+
+  abbrev keep : List KeyedRecord → KeptRecords
+  keep records = let heads = item_heads (top_keys records) in record { name = name_in records; heads = heads; count = kept_count (info_key records) heads }
+
+  pub new_kept : kept_in links ≡ kept name
+  unfolding kept_in
+  new_kept = ap keep keyed
+
+  pub new_held : held_of links ≤ 10000
+  unfolding held_of
+  new_held =
+      let closing : sum_by (λ n. n + 3) (closing_lengths (kept_in links)) ≡ list_length (kept name) + 3 + (free_length (kept name) + 3) = ap (λ (k : KeptRecords). sum_by (λ n. n + 3) (closing_lengths k)) new_kept ∙ omega arith in
+      omega (arith, closing, key_long name short, first_size, first_low name short)
