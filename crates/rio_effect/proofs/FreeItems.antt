@@ -1,17 +1,17 @@
 -- What a state doesn't have, none of the records that stand for it has.
-use Rattle.std.proofs.Common.{◌≡◌, ◌⊎◌, inl, inr, ⊎_elim, ℕ, ◌+◌, ◌<◌, ◌≤◌, ◌∙◌, List, [], ◌∷◌, Bool, true, false, cond, not, ltb, ◌&&◌, ◌||◌, Option, Some, None, refl, sym, ap, subst, arith}
+use Rattle.std.proofs.Common.{◌≡◌, inl, inr, ⊎_elim, ℕ, ◌≤◌, ◌∙◌, List, [], ◌∷◌, Bool, true, false, not, ◌&&◌, ◌||◌, Option, Some, None, refl, sym, ap, subst, arith}
 use Rattle.std.specs.Prelude.{is_some, nat_lt, option_and_then}
 use Rattle.std.specs.FinMap.{get}
 use Rattle.std.specs.List.{find, list_all, list_any}
 use Rattle.std.specs.Str.{bytes_eq}
-use Rattle.std.proofs.lemmas.Bool.{and_from, and_left, and_parts, cases_lt, le-ltb, ltb-true}
+use Rattle.std.proofs.lemmas.Bool.{and_from, and_parts, cases_lt, ltb-true}
 use Rattle.std.proofs.lemmas.Slice.Eq.{bytes_eq-Decides}
 use Rattle.rio_machine.specs.State.{NameAndCycle, State, names_tree}
 use Rattle.rio_state.specs.Contents.{object_in, state_classes, tree_of}
-use Rattle.rio_state.specs.KeyedRecords.{KeyedRecord, has_item, is_outdated, is_tree_key, is_tree_record, object_records, tree_records}
+use Rattle.rio_state.specs.KeyedRecords.{KeyedRecord, has_item, is_tree_key, is_tree_record, object_records, tree_records}
 use Rattle.rio_state.specs.Reads.{StandsForState}
 use Rattle.rio_effect.proofs.Insertion.{any_none}
-use Rattle.rio_effect.proofs.Members.{Found, In, Passing, all_at, any_from, found, in_filter, none_at, none_from, passing}
+use Rattle.rio_effect.proofs.Members.{In, all_at, found, in_filter, none_at, none_from}
 
 abbrev pub is_tree_named : List ℕ → KeyedRecord → Bool
 is_tree_named name s = bytes_eq s.head.name name && is_tree_key s.head

@@ -1,5 +1,5 @@
 -- Lists with one more element somewhere.
-use Rattle.std.proofs.Common.{◌≡◌, ℕ, ◌+◌, ◌∙◌, List, [], ◌∷◌, ◌++◌, length, map, Bool, true, false, cond, ◌&&◌, ◌||◌, Option, Some, None, refl, sym, ap, append_assoc}
+use Rattle.std.proofs.Common.{◌≡◌, ◌∙◌, List, [], ◌∷◌, ◌++◌, map, Bool, true, false, cond, ◌&&◌, ◌||◌, Option, Some, None, refl, sym, ap, append_assoc}
 use Rattle.std.specs.List.{filter, find, list_all, list_any}
 use Rattle.rio_effect.specs.More.{HasOneMoreIn}
 

@@ -1,20 +1,20 @@
 -- The record of an object is found at the place that its key says, and read back as the object.
-use Rattle.std.proofs.Common.{◌≡◌, ◌⊎◌, inl, inr, ℕ, ◌+◌, ◌∙◌, List, [], ◌∷◌, drop, length, Bool, true, false, not, Option, Some, None, Result, Ok, Err, refl, sym, ap, subst}
+use Rattle.std.proofs.Common.{◌≡◌, ◌⊎◌, inl, inr, ℕ, ◌+◌, ◌∙◌, List, [], ◌∷◌, drop, length, not, Option, Some, Result, Ok, refl, sym, ap, subst}
 use Rattle.std.specs.Prelude.{unwrap_or}
 use Rattle.std.specs.FinMap.{get}
-use Rattle.std.specs.List.{Contains, cons_option, filter, filter_map}
+use Rattle.std.specs.List.{Contains, cons_option}
 use Rattle.rio_value.specs.declared.value.Value.{Value}
 use Rattle.rio_buffer.specs.declared.fault.ObjFault.{ObjFault}
 use Rattle.rio_format.specs.Objects.{value_at}
 use Rattle.rio_key.specs.declared.head.KeyHead.{KeyHead}
 use Rattle.rio_key.specs.declared.fault.KeyFault.{KeyFault}
-use Rattle.rio_chain.specs.Segments.{GapAt, HoldsLinks, IsChain, IsRecord, Link, RecordAt, link_length}
-use Rattle.rio_machine.specs.State.{NameAndCycle, State}
+use Rattle.rio_chain.specs.Segments.{GapAt, HoldsLinks, IsChain, IsRecord, Link, RecordAt}
+use Rattle.rio_machine.specs.State.{State}
 use Rattle.rio_state.specs.DirectoryKeys.{AreKeysOf}
-use Rattle.rio_state.specs.KeyedRecords.{KeyedRecord, is_top_key, is_tree_key, item_of_key, keyed_records, object_records, record_data, record_in_link, top_keys, tree_records}
+use Rattle.rio_state.specs.KeyedRecords.{KeyedRecord, is_top_key, is_tree_key, item_of_key, keyed_records, top_keys}
 use Rattle.rio_state.specs.Reads.{AreRecordsOf}
 use Rattle.rio_effect.specs.Laws.{HasRecordOf, KeysHaveRecords, keyed_bytes}
-use Rattle.rio_effect.proofs.KeyRecords.{Holder, IsObject, ObjectOf, TreeOf, holder, item_is, key_record, object_of, tree_apart}
+use Rattle.rio_effect.proofs.KeyRecords.{ObjectOf, TreeOf, holder, item_is, key_record, object_of, tree_apart}
 use Rattle.rio_effect.proofs.Members.{In, contains_in, filter_in, in_contained}
 use Rattle.rio_effect.proofs.MoreRecords.{keyed_link, own_key}
 use Rattle.rio_effect.proofs.ReadClasses.{object_is_read}

@@ -1,8 +1,8 @@
 -- Each key beside a file is that of a record that stands for an object.
-use Rattle.std.proofs.Common.{◌≡◌, ◌⊎◌, inl, inr, ⊎_elim, ℕ, zero, suc, ◌+◌, ◌<◌, ◌≤◌, ◌∙◌, List, [], ◌∷◌, ◌++◌, length, map, Bool, true, false, cond, not, eqb, ◌&&◌, ◌||◌, ◌==◌, Option, Some, None, refl, sym, ap, subst, arith}
+use Rattle.std.proofs.Common.{◌≡◌, ◌⊎◌, inl, inr, ◌∙◌, List, [], ◌∷◌, ◌++◌, Bool, true, false, cond, not, ◌&&◌, ◌==◌, Option, Some, None, refl, sym, ap}
 use Rattle.std.specs.Prelude.{is_some, option_and_then}
 use Rattle.std.specs.FinMap.{get}
-use Rattle.std.specs.List.{filter, find, list_all, list_any}
+use Rattle.std.specs.List.{filter, find, list_any}
 use Rattle.std.specs.Str.{bytes_eq}
 use Rattle.std.proofs.lemmas.Bool.{and_from, and_parts, eq-eqb, eqb-true}
 use Rattle.std.proofs.lemmas.Slice.Eq.{bytes_eq-Decides}
@@ -10,14 +10,12 @@ use Rattle.rio_types.specs.declared.class.ClassDef.{ClassDef}
 use Rattle.rio_value.specs.declared.value.Value.{Value}
 use Rattle.rio_key.specs.declared.head.KeyHead.{KeyHead}
 use Rattle.rio_machine.specs.State.{NameAndCycle, State}
-use Rattle.rio_state.proofs.NoReason.{item_turned, neither}
-use Rattle.rio_state.specs.Closing.{item_heads}
 use Rattle.rio_state.specs.Contents.{object_in, state_classes}
 use Rattle.rio_state.specs.DirectoryKeys.{AreKeysOf}
 use Rattle.rio_state.specs.KeyedRecords.{KeyedRecord, has_item, info_key, is_mixed_name, is_tree_key, is_tree_record, item_of_key, object_records, top_keys, tree_records}
-use Rattle.rio_state.specs.Reads.{AreRecordsOf, StandsForState, are_distinct, object_under}
+use Rattle.rio_state.specs.Reads.{AreRecordsOf, are_distinct}
 use Rattle.rio_effect.proofs.KeysFollow.{heads_in, items_in}
-use Rattle.rio_effect.proofs.Members.{Found, In, all_at, any_from, filter_in, found, in_filter, in_left, in_map, in_either, map_in, none_from, none_at}
+use Rattle.rio_effect.proofs.Members.{In, all_at, any_from, filter_in, found, in_left, in_map, in_either, map_in, none_from, none_at}
 
 -- ---- distinct keys
 

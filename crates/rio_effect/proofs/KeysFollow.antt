@@ -1,15 +1,9 @@
 -- The keys beside a file, with the key of one more object.
-use Rattle.std.proofs.Common.{◌≡◌, ◌↔◌, ◌⊎◌, inl, inr, ⊎_elim, ℕ, ◌+◌, ◌^◌, ◌<◌, ◌≤◌, ◌∙◌, max, List, [], ◌∷◌, ◌++◌, length, map, Bool, true, false, cond, not, eqb, ◌&&◌, ◌||◌, ◌==◌, Option, Some, None, refl, sym, ap, subst, arith}
-use Rattle.std.specs.Prelude.{if◌then◌else◌, is_some}
-use Rattle.std.specs.FinMap.{contains_key-keys, get, keys}
-use Rattle.std.specs.List.{Contains, filter, find, list_any}
-use Rattle.std.specs.Ordering.{eq_by_cmp}
-use Rattle.std.specs.Str.{bytes_eq}
+use Rattle.std.proofs.Common.{◌≡◌, ◌⊎◌, inl, inr, List, [], ◌∷◌, ◌++◌, Bool, true, false, refl, sym, subst}
+use Rattle.std.specs.Prelude.{if◌then◌else◌}
 use Rattle.rio_key.specs.declared.head.KeyHead.{KeyHead}
-use Rattle.rio_chain.specs.Changes.{with_record}
-use Rattle.rio_machine.specs.State.{NameAndCycle, State, item_order, last_cycle, names_tree, next_cycle}
 use Rattle.rio_dir.proofs.TableLists.{ordered_with}
-use Rattle.rio_dir.specs.Table.{greatest_cycle, is_at_cycle, is_before, is_of_name, with_head}
+use Rattle.rio_dir.specs.Table.{is_before, with_head}
 use Rattle.rio_state.specs.Closing.{item_heads}
 use Rattle.rio_state.specs.DirectoryKeys.{AreKeysOf}
 use Rattle.rio_state.specs.KeyedRecords.{KeyedRecord, is_top_key, is_tree_key, object_records, top_keys, tree_records}
@@ -81,7 +75,7 @@ keys_follow old new r heads h top object none are =
     record {
       ordered = ordered_with r.head heads are.ordered none;
       each = λ head. (
-          λ c. contains_in head _ (same_more heads (with_head r.head heads) (item_heads (top_keys old)) (item_heads (top_keys new)) r.head more items (heads_in old heads are) head (in_contained head _ c)),
-          λ c. contains_in head _ (same_more (item_heads (top_keys old)) (item_heads (top_keys new)) heads (with_head r.head heads) r.head items more (items_in old heads are) head (in_contained head _ c)),
+        λ c. contains_in head _ (same_more heads (with_head r.head heads) (item_heads (top_keys old)) (item_heads (top_keys new)) r.head more items (heads_in old heads are) head (in_contained head _ c)),
+        λ c. contains_in head _ (same_more (item_heads (top_keys old)) (item_heads (top_keys new)) heads (with_head r.head heads) r.head items more (items_in old heads are) head (in_contained head _ c)),
       );
     }

@@ -1,8 +1,8 @@
 -- The keys of a file stand for the objects of the state that its records stand for.
-use Rattle.std.proofs.Common.{◌≡◌, ◌⊎◌, inl, inr, ⊎_elim, ℕ, zero, suc, ◌+◌, ◌<◌, ◌≤◌, ◌∙◌, List, [], ◌∷◌, ◌++◌, drop, length, map, Bool, true, false, cond, not, ltb, eqb, ◌&&◌, ◌||◌, ◌==◌, Option, Some, None, Ok, refl, sym, ap, subst, arith}
+use Rattle.std.proofs.Common.{◌≡◌, ◌⊎◌, inl, inr, ℕ, ◌∙◌, List, [], ◌∷◌, map, Bool, true, false, cond, ◌&&◌, ◌==◌, Option, Some, None, refl, sym, ap, subst}
 use Rattle.std.specs.Prelude.{T, is_some, nat_lt, option_and_then, unwrap_or}
-use Rattle.std.specs.FinMap.{FinMap, contains_key, contains_key-keys, empty, entries, entries-from_sorted, entries_sorted, find as find_key, from_sorted, get, get-empty, get-entries, get-from_sorted, is_sorted, keys, same_map}
-use Rattle.std.specs.List.{find as find_by, list_all, list_any}
+use Rattle.std.specs.FinMap.{contains_key-keys, empty, entries, entries-from_sorted, entries_sorted, find as find_key, from_sorted, get, get-empty, get-entries, get-from_sorted, is_sorted, keys, same_map}
+use Rattle.std.specs.List.{find as find_by, list_all}
 use Rattle.std.specs.Option.{option_map}
 use Rattle.std.specs.Ordering.{eq_by_cmp, is_lt, nat_cmp, ordering_then}
 use Rattle.std.specs.Cmp.Lexicographic.{slice_cmp}
@@ -10,25 +10,25 @@ use Rattle.std.specs.Cmp.{eq_by_cmp_equiv}
 use Rattle.std.specs.Str.{bytes_eq}
 use Rattle.std.specs.declared.cmp.Ordering.{Ordering}
 use Rattle.std.specs.declared.cmp.Ordering.TheVariants.{Less, Equal, Greater}
-use Rattle.std.proofs.lemmas.Bool.{and_from, and_parts}
+use Rattle.std.proofs.lemmas.Bool.{and_from}
 use Rattle.std.proofs.lemmas.Map.Views.{tells_apart}
 use Rattle.rio_types.specs.declared.class.ClassDef.{ClassDef}
 use Rattle.rio_value.specs.declared.value.Value.{Value}
 use Rattle.rio_key.specs.declared.head.KeyHead.{KeyHead}
 use Rattle.rio_dir.specs.Table.{AreBehind, AreOrdered, comes_before, first_by}
 use Rattle.rio_machine.proofs.OrderLaws.{items_tie, items_total, names_tie, names_total}
-use Rattle.rio_machine.specs.State.{NameAndCycle, State, Tree, item_order, name_order}
+use Rattle.rio_machine.specs.State.{NameAndCycle, State, item_order, name_order}
 use Rattle.rio_state.proofs.Collected.{item_same}
 use Rattle.rio_state.specs.Contents.{state_classes, tree_of}
 use Rattle.rio_state.specs.DirectoryKeys.{AreKeysOf}
-use Rattle.rio_state.specs.KeyedRecords.{KeyedRecord, has_item, info_key, item_of_key, object_records, top_keys, tree_records}
+use Rattle.rio_state.specs.KeyedRecords.{KeyedRecord, info_key, item_of_key, top_keys, tree_records}
 use Rattle.rio_state.specs.Reads.{AreRecordsOf}
 use Rattle.rio_step.specs.ItemKeys.{AreKeysOfState, told_by_key}
 use Rattle.rio_step.specs.Refusing.{object_class}
 use Rattle.rio_step.specs.Step.{Listed, listed_object, object_listed}
 use Rattle.rio_effect.specs.Laws.{KeysNameObjects, KeysStandForState}
-use Rattle.rio_effect.proofs.KeyRecords.{Holder, IsObject, ObjectOf, TreeOf, holder, key_record, object_of, record_key}
-use Rattle.rio_effect.proofs.Members.{In, all_at, any_from, in_contained, in_map, map_in, passing}
+use Rattle.rio_effect.proofs.KeyRecords.{ObjectOf, TreeOf, holder, key_record, object_of, record_key}
+use Rattle.rio_effect.proofs.Members.{In, all_at, any_from, in_contained, in_map, map_in}
 use Rattle.rio_effect.proofs.ReadClasses.{object_is_read}
 
 -- ---- one order
@@ -143,8 +143,7 @@ module _ (records : List KeyedRecord) (heads : List KeyHead) (m : State) (are : 
           let x = object_of records m is o.r o.among in
           let same = tells_apart items_tie item (h.name, h.cycle) e in
           let key : item_of_key o.r.head ≡ item = ap (λ (k : KeyHead). item_of_key k) o.head_is ∙ sym same in
-          let read = object_is_read m.classes o.r x.v x.read in
-          (
+          let read = object_is_read m.classes o.r x.v x.read in (
             x.v,
             ap (get m.objects) (sym key) ∙ x.object,
             ap (λ (c : Option (List ℕ)). object_listed (unwrap_or c [])) read.class ∙ ap (λ (k : KeyHead). object_listed k.class) o.head_is,

@@ -1,5 +1,5 @@
 -- A record that is put is one more among the records of a file.
-use Rattle.std.proofs.Common.{◌≡◌, ℕ, ◌+◌, ◌-◌, ◌∙◌, List, [], ◌∷◌, ◌++◌, length, Bool, true, false, ◌==◌, Option, Some, None, refl, sym, ap, subst, arith}
+use Rattle.std.proofs.Common.{◌≡◌, ℕ, ◌+◌, ◌-◌, ◌∙◌, List, [], ◌∷◌, length, Bool, true, false, ◌==◌, Option, Some, None, refl, sym, ap, subst, arith}
 use Rattle.std.specs.Prelude.{if◌then◌else◌}
 use Rattle.std.specs.List.{cons_option}
 use Rattle.rio_key.specs.Key.{key_at, value_of}
@@ -7,7 +7,7 @@ use Rattle.rio_key.specs.Spelling.{IsSpelledIn, SpellsKey}
 use Rattle.rio_key.specs.declared.head.KeyHead.{KeyHead}
 use Rattle.rio_key.proofs.KeyAgain.{key_again, standing}
 use Rattle.rio_chain.specs.Changes.{with_record, with_rest}
-use Rattle.rio_chain.specs.Segments.{GapAt, IsChain, IsRecord, Link, RecordAt}
+use Rattle.rio_chain.specs.Segments.{GapAt, IsRecord, Link, RecordAt}
 use Rattle.rio_state.specs.Closing.{name_in}
 use Rattle.rio_state.specs.KeyedRecords.{KeyedRecord, keyed_records, record_in_link, with_head}
 use Rattle.rio_effect.specs.Laws.{FirstStays, KeyIsRead, RecordMore, keyed_bytes}

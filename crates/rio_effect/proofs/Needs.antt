@@ -1,19 +1,15 @@
 -- What a close needs with one more record in the file, and by the keys that are kept beside it.
-use Rattle.std.proofs.Common.{◌≡◌, ◌⊎◌, inl, inr, ⊎_elim, ℕ, ◌+◌, ◌-◌, ◌*◌, ◌%◌, ◌≤◌, ◌∙◌, codes, List, [], ◌∷◌, ◌++◌, length, map, Bool, true, false, not, ◌&&◌, Option, Some, None, refl, sym, ap, subst, arith}
+use Rattle.std.proofs.Common.{◌≡◌, ℕ, ◌+◌, ◌≤◌, ◌∙◌, codes, List, ◌∷◌, length, Bool, true, false, not, ◌&&◌, Option, Some, None, sym, ap, subst, arith}
 use Rattle.std.specs.List.{sum_by}
 use Rattle.std.proofs.lemmas.Bool.{and_parts}
-use Rattle.std.proofs.lemmas.List.{length-append, length-map}
+use Rattle.std.proofs.lemmas.List.{length-append}
 use Rattle.std.proofs.lemmas.List.Sums.{sum_by-append, sum_by-cons}
 use Rattle.rio_key.specs.Written.{written_key}
 use Rattle.rio_key.specs.declared.head.KeyHead.{KeyHead}
 use Rattle.rio_chain.specs.Changes.{with_record}
-use Rattle.rio_chain.specs.Segments.{IsChain, IsRecord, Link}
-use Rattle.rio_machine.specs.Limits.{head_length, zeros_behind}
-use Rattle.rio_machine.specs.State.{State}
-use Rattle.rio_state.specs.Closing.{KeptRecords, close_need, closing_lengths, free_length, item_heads, kept_count, kept_in, list_length, name_in, padded_length}
-use Rattle.rio_state.specs.DirectoryKeys.{AreKeysOf}
-use Rattle.rio_state.specs.KeyedRecords.{KeyedRecord, has_info_name, has_item, info_key, is_in_directory, is_info_key, is_top_key, is_tree_key, is_tree_record, item_of_key, keyed_records, object_records, top_keys, tree_records}
-use Rattle.rio_state.specs.Reads.{AreRecordsOf}
+use Rattle.rio_machine.specs.Limits.{head_length}
+use Rattle.rio_state.specs.Closing.{KeptRecords, close_need, free_length, item_heads, kept_count, kept_in, list_length, padded_length}
+use Rattle.rio_state.specs.KeyedRecords.{KeyedRecord, has_info_name, info_key, is_in_directory, is_info_key, is_top_key, keyed_records, top_keys}
 use Rattle.rio_effect.specs.Laws.{NeedGrows, keyed_bytes}
 use Rattle.rio_effect.specs.More.{HasOneMoreIn, KeepsOneMore}
 use Rattle.rio_effect.proofs.Insertion.{filter_more}

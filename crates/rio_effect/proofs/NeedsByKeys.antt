@@ -1,5 +1,5 @@
 -- The keys beside a file tell what its close needs.
-use Rattle.std.proofs.Common.{◌≡◌, ◌⊎◌, inl, inr, ⊎_elim, ℕ, ◌+◌, ◌*◌, ◌∙◌, codes, List, [], ◌∷◌, ◌++◌, length, map, Bool, true, false, not, Option, Some, None, refl, sym, ap, subst, arith}
+use Rattle.std.proofs.Common.{◌≡◌, inl, inr, ⊎_elim, ℕ, ◌+◌, ◌*◌, ◌∙◌, codes, List, [], ◌∷◌, ◌++◌, length, map, Bool, true, false, not, Option, refl, sym, ap, subst, arith}
 use Rattle.std.specs.List.{list_any, sum_by}
 use Rattle.std.specs.Option.{option_map_or}
 use Rattle.std.proofs.lemmas.Bool.{and_parts}
@@ -7,16 +7,13 @@ use Rattle.std.proofs.lemmas.List.{map-append}
 use Rattle.std.proofs.lemmas.List.Sums.{sum_by-cons}
 use Rattle.rio_key.specs.Written.{written_key}
 use Rattle.rio_key.specs.declared.head.KeyHead.{KeyHead}
-use Rattle.rio_chain.specs.Segments.{Link}
 use Rattle.rio_dir.proofs.TableOrder.{before_itself}
 use Rattle.rio_dir.specs.Table.{AreBehind, AreOrdered, comes_before}
 use Rattle.rio_machine.specs.Limits.{head_length}
-use Rattle.rio_machine.specs.State.{State}
-use Rattle.rio_state.specs.Closing.{closing_lengths, item_heads, kept_count, kept_in, name_in}
-use Rattle.rio_state.specs.DirectoryKeys.{AreKeysOf}
+use Rattle.rio_state.specs.Closing.{item_heads, kept_count, kept_in, name_in}
 use Rattle.rio_state.specs.KeyedRecords.{KeyedRecord, has_item, info_key, is_tree_key, is_tree_record, item_of_key, keyed_records, object_records, top_keys, tree_records}
-use Rattle.rio_state.specs.Reads.{AreRecordsOf, are_distinct}
-use Rattle.rio_effect.specs.Laws.{NeedByKeys, kept_by_keys}
+use Rattle.rio_state.specs.Reads.{are_distinct}
+use Rattle.rio_effect.specs.Laws.{NeedByKeys}
 use Rattle.rio_effect.specs.More.{HasOneMoreIn}
 use Rattle.rio_effect.proofs.Insertion.{behind, here}
 use Rattle.rio_effect.proofs.KeyRecords.{distinct_filter, own_item}
@@ -99,9 +96,9 @@ records_apart [] d = tt
 records_apart (r ∷ rs) d =
     let parts = and_parts (not (list_any (has_item (item_of_key r.head)) rs)) (are_distinct rs) d in (
       λ i.
-      let from = map_in (λ (s : KeyedRecord). s.head) r.head rs i in
-      let own : has_item (item_of_key r.head) from.0 ≡ true = ap (λ (h : KeyHead). has_item (item_of_key h) from.0) (sym from.2) ∙ own_item from.0 in
-      not_any _ parts.0 (any_from (has_item (item_of_key r.head)) from.0 rs from.1 own),
+          let from = map_in (λ (s : KeyedRecord). s.head) r.head rs i in
+          let own : has_item (item_of_key r.head) from.0 ≡ true = ap (λ (h : KeyHead). has_item (item_of_key h) from.0) (sym from.2) ∙ own_item from.0 in
+          not_any _ parts.0 (any_from (has_item (item_of_key r.head)) from.0 rs from.1 own),
       records_apart rs parts.1,
     )
 

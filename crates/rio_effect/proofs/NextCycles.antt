@@ -1,9 +1,9 @@
 -- The keys beside a file tell the next cycle of a name.
-use Rattle.std.proofs.Common.{◌≡◌, ◌⊎◌, inl, inr, ⊎_elim, ℕ, ◌+◌, ◌<◌, ◌≤◌, ◌∙◌, max, List, [], ◌∷◌, map, Bool, true, false, cond, ◌&&◌, ◌==◌, Option, Some, None, refl, sym, ap, subst, arith}
+use Rattle.std.proofs.Common.{◌≡◌, ◌⊎◌, inl, inr, ℕ, ◌+◌, ◌≤◌, ◌∙◌, max, List, [], ◌∷◌, Bool, true, false, cond, Option, Some, None, refl, sym, ap, subst, arith}
 use Rattle.std.specs.Prelude.{is_some}
 use Rattle.std.specs.Cmp.{eq_by_cmp_equiv}
 use Rattle.std.specs.FinMap.{contains_key-keys, get, keys}
-use Rattle.std.specs.List.{filter, find, list_any}
+use Rattle.std.specs.List.{filter, list_any}
 use Rattle.std.specs.Ordering.{eq_by_cmp}
 use Rattle.std.specs.Str.{bytes_eq}
 use Rattle.std.proofs.lemmas.Bool.{and_from, and_parts}
@@ -22,7 +22,7 @@ use Rattle.rio_state.specs.Reads.{AreRecordsOf}
 use Rattle.rio_effect.specs.Laws.{IsNextCycle, KeysTellNextCycle}
 use Rattle.rio_effect.proofs.FreeItems.{is_tree_named, no_tree_named}
 use Rattle.rio_effect.proofs.Insertion.{find_none}
-use Rattle.rio_effect.proofs.KeyRecords.{Holder, IsObject, ObjectOf, TreeOf, holder, item_is, key_record, object_of, record_key}
+use Rattle.rio_effect.proofs.KeyRecords.{ObjectOf, TreeOf, holder, item_is, key_record, object_of, record_key}
 use Rattle.rio_effect.proofs.Members.{In, any_from, filter_in, in_filter, in_map, map_in, none_at, none_from, passing}
 
 -- ---- greatest cycles

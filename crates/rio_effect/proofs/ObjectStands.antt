@@ -1,9 +1,8 @@
 -- Records that stand for a state, with the record of an object more.
-use Rattle.std.proofs.Common.{◌≡◌, ℕ, ◌∙◌, List, [], ◌∷◌, ◌++◌, Bool, true, false, cond, not, ◌&&◌, ◌||◌, ◌==◌, Option, Some, None, refl, sym, ap, subst}
+use Rattle.std.proofs.Common.{◌≡◌, ℕ, ◌∙◌, List, [], ◌∷◌, ◌++◌, Bool, true, false, cond, not, ◌&&◌, Option, Some, refl, sym, ap, subst}
 use Rattle.std.specs.Prelude.{is_some, nat_lt, option_and_then}
 use Rattle.std.specs.FinMap.{get, get-insert, insert}
 use Rattle.std.specs.List.{filter, find, list_all, list_any}
-use Rattle.std.specs.Ordering.{eq_by_cmp}
 use Rattle.std.specs.Str.{bytes_eq}
 use Rattle.std.proofs.lemmas.Bool.{and_from, and_left, and_parts, and_right}
 use Rattle.std.proofs.lemmas.List.Elements.{filter_agree}
@@ -11,9 +10,8 @@ use Rattle.std.proofs.lemmas.Map.Views.{tells_apart}
 use Rattle.std.proofs.lemmas.Slice.Eq.{bytes_eq-Decides}
 use Rattle.rio_types.specs.declared.class.ClassDef.{ClassDef}
 use Rattle.rio_value.specs.declared.value.Value.{Value}
-use Rattle.rio_key.specs.declared.head.KeyHead.{KeyHead}
 use Rattle.rio_machine.proofs.OrderLaws.{items_tie, items_total}
-use Rattle.rio_machine.specs.State.{NameAndCycle, State, item_order}
+use Rattle.rio_machine.specs.State.{NameAndCycle, State}
 use Rattle.rio_state.proofs.Collected.{item_same}
 use Rattle.rio_state.proofs.NoReason.{item_turned, neither}
 use Rattle.rio_state.specs.Contents.{object_in, state_classes, tree_of}

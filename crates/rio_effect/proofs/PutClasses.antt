@@ -1,6 +1,6 @@
 -- The class of an object that a put takes: its name is short, and not one of the classes that the format keeps for itself.
-use Rattle.std.proofs.Common.{◌≡◌, ◌⊎◌, inl, inr, ⊎_elim, ℕ, ℤ, pos, negsuc, ◌<◌, ◌≤◌, ◌∙◌, codes, List, [], ◌∷◌, ◌++◌, length, Bool, true, false, cond, not, int_le, ◌&&◌, ◌||◌, ◌==◌, Option, Some, None, refl, sym, ap, subst, arith}
-use Rattle.std.specs.Prelude.{IsTrue, is_some}
+use Rattle.std.proofs.Common.{◌≡◌, ⊎_elim, ℕ, ℤ, pos, negsuc, ◌≤◌, ◌∙◌, codes, List, [], ◌∷◌, ◌++◌, length, Bool, true, false, cond, not, ◌&&◌, Some, refl, sym, ap, subst, arith}
+use Rattle.std.specs.Prelude.{is_some}
 use Rattle.std.specs.List.{list_all}
 use Rattle.std.specs.Str.{bytes_eq}
 use Rattle.std.proofs.lemmas.Bool.{and_from, and_parts, leb-true, or_cases}

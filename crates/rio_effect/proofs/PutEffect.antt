@@ -1,8 +1,6 @@
 -- With the record of an object that a put adds the records stand for the state behind the put.
-use Rattle.std.proofs.Common.{◌≡◌, ℕ, ◌+◌, ◌^◌, ◌<◌, ◌∙◌, codes, List, [], ◌∷◌, ◌++◌, length, Bool, true, false, not, ◌&&◌, ◌||◌, ◌==◌, Option, Some, None, refl, sym, ap, subst}
-use Rattle.std.specs.FinMap.{get, insert}
-use Rattle.std.specs.List.{list_any}
-use Rattle.std.specs.Str.{bytes_eq}
+use Rattle.std.proofs.Common.{◌≡◌, ℕ, ◌^◌, ◌<◌, ◌∙◌, List, true, false, not, ◌||◌, ◌==◌, Option, Some, None, refl, sym, ap, subst}
+use Rattle.std.specs.FinMap.{insert}
 use Rattle.std.proofs.lemmas.Bool.{and_from, and_left, and_right}
 use Rattle.rio_num.specs.Word.{is_item_text}
 use Rattle.rio_types.specs.declared.class.ClassDef.{ClassDef}
@@ -12,14 +10,12 @@ use Rattle.rio_chain.specs.Changes.{with_record}
 use Rattle.rio_chain.specs.Segments.{Link}
 use Rattle.rio_model.specs.StateClasses.{StateClasses}
 use Rattle.rio_machine.specs.State.{State, next_cycle}
-use Rattle.rio_machine.specs.declared.command.Command.TheVariants.{Put}
 use Rattle.rio_state.specs.Contents.{HasStateClasses, object_in, state_classes}
-use Rattle.rio_state.specs.KeyedRecords.{KeyedRecord, first_place, has_info_name, has_item, info_key, is_elsewhere, is_in_directory, is_info_key, is_internal, is_top_key, is_tree_key, keyed_records, top_keys}
+use Rattle.rio_state.specs.KeyedRecords.{KeyedRecord, first_place, has_info_name, info_key, is_elsewhere, is_in_directory, is_info_key, is_internal, is_top_key, is_tree_key, keyed_records, top_keys}
 use Rattle.rio_state.specs.Reads.{AreRecordsOf, StandsForState}
 use Rattle.rio_step.proofs.StepLaws.{next_is_free}
 use Rattle.rio_step.specs.Refusing.{put_value}
 use Rattle.rio_step.specs.Runs.{saved_of}
-use Rattle.rio_step.specs.Step.{state_behind}
 use Rattle.rio_effect.specs.Laws.{PutTakesEffect, SavedPutTakesEffect}
 use Rattle.rio_effect.specs.More.{HasOneMoreIn}
 use Rattle.rio_effect.specs.ObjectRecord.{object_record, record_of_put}

@@ -1,6 +1,5 @@
 -- The key of the object that a put adds stands in its place among the keys.
-use Rattle.std.proofs.Common.{◌≡◌, ℕ, ◌+◌, ◌∙◌, List, [], ◌∷◌, length, Bool, true, false, Option, Some, None, refl, sym, ap}
-use Rattle.rio_machine.specs.State.{State, next_cycle}
+use Rattle.std.proofs.Common.{◌∙◌}
 use Rattle.rio_chain.specs.Changes.{with_record}
 use Rattle.rio_state.specs.KeyedRecords.{keyed_records}
 use Rattle.rio_effect.specs.Laws.{PutKeyFollows, SavedPutKeyFollows}

@@ -1,6 +1,6 @@
 -- The record of an object that a put adds holds the object.
-use Rattle.std.proofs.Common.{◌≡◌, ℕ, zero, suc, ◌+◌, ◌-◌, ◌%◌, ◌^◌, ◌<◌, ◌≤◌, ◌∙◌, List, [], ◌∷◌, ◌++◌, drop, length, replicate, Bool, true, false, cond, not, ltb, eqb, ◌&&◌, ◌||◌, ◌==◌, Option, Some, None, Ok, refl, sym, ap, subst, arith}
-use Rattle.std.specs.Prelude.{if◌then◌else◌, is_some, unwrap_or}
+use Rattle.std.proofs.Common.{◌≡◌, ℕ, zero, suc, ◌-◌, ◌%◌, ◌^◌, ◌<◌, ◌≤◌, ◌∙◌, List, [], ◌++◌, length, replicate, Bool, true, false, cond, not, ltb, ◌||◌, ◌==◌, Option, Some, None, Ok, refl, ap, arith}
+use Rattle.std.specs.Prelude.{if◌then◌else◌, unwrap_or}
 use Rattle.std.specs.List.{list_all}
 use Rattle.std.specs.Option.{option_map_or}
 use Rattle.std.proofs.lemmas.Bool.{and_from, lt-ltb, ltb-false}
@@ -15,7 +15,6 @@ use Rattle.rio_buffer.specs.ReaderState.{ReaderState}
 use Rattle.rio_format.specs.Fits.{fits}
 use Rattle.rio_format.specs.Objects.{SpellsObject, depth_limit, first_at}
 use Rattle.rio_format.specs.Slots.{can_be_put}
-use Rattle.rio_format.specs.Written.{written_form}
 use Rattle.rio_format.specs.WrittenBytes.{length_limit}
 use Rattle.rio_format.proofs.ObjectLaws.{spelled_is_read}
 use Rattle.rio_format.proofs.WrittenValues.{written_is_spelled}
@@ -30,9 +29,9 @@ use Rattle.rio_state.specs.Contents.{can_be_stored, is_padding, object_in, store
 use Rattle.rio_state.specs.KeyedRecords.{KeyedRecord, record_data}
 use Rattle.rio_step.proofs.ApartLaws.{none_at, not_refused}
 use Rattle.rio_step.proofs.FitStays.{true_from_not, unrefused_fit}
-use Rattle.rio_step.specs.Refusing.{FullMark, goes_too_deep, has_too_many, is_at_last_cycle, is_fit, is_kept_out, is_list_name, is_too_large, is_tree_name, lacks_class, object_class, object_length, put_value, refusal_of, refusals}
+use Rattle.rio_step.specs.Refusing.{FullMark, goes_too_deep, has_too_many, is_at_last_cycle, is_list_name, is_too_large, is_tree_name, lacks_class, object_class, put_value, refusal_of, refusals}
 use Rattle.rio_effect.specs.Laws.{KeyIsRead, PutWordsFit}
-use Rattle.rio_effect.specs.ObjectRecord.{data_of_put, key_of_put, object_data, object_key, object_record, object_words, record_of_put, words_of_put, words_of_value}
+use Rattle.rio_effect.specs.ObjectRecord.{data_of_put, words_of_put}
 use Rattle.rio_effect.proofs.MoreRecords.{key_is_read}
 use Rattle.rio_effect.proofs.PutClasses.{IsObjectClass, object_class_is, short_item, versions_in_range}
 use Rattle.rio_effect.proofs.Versions.{fits_in_versions}

@@ -1,5 +1,5 @@
 -- The class of an object that a record holds is that of the record's key.
-use Rattle.std.proofs.Common.{◌≡◌, ℕ, ℤ, ◌==◌, ◌∙◌, List, [], ◌∷◌, ◌++◌, length, slice_get, Bool, true, false, cond, not, ◌&&◌, Option, Some, None, Result, Ok, Err, refl, sym, ap, subst}
+use Rattle.std.proofs.Common.{◌≡◌, ℕ, ℤ, ◌==◌, ◌∙◌, List, [], ◌∷◌, ◌++◌, length, slice_get, Bool, true, false, cond, ◌&&◌, Option, Some, None, Ok, Err, refl, sym, ap, subst}
 use Rattle.std.specs.Prelude.{if◌then◌else◌, is_some, unwrap_or}
 use Rattle.std.specs.Str.{bytes_eq}
 use Rattle.std.proofs.lemmas.Bool.{and_parts}
@@ -7,16 +7,14 @@ use Rattle.std.proofs.lemmas.Slice.Eq.{bytes_eq-Decides}
 use Rattle.rio_types.specs.declared.class.ClassDef.{ClassDef}
 use Rattle.rio_types.specs.declared.kind.Kind.TheVariants.{Inline}
 use Rattle.rio_value.specs.declared.value.Part.{Part}
-use Rattle.rio_value.specs.declared.value.Value.{Value, Int, Bits32, Bits64, Bool as Truth, Text, List as Items, Object, Pointed, Null, Back, Opaque, out-Value, map-Value}
+use Rattle.rio_value.specs.declared.value.Value.{Value, out-Value, map-Value}
 use Rattle.rio_value.specs.declared.value.Value.TheOpen.{Value-F}
 use Rattle.rio_value.specs.declared.value.Value.TheOpen as layer
 use Rattle.rio_value.specs.declared.value.Value.TheFolds.{fold-Part, fold_out-Value}
 use Rattle.rio_buffer.specs.Frames.{Step}
-use Rattle.rio_buffer.specs.declared.fault.ObjFault.{ObjFault}
-use Rattle.rio_buffer.specs.ReaderState.{ReaderState}
 use Rattle.rio_format.specs.Fits.{Fitting, Labels, back_fits, fits, fitting_of, fitting_step, pass, pointed_fits}
 use Rattle.rio_format.specs.Objects.{first_at, only_value, value_at}
-use Rattle.rio_format.specs.Slots.{can_be_put, kinded}
+use Rattle.rio_format.specs.Slots.{kinded}
 use Rattle.rio_state.specs.Contents.{can_be_stored, is_padding, object_in, stored_in}
 use Rattle.rio_state.specs.KeyedRecords.{KeyedRecord, record_data}
 use Rattle.rio_step.specs.Refusing.{object_class}

@@ -1,5 +1,5 @@
 -- A record that the file itself needs changes nothing of what its records stand for.
-use Rattle.std.proofs.Common.{◌≡◌, ◌↔◌, ℕ, ◌∙◌, List, [], ◌∷◌, ◌++◌, codes, Bool, true, false, not, ◌&&◌, ◌||◌, ◌==◌, Option, Some, None, refl, sym, ap, subst}
+use Rattle.std.proofs.Common.{◌≡◌, ◌↔◌, ℕ, ◌∙◌, List, [], ◌∷◌, ◌++◌, codes, Bool, true, false, not, ◌||◌, ◌==◌, Option, Some, refl, sym, ap, subst}
 use Rattle.std.specs.Prelude.{if◌then◌else◌, is_some, option_and_then}
 use Rattle.std.specs.FinMap.{get-empty}
 use Rattle.std.specs.List.{Contains, find, list_all}
@@ -8,7 +8,7 @@ use Rattle.std.proofs.lemmas.Bool.{and_from, and_left, and_parts, and_right}
 use Rattle.rio_types.specs.declared.class.ClassDef.{ClassDef}
 use Rattle.rio_key.specs.declared.head.KeyHead.{KeyHead}
 use Rattle.rio_chain.proofs.Keys.{spelled_one}
-use Rattle.rio_chain.specs.Segments.{IsChain, IsFirst, IsRecord, Link, RecordAt}
+use Rattle.rio_chain.specs.Segments.{IsFirst, IsRecord, RecordAt}
 use Rattle.rio_chain.specs.Changes.{with_record}
 use Rattle.rio_machine.specs.State.{State, Tree, empty_state, item_order, name_order}
 use Rattle.rio_state.specs.Closing.{item_heads, kept_count, kept_in, name_in, KeptRecords}
@@ -16,7 +16,7 @@ use Rattle.rio_state.specs.Contents.{tree_of}
 use Rattle.rio_state.specs.DirectoryKeys.{AreKeysOf}
 use Rattle.rio_state.specs.KeyedRecords.{KeyedRecord, first_place, has_info_name, info_key, is_elsewhere, is_in_directory, is_info_key, is_internal, is_top_key, keyed_records, later_info, top_keys, tree_records}
 use Rattle.rio_state.specs.Reads.{AreRecordsOf, StandsForState}
-use Rattle.rio_effect.specs.Laws.{EmptyIsRead, InternalStays, KeysStay, NeedStays, ReadsAsEmpty, keyed_bytes}
+use Rattle.rio_effect.specs.Laws.{EmptyIsRead, InternalStays, KeysStay, NeedStays, keyed_bytes}
 use Rattle.rio_effect.specs.More.{HasOneMoreIn}
 use Rattle.rio_effect.proofs.Insertion.{all_more, filter_same}
 use Rattle.rio_effect.proofs.MoreRecords.{first_stays, keyed_link, own_key, record_more, records_more}

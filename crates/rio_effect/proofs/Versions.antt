@@ -1,8 +1,8 @@
 -- The objects of a value that fits have versions that can be written.
-use Rattle.std.proofs.Common.{◌≡◌, ◌==◌, ℕ, ℤ, pos, int_le, List, [], ◌∷◌, ◌++◌, length, map, codes, Bool, true, false, cond, ◌&&◌, Option, Some, None, refl, sym, ap, subst, ◌∙◌}
-use Rattle.std.specs.Prelude.{IsTrue, if◌then◌else◌, is_some}
+use Rattle.std.proofs.Common.{◌≡◌, ◌==◌, ℕ, ℤ, pos, int_le, List, [], ◌∷◌, ◌++◌, length, map, codes, Bool, true, false, cond, ◌&&◌, Option, Some, None, refl, sym, ap, ◌∙◌}
+use Rattle.std.specs.Prelude.{if◌then◌else◌, is_some}
 use Rattle.std.specs.List.{list_all}
-use Rattle.std.specs.Option.{option_and_then, option_map}
+use Rattle.std.specs.Option.{option_map}
 use Rattle.std.specs.Ordering.{int_eq}
 use Rattle.std.specs.Str.{bytes_eq}
 use Rattle.std.proofs.lemmas.Bool.{and_from}
@@ -10,7 +10,7 @@ use Rattle.std.proofs.lemmas.Bool.Decides.{Decides-int_eq}
 use Rattle.rio_types.specs.Classes.{find_in}
 use Rattle.rio_types.specs.declared.class.ClassDef.{ClassDef}
 use Rattle.rio_types.specs.declared.kind.Kind.TheVariants.{Plain, Counter, Fixed, Counted, Text as Texted, Inline, Pointer, Other}
-use Rattle.rio_value.specs.declared.value.Value.{Value, Int, Bits32, Bits64, Bool as Truth, Text, List as Items, Object, Pointed, Null, Back, Opaque}
+use Rattle.rio_value.specs.declared.value.Value.{Value, List as Items, Object, Pointed}
 use Rattle.rio_value.specs.declared.value.Part.{Part}
 use Rattle.rio_value.specs.declared.value.Value.TheFolds.{fold-Part, fold_out-Part}
 use Rattle.rio_format.specs.declared.shape.Shape.{Shape as Form}
@@ -18,7 +18,7 @@ use Rattle.rio_format.specs.declared.shape.Shape.TheVariants.{Bare as bare, Numb
 use Rattle.rio_format.specs.Bodies.{Body, Counters, described, form_of, listed, arrayed}
 use Rattle.rio_format.specs.Fits.{Fitting, Labels, all_fit, counted_slot, counted_so_far, fields_fit, fits, fitting_of, fitting_step, link_fits, list_fits, may_point, object_may_stand, parts_fit, pointed_fits}
 use Rattle.rio_format.specs.Laws.{has_versions, versions_step}
-use Rattle.rio_format.specs.Slots.{Field, Slot, body_fields, declared_body, fields_of, form_fields, kinded, based, flags, any_pointer, link, many}
+use Rattle.rio_format.specs.Slots.{Field, Slot, body_fields, fields_of, form_fields, kinded, based, flags, any_pointer, link, many}
 use Rattle.rio_format.proofs.Tests.{both_true}
 use Rattle.rio_format.proofs.ValueCases.{Each, by_cases, fold_Int, fold_Bits32, fold_Bits64, fold_Bool, fold_Text, fold_List, fold_Object, fold_Pointed, fold_Null, fold_Back, fold_Opaque}
 use Rattle.rio_format.proofs.WrittenLists.{fittings}

@@ -1,7 +1,7 @@
 -- What is written for a value is as long wherever it starts.
-use Rattle.std.proofs.Common.{◌≡◌, ℕ, zero, suc, ◌+◌, ◌-◌, ◌^◌, ◌<◌, ◌≤◌, ℤ, pos, Bool, true, false, cond, eqb, ◌||◌, codes, List, [], ◌∷◌, ◌++◌, length, map, nat_eq, Option, Some, None, refl, sym, ap, subst, ◌∙◌, arith}
+use Rattle.std.proofs.Common.{◌≡◌, ℕ, ◌+◌, ◌-◌, ◌^◌, ◌<◌, ◌≤◌, ℤ, pos, Bool, true, false, cond, eqb, ◌||◌, codes, List, [], ◌∷◌, ◌++◌, length, map, nat_eq, Option, Some, None, refl, sym, ap, subst, ◌∙◌, arith}
 use Rattle.std.proofs.lemmas.Bool.{ne_eqb}
-use Rattle.std.proofs.lemmas.List.{length-append, length-map}
+use Rattle.std.proofs.lemmas.List.{length-append}
 use Rattle.std.specs.List.{find, list_any}
 use Rattle.std.specs.Prelude.{slice_index}
 use Rattle.std.specs.Int.{w16, cast_unsigned}
@@ -167,7 +167,7 @@ class_long class p q t u h = by (find (λ e. bytes_eq e.1 class) t.names) (find 
     by None None l r = record { long = refl; alike = named_alike class p q (length (big_bytes 4 (2 ^ 32 - 1) ++ (class ++ 0 ∷ []))) t u some h }
     by None (Some y) l r = let a = not_named class t.names l in let b = named_found class u.names y r in let c = h.same class in absurd cc
     by (Some x) None l r = let a = named_found class t.names x l in let b = not_named class u.names r in let c = h.same class in absurd cc
-    by (Some x) (Some y) l r = just_long (big_bytes 4 (x.0 + (2 ^ 31 + 2))) (big_bytes 4 (y.0 + (2 ^ 31 + 2))) (word_long _ _) p q t u h
+    by (Some x) (Some y) l r = just_long (big_bytes 4 (x.0 + (2 ^ 31 + 2))) (big_bytes 4 (y.0 + (2 ^ 31 + 2))) (word_long (x.0 + (2 ^ 31 + 2)) (y.0 + (2 ^ 31 + 2))) p q t u h
 
 labelled_long : (i j : ℕ) (f : Writer) → IsSteady f → WriteAsLong (labelled i f) (labelled j f)
 labelled_long i j f steady p q t u h = steady p q (with_label t i) (with_label u j) (record { left = h.left; right = h.right; same = h.same })
@@ -318,7 +318,7 @@ module _ (classes : List ClassDef) where
     pointed = λ label object known. as_layer (Pointed label object) _ (fold_Pointed (writing_step classes) (λ p. p.value) label object) (λ slot. pointed_long (writing_of classes object) known);
     null = as_layer Null _ (fold_Null (writing_step classes) (λ p. p.value)) (λ slot. just_steady _);
     back = λ label. as_layer (Back label) _ (fold_Back (writing_step classes) (λ p. p.value) label)
-        (λ slot p q t u h. just_long (big_bytes 4 (slice_index t.labels label + 2)) (big_bytes 4 (slice_index u.labels label + 2)) (word_long _ _) p q t u h);
+        (λ slot p q t u h. just_long (big_bytes 4 (slice_index t.labels label + 2)) (big_bytes 4 (slice_index u.labels label + 2)) (word_long (slice_index t.labels label + 2) (slice_index u.labels label + 2)) p q t u h);
     opaque = λ class len. as_layer (Opaque class len) _ (fold_Opaque (writing_step classes) (λ p. p.value) class len) (λ slot. just_steady _);
   })
 

@@ -1,6 +1,6 @@
 -- What a record more in the chain of a file makes of what the file reads as, of the keys that are kept beside it, and of what
 -- its close needs.
-use Rattle.std.specs.Prelude.{◌≡◌, ◌<◌, ℕ, ◌+◌, ◌^◌, List, [], ◌∷◌, ◌++◌, drop, length, true, false, Option, Some, None, Ok}
+use Rattle.std.specs.Prelude.{◌≡◌, ◌<◌, ℕ, ◌+◌, ◌^◌, List, [], ◌∷◌, drop, length, true, false, Option, Some, None, Ok}
 use Rattle.std.specs.FinMap.{get}
 use Rattle.std.specs.List.{Contains, find}
 use Rattle.rio_num.specs.Word.{is_item_text}

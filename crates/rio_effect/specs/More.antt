@@ -1,9 +1,8 @@
 -- What is one more: a record among others, and a key among those that a close lists.
-use Rattle.std.specs.Prelude.{◌≡◌, ◌≤◌, ℕ, ◌+◌, List, ◌∷◌, ◌++◌, length}
+use Rattle.std.specs.Prelude.{◌≡◌, ◌≤◌, ◌+◌, List, ◌∷◌, ◌++◌, length}
 use Rattle.rio_key.specs.Written.{written_key}
 use Rattle.rio_key.specs.declared.head.KeyHead.{KeyHead}
-use Rattle.rio_state.specs.Closing.{KeptRecords, close_need, closing_lengths, free_length, list_length, padded_length}
-use Rattle.rio_state.specs.KeyedRecords.{KeyedRecord}
+use Rattle.rio_state.specs.Closing.{KeptRecords, close_need, free_length, list_length, padded_length}
 
 -- the second list is the first with one more in it
 pub record HasOneMoreIn {A : Type 0} (old new : List A) (x : A) : Type 0 where
