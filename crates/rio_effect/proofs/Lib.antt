@@ -19,4 +19,3 @@ pub mod SavedPuts
 pub mod Stays
 pub mod Versions
 pub mod WrittenLengths
-pub mod WrittenRecords

@@ -24,7 +24,7 @@ use Rattle.rio_effect.proofs.Insertion.{all_more, filter_more}
 use Rattle.rio_effect.proofs.MoreRecords.{record_more}
 use Rattle.rio_effect.proofs.ObjectStands.{IsNewObject, object_stands}
 use Rattle.rio_effect.proofs.PutClasses.{IsObjectClass}
-use Rattle.rio_effect.proofs.PutObject.{IsAccepted, accepted, object_read, own_class, put_key_read, put_record}
+use Rattle.rio_effect.proofs.PutObject.{IsAccepted, accepted, object_read, own_class, new_record, put_record}
 use Rattle.rio_effect.proofs.SavedPuts.{puts_ignore_pending}
 use Rattle.rio_effect.proofs.Stays.{info_same}
 
@@ -77,7 +77,7 @@ module _ (links : List Link) (m : State) (place datime : ℕ) (name : List ℕ) 
 
   pub put_more : HasOneMoreIn old new r
   unfolding object_record
-  put_more = record_more links place r.bytes r.head (put_key_read m place datime name v ok are named low soon)
+  put_more = record_more links place r.bytes r.head ((new_record m place datime name v ok are named low soon).key_read place)
 
   pub put_key : IsObjectKey r.head
   put_key = is_object_key r.head refl (own_class m place datime name v ok are named) ok.free

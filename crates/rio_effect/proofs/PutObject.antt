@@ -5,7 +5,6 @@ use Rattle.std.specs.List.{list_all}
 use Rattle.std.specs.Option.{option_map_or}
 use Rattle.std.proofs.lemmas.Bool.{and_from, lt-ltb, ltb-false}
 use Rattle.std.proofs.lemmas.List.{length-replicate}
-use Rattle.rio_num.specs.Room.{padding}
 use Rattle.rio_num.specs.Text.{long_form, short_form, text_bytes}
 use Rattle.rio_num.specs.Word.{is_item_text}
 use Rattle.rio_types.specs.declared.class.ClassDef.{ClassDef}
@@ -23,7 +22,9 @@ use Rattle.rio_machine.specs.Limits.{cycle_limit, data_length, has_long_list, is
 use Rattle.rio_machine.specs.State.{State, names_tree, next_cycle}
 use Rattle.rio_machine.specs.declared.command.Command.TheVariants.{Put}
 use Rattle.rio_machine.specs.declared.refusal.Refusal.TheVariants.{BadName, NameIsTree, NoSuchClass, CycleLimit, TooLarge, TooDeep, TooMany}
-use Rattle.rio_record.specs.Record.{FitsWords, key_size, new_key, padded_size, record_bytes, unpadded}
+use Rattle.rio_record.specs.Record.{FitsWords, key_size, new_key, padded_size, record_bytes}
+use Rattle.rio_record.proofs.Records.{are_new_records}
+use Rattle.rio_record.specs.Laws.{IsNewRecord}
 use Rattle.rio_record.specs.declared.words.KeyWords.{KeyWords}
 use Rattle.rio_state.specs.Contents.{can_be_stored, is_padding, object_in, stored_in}
 use Rattle.rio_state.specs.KeyedRecords.{KeyedRecord, record_data}
@@ -32,11 +33,9 @@ use Rattle.rio_step.proofs.FitStays.{true_from_not, unrefused_fit}
 use Rattle.rio_step.specs.Refusing.{FullMark, goes_too_deep, has_too_many, is_at_last_cycle, is_list_name, is_too_large, is_tree_name, lacks_class, object_class, put_value, refusal_of, refusals}
 use Rattle.rio_effect.specs.Laws.{KeyIsRead, PutWordsFit}
 use Rattle.rio_effect.specs.ObjectRecord.{data_of_put, words_of_put}
-use Rattle.rio_effect.proofs.MoreRecords.{key_is_read}
 use Rattle.rio_effect.proofs.PutClasses.{IsObjectClass, object_class_is, short_item, versions_in_range}
 use Rattle.rio_effect.proofs.Versions.{fits_in_versions}
 use Rattle.rio_effect.proofs.WrittenLengths.{written_length}
-use Rattle.rio_effect.proofs.WrittenRecords.{IsWritten, written_record}
 
 -- ---- what an accepted put knows
 
@@ -103,11 +102,10 @@ zeros_pass : (n : ℕ) → list_all (λ b. b == 0) (replicate n 0) ≡ true
 zeros_pass zero = refl
 zeros_pass (suc n) = zeros_pass n
 
-pads : (bytes : List ℕ) → is_padding (padding bytes) ≡ true
-pads bytes =
-    let n = (4 - length bytes % 4) % 4 in
+pads : (n : ℕ) → n < 4 → is_padding (replicate n 0) ≡ true
+pads n few =
     let long = length-replicate {A = ℕ} n 0 in
-    and_from _ _ (lt-ltb _ _ (omega (arith, long))) (zeros_pass n)
+    and_from _ _ (lt-ltb _ _ (omega (arith, long, few))) (zeros_pass n)
 
 text_long : (text : List ℕ) → length text ≤ 100 → length (text_bytes text) ≤ 101
 text_long text le = by (ltb (length text) 255) refl
@@ -160,14 +158,11 @@ module _ (m : State) (place datime : ℕ) (name : List ℕ) (v : Value) (ok : Is
       whole = omega (arith, key_short, data_short);
     }
 
-    whole : IsWritten words contents
-    whole = written_record words contents words_fit
-
-    pub put_key_read : KeyIsRead place (record_bytes words contents) (new_key words (length contents))
-    put_key_read = key_is_read place (record_bytes words contents) (new_key words (length contents)) whole.key
+    pub new_record : IsNewRecord words contents
+    new_record = are_new_records words contents words_fit
 
     abbrev zeros : List ℕ
-    zeros = padding (unpadded words contents)
+    zeros = replicate new_record.zeros 0
 
     abbrev pub put_record : KeyedRecord
     put_record = record { head = new_key words (length contents); bytes = record_bytes words contents }
@@ -181,7 +176,7 @@ module _ (m : State) (place datime : ℕ) (name : List ℕ) (v : Value) (ok : Is
     stored : (bytes : List ℕ) (s : ReaderState) → s.at.rest ≡ zeros → bytes ≡ contents ++ zeros → first_at m.classes class keylen (contents ++ zeros) ≡ Ok (value, s)
         → stored_in m.classes put_record (first_at m.classes class keylen bytes) ≡ Some value
     stored bytes s rest is read =
-        let padded : is_padding s.at.rest ≡ true = ap is_padding rest ∙ pads (unpadded words contents) in
+        let padded : is_padding s.at.rest ≡ true = ap is_padding rest ∙ pads new_record.zeros new_record.few in
         let short : is_too_long (padded_size keylen (length contents)) ≡ false = ap is_too_long same_length ∙ ok.short in
         let fit = and_from _ _ ok.fit ok.taken in
         let long = and_from _ _ fit (ap not short) in
@@ -196,7 +191,7 @@ module _ (m : State) (place datime : ℕ) (name : List ℕ) (v : Value) (ok : Is
     unfolding object_in
     object_read =
         let read = spelled_is_read m.classes class keylen value contents zeros spelled in
-        stored (record_data put_record) read.0 read.2 whole.behind read.1
+        stored (record_data put_record) read.0 read.2 new_record.contents_are read.1
 
 pub put_words_fit : PutWordsFit
 put_words_fit m place datime name v mark low soon are named e = words_fit m place datime name v (accepted m name v mark e) are named low soon
