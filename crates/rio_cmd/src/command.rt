@@ -1,8 +1,6 @@
-//! The command of one line, by its first word. Each verb's own reader begins behind the verb and reads up to the end of the
-//! line.
+//! The command of one line, by its first word.
 ghost use Rattle.std.specs.Prelude.{◌≡◌};
 ghost use Rattle.rio_token.specs.Reading.{Reads};
-ghost use Rattle.rio_token.specs.Tokens.{behind};
 ghost use Rattle.rio_step.specs.Script.{cycle_at, ended_at, put_command_at};
 ghost use Rattle.rio_cmd.specs.Built.{built_command_at, built_get_at};
 
@@ -12,7 +10,8 @@ use rio_token::{TextFault, Tokens};
 use rio_valtext::take_value;
 use std::alloc::Global;
 
-/// The command that the tokens of a line spell. `BadText` names the first token that can't stand there.
+/// The command that the tokens of a line spell, up to its end. `BadText` names the first token that can't
+/// stand there. Each verb has a reader of its own, which begins behind the verb.
 #[tactic(auto, unfolding(crate::specs::Built::built_command_at))]
 pub(crate) fn read_command(alloc: Global, tokens: &mut Tokens) -> Result<Command, TextFault>
     ensures { Reads (λ c. c) result (built_command_at tokens.old) tokens.new }

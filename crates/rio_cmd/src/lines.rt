@@ -1,5 +1,5 @@
-//! The lines of a text. They end with a line feed, before which one carriage return is dropped; the last one may lack it.
-ghost use Rattle.std.specs.Prelude.{◌≡◌, ◌+◌, ◌<◌, ◌≤◌, ◌↔◌, [], ◌∷◌, ◌==◌, length, position, IsNone, IfSome};
+//! The lines of a text, and which of them are commands.
+ghost use Rattle.std.specs.Prelude.{◌≡◌, ◌<◌, ◌≤◌, ◌↔◌, [], ◌∷◌, ◌==◌, length, position, IsNone, IfSome};
 ghost use Rattle.std.specs.Str.Lines.{lines, strip_carriage_return};
 ghost use Rattle.rio_step.specs.Script.{is_command_line};
 
@@ -29,7 +29,8 @@ fn without_carriage_return(line: &[u8]) -> &[u8]
     }
 }
 
-/// The first line of a text, and what stands behind it. An empty text has no lines.
+/// The first line of a text, and what stands behind it. A line ends with a line feed, before which one
+/// carriage return is dropped; the last one may lack it. An empty text has no lines.
 pub(crate) fn split_line(bytes: &[u8]) -> Option<(&[u8], &[u8])>
     ensures none { IsNone result ↔ (bytes.now ≡ []) }
     ensures lines { IfSome result (λ parts. lines bytes.now ≡ parts.0.now ∷ lines parts.1.now) }

@@ -9,10 +9,10 @@ use rio_num::NoMemory;
 use rio_token::{TextFault, Tokens};
 use std::alloc::Global;
 
-/// The commands of a script: one for each line but the empty ones and those that begin with `#`. Lines end with a line
-/// feed, before which one carriage return is dropped; the last one may lack it. They are counted from 1. A line that is no
-/// command gives `Bad` with its number and the place of the first token that can't stand there, counted from 0, or the
-/// line's length where it ends too early.
+/// The commands of a script: one for each line but the empty ones and those that begin with `#`. Lines
+/// end with a line feed, before which one carriage return is dropped; the last one may lack it. They are
+/// counted from 1. A line that is no command gives `Bad` with its number and the place of the first token
+/// that can't stand there, counted from 0, or the line's length where it ends too early.
 pub fn read_script(alloc: Global, bytes: &[u8]) -> Result<Commands, NoMemory>
     requires { length bytes.now < 2 ^ 32 }
     ensures { IfOk result (λ commands. commands ≡ built_script bytes.now) }

@@ -56,13 +56,12 @@ fn commands_of(alloc: Global, script: &[u8]) -> Result<Bytes, NoMemory> {
 
 #[test]
 fn reads_scripts(rt: HostRuntime) -> Result<(), Fail> {
-    let stored =
-        b"put s TObjString{TObject{fUniqueID: 0, fBits: 0}, fString: \"hi\"}\nget s\nget s;2\nls";
-    let printed =
-        b"put s TObjString#0{TObject#0{fUniqueID: 0, fBits: 0}, fString: \"hi\"}\nget s\nget s;2\nls\n";
-    let table: [(&[u8], &[u8]); 9] = [
+    let stored = b"put s TObjString{TObject{fUniqueID: 0, fBits: 0}, fString: \"hi\"}";
+    let printed = b"put s TObjString#0{TObject#0{fUniqueID: 0, fBits: 0}, fString: \"hi\"}\n";
+    let table: [(&[u8], &[u8]); 10] = [
         (b"put s TObjString{\n\nfrob x\n", b"bad 1 17\nbad 3 0\n"),
         (stored, printed),
+        (b"get s\nget s;2\nls", b"get s\nget s;2\nls\n"),
         (b"get s as 2\nclass A 1 { }\n", b"bad 1 6\nbad 2 0\n"),
         (b"put s 5 x\nget s;007\n", b"bad 1 8\nbad 2 6\n"),
         (
