@@ -7,13 +7,9 @@ ghost use Rattle.rio_chain.specs.Stops.{Any, BodyThenWord, IsBodyBehind, IsWordO
 
 use rio_host::{Failed, Host};
 
-// Writes bytes behind the word at `place`, and then, with them on the disk, the word.
-pub(crate) fn put_behind<H: Host>(
-    host: &mut H,
-    place: u64,
-    tail: &[u8],
-    word: u32,
-) -> Result<(), Failed>
+/// Writes bytes behind the word at `place`, and then, with them on the disk, the word. Failed comes only where a call on the
+/// file failed.
+pub fn put_behind<H: Host>(host: &mut H, place: u64, tail: &[u8], word: u32) -> Result<(), Failed>
     requires within { IsWithin (H.view host.old) (place + 4) }
     requires aligned { place % 4 ≡ 0 }
     requires quiet { IsQuiet (H.view host.old) }
@@ -39,8 +35,9 @@ pub(crate) fn put_behind<H: Host>(
     host.sync()
 }
 
-// Writes the word at `place`, with nothing behind it.
-pub(crate) fn put_word<H: Host>(host: &mut H, place: u64, word: u32) -> Result<(), Failed>
+/// Writes the word at `place`, with nothing behind it, and brings it to the disk. Failed comes only where a call on the file
+/// failed.
+pub fn put_word<H: Host>(host: &mut H, place: u64, word: u32) -> Result<(), Failed>
     requires within { IsWithin (H.view host.old) place }
     requires aligned { place % 4 ≡ 0 }
     requires quiet { IsQuiet (H.view host.old) }
