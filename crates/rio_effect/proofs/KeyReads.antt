@@ -20,10 +20,10 @@ use Rattle.rio_effect.proofs.MoreRecords.{keyed_link, own_key}
 use Rattle.rio_effect.proofs.ReadClasses.{object_is_read}
 
 -- the record stands at the place of its key
-record Placed (links : List Link) (r : KeyedRecord) : Type 0 where
-  there : In (RecordAt r.head.seek r.bytes) links
-  whole : IsRecord r.head.seek r.bytes
-  key : whole.head ≡ r.head
+pub record Placed (links : List Link) (r : KeyedRecord) : Type 0 where
+  pub there : In (RecordAt r.head.seek r.bytes) links
+  pub whole : IsRecord r.head.seek r.bytes
+  pub key : whole.head ≡ r.head
 
 placed_later : (l : Link) (links : List Link) (r : KeyedRecord) → Placed links r → Placed (l ∷ links) r
 placed_later l links r p = record { there = inr p.there; whole = p.whole; key = p.key }
@@ -39,7 +39,7 @@ own_placed place bytes links w = record {
   key = refl;
 }
 
-placed : (file : List ℕ) (place : ℕ) (links : List Link) → HoldsLinks file place links → (r : KeyedRecord) → In r (keyed_records links) → Placed links r
+pub placed : (file : List ℕ) (place : ℕ) (links : List Link) → HoldsLinks file place links → (r : KeyedRecord) → In r (keyed_records links) → Placed links r
 placed file place [] holds r i = absurd i
 placed file place (RecordAt q bytes ∷ links) holds r i =
     let w = holds.0.1.whole in

@@ -1,4 +1,6 @@
 pub mod FreeItems
+pub mod Fronts
+pub mod Held
 pub mod Insertion
 pub mod KeyReads
 pub mod KeyRecords
@@ -16,6 +18,7 @@ pub mod PutKeys
 pub mod PutObject
 pub mod ReadClasses
 pub mod SavedPuts
+pub mod StateNeeds
 pub mod Stays
 pub mod Versions
 pub mod WrittenLengths

@@ -1,5 +1,5 @@
 -- A record that is put is one more among the records of a file.
-use Rattle.std.proofs.Common.{◌≡◌, ℕ, ◌+◌, ◌-◌, ◌∙◌, List, [], ◌∷◌, length, Bool, true, false, ◌==◌, Option, Some, None, refl, sym, ap, subst, arith}
+use Rattle.std.proofs.Common.{◌≡◌, ℕ, ◌+◌, ◌-◌, ◌∙◌, List, [], ◌∷◌, length, map, Bool, true, false, ◌==◌, Option, Some, None, refl, sym, ap, subst, arith}
 use Rattle.std.specs.Prelude.{if◌then◌else◌}
 use Rattle.std.specs.List.{cons_option}
 use Rattle.rio_key.specs.Key.{key_at, value_of}
@@ -7,10 +7,11 @@ use Rattle.rio_key.specs.Spelling.{IsSpelledIn, SpellsKey}
 use Rattle.rio_key.specs.declared.head.KeyHead.{KeyHead}
 use Rattle.rio_key.proofs.KeyAgain.{key_again, standing}
 use Rattle.rio_chain.specs.Changes.{with_record, with_rest}
-use Rattle.rio_chain.specs.Segments.{GapAt, IsRecord, Link, RecordAt}
+use Rattle.rio_chain.specs.Placing.{record_count}
+use Rattle.rio_chain.specs.Segments.{GapAt, IsRecord, Link, RecordAt, segment_of}
 use Rattle.rio_state.specs.Closing.{name_in}
 use Rattle.rio_state.specs.KeyedRecords.{KeyedRecord, keyed_records, record_in_link, with_head}
-use Rattle.rio_effect.specs.Laws.{FirstStays, KeyIsRead, RecordMore, keyed_bytes}
+use Rattle.rio_effect.specs.Laws.{CountGrows, FirstStays, KeyIsRead, RecordMore, keyed_bytes}
 use Rattle.rio_effect.specs.More.{HasOneMoreIn}
 use Rattle.rio_effect.proofs.Insertion.{behind}
 
@@ -61,6 +62,21 @@ module _ (place : ℕ) (bytes : List ℕ) (r : KeyedRecord) (is : record_in_link
 
 pub record_more : RecordMore
 record_more links place bytes head e = records_more place bytes (keyed_bytes head bytes) (keyed_link place bytes head e) links
+
+-- one segment more is a record
+pub count_grows : CountGrows
+count_grows [] place bytes = refl
+count_grows (RecordAt p others ∷ links) place bytes = ap (λ (n : ℕ). n + 1) (count_grows links place bytes)
+count_grows (GapAt p n ∷ links) place bytes = by (p == place) (count_grows links place bytes)
+  where
+    left : (b : Bool) (k : ℕ) → record_count (map segment_of (if b then links else GapAt (place + length bytes) k ∷ links)) ≡ record_count (map segment_of links)
+    left true k = refl
+    left false k = refl
+
+    by : (b : Bool) → record_count (map segment_of (with_record place bytes links)) ≡ record_count (map segment_of links) + 1
+        → record_count (map segment_of (if b then RecordAt place bytes ∷ with_rest (place + length bytes) (n - length bytes) links else GapAt p n ∷ with_record place bytes links)) ≡ record_count (map segment_of links) + 1
+    by true rest = ap (λ (k : ℕ). k + 1) (left (n - length bytes == 0) (n - length bytes))
+    by false rest = rest
 
 same_first : (o : Option KeyedRecord) (r : KeyedRecord) (xs ys : List KeyedRecord) → o ≡ Some r → name_in (cons_option o xs) ≡ name_in (cons_option o ys)
 same_first o r xs ys e = ap (λ (x : Option KeyedRecord). name_in (cons_option x xs)) e ∙ sym (ap (λ (x : Option KeyedRecord). name_in (cons_option x ys)) e)

@@ -10,9 +10,11 @@ use Rattle.rio_key.specs.declared.head.KeyHead.{KeyHead}
 use Rattle.rio_dir.proofs.TableOrder.{before_itself}
 use Rattle.rio_dir.specs.Table.{AreBehind, AreOrdered, comes_before}
 use Rattle.rio_machine.specs.Limits.{head_length}
+use Rattle.rio_machine.specs.State.{State}
 use Rattle.rio_state.specs.Closing.{item_heads, kept_count, kept_in, name_in}
+use Rattle.rio_state.specs.DirectoryKeys.{AreKeysOf}
 use Rattle.rio_state.specs.KeyedRecords.{KeyedRecord, has_item, info_key, is_tree_key, is_tree_record, item_of_key, keyed_records, object_records, top_keys, tree_records}
-use Rattle.rio_state.specs.Reads.{are_distinct}
+use Rattle.rio_state.specs.Reads.{AreRecordsOf, are_distinct}
 use Rattle.rio_effect.specs.Laws.{NeedByKeys}
 use Rattle.rio_effect.specs.More.{HasOneMoreIn}
 use Rattle.rio_effect.proofs.Insertion.{behind, here}
@@ -52,9 +54,9 @@ module _ {A : Type 0} where
         apart = (λ j. a.0 (in_still t.rest ys x t.more y j), t.apart);
       }
 
-  record SameSums (f : A → ℕ) (xs ys : List A) : Type 0 where
-    sum : sum_by f xs ≡ sum_by f ys
-    long : length xs ≡ length ys
+  pub record SameSums (f : A → ℕ) (xs ys : List A) : Type 0 where
+    pub sum : sum_by f xs ≡ sum_by f ys
+    pub long : length xs ≡ length ys
 
   same_sums : (f : A → ℕ) (xs ys : List A) → Apart xs → Apart ys → ((x : A) → In x xs → In x ys) → ((x : A) → In x ys → In x xs) → SameSums f xs ys
   same_sums f [] [] a b into back = record { sum = refl; long = refl }
@@ -121,13 +123,18 @@ items_apart tops d =
 counted_same : (info : Option KeyedRecord) (a b : List KeyHead) → length a ≡ length b → kept_count info a ≡ kept_count info b
 counted_same info a b e = ap (λ (n : ℕ). 1 + option_map_or (λ r. 1) info 0 + n) e
 
+-- the keys beside a file are those of its items, each once
+pub items_same : (records : List KeyedRecord) (heads : List KeyHead) (m : State) → AreKeysOf records heads → AreRecordsOf records m → (f : KeyHead → ℕ) → SameSums f heads (item_heads (top_keys records))
+items_same records heads m are is f =
+    same_sums f heads (item_heads (top_keys records)) (heads_apart heads are.ordered) (items_apart (top_keys records) is.stand.distinct) (heads_in records heads are) (items_in records heads are)
+
 pub need_by_keys : NeedByKeys
 unfolding kept_in
 need_by_keys links heads m are is =
     let records = keyed_records links in
     let tops = top_keys records in
     let front = head_length (codes "TFile") (name_in records) in
-    let same = same_sums (λ (h : KeyHead). length (written_key h)) heads (item_heads tops) (heads_apart heads are.ordered) (items_apart tops is.stand.distinct) (heads_in records heads are) (items_in records heads are) in
+    let same = items_same records heads m are is (λ (h : KeyHead). length (written_key h)) in
     let count = counted_same (info_key records) heads (item_heads tops) same.long in
     let sum = same.sum in
     λ i. (front + 4 + sum i) ∷ (front + 10 * (count i + 2)) ∷ []

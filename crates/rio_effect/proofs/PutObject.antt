@@ -1,5 +1,5 @@
 -- The record of an object that a put adds holds the object.
-use Rattle.std.proofs.Common.{◌≡◌, ℕ, zero, suc, ◌-◌, ◌%◌, ◌^◌, ◌<◌, ◌≤◌, ◌∙◌, List, [], ◌++◌, length, replicate, Bool, true, false, cond, not, ltb, ◌||◌, ◌==◌, Option, Some, None, Ok, refl, ap, arith}
+use Rattle.std.proofs.Common.{◌≡◌, ℕ, zero, suc, ◌^◌, ◌<◌, ◌≤◌, ◌∙◌, List, [], ◌++◌, length, replicate, Bool, true, false, cond, not, ltb, ◌||◌, ◌==◌, Option, Some, None, Ok, refl, ap, arith}
 use Rattle.std.specs.Prelude.{if◌then◌else◌, unwrap_or}
 use Rattle.std.specs.List.{list_all}
 use Rattle.std.specs.Option.{option_map_or}
@@ -31,7 +31,7 @@ use Rattle.rio_state.specs.KeyedRecords.{KeyedRecord, record_data}
 use Rattle.rio_step.proofs.ApartLaws.{none_at, not_refused}
 use Rattle.rio_step.proofs.FitStays.{true_from_not, unrefused_fit}
 use Rattle.rio_step.specs.Refusing.{FullMark, goes_too_deep, has_too_many, is_at_last_cycle, is_list_name, is_too_large, is_tree_name, lacks_class, object_class, put_value, refusal_of, refusals}
-use Rattle.rio_effect.specs.Laws.{KeyIsRead, PutWordsFit}
+use Rattle.rio_effect.specs.Laws.{PutWordsFit}
 use Rattle.rio_effect.specs.ObjectRecord.{data_of_put, words_of_put}
 use Rattle.rio_effect.proofs.PutClasses.{IsObjectClass, object_class_is, short_item, versions_in_range}
 use Rattle.rio_effect.proofs.Versions.{fits_in_versions}
@@ -133,7 +133,7 @@ module _ (m : State) (place datime : ℕ) (name : List ℕ) (v : Value) (ok : Is
   pub own_class : IsObjectClass class
   own_class = object_class_is m.classes class are ok.taken
 
-  key_short : keylen ≤ 229
+  pub key_short : keylen ≤ 229
   key_short =
       let one = text_long class own_class.short in
       let two = text_long name (short_item name named) in

@@ -1,26 +1,35 @@
 -- What a record more in the chain of a file makes of what the file reads as, of the keys that are kept beside it, and of what
 -- its close needs.
-use Rattle.std.specs.Prelude.{◌≡◌, ◌<◌, ℕ, ◌+◌, ◌^◌, List, [], ◌∷◌, drop, length, true, false, Option, Some, None, Ok}
-use Rattle.std.specs.FinMap.{get}
-use Rattle.std.specs.List.{Contains, find}
+use Rattle.std.specs.Prelude.{◌≡◌, ◌<◌, ◌≤◌, ℕ, ◌+◌, ◌^◌, List, [], ◌∷◌, drop, length, map, true, false, Option, Some, None, Ok, unwrap_or}
+use Rattle.std.specs.FinMap.{entries, get}
+use Rattle.std.specs.List.{Contains, find, sum_by}
+use Rattle.std.specs.Option.{option_map_or}
 use Rattle.rio_num.specs.Word.{is_item_text}
 use Rattle.rio_value.specs.declared.value.Value.{Value}
 use Rattle.rio_format.specs.Objects.{value_at}
 use Rattle.rio_key.specs.Key.{key_at}
+use Rattle.rio_key.specs.Written.{written_key}
 use Rattle.rio_key.specs.declared.head.KeyHead.{KeyHead}
+use Rattle.rio_head.specs.Form.{is_large_head}
+use Rattle.rio_head.specs.Head.{head_at}
+use Rattle.rio_head.specs.declared.head.FileHead.{FileHead}
 use Rattle.rio_model.specs.StateClasses.{StateClasses}
-use Rattle.rio_machine.specs.State.{State, empty_state, names_tree, next_cycle}
+use Rattle.rio_machine.specs.Limits.{head_length}
+use Rattle.rio_machine.specs.State.{NameAndCycle, State, empty_state, names_tree, next_cycle}
 use Rattle.rio_machine.specs.declared.command.Command.TheVariants.{Put}
 use Rattle.rio_dir.specs.Table.{greatest_cycle, is_at_cycle, with_head}
 use Rattle.rio_chain.specs.Changes.{with_record}
-use Rattle.rio_chain.specs.Segments.{IsChain, IsRecord, Link, RecordAt}
+use Rattle.rio_chain.specs.Placing.{IsPlaceFor, record_count}
+use Rattle.rio_chain.specs.Segments.{IsChain, IsRecord, Link, RecordAt, segment_of}
+use Rattle.rio_chain.specs.Stops.{KeepsFront}
 use Rattle.rio_record.specs.Record.{FitsWords}
-use Rattle.rio_state.specs.Closing.{KeptRecords, closing_lengths, kept_count, kept_in, name_in}
+use Rattle.rio_state.specs.Closing.{KeptRecords, closing_lengths, held_of, kept_count, kept_in, name_in}
 use Rattle.rio_state.specs.DirectoryKeys.{AreKeysOf}
 use Rattle.rio_state.specs.KeyedRecords.{KeyedRecord, info_key, is_internal, is_top_key, is_tree_key, keyed_records}
-use Rattle.rio_state.specs.Reads.{AreRecordsOf}
+use Rattle.rio_state.specs.Reads.{AreRecordsOf, ReadsAsMade, ReadsAsState}
+use Rattle.rio_step.specs.Costs.{cost_of}
 use Rattle.rio_step.specs.ItemKeys.{AreKeysOfState}
-use Rattle.rio_step.specs.Refusing.{FullMark, put_value, refusal_of}
+use Rattle.rio_step.specs.Refusing.{FullMark, object_class, put_value, refusal_of}
 use Rattle.rio_step.specs.Runs.{saved_of}
 use Rattle.rio_step.specs.Step.{state_behind}
 use Rattle.rio_effect.specs.More.{HasOneMoreIn, KeepsOneMore}
@@ -45,6 +54,10 @@ RecordMore = (links : List Link) (place : ℕ) (bytes : List ℕ) (head : KeyHea
 abbrev pub FirstStays : Type 0
 FirstStays = (file : List ℕ) (links : List Link) (place : ℕ) (bytes : List ℕ) → IsChain links file
     → name_in (keyed_records (with_record place bytes links)) ≡ name_in (keyed_records links)
+
+-- and there is one segment more that is a record
+abbrev pub CountGrows : Type 0
+CountGrows = (links : List Link) (place : ℕ) (bytes : List ℕ) → record_count (map segment_of (with_record place bytes links)) ≡ record_count (map segment_of links) + 1
 
 -- ---- what the records stand for
 
@@ -168,3 +181,37 @@ kept_by_keys links heads =
 abbrev pub NeedByKeys : Type 0
 NeedByKeys = (links : List Link) (heads : List KeyHead) (m : State) → AreKeysOf (keyed_records links) heads → AreRecordsOf (keyed_records links) m
     → closing_lengths (kept_by_keys links heads) ≡ closing_lengths (kept_in links)
+
+-- how long the head of an object is in the key list
+abbrev pub listed_length : NameAndCycle × Value → ℕ
+listed_length e = head_length (unwrap_or (object_class e.1) []) e.0.0
+
+-- what a file keeps, by the state that it stands for: a head for each object, and a record for each
+pub record IsKeptOfState (kept : KeptRecords) (info : Option KeyedRecord) (m : State) : Type 0 where
+  pub heads : sum_by (λ h. length (written_key h)) kept.heads ≡ sum_by listed_length (entries m.objects)
+  pub count : kept.count ≡ 1 + option_map_or (λ r. 1) info 0 + length (entries m.objects)
+
+-- a close writes as much by the state (no file has a tree yet)
+abbrev pub NeedOfState : Type 0
+NeedOfState = (file : List ℕ) (links : List Link) (heads : List KeyHead) (m : State) → IsChain links file → AreKeysOf (keyed_records links) heads → AreRecordsOf (keyed_records links) m
+    → IsKeptOfState (kept_in links) (info_key (keyed_records links)) m
+
+-- The record of a put's object, at the place of the rule, raises what the file holds by no more than the put's cost.
+abbrev pub HeldGrows : Type 0
+HeldGrows = (file : List ℕ) (links : List Link) (m : State) (place datime : ℕ) (name : List ℕ) (v : Value) → place < 2 ^ 32 → datime < 2 ^ 32
+    → IsChain links file → IsPlaceFor (map segment_of links) (length (record_of_put m place datime name v)) place
+    → StateClasses m.classes → is_item_text name ≡ true → refusal_of m (Put name v) None ≡ None
+    → held_of (with_record place (record_of_put m place datime name v) links) ≤ held_of links + cost_of m (Put name v)
+
+-- ---- files
+
+-- a file with this header, whose records stand for the state
+pub record ReadsByHead (file : List ℕ) (head : FileHead) (m : State) : Type 0 where
+  pub head_is : head_at file ≡ Ok head
+  pub made : ReadsAsMade file m
+  pub reads : ReadsAsState file m
+
+-- A file that keeps its first 100 bytes keeps its header, and reads as the state that the records of its segments stand for.
+abbrev pub FrontTells : Type 0
+FrontTells = (old new : List ℕ) (before after : List Link) (head : FileHead) (m : State) → IsChain before old → head_at old ≡ Ok head → is_large_head head.version ≡ false
+    → KeepsFront old new → IsChain after new → AreRecordsOf (keyed_records after) m → ReadsByHead new head m

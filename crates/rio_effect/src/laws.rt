@@ -1,11 +1,12 @@
 //! Laws of a record more in the chain of a file.
-ghost use Rattle.rio_effect.specs.Laws.{EmptyIsRead, FirstStays, InternalStays, KeysFollow, KeysHaveRecords, KeysNameObjects, KeysStandForState, KeysStay, KeysTellNextCycle, NeedByKeys, NeedGrows, NeedStays, PutKeyFollows, PutTakesEffect, PutWordsFit, PutsIgnorePending, RecordMore, SavedPutKeyFollows, SavedPutTakesEffect};
+ghost use Rattle.rio_effect.specs.Laws.{CountGrows, EmptyIsRead, FirstStays, FrontTells, HeldGrows, InternalStays, KeysFollow, KeysHaveRecords, KeysNameObjects, KeysStandForState, KeysStay, KeysTellNextCycle, NeedByKeys, NeedGrows, NeedOfState, NeedStays, PutKeyFollows, PutTakesEffect, PutWordsFit, PutsIgnorePending, RecordMore, SavedPutKeyFollows, SavedPutTakesEffect};
 
 /// A record that is put at the place of a gap, or at END, is one more among the records of the file, and the first record
 /// stays the first.
 pub fn record_more()
     ensures more { RecordMore }
     ensures first { FirstStays }
+    ensures count { CountGrows }
 {}
 
 /// A file that has its first record alone reads as the empty state, and has no keys.
@@ -50,9 +51,18 @@ pub fn keys_stand_for_state()
 {}
 
 /// One object more is one more key and one more record of which a close writes, and a record that the file itself needs is
-/// none. The keys that are kept beside a file tell what its close needs.
+/// none. The keys that are kept beside a file tell what its close needs, and so do the state's objects. The record of a put's
+/// object raises what a file holds by no more than the put's cost.
 pub fn need_grows()
     ensures grows { NeedGrows }
     ensures stays { NeedStays }
     ensures keys { NeedByKeys }
+    ensures state { NeedOfState }
+    ensures held { HeldGrows }
+{}
+
+/// A file that keeps its first 100 bytes keeps its header, and reads as the state that the records of its segments stand
+/// for.
+pub fn front_tells()
+    ensures { FrontTells }
 {}

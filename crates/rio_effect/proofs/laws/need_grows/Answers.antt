@@ -1,5 +1,7 @@
+use Rattle.rio_effect.proofs.Held.{held_grows}
 use Rattle.rio_effect.proofs.Needs.{need_grows}
 use Rattle.rio_effect.proofs.NeedsByKeys.{need_by_keys}
+use Rattle.rio_effect.proofs.StateNeeds.{need_of_state}
 use Rattle.rio_effect.proofs.Stays.{need_stays}
 use Rattle.rio_effect.proofs.laws.need_grows.Goals as goal
 
@@ -11,3 +13,9 @@ returns-clause-stays c = need_stays
 
 pub returns-clause-keys : goal.returns-clause-keys
 returns-clause-keys c = need_by_keys
+
+pub returns-clause-state : goal.returns-clause-state
+returns-clause-state c = need_of_state
+
+pub returns-clause-held : goal.returns-clause-held
+returns-clause-held c = held_grows

@@ -1,4 +1,4 @@
-use Rattle.rio_effect.proofs.MoreRecords.{first_stays, record_more}
+use Rattle.rio_effect.proofs.MoreRecords.{count_grows, first_stays, record_more}
 use Rattle.rio_effect.proofs.laws.record_more.Goals as goal
 
 pub returns-clause-more : goal.returns-clause-more
@@ -6,3 +6,6 @@ returns-clause-more c = record_more
 
 pub returns-clause-first : goal.returns-clause-first
 returns-clause-first c = first_stays
+
+pub returns-clause-count : goal.returns-clause-count
+returns-clause-count c = count_grows

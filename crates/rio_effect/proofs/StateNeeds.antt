@@ -1,0 +1,131 @@
+-- What a close needs by the objects of the state.
+use Rattle.std.proofs.Common.{◌≡◌, ◌⊎◌, inl, inr, ℕ, ◌+◌, ◌*◌, ◌≤◌, ◌∙◌, List, [], ◌∷◌, ◌++◌, length, map, Bool, true, false, not, ltb, ◌==◌, refl, sym, ap, subst, arith}
+use Rattle.std.specs.Prelude.{if◌then◌else◌}
+use Rattle.std.specs.FinMap.{entries}
+use Rattle.std.specs.Int.{w32, cast_unsigned}
+use Rattle.std.specs.List.{sum_by}
+use Rattle.std.specs.Option.{option_map_or}
+use Rattle.std.proofs.lemmas.Bool.{and_parts, eqb-true, le-ltb}
+use Rattle.std.proofs.lemmas.List.{length-append, length-map}
+use Rattle.std.proofs.lemmas.List.Sums.{sum_by-cons}
+use Rattle.byteorder.specs.Endian.{big_bytes}
+use Rattle.byteorder.specs.Numbers.{length-bytes_high_first}
+use Rattle.rio_num.specs.Text.{text_bytes}
+use Rattle.rio_value.specs.declared.value.Value.{Value}
+use Rattle.rio_key.specs.Key.{place_len}
+use Rattle.rio_key.specs.Spelling.{number_bytes}
+use Rattle.rio_key.specs.Written.{written_key}
+use Rattle.rio_key.specs.declared.head.KeyHead.{KeyHead}
+use Rattle.rio_chain.specs.Segments.{IsChain, Link}
+use Rattle.rio_machine.specs.Limits.{head_length}
+use Rattle.rio_machine.specs.State.{NameAndCycle, State}
+use Rattle.rio_state.specs.Closing.{item_heads, kept_in}
+use Rattle.rio_state.specs.DirectoryKeys.{AreKeysOf}
+use Rattle.rio_state.specs.KeyedRecords.{KeyedRecord, info_key, is_top_key, is_tree_key, is_tree_record, keyed_records, top_keys}
+use Rattle.rio_state.specs.Reads.{AreRecordsOf, is_named_key}
+use Rattle.rio_step.specs.ItemKeys.{told_by_key}
+use Rattle.rio_step.specs.Step.{Listed, listed_object, object_listed, tree_listed}
+use Rattle.rio_effect.specs.Laws.{NeedOfState, listed_length}
+use Rattle.rio_effect.proofs.KeyReads.{placed}
+use Rattle.rio_effect.proofs.KeyRecords.{ObjectOf, TreeOf, key_record}
+use Rattle.rio_effect.proofs.KeysOfState.{keys_stand}
+use Rattle.rio_effect.proofs.Members.{In, all_at, filter_in}
+use Rattle.rio_effect.proofs.NeedsByKeys.{items_same}
+
+abbrev Told : Type 0
+Told = NameAndCycle × Listed
+
+-- ---- the length of a head
+
+number_length : (n x : ℕ) → length (big_bytes n x) ≡ n
+number_length n x = length-bytes_high_first n x
+
+numbers_length : (h : KeyHead) (nbytes : ℕ) → length (number_bytes h nbytes) ≡ 18 + 2 * place_len h.version
+numbers_length h nbytes = simp (length-append, number_length) (omega arith)
+
+-- a small key without a title
+head_long : (h : KeyHead) → h.version ≤ 1000 → h.title ≡ [] → length (written_key h) ≡ head_length h.class h.name
+head_long h small none =
+    let nbytes = cast_unsigned w32 h.nbytes in
+    let large : ltb 1000 h.version ≡ false = le-ltb 1000 h.version small in
+    let place : place_len h.version ≡ 4 = ap (λ (b : Bool). if b then 8 else 4) large in
+    let numbers = numbers_length h nbytes in
+    let title : length (text_bytes h.title) ≡ length (text_bytes []) = ap (λ (t : List ℕ). length (text_bytes t)) none in
+    let whole = length-append (number_bytes h nbytes) (text_bytes h.class ++ (text_bytes h.name ++ text_bytes h.title)) in
+    let texts = length-append (text_bytes h.class) (text_bytes h.name ++ text_bytes h.title) in
+    let last = length-append (text_bytes h.name) (text_bytes h.title) in
+    omega (arith, whole, texts, last, numbers, place, title)
+
+no_bytes : (xs : List ℕ) → (length xs == 0) ≡ true → xs ≡ []
+no_bytes [] e = refl
+no_bytes (x ∷ xs) e = let zero_long = eqb-true (length (x ∷ xs)) 0 e in absurd (omega (arith, zero_long))
+
+-- ---- sums
+
+-- how long a head is that tells this
+abbrev told_length : Told → ℕ
+told_length t = by t.1
+  where
+    by : Listed → ℕ
+    by (object_listed class) = head_length class t.0.0
+    by (tree_listed saved pending) = 0
+
+sum_told : (f : KeyHead → ℕ) (heads : List KeyHead) → ((h : KeyHead) → In h heads → f h ≡ told_length (told_by_key h)) → sum_by f heads ≡ sum_by told_length (map told_by_key heads)
+sum_told f [] same = refl
+sum_told f (h ∷ hs) same =
+    let here = same h (inl refl) in
+    let rest = sum_told f hs (λ k i. same k (inr i)) in
+    let one = sum_by-cons f h hs in
+    let two = sum_by-cons told_length (told_by_key h) (map told_by_key hs) in
+    omega (arith, here, rest, one, two)
+
+sum_listed : (es : List (NameAndCycle × Value)) → sum_by told_length (map listed_object es) ≡ sum_by listed_length es
+sum_listed [] = refl
+sum_listed (e ∷ es) =
+    let rest = sum_listed es in
+    let one = sum_by-cons told_length (listed_object e) (map listed_object es) in
+    let two = sum_by-cons listed_length e es in
+    omega (arith, rest, one, two)
+
+-- ---- the keys of a file
+
+module _ (file : List ℕ) (links : List Link) (heads : List KeyHead) (m : State) (chain : IsChain links file) (are : AreKeysOf (keyed_records links) heads) (is : AreRecordsOf (keyed_records links) m) where
+  abbrev records : List KeyedRecord
+  records = keyed_records links
+
+  top_long : (r : KeyedRecord) → In r (top_keys records) → length (written_key r.head) ≡ head_length r.head.class r.head.name
+  top_long r i =
+      let untitled = (and_parts _ (length r.head.title == 0) (all_at (λ t. is_named_key t.head) r (top_keys records) is.stand.named i)).1 in
+      let p = placed file 100 links chain.links_are r (filter_in (λ t. is_top_key t.head) r records i).0 in
+      let small : r.head.version ≤ 1000 = subst (λ (h : KeyHead). h.version ≤ 1000) p.key p.whole.small in
+      head_long r.head small (no_bytes r.head.title untitled)
+
+  key_long : (h : KeyHead) → In h heads → length (written_key h) ≡ head_length h.class h.name
+  key_long h i = by (key_record records m is heads are h i)
+    where
+      by : ObjectOf records m is h ⊎ TreeOf records m is h → length (written_key h) ≡ head_length h.class h.name
+      by (inl o) = subst (λ (k : KeyHead). length (written_key k) ≡ head_length k.class k.name) o.head_is (top_long o.r (filter_in (λ t. not (is_tree_key t.head)) o.r (top_keys records) o.among).0)
+      by (inr t) = subst (λ (k : KeyHead). length (written_key k) ≡ head_length k.class k.name) t.head_is (top_long t.r (filter_in (is_tree_record (top_keys records)) t.r (top_keys records) t.among).0)
+
+  state_heads : sum_by (λ h. length (written_key h)) (item_heads (top_keys records)) ≡ sum_by listed_length (entries m.objects)
+  state_heads =
+      let stand = keys_stand records heads m are is in
+      sym (items_same records heads m are is (λ h. length (written_key h))).sum
+      ∙ sum_told (λ h. length (written_key h)) heads key_long
+      ∙ ap (sum_by told_length) stand.objects
+      ∙ sum_listed (entries m.objects)
+
+  state_count : length (item_heads (top_keys records)) ≡ length (entries m.objects)
+  state_count =
+      let stand = keys_stand records heads m are is in
+      sym (items_same records heads m are is (λ h. length (written_key h))).long
+      ∙ sym (length-map heads told_by_key)
+      ∙ ap length stand.objects
+      ∙ length-map (entries m.objects) listed_object
+
+pub need_of_state : NeedOfState
+unfolding kept_in
+need_of_state file links heads m chain are is = record {
+  heads = state_heads file links heads m chain are is;
+  count = ap (λ (n : ℕ). 1 + option_map_or (λ r. 1) (info_key (keyed_records links)) 0 + n) (state_count file links heads m chain are is);
+}
