@@ -1,3 +1,4 @@
+mod Examples
 pub mod FreeItems
 pub mod Fronts
 pub mod Held

@@ -1,5 +1,5 @@
 -- With the record of an object that a put adds the records stand for the state behind the put.
-use Rattle.std.proofs.Common.{◌≡◌, ℕ, ◌^◌, ◌<◌, ◌∙◌, List, true, false, not, ◌||◌, ◌==◌, Option, Some, None, refl, sym, ap, subst}
+use Rattle.std.proofs.Common.{◌≡◌, ℕ, ◌+◌, ◌-◌, ◌%◌, ◌^◌, ◌<◌, ◌∙◌, List, length, true, false, not, ◌||◌, ◌==◌, Option, Some, None, refl, sym, ap, subst, arith}
 use Rattle.std.specs.FinMap.{insert}
 use Rattle.std.proofs.lemmas.Bool.{and_from, and_left, and_right}
 use Rattle.rio_num.specs.Word.{is_item_text}
@@ -11,31 +11,28 @@ use Rattle.rio_chain.specs.Segments.{Link}
 use Rattle.rio_model.specs.StateClasses.{StateClasses}
 use Rattle.rio_machine.specs.State.{State, next_cycle}
 use Rattle.rio_state.specs.Contents.{HasStateClasses, object_in, state_classes}
-use Rattle.rio_state.specs.KeyedRecords.{KeyedRecord, first_place, has_info_name, info_key, is_elsewhere, is_in_directory, is_info_key, is_internal, is_top_key, is_tree_key, keyed_records, top_keys}
+use Rattle.rio_state.specs.KeyedRecords.{KeyedRecord, first_place, has_info_name, info_key, is_elsewhere, is_in_directory, is_internal, is_top_key, keyed_records, top_keys}
 use Rattle.rio_state.specs.Reads.{AreRecordsOf, StandsForState}
+use Rattle.rio_record.specs.Record.{key_size}
+use Rattle.rio_step.specs.Costs.{value_size}
+use Rattle.rio_state.specs.Closing.{padded_length}
+use Rattle.rio_effect.proofs.WrittenLengths.{written_length}
 use Rattle.rio_step.proofs.StepLaws.{next_is_free}
 use Rattle.rio_step.specs.Refusing.{put_value}
 use Rattle.rio_step.specs.Runs.{saved_of}
-use Rattle.rio_effect.specs.Laws.{PutTakesEffect, SavedPutTakesEffect}
+use Rattle.rio_effect.specs.Laws.{IsObjectKey, PutTakesEffect, PutsHaveRecords, SavedPutTakesEffect}
 use Rattle.rio_effect.specs.More.{HasOneMoreIn}
-use Rattle.rio_effect.specs.ObjectRecord.{object_record, record_of_put}
+use Rattle.rio_effect.specs.ObjectRecord.{data_of_put, object_key, object_record, record_of_put, words_of_put}
 use Rattle.rio_effect.proofs.FreeItems.{no_item, no_tree_named}
 use Rattle.rio_effect.proofs.Insertion.{all_more, filter_more}
 use Rattle.rio_effect.proofs.MoreRecords.{record_more}
 use Rattle.rio_effect.proofs.ObjectStands.{IsNewObject, object_stands}
 use Rattle.rio_effect.proofs.PutClasses.{IsObjectClass}
-use Rattle.rio_effect.proofs.PutObject.{IsAccepted, accepted, object_read, own_class, new_record, put_record}
+use Rattle.rio_effect.proofs.PutObject.{IsAccepted, accepted, object_read, own_class, new_record, put_record, words_fit}
 use Rattle.rio_effect.proofs.SavedPuts.{puts_ignore_pending}
 use Rattle.rio_effect.proofs.Stays.{info_same}
 
 -- ---- the key of an object
-
--- a key of the directory that is neither a tree's nor the class list's
-pub record IsObjectKey (head : KeyHead) : Type 0 where
-  pub top : is_top_key head ≡ true
-  pub object : is_tree_key head ≡ false
-  pub here : is_elsewhere head ≡ false
-  pub other : is_info_key head ≡ false
 
 pub is_object_key : (head : KeyHead) → (head.pdir == first_place) ≡ true → IsObjectClass head.class → has_info_name head ≡ false → IsObjectKey head
 is_object_key head at class name =
@@ -105,6 +102,26 @@ module _ (links : List Link) (m : State) (place datime : ℕ) (name : List ℕ) 
         here = all_more (λ s. not (is_elsewhere s.head)) r old new put_more (ap not put_key.here) is.here;
         stand = subst (λ (o : Option KeyedRecord). StandsForState new o (top_keys new) after) (sym info) stand;
       }
+
+-- the record of the put, on its own
+padded_as : (k n size : ℕ) → n ≡ size → k + (n + (4 - (k + n) % 4) % 4) ≡ padded_length (k + size)
+padded_as k n size e = ap (λ (j : ℕ). k + (j + (4 - (k + j) % 4) % 4)) e ∙ omega arith
+
+pub puts_have_records : PutsHaveRecords
+unfolding object_key object_record
+puts_have_records m place datime name v mark low soon are named e =
+    let ok = accepted m name v mark e in
+    let r = put_record m place datime name v ok are named low soon in
+    let new = new_record m place datime name v ok are named low soon in
+    let words = words_of_put m place datime name v in
+    let contents = data_of_put m place datime name v in
+    record {
+      fit = words_fit m place datime name v ok are named low soon;
+      whole = new.whole;
+      read = new.key_read place;
+      key = is_object_key r.head refl (own_class m place datime name v ok are named) ok.free;
+      long = new.size ∙ padded_as (key_size words) (length contents) (value_size m.classes (put_value m v)) (written_length m.classes (key_size words) 0 (put_value m v));
+    }
 
 pub put_takes_effect : PutTakesEffect
 put_takes_effect links m place datime name v mark low soon is named e = put_stands links m place datime name v low soon is named (accepted m name v mark e)

@@ -31,7 +31,6 @@ use Rattle.rio_state.specs.KeyedRecords.{KeyedRecord, record_data}
 use Rattle.rio_step.proofs.ApartLaws.{none_at, not_refused}
 use Rattle.rio_step.proofs.FitStays.{true_from_not, unrefused_fit}
 use Rattle.rio_step.specs.Refusing.{FullMark, goes_too_deep, has_too_many, is_at_last_cycle, is_list_name, is_too_large, is_tree_name, lacks_class, object_class, put_value, refusal_of, refusals}
-use Rattle.rio_effect.specs.Laws.{PutWordsFit}
 use Rattle.rio_effect.specs.ObjectRecord.{data_of_put, words_of_put}
 use Rattle.rio_effect.proofs.PutClasses.{IsObjectClass, object_class_is, short_item, versions_in_range}
 use Rattle.rio_effect.proofs.Versions.{fits_in_versions}
@@ -192,6 +191,3 @@ module _ (m : State) (place datime : ℕ) (name : List ℕ) (v : Value) (ok : Is
     object_read =
         let read = spelled_is_read m.classes class keylen value contents zeros spelled in
         stored (record_data put_record) read.0 read.2 new_record.contents_are read.1
-
-pub put_words_fit : PutWordsFit
-put_words_fit m place datime name v mark low soon are named e = words_fit m place datime name v (accepted m name v mark e) are named low soon

@@ -16,7 +16,7 @@ use Rattle.rio_state.specs.Contents.{tree_of}
 use Rattle.rio_state.specs.DirectoryKeys.{AreKeysOf}
 use Rattle.rio_state.specs.KeyedRecords.{KeyedRecord, first_place, has_info_name, info_key, is_elsewhere, is_in_directory, is_info_key, is_internal, is_top_key, keyed_records, later_info, top_keys, tree_records}
 use Rattle.rio_state.specs.Reads.{AreRecordsOf, StandsForState}
-use Rattle.rio_effect.specs.Laws.{EmptyIsRead, InternalStays, KeysStay, NeedStays, keyed_bytes}
+use Rattle.rio_effect.specs.Laws.{EmptyIsRead, InfoStays, InternalStays, KeysStay, NeedStays, keyed_bytes}
 use Rattle.rio_effect.specs.More.{HasOneMoreIn}
 use Rattle.rio_effect.proofs.Insertion.{all_more, filter_same}
 use Rattle.rio_effect.proofs.MoreRecords.{first_stays, keyed_link, own_key, record_more, records_more}
@@ -44,6 +44,9 @@ info_in r (s ∷ front) back e = ap (λ (o : Option KeyedRecord). if is_info_key
 
 pub info_same : (old new : List KeyedRecord) (r : KeyedRecord) → HasOneMoreIn old new r → is_info_key r.head ≡ false → info_key new ≡ info_key old
 info_same old new r h e = ap info_key h.after ∙ info_in r h.front h.back e ∙ ap info_key (sym h.before)
+
+pub info_stays : InfoStays
+info_stays old new r h e = info_same old new r h e
 
 pub tops_same : (old new : List KeyedRecord) (r : KeyedRecord) → HasOneMoreIn old new r → is_top_key r.head ≡ false → top_keys new ≡ top_keys old
 tops_same old new r h e = filter_same (λ s. is_top_key s.head) r old new h e

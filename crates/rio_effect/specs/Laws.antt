@@ -23,11 +23,11 @@ use Rattle.rio_chain.specs.Placing.{IsPlaceFor, record_count}
 use Rattle.rio_chain.specs.Segments.{IsChain, IsRecord, Link, RecordAt, segment_of}
 use Rattle.rio_chain.specs.Stops.{KeepsFront}
 use Rattle.rio_record.specs.Record.{FitsWords}
-use Rattle.rio_state.specs.Closing.{KeptRecords, closing_lengths, held_of, kept_count, kept_in, name_in}
+use Rattle.rio_state.specs.Closing.{KeptRecords, closing_lengths, held_of, kept_count, kept_in, name_in, padded_length}
 use Rattle.rio_state.specs.DirectoryKeys.{AreKeysOf}
-use Rattle.rio_state.specs.KeyedRecords.{KeyedRecord, info_key, is_internal, is_top_key, is_tree_key, keyed_records}
+use Rattle.rio_state.specs.KeyedRecords.{KeyedRecord, info_key, is_elsewhere, is_info_key, is_internal, is_top_key, is_tree_key, keyed_records}
 use Rattle.rio_state.specs.Reads.{AreRecordsOf, ReadsAsMade, ReadsAsState}
-use Rattle.rio_step.specs.Costs.{cost_of}
+use Rattle.rio_step.specs.Costs.{cost_of, value_size}
 use Rattle.rio_step.specs.ItemKeys.{AreKeysOfState}
 use Rattle.rio_step.specs.Refusing.{FullMark, object_class, put_value, refusal_of}
 use Rattle.rio_step.specs.Runs.{saved_of}
@@ -49,6 +49,10 @@ keyed_bytes head bytes = record { head = head; bytes = bytes }
 abbrev pub RecordMore : Type 0
 RecordMore = (links : List Link) (place : ℕ) (bytes : List ℕ) (head : KeyHead) → KeyIsRead place bytes head
     → HasOneMoreIn (keyed_records links) (keyed_records (with_record place bytes links)) (keyed_bytes head bytes)
+
+-- one that isn't a class list leaves the class list that counts
+abbrev pub InfoStays : Type 0
+InfoStays = (old new : List KeyedRecord) (r : KeyedRecord) → HasOneMoreIn old new r → is_info_key r.head ≡ false → info_key new ≡ info_key old
 
 -- the first record stays the first
 abbrev pub FirstStays : Type 0
@@ -75,11 +79,27 @@ abbrev pub InternalStays : Type 0
 InternalStays = (old new : List KeyedRecord) (r : KeyedRecord) (m : State) → HasOneMoreIn old new r → is_internal r.head ≡ true
     → AreRecordsOf old m → AreRecordsOf new m
 
--- The words of an object's key fit their fields, where the put isn't refused.
-abbrev pub PutWordsFit : Type 0
-PutWordsFit = (m : State) (place datime : ℕ) (name : List ℕ) (v : Value) (mark : Option FullMark) → place < 2 ^ 32 → datime < 2 ^ 32
-    → StateClasses m.classes → is_item_text name ≡ true → refusal_of m (Put name v) mark ≡ None
-    → FitsWords (words_of_put m place datime name v) (length (data_of_put m place datime name v))
+-- a key of the directory that is that of an object: neither a tree's nor the class list's
+pub record IsObjectKey (head : KeyHead) : Type 0 where
+  pub top : is_top_key head ≡ true
+  pub object : is_tree_key head ≡ false
+  pub here : is_elsewhere head ≡ false
+  pub other : is_info_key head ≡ false
+
+-- The record of the object that a put adds: the words of its key fit their fields, it is a whole one with this key, which is an
+-- object's, and it is as long as the value at whatever place makes it.
+pub record IsPutRecord (m : State) (place datime : ℕ) (name : List ℕ) (v : Value) : Type 0 where
+  pub fit : FitsWords (words_of_put m place datime name v) (length (data_of_put m place datime name v))
+  pub whole : IsRecord place (record_of_put m place datime name v)
+  pub read : KeyIsRead place (record_of_put m place datime name v) (key_of_put m place datime name v)
+  pub key : IsObjectKey (key_of_put m place datime name v)
+  pub long : length (record_of_put m place datime name v)
+      ≡ padded_length (head_length (unwrap_or (object_class (put_value m v)) []) name + value_size m.classes (put_value m v))
+
+-- a put that isn't refused has such a record
+abbrev pub PutsHaveRecords : Type 0
+PutsHaveRecords = (m : State) (place datime : ℕ) (name : List ℕ) (v : Value) (mark : Option FullMark) → place < 2 ^ 32 → datime < 2 ^ 32
+    → StateClasses m.classes → is_item_text name ≡ true → refusal_of m (Put name v) mark ≡ None → IsPutRecord m place datime name v
 
 -- with the record of an object that a put adds the records stand for the state behind the put
 abbrev pub PutTakesEffect : Type 0

@@ -1,10 +1,12 @@
 //! Laws of a record more in the chain of a file.
-ghost use Rattle.rio_effect.specs.Laws.{CountGrows, EmptyIsRead, FirstStays, FrontTells, HeldGrows, InternalStays, KeysFollow, KeysHaveRecords, KeysNameObjects, KeysStandForState, KeysStay, KeysTellNextCycle, NeedByKeys, NeedGrows, NeedOfState, NeedStays, PutKeyFollows, PutTakesEffect, PutWordsFit, PutsIgnorePending, RecordMore, SavedPutKeyFollows, SavedPutTakesEffect};
+ghost use Rattle.rio_effect.specs.Laws.{CountGrows, EmptyIsRead, FirstStays, FrontTells, HeldGrows, InfoStays, InternalStays, KeysFollow, KeysHaveRecords, KeysNameObjects, KeysStandForState, KeysStay, KeysTellNextCycle, NeedByKeys, NeedGrows, NeedOfState, NeedStays, PutKeyFollows, PutTakesEffect, PutsHaveRecords, PutsIgnorePending, RecordMore, SavedPutKeyFollows, SavedPutTakesEffect};
 
-/// A record that is put at the place of a gap, or at END, is one more among the records of the file, and the first record
-/// stays the first.
+/// A record that is put at the place of a gap, or at END, is one more among the records of the
+/// file, and one more among its segments. The first record stays the first, and the class list
+/// that counts stays too, where the record isn't one.
 pub fn record_more()
     ensures more { RecordMore }
+    ensures info { InfoStays }
     ensures first { FirstStays }
     ensures count { CountGrows }
 {}
@@ -14,22 +16,24 @@ pub fn empty_is_read()
     ensures { EmptyIsRead }
 {}
 
-/// With one more record that the file itself needs, as a key list, a free record or a basket, a file reads as the same state.
+/// With one more record that the file itself needs, as a key list, a free record or a basket, a
+/// file reads as the same state.
 pub fn internal_stays()
     ensures { InternalStays }
 {}
 
-/// With the record of the object that a put adds, a file reads as the state behind the put, with all pending rows or
-/// without them. The numbers of the record fit their fields.
+/// A put that isn't refused has a whole record, whose key is that of an object. With it a file
+/// reads as the state behind the put, with all pending rows or without them, at which a put doesn't
+/// look.
 pub fn put_takes_effect()
-    ensures fit { PutWordsFit }
+    ensures puts { PutsHaveRecords }
     ensures all { PutTakesEffect }
     ensures saved { SavedPutTakesEffect }
     ensures pending { PutsIgnorePending }
 {}
 
-/// The keys that are kept beside a file follow it: the key of one more object stands in its place among them, and a record
-/// that the file itself needs leaves them as they are.
+/// The keys that are kept beside a file follow it: the key of one more object stands in its place
+/// among them, and a record that the file itself needs leaves them as they are.
 pub fn keys_follow()
     ensures follow { KeysFollow }
     ensures stay { KeysStay }
@@ -42,17 +46,18 @@ pub fn keys_tell_next_cycle()
     ensures { KeysTellNextCycle }
 {}
 
-/// The keys that are kept beside a file stand for the objects of the state that it reads as, and the record of each object
-/// is found by its key and read back as the object.
+/// The keys that are kept beside a file stand for the objects of the state that it reads as, and
+/// the record of each object is found by its key and read back as the object.
 pub fn keys_stand_for_state()
     ensures stand { KeysStandForState }
     ensures named { KeysNameObjects }
     ensures records { KeysHaveRecords }
 {}
 
-/// One object more is one more key and one more record of which a close writes, and a record that the file itself needs is
-/// none. The keys that are kept beside a file tell what its close needs, and so do the state's objects. The record of a put's
-/// object raises what a file holds by no more than the put's cost.
+/// One object more is one more key and one more record of which a close writes, and a record that
+/// the file itself needs is none. The keys that are kept beside a file tell what its close needs,
+/// and so do the state's objects. The record of a put's object raises what a file holds by no more
+/// than the put's cost.
 pub fn need_grows()
     ensures grows { NeedGrows }
     ensures stays { NeedStays }
@@ -61,8 +66,8 @@ pub fn need_grows()
     ensures held { HeldGrows }
 {}
 
-/// A file that keeps its first 100 bytes keeps its header, and reads as the state that the records of its segments stand
-/// for.
+/// A file that keeps its first 100 bytes keeps its header, and reads as the state that the records
+/// of its segments stand for.
 pub fn front_tells()
     ensures { FrontTells }
 {}

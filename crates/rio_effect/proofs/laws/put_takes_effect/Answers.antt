@@ -1,10 +1,9 @@
-use Rattle.rio_effect.proofs.PutEffect.{put_takes_effect, saved_put_takes_effect}
-use Rattle.rio_effect.proofs.PutObject.{put_words_fit}
+use Rattle.rio_effect.proofs.PutEffect.{put_takes_effect, puts_have_records, saved_put_takes_effect}
 use Rattle.rio_effect.proofs.SavedPuts.{puts_ignore_pending}
 use Rattle.rio_effect.proofs.laws.put_takes_effect.Goals as goal
 
-pub returns-clause-fit : goal.returns-clause-fit
-returns-clause-fit c = put_words_fit
+pub returns-clause-puts : goal.returns-clause-puts
+returns-clause-puts c = puts_have_records
 
 pub returns-clause-all : goal.returns-clause-all
 returns-clause-all c = put_takes_effect

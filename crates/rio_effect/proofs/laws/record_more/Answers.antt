@@ -1,4 +1,5 @@
 use Rattle.rio_effect.proofs.MoreRecords.{count_grows, first_stays, record_more}
+use Rattle.rio_effect.proofs.Stays.{info_stays}
 use Rattle.rio_effect.proofs.laws.record_more.Goals as goal
 
 pub returns-clause-more : goal.returns-clause-more
@@ -9,3 +10,6 @@ returns-clause-first c = first_stays
 
 pub returns-clause-count : goal.returns-clause-count
 returns-clause-count c = count_grows
+
+pub returns-clause-info : goal.returns-clause-info
+returns-clause-info c = info_stays
