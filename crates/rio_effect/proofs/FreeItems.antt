@@ -10,8 +10,8 @@ use Rattle.rio_machine.specs.State.{NameAndCycle, State, names_tree}
 use Rattle.rio_state.specs.Contents.{object_in, state_classes, tree_of}
 use Rattle.rio_state.specs.KeyedRecords.{KeyedRecord, has_item, is_tree_key, is_tree_record, object_records, tree_records}
 use Rattle.rio_state.specs.Reads.{StandsForState}
-use Rattle.rio_effect.proofs.Insertion.{any_none}
-use Rattle.rio_effect.proofs.Members.{In, all_at, found, in_filter, none_at, none_from}
+use Rattle.rio_state.proofs.Insertion.{any_none}
+use Rattle.rio_state.proofs.Members.{In, all_at, found, in_filter, none_at, none_from}
 
 abbrev pub is_tree_named : List ℕ → KeyedRecord → Bool
 is_tree_named name s = bytes_eq s.head.name name && is_tree_key s.head

@@ -13,10 +13,11 @@ use Rattle.rio_machine.specs.State.{State}
 use Rattle.rio_state.specs.DirectoryKeys.{AreKeysOf}
 use Rattle.rio_state.specs.KeyedRecords.{KeyedRecord, is_top_key, is_tree_key, item_of_key, keyed_records, top_keys}
 use Rattle.rio_state.specs.Reads.{AreRecordsOf}
-use Rattle.rio_effect.specs.Laws.{HasRecordOf, KeysHaveRecords, keyed_bytes}
-use Rattle.rio_effect.proofs.KeyRecords.{ObjectOf, TreeOf, holder, item_is, key_record, object_of, tree_apart}
-use Rattle.rio_effect.proofs.Members.{In, contains_in, filter_in, in_contained}
-use Rattle.rio_effect.proofs.MoreRecords.{keyed_link, own_key}
+use Rattle.rio_state.specs.OneMore.{keyed_bytes}
+use Rattle.rio_effect.specs.Laws.{HasRecordOf, KeysHaveRecords}
+use Rattle.rio_state.proofs.KeyRecords.{ObjectOf, TreeOf, holder, item_is, key_record, object_of, tree_apart}
+use Rattle.rio_state.proofs.Members.{In, contains_in, filter_in, in_contained}
+use Rattle.rio_state.proofs.MoreRecords.{keyed_link, own_key}
 use Rattle.rio_effect.proofs.ReadClasses.{object_is_read}
 
 -- the record stands at the place of its key

@@ -27,8 +27,8 @@ use Rattle.rio_step.specs.ItemKeys.{AreKeysOfState, told_by_key}
 use Rattle.rio_step.specs.Refusing.{object_class}
 use Rattle.rio_step.specs.Step.{Listed, listed_object, object_listed}
 use Rattle.rio_effect.specs.Laws.{KeysNameObjects, KeysStandForState}
-use Rattle.rio_effect.proofs.KeyRecords.{ObjectOf, TreeOf, holder, key_record, object_of, record_key}
-use Rattle.rio_effect.proofs.Members.{In, all_at, any_from, in_contained, in_map, map_in}
+use Rattle.rio_state.proofs.KeyRecords.{ObjectOf, TreeOf, holder, key_record, object_of, record_key}
+use Rattle.rio_state.proofs.Members.{In, all_at, any_from, in_contained, in_map, map_in}
 use Rattle.rio_effect.proofs.ReadClasses.{object_is_read}
 
 -- ---- one order

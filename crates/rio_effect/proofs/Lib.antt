@@ -2,17 +2,11 @@ mod Examples
 pub mod FreeItems
 pub mod Fronts
 pub mod Held
-pub mod Insertion
 pub mod KeyReads
-pub mod KeyRecords
-pub mod KeysFollow
 pub mod KeysOfState
-pub mod Members
-pub mod MoreRecords
 pub mod Needs
 pub mod NeedsByKeys
 pub mod NextCycles
-pub mod ObjectStands
 pub mod PutClasses
 pub mod PutEffect
 pub mod PutKeys
@@ -20,6 +14,5 @@ pub mod PutObject
 pub mod ReadClasses
 pub mod SavedPuts
 pub mod StateNeeds
-pub mod Stays
 pub mod Versions
 pub mod WrittenLengths

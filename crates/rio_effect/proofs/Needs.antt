@@ -10,12 +10,14 @@ use Rattle.rio_chain.specs.Changes.{with_record}
 use Rattle.rio_machine.specs.Limits.{head_length}
 use Rattle.rio_state.specs.Closing.{KeptRecords, close_need, free_length, item_heads, kept_count, kept_in, list_length, padded_length}
 use Rattle.rio_state.specs.KeyedRecords.{KeyedRecord, has_info_name, info_key, is_in_directory, is_info_key, is_top_key, keyed_records, top_keys}
-use Rattle.rio_effect.specs.Laws.{NeedGrows, keyed_bytes}
-use Rattle.rio_effect.specs.More.{HasOneMoreIn, KeepsOneMore}
-use Rattle.rio_effect.proofs.Insertion.{filter_more}
-use Rattle.rio_effect.proofs.KeysFollow.{items_more}
-use Rattle.rio_effect.proofs.MoreRecords.{first_stays, record_more}
-use Rattle.rio_effect.proofs.Stays.{info_same}
+use Rattle.rio_state.specs.OneMore.{keyed_bytes}
+use Rattle.rio_effect.specs.Laws.{NeedGrows}
+use Rattle.rio_state.specs.OneMore.{HasOneMoreIn}
+use Rattle.rio_effect.specs.More.{KeepsOneMore}
+use Rattle.rio_state.proofs.Insertion.{filter_more}
+use Rattle.rio_state.proofs.KeysFollow.{items_more}
+use Rattle.rio_state.proofs.MoreRecords.{first_stays, record_more}
+use Rattle.rio_state.proofs.Stays.{info_same}
 
 -- ---- sums
 

@@ -16,11 +16,11 @@ use Rattle.rio_state.specs.DirectoryKeys.{AreKeysOf}
 use Rattle.rio_state.specs.KeyedRecords.{KeyedRecord, has_item, info_key, is_tree_key, is_tree_record, item_of_key, keyed_records, object_records, top_keys, tree_records}
 use Rattle.rio_state.specs.Reads.{AreRecordsOf, are_distinct}
 use Rattle.rio_effect.specs.Laws.{NeedByKeys}
-use Rattle.rio_effect.specs.More.{HasOneMoreIn}
-use Rattle.rio_effect.proofs.Insertion.{behind, here}
-use Rattle.rio_effect.proofs.KeyRecords.{distinct_filter, own_item}
-use Rattle.rio_effect.proofs.KeysFollow.{heads_in, in_before, in_still, items_in}
-use Rattle.rio_effect.proofs.Members.{In, any_from, filter_in, in_either, map_in}
+use Rattle.rio_state.specs.OneMore.{HasOneMoreIn}
+use Rattle.rio_state.proofs.Insertion.{behind, here}
+use Rattle.rio_state.proofs.KeyRecords.{distinct_filter, own_item}
+use Rattle.rio_state.proofs.KeysFollow.{heads_in, in_before, in_still, items_in}
+use Rattle.rio_state.proofs.Members.{In, any_from, filter_in, in_either, map_in}
 use Rattle.rio_effect.proofs.Needs.{length_more, sum_more}
 
 -- ---- lists without an element twice

@@ -21,9 +21,9 @@ use Rattle.rio_state.specs.KeyedRecords.{KeyedRecord, info_key, is_tree_key, is_
 use Rattle.rio_state.specs.Reads.{AreRecordsOf}
 use Rattle.rio_effect.specs.Laws.{IsNextCycle, KeysTellNextCycle}
 use Rattle.rio_effect.proofs.FreeItems.{is_tree_named, no_tree_named}
-use Rattle.rio_effect.proofs.Insertion.{find_none}
-use Rattle.rio_effect.proofs.KeyRecords.{ObjectOf, TreeOf, holder, item_is, key_record, object_of, record_key}
-use Rattle.rio_effect.proofs.Members.{In, any_from, filter_in, in_filter, in_map, map_in, none_at, none_from, passing}
+use Rattle.rio_state.proofs.Insertion.{find_none}
+use Rattle.rio_state.proofs.KeyRecords.{ObjectOf, TreeOf, holder, item_is, key_record, object_of, record_key}
+use Rattle.rio_state.proofs.Members.{In, any_from, filter_in, in_filter, in_map, map_in, none_at, none_from, passing}
 
 -- ---- greatest cycles
 

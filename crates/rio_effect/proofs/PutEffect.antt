@@ -21,16 +21,16 @@ use Rattle.rio_step.proofs.StepLaws.{next_is_free}
 use Rattle.rio_step.specs.Refusing.{put_value}
 use Rattle.rio_step.specs.Runs.{saved_of}
 use Rattle.rio_effect.specs.Laws.{IsObjectKey, PutTakesEffect, PutsHaveRecords, SavedPutTakesEffect}
-use Rattle.rio_effect.specs.More.{HasOneMoreIn}
+use Rattle.rio_state.specs.OneMore.{HasOneMoreIn}
 use Rattle.rio_effect.specs.ObjectRecord.{data_of_put, object_key, object_record, record_of_put, words_of_put}
 use Rattle.rio_effect.proofs.FreeItems.{no_item, no_tree_named}
-use Rattle.rio_effect.proofs.Insertion.{all_more, filter_more}
-use Rattle.rio_effect.proofs.MoreRecords.{record_more}
-use Rattle.rio_effect.proofs.ObjectStands.{IsNewObject, object_stands}
+use Rattle.rio_state.proofs.Insertion.{all_more, filter_more}
+use Rattle.rio_state.proofs.MoreRecords.{record_more}
+use Rattle.rio_state.proofs.ObjectStands.{IsNewObject, object_stands}
 use Rattle.rio_effect.proofs.PutClasses.{IsObjectClass}
 use Rattle.rio_effect.proofs.PutObject.{IsAccepted, accepted, object_read, own_class, new_record, put_record, words_fit}
 use Rattle.rio_effect.proofs.SavedPuts.{puts_ignore_pending}
-use Rattle.rio_effect.proofs.Stays.{info_same}
+use Rattle.rio_state.proofs.Stays.{info_same}
 
 -- ---- the key of an object
 

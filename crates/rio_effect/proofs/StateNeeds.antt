@@ -27,9 +27,9 @@ use Rattle.rio_step.specs.ItemKeys.{told_by_key}
 use Rattle.rio_step.specs.Step.{Listed, listed_object, object_listed, tree_listed}
 use Rattle.rio_effect.specs.Laws.{NeedOfState, listed_length}
 use Rattle.rio_effect.proofs.KeyReads.{placed}
-use Rattle.rio_effect.proofs.KeyRecords.{ObjectOf, TreeOf, key_record}
+use Rattle.rio_state.proofs.KeyRecords.{ObjectOf, TreeOf, key_record}
 use Rattle.rio_effect.proofs.KeysOfState.{keys_stand}
-use Rattle.rio_effect.proofs.Members.{In, all_at, filter_in}
+use Rattle.rio_state.proofs.Members.{In, all_at, filter_in}
 use Rattle.rio_effect.proofs.NeedsByKeys.{items_same}
 
 abbrev Told : Type 0

@@ -32,52 +32,13 @@ use Rattle.rio_step.specs.ItemKeys.{AreKeysOfState}
 use Rattle.rio_step.specs.Refusing.{FullMark, object_class, put_value, refusal_of}
 use Rattle.rio_step.specs.Runs.{saved_of}
 use Rattle.rio_step.specs.Step.{state_behind}
-use Rattle.rio_effect.specs.More.{HasOneMoreIn, KeepsOneMore}
+use Rattle.rio_state.specs.OneMore.{HasOneMoreIn}
+use Rattle.rio_effect.specs.More.{KeepsOneMore}
 use Rattle.rio_effect.specs.ObjectRecord.{data_of_put, key_of_put, record_of_put, words_of_put}
 
 -- ---- records
 
--- this key is read of a record's bytes
-abbrev pub KeyIsRead : ℕ → List ℕ → KeyHead → Type 0
-KeyIsRead place bytes head = key_at (record { place = place; rest = bytes }) ≡ Ok head
-
--- a record with its key
-abbrev pub keyed_bytes : KeyHead → List ℕ → KeyedRecord
-keyed_bytes head bytes = record { head = head; bytes = bytes }
-
--- a record that is put is one more among the records of a file
-abbrev pub RecordMore : Type 0
-RecordMore = (links : List Link) (place : ℕ) (bytes : List ℕ) (head : KeyHead) → KeyIsRead place bytes head
-    → HasOneMoreIn (keyed_records links) (keyed_records (with_record place bytes links)) (keyed_bytes head bytes)
-
--- one that isn't a class list leaves the class list that counts
-abbrev pub InfoStays : Type 0
-InfoStays = (old new : List KeyedRecord) (r : KeyedRecord) → HasOneMoreIn old new r → is_info_key r.head ≡ false → info_key new ≡ info_key old
-
--- the first record stays the first
-abbrev pub FirstStays : Type 0
-FirstStays = (file : List ℕ) (links : List Link) (place : ℕ) (bytes : List ℕ) → IsChain links file
-    → name_in (keyed_records (with_record place bytes links)) ≡ name_in (keyed_records links)
-
--- and there is one segment more that is a record
-abbrev pub CountGrows : Type 0
-CountGrows = (links : List Link) (place : ℕ) (bytes : List ℕ) → record_count (map segment_of (with_record place bytes links)) ≡ record_count (map segment_of links) + 1
-
 -- ---- what the records stand for
-
--- A file that is just made has its first record alone. It reads as the empty state and has no keys.
-pub record ReadsAsEmpty (links : List Link) : Type 0 where
-  pub records : AreRecordsOf (keyed_records links) empty_state
-  pub keys : AreKeysOf (keyed_records links) []
-  pub kept : kept_in links ≡ record { name = name_in (keyed_records links); heads = []; count = 1 }
-
-abbrev pub EmptyIsRead : Type 0
-EmptyIsRead = (file : List ℕ) (place : ℕ) (bytes : List ℕ) → IsChain (RecordAt place bytes ∷ []) file → ReadsAsEmpty (RecordAt place bytes ∷ [])
-
--- with one more record that the file itself needs the records stand for the same state
-abbrev pub InternalStays : Type 0
-InternalStays = (old new : List KeyedRecord) (r : KeyedRecord) (m : State) → HasOneMoreIn old new r → is_internal r.head ≡ true
-    → AreRecordsOf old m → AreRecordsOf new m
 
 -- a key of the directory that is that of an object: neither a tree's nor the class list's
 pub record IsObjectKey (head : KeyHead) : Type 0 where
@@ -125,16 +86,6 @@ SavedPutTakesEffect = (links : List Link) (m : State) (place datime : ℕ) (name
     → AreRecordsOf (keyed_records (with_record place (record_of_put m place datime name v) links)) (saved_of (state_behind m (Put name v)))
 
 -- ---- the keys beside a file
-
--- the key of one more object, whose name and cycle are new, stands in its place
-abbrev pub KeysFollow : Type 0
-KeysFollow = (old new : List KeyedRecord) (r : KeyedRecord) (heads : List KeyHead) → HasOneMoreIn old new r → is_top_key r.head ≡ true → is_tree_key r.head ≡ false
-    → find (is_at_cycle r.head.name r.head.cycle) heads ≡ None → AreKeysOf old heads → AreKeysOf new (with_head r.head heads)
-
--- with one more record that the file itself needs the keys stay
-abbrev pub KeysStay : Type 0
-KeysStay = (old new : List KeyedRecord) (r : KeyedRecord) (heads : List KeyHead) → HasOneMoreIn old new r → is_internal r.head ≡ true
-    → AreKeysOf old heads → AreKeysOf new heads
 
 -- The keys tell the next cycle of a name that isn't a tree's, and no key has it yet.
 pub record IsNextCycle (heads : List KeyHead) (name : List ℕ) (cycle : ℕ) : Type 0 where
@@ -186,11 +137,6 @@ KeysHaveRecords = (file : List ℕ) (links : List Link) (heads : List KeyHead) (
 abbrev pub NeedGrows : Type 0
 NeedGrows = (file : List ℕ) (links : List Link) (place : ℕ) (bytes : List ℕ) (head : KeyHead) → IsChain links file → KeyIsRead place bytes head → is_top_key head ≡ true → is_tree_key head ≡ false
     → KeepsOneMore (kept_in links) (kept_in (with_record place bytes links)) head
-
--- a record more that the file itself needs isn't one that it keeps
-abbrev pub NeedStays : Type 0
-NeedStays = (file : List ℕ) (links : List Link) (place : ℕ) (bytes : List ℕ) (head : KeyHead) → IsChain links file → KeyIsRead place bytes head → is_internal head ≡ true
-    → kept_in (with_record place bytes links) ≡ kept_in links
 
 -- what a file keeps, with the keys as they are kept beside it
 abbrev pub kept_by_keys : List Link → List KeyHead → KeptRecords

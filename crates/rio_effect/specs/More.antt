@@ -4,13 +4,6 @@ use Rattle.rio_key.specs.Written.{written_key}
 use Rattle.rio_key.specs.declared.head.KeyHead.{KeyHead}
 use Rattle.rio_state.specs.Closing.{KeptRecords, close_need, free_length, list_length, padded_length}
 
--- the second list is the first with one more in it
-pub record HasOneMoreIn {A : Type 0} (old new : List A) (x : A) : Type 0 where
-  pub front : List A
-  pub back : List A
-  pub before : old ≡ front ++ back
-  pub after : new ≡ front ++ x ∷ back
-
 -- A file keeps one key more, and so one record more. A close then needs what one head more in the key list and one more part
 -- in the free record take.
 pub record KeepsOneMore (old new : KeptRecords) (head : KeyHead) : Type 0 where

@@ -1,26 +1,5 @@
 //! Laws of a record more in the chain of a file.
-ghost use Rattle.rio_effect.specs.Laws.{CountGrows, EmptyIsRead, FirstStays, FrontTells, HeldGrows, InfoStays, InternalStays, KeysFollow, KeysHaveRecords, KeysNameObjects, KeysStandForState, KeysStay, KeysTellNextCycle, NeedByKeys, NeedGrows, NeedOfState, NeedStays, PutKeyFollows, PutTakesEffect, PutsHaveRecords, PutsIgnorePending, RecordMore, SavedPutKeyFollows, SavedPutTakesEffect};
-
-/// A record that is put at the place of a gap, or at END, is one more among the records of the
-/// file, and one more among its segments. The first record stays the first, and the class list
-/// that counts stays too, where the record isn't one.
-pub fn record_more()
-    ensures more { RecordMore }
-    ensures info { InfoStays }
-    ensures first { FirstStays }
-    ensures count { CountGrows }
-{}
-
-/// A file that has its first record alone reads as the empty state, and has no keys.
-pub fn empty_is_read()
-    ensures { EmptyIsRead }
-{}
-
-/// With one more record that the file itself needs, as a key list, a free record or a basket, a
-/// file reads as the same state.
-pub fn internal_stays()
-    ensures { InternalStays }
-{}
+ghost use Rattle.rio_effect.specs.Laws.{FrontTells, HeldGrows, KeysHaveRecords, KeysNameObjects, KeysStandForState, KeysTellNextCycle, NeedByKeys, NeedGrows, NeedOfState, PutKeyFollows, PutTakesEffect, PutsHaveRecords, PutsIgnorePending, SavedPutKeyFollows, SavedPutTakesEffect};
 
 /// A put that isn't refused has a whole record, whose key is that of an object. With it a file
 /// reads as the state behind the put, with all pending rows or without them, at which a put doesn't
@@ -32,11 +11,9 @@ pub fn put_takes_effect()
     ensures pending { PutsIgnorePending }
 {}
 
-/// The keys that are kept beside a file follow it: the key of one more object stands in its place
-/// among them, and a record that the file itself needs leaves them as they are.
+/// The keys that are kept beside a file follow a put: the key of its object stands in its place among
+/// them.
 pub fn keys_follow()
-    ensures follow { KeysFollow }
-    ensures stay { KeysStay }
     ensures put { PutKeyFollows }
     ensures saved_put { SavedPutKeyFollows }
 {}
@@ -54,13 +31,11 @@ pub fn keys_stand_for_state()
     ensures records { KeysHaveRecords }
 {}
 
-/// One object more is one more key and one more record of which a close writes, and a record that
-/// the file itself needs is none. The keys that are kept beside a file tell what its close needs,
+/// One object more is one more key and one more record of which a close writes. The keys that are kept beside a file tell what its close needs,
 /// and so do the state's objects. The record of a put's object raises what a file holds by no more
 /// than the put's cost.
 pub fn need_grows()
     ensures grows { NeedGrows }
-    ensures stays { NeedStays }
     ensures keys { NeedByKeys }
     ensures state { NeedOfState }
     ensures held { HeldGrows }

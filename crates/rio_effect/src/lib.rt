@@ -10,6 +10,5 @@
 mod laws;
 
 pub use laws::{
-    empty_is_read, front_tells, internal_stays, keys_follow, keys_stand_for_state,
-    keys_tell_next_cycle, need_grows, put_takes_effect, record_more,
+    front_tells, keys_follow, keys_stand_for_state, keys_tell_next_cycle, need_grows, put_takes_effect,
 };

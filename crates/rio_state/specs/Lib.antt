@@ -4,5 +4,6 @@ pub mod DirectoryKeys
 pub mod KeyedRecords
 pub mod Laws
 pub mod Left
+pub mod OneMore
 pub mod Reads
 pub mod Reasons

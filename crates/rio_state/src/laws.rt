@@ -1,4 +1,5 @@
 //! Laws of what files read as.
+ghost use Rattle.rio_state.specs.OneMore.{CountGrows, EmptyIsRead, FirstStays, InfoStays, InternalStays, KeysFollow, KeysStay, NeedStays, RecordMore};
 ghost use Rattle.rio_state.specs.Laws.{HasOneReason, NoReasonIsRead, ReadsAsOneState, ReadsMeetsNoReason};
 
 /// A file reads as at most one state.
@@ -20,4 +21,29 @@ pub fn meets_no_reason()
 /// A file of which it is told that nothing stands against writing but too many items or want of room reads as a state.
 pub fn no_reason_is_read()
     ensures { NoReasonIsRead }
+{}
+
+/// A record that is put at the place of a gap, or at END, is one more among the records of the
+/// file, and one more among its segments. The first record stays the first, and the class list
+/// that counts stays too, where the record isn't one. The key of one more object stands in its place
+/// among the keys that are kept beside the file.
+pub fn record_more()
+    ensures more { RecordMore }
+    ensures info { InfoStays }
+    ensures first { FirstStays }
+    ensures count { CountGrows }
+    ensures keys { KeysFollow }
+{}
+
+/// A file that has its first record alone reads as the empty state, and has no keys.
+pub fn empty_is_read()
+    ensures { EmptyIsRead }
+{}
+
+/// With one more record that the file itself needs, as a key list, a free record or a basket, a
+/// file reads as the same state, has the same keys, and keeps what it kept.
+pub fn internal_stays()
+    ensures state { InternalStays }
+    ensures keys { KeysStay }
+    ensures need { NeedStays }
 {}

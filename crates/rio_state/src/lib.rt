@@ -5,4 +5,7 @@
 
 mod laws;
 
-pub use laws::{meets_no_reason, no_reason_is_read, one_reason, one_state};
+pub use laws::{
+    empty_is_read, internal_stays, meets_no_reason, no_reason_is_read, one_reason, one_state,
+    record_more,
+};

@@ -11,9 +11,9 @@ use Rattle.rio_chain.specs.Placing.{record_count}
 use Rattle.rio_chain.specs.Segments.{GapAt, IsRecord, Link, RecordAt, segment_of}
 use Rattle.rio_state.specs.Closing.{name_in}
 use Rattle.rio_state.specs.KeyedRecords.{KeyedRecord, keyed_records, record_in_link, with_head}
-use Rattle.rio_effect.specs.Laws.{CountGrows, FirstStays, KeyIsRead, RecordMore, keyed_bytes}
-use Rattle.rio_effect.specs.More.{HasOneMoreIn}
-use Rattle.rio_effect.proofs.Insertion.{behind}
+use Rattle.rio_state.specs.OneMore.{CountGrows, FirstStays, KeyIsRead, RecordMore, keyed_bytes}
+use Rattle.rio_state.specs.OneMore.{HasOneMoreIn}
+use Rattle.rio_state.proofs.Insertion.{behind}
 
 -- the record of a segment has the key that is read there
 pub keyed_link : (place : ℕ) (bytes : List ℕ) (head : KeyHead) → KeyIsRead place bytes head → record_in_link (RecordAt place bytes) ≡ Some (keyed_bytes head bytes)

@@ -17,10 +17,10 @@ use Rattle.rio_state.proofs.NoReason.{item_turned, neither}
 use Rattle.rio_state.specs.Contents.{object_in, state_classes, tree_of}
 use Rattle.rio_state.specs.KeyedRecords.{KeyedRecord, has_item, is_mixed_name, is_outdated, is_tree_key, is_tree_record, item_of_key, object_records, tree_records}
 use Rattle.rio_state.specs.Reads.{StandsForState, are_distinct, is_named_key, object_under}
-use Rattle.rio_effect.specs.More.{HasOneMoreIn}
-use Rattle.rio_effect.proofs.Insertion.{all_more, any_in, any_more, filter_more, filter_same, find_more, find_same}
-use Rattle.rio_effect.proofs.Members.{filter_in, none_at, none_from}
-use Rattle.rio_effect.proofs.Stays.{trees_read, trees_under}
+use Rattle.rio_state.specs.OneMore.{HasOneMoreIn}
+use Rattle.rio_state.proofs.Insertion.{all_more, any_in, any_more, filter_more, filter_same, find_more, find_same}
+use Rattle.rio_state.proofs.Members.{filter_in, none_at, none_from}
+use Rattle.rio_state.proofs.Stays.{trees_read, trees_under}
 
 -- The record holds an object, under a name and cycle that none of these has; no tree among them has the name.
 pub record IsNewObject (classes : List ClassDef) (tops : List KeyedRecord) (r : KeyedRecord) (v : Value) : Type 0 where

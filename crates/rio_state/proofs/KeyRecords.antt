@@ -14,8 +14,8 @@ use Rattle.rio_state.specs.Contents.{object_in, state_classes}
 use Rattle.rio_state.specs.DirectoryKeys.{AreKeysOf}
 use Rattle.rio_state.specs.KeyedRecords.{KeyedRecord, has_item, info_key, is_mixed_name, is_tree_key, is_tree_record, item_of_key, object_records, top_keys, tree_records}
 use Rattle.rio_state.specs.Reads.{AreRecordsOf, are_distinct}
-use Rattle.rio_effect.proofs.KeysFollow.{heads_in, items_in}
-use Rattle.rio_effect.proofs.Members.{In, all_at, any_from, filter_in, found, in_left, in_map, in_either, map_in, none_from, none_at}
+use Rattle.rio_state.proofs.KeysFollow.{heads_in, items_in}
+use Rattle.rio_state.proofs.Members.{In, all_at, any_from, filter_in, found, in_left, in_map, in_either, map_in, none_from, none_at}
 
 -- ---- distinct keys
 

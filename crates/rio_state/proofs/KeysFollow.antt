@@ -7,11 +7,11 @@ use Rattle.rio_dir.specs.Table.{is_before, with_head}
 use Rattle.rio_state.specs.Closing.{item_heads}
 use Rattle.rio_state.specs.DirectoryKeys.{AreKeysOf}
 use Rattle.rio_state.specs.KeyedRecords.{KeyedRecord, is_top_key, is_tree_key, object_records, top_keys, tree_records}
-use Rattle.rio_effect.specs.Laws.{KeysFollow}
-use Rattle.rio_effect.specs.More.{HasOneMoreIn}
-use Rattle.rio_effect.proofs.Insertion.{append_more, behind, filter_more, here, map_more}
-use Rattle.rio_effect.proofs.Members.{In, contains_in, in_contained, in_either, in_left, in_right}
-use Rattle.rio_effect.proofs.ObjectStands.{objects_more, trees_same}
+use Rattle.rio_state.specs.OneMore.{KeysFollow}
+use Rattle.rio_state.specs.OneMore.{HasOneMoreIn}
+use Rattle.rio_state.proofs.Insertion.{append_more, behind, filter_more, here, map_more}
+use Rattle.rio_state.proofs.Members.{In, contains_in, in_contained, in_either, in_left, in_right}
+use Rattle.rio_state.proofs.ObjectStands.{objects_more, trees_same}
 
 -- ---- elements of a list with one more
 

@@ -1,6 +1,7 @@
-use Rattle.rio_effect.proofs.MoreRecords.{count_grows, first_stays, record_more}
-use Rattle.rio_effect.proofs.Stays.{info_stays}
-use Rattle.rio_effect.proofs.laws.record_more.Goals as goal
+use Rattle.rio_state.proofs.KeysFollow.{keys_follow}
+use Rattle.rio_state.proofs.MoreRecords.{count_grows, first_stays, record_more}
+use Rattle.rio_state.proofs.Stays.{info_stays}
+use Rattle.rio_state.proofs.laws.record_more.Goals as goal
 
 pub returns-clause-more : goal.returns-clause-more
 returns-clause-more c = record_more
@@ -13,3 +14,6 @@ returns-clause-count c = count_grows
 
 pub returns-clause-info : goal.returns-clause-info
 returns-clause-info c = info_stays
+
+pub returns-clause-keys : goal.returns-clause-keys
+returns-clause-keys c = keys_follow

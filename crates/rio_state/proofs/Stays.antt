@@ -16,10 +16,10 @@ use Rattle.rio_state.specs.Contents.{tree_of}
 use Rattle.rio_state.specs.DirectoryKeys.{AreKeysOf}
 use Rattle.rio_state.specs.KeyedRecords.{KeyedRecord, first_place, has_info_name, info_key, is_elsewhere, is_in_directory, is_info_key, is_internal, is_top_key, keyed_records, later_info, top_keys, tree_records}
 use Rattle.rio_state.specs.Reads.{AreRecordsOf, StandsForState}
-use Rattle.rio_effect.specs.Laws.{EmptyIsRead, InfoStays, InternalStays, KeysStay, NeedStays, keyed_bytes}
-use Rattle.rio_effect.specs.More.{HasOneMoreIn}
-use Rattle.rio_effect.proofs.Insertion.{all_more, filter_same}
-use Rattle.rio_effect.proofs.MoreRecords.{first_stays, keyed_link, own_key, record_more, records_more}
+use Rattle.rio_state.specs.OneMore.{EmptyIsRead, InfoStays, InternalStays, KeysStay, NeedStays, keyed_bytes}
+use Rattle.rio_state.specs.OneMore.{HasOneMoreIn}
+use Rattle.rio_state.proofs.Insertion.{all_more, filter_same}
+use Rattle.rio_state.proofs.MoreRecords.{first_stays, keyed_link, own_key, record_more, records_more}
 
 -- ---- keys that aren't in the directory
 

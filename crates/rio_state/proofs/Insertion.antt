@@ -1,7 +1,7 @@
 -- Lists with one more element somewhere.
 use Rattle.std.proofs.Common.{◌≡◌, ◌∙◌, List, [], ◌∷◌, ◌++◌, map, Bool, true, false, cond, ◌&&◌, ◌||◌, Option, Some, None, refl, sym, ap, append_assoc}
 use Rattle.std.specs.List.{filter, find, list_all, list_any}
-use Rattle.rio_effect.specs.More.{HasOneMoreIn}
+use Rattle.rio_state.specs.OneMore.{HasOneMoreIn}
 
 module _ {A : Type 0} where
   pub here : (x : A) (xs : List A) → HasOneMoreIn xs (x ∷ xs) x
