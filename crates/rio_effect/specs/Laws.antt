@@ -1,5 +1,4 @@
--- What a record more in the chain of a file makes of what the file reads as, of the keys that are kept beside it, and of what
--- its close needs.
+-- What the record of a put makes of what a file reads as, of the keys that are kept beside it, and of what its close needs.
 use Rattle.std.specs.Prelude.{◌≡◌, ◌<◌, ◌≤◌, ℕ, ◌+◌, ◌^◌, List, [], ◌∷◌, drop, length, map, true, false, Option, Some, None, Ok, unwrap_or}
 use Rattle.std.specs.FinMap.{entries, get}
 use Rattle.std.specs.List.{Contains, find, sum_by}
@@ -32,11 +31,9 @@ use Rattle.rio_step.specs.ItemKeys.{AreKeysOfState}
 use Rattle.rio_step.specs.Refusing.{FullMark, object_class, put_value, refusal_of}
 use Rattle.rio_step.specs.Runs.{saved_of}
 use Rattle.rio_step.specs.Step.{state_behind}
-use Rattle.rio_state.specs.OneMore.{HasOneMoreIn}
+use Rattle.rio_state.specs.OneMore.{KeyIsRead}
 use Rattle.rio_effect.specs.More.{KeepsOneMore}
 use Rattle.rio_effect.specs.ObjectRecord.{data_of_put, key_of_put, record_of_put, words_of_put}
-
--- ---- records
 
 -- ---- what the records stand for
 

@@ -10,5 +10,6 @@
 mod laws;
 
 pub use laws::{
-    front_tells, keys_follow, keys_stand_for_state, keys_tell_next_cycle, need_grows, put_takes_effect,
+    front_tells, keys_follow, keys_stand_for_state, keys_tell_next_cycle, need_grows,
+    put_takes_effect,
 };
