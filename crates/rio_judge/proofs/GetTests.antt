@@ -1,0 +1,112 @@
+-- The tests that can refuse a get, by the keys, and what it tells; and those of bad lines and lists.
+use Rattle.std.proofs.Common.{◌≡◌, ℕ, ◌∙◌, Bool, false, ◌&&◌, ◌||◌, eqb, not, List, Option, Some, None, Ok, refl, sym, ap}
+use Rattle.std.specs.Prelude.{is_some, option_and_then}
+use Rattle.std.specs.FinMap.{contains_key, get}
+use Rattle.std.specs.Option.{option_map_or, option_or}
+use Rattle.rio_key.specs.declared.head.KeyHead.{KeyHead}
+use Rattle.rio_dir.specs.Table.{head_of}
+use Rattle.rio_value.specs.declared.value.Value.{Value}
+use Rattle.rio_machine.specs.State.{State, Tree, names_object}
+use Rattle.rio_machine.specs.declared.command.Command.TheVariants.{Bad, Get, Ls}
+use Rattle.rio_machine.specs.declared.refusal.Refusal.{Refusal}
+use Rattle.rio_machine.specs.declared.refusal.Refusal.TheVariants.{BadLine, NoSuchName, NoSuchCycle, NameIsTree, NoVersion}
+use Rattle.rio_step.specs.ItemKeys.{AreKeysOfState}
+use Rattle.rio_step.specs.Refusing.{meant_object, refusal_of, refused_if}
+use Rattle.rio_judge.specs.Stops.{GoesByState}
+use Rattle.rio_judge.specs.declared.work.Work.TheVariants.{Get as Telling}
+use Rattle.rio_judge.proofs.KeysOfState.{contains_is, first_is_greatest, first_is_there, names_are, no_tree}
+
+-- what the tests tell, where an object or a tree may have the name, a cycle may be there, and an object is meant
+abbrev whole : Bool → Option Tree → (ℕ → Bool) → Option Value → Option ℕ → Option Refusal
+whole named tree has meant cycle =
+    option_or (refused_if (not (named || is_some tree)) NoSuchName)
+    (option_or (refused_if (option_map_or (λ c. (named || is_some tree) && not (has c || option_map_or (λ t. eqb t.cycle c) tree false)) cycle false) NoSuchCycle)
+    (option_or (refused_if (is_some tree) NameIsTree)
+    (option_or (option_and_then (λ v. None) meant)
+    (option_or (refused_if (option_map_or (λ v. false) meant false) NoVersion) None))))
+
+whole_is : (m : State) (name : List ℕ) (cycle : Option ℕ)
+    → refusal_of m (Get name cycle None) None ≡ whole (names_object m name) (get m.trees name) (λ c. contains_key m.objects (name, c)) (meant_object m name cycle) cycle
+unfolding refusal_of
+whole_is m name cycle = refl
+
+-- no version is asked
+last_none : (meant : Option Value) → option_or (option_and_then (λ v. None) meant) (option_or (refused_if (option_map_or (λ v. false) meant false) NoVersion) None) ≡ None
+last_none None = refl
+last_none (Some v) = refl
+
+module _ (heads : List KeyHead) (m : State) (name : List ℕ) (are : AreKeysOfState heads m) where
+  named_is : (o : Option KeyHead) → head_of name None heads ≡ o → names_object m name ≡ is_some o
+  named_is o e = names_are heads m name are ∙ ap is_some e
+
+  has_is : (cycle : ℕ) (o : Option KeyHead) → head_of name (Some cycle) heads ≡ o → contains_key m.objects (name, cycle) ≡ is_some o
+  has_is cycle o e = contains_is heads m name cycle are ∙ ap is_some e
+
+  tree_is : get m.trees name ≡ None
+  tree_is = no_tree heads m name are
+
+  -- no key has the name
+  pub no_name : (cycle : Option ℕ) → head_of name None heads ≡ None → refusal_of m (Get name cycle None) None ≡ Some NoSuchName
+  no_name cycle e =
+      let named = named_is None e in
+      whole_is m name cycle ∙ (λ i. whole (named i) (tree_is i) (λ c. contains_key m.objects (name, c)) (meant_object m name cycle) cycle)
+
+  -- a key has the name, and none has it with this cycle
+  pub no_cycle : (h : KeyHead) (cycle : ℕ) → head_of name None heads ≡ Some h → head_of name (Some cycle) heads ≡ None
+      → refusal_of m (Get name (Some cycle) None) None ≡ Some NoSuchCycle
+  no_cycle h cycle e f =
+      let named = named_is (Some h) e in
+      let has = has_is cycle None f in
+      whole_is m name (Some cycle)
+      ∙ (λ i. option_or (refused_if (not (named i || is_some (tree_is i))) NoSuchName)
+      (option_or (refused_if ((named i || is_some (tree_is i)) && not (has i || option_map_or (λ t. eqb t.cycle cycle) (tree_is i) false)) NoSuchCycle)
+      (option_or (refused_if (is_some (get m.trees name)) NameIsTree)
+      (option_or (option_and_then (λ v. None) (meant_object m name (Some cycle)))
+      (option_or (refused_if (option_map_or (λ v. false) (meant_object m name (Some cycle)) false) NoVersion) None)))))
+
+  -- a key has the name and this cycle
+  pub in_cycle : (h k : KeyHead) (cycle : ℕ) → head_of name None heads ≡ Some h → head_of name (Some cycle) heads ≡ Some k
+      → refusal_of m (Get name (Some cycle) None) None ≡ None
+  in_cycle h k cycle e f =
+      let named = named_is (Some h) e in
+      let has = has_is cycle (Some k) f in
+      whole_is m name (Some cycle)
+      ∙ (λ i. option_or (refused_if (not (named i || is_some (tree_is i))) NoSuchName)
+      (option_or (refused_if ((named i || is_some (tree_is i)) && not (has i || option_map_or (λ t. eqb t.cycle cycle) (tree_is i) false)) NoSuchCycle)
+      (option_or (refused_if (is_some (tree_is i)) NameIsTree)
+      (option_or (option_and_then (λ v. None) (meant_object m name (Some cycle)))
+      (option_or (refused_if (option_map_or (λ v. false) (meant_object m name (Some cycle)) false) NoVersion) None)))))
+      ∙ last_none (meant_object m name (Some cycle))
+
+  -- a key has the name
+  pub in_newest : (h : KeyHead) → head_of name None heads ≡ Some h → refusal_of m (Get name None None) None ≡ None
+  in_newest h e =
+      let named = named_is (Some h) e in
+      whole_is m name None
+      ∙ (λ i. option_or (refused_if (not (named i || is_some (tree_is i))) NoSuchName)
+      (option_or (refused_if (is_some (tree_is i)) NameIsTree)
+      (option_or (option_and_then (λ v. None) (meant_object m name None))
+      (option_or (refused_if (option_map_or (λ v. false) (meant_object m name None) false) NoVersion) None))))
+      ∙ last_none (meant_object m name None)
+
+  -- the object is told that the command names
+  pub tells_cycle : (h k : KeyHead) (cycle : ℕ) → head_of name None heads ≡ Some h → head_of name (Some cycle) heads ≡ Some k
+      → GoesByState m (Get name (Some cycle) None) (Ok (Telling cycle))
+  tells_cycle h k cycle e f = (in_cycle h k cycle e f, (refl, has_is cycle (Some k) f))
+
+  -- or the one of the greatest cycle
+  pub tells_newest : (h : KeyHead) → head_of name None heads ≡ Some h → GoesByState m (Get name None None) (Ok (Telling h.cycle))
+  tells_newest h e =
+      let most = first_is_greatest heads m name h are e in
+      let has = contains_is heads m name h.cycle are ∙ first_is_there name heads h e in
+      (in_newest h e, (sym most, ap (λ c. contains_key m.objects (name, c)) most ∙ has))
+
+-- ---- the others
+
+pub bad_line_refused : (m : State) (line place : ℕ) → refusal_of m (Bad line place) None ≡ Some (BadLine line place)
+unfolding refusal_of
+bad_line_refused m line place = refl
+
+pub list_accepted : (m : State) → refusal_of m Ls None ≡ None
+unfolding refusal_of
+list_accepted m = refl

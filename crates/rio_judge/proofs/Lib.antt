@@ -1,0 +1,6 @@
+pub mod CostLaws
+pub mod GetTests
+pub mod KeysOfState
+pub mod LengthLaws
+pub mod PutLaws
+pub mod PutTests

@@ -1,0 +1,22 @@
+use Rattle.std.proofs.Common.{Ok, Err, rules, sym, subst}
+use Rattle.rio_machine.specs.declared.command.Command.{Command}
+use Rattle.rio_machine.specs.declared.refusal.Refusal.TheVariants.{BadLine}
+use Rattle.rio_judge.specs.Stops.{GoesByState}
+use Rattle.rio_judge.specs.declared.stop.Stop.TheVariants.{Refused}
+use Rattle.rio_judge.specs.declared.work.Work.TheVariants.{Ls as Listing}
+use Rattle.rio_judge.proofs.GetTests.{bad_line_refused, list_accepted}
+use Rattle.rio_judge.proofs.judging.work_of.Goals as goal
+
+pub returns-in-Bad-clause-answers : goal.returns-in-Bad-clause-answers
+returns-in-Bad-clause-answers c m same are =
+    subst (λ (command : Command). GoesByState m command (Err (Refused (BadLine c.in-Bad.line c.in-Bad.place)))) (sym c.in-Bad.is)
+    (bad_line_refused m c.in-Bad.line c.in-Bad.place)
+
+pub returns-in-Get-default-default-None-clause-sound : goal.returns-in-Get-default-default-None-clause-sound
+returns-in-Get-default-default-None-clause-sound c =
+    let sound = c.get_work.ensures.sound c.args.classes.now in
+    search rules
+
+pub returns-in-Ls-clause-answers : goal.returns-in-Ls-clause-answers
+returns-in-Ls-clause-answers c m same are =
+    subst (λ (command : Command). GoesByState m command (Ok Listing)) (sym c.in-Ls.is) (list_accepted m, tt)

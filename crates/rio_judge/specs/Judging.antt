@@ -1,0 +1,78 @@
+-- What is found of a command: why it is refused, or what it is to do.
+use Rattle.std.specs.Prelude.{◌≡◌, ◌≤◌, ◌<◌, ℕ, ◌+◌, List, length, Bool, true, false, Some, None, IsSome}
+use Rattle.rio_key.specs.declared.head.KeyHead.{KeyHead}
+use Rattle.rio_dir.specs.Table.{greatest_cycle, head_of}
+use Rattle.rio_types.specs.declared.class.ClassDef.{ClassDef}
+use Rattle.rio_value.specs.declared.value.Value.{Value}
+use Rattle.rio_format.specs.Written.{written_form}
+use Rattle.rio_model.specs.Resolving.{resolved}
+use Rattle.rio_machine.specs.Limits.{cycle_limit, item_limit}
+use Rattle.rio_machine.specs.State.{State, next_cycle}
+use Rattle.rio_machine.specs.declared.command.Command.{Command}
+use Rattle.rio_machine.specs.declared.command.Command.TheVariants.{Bad, Put, Get, Ls}
+use Rattle.rio_step.specs.ItemKeys.{AreKeysOfState}
+use Rattle.rio_step.specs.Refusing.{is_list_name, meant_cycle, meant_object, object_class, put_value, refusal_of}
+use Rattle.rio_step.specs.Storable.{IsStoredObject}
+use Rattle.rio_judge.specs.declared.work.Judged.{Judged}
+use Rattle.rio_judge.specs.declared.work.Judged.TheVariants.{Accepted, Refused}
+use Rattle.rio_judge.specs.declared.work.Work.{Work}
+use Rattle.rio_judge.specs.declared.work.Work.TheVariants.{Put as Storing, Get as Telling, Ls as Listing}
+
+-- The commands that are judged as of now. It goes out when the others are built.
+abbrev pub is_judged : Command → Bool
+is_judged (Bad line place) = true
+is_judged (Put name v) = true
+is_judged (Get name cycle None) = true
+is_judged Ls = true
+is_judged other = false
+
+-- ---- by a state
+
+-- what a put stores: the object with its versions, of this class, in the next cycle of its name, and how many bytes are written of it
+pub record IsStep (m : State) (name : List ℕ) (v stored : Value) (own : List ℕ) (number size : ℕ) : Type 0 where
+  pub value : stored ≡ put_value m v
+  pub class : object_class stored ≡ Some own
+  pub cycle : number ≡ next_cycle m name
+  pub written : size ≡ length (written_form m.classes 0 stored)
+
+-- what a command is to do to a state: what its step does, and the object that a get tells is there
+abbrev pub IsWorkOf : State → Command → Work → Type 0
+IsWorkOf m (Put name v) (Storing stored own number size) = IsStep m name v stored own number size
+IsWorkOf m (Get name cycle version) (Telling told) = (told ≡ meant_cycle m name cycle) × IsSome (meant_object m name cycle)
+IsWorkOf m Ls Listing = Unit {0}
+IsWorkOf m other work = ⊥
+
+-- It tells the state's first refusal, or, where there is none, what the command is to do.
+abbrev pub IsJudgement : State → Command → Judged → Type 0
+IsJudgement m c (Refused refusal) = refusal_of m c None ≡ Some refusal
+IsJudgement m c (Accepted work) = (refusal_of m c None ≡ None) × IsWorkOf m c work
+
+-- it is so for each state that has these classes and for whose objects these keys stand
+abbrev pub IsJudgementOfStates : List ClassDef → List KeyHead → Command → Judged → Type 0
+IsJudgementOfStates classes heads c judged = (m : State) → m.classes ≡ classes → AreKeysOfState heads m → IsJudgement m c judged
+
+-- ---- by classes and keys alone
+
+-- What a put stores passes no limit, whatever the keys stand for: a record of it can be made, and a key put into the table.
+pub record CanBeStored (classes : List ClassDef) (heads : List KeyHead) (name : List ℕ) (v stored : Value) (own : List ℕ) (number size : ℕ) : Type 0 where
+  pub value : resolved classes v ≡ Some stored
+  pub class : object_class stored ≡ Some own
+  pub object : IsStoredObject classes name stored
+  pub written : (start : ℕ) → size ≡ length (written_form classes start stored)
+  pub free : is_list_name name ≡ false
+  pub cycle : number ≡ greatest_cycle name heads + 1
+  pub last : number ≤ cycle_limit
+  pub new : head_of name (Some number) heads ≡ None
+  pub room : length heads < item_limit
+
+-- what a command is to do can be done: the object can be stored, or its key is there
+abbrev pub CanBeDone : List ClassDef → List KeyHead → Command → Work → Type 0
+CanBeDone classes heads (Put name v) (Storing stored own number size) = CanBeStored classes heads name v stored own number size
+CanBeDone classes heads (Get name cycle version) (Telling told) = IsSome (head_of name (Some told) heads)
+CanBeDone classes heads Ls Listing = Unit {0}
+CanBeDone classes heads other work = ⊥
+
+-- what is accepted can be done
+abbrev pub IsSound : List ClassDef → List KeyHead → Command → Judged → Type 0
+IsSound classes heads c (Refused refusal) = Unit {0}
+IsSound classes heads c (Accepted work) = CanBeDone classes heads c work

@@ -1,0 +1,33 @@
+-- Where a judgement stops.
+use Rattle.std.specs.Prelude.{◌≡◌, List, Option, Some, None, Result, Ok, Err}
+use Rattle.rio_machine.specs.State.{State}
+use Rattle.rio_machine.specs.declared.command.Command.{Command}
+use Rattle.rio_machine.specs.declared.refusal.Refusal.{Refusal}
+use Rattle.rio_machine.specs.declared.refusal.Refusal.TheVariants.{NoSuchClass}
+use Rattle.rio_step.specs.Refusing.{first_of, refusal_of}
+use Rattle.rio_valtext.specs.declared.resolving.ResolveFault.{ResolveFault}
+use Rattle.rio_valtext.specs.declared.resolving.ResolveFault.TheVariants.{NoSuchClass as Unknown, NoMemory as NoRoom}
+use Rattle.rio_judge.specs.Judging.{IsWorkOf}
+use Rattle.rio_judge.specs.declared.stop.Stop.{Stop}
+use Rattle.rio_judge.specs.declared.stop.Stop.TheVariants.{Refused, NoMemory}
+use Rattle.rio_judge.specs.declared.work.Work.{Work}
+
+-- a class that isn't known refuses a command
+abbrev pub stop_of : ResolveFault → Stop
+stop_of Unknown = Refused NoSuchClass
+stop_of NoRoom = NoMemory
+
+-- it stops at this refusal, or memory ran out
+abbrev pub StopsAt : Option Refusal → Stop → Type 0
+StopsAt first (Refused refusal) = first ≡ Some refusal
+StopsAt first NoMemory = Unit {0}
+
+-- it goes on where no test gives a refusal, and else stops at the first
+abbrev pub GoesByTests : {A : Type 0} → List (Option Refusal) → Result A Stop → Type 0
+GoesByTests tests (Ok x) = first_of tests ≡ None
+GoesByTests tests (Err stop) = StopsAt (first_of tests) stop
+
+-- it gives what the command is to do where the state doesn't refuse it, and else stops at the refusal
+abbrev pub GoesByState : State → Command → Result Work Stop → Type 0
+GoesByState m c (Ok work) = (refusal_of m c None ≡ None) × IsWorkOf m c work
+GoesByState m c (Err stop) = StopsAt (refusal_of m c None) stop

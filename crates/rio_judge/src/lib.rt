@@ -1,0 +1,22 @@
+//! Whether a command is refused by the state, for one of the reasons 1 to 18, and what it is to do
+//! if it isn't. The state is known by what a session keeps of it, its classes and the keys of its
+//! objects; no file is at hand.
+//!
+//! [`judge`] tells the first refusal, or the [`Work`] of a command, with what is found on the way:
+//! an object with its versions, its class, its cycle and how many bytes are written of it.
+//! [`Work::cost`] tells what it may cost of a file's room. `specs/Judging.antt` says what a right
+//! judgement is: for each state that the keys stand for it is the state's, and whatever they stand
+//! for, what is accepted can be done.
+#![tactic(auto)]
+
+mod get;
+mod judging;
+mod put;
+mod stop;
+mod work;
+
+pub use judging::judge;
+pub use work::{Judged, Work};
+
+#[cfg(test)]
+mod tests;

@@ -1,0 +1,175 @@
+//! Whether a put is refused.
+ghost use Rattle.std.specs.Prelude.{◌≡◌, ◌≤◌, ℕ, ◌+◌, ◌∷◌, [], length, Some, None, IfOk, is_some, not, nat_le, nat_lt, ◌||◌};
+ghost use Rattle.std.specs.Option.{option_copied};
+ghost use Rattle.rio_dir.specs.Table.{greatest_cycle};
+ghost use Rattle.rio_format.specs.Written.{written_form};
+ghost use Rattle.rio_machine.specs.Limits.{cycle_limit, data_length, has_long_list, head_length, is_too_deep, is_too_long, item_limit, zeros_behind};
+ghost use Rattle.rio_machine.specs.State.{State};
+ghost use Rattle.rio_machine.specs.declared.command.Command.{Command};
+ghost use Rattle.rio_machine.specs.declared.refusal.Refusal.{Refusal as Refusing};
+ghost use Rattle.rio_model.specs.Resolving.{resolved};
+ghost use Rattle.rio_step.specs.ItemKeys.{AreKeysOfState};
+ghost use Rattle.rio_step.specs.Refusing.{is_fit, is_kept_out, is_list_name, object_class, refused_if};
+ghost use Rattle.rio_judge.specs.Judging.{CanBeDone};
+ghost use Rattle.rio_judge.specs.Stops.{GoesByState, GoesByTests};
+
+use crate::Work;
+use crate::stop::Stop;
+use rio_dir::KeyTable;
+use rio_fit::{can_be_put, fits};
+use rio_machine::Refusal;
+use rio_num::Name;
+use rio_types::Classes;
+use rio_valtext::resolved;
+use rio_value::{Value, depth, longest_list};
+use rio_write::{text_length, written_length};
+use std::alloc::Global;
+
+/// The greatest cycle.
+const CYCLE_LIMIT: u32 = 32_767;
+
+/// The most bytes of an object's data.
+const LENGTH_LIMIT: u64 = 16_777_216;
+
+/// The most levels of objects in a value.
+const DEPTH_LIMIT: u32 = 256;
+
+/// The most values in a list.
+const LIST_LIMIT: u64 = 100_000;
+
+/// The most objects and trees of a file.
+const ITEM_LIMIT: usize = 100_000;
+
+// The name of the class list is taken.
+fn check_name(name: &[u8]) -> Result<(), Stop>
+    ensures { GoesByTests (refused_if (is_list_name name.now) Refusing.BadName ∷ []) result }
+{
+    if name == b"StreamerInfo".as_slice() {
+        return Err(Stop::Refused(Refusal::BadName));
+    }
+    Ok(())
+}
+
+// The value with its versions.
+fn known_value(alloc: Global, classes: &Classes, value: &Value) -> Result<Value, Stop>
+    ensures value { IfOk result (λ v. resolved classes.now value.now ≡ Some v) }
+    ensures told { GoesByTests (refused_if (not (is_some (resolved classes.now value.now)))
+        Refusing.NoSuchClass ∷ []) result }
+{
+    Ok(resolved(alloc, classes, value)?)
+}
+
+// The class of an object; none of another value.
+fn object_class(value: &Value) -> Option<&Name>
+    ensures { option_copied result ≡ object_class value.now }
+{
+    match value {
+        Value::Object { class, .. } => Some(class),
+        _ => None,
+    }
+}
+
+// The class of an object that fits it and that a put takes.
+fn taken_class(alloc: Global, classes: &Classes, value: &Value) -> Result<Name, Stop>
+    ensures class { IfOk result (λ own. object_class value.now ≡ Some own) }
+    ensures told { GoesByTests (refused_if (is_kept_out classes.now value.now) Refusing.NoSuchClass
+        ∷ refused_if (not (is_fit classes.now value.now)) Refusing.DoesNotFit ∷ []) result }
+{
+    let Some(class) = object_class(value) else {
+        return Err(Stop::Refused(Refusal::DoesNotFit));
+    };
+    if !can_be_put(classes, class.as_slice()) {
+        return Err(Stop::Refused(Refusal::NoSuchClass));
+    }
+    if !fits(alloc, classes, class.as_slice(), value)? {
+        return Err(Stop::Refused(Refusal::DoesNotFit));
+    }
+    Ok(class.copy()?)
+}
+
+// The next cycle of a name.
+fn next_cycle(table: &KeyTable, name: &[u8]) -> Result<u16, Stop>
+    ensures cycle { IfOk result (λ n. n ≡ greatest_cycle name.now table.now.heads + 1) }
+    ensures told { GoesByTests
+        (refused_if (nat_lt cycle_limit (greatest_cycle name.now table.now.heads + 1))
+        Refusing.CycleLimit ∷ []) result }
+{
+    let cycle = table.next_cycle(name);
+    if cycle > CYCLE_LIMIT {
+        return Err(Stop::Refused(Refusal::CycleLimit));
+    }
+    Ok(cycle as u16)
+}
+
+// How many zero bytes stand behind an object's bytes in its record.
+fn zeros_behind(class: &[u8], name: &[u8], length: u64) -> u64
+    requires { length ≤ 16777217 }
+    ensures { result ≡ zeros_behind (head_length class.now name.now + length) }
+{
+    let beyond = (text_length(class) % 4 + text_length(name) % 4 + 27 + length) % 4;
+    (4 - beyond) % 4
+}
+
+// How many bytes are written of an object.
+fn short_length(
+    alloc: Global,
+    classes: &Classes,
+    class: &[u8],
+    name: &[u8],
+    value: &Value,
+) -> Result<u32, Stop>
+    ensures length { IfOk result
+        (λ n. (start : ℕ) → n ≡ length (written_form classes.now start value.now)) }
+    ensures told { GoesByTests
+        (refused_if (is_too_long (data_length classes.now class.now name.now value.now))
+        Refusing.TooLarge ∷ []) result }
+{
+    let length = written_length(alloc, classes, value)?;
+    if length + zeros_behind(class, name, length) > LENGTH_LIMIT {
+        return Err(Stop::Refused(Refusal::TooLarge));
+    }
+    Ok(length as u32)
+}
+
+// Nothing is too deep or too many.
+fn check_counts(table: &KeyTable, value: &Value) -> Result<(), Stop>
+    ensures { GoesByTests (refused_if (is_too_deep value.now) Refusing.TooDeep
+        ∷ refused_if (has_long_list value.now || nat_le item_limit (length table.now.heads))
+        Refusing.TooMany ∷ []) result }
+{
+    if depth(value) > DEPTH_LIMIT {
+        return Err(Stop::Refused(Refusal::TooDeep));
+    }
+    if longest_list(value) > LIST_LIMIT || table.count() >= ITEM_LIMIT {
+        return Err(Stop::Refused(Refusal::TooMany));
+    }
+    Ok(())
+}
+
+/// What a put of the value under the name is to do, or the first refusal, in the order of their
+/// numbers.
+pub(crate) fn put_work(
+    alloc: Global,
+    classes: &Classes,
+    table: &KeyTable,
+    name: &[u8],
+    value: &Value,
+) -> Result<Work, Stop>
+    ensures answers { (m : State) → m.classes ≡ classes.now → AreKeysOfState table.now.heads m
+        → GoesByState m (Command.Put name.now value.now) result }
+    ensures sound { IfOk result (CanBeDone classes.now table.now.heads
+        (Command.Put name.now value.now)) }
+{
+    check_name(name)?;
+    let value = known_value(alloc, classes, value)?;
+    let class = taken_class(alloc, classes, &value)?;
+    let cycle = next_cycle(table, name)?;
+    let length = short_length(alloc, classes, class.as_slice(), name, &value)?;
+    check_counts(table, &value)?;
+    Ok(Work::Put {
+        value,
+        class,
+        cycle,
+        length,
+    })
+}
