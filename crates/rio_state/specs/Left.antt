@@ -33,7 +33,7 @@ pub record HasOpenHead (file : List ℕ) (nbytes_name : ℕ) : Type 0 where
   pub head : FileHead
   pub head_is : head_at file ≡ Ok head
   pub small : is_large_head head.version ≡ false
-  pub open : head.end ≡ open_end
+  pub end : head.end ≡ open_end
   pub name : head.nbytes_name ≡ nbytes_name
 
 abbrev pub info_head : Option KeyedRecord → Option KeyHead
