@@ -1,6 +1,6 @@
 -- A record as it is put into a file: a key of the small form, data, and zero bytes up to a length that is a multiple of four,
 -- which count as data.
-use Rattle.std.specs.Prelude.{◌≡◌, ℕ, ◌+◌, ◌%◌, ◌^◌, ◌<◌, ◌≤◌, pos, List, ◌++◌, length, replicate}
+use Rattle.std.specs.Prelude.{ℕ, ◌+◌, ◌-◌, ◌%◌, ◌^◌, ◌<◌, pos, List, ◌++◌, length}
 use Rattle.rio_num.specs.Room.{padding}
 use Rattle.rio_num.specs.Text.{text_bytes}
 use Rattle.rio_key.specs.Written.{written_key}
