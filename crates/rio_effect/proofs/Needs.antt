@@ -1,0 +1,97 @@
+-- What a close needs with one more record in the file, and by the keys that are kept beside it.
+use Rattle.std.proofs.Common.{◌≡◌, ◌⊎◌, inl, inr, ⊎_elim, ℕ, ◌+◌, ◌-◌, ◌*◌, ◌%◌, ◌≤◌, ◌∙◌, codes, List, [], ◌∷◌, ◌++◌, length, map, Bool, true, false, not, ◌&&◌, Option, Some, None, refl, sym, ap, subst, arith}
+use Rattle.std.specs.List.{sum_by}
+use Rattle.std.proofs.lemmas.Bool.{and_parts}
+use Rattle.std.proofs.lemmas.List.{length-append, length-map}
+use Rattle.std.proofs.lemmas.List.Sums.{sum_by-append, sum_by-cons}
+use Rattle.rio_key.specs.Written.{written_key}
+use Rattle.rio_key.specs.declared.head.KeyHead.{KeyHead}
+use Rattle.rio_chain.specs.Changes.{with_record}
+use Rattle.rio_chain.specs.Segments.{IsChain, IsRecord, Link}
+use Rattle.rio_machine.specs.Limits.{head_length, zeros_behind}
+use Rattle.rio_machine.specs.State.{State}
+use Rattle.rio_state.specs.Closing.{KeptRecords, close_need, closing_lengths, free_length, item_heads, kept_count, kept_in, list_length, name_in, padded_length}
+use Rattle.rio_state.specs.DirectoryKeys.{AreKeysOf}
+use Rattle.rio_state.specs.KeyedRecords.{KeyedRecord, has_info_name, has_item, info_key, is_in_directory, is_info_key, is_top_key, is_tree_key, is_tree_record, item_of_key, keyed_records, object_records, top_keys, tree_records}
+use Rattle.rio_state.specs.Reads.{AreRecordsOf}
+use Rattle.rio_effect.specs.Laws.{NeedGrows, keyed_bytes}
+use Rattle.rio_effect.specs.More.{HasOneMoreIn, KeepsOneMore}
+use Rattle.rio_effect.proofs.Insertion.{filter_more}
+use Rattle.rio_effect.proofs.KeysFollow.{items_more}
+use Rattle.rio_effect.proofs.MoreRecords.{first_stays, record_more}
+use Rattle.rio_effect.proofs.Stays.{info_same}
+
+-- ---- sums
+
+module _ {A : Type 0} (f : A → ℕ) where
+  pub sum_more : (old new : List A) (x : A) → HasOneMoreIn old new x → sum_by f new ≡ sum_by f old + f x
+  sum_more old new x h =
+      let one = ap (sum_by f) h.after ∙ sum_by-append f h.front (x ∷ h.back) in
+      let two = sum_by-cons f x h.back in
+      let three = ap (sum_by f) h.before ∙ sum_by-append f h.front h.back in
+      omega (arith, one, two, three)
+
+pub length_more : {A : Type 0} (old new : List A) (x : A) → HasOneMoreIn old new x → length new ≡ length old + 1
+length_more old new x h =
+    let one = ap length h.after ∙ length-append h.front (x ∷ h.back) in
+    let two = ap length h.before ∙ length-append h.front h.back in
+    omega (arith, one, two)
+
+-- ---- one object more
+
+padded_more : (a b : ℕ) → padded_length (a + b) ≤ padded_length a + padded_length b
+padded_more a b = omega arith
+
+sums_more : (x y p q r s : ℕ) → x ≤ p + r → y ≤ q + s → 0 + x + y ≤ 0 + p + q + r + s
+sums_more x y p q r s one two = omega (arith, one, two)
+
+-- not one of the class list
+not_info : (head : KeyHead) → is_top_key head ≡ true → is_info_key head ≡ false
+not_info head top = by (has_info_name head) (and_parts (is_in_directory head) (not (has_info_name head)) top)
+  where
+    by : (b : Bool) → (is_in_directory head ≡ true) × (not b ≡ true) → (is_in_directory head && b) ≡ false
+    by true parts = absurd (let e = parts.1 in cc)
+    by false parts = ap (λ a. a && false) parts.0
+
+module _ (old new : KeptRecords) (head : KeyHead) (name : new.name ≡ old.name) (heads : HasOneMoreIn old.heads new.heads head) (count : new.count ≡ old.count + 1) where
+  list_more : list_length new ≡ list_length old + length (written_key head)
+  list_more =
+      let sum = sum_more (λ h. length (written_key h)) old.heads new.heads head heads in
+      let front : head_length (codes "TFile") new.name ≡ head_length (codes "TFile") old.name = ap (head_length (codes "TFile")) name in
+      omega (arith, sum, front)
+
+  free_more : free_length new ≡ free_length old + 10
+  free_more =
+      let front : head_length (codes "TFile") new.name ≡ head_length (codes "TFile") old.name = ap (head_length (codes "TFile")) name in
+      omega (arith, front, count)
+
+  need_more : close_need new ≤ close_need old + padded_length (length (written_key head)) + padded_length 10
+  unfolding close_need
+  need_more =
+      let lists = list_more in
+      let frees = free_more in
+      let one = subst (λ (n : ℕ). padded_length n ≤ padded_length (list_length old) + padded_length (length (written_key head))) (sym lists) (padded_more (list_length old) (length (written_key head))) in
+      let two = subst (λ (n : ℕ). padded_length n ≤ padded_length (free_length old) + padded_length 10) (sym frees) (padded_more (free_length old) 10) in
+      sums_more (padded_length (list_length new)) (padded_length (free_length new)) (padded_length (list_length old)) (padded_length (free_length old)) (padded_length (length (written_key head))) (padded_length 10) one two
+
+  pub keeps_one_more : KeepsOneMore old new head
+  keeps_one_more = record { name = name; heads = heads; count = count; list = list_more; free = free_more; need = need_more }
+
+counted_more : (info : Option KeyedRecord) (a b : List KeyHead) → length b ≡ length a + 1 → kept_count info b ≡ kept_count info a + 1
+counted_more None a b e = omega (arith, e)
+counted_more (Some r) a b e = omega (arith, e)
+
+pub need_grows : NeedGrows
+unfolding kept_in
+need_grows file links place bytes h chain read top object =
+    let old = keyed_records links in
+    let new = keyed_records (with_record place bytes links) in
+    let x = keyed_bytes h bytes in
+    let more = record_more links place bytes h read in
+    let tops = filter_more (λ s. is_top_key s.head) x old new more top in
+    let heads = items_more (top_keys old) (top_keys new) x tops object in
+    let info = info_same old new x more (not_info h top) in
+    let long = length_more (item_heads (top_keys old)) (item_heads (top_keys new)) h heads in
+    let count : kept_count (info_key new) (item_heads (top_keys new)) ≡ kept_count (info_key old) (item_heads (top_keys old)) + 1 =
+    ap (λ (o : Option KeyedRecord). kept_count o (item_heads (top_keys new))) info ∙ counted_more (info_key old) (item_heads (top_keys old)) (item_heads (top_keys new)) long in
+    keeps_one_more (kept_in links) (kept_in (with_record place bytes links)) h (first_stays file links place bytes chain) heads count

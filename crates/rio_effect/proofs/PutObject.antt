@@ -1,0 +1,203 @@
+-- The record of an object that a put adds holds the object.
+use Rattle.std.proofs.Common.{◌≡◌, ℕ, zero, suc, ◌+◌, ◌-◌, ◌%◌, ◌^◌, ◌<◌, ◌≤◌, ◌∙◌, List, [], ◌∷◌, ◌++◌, drop, length, replicate, Bool, true, false, cond, not, ltb, eqb, ◌&&◌, ◌||◌, ◌==◌, Option, Some, None, Ok, refl, sym, ap, subst, arith}
+use Rattle.std.specs.Prelude.{if◌then◌else◌, is_some, unwrap_or}
+use Rattle.std.specs.List.{list_all}
+use Rattle.std.specs.Option.{option_map_or}
+use Rattle.std.proofs.lemmas.Bool.{and_from, lt-ltb, ltb-false}
+use Rattle.std.proofs.lemmas.List.{length-replicate}
+use Rattle.rio_num.specs.Room.{padding}
+use Rattle.rio_num.specs.Text.{long_form, short_form, text_bytes}
+use Rattle.rio_num.specs.Word.{is_item_text}
+use Rattle.rio_types.specs.declared.class.ClassDef.{ClassDef}
+use Rattle.rio_value.specs.Depth.{depth_of}
+use Rattle.rio_value.specs.declared.value.Value.{Value}
+use Rattle.rio_buffer.specs.ReaderState.{ReaderState}
+use Rattle.rio_format.specs.Fits.{fits}
+use Rattle.rio_format.specs.Objects.{SpellsObject, depth_limit, first_at}
+use Rattle.rio_format.specs.Slots.{can_be_put}
+use Rattle.rio_format.specs.Written.{written_form}
+use Rattle.rio_format.specs.WrittenBytes.{length_limit}
+use Rattle.rio_format.proofs.ObjectLaws.{spelled_is_read}
+use Rattle.rio_format.proofs.WrittenValues.{written_is_spelled}
+use Rattle.rio_model.specs.StateClasses.{StateClasses}
+use Rattle.rio_machine.specs.Limits.{cycle_limit, data_length, has_long_list, is_too_deep, is_too_long}
+use Rattle.rio_machine.specs.State.{State, names_tree, next_cycle}
+use Rattle.rio_machine.specs.declared.command.Command.TheVariants.{Put}
+use Rattle.rio_machine.specs.declared.refusal.Refusal.TheVariants.{BadName, NameIsTree, NoSuchClass, CycleLimit, TooLarge, TooDeep, TooMany}
+use Rattle.rio_record.specs.Record.{FitsWords, key_size, new_key, padded_size, record_bytes, unpadded}
+use Rattle.rio_record.specs.declared.words.KeyWords.{KeyWords}
+use Rattle.rio_state.specs.Contents.{can_be_stored, is_padding, object_in, stored_in}
+use Rattle.rio_state.specs.KeyedRecords.{KeyedRecord, record_data}
+use Rattle.rio_step.proofs.ApartLaws.{none_at, not_refused}
+use Rattle.rio_step.proofs.FitStays.{true_from_not, unrefused_fit}
+use Rattle.rio_step.specs.Refusing.{FullMark, goes_too_deep, has_too_many, is_at_last_cycle, is_fit, is_kept_out, is_list_name, is_too_large, is_tree_name, lacks_class, object_class, object_length, put_value, refusal_of, refusals}
+use Rattle.rio_effect.specs.Laws.{KeyIsRead, PutWordsFit}
+use Rattle.rio_effect.specs.ObjectRecord.{data_of_put, key_of_put, object_data, object_key, object_record, object_words, record_of_put, words_of_put, words_of_value}
+use Rattle.rio_effect.proofs.MoreRecords.{key_is_read}
+use Rattle.rio_effect.proofs.PutClasses.{IsObjectClass, object_class_is, short_item, versions_in_range}
+use Rattle.rio_effect.proofs.Versions.{fits_in_versions}
+use Rattle.rio_effect.proofs.WrittenLengths.{written_length}
+use Rattle.rio_effect.proofs.WrittenRecords.{IsWritten, written_record}
+
+-- ---- what an accepted put knows
+
+second : (a b : Bool) → (a || b) ≡ false → b ≡ false
+second true b e = absurd cc
+second false b e = e
+
+first : (a b : Bool) → (a || b) ≡ false → a ≡ false
+first true b e = absurd cc
+first false b e = refl
+
+-- the class of an object, none of another value
+abbrev pub class_of : Value → List ℕ
+class_of v = unwrap_or (object_class v) []
+
+-- an object of a class that a put takes, which fits and passes no limit, under a name that an object may have
+pub record IsAccepted (m : State) (name : List ℕ) (v : Value) : Type 0 where
+  pub free : is_list_name name ≡ false
+  pub no_tree : names_tree m name ≡ false
+  pub fit : fits m.classes (class_of v) v ≡ true
+  pub taken : can_be_put m.classes (class_of v) ≡ true
+  pub cycle : next_cycle m name ≤ cycle_limit
+  pub short : is_too_long (data_length m.classes (class_of v) name v) ≡ false
+  pub shallow : is_too_deep v ≡ false
+  pub few : has_long_list v ≡ false
+
+module _ (classes : List ClassDef) (v : Value) where
+  fit_class : (own : Option (List ℕ)) → option_map_or (λ c. fits classes c v) own false ≡ true → fits classes (unwrap_or own []) v ≡ true
+  fit_class None e = absurd cc
+  fit_class (Some c) e = e
+
+  taken_class : (own : Option (List ℕ)) → option_map_or (λ c. fits classes c v) own false ≡ true → option_map_or (λ c. not (can_be_put classes c)) own false ≡ false
+      → can_be_put classes (unwrap_or own []) ≡ true
+  taken_class None fit e = absurd cc
+  taken_class (Some c) fit e = true_from_not _ e
+
+pub accepted : (m : State) (name : List ℕ) (v : Value) (mark : Option FullMark) → refusal_of m (Put name v) mark ≡ None → IsAccepted m name (put_value m v)
+unfolding refusal_of
+accepted m name v mark e =
+    let tests = refusals m (Put name v) mark in
+    let w = put_value m v in
+    let free = not_refused (is_list_name name) BadName (none_at tests 1 e) in
+    let tree = not_refused (is_tree_name m (Put name v)) NameIsTree (none_at tests 4 e) in
+    let lacks = not_refused (lacks_class m (Put name v)) NoSuchClass (none_at tests 7 e) in
+    let last = not_refused (is_at_last_cycle m (Put name v)) CycleLimit (none_at tests 14 e) in
+    let large = not_refused (is_too_large m (Put name v)) TooLarge (none_at tests 15 e) in
+    let deep = not_refused (goes_too_deep m (Put name v)) TooDeep (none_at tests 16 e) in
+    let many = not_refused (has_too_many m (Put name v)) TooMany (none_at tests 17 e) in
+    let fit = unrefused_fit m name v mark e in
+    record {
+      free = free;
+      no_tree = tree;
+      fit = fit_class m.classes w (object_class w) fit;
+      taken = taken_class m.classes w (object_class w) fit (second _ _ lacks);
+      cycle = ltb-false cycle_limit (next_cycle m name) last;
+      short = large;
+      shallow = deep;
+      few = first _ _ many;
+    }
+
+-- ---- the record
+
+zeros_pass : (n : ℕ) → list_all (λ b. b == 0) (replicate n 0) ≡ true
+zeros_pass zero = refl
+zeros_pass (suc n) = zeros_pass n
+
+pads : (bytes : List ℕ) → is_padding (padding bytes) ≡ true
+pads bytes =
+    let n = (4 - length bytes % 4) % 4 in
+    let long = length-replicate {A = ℕ} n 0 in
+    and_from _ _ (lt-ltb _ _ (omega (arith, long))) (zeros_pass n)
+
+text_long : (text : List ℕ) → length text ≤ 100 → length (text_bytes text) ≤ 101
+text_long text le = by (ltb (length text) 255) refl
+  where
+    by : (b : Bool) → ltb (length text) 255 ≡ b → length (cond b (short_form text) (long_form text)) ≤ 101
+    by true e = omega (arith, le)
+    by false e = let no = ltb-false (length text) 255 e in absurd (omega (arith, le, no))
+
+module _ (m : State) (place datime : ℕ) (name : List ℕ) (v : Value) (ok : IsAccepted m name (put_value m v)) (are : StateClasses m.classes) (named : is_item_text name ≡ true) where
+  abbrev value : Value
+  value = put_value m v
+
+  abbrev class : List ℕ
+  class = class_of value
+
+  abbrev words : KeyWords
+  words = words_of_put m place datime name v
+
+  abbrev contents : List ℕ
+  contents = data_of_put m place datime name v
+
+  abbrev keylen : ℕ
+  keylen = key_size words
+
+  pub own_class : IsObjectClass class
+  own_class = object_class_is m.classes class are ok.taken
+
+  key_short : keylen ≤ 229
+  key_short =
+      let one = text_long class own_class.short in
+      let two = text_long name (short_item name named) in
+      let title : length (text_bytes []) ≡ 1 = refl in
+      omega (arith, one, two, title)
+
+  -- the data are as long as the rule of what is too long takes them
+  same_length : padded_size keylen (length contents) ≡ data_length m.classes class name value
+  same_length = ap (padded_size keylen) (written_length m.classes keylen 0 value)
+
+  data_short : padded_size keylen (length contents) ≤ length_limit
+  data_short = let below = ltb-false length_limit (data_length m.classes class name value) ok.short in omega (arith, below, same_length)
+
+  module _ (low : place < 2 ^ 32) (soon : datime < 2 ^ 32) where
+    pub words_fit : FitsWords words (length contents)
+    words_fit = record {
+      place = low;
+      directory = omega arith;
+      datime = soon;
+      cycle = let last = ok.cycle in omega (arith, last);
+      key = omega (arith, key_short);
+      whole = omega (arith, key_short, data_short);
+    }
+
+    whole : IsWritten words contents
+    whole = written_record words contents words_fit
+
+    pub put_key_read : KeyIsRead place (record_bytes words contents) (new_key words (length contents))
+    put_key_read = key_is_read place (record_bytes words contents) (new_key words (length contents)) whole.key
+
+    abbrev zeros : List ℕ
+    zeros = padding (unpadded words contents)
+
+    abbrev pub put_record : KeyedRecord
+    put_record = record { head = new_key words (length contents); bytes = record_bytes words contents }
+
+    spelled : SpellsObject m.classes keylen class value contents
+    spelled =
+        let shallow = ltb-false depth_limit (depth_of value) ok.shallow in
+        let versions = fits_in_versions m.classes (versions_in_range m.classes are) class value ok.fit in
+        written_is_spelled m.classes class keylen value ok.fit shallow versions (omega (arith, key_short, data_short))
+
+    stored : (bytes : List ℕ) (s : ReaderState) → s.at.rest ≡ zeros → bytes ≡ contents ++ zeros → first_at m.classes class keylen (contents ++ zeros) ≡ Ok (value, s)
+        → stored_in m.classes put_record (first_at m.classes class keylen bytes) ≡ Some value
+    stored bytes s rest is read =
+        let padded : is_padding s.at.rest ≡ true = ap is_padding rest ∙ pads (unpadded words contents) in
+        let short : is_too_long (padded_size keylen (length contents)) ≡ false = ap is_too_long same_length ∙ ok.short in
+        let fit = and_from _ _ ok.fit ok.taken in
+        let long = and_from _ _ fit (ap not short) in
+        let deep = and_from _ _ long (ap not ok.shallow) in
+        let can : can_be_stored m.classes put_record value ≡ true = and_from _ _ deep (ap not ok.few) in
+        ap (λ (b : List ℕ). stored_in m.classes put_record (first_at m.classes class keylen b)) is
+        ∙ ap (stored_in m.classes put_record) read
+        ∙ ap (λ (b : Bool). if b then Some value else None) (and_from _ _ padded can)
+
+    -- it is read back
+    pub object_read : object_in m.classes put_record ≡ Some value
+    unfolding object_in
+    object_read =
+        let read = spelled_is_read m.classes class keylen value contents zeros spelled in
+        stored (record_data put_record) read.0 read.2 whole.behind read.1
+
+pub put_words_fit : PutWordsFit
+put_words_fit m place datime name v mark low soon are named e = words_fit m place datime name v (accepted m name v mark e) are named low soon
