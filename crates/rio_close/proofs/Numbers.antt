@@ -10,7 +10,9 @@ use Rattle.rio_num.specs.Reading.{bytes_at, number_at, short, skip}
 use Rattle.rio_num.specs.declared.cursor.Short.{Short}
 use Rattle.rio_num.proofs.ReadLaws.{ok_is}
 use Rattle.rio_host.specs.Image.{Has}
+use Rattle.rio_host.specs.ImageLaws.{slice_get-drop, slice_get-take}
 use Rattle.rio_host.proofs.Images.{has_keeps, has_length}
+use Rattle.std.proofs.lemmas.Option.{slice_get_within}
 use Rattle.rio_chain.specs.Segments.{HasWord}
 use Rattle.rio_chain.proofs.Words.{has_own, has_same, word_of_bytes, word_within}
 
@@ -94,14 +96,17 @@ pub record WasRead (n p k : ℕ) (file : List ℕ) (x : ℕ) (t : At) : Type 0 w
   pub there : HasNumber n file k x
   pub goes_on : t ≡ standing (p + n) (drop (k + n) file)
 
+abbrev taken : ℕ → ℕ → ℕ → List ℕ → ℕ × At
+taken n p k file = (big_number n (drop k file), skip n (standing p (drop k file)))
+
 pub number_was_read : (m p k : ℕ) (file : List ℕ) (x : ℕ) (t : At) → number_at (suc m) (standing p (drop k file)) ≡ Ok (x, t) → WasRead (suc m) p k file x t
 number_was_read m p k file x t e = by (ltb (length (drop k file)) (suc m)) refl e
   where
-    by : (b : Bool) → ltb (length (drop k file)) (suc m) ≡ b → cond b (Err (short p (suc m))) (Ok (big_number (suc m) (drop k file), skip (suc m) (standing p (drop k file)))) ≡ Ok (x, t) → WasRead (suc m) p k file x t
+    by : (b : Bool) → ltb (length (drop k file)) (suc m) ≡ b → cond b (Err (short p (suc m))) (Ok (taken (suc m) p k file)) ≡ Ok (x, t) → WasRead (suc m) p k file x t
     by true is e = absurd cc
     by false is e =
         let long : suc m ≤ length (drop k file) = ltb-false _ _ is in
-        let same = ok_is {E = Short} (big_number (suc m) (drop k file), skip (suc m) (standing p (drop k file))) (x, t) e in
+        let same = ok_is {E = Short} (taken (suc m) p k file) (x, t) e in
         record {
           there = record { within = omega (arith, long, length-drop k file); number = ap (λ (q : ℕ × At). q.0) same };
           goes_on = ap (λ (q : ℕ × At). q.1) (sym same) ∙ ap (λ (l : List ℕ). standing (p + suc m) l) (drop-drop (suc m) k file);
@@ -112,3 +117,16 @@ pub bytes_read : (n k p : ℕ) (file : List ℕ) → k + n ≤ length file → b
 bytes_read n k p file le =
     let enough : ltb (length (drop k file)) n ≡ false = le-ltb _ _ (omega (arith, le, length-drop k file)) in
     rw enough refl
+
+-- a number within bytes that the file has
+pub number_within : (file : List ℕ) (place : ℕ) (bytes : List ℕ) (k i w : ℕ) → Has file place bytes → HasNumber (suc k) bytes i w → HasNumber (suc k) file (place + i) w
+number_within file place bytes k i w has a =
+    let n = suc k in
+    let own : length (take n (drop i bytes)) ≡ n = own_long n i bytes a.within in
+    let there : Has file (place + i) (take n (drop i bytes)) = λ j x at.
+    let low : j < n = omega (arith, own, slice_get_within (take n (drop i bytes)) j x at) in
+    subst (λ (q : ℕ). slice_get file q ≡ Some x) (let e : place + (i + j) ≡ place + i + j = omega arith in e) (has (i + j) x (sym (slice_get-drop i j (i + j) bytes refl) ∙ sym (slice_get-take n j (drop i bytes) low) ∙ at)) in
+    let long = has_length file (place + i) (take n (drop i bytes)) k (omega (arith, own)) there in
+    let le : place + i + n ≤ length file = omega (arith, long, own) in
+    let same : take n (drop (place + i) file) ≡ take n (drop i bytes) = has_same file (place + i) (take n (drop (place + i) file)) (take n (drop i bytes)) (own_long n (place + i) file le ∙ sym own) (has_own file (place + i) n) there in
+    record { within = le; number = sym (taken_number n (place + i) file) ∙ ap (big_number n) same ∙ taken_number n i bytes ∙ a.number }

@@ -5,6 +5,7 @@ use Rattle.byteorder.specs.Endian.{big_bytes}
 use Rattle.rio_key.specs.declared.head.KeyHead.{KeyHead}
 use Rattle.rio_free.specs.Record.{free_bytes}
 use Rattle.rio_dir.specs.Table.{key_list_bytes}
+use Rattle.rio_chain.specs.Adjoining.{AreSegments}
 use Rattle.rio_chain.specs.Placing.{file_end, gaps_in, place_of, with_segment}
 use Rattle.rio_chain.specs.declared.segment.Segment.{Segment}
 use Rattle.rio_record.specs.Record.{FitsWords, new_key, record_bytes}
@@ -78,6 +79,7 @@ dir_field_bytes changed n nbytes_name place =
 -- These are the records and fields of a close: the key list has the heads, the free record tells gaps and END as they are behind
 -- both, and the fields say where the two and the class list are. END stays within its limit.
 pub record AreCloseRecords (f : OpenFile) (records : CloseRecords) : Type 0 where
+  pub shape : AreSegments f.segments
   pub list : IsOwnRecord (own_words (list_place f records) f.datime f.name) (key_list_bytes f.heads) records.list
   pub free : IsOwnRecord (own_words (free_place f records) f.datime f.name) (free_bytes (gaps_in (with_both f records)) (file_end (with_both f records))) records.free
   pub low : file_end (with_both f records) ≤ end_limit

@@ -25,3 +25,4 @@ pub use open::{open_closed, read_closed};
 pub use parts::CloseRecords;
 pub use record::{data_of, read_record, read_up_to};
 pub use rio_dir::Closed;
+pub use writing::write_close;

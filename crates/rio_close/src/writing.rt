@@ -85,3 +85,52 @@ fn finish<H: Host>(
     host.write_word(12, end)?;
     host.sync()
 }
+
+/// Closes a file: puts the key list and the free record, writes the fields of header and directory record, and then, with
+/// them on the disk, the word that says where the file ends. It takes no memory and reads nothing. A stop at any moment
+/// leaves a file that reads as the state of before, and that is marked as open or closed whole. HostFault comes only where a
+/// call on the file failed.
+///
+/// The records are those that `close_records` made for this chain. The record of the directory, at 100 and fNbytesName,
+/// stands in front of the end of the file.
+pub fn write_close<H: Host>(
+    host: &mut H,
+    chain: &mut Chain,
+    mut records: CloseRecords,
+) -> Result<(), HostFault>
+    requires fresh { chain.old.spent ≡ false }
+    requires holds { HoldsChain (H.view host.old) chain.old.segments }
+    requires quiet { IsQuiet (H.view host.old) }
+    requires records { AreForSegments chain.old.segments records }
+    requires directory { Told (H.view host.old)
+        (λ _. records.nbytes_name + 160 ≤ file_end chain.old.segments) }
+    requires room { 2 ≤ chain.old.spare }
+    ensures any_moment { (f : OpenFile) (m : State)
+        → IsReadyToClose (H.view host.old) chain.old.segments records f m
+        → Elapses (H.view host.old) (H.view host.new) (StaysAs (H.view host.old) m) }
+    ensures closed { OnOk result ((f : OpenFile) (m : State)
+        → IsReadyToClose (H.view host.old) chain.old.segments records f m
+        → HoldsClosed (H.view host.new) m) }
+    ensures quiet { OnOk result (IsQuiet (H.view host.new)) }
+    ensures told { Becomes Any (H.view host.old).holds (H.view host.new).holds }
+    ensures said { (H.view host.new).said ≡ (H.view host.old).said }
+    ensures reads { (H.view host.new).reads ≡ (H.view host.old).reads }
+    ensures say_faults { (H.view host.new).say_faults ≡ (H.view host.old).say_faults }
+    ensures counted { IsOk result → (H.view host.new).disk_faults ≡ (H.view host.old).disk_faults }
+    ensures cause { IsErr result
+        → Rose (H.view host.old).disk_faults (H.view host.new).disk_faults }
+{
+    chain.put_record(host, records.list.head.seek, &mut records.list.bytes)?;
+    chain.put_record(host, records.free.head.seek, &mut records.free.bytes)?;
+    let place = u64::from(records.nbytes_name) + 106;
+    let end = chain.end() as u32;
+    finish(
+        host,
+        records.free_fields.as_slice(),
+        records.info_fields.as_slice(),
+        place,
+        records.dir_fields.as_slice(),
+        end,
+    )?;
+    Ok(())
+}
