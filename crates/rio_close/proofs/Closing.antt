@@ -7,13 +7,16 @@ use Rattle.rio_dir.specs.Table.{key_list_bytes}
 use Rattle.rio_host.specs.Host.{Elapses, View}
 use Rattle.rio_host.proofs.Moments.{elapses_as, elapses_join}
 use Rattle.rio_chain.specs.Adjoining.{AreSegments}
+use Rattle.rio_chain.specs.Chains.{HasChain}
 use Rattle.rio_chain.specs.Changes.{with_record}
-use Rattle.rio_chain.specs.Placing.{FreeSpace, file_end, gaps_in, space_of}
-use Rattle.rio_chain.specs.Segments.{IsChain, IsRecord, Link}
+use Rattle.rio_chain.specs.Placing.{FreeSpace, file_end, gaps_in, space_of, with_segment}
+use Rattle.rio_chain.specs.Segments.{IsRecord, Link, chain_end}
+use Rattle.rio_chain.specs.declared.segment.Segment.{Segment}
+use Rattle.rio_chain.proofs.PutChain.{map_end}
 use Rattle.rio_chain.specs.Stops.{IsEither, KeepsFront}
 use Rattle.rio_chain.proofs.Laying.{end_grows, laid_put}
 use Rattle.rio_chain.proofs.Placed.{end_grows as grows_at_end}
-use Rattle.rio_chain.proofs.Words.{record_long, record_word}
+use Rattle.rio_chain.proofs.Words.{record_long, record_word, word_within}
 use Rattle.rio_machine.specs.State.{State}
 use Rattle.rio_state.specs.KeyedRecords.{keyed_records}
 use Rattle.rio_state.specs.Reads.{AreRecordsOf, ReadsAsState, ReadsClosed}
@@ -82,6 +85,23 @@ module _ (f : OpenFile) (r : CloseRecords) (made : AreCloseRecords f r) where
   pub grows_2 : file_end (with_list f r) ≤ file_end (with_both f r)
   grows_2 = omega (arith, grows_at_end (with_list f r) (free_place f r) (record_size r.free) shape_1 refl)
 
+  -- the same in the words of the calls
+  pub list_there : (segments : List Segment) → f.segments ≡ segments → with_segment r.list.head.seek (record_size r.list) segments ≡ with_list f r
+  list_there segments same = λ i. with_segment (list_seek i) (record_size r.list) (sym same i)
+
+  pub list_low : (segments : List Segment) → f.segments ≡ segments → file_end (with_segment r.list.head.seek (record_size r.list) segments) ≤ 1999999996
+  list_low segments same = let low = made.low in omega (arith, ap file_end (list_there segments same), grows_2, low)
+
+  pub both_there : (segments after : List Segment) → f.segments ≡ segments → after ≡ with_segment r.list.head.seek (record_size r.list) segments → with_segment r.free.head.seek (record_size r.free) after ≡ with_both f r
+  both_there segments after same is = let list = is ∙ list_there segments same in λ i. with_segment (free_seek i) (record_size r.free) (list i)
+
+  -- the directory record stands in front of END
+  pub dir_within : (segments both : List Segment) (links : List Link) (file : List ℕ) → f.segments ≡ segments → both ≡ with_both f r → HasChain links both file → r.nbytes_name + 160 ≤ file_end segments → r.nbytes_name + 106 + 24 ≤ length file
+  dir_within segments both links file same is has room =
+      let within = word_within file (chain_end links) 0 has.chain.ends.zero_word in
+      let end : file_end both ≡ chain_end links = ap file_end has.same ∙ map_end 100 links in
+      omega (arith, within, end, ap file_end is, grows_1, grows_2, ap file_end same, room)
+
   -- the sizes of the fields
   pub free_size : length r.free_fields.bytes ≡ 12
   free_size = ap length made.free_fields
@@ -99,9 +119,6 @@ module _ (f : OpenFile) (r : CloseRecords) (made : AreCloseRecords f r) where
 -- ---- what a stop leaves
 
 module _ (v0 : View) (f : OpenFile) (r : CloseRecords) (m : State) (made : AreCloseRecords f r) (held : HoldsOpen v0 f m) where
-  abbrev head : FileHead
-  head = held.head.head
-
   abbrev pub links_with_list : List Link
   links_with_list = with_record (list_place f r) r.list.bytes.bytes held.links
 
@@ -127,51 +144,90 @@ module _ (v0 : View) (f : OpenFile) (r : CloseRecords) (m : State) (made : AreCl
     text = λ all told. e.text all (same ∙ told);
   }
 
+  -- with one or both records in the chain
+  pub record Reached (v : View) (links : List Link) (segments : List Segment) : Type 0 where
+    pub time : Elapses v0 v (StaysAs v0 m)
+    pub said : v.said ≡ v0.said
+    pub file : List ℕ
+    pub holds : v.holds ≡ Some file
+    pub chain : HasChain links segments file
+    pub front : KeepsFront held.file file
+
+  -- what a put tells
+  abbrev pub Puts : View → List ℕ → List Link → List Segment → Type 0
+  Puts v file links segments = (new : List ℕ) × (v.holds ≡ Some new) × HasChain links segments new × KeepsFront file new
+
   pub list_time : (v1 : View) (seek : ℕ) → seek ≡ list_place f r → Elapses v0 v1 (IsEither v0 held.file held.links (with_record seek r.list.bytes.bytes held.links)) → Elapses v0 v1 (StaysAs v0 m)
   list_time v1 seek is time =
       let there = subst (λ (p : ℕ). Elapses v0 v1 (IsEither v0 held.file held.links (with_record p r.list.bytes.bytes held.links))) is time in
       elapses_as (StaysAs v0 m) (IsEither v0 held.file held.links links_with_list) there (either v0 held.file held.links links_with_list refl small held.records records_with_list)
 
-  module _ (v1 : View) (said_1 : v1.said ≡ v0.said) (time_1 : Elapses v0 v1 (StaysAs v0 m)) (file_1 : List ℕ) (front_1 : KeepsFront held.file file_1) where
-    small_1 : SmallHead file_1 held.head.head
-    small_1 = head_stays held.file file_1 held.head.head front_1 small
+  pub list_reached : (v1 : View) (seek : ℕ) (segments : List Segment) → seek ≡ list_place f r → v1.said ≡ v0.said → Elapses v0 v1 (IsEither v0 held.file held.links (with_record seek r.list.bytes.bytes held.links))
+      → Puts v1 held.file (with_record seek r.list.bytes.bytes held.links) segments → Reached v1 links_with_list segments
+  list_reached v1 seek segments is said time put = record {
+    time = list_time v1 seek is time;
+    said = said;
+    file = put.0;
+    holds = put.1;
+    chain = subst (λ (p : ℕ). HasChain (with_record p r.list.bytes.bytes held.links) segments put.0) is put.2;
+    front = put.3;
+  }
 
-    pub free_time : (v2 : View) (seek : ℕ) → seek ≡ free_place f r → Elapses v1 v2 (IsEither v1 file_1 links_with_list (with_record seek r.free.bytes.bytes links_with_list)) → Elapses v0 v2 (StaysAs v0 m)
+  module _ (v1 : View) (segments_1 : List Segment) (one : Reached v1 links_with_list segments_1) where
+    pub free_time : (v2 : View) (seek : ℕ) → seek ≡ free_place f r → Elapses v1 v2 (IsEither v1 one.file links_with_list (with_record seek r.free.bytes.bytes links_with_list)) → Elapses v0 v2 (StaysAs v0 m)
     free_time v2 seek is time =
-        let there = subst (λ (p : ℕ). Elapses v1 v2 (IsEither v1 file_1 links_with_list (with_record p r.free.bytes.bytes links_with_list))) is time in
-        elapses_join (IsEither v1 file_1 links_with_list links_with_both) time_1 there (either v1 file_1 links_with_list links_with_both said_1 small_1 records_with_list records_with_both)
+        let there = subst (λ (p : ℕ). Elapses v1 v2 (IsEither v1 one.file links_with_list (with_record p r.free.bytes.bytes links_with_list))) is time in
+        elapses_join (IsEither v1 one.file links_with_list links_with_both) one.time there
+        (either v1 one.file links_with_list links_with_both one.said (head_stays held.file one.file held.head.head one.front small) records_with_list records_with_both)
 
-    module _ (v2 : View) (said_2 : v2.said ≡ v0.said) (time_2 : Elapses v0 v2 (StaysAs v0 m)) (file_2 : List ℕ) (front_2 : KeepsFront file_1 file_2) (chain_2 : IsChain links_with_both file_2)
-        (place end : ℕ) (at : place ≡ r.nbytes_name + 106) (end_is : end ≡ file_end (with_both f r)) where
-      small_2 : SmallHead file_2 held.head.head
-      small_2 = head_stays file_1 file_2 held.head.head front_2 small_1
+    pub free_reached : (v2 : View) (seek : ℕ) (segments : List Segment) → seek ≡ free_place f r → v2.said ≡ v1.said → Elapses v1 v2 (IsEither v1 one.file links_with_list (with_record seek r.free.bytes.bytes links_with_list))
+        → Puts v2 one.file (with_record seek r.free.bytes.bytes links_with_list) segments → Reached v2 links_with_both segments
+    free_reached v2 seek segments is said time put = record {
+      time = free_time v2 seek is time;
+      said = said ∙ one.said;
+      file = put.0;
+      holds = put.1;
+      chain = subst (λ (p : ℕ). HasChain (with_record p r.free.bytes.bytes links_with_list) segments put.0) is put.2;
+      front = λ i x low was. put.3 i x low (one.front i x low was);
+    }
 
-      name : held.head.head.nbytes_name ≡ r.nbytes_name
-      name = held.head.name ∙ sym made.nbytes_name
+  module _ (v2 : View) (segments_2 : List Segment) (two : Reached v2 links_with_both segments_2) (place end : ℕ) (at : place ≡ r.nbytes_name + 106) (end_is : end ≡ file_end (with_both f r)) where
+    small_2 : SmallHead two.file held.head.head
+    small_2 = head_stays held.file two.file held.head.head two.front small
 
-      at_head : place ≡ held.head.head.nbytes_name + 106
-      at_head = omega (arith, at, name)
+    at_head : place ≡ held.head.head.nbytes_name + 106
+    at_head = omega (arith, at, held.head.name, made.nbytes_name)
 
-      abbrev Done : List ℕ → Type 0
-      Done = FieldsThenEnd r.free_fields.bytes r.info_fields.bytes place r.dir_fields.bytes end file_2
+    abbrev Done : List ℕ → Type 0
+    Done last = FieldsThenEnd r.free_fields.bytes r.info_fields.bytes place r.dir_fields.bytes end two.file last
 
-      reads : (last : List ℕ) → Done last → ReadsAsState last m
-      reads last done = last_reads f r made held.file held.links m held.chain.chain held.chain.same held.records held.keys held.info file_2 last chain_2 held.head.head small_2 place end at_head done end_is
+    reads : (last : List ℕ) → Done last → ReadsAsState last m
+    reads last done = last_reads f r made held.file held.links m held.chain.chain held.chain.same held.records held.keys held.info two.file last two.chain.chain held.head.head small_2 place end at_head done end_is
 
-      closed : (last : List ℕ) → Done last → ReadsClosed last m
-      closed last done = last_closed f r made held.file held.links m held.chain.chain held.chain.same held.records held.keys held.info file_2 last chain_2 held.head.head small_2 place end at_head done end_is
+    closed : (last : List ℕ) → Done last → ReadsClosed last m
+    closed last done = last_closed f r made held.file held.links m held.chain.chain held.chain.same held.records held.keys held.info two.file last two.chain.chain held.head.head small_2 place end at_head done end_is
 
-      fields_stay : (i s : List ℕ) → IsFieldsThenEnd v2 r.free_fields.bytes r.info_fields.bytes place r.dir_fields.bytes end file_2 i s → StaysAs v0 m i s
-      fields_stay i s e = record {
-        left = ⊎_elim
-            (λ half. left_fields file_2 i held.head.head links_with_both m held.head.head.nbytes_name place small_2 held.head.end refl at_head half chain_2 records_with_both)
-            (λ done. record { reads = reads i done; closed = λ word root has ne. closed i done })
-            e.image_is;
-        text = λ all told. e.text all (said_2 ∙ told);
-      }
+    fields_stay : (i s : List ℕ) → IsFieldsThenEnd v2 r.free_fields.bytes r.info_fields.bytes place r.dir_fields.bytes end two.file i s → StaysAs v0 m i s
+    fields_stay i s e = record {
+      left = ⊎_elim
+          (λ half. left_fields two.file i held.head.head links_with_both m held.head.head.nbytes_name place small_2 held.head.end refl at_head half two.chain.chain records_with_both)
+          (λ done. record { reads = reads i done; closed = λ word root has ne. closed i done })
+          e.image_is;
+      text = λ all told. e.text all (two.said ∙ told);
+    }
 
-      pub fields_time : (v3 : View) → Elapses v2 v3 (IsFieldsThenEnd v2 r.free_fields.bytes r.info_fields.bytes place r.dir_fields.bytes end file_2) → Elapses v0 v3 (StaysAs v0 m)
-      fields_time v3 time = elapses_join (IsFieldsThenEnd v2 r.free_fields.bytes r.info_fields.bytes place r.dir_fields.bytes end file_2) time_2 time fields_stay
+    -- the same in the words of the calls
+    module _ (free info directory : List ℕ) (free_is : free ≡ r.free_fields.bytes) (info_is : info ≡ r.info_fields.bytes) (directory_is : directory ≡ r.dir_fields.bytes) where
+      pub fields_time : (v3 : View) → Elapses v2 v3 (IsFieldsThenEnd v2 free info place directory end two.file) → Elapses v0 v3 (StaysAs v0 m)
+      fields_time v3 time =
+          let one = subst (λ (b : List ℕ). Elapses v2 v3 (IsFieldsThenEnd v2 b info place directory end two.file)) free_is time in
+          let both = subst (λ (b : List ℕ). Elapses v2 v3 (IsFieldsThenEnd v2 r.free_fields.bytes b place directory end two.file)) info_is one in
+          let all = subst (λ (b : List ℕ). Elapses v2 v3 (IsFieldsThenEnd v2 r.free_fields.bytes r.info_fields.bytes place b end two.file)) directory_is both in
+          elapses_join (IsFieldsThenEnd v2 r.free_fields.bytes r.info_fields.bytes place r.dir_fields.bytes end two.file) two.time all fields_stay
 
-      pub closed_then : (v3 : View) (last : List ℕ) → v3.holds ≡ Some last → FieldsThenEnd r.free_fields.bytes r.info_fields.bytes place r.dir_fields.bytes end file_2 last → HoldsClosed v3 m
-      closed_then v3 last told done = record { file = last; holds = told; reads = reads last done; closed = closed last done }
+      pub closed_then : (v3 : View) → (last : List ℕ) × (v3.holds ≡ Some last) × FieldsThenEnd free info place directory end two.file last → HoldsClosed v3 m
+      closed_then v3 last =
+          let one = subst (λ (b : List ℕ). FieldsThenEnd b info place directory end two.file last.0) free_is last.2 in
+          let both = subst (λ (b : List ℕ). FieldsThenEnd r.free_fields.bytes b place directory end two.file last.0) info_is one in
+          let all = subst (λ (b : List ℕ). FieldsThenEnd r.free_fields.bytes r.info_fields.bytes place b end two.file last.0) directory_is both in
+          record { file = last.0; holds = last.1; reads = reads last.0 all; closed = closed last.0 all }

@@ -86,6 +86,49 @@ fn finish<H: Host>(
     host.sync()
 }
 
+// Puts both records and finishes.
+fn put_and_finish<H: Host>(
+    host: &mut H,
+    chain: &mut Chain,
+    records: &mut CloseRecords,
+) -> Result<(), HostFault>
+    requires fresh { chain.old.spent ≡ false }
+    requires holds { HoldsChain (H.view host.old) chain.old.segments }
+    requires quiet { IsQuiet (H.view host.old) }
+    requires records { AreForSegments chain.old.segments records.old }
+    requires directory { Told (H.view host.old)
+        (λ _. records.old.nbytes_name + 160 ≤ file_end chain.old.segments) }
+    requires room { 2 ≤ chain.old.spare }
+    ensures any_moment { (f : OpenFile) (m : State)
+        → IsReadyToClose (H.view host.old) chain.old.segments records.old f m
+        → Elapses (H.view host.old) (H.view host.new) (StaysAs (H.view host.old) m) }
+    ensures closed { OnOk result ((f : OpenFile) (m : State)
+        → IsReadyToClose (H.view host.old) chain.old.segments records.old f m
+        → HoldsClosed (H.view host.new) m) }
+    ensures quiet { OnOk result (IsQuiet (H.view host.new)) }
+    ensures told { Becomes Any (H.view host.old).holds (H.view host.new).holds }
+    ensures said { (H.view host.new).said ≡ (H.view host.old).said }
+    ensures reads { (H.view host.new).reads ≡ (H.view host.old).reads }
+    ensures say_faults { (H.view host.new).say_faults ≡ (H.view host.old).say_faults }
+    ensures counted { IsOk result → (H.view host.new).disk_faults ≡ (H.view host.old).disk_faults }
+    ensures cause { IsErr result
+        → Rose (H.view host.old).disk_faults (H.view host.new).disk_faults }
+{
+    chain.put_record(host, records.list.head.seek, &mut records.list.bytes)?;
+    chain.put_record(host, records.free.head.seek, &mut records.free.bytes)?;
+    let place = u64::from(records.nbytes_name) + 106;
+    let end = chain.end() as u32;
+    finish(
+        host,
+        records.free_fields.as_slice(),
+        records.info_fields.as_slice(),
+        place,
+        records.dir_fields.as_slice(),
+        end,
+    )?;
+    Ok(())
+}
+
 /// Closes a file: puts the key list and the free record, writes the fields of header and directory record, and then, with
 /// them on the disk, the word that says where the file ends. It takes no memory and reads nothing. A stop at any moment
 /// leaves a file that reads as the state of before, and that is marked as open or closed whole. HostFault comes only where a
@@ -120,17 +163,5 @@ pub fn write_close<H: Host>(
     ensures cause { IsErr result
         → Rose (H.view host.old).disk_faults (H.view host.new).disk_faults }
 {
-    chain.put_record(host, records.list.head.seek, &mut records.list.bytes)?;
-    chain.put_record(host, records.free.head.seek, &mut records.free.bytes)?;
-    let place = u64::from(records.nbytes_name) + 106;
-    let end = chain.end() as u32;
-    finish(
-        host,
-        records.free_fields.as_slice(),
-        records.info_fields.as_slice(),
-        place,
-        records.dir_fields.as_slice(),
-        end,
-    )?;
-    Ok(())
+    put_and_finish(host, chain, &mut records)
 }
