@@ -40,9 +40,9 @@ use Rattle.rio_state.specs.DirectoryKeys.{AreKeysOf}
 use Rattle.rio_state.specs.KeyedRecords.{KeyedRecord, info_key, is_info_key, is_internal, later_info, keyed_records, object_records, top_keys, tree_records, is_top_key, is_tree_key, is_tree_record, record_data}
 use Rattle.rio_state.specs.Left.{info_head}
 use Rattle.rio_state.specs.Reads.{AreRecordsOf, IsFreeRecordAt, ReadsAsState, ReadsClosed, info_place}
-use Rattle.rio_effect.specs.Laws.{keyed_bytes}
-use Rattle.rio_effect.proofs.KeyRecords.{ObjectOf, TreeOf, key_record}
-use Rattle.rio_effect.proofs.Members.{In, contains_in, filter_in, in_contained}
+use Rattle.rio_state.specs.OneMore.{keyed_bytes}
+use Rattle.rio_state.proofs.KeyRecords.{ObjectOf, TreeOf, key_record}
+use Rattle.rio_state.proofs.Members.{In, contains_in, filter_in, in_contained}
 use Rattle.rio_close.specs.Fields.{FieldsThenEnd, IsOutsideFields, WritesFields}
 use Rattle.rio_close.specs.Written.{AreCloseRecords, OpenFile, dir_field_bytes, free_field_bytes, free_place, info_field_bytes, list_place, own_words, with_both, with_list}
 use Rattle.rio_close.specs.declared.parts.CloseRecords.{CloseRecords}
@@ -225,7 +225,6 @@ module _ (f : OpenFile) (r : CloseRecords) (made : AreCloseRecords f r) (file : 
 
     o : OtherFields file_2 last first.bytes behind whole_2.links_are.0.1.whole.head h.nbytes_name
     o = other_fields file_2 last first.bytes behind whole_2 h.nbytes_name place (word_of_number file_2 28 h.nbytes_name s.nbytes_name) at keeps_chain
-
 
     -- ---- its records
 

@@ -9,10 +9,10 @@ use Rattle.rio_machine.specs.State.{State}
 use Rattle.rio_state.specs.Contents.{tree_of}
 use Rattle.rio_state.specs.KeyedRecords.{KeyedRecord, info_key, is_internal, is_top_key, keyed_records, top_keys}
 use Rattle.rio_state.specs.Reads.{AreRecordsOf, StandsForState}
-use Rattle.rio_effect.specs.Laws.{keyed_bytes}
-use Rattle.rio_effect.proofs.Insertion.{here}
-use Rattle.rio_effect.proofs.MoreRecords.{keyed_link, own_key}
-use Rattle.rio_effect.proofs.Stays.{info_same, not_info, not_top, tops_same}
+use Rattle.rio_state.specs.OneMore.{keyed_bytes}
+use Rattle.rio_state.proofs.Insertion.{here}
+use Rattle.rio_state.proofs.MoreRecords.{keyed_link, own_key}
+use Rattle.rio_state.proofs.Stays.{info_same, not_info, not_top, tops_same}
 
 -- a whole record is the first of those that follow
 pub first_keyed : (place : ℕ) (bytes : List ℕ) (others : List Link) (w : IsRecord place bytes) → keyed_records (RecordAt place bytes ∷ others) ≡ keyed_bytes w.head bytes ∷ keyed_records others

@@ -15,7 +15,7 @@ use Rattle.rio_machine.specs.State.{State, empty_state}
 use Rattle.rio_state.specs.KeyedRecords.{KeyedRecord, keyed_records}
 use Rattle.rio_state.specs.Left.{HasOpenHead, IsLeftAs, open_end}
 use Rattle.rio_state.specs.Reads.{AreRecordsOf, ReadsAsMade, ReadsAsState}
-use Rattle.rio_effect.specs.Laws.{keyed_bytes}
+use Rattle.rio_state.specs.OneMore.{keyed_bytes}
 use Rattle.rio_close.specs.Fields.{IsOutsideFields, KeepsAllButFields}
 use Rattle.rio_close.proofs.FieldsChain.{FirstLink, OtherFields, first_link, other_fields}
 use Rattle.rio_close.proofs.FirstBytes.{first_internal, first_keyed, records_change}

@@ -15,7 +15,7 @@ use Rattle.rio_dir.specs.Closed.{closed_keys}
 use Rattle.rio_dir.specs.Table.{AreWritable, key_list_bytes}
 use Rattle.rio_dir.proofs.ClosedLaws.{keys_again}
 use Rattle.rio_dir.proofs.TableLaws.{list_spelled}
-use Rattle.rio_effect.proofs.Members.{In}
+use Rattle.rio_state.proofs.Members.{In}
 
 -- ---- bytes that a file has
 

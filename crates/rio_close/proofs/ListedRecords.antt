@@ -15,8 +15,8 @@ use Rattle.rio_state.specs.Contents.{object_in, state_classes, tree_of}
 use Rattle.rio_state.specs.DirectoryKeys.{AreKeysOf}
 use Rattle.rio_state.specs.KeyedRecords.{KeyedRecord, has_item, info_key, is_mixed_name, is_top_key, is_tree_key, is_tree_record, item_of_key, object_records, top_keys, tree_records}
 use Rattle.rio_state.specs.Reads.{AreRecordsOf, StandsForState, are_distinct, is_named_key, object_under, tree_under}
-use Rattle.rio_effect.proofs.KeyRecords.{ObjectOf, TreeOf, distinct_filter, distinct_found, item_is, key_record, own_item, record_key}
-use Rattle.rio_effect.proofs.Members.{Found, In, all_at, filter_in, found, in_filter, map_in, none_from}
+use Rattle.rio_state.proofs.KeyRecords.{ObjectOf, TreeOf, distinct_filter, distinct_found, item_is, key_record, own_item, record_key}
+use Rattle.rio_state.proofs.Members.{Found, In, all_at, filter_in, found, in_filter, map_in, none_from}
 
 -- ---- lists
 

@@ -15,10 +15,10 @@ use Rattle.rio_state.specs.Contents.{is_padding}
 use Rattle.rio_state.specs.DirectoryKeys.{AreKeysOf}
 use Rattle.rio_state.specs.KeyedRecords.{KeyedRecord, info_key, is_internal, keyed_records, record_in_link}
 use Rattle.rio_state.specs.Reads.{AreRecordsOf}
-use Rattle.rio_effect.specs.Laws.{KeyIsRead, keyed_bytes}
-use Rattle.rio_effect.specs.More.{HasOneMoreIn}
-use Rattle.rio_effect.proofs.MoreRecords.{keyed_link, record_more}
-use Rattle.rio_effect.proofs.Stays.{info_same, internal_stays, keys_stay, not_info}
+use Rattle.rio_state.specs.OneMore.{KeyIsRead, keyed_bytes}
+use Rattle.rio_state.specs.OneMore.{HasOneMoreIn}
+use Rattle.rio_state.proofs.MoreRecords.{keyed_link, record_more}
+use Rattle.rio_state.proofs.Stays.{info_same, internal_stays, keys_stay, not_info}
 use Rattle.rio_close.specs.Written.{own_words}
 
 zeros_pad : (n : ℕ) → n < 4 → is_padding (replicate n 0) ≡ true

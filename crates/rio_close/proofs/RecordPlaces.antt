@@ -5,9 +5,9 @@ use Rattle.rio_host.specs.Image.{Has}
 use Rattle.rio_chain.specs.Changes.{with_record, with_rest}
 use Rattle.rio_chain.specs.Segments.{GapAt, HoldsLinks, IsRecord, Link, RecordAt, link_length}
 use Rattle.rio_state.specs.KeyedRecords.{KeyedRecord, keyed_records, record_in_link}
-use Rattle.rio_effect.specs.Laws.{keyed_bytes}
-use Rattle.rio_effect.proofs.Members.{In}
-use Rattle.rio_effect.proofs.MoreRecords.{keyed_link, own_key}
+use Rattle.rio_state.specs.OneMore.{keyed_bytes}
+use Rattle.rio_state.proofs.Members.{In}
+use Rattle.rio_state.proofs.MoreRecords.{keyed_link, own_key}
 
 -- ---- what a record put leaves
 

@@ -130,17 +130,17 @@ module _ (b : List ℕ) (h : FileHead) (long : 63 ≤ length b) (root : HasNumbe
   unfolding behind_at
   behind_numbers small e =
       let P : Bool → Type 0 = λ large. (whole (number_at (place_len large) (standing 12 (drop 12 b))) >>= λ end.
-          whole (number_at (place_len large) end.1) >>= λ seek_free.
-          whole (number_at 4 seek_free.1) >>= λ nbytes_free.
-          whole (number_at 4 nbytes_free.1) >>= λ nfree.
-          whole (number_at 4 nfree.1) >>= λ nbytes_name.
-          whole (number_at 1 nbytes_name.1) >>= λ units.
-          check (units.0 == place_len large) (fault_at (units_place_of large) BadUnits) >>= λ done.
-          whole (number_at 4 units.1) >>= λ compress.
-          whole (number_at (place_len large) compress.1) >>= λ seek_info.
-          whole (number_at 4 seek_info.1) >>= λ nbytes_info.
-          whole (bytes_at 18 nbytes_info.1) >>= λ uuid.
-          Ok (header_of v end.0 seek_free.0 nbytes_free.0 nfree.0 nbytes_name.0 units.0 compress.0 seek_info.0 nbytes_info.0 uuid.0)) ≡ Ok h in
+      whole (number_at (place_len large) end.1) >>= λ seek_free.
+      whole (number_at 4 seek_free.1) >>= λ nbytes_free.
+      whole (number_at 4 nbytes_free.1) >>= λ nfree.
+      whole (number_at 4 nfree.1) >>= λ nbytes_name.
+      whole (number_at 1 nbytes_name.1) >>= λ units.
+      check (units.0 == place_len large) (fault_at (units_place_of large) BadUnits) >>= λ done.
+      whole (number_at 4 units.1) >>= λ compress.
+      whole (number_at (place_len large) compress.1) >>= λ seek_info.
+      whole (number_at 4 seek_info.1) >>= λ nbytes_info.
+      whole (bytes_at 18 nbytes_info.1) >>= λ uuid.
+      Ok (header_of v end.0 seek_free.0 nbytes_free.0 nfree.0 nbytes_name.0 units.0 compress.0 seek_info.0 nbytes_info.0 uuid.0)) ≡ Ok h in
       let e4 = subst P small e in
       let t1 = took 3 12 b _ h e4 in
       let t2 = took 3 16 b _ h t1.on in

@@ -12,9 +12,9 @@ ghost use Rattle.rio_state.specs.Closing.{padded_length};
 ghost use Rattle.rio_close.specs.Sizes.{close_size};
 ghost use Rattle.rio_close.specs.Written.{AreCloseRecords, IsOwnRecord, own_words, record_size};
 
+use crate::CloseRecords;
 use crate::length::{own_key_length, padded};
 use crate::parts::{dir_fields, free_fields, info_fields};
-use crate::CloseRecords;
 use rio_chain::Chain;
 use rio_dir::{KeyTable, write_key_list};
 use rio_free::write_free;

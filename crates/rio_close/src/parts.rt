@@ -26,12 +26,7 @@ pub struct CloseRecords {
 }
 
 // What the header says of a free record of `n` bytes at `place` with `count` entries.
-pub(crate) fn free_fields(
-    alloc: Global,
-    place: u32,
-    n: u32,
-    count: u32,
-) -> Result<Bytes, NoMemory>
+pub(crate) fn free_fields(alloc: Global, place: u32, n: u32, count: u32) -> Result<Bytes, NoMemory>
     ensures { IfOk result (λ bytes. bytes.bytes ≡ free_field_bytes place n count) }
 {
     let mut bytes = Bytes::new(alloc);
