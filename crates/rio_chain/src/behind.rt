@@ -7,8 +7,8 @@ ghost use Rattle.rio_chain.specs.Stops.{Any, BodyThenWord, IsBodyBehind, IsWordO
 
 use rio_host::{Failed, Host};
 
-/// Writes bytes behind the word at `place`, and then, with them on the disk, the word. Failed comes only where a call on the
-/// file failed.
+/// Writes bytes behind the word at `place`, and then, with them on the disk, the word. Failed comes
+/// only where a call on the file failed.
 pub fn put_behind<H: Host>(host: &mut H, place: u64, tail: &[u8], word: u32) -> Result<(), Failed>
     requires within { IsWithin (H.view host.old) (place + 4) }
     requires aligned { place % 4 ≡ 0 }
@@ -35,8 +35,8 @@ pub fn put_behind<H: Host>(host: &mut H, place: u64, tail: &[u8], word: u32) -> 
     host.sync()
 }
 
-/// Writes the word at `place`, with nothing behind it, and brings it to the disk. Failed comes only where a call on the file
-/// failed.
+/// Writes the word at `place`, with nothing behind it, and brings it to the disk. Failed comes only
+/// where a call on the file failed.
 pub fn put_word<H: Host>(host: &mut H, place: u64, word: u32) -> Result<(), Failed>
     requires within { IsWithin (H.view host.old) place }
     requires aligned { place % 4 ≡ 0 }

@@ -1,5 +1,5 @@
 -- A file that isn't made yet, and one that is, by its first word.
-use Rattle.std.proofs.Common.{◌≡◌, true≢false, ℕ, ◌+◌, ◌≤◌, ◌||◌, Bool, true, false, List, ◌++◌, length, length-take, take, drop, codes, refl, sym, ap, subst, ◌∙◌, arith}
+use Rattle.std.proofs.Common.{◌≡◌, true≢false, ℕ, ◌≤◌, ◌||◌, Bool, true, false, List, ◌++◌, length, length-take, take, drop, codes, refl, sym, ap, subst, ◌∙◌, arith}
 use Rattle.std.specs.Prelude.{MatchBool}
 use Rattle.std.proofs.lemmas.Bool.{le-ltb}
 use Rattle.std.proofs.lemmas.List.{take-append-drop}

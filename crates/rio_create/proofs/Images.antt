@@ -21,13 +21,12 @@ use Rattle.rio_chain.specs.declared.segment.Segment.TheVariants.{Record}
 use Rattle.rio_chain.proofs.Words.{word_of_bytes, word_one}
 use Rattle.rio_record.specs.Laws.{IsNewRecord}
 use Rattle.rio_record.specs.Record.{key_size}
-use Rattle.rio_dir.specs.Unborn.{is_unborn}
 use Rattle.rio_machine.specs.State.{empty_state}
 use Rattle.rio_state.specs.Left.{HasOpenHead, IsLeftAs, open_end}
 use Rattle.rio_state.specs.Reads.{ReadsAsMade}
-use Rattle.rio_create.specs.NewFile.{file_bytes, file_texts, first_data, first_length, first_record, first_segments, first_words, nbytes_name_of, new_directory, new_head}
+use Rattle.rio_create.specs.NewFile.{file_bytes, file_texts, first_data, first_record, first_segments, first_words, nbytes_name_of, new_directory, new_head}
 use Rattle.rio_create.proofs.Born.{begins_with, root_born}
-use Rattle.rio_create.proofs.Lengths.{dir_long, first_low, head_long, name_long, nbytes_name_low, short_spelled}
+use Rattle.rio_create.proofs.Lengths.{dir_long, head_long, nbytes_name_low, short_spelled}
 use Rattle.rio_create.proofs.NewFiles.{first_size, head_of_first, links, made, new_records}
 
 -- what stands behind the first bytes of some that a file has
@@ -47,7 +46,7 @@ stands_at k bytes rest is =
 
 module _ (name uuid : List ℕ) (datime : ℕ) (short : length name ≤ 200) (long : length uuid ≡ 18) (low : datime < 2 ^ 32) where
   abbrev head : FileHead
-  head = new_head name uuid
+  head = new_head (nbytes_name_of name) uuid
 
   abbrev directory : DirRecord
   directory = new_directory uuid datime
@@ -132,7 +131,7 @@ module _ (name uuid : List ℕ) (datime : ℕ) (short : length name ≤ 200) (lo
         let spelled = begins_with file (written_head head) within has_head in
         head_only head 0 file (record { is_head = is_head; rest = replicate 37 0 ++ rest; spelled = spelled ∙ append_assoc (head_bytes head) (replicate 37 0) rest })
 
-    end_word : HasWord file 12 open_end
+    pub end_word : HasWord file 12 open_end
     end_word = word_of_bytes file 12 open_end (omega arith) (has_front file 12 (big_bytes 4 open_end) behind_end (has_back file 0 12 before_end (big_bytes 4 open_end ++ behind_end) refl has_head))
 
     name_word : HasWord file 28 (nbytes_name_of name)

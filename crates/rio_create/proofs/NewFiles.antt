@@ -1,39 +1,20 @@
 -- What a new file's bytes stand for.
-use Rattle.std.proofs.Common.{◌≡◌, ℕ, ◌+◌, ◌^◌, ◌<◌, ◌≤◌, Bool, true, false, List, [], ◌∷◌, ◌++◌, length, take, drop, codes, Result, Ok, Some, None, refl, sym, ap, subst, ◌∙◌, append_assoc, length-append, length-take, arith}
-use Rattle.std.specs.Prelude.{replicate}
+use Rattle.std.proofs.Common.{◌≡◌, ℕ, ◌+◌, ◌^◌, ◌<◌, ◌≤◌, List, [], ◌∷◌, length, Result, None, refl, sym, ap, subst, ◌∙◌, arith}
 use Rattle.std.specs.FinMap.{get-empty}
-use Rattle.std.specs.List.{Contains, cons_option, sum_by}
-use Rattle.byteorder.specs.Endian.{big_bytes, big_number}
-use Rattle.byteorder.specs.Numbers.{big_number-reads_back, length-bytes_high_first}
-use Rattle.rio_num.specs.At.{At}
-use Rattle.rio_num.specs.Text.{text_bytes}
-use Rattle.rio_num.specs.declared.cursor.Short.{Short}
-use Rattle.rio_num.proofs.ReadLaws.{text_again}
-use Rattle.rio_host.specs.Image.{Has}
-use Rattle.rio_host.proofs.Images.{has_back, has_front, has_length}
+use Rattle.std.specs.List.{cons_option, sum_by}
 use Rattle.rio_key.specs.declared.head.KeyHead.{KeyHead}
 use Rattle.rio_key.specs.declared.fault.KeyFault.{KeyFault}
-use Rattle.rio_head.specs.Head.{IsHead, head_at, head_bytes}
-use Rattle.rio_head.specs.Written.{written_dir, written_head}
-use Rattle.rio_head.specs.declared.dir.DirRecord.{DirRecord}
-use Rattle.rio_head.specs.declared.head.FileHead.{FileHead}
-use Rattle.rio_head.proofs.HeadAgain.{head_only}
-use Rattle.rio_chain.specs.Chains.{HasChain}
-use Rattle.rio_chain.specs.Segments.{HasWord, HoldsRecord, IsChain, IsFirst, Link, RecordAt, texts_end_at}
-use Rattle.rio_chain.specs.declared.segment.Segment.{Segment}
-use Rattle.rio_chain.specs.declared.segment.Segment.TheVariants.{Record}
-use Rattle.rio_chain.proofs.Words.{word_of_bytes, word_one}
+use Rattle.rio_chain.specs.Segments.{Link, RecordAt}
 use Rattle.rio_record.specs.Laws.{IsNewRecord}
-use Rattle.rio_record.specs.Record.{key_size, new_key, record_bytes}
+use Rattle.rio_record.specs.Record.{new_key}
 use Rattle.rio_record.proofs.Records.{are_new_records}
 use Rattle.rio_machine.specs.State.{empty_state, item_order, name_order}
 use Rattle.rio_state.specs.Closing.{KeptRecords, closing_lengths, free_length, held_of, item_heads, kept_count, kept_in, list_length, name_in}
 use Rattle.rio_state.specs.DirectoryKeys.{AreKeysOf}
 use Rattle.rio_state.specs.KeyedRecords.{KeyedRecord, info_key, keyed_records, top_keys, with_head}
-use Rattle.rio_state.specs.Left.{HasOpenHead, open_end}
-use Rattle.rio_state.specs.Reads.{AreRecordsOf, ReadsAsMade}
-use Rattle.rio_create.specs.NewFile.{file_bytes, file_texts, first_data, first_length, first_record, first_segments, first_words, nbytes_name_of, new_directory, new_head}
-use Rattle.rio_create.proofs.Lengths.{data_long, dir_long, first_low, head_long, key_long, name_long, nbytes_name_low, short_spelled, size_is, texts_long, words_fit}
+use Rattle.rio_state.specs.Reads.{AreRecordsOf}
+use Rattle.rio_create.specs.NewFile.{first_data, first_length, first_record, first_words}
+use Rattle.rio_create.proofs.Lengths.{first_low, key_long, size_is, words_fit}
 
 -- ---- the records
 

@@ -18,7 +18,7 @@ use Rattle.rio_machine.specs.State.{empty_state}
 use Rattle.rio_state.specs.Closing.{held_of, kept_in, padded_length}
 use Rattle.rio_state.specs.DirectoryKeys.{AreKeysOf}
 use Rattle.rio_state.specs.KeyedRecords.{first_place, info_key, keyed_records}
-use Rattle.rio_state.specs.Left.{HasOpenHead, IsLeftAs, open_end}
+use Rattle.rio_state.specs.Left.{HasOpenHead, IsLeftAs, IsMarkedOpen, open_end}
 use Rattle.rio_state.specs.Reads.{AreRecordsOf}
 
 -- ---- the bytes
@@ -56,15 +56,15 @@ abbrev pub nbytes_name_of : List ℕ → ℕ
 nbytes_name_of name = head_length (codes "TFile") name + length (file_texts name)
 
 -- The header: the file is open, and what else a close writes of it is zero.
-abbrev pub new_head : List ℕ → List ℕ → FileHead
-new_head name uuid = record {
+abbrev pub new_head : ℕ → List ℕ → FileHead
+new_head nbytes_name uuid = record {
   version = 60000;
   begin = first_place;
   end = open_end;
   seek_free = 0;
   nbytes_free = 0;
   nfree = 0;
-  nbytes_name = nbytes_name_of name;
+  nbytes_name = nbytes_name;
   units = 4;
   compress = 0;
   seek_info = 0;
@@ -74,7 +74,7 @@ new_head name uuid = record {
 
 -- the file of this name, with this identifier
 abbrev pub file_bytes : List ℕ → List ℕ → ℕ → List ℕ
-file_bytes name uuid datime = written_head (new_head name uuid) ++ (first_record name uuid datime ++ big_bytes 4 0)
+file_bytes name uuid datime = written_head (new_head (nbytes_name_of name) uuid) ++ (first_record name uuid datime ++ big_bytes 4 0)
 
 unfoldable pub new_file : List ℕ → ℕ → List ℕ
 new_file name datime = file_bytes name (uuid_of_file name) datime
@@ -97,6 +97,7 @@ pub record IsNewFile (name : List ℕ) (datime : ℕ) (file : List ℕ) : Type 0
   pub links : List Link
   pub chain : HasChain links (first_segments name) file
   pub head : HasOpenHead file (nbytes_name_of name)
+  pub marked : IsMarkedOpen file
   pub directory : Has file (first_place + nbytes_name_of name) (written_dir (new_directory (uuid_of_file name) datime))
   pub records : AreRecordsOf (keyed_records links) empty_state
   pub keys : AreKeysOf (keyed_records links) []

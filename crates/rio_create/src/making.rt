@@ -9,6 +9,8 @@ ghost use Rattle.rio_create.specs.Creation.{IsCreateCause, IsLeftEmpty};
 ghost use Rattle.rio_create.specs.NewFile.{IsNewFile, first_segments, nbytes_name_of};
 
 use crate::CreateFault;
+use crate::draft::{Draft, draft_of};
+use crate::gate::put_file;
 use rio_chain::Chain;
 use rio_host::Host;
 use std::alloc::Global;
@@ -22,9 +24,10 @@ pub struct Created {
     pub nbytes_name: u32,
 }
 
-/// Makes a file that isn't made yet: a TFile of this name without objects, open for writing. The name has at most 200
-/// bytes, and what its header and its directory say of a closed file is zero. A stop at any moment leaves a file that reads
-/// as the empty state. The file isn't read, and all memory is taken before it is written.
+/// Makes a file that isn't made yet: a TFile of this name without objects, open for writing. The
+/// name has at most 200 bytes, and what its header and its directory say of a closed file is zero.
+/// A stop at any moment leaves a file that reads as the empty state. The file isn't read, and all
+/// memory is taken before it is written.
 ///
 /// NoMemory comes before any write, and HostFault only where a call on the file failed.
 pub fn create<H: Host>(
@@ -56,5 +59,7 @@ pub fn create<H: Host>(
     ensures say_faults { (H.view host.new).say_faults ≡ (H.view host.old).say_faults }
     ensures cause { IsCreateCause (H.view host.old) (H.view host.new) result }
 {
-    Err(CreateFault::NoMemory)
+    let Draft { bytes, created } = draft_of(alloc, name, datime)?;
+    put_file(host, &bytes.as_slice()[4..])?;
+    Ok(created)
 }

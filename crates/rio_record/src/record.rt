@@ -42,8 +42,8 @@ fn key_of(words: KeyWords, n: u64) -> KeyHead
     head
 }
 
-/// The record with these data: a key that says these words, the data, and the zero bytes behind them. Its numbers fit
-/// their fields.
+/// The record with these data: a key that says these words, the data, and the zero bytes behind
+/// them. Its numbers fit their fields.
 pub fn new_record(alloc: Global, words: KeyWords, contents: &[u8]) -> Result<NewRecord, NoMemory>
     requires { FitsWords words (length contents.now) }
     ensures head { IfOk result (λ made. made.head ≡ new_key words (length contents.now)) }
