@@ -1,7 +1,7 @@
 -- What keys tell of the state for whose objects they stand: which names and cycles there are, how many, and the next cycle.
 use Rattle.std.proofs.Common.{◌≡◌, ℕ, ◌+◌, ◌<◌, ◌∙◌, List, [], ◌∷◌, map, length, Bool, true, false, cond, ◌&&◌, ◌||◌, ltb, eqb, max, T, Some, None, refl, sym, ap, subst, arith}
 use Rattle.std.specs.Prelude.{is_some}
-use Rattle.std.specs.Cmp.{eq_by_cmp_equiv}
+use Rattle.std.specs.Cmp.{both_ways, eq_by_cmp_equiv}
 use Rattle.std.specs.FinMap.{contains_key, contains_key-keys, entries, entries_sorted, keys, len, len-empty, len-entries, get, get-empty}
 use Rattle.std.specs.FinMap.Entries.{below_all, is_sorted}
 use Rattle.std.specs.List.{filter, find, list_any}
@@ -13,6 +13,7 @@ use Rattle.std.proofs.lemmas.Bool.{and_from, and_parts, eq-eqb, eqb-true}
 use Rattle.std.proofs.lemmas.Cmp.{nat_list_eq_equiv}
 use Rattle.std.proofs.lemmas.List.{length-map}
 use Rattle.std.proofs.lemmas.Map.Views.{tells_apart}
+use Rattle.rio_num.proofs.NameSets.{any_map}
 use Rattle.rio_key.specs.declared.head.KeyHead.{KeyHead}
 use Rattle.rio_dir.specs.Table.{AreBehind, AreOrdered, first_by, greatest_cycle, head_of, is_at_cycle, is_of_name}
 use Rattle.rio_dir.proofs.TableLists.{cycle_of, greatest_is}
@@ -45,10 +46,6 @@ keys_are heads m are =
 
 -- ---- what there is
 
-any_named : (name : List ℕ) (heads : List KeyHead) → list_any (λ item. bytes_eq item.0 name) (map item_of heads) ≡ list_any (is_of_name name) heads
-any_named name [] = refl
-any_named name (h ∷ hs) = ap (λ b. bytes_eq h.name name || b) (any_named name hs)
-
 any_found : (p : KeyHead → Bool) (heads : List KeyHead) → list_any p heads ≡ is_some (find p heads)
 any_found p [] = refl
 any_found p (h ∷ hs) = by (p h) (any_found p hs)
@@ -60,15 +57,10 @@ any_found p (h ∷ hs) = by (p h) (any_found p hs)
 -- an object has the name exactly where a key has it
 pub names_are : (heads : List KeyHead) (m : State) (name : List ℕ) → AreKeysOfState heads m → names_object m name ≡ is_some (head_of name None heads)
 names_are heads m name are =
-    ap (list_any (λ item. bytes_eq item.0 name)) (keys_are heads m are) ∙ any_named name heads ∙ any_found (is_of_name name) heads
-
-same_tests : (a b : Bool) → (a ≡ true → b ≡ true) → (b ≡ true → a ≡ true) → a ≡ b
-same_tests true b one two = sym (one refl)
-same_tests false true one two = two refl
-same_tests false false one two = refl
+    ap (list_any (λ item. bytes_eq item.0 name)) (keys_are heads m are) ∙ any_map item_of (λ item. bytes_eq item.0 name) heads ∙ any_found (is_of_name name) heads
 
 at_item : (name : List ℕ) (cycle : ℕ) (h : KeyHead) → eq_by_cmp item_order (name, cycle) (item_of h) ≡ is_at_cycle name cycle h
-at_item name cycle h = same_tests _ _ one two
+at_item name cycle h = both_ways _ _ one two
   where
     one : eq_by_cmp item_order (name, cycle) (item_of h) ≡ true → is_at_cycle name cycle h ≡ true
     one e =
@@ -83,17 +75,14 @@ at_item name cycle h = same_tests _ _ one two
         let same : ◌≡◌ {A = NameAndCycle} (name, cycle) (item_of h) = λ i. (sym is.0 i, sym is.1 i) in
         ap (eq_by_cmp item_order (name, cycle)) (sym same) ∙ (eq_by_cmp_equiv items_total).refl (name, cycle)
 
-any_at : (name : List ℕ) (cycle : ℕ) (heads : List KeyHead) → list_any (eq_by_cmp item_order (name, cycle)) (map item_of heads) ≡ list_any (is_at_cycle name cycle) heads
-any_at name cycle [] = refl
-any_at name cycle (h ∷ hs) = rw (at_item name cycle h, any_at name cycle hs) refl
-
 -- an object of the name is there in the cycle exactly where its key is
 pub contains_is : (heads : List KeyHead) (m : State) (name : List ℕ) (cycle : ℕ) → AreKeysOfState heads m
     → contains_key m.objects (name, cycle) ≡ is_some (head_of name (Some cycle) heads)
 contains_is heads m name cycle are =
     contains_key-keys m.objects (name, cycle)
     ∙ ap (list_any (eq_by_cmp item_order (name, cycle))) (keys_are heads m are)
-    ∙ any_at name cycle heads
+    ∙ any_map item_of (eq_by_cmp item_order (name, cycle)) heads
+    ∙ (λ i. list_any (λ h. at_item name cycle h i) heads)
     ∙ any_found (is_at_cycle name cycle) heads
 
 -- no tree has a name
@@ -160,7 +149,8 @@ less_is a b = by (ltb a b) (eqb a b)
     by false true = refl
     by false false = refl
 
-first_is : (o : Ordering) (a b : ℕ) → is_lt (ordering_then o (nat_cmp a b)) ≡ first_by o (ltb a b)
+-- how two items compare is how their keys do
+pub first_is : (o : Ordering) (a b : ℕ) → is_lt (ordering_then o (nat_cmp a b)) ≡ first_by o (ltb a b)
 first_is Less a b = refl
 first_is Equal a b = less_is a b
 first_is Greater a b = refl

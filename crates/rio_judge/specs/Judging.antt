@@ -1,7 +1,7 @@
 -- What is found of a command: why it is refused, or what it is to do.
 use Rattle.std.specs.Prelude.{◌≡◌, ◌≤◌, ◌<◌, ℕ, ◌+◌, List, length, Bool, true, false, Some, None, IsSome}
 use Rattle.rio_key.specs.declared.head.KeyHead.{KeyHead}
-use Rattle.rio_dir.specs.Table.{greatest_cycle, head_of}
+use Rattle.rio_dir.specs.Table.{AreOrdered, greatest_cycle, head_of}
 use Rattle.rio_types.specs.declared.class.ClassDef.{ClassDef}
 use Rattle.rio_value.specs.declared.value.Value.{Value}
 use Rattle.rio_format.specs.Written.{written_form}
@@ -66,13 +66,19 @@ pub record CanBeStored (classes : List ClassDef) (heads : List KeyHead) (name : 
   pub room : length heads < item_limit
 
 -- what a command is to do can be done: the object can be stored, or its key is there
-abbrev pub CanBeDone : List ClassDef → List KeyHead → Command → Work → Type 0
-CanBeDone classes heads (Put name v) (Storing stored own number size) = CanBeStored classes heads name v stored own number size
-CanBeDone classes heads (Get name cycle version) (Telling told) = IsSome (head_of name (Some told) heads)
-CanBeDone classes heads Ls Listing = Unit {0}
-CanBeDone classes heads other work = ⊥
+abbrev pub WorkCanBeDone : List ClassDef → List KeyHead → Command → Work → Type 0
+WorkCanBeDone classes heads (Put name v) (Storing stored own number size) = CanBeStored classes heads name v stored own number size
+WorkCanBeDone classes heads (Get name cycle version) (Telling told) = IsSome (head_of name (Some told) heads)
+WorkCanBeDone classes heads Ls Listing = Unit {0}
+WorkCanBeDone classes heads other work = ⊥
 
 -- what is accepted can be done
-abbrev pub IsSound : List ClassDef → List KeyHead → Command → Judged → Type 0
-IsSound classes heads c (Refused refusal) = Unit {0}
-IsSound classes heads c (Accepted work) = CanBeDone classes heads c work
+abbrev pub IsSoundJudgement : List ClassDef → List KeyHead → Command → Judged → Type 0
+IsSoundJudgement classes heads c (Refused refusal) = Unit {0}
+IsSoundJudgement classes heads c (Accepted work) = WorkCanBeDone classes heads c work
+
+-- ---- laws
+
+-- The keys of any table stand for a state, whatever the classes are: so a judgement that is right for each state is right for one.
+abbrev pub KeysHaveStates : Type 0
+KeysHaveStates = (classes : List ClassDef) (heads : List KeyHead) → AreOrdered heads → (m : State) × (m.classes ≡ classes) × AreKeysOfState heads m

@@ -4,7 +4,7 @@ ghost use Rattle.rio_machine.specs.State.{State};
 ghost use Rattle.rio_machine.specs.declared.command.Command.{Command};
 ghost use Rattle.rio_step.specs.ItemKeys.{AreKeysOfState};
 ghost use Rattle.rio_types.specs.declared.class.ClassDef.{ClassDef as Class};
-ghost use Rattle.rio_judge.specs.Judging.{CanBeDone};
+ghost use Rattle.rio_judge.specs.Judging.{WorkCanBeDone};
 ghost use Rattle.rio_judge.specs.Stops.{GoesByState};
 
 use crate::Work;
@@ -16,7 +16,7 @@ use rio_machine::Refusal;
 pub(crate) fn get_work(table: &KeyTable, name: &[u8], cycle: Option<u32>) -> Result<Work, Stop>
     ensures answers { (m : State) → AreKeysOfState table.now.heads m
         → GoesByState m (Command.Get name.now cycle None) result }
-    ensures sound { (classes : List Class) → IfOk result (CanBeDone classes table.now.heads
+    ensures sound { (classes : List Class) → IfOk result (WorkCanBeDone classes table.now.heads
         (Command.Get name.now cycle None)) }
 {
     let Some(newest) = table.find(name, None) else {

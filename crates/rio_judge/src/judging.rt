@@ -2,7 +2,7 @@
 ghost use Rattle.std.specs.Prelude.{◌≡◌, IsTrue, IfOk};
 ghost use Rattle.rio_machine.specs.State.{State};
 ghost use Rattle.rio_step.specs.ItemKeys.{AreKeysOfState};
-ghost use Rattle.rio_judge.specs.Judging.{CanBeDone, IsJudgementOfStates, IsSound, is_judged};
+ghost use Rattle.rio_judge.specs.Judging.{WorkCanBeDone, IsJudgementOfStates, IsSoundJudgement, is_judged};
 ghost use Rattle.rio_judge.specs.Stops.{GoesByState};
 
 use crate::get::get_work;
@@ -28,7 +28,7 @@ pub fn judge(
     requires { IsTrue (is_judged command.now) }
     ensures judged { IfOk result
         (IsJudgementOfStates classes.now table.now.heads command.now) }
-    ensures sound { IfOk result (IsSound classes.now table.now.heads command.now) }
+    ensures sound { IfOk result (IsSoundJudgement classes.now table.now.heads command.now) }
 {
     match work_of(alloc, classes, table, command) {
         Ok(work) => Ok(Judged::Accepted(work)),
@@ -47,7 +47,7 @@ fn work_of(
     requires { IsTrue (is_judged command.now) }
     ensures answers { (m : State) → m.classes ≡ classes.now → AreKeysOfState table.now.heads m
         → GoesByState m command.now result }
-    ensures sound { IfOk result (CanBeDone classes.now table.now.heads command.now) }
+    ensures sound { IfOk result (WorkCanBeDone classes.now table.now.heads command.now) }
 {
     match command {
         Command::Bad { line, place } => Err(Stop::Refused(Refusal::BadLine {

@@ -11,11 +11,13 @@
 
 mod get;
 mod judging;
+mod laws;
 mod put;
 mod stop;
 mod work;
 
 pub use judging::judge;
+pub use laws::keys_have_states;
 pub use work::{Judged, Work};
 
 #[cfg(test)]

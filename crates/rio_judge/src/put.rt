@@ -10,7 +10,7 @@ ghost use Rattle.rio_machine.specs.declared.refusal.Refusal.{Refusal as Refusing
 ghost use Rattle.rio_model.specs.Resolving.{resolved};
 ghost use Rattle.rio_step.specs.ItemKeys.{AreKeysOfState};
 ghost use Rattle.rio_step.specs.Refusing.{is_fit, is_kept_out, is_list_name, object_class, refused_if};
-ghost use Rattle.rio_judge.specs.Judging.{CanBeDone};
+ghost use Rattle.rio_judge.specs.Judging.{WorkCanBeDone};
 ghost use Rattle.rio_judge.specs.Stops.{GoesByState, GoesByTests};
 
 use crate::Work;
@@ -157,7 +157,7 @@ pub(crate) fn put_work(
 ) -> Result<Work, Stop>
     ensures answers { (m : State) → m.classes ≡ classes.now → AreKeysOfState table.now.heads m
         → GoesByState m (Command.Put name.now value.now) result }
-    ensures sound { IfOk result (CanBeDone classes.now table.now.heads
+    ensures sound { IfOk result (WorkCanBeDone classes.now table.now.heads
         (Command.Put name.now value.now)) }
 {
     check_name(name)?;
