@@ -2,17 +2,3 @@ pub mod Answering
 pub mod Fronts
 pub mod Listed
 pub mod Records
-pub mod FieldWrites
-pub mod Numbers
-pub mod SmallHead
-pub mod SmallDir
-pub mod FirstTexts
-pub mod FieldsChain
-pub mod RecordPlaces
-pub mod ListedRecords
-pub mod FirstBytes
-pub mod LeftImages
-pub mod OwnRecords
-pub mod ListRead
-pub mod ClosedFile
-pub mod Closing
