@@ -32,7 +32,7 @@ P
 
 "$top/rootio" ls "$folder/small.root" >/dev/null
 program=$top/crates/rootio/out/rootio
-[ -x "$program" ] || program=$top/out/rootio
+[ "$program" -nt "$top/out/rootio" ] || program=$top/out/rootio
 for name in small large many; do
   file=$folder/$name.root
   printf '%s: %s bytes, %s lines, ' "$name" "$(stat -c %s "$file")" "$("$program" ls "$file" | wc -l)"

@@ -76,7 +76,7 @@ new_class place = do
   _ ← note (with_name t place class)
   done class
 
--- a class word that names an earlier one
+-- a class word that names an earlier one: the place of that class word, plus 2, with the upper bit set
 abbrev pub known_class : ℕ → ℕ → ObjLayout (List ℕ)
 known_class place w = do
   t ← met
@@ -97,7 +97,7 @@ new_word place w = do
   _ ← note (with_label t place)
   done (New (length t.labels) place end class)
 
--- a reference to an earlier object
+-- a reference to an earlier object: the place of its count word, plus 2
 abbrev pub reference : ℕ → ℕ → ObjLayout PointerWord
 reference place w = do
   t ← met

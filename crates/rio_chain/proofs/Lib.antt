@@ -12,5 +12,6 @@ pub mod OneChain
 pub mod Placed
 pub mod PutChain
 pub mod Puts
+pub mod ShortKeys
 pub mod SoFar
 pub mod Words

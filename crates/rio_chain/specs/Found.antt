@@ -5,6 +5,7 @@ use Rattle.rio_num.specs.At.{At}
 use Rattle.rio_host.specs.Image.{Has}
 use Rattle.rio_host.specs.Host.{View}
 use Rattle.rio_key.specs.Spelling.{IsSpelledIn, SpellsKey}
+use Rattle.rio_key.specs.Written.{FitsKey, written_key}
 use Rattle.rio_key.specs.declared.head.KeyHead.{KeyHead}
 use Rattle.rio_chain.specs.declared.segment.Segment.{Segment}
 use Rattle.rio_chain.specs.declared.segment.Segment.TheVariants.{Record, Gap}
@@ -22,6 +23,11 @@ FindsWord place None file = length file < place + 4
 pub record FindsKey (bytes : List ℕ) (found : Option KeyHead) : Type 0 where
   pub found_is : IfSome found (λ head. IsSpelledIn (SpellsKey head) bytes)
   pub only : (head : KeyHead) → IsSpelledIn (SpellsKey head) bytes → found ≡ Some head
+
+-- a key that is no longer, written, than a key's length can say
+pub record IsShortKey (h : KeyHead) : Type 0 where
+  pub fits : FitsKey h
+  pub size : length (written_key h) < 2 ^ 16
 
 -- the key that begins the n bytes at a place
 abbrev pub FindsKeyAt : ℕ → ℕ → Option KeyHead → List ℕ → Type 0

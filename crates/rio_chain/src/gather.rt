@@ -1,5 +1,5 @@
 //! A chain is made of the segments of a file.
-ghost use Rattle.std.specs.Prelude.{◌≡◌, ◌≤◌, IfOk};
+ghost use Rattle.std.specs.Prelude.{◌≡◌, ◌<◌, ◌≤◌, ◌^◌, IfOk};
 ghost use Rattle.rio_chain.specs.Adjoining.{AreSegments};
 ghost use Rattle.rio_chain.specs.Placing.{file_end, gaps_in, record_count};
 
@@ -41,9 +41,9 @@ fn count_records(segments: &[Segment]) -> u64
     count
 }
 
-// Where they end.
-fn end_of(segments: &[Segment]) -> u64
-    requires { file_end segments.now ≤ 1999999996 }
+/// END: the place behind the last of the segments, the first of which begins at place 100.
+pub fn end_of(segments: &[Segment]) -> u64
+    requires { file_end segments.now < 2 ^ 64 }
     ensures { result ≡ file_end segments.now }
 {
     let mut end: u64 = 100;

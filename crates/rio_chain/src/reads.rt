@@ -4,7 +4,7 @@ ghost use Rattle.byteorder.specs.Endian.{big_number};
 ghost use Rattle.rio_host.specs.Host.{IsLength, IsWithin};
 ghost use Rattle.rio_host.specs.Image.{Has};
 ghost use Rattle.rio_host.specs.OnlyReads.{OnlyReads};
-ghost use Rattle.rio_chain.specs.Found.{FindsKey, FindsKeyAt, FindsWord, IsMemoryCause};
+ghost use Rattle.rio_chain.specs.Found.{FindsKey, FindsKeyAt, FindsWord, IsMemoryCause, IsShortKey};
 ghost use Rattle.rio_chain.specs.Walks.{IsReadCause, Told};
 
 use crate::WalkFault;
@@ -46,8 +46,8 @@ pub(crate) fn word_at<H: Host>(
     Ok(Some(word_of(&bytes)))
 }
 
-// The `n` bytes at `place`.
-pub(crate) fn bytes_at<H: Host>(
+/// The `n` bytes of the file from `place` on.
+pub fn bytes_at<H: Host>(
     alloc: Global,
     host: &mut H,
     place: u64,
@@ -69,6 +69,7 @@ pub(crate) fn bytes_at<H: Host>(
 pub(crate) fn key_in(alloc: Global, bytes: &[u8], place: u64) -> Result<Option<KeyHead>, WalkFault>
     requires { place + length bytes.now < 2 ^ 64 }
     ensures key { IfOk result (FindsKey bytes.now) }
+    ensures short { IfOk result (λ found. IfSome found IsShortKey) }
     ensures cause { IsMemoryCause result }
 {
     match read_key(alloc, bytes, place, place) {
@@ -101,6 +102,7 @@ fn front_key_at<H: Host>(
     requires fits { place + n < 2 ^ 64 }
     ensures key { IfOk result
         (λ found. Told (H.view host.old) (FindsKeyAt place n found)) }
+    ensures short { IfOk result (λ found. IfSome found IsShortKey) }
     ensures calls { OnlyReads (H.view host.old) (H.view host.new) }
     ensures cause { IsReadCause (H.view host.old) (H.view host.new) result }
 {
@@ -108,8 +110,9 @@ fn front_key_at<H: Host>(
     Ok(key_in(alloc, &bytes, place)?)
 }
 
-// The key that begins the `n` bytes at `place`, of which no more are read than a key may take.
-pub(crate) fn key_at<H: Host>(
+/// The key that begins the `n` bytes of the file from `place` on, or None where none does. No more of them are read than a
+/// key may take.
+pub fn key_at<H: Host>(
     alloc: Global,
     host: &mut H,
     place: u64,
@@ -119,6 +122,7 @@ pub(crate) fn key_at<H: Host>(
     requires fits { place + n < 2 ^ 64 }
     ensures key { IfOk result
         (λ found. Told (H.view host.old) (FindsKeyAt place n found)) }
+    ensures short { IfOk result (λ found. IfSome found IsShortKey) }
     ensures calls { OnlyReads (H.view host.old) (H.view host.new) }
     ensures cause { IsReadCause (H.view host.old) (H.view host.new) result }
 {

@@ -1,7 +1,8 @@
 //! A walk along the chain of a file.
-ghost use Rattle.std.specs.Prelude.{◌≡◌, IfOk, IfErr};
+ghost use Rattle.std.specs.Prelude.{◌≡◌, ◌<◌, ◌^◌, IfOk, IfErr};
 ghost use Rattle.rio_host.specs.OnlyReads.{OnlyReads};
 ghost use Rattle.rio_chain.specs.Adjoining.{AreSegments};
+ghost use Rattle.rio_chain.specs.Placing.{file_end};
 ghost use Rattle.rio_chain.specs.Segments.{HasSegments};
 ghost use Rattle.rio_chain.specs.Walks.{AreFew, IsWalkCause, Told, TellsFirstBreak};
 
@@ -18,6 +19,7 @@ pub fn walk<H: Host>(alloc: Global, host: &mut H) -> Result<Segments, WalkFault>
     ensures segments { IfOk result
         (λ segments. Told (H.view host.old) (λ file. HasSegments file segments)) }
     ensures shape { IfOk result AreSegments }
+    ensures end { IfOk result (λ segments. file_end segments < 2 ^ 64) }
     ensures few { IfOk result (λ segments. Told (H.view host.old) (λ file. AreFew file segments)) }
     ensures broken { IfErr result (TellsFirstBreak (H.view host.old)) }
     ensures calls { OnlyReads (H.view host.old) (H.view host.new) }

@@ -1,2 +1,6 @@
 pub mod Causes
+pub mod Fields
+pub mod Leaving
 pub mod Opens
+pub mod Sizes
+pub mod Written

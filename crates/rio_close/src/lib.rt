@@ -1,14 +1,35 @@
-//! A closed file: its header, its directory record and its key list.
+//! A closed file: its header, its directory record and its key list, read and written.
+//! [`open_closed`] reads them. [`close_records`] makes what a close writes, as long as
+//! [`close_length`] says, and [`write_close`] writes it: the key list, the free record, fields of
+//! header and directory record, and last of all the word that says where the file ends. A stop at
+//! any moment leaves a file that reads as before, and that is marked as open or closed whole.
+//!
+//! The definitions stand in `specs/`: `Opens` and `Causes` (what a call that reads answers, and why
+//! it fails), `Sizes`, `Written` (what a close writes), `Fields` (its last writes) and `Leaving`
+//! (what a stop leaves).
 #![tactic(auto)]
 
 mod fault;
 mod front;
 mod keys;
+mod laws;
+mod length;
+mod making;
 mod open;
+mod parts;
 mod range;
 mod record;
+mod writing;
 
 pub use fault::ReportFault;
+pub use laws::{close_length_is_need, directory_in_front};
+pub use length::close_length;
+pub use making::close_records;
 pub use open::{open_closed, read_closed};
+pub use parts::CloseRecords;
 pub use record::{data_of, read_record, read_up_to};
 pub use rio_dir::Closed;
+pub use writing::write_close;
+
+#[cfg(test)]
+mod tests;

@@ -42,7 +42,7 @@ key_there p bytes h is = ap (λ (b : List ℕ). key_at (standing p b)) is.2 ∙ 
 list_there : (q p : ℕ) (bytes : List ℕ) (hs : List KeyHead) → IsSpelledIn (SpellsKeyList hs) bytes → or_bad_list q (key_list_at (record { place = p; rest = bytes })) ≡ Ok hs
 list_there q p bytes hs is = ap (λ (b : List ℕ). or_bad_list q (key_list_at (standing p b))) is.2 ∙ ap (or_bad_list q) (key_list_again hs is.0 p is.1 is.3)
 
-keys_again : (file : List ℕ) (place : ℕ) (keys : List KeyHead) → HasKeys file place keys → closed_keys file place ≡ Ok keys
+pub keys_again : (file : List ℕ) (place : ℕ) (keys : List KeyHead) → HasKeys file place keys → closed_keys file place ≡ Ok keys
 unfolding listed_at
 keys_again file place keys (inl none) =
     let zero : eqb place 0 ≡ true = eq-eqb place 0 none.0 in

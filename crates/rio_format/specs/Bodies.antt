@@ -76,6 +76,7 @@ abbrev pub stated_version : List ClassDef → List ℕ → ℤ → Option ℕ �
 stated_version classes class version None = version
 stated_version classes class version (Some sum) = option_map_or (λ c. c.version) (find_sum_in classes class sum) (pos 0)
 
+-- what stands behind the header of a described class: its parts, if all of them can be read
 abbrev pub by_description : Option ClassDef → Body
 by_description None = opaque
 by_description (Some c) = if can_read_all [] c.members then described c else opaque

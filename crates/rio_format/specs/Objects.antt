@@ -70,7 +70,7 @@ text_value = do
   t ← text Short
   done (Text t)
 
--- A value of the kind, behind these counters. A kind that can't be read is never asked for, since the object is opaque.
+-- A value of the kind, behind these counters. An object with a member of another kind is opaque, so the last case isn't met.
 unfoldable pub kind_value : Objects → Counters → Kind → ObjLayout Value
 kind_value object counters (Plain of) = number_value of
 kind_value object counters Counter = number_value I32
@@ -108,7 +108,7 @@ parts object c = do
 
 -- ---- built-in classes
 
--- a count of items of at least so many bytes each, which the data have behind it
+-- A count of items, each of at least so many bytes: the data must have as many bytes behind the count.
 unfoldable pub count_of : ℕ → ObjLayout ℕ
 count_of width = do
   place ← here

@@ -1,4 +1,9 @@
 pub mod Best
+pub mod EntryGaps
+pub mod EntryLaws
+pub mod EntryReads
+pub mod EntrySpells
+pub mod EntryWritten
 pub mod Given
 pub mod Order
 pub mod Puts

@@ -1,10 +1,24 @@
-//! The gaps that a deleted record leaves, and the free record of an empty file.
-use crate::{FreeList, Gap, write_free};
-use rio_num::Bytes;
+//! The gaps that a deleted record leaves, and free records, written and read.
+use crate::{FreeFault, FreeList, Gap, read_free, write_free};
+use rio_num::{Bytes, NoMemory};
+use std::alloc::Global;
 use std::test::Fail;
 
 // The free record's data for END 304.
 const EMPTY: &[u8] = b"\0\x01\0\0\x01\x30\x77\x35\x94\x00";
+
+// The bytes 268 to 327, and those behind them, 328 to 387.
+const GAP: &[u8] = b"\0\x01\0\0\x01\x0c\0\0\x01\x47";
+
+const NEXT: &[u8] = b"\0\x01\0\0\x01\x48\0\0\x01\x83";
+
+// All behind END 504.
+const END: &[u8] = b"\0\x01\0\0\x01\xf8\x77\x35\x94\x00";
+
+// The bytes 5,000,000,000 to 5,000,000,099, and all behind 6,000,000,000, in the large form.
+const LARGE_GAP: &[u8] = b"\x03\xe9\0\0\0\x01\x2a\x05\xf2\x00\0\0\0\x01\x2a\x05\xf2\x63";
+
+const LARGE_END: &[u8] = b"\x03\xe9\0\0\0\x01\x65\xa0\xbc\x00\x7f\xff\xff\xff\xff\xff\xff\xff";
 
 #[test]
 fn writes_the_free_record_of_an_empty_file(rt: HostRuntime) -> Result<(), Fail> {
@@ -46,5 +60,112 @@ fn chooses_a_gap_as_long_or_longer_by_four(rt: HostRuntime) -> Result<(), Fail> 
     assert_eq!(rt; list.best(100), Some(268));
     assert_eq!(rt; list.best(96), Some(268));
     assert_eq!(rt; list.best(108), None);
+    Ok(())
+}
+
+fn joined(alloc: Global, parts: &[&[u8]]) -> Result<Bytes, NoMemory> {
+    let mut bytes = Bytes::new(alloc);
+    for part in parts {
+        bytes.put(part)?;
+    }
+    Ok(bytes)
+}
+
+#[test]
+fn reads_the_free_record_of_an_empty_file(rt: HostRuntime) -> Result<(), Fail> {
+    let list = read_free(
+        rt.alloc(),
+        joined(rt.alloc(), &[EMPTY, b"\0\0"])?.as_slice(),
+    )?;
+    assert!(rt; list.as_slice().is_empty());
+    Ok(())
+}
+
+#[test]
+fn reads_entries_that_touch_as_one_gap(rt: HostRuntime) -> Result<(), Fail> {
+    let bytes = joined(rt.alloc(), &[GAP, NEXT, END, b"\0\0\0"])?;
+    let list = read_free(rt.alloc(), bytes.as_slice())?;
+    let whole = Gap {
+        place: 268,
+        length: 120,
+    };
+    assert_eq!(rt; list.as_slice(), [whole].as_slice());
+    Ok(())
+}
+
+#[test]
+fn reads_entries_of_the_large_form(rt: HostRuntime) -> Result<(), Fail> {
+    let bytes = joined(rt.alloc(), &[GAP, LARGE_GAP, LARGE_END])?;
+    let list = read_free(rt.alloc(), bytes.as_slice())?;
+    let small = Gap {
+        place: 268,
+        length: 60,
+    };
+    let large = Gap {
+        place: 5_000_000_000,
+        length: 100,
+    };
+    assert_eq!(rt; list.as_slice(), [small, large].as_slice());
+    Ok(())
+}
+
+fn fault_in(alloc: Global, parts: &[&[u8]]) -> Result<Option<FreeFault>, NoMemory> {
+    Ok(read_free(alloc, joined(alloc, parts)?.as_slice()).err())
+}
+
+#[test]
+fn tells_the_first_field_that_is_not_whole(rt: HostRuntime) -> Result<(), Fail> {
+    let version = FreeFault::Short {
+        place: 10,
+        wanted: 2,
+    };
+    assert_eq!(rt; fault_in(rt.alloc(), &[GAP, b"\x01"])?, Some(version));
+    let first = FreeFault::Short {
+        place: 12,
+        wanted: 4,
+    };
+    assert_eq!(rt; fault_in(rt.alloc(), &[GAP, b"\0\0\0\0"])?, Some(first));
+    Ok(())
+}
+
+#[test]
+fn tells_a_last_byte_that_is_not_whole(rt: HostRuntime) -> Result<(), Fail> {
+    let small = FreeFault::Short {
+        place: 6,
+        wanted: 4,
+    };
+    assert_eq!(rt; fault_in(rt.alloc(), &[&GAP[..9]])?, Some(small));
+    let large = FreeFault::Short {
+        place: 10,
+        wanted: 8,
+    };
+    assert_eq!(rt; fault_in(rt.alloc(), &[&LARGE_GAP[..17]])?, Some(large));
+    Ok(())
+}
+
+#[test]
+fn tells_an_entry_that_is_not_whole_before_its_order(rt: HostRuntime) -> Result<(), Fail> {
+    let last = FreeFault::Short {
+        place: 16,
+        wanted: 4,
+    };
+    assert_eq!(rt;
+        fault_in(rt.alloc(), &[GAP, b"\0\x01\0\0\x01\0\0"])?,
+        Some(last)
+    );
+    Ok(())
+}
+
+#[test]
+fn tells_entries_out_of_order(rt: HostRuntime) -> Result<(), Fail> {
+    let second = Some(FreeFault::BadOrder { place: 10 });
+    assert_eq!(rt; fault_in(rt.alloc(), &[NEXT, GAP, b"\x01"])?, second);
+    assert_eq!(rt;
+        fault_in(rt.alloc(), &[GAP, b"\0\x01\0\0\x01\x47\0\0\x01\x83"])?,
+        second
+    );
+    let ends_early = b"\0\x01\0\0\x01\x0c\0\0\x01\x0b";
+    let first = Some(FreeFault::BadOrder { place: 0 });
+    assert_eq!(rt; fault_in(rt.alloc(), &[ends_early])?, first);
     Ok(())
 }

@@ -40,7 +40,7 @@ fn put_gaps(gaps: &[Gap], into: &mut Bytes) -> Result<(), NoMemory>
 }
 
 /// Writes the data of the free record at the end of some bytes: an entry for each gap, in order of place, and one from
-/// `end`, the end of the file, to 2,000,000,000. The places fit the entries' four bytes.
+/// `end`, the end of the file, to 2,000,000,000. All places have to fit four bytes.
 pub fn write_free(list: &FreeList, end: u64, into: &mut Bytes) -> Result<(), NoMemory>
     requires gaps_fit { All (λ g. gap_end g ≤ 2 ^ 32) list.now.gaps }
     requires end_fits { end < 2 ^ 32 }

@@ -1,6 +1,6 @@
 -- First faults and texts of faults, computed.
-use Rattle.std.proofs.Common.{◌≡◌, List, [], ◌∷◌, refl}
-use Rattle.std.specs.Prelude.{codes, Option, Some, None}
+use Rattle.std.proofs.Common.{◌≡◌, [], ◌∷◌, refl}
+use Rattle.std.specs.Prelude.{codes, Some, None}
 use Rattle.std.specs.Fmt.{digits}
 use Rattle.rio_buffer.specs.declared.fault.ObjFault.TheVariants.{CountMismatch, UnknownClassWord}
 use Rattle.rio_head.specs.Head.{fault_at, header_at}

@@ -9,4 +9,4 @@ mod object;
 mod read;
 mod whole;
 
-pub use read::{read_builtin, read_object};
+pub use read::{read_builtin, read_next, read_object};

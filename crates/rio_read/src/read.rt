@@ -71,3 +71,17 @@ pub fn read_builtin(
 {
     object::read_object(alloc, classes, reader, class, DEPTH_LIMIT)
 }
+
+/// The next object of the class, or the first fault, as `read_object` gives it; the reader stands behind the object then.
+/// Where it is refused, the reader may stand anywhere behind the object's first byte.
+pub fn read_next(
+    alloc: Global,
+    classes: &Classes,
+    reader: &mut ObjReader,
+    class: &[u8],
+) -> Result<Value, ObjFault>
+    ensures exact { ReadsNext classes.now class.now result reader.old reader.new }
+    ensures goes { GoesOn reader.old.at reader.new.at }
+{
+    object::read_object(alloc, classes, reader, class, DEPTH_LIMIT)
+}

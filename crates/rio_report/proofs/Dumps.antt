@@ -3,7 +3,7 @@ use Rattle.std.proofs.Common.{◌≡◌, ℕ, List, Option, Some, Result, Ok, Er
 use Rattle.rio_num.specs.Reading.{◌>>=◌}
 use Rattle.rio_head.specs.declared.fault.FileFault.{FileFault}
 use Rattle.rio_head.specs.declared.fault.HeadFault.{HeadFault}
-use Rattle.rio_host.specs.Host.{View, Becomes, Longer}
+use Rattle.rio_host.specs.Host.{View}
 use Rattle.rio_host.specs.OnlyReads.{OnlySaysPieces, Says}
 use Rattle.rio_host.proofs.PiecesLaws.{part_as, pieces_part}
 use Rattle.rio_dir.specs.Listing.{said_of}
@@ -15,7 +15,7 @@ use Rattle.rio_close.specs.Causes.{IsHostCauseOf, IsSayCauseOf, NoKind}
 use Rattle.rio_close.specs.Opens.{Opens}
 use Rattle.rio_close.specs.declared.fault.ReportFault.{ReportFault}
 use Rattle.rio_close.specs.declared.fault.ReportFault.TheVariants.{BadFile, NoMemory, HostFault, SayFault}
-use Rattle.rio_report.specs.Lists.{AnswersOf, IsDone, ListingAnswer, ListingOf, Refuses}
+use Rattle.rio_report.specs.Lists.{AnswersOf, IsDone, ListingAnswer, ListingOf}
 
 module _ (item : Option Item) (file : List ℕ) where
   abbrev dumped_by : Result Described HeadFault → Result (List ℕ) HeadFault

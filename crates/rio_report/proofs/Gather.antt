@@ -1,5 +1,5 @@
 -- A text that is gathered goes on, is said, or is given up.
-use Rattle.std.proofs.Common.{◌≡◌, ◌++◌, ℕ, List, [], Some, Result, Ok, Err, refl, sym, ap, ◌∙◌, append_assoc}
+use Rattle.std.proofs.Common.{◌≡◌, ◌++◌, ℕ, List, [], Some, Result, Ok, Err, sym, ap, ◌∙◌, append_assoc}
 use Rattle.std.proofs.lemmas.List.{append-nil}
 use Rattle.rio_host.specs.Host.{View, IsLawful}
 use Rattle.rio_host.specs.OnlyReads.{OnlyReads, OnlySaysPieces, Says, SaysPieces}

@@ -1,5 +1,5 @@
 -- The image of a.root without objects, 308 bytes: it reads as the empty state by the walk and by its key list.
-use Rattle.std.proofs.Common.{◌≡◌, ◌≤◌, ◌<◌, ℕ, ◌+◌, pos, List, [], ◌∷◌, ◌++◌, length, Some, None, Ok, refl, arith, subst, slice_get}
+use Rattle.std.proofs.Common.{◌≡◌, ◌≤◌, ◌<◌, ℕ, ◌+◌, pos, List, [], ◌∷◌, ◌++◌, length, Some, Ok, refl, arith, subst, slice_get}
 use Rattle.std.specs.Prelude.{codes, replicate}
 use Rattle.std.specs.FinMap.{get-empty}
 use Rattle.byteorder.specs.Endian.{big_bytes}

@@ -5,11 +5,13 @@ use Rattle.rio_head.specs.declared.fault.FileFault.{FileFault}
 use Rattle.rio_head.specs.declared.fault.HeadFault.{HeadFault}
 use Rattle.rio_head.specs.Head.{fault_at}
 use Rattle.rio_host.specs.Host.{View}
+use Rattle.rio_host.specs.Source.{Input}
 use Rattle.rio_dir.specs.Closed.{closed_file, fault_of}
 use Rattle.rio_dir.specs.Listing.{key_lines, listed_file}
 use Rattle.rio_meaning.specs.declared.item.Item.{Item}
 use Rattle.rio_meaning.specs.Described.{described_file}
 use Rattle.rio_meaning.specs.Dump.{dump_text, dumped_file}
+use Rattle.rio_close.specs.Causes.{AnyKind, IsSayCauseOf, IsTested}
 use Rattle.rio_close.specs.declared.fault.ReportFault.TheVariants.{BadFile as FileBad, NoMemory as OutOfMemory, HostFault, SayFault as NotSaid}
 use Rattle.rio_report.specs.Lists.{AnswersOf, ListingAnswer}
 use Rattle.rootio.specs.declared.status.Status.{Status}
@@ -17,6 +19,7 @@ use Rattle.rootio.specs.declared.status.Status.TheVariants.{BadFile}
 use Rattle.rootio.specs.declared.words.Form.TheVariants.{Reads}
 use Rattle.rootio.specs.declared.words.Listing.{Listing}
 use Rattle.rootio.specs.declared.words.Listing.TheVariants.{Ls, Dump}
+use Rattle.rootio.specs.Complete.{CanBeDone, IsComplete, IsDoneOrNoMemory, NoneRose}
 use Rattle.rootio.specs.Reading.{EndsListing, RefusesBroken, TellsFirstFault, TellsUnlessCut, rules_of}
 use Rattle.rootio.specs.Status.{status_of}
 
@@ -68,3 +71,24 @@ module _ (old new : View) (status : Status) where
       rw ends.1 (yields (listed_file file) ends.0 fault (ends.2.refused file here) (listed_first file ∙ e))
   ends_refused (Dump item) ends fault file here e =
       rw ends.1 (yields (dumped_file item file) ends.0 fault (ends.2.refused file here) (dumped_first item file ∙ e))
+
+-- ---- where nothing fails
+
+module _ (old new : View) (status : Status) (before : Input) where
+  not_sound : (list : Listing) → CanBeDone (Reads list) old before → EndsListing list old new status → (place : ℕ) (kind : FileFault) → status ≡ BadFile place kind → ⊥
+  not_sound list can ends place kind is =
+      let told = ends_tells old new status list ends place kind is can.file can.holds in
+      let sound = can.sound in
+      cc
+
+  ends_by : (tested : FileFault → Type 0) (list : Listing) → CanBeDone (Reads list) old before → EndsListing list old new status
+      → (told : ListingAnswer) → status ≡ status_of told → IsSayCauseOf tested old new told → NoneRose old new before before → IsDoneOrNoMemory (status_of told)
+  ends_by tested list can ends (Ok x) is cause none = tt
+  ends_by tested list can ends (Err (FileBad place kind)) is cause none = not_sound list can ends place kind is
+  ends_by tested list can ends (Err OutOfMemory) is cause none = tt
+  ends_by tested list can ends (Err HostFault) is cause none = none.disk cause.0
+  ends_by tested list can ends (Err NotSaid) is cause none = none.say cause.1
+
+  pub ends_complete : (list : Listing) → EndsListing list old new status → IsComplete (Reads list) old new before before status
+  ends_complete Ls ends can none = rw ends.1 (ends_by IsTested Ls can ends ends.0 ends.1 ends.2.cause none)
+  ends_complete (Dump item) ends can none = rw ends.1 (ends_by AnyKind (Dump item) can ends ends.0 ends.1 ends.2.cause none)

@@ -1,1 +1,12 @@
+pub mod Built
+pub mod Completes
+pub mod Doing
 pub mod Endings
+pub mod Opening
+pub mod Pieces
+pub mod Room
+pub mod RunStops
+pub mod Scripts
+pub mod Unclosed
+pub mod Untouched
+pub mod Works

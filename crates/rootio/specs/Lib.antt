@@ -1,3 +1,10 @@
+pub mod Causes
+pub mod Complete
+pub mod Headline
+pub mod Input
 pub mod Reading
+pub mod Script
 pub mod Status
+pub mod Target
 pub mod Words
+pub mod Writing

@@ -11,12 +11,13 @@ use Rattle.rio_close.specs.Causes.{AnyKind, IsTested, NoKind}
 use Rattle.rio_report.specs.Lists.{AtOnce, InPieces, ListingAnswer, Lists}
 use Rattle.rootio.specs.Status.{status_of}
 use Rattle.rootio.specs.declared.status.Status.{Status}
-use Rattle.rootio.specs.declared.status.Status.TheVariants.{Done, Usage, BadFile, DiskFault, NoMemory, SayFault}
+use Rattle.rootio.specs.declared.status.Status.TheVariants.{Done, Usage, BadFile, DiskFault, InputFault, NoMemory, InputTooLong, ReadOnly, SayFault}
 use Rattle.rootio.specs.declared.words.Form.{Form}
 use Rattle.rootio.specs.declared.words.Form.TheVariants.{Reads, Writes}
 use Rattle.rootio.specs.declared.words.Listing.{Listing}
 use Rattle.rootio.specs.declared.words.Listing.TheVariants.{Ls, Dump}
 use Rattle.rootio.specs.declared.words.Work.{Work}
+use Rattle.rootio.specs.declared.words.Work.TheVariants.{Run}
 
 -- ---- what the words ask for
 
@@ -32,9 +33,15 @@ writes_of None = false
 writes_of (Some (Reads list)) = false
 writes_of (Some (Writes work)) = true
 
--- the verbs that write and read the input: none is there yet
+-- what is done to a file, where the verb is one that writes
+abbrev pub writing_of : Option Form → Option Work
+writing_of None = None
+writing_of (Some (Reads list)) = None
+writing_of (Some (Writes work)) = Some work
+
+-- the verbs that write and read the input
 abbrev pub takes_script : Work → Bool
-takes_script work = elim work [ ]
+takes_script (Run target) = true
 
 -- whether the verb reads the input
 abbrev pub reads_input : Option Form → Bool
@@ -64,13 +71,16 @@ TellsFirstFault tests old status =
     (place : ℕ) (kind : FileFault) → status ≡ BadFile place kind
     → (file : List ℕ) → old.holds ≡ Some file → first_fault tests file ≡ Some (fault_at place kind)
 
--- this fault is told, unless memory ran out or a call on the file failed
+-- this fault is told, unless memory ran out or a call on the file failed, or the input that comes before the file ended the run
 abbrev pub TellsUnlessCut : HeadFault → Status → Type 0
 TellsUnlessCut fault Done = ⊥
 TellsUnlessCut fault Usage = ⊥
 TellsUnlessCut fault (BadFile place kind) = fault ≡ fault_at place kind
 TellsUnlessCut fault DiskFault = Unit {0}
+TellsUnlessCut fault InputFault = Unit {0}
 TellsUnlessCut fault NoMemory = Unit {0}
+TellsUnlessCut fault InputTooLong = Unit {0}
+TellsUnlessCut fault (ReadOnly place reason) = ⊥
 TellsUnlessCut fault SayFault = ⊥
 
 -- a file that breaks a rule is told with its first fault

@@ -1,23 +1,23 @@
--- The ways in which a run ends: exit status, text and cause.
-use Rattle.std.specs.Prelude.{◌≡◌, ℕ, List, [], ◌++◌, codes, Result, Ok, Err}
+-- The ways in which a run ends: exit status and text.
+use Rattle.std.specs.Prelude.{ℕ, List, [], ◌++◌, codes, Result, Ok, Err}
 use Rattle.std.specs.Fmt.{decimal}
 use Rattle.rio_head.specs.FaultName.{name_of}
+use Rattle.rio_head.specs.ReasonName.{name_of_reason}
 use Rattle.rio_num.specs.declared.no_memory.NoMemory.{NoMemory as NoMemoryFault}
-use Rattle.rio_host.specs.Host.{View, Rose}
-use Rattle.rio_host.specs.Source.{Input}
-use Rattle.rio_head.specs.declared.fault.FileFault.{FileFault}
-use Rattle.rio_close.specs.Causes.{NoDiskFault, NoSayFault}
 use Rattle.rio_close.specs.declared.fault.ReportFault.{ReportFault}
 use Rattle.rio_close.specs.declared.fault.ReportFault.TheVariants.{BadFile as FileBad, NoMemory as OutOfMemory, HostFault, SayFault as NotSaid}
 use Rattle.rootio.specs.declared.status.Status.{Status}
-use Rattle.rootio.specs.declared.status.Status.TheVariants.{Done, Usage, BadFile, DiskFault, NoMemory, SayFault}
+use Rattle.rootio.specs.declared.status.Status.TheVariants.{Done, Usage, BadFile, DiskFault, InputFault, NoMemory, InputTooLong, ReadOnly, SayFault}
 
 abbrev pub status_code : Status → ℕ
 status_code Done = 0
 status_code Usage = 1
 status_code (BadFile place kind) = 2
 status_code DiskFault = 3
+status_code InputFault = 4
 status_code NoMemory = 5
+status_code InputTooLong = 6
+status_code (ReadOnly place reason) = 7
 status_code SayFault = 8
 
 abbrev pub status_text : Status → List ℕ
@@ -25,7 +25,10 @@ status_text Done = []
 status_text Usage = codes "rootio: usage: rootio VERB FILE ARG..."
 status_text (BadFile place kind) = codes "rootio: bad file at " ++ decimal place ++ codes ": " ++ name_of kind
 status_text DiskFault = codes "rootio: disk fault"
+status_text InputFault = codes "rootio: input fault"
 status_text NoMemory = codes "rootio: no memory"
+status_text InputTooLong = codes "rootio: input too long"
+status_text (ReadOnly place reason) = codes "rootio: read only at " ++ decimal place ++ codes ": " ++ name_of_reason reason
 status_text SayFault = codes "rootio: output fault"
 
 -- what is told on standard error: a line, and nothing where all was done
@@ -37,23 +40,6 @@ told_line status = status_text status ++ codes "\n"
 abbrev pub status_or_no_memory : Result Status NoMemoryFault → Status
 status_or_no_memory (Ok status) = status
 status_or_no_memory (Err e) = NoMemory
-
--- no read of the input failed
-abbrev pub NoInputFault : Input → Input → Type 0
-NoInputFault before after = after.faults ≡ before.faults
-
--- no call failed
-abbrev pub NoFault : View → View → Input → Input → Type 0
-NoFault old new before after = NoDiskFault old new × NoSayFault old new × NoInputFault before after
-
--- Why a run that tests these kinds of fault ended so: the counts of faults rose where it says so, and only there.
-abbrev pub IsCause : (FileFault → Type 0) → View → View → Input → Input → Status → Type 0
-IsCause tested old new before after Done = NoFault old new before after
-IsCause tested old new before after Usage = NoFault old new before after
-IsCause tested old new before after (BadFile place kind) = tested kind × NoFault old new before after
-IsCause tested old new before after DiskFault = Rose old.disk_faults new.disk_faults × NoSayFault old new × NoInputFault before after
-IsCause tested old new before after NoMemory = NoFault old new before after
-IsCause tested old new before after SayFault = NoDiskFault old new × Rose old.say_faults new.say_faults × NoInputFault before after
 
 -- how a run ended that told a listing
 abbrev pub status_of : Result (Unit {0}) ReportFault → Status

@@ -1,13 +1,14 @@
 -- The form of the words of the command line.
-use Rattle.std.specs.Prelude.{ℕ, ◌+◌, List, [], ◌∷◌, length, take, drop, codes, Option, Some, None, option_map, Bool, true, false, not, nat_le, position, ◌==◌, ◌&&◌, if◌then◌else◌}
+use Rattle.std.specs.Prelude.{ℕ, ◌+◌, List, [], ◌∷◌, length, take, drop, codes, Option, Some, None, option_map, Bool, true, not, nat_le, position, ◌==◌, ◌&&◌, if◌then◌else◌}
 use Rattle.std.specs.List.{list_all}
 use Rattle.std.specs.Str.{bytes_eq}
 use Rattle.rio_num.specs.Word.{is_item_text}
 use Rattle.rio_token.specs.Words.{num_of}
 use Rattle.rio_meaning.specs.declared.item.Item.{Item}
 use Rattle.rootio.specs.declared.words.Form.{Form}
-use Rattle.rootio.specs.declared.words.Form.TheVariants.{Reads}
+use Rattle.rootio.specs.declared.words.Form.TheVariants.{Reads, Writes}
 use Rattle.rootio.specs.declared.words.Listing.TheVariants.{Ls, Dump}
+use Rattle.rootio.specs.declared.words.Work.TheVariants.{Run}
 
 -- a word that doesn't begin with -
 abbrev pub is_no_flag : List ℕ → Bool
@@ -45,14 +46,25 @@ dump_of [] = Some (Reads (Dump None))
 dump_of (item ∷ []) = option_map (λ i. Reads (Dump (Some i))) (item_of item)
 dump_of (item ∷ word ∷ words) = None
 
--- what a verb is asked for by the words behind the file
-abbrev pub asked_by : List ℕ → List (List ℕ) → Option Form
-asked_by verb args =
+-- the commands of a script, on the file of this name and with this datime
+abbrev pub written_at : List ℕ → ℕ → Form
+written_at name datime = Writes (Run (record { name = name; datime = datime }))
+
+-- run FILE, run FILE DATIME
+abbrev pub run_of : List ℕ → List (List ℕ) → Option Form
+run_of file [] = Some (written_at file 1)
+run_of file (datime ∷ []) = option_map (written_at file) (num_of datime)
+run_of file (datime ∷ word ∷ words) = None
+
+-- what a verb is asked for by the file and the words behind it
+abbrev pub asked_by : List ℕ → List ℕ → List (List ℕ) → Option Form
+asked_by verb file args =
     if bytes_eq verb (codes "ls") then ls_of args
     else if bytes_eq verb (codes "dump") then dump_of args
+    else if bytes_eq verb (codes "run") then run_of file args
     else None
 
 -- VERB FILE ARG..., where neither FILE nor an ARG begins with -
 abbrev pub form_of : List (List ℕ) → Option Form
-form_of (verb ∷ file ∷ args) = if is_file file && list_all is_no_flag args then asked_by verb args else None
+form_of (verb ∷ file ∷ args) = if is_file file && list_all is_no_flag args then asked_by verb file args else None
 form_of _ = None

@@ -1,16 +1,21 @@
-//! Reads CERN's ROOT files: `rootio VERB FILE ARG...`.
+//! Reads and writes CERN's ROOT files: `rootio VERB FILE ARG...`.
 #![tactic(auto)]
 
+mod input;
 mod item_word;
 #[cfg(test)]
 mod rows;
+mod script;
+mod split;
 mod status;
 mod streams;
+mod target;
 mod top;
 mod words;
 
 use rio_host::{FileHost, StdSource};
 use rio_num::{Name, NoMemory, Words};
+use split::file_word;
 use status::{Status, code, ended, shown, told_line};
 use std::alloc::Global;
 use std::env;
@@ -21,32 +26,32 @@ use top::run;
 use words::may_write;
 
 // The words behind the program's name: none where one of them is no text.
-fn words_of(rt: &HostRuntime) -> Result<Words, NoMemory> {
-    let alloc = rt.alloc();
-    let mut words = Words::new(alloc);
+fn args_of(rt: &HostRuntime) -> Result<Vec<String>, NoMemory> {
+    let mut args = Vec::new(rt.alloc());
     let all = match env::args(rt) {
         Ok(all) => all,
         Err(error) if error.kind() == ErrorKind::OutOfMemory => return Err(NoMemory),
-        Err(_) => return Ok(words),
+        Err(_) => return Ok(args),
     };
     for word in all.skip(1) {
+        args.push(word)?;
+    }
+    Ok(args)
+}
+
+fn words_of(alloc: Global, args: &[String]) -> Result<Words, NoMemory> {
+    let mut words = Words::new(alloc);
+    for word in args {
         words.push(Name::from_slice(alloc, word.as_bytes())?)?;
     }
     Ok(words)
 }
 
-// The second word, which names the file, or no name where there is none.
-fn path_of(alloc: Global, words: &Words) -> Result<Name, NoMemory> {
-    match words.get(1) {
-        Some(path) => path.copy(),
-        None => Ok(Name::new(alloc)),
-    }
-}
-
 // Does what the words ask for, over the file that they name and the process's own streams.
 fn run_words(rt: &HostRuntime) -> Result<Status, NoMemory> {
-    let words = words_of(rt)?;
-    let path = path_of(rt.alloc(), &words)?;
+    let args = args_of(rt)?;
+    let words = words_of(rt.alloc(), &args)?;
+    let path = file_word(rt.alloc(), &args)?;
     let _streams = match Streams::hold(rt) {
         Ok(streams) => streams,
         Err(_) => return Ok(Status::DiskFault),

@@ -4,4 +4,6 @@ mod faults;
 mod hand;
 mod images;
 mod ls;
+mod run;
 mod runs;
+mod stops;

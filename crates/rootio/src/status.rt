@@ -1,9 +1,10 @@
 //! How a run of the program ended.
 ghost use Rattle.std.specs.Prelude.{◌≡◌, ◌++◌, OnOk, OnErr, IfOk, IsOk, MatchResult, codes};
 ghost use Rattle.rio_num.specs.Room.{with_more};
+ghost use Rattle.std.specs.Fmt.{decimal};
 ghost use Rattle.rootio.specs.Status.{status_code, status_or_no_memory, status_text, told_line};
 
-use rio_head::FileFault;
+use rio_head::{FileFault, Reason};
 use rio_num::{Bytes, NoMemory};
 use std::alloc::Global;
 
@@ -18,8 +19,14 @@ pub enum Status {
     BadFile { place: u64, kind: FileFault },
     /// A call on the file failed.
     DiskFault,
+    /// A read of the input failed.
+    InputFault,
     /// There was no memory.
     NoMemory,
+    /// The input has more bytes than a script may have.
+    InputTooLong,
+    /// Nothing is written to the file, for this reason at this place.
+    ReadOnly { place: u64, reason: Reason },
     /// What was to be said could not be said.
     SayFault,
 }
@@ -33,19 +40,36 @@ pub fn code(status: &Status) -> u8
         Status::Usage => 1,
         Status::BadFile { .. } => 2,
         Status::DiskFault => 3,
+        Status::InputFault => 4,
         Status::NoMemory => 5,
+        Status::InputTooLong => 6,
+        Status::ReadOnly { .. } => 7,
         Status::SayFault => 8,
     }
+}
+
+// What is told of a place of the file: what is wrong, the place, and its name.
+fn told_at(alloc: Global, wrong: &[u8], place: u64, name: &str) -> Result<Bytes, NoMemory>
+    ensures { IfOk result (λ text. text.bytes ≡
+        wrong.now ++ decimal place ++ codes ": " ++ name.now) }
+{
+    let mut text = Bytes::from_slice(alloc, wrong)?;
+    text.put_decimal(place)?;
+    text.put(b": ")?;
+    text.put(name.as_bytes())?;
+    Ok(text)
 }
 
 fn bad_file(alloc: Global, place: u64, kind: FileFault) -> Result<Bytes, NoMemory>
     ensures { IfOk result (λ text. text.bytes ≡ status_text (Status.BadFile place kind)) }
 {
-    let mut text = Bytes::from_slice(alloc, b"rootio: bad file at ")?;
-    text.put_decimal(place)?;
-    text.put(b": ")?;
-    text.put(kind.name().as_bytes())?;
-    Ok(text)
+    told_at(alloc, b"rootio: bad file at ", place, kind.name())
+}
+
+fn read_only(alloc: Global, place: u64, reason: Reason) -> Result<Bytes, NoMemory>
+    ensures { IfOk result (λ text. text.bytes ≡ status_text (Status.ReadOnly place reason)) }
+{
+    told_at(alloc, b"rootio: read only at ", place, reason.name())
 }
 
 /// Puts what is told of the status on standard error at the end, without a line feed: nothing for Done.
@@ -61,7 +85,13 @@ pub fn fault_text(alloc: Global, status: &Status, into: &mut Bytes) -> Result<()
             into.put(text.as_slice())
         }
         Status::DiskFault => into.put(b"rootio: disk fault"),
+        Status::InputFault => into.put(b"rootio: input fault"),
         Status::NoMemory => into.put(b"rootio: no memory"),
+        Status::InputTooLong => into.put(b"rootio: input too long"),
+        Status::ReadOnly { place, reason } => {
+            let text = read_only(alloc, *place, *reason)?;
+            into.put(text.as_slice())
+        }
         Status::SayFault => into.put(b"rootio: output fault"),
     }
 }

@@ -1,14 +1,22 @@
 //! The top call.
-ghost use Rattle.std.specs.Prelude.{◌≡◌, ◌≢◌, ◌↔◌, Some, None, false};
+ghost use Rattle.std.specs.Prelude.{◌≡◌, ◌≤◌, ◌↔◌, Some, None, false, length};
 ghost use Rattle.std.specs.Option.{option_copied};
+ghost use Rattle.rootio.specs.Causes.{IsCause};
+ghost use Rattle.rootio.specs.Complete.{IsComplete};
+ghost use Rattle.rootio.specs.Input.{EndsWithInput, RefusesTooLong, TellsTooLong, status_of_input};
 ghost use Rattle.rootio.specs.Reading.{EndsListing, RefusesBroken, TellsFirstFault};
-ghost use Rattle.rootio.specs.Reading.{reading_of, reads_input, rules_of, tested_by};
-ghost use Rattle.rootio.specs.Status.{IsCause, status_of};
+ghost use Rattle.rootio.specs.Reading.{reading_of, reads_input, rules_of, writing_of};
+ghost use Rattle.rootio.specs.Script.{WorksOn};
+ghost use Rattle.rootio.specs.Status.{status_of};
 ghost use Rattle.rootio.specs.Words.{form_of};
+ghost use Rattle.rootio.specs.Writing.{EndsWriting, RefusesReadOnly, TellsFirstReason, target_of};
 
+use crate::input::{InputError, read_input};
 use crate::item_word::ItemWord;
+use crate::script::run_script;
 use crate::status::Status;
-use crate::words::{Form, Listing, form_of_words};
+use crate::target::Target;
+use crate::words::{Form, Listing, Work, form_of_words};
 use rio_host::{Host, Source};
 use rio_num::{NoMemory, Words};
 use rio_report::{ReportFault, say_dump, say_ls};
@@ -22,25 +30,45 @@ use std::alloc::Global;
 /// | `ls FILE` | a line for each key of the file's key list is said |
 /// | `dump FILE` | a line for each class that the file describes is said, and one with the value of each key |
 /// | `dump FILE NAME;CYCLE` | the line of that key is said; without `;CYCLE` that of the greatest cycle |
+/// | `run FILE [DATIME]` | the commands of the script, which is the input, are done on the file, and it is closed |
+///
+/// The order is words, input, file, then command by command, and the close. Whatever ends a run ends it where it comes.
 pub fn run<H: Host, S: Source>(alloc: Global, words: &Words, host: &mut H, input: &mut S) -> Status
     ensures usage { (result ≡ Status.Usage) ↔ (form_of words.now ≡ None) }
     ensures usage_alone { result ≡ Status.Usage → host.new ≡ host.old }
     ensures input { reads_input (form_of words.now) ≡ false → input.new ≡ input.old }
+    // An input that is told to be too long is so, and one that is too long is told; then the file isn't looked at.
+    ensures too_long { TellsTooLong (S.view input.old) result }
+    ensures limited { RefusesTooLong (form_of words.now) (S.view input.old) result }
+    ensures input_alone { EndsWithInput result → host.new ≡ host.old }
     // A fault that is told is the file's first, and a file with one is told so.
     ensures bad_file { (form : _) → form_of words.now ≡ Some form
         → TellsFirstFault (rules_of form) (H.view host.old) result }
     ensures refused { (form : _) → form_of words.now ≡ Some form
         → RefusesBroken (rules_of form) (H.view host.old) result }
+    // A reason against writing that is told is the file's first, and a file with one is told so.
+    ensures read_only { (form : _) → form_of words.now ≡ Some form
+        → TellsFirstReason form (H.view host.old) result }
+    ensures kept { (form : _) → form_of words.now ≡ Some form
+        → RefusesReadOnly form (H.view host.old) result }
     // What a verb answers, says and leaves that reads.
     ensures lists { (list : _) → reading_of (form_of words.now) ≡ Some list
         → EndsListing list (H.view host.old) (H.view host.new) result }
-    ensures cause { IsCause (tested_by (form_of words.now)) (H.view host.old) (H.view host.new)
+    // And one that writes: the headline.
+    ensures writes { (work : _) → writing_of (form_of words.now) ≡ Some work
+        → EndsWriting work (H.view host.old) (H.view host.new)
+        (S.view input.old) (S.view input.new) result }
+    ensures cause { IsCause (form_of words.now) (H.view host.old) (H.view host.new)
+        (S.view input.old) (S.view input.new) result }
+    // Where nothing fails all is done, unless memory runs out.
+    ensures complete { (form : _) → form_of words.now ≡ Some form
+        → IsComplete form (H.view host.old) (H.view host.new)
         (S.view input.old) (S.view input.new) result }
 {
     match form_of_words(words) {
         None => Status::Usage,
         Some(Form::Reads(list)) => say_file(alloc, host, &list),
-        Some(Form::Writes(work)) => match work {},
+        Some(Form::Writes(work)) => write_file(alloc, host, input, &work),
     }
 }
 
@@ -87,5 +115,46 @@ fn dump_item<H: Host>(alloc: Global, host: &mut H, word: &ItemWord) -> Status
     match word.to_item(alloc) {
         Ok(item) => status_of(say_dump(alloc, host, Some(&item))),
         Err(NoMemory) => Status::NoMemory,
+    }
+}
+
+// How a run ends whose input could not be read whole.
+fn status_of_input(error: InputError) -> Status
+    ensures { result ≡ status_of_input error }
+{
+    match error {
+        InputError::Fault => Status::InputFault,
+        InputError::NoMemory => Status::NoMemory,
+        InputError::TooLong => Status::InputTooLong,
+    }
+}
+
+// A script is read and done.
+fn do_script<H: Host, S: Source>(
+    alloc: Global,
+    host: &mut H,
+    input: &mut S,
+    target: &Target,
+) -> Status
+    requires { length target.now.name ≤ 200 }
+    ensures work { WorksOn (Work.Run target.now) (H.view host.old) (H.view host.new)
+        (S.view input.old) (S.view input.new) result }
+    ensures input_alone { EndsWithInput result → host.new ≡ host.old }
+{
+    match read_input(alloc, input) {
+        Ok(script) => run_script(alloc, host, target, script.as_slice()),
+        Err(error) => status_of_input(error),
+    }
+}
+
+// What a verb answers that writes.
+fn write_file<H: Host, S: Source>(alloc: Global, host: &mut H, input: &mut S, work: &Work) -> Status
+    requires { length (target_of work.now).name ≤ 200 }
+    ensures work { WorksOn work.now (H.view host.old) (H.view host.new)
+        (S.view input.old) (S.view input.new) result }
+    ensures input_alone { EndsWithInput result → host.new ≡ host.old }
+{
+    match work {
+        Work::Run { target } => do_script(alloc, host, input, target),
     }
 }

@@ -3,9 +3,10 @@ ghost use Rattle.std.specs.Prelude.{◌≡◌, ◌==◌, nat_le, position};
 ghost use Rattle.std.specs.Str.{bytes_eq};
 ghost use Rattle.std.specs.List.{list_all};
 ghost use Rattle.rootio.specs.Reading.{writes_of};
-ghost use Rattle.rootio.specs.Words.{asked_by, cycle_item, dump_of, form_of, is_file, is_no_flag, item_of, ls_of, newest_item};
+ghost use Rattle.rootio.specs.Words.{asked_by, cycle_item, dump_of, form_of, is_file, is_no_flag, item_of, ls_of, newest_item, run_of, written_at};
 
 use crate::item_word::ItemWord;
+use crate::target::Target;
 use rio_num::{Name, Words, is_item};
 use rio_token::parse_num;
 
@@ -15,7 +16,7 @@ pub enum Form<'a> {
     /// What there is to say of the file is said, and it stays as it is.
     Reads(Listing<'a>),
     /// The file is changed.
-    Writes(Work),
+    Writes(Work<'a>),
 }
 
 /// What is said of a file.
@@ -27,9 +28,12 @@ pub enum Listing<'a> {
     Dump { item: Option<ItemWord<'a>> },
 }
 
-/// What is done to a file: no verb that writes is there yet.
-#[derive(Drop)]
-pub enum Work {}
+/// What is done to a file.
+#[derive(Debug, Drop)]
+pub enum Work<'a> {
+    /// `run FILE` and `run FILE DATIME`: the commands of a script are done. The input is the script.
+    Run { target: Target<'a> },
+}
 
 // A word that begins with `-` has no place in any form.
 fn is_plain(word: &[u8]) -> bool
@@ -119,14 +123,38 @@ fn dump_of(args: &[Name]) -> Option<Form<'_>>
     }
 }
 
-// What a verb is asked for by the words behind the file.
-fn asked_by<'a>(verb: &[u8], args: &'a [Name]) -> Option<Form<'a>>
-    ensures { result ≡ asked_by verb.now args.now }
+// What is asked for by `run`, with this datime.
+fn written_at(name: &[u8], datime: u32) -> Form<'_>
+    ensures { result ≡ written_at name.now datime }
+{
+    Form::Writes(Work::Run {
+        target: Target { name, datime },
+    })
+}
+
+fn run_of<'a>(file: &'a [u8], args: &[Name]) -> Option<Form<'a>>
+    ensures { result ≡ run_of file.now args.now }
+{
+    match args {
+        [] => Some(written_at(file, 1)),
+        [datime] => match parse_num(datime.as_slice()) {
+            Some(datime) => Some(written_at(file, datime)),
+            None => None,
+        },
+        _ => None,
+    }
+}
+
+// What a verb is asked for by the file and the words behind it.
+fn asked_by<'a>(verb: &[u8], file: &'a [u8], args: &'a [Name]) -> Option<Form<'a>>
+    ensures { result ≡ asked_by verb.now file.now args.now }
 {
     if is_verb(verb, b"ls") {
         ls_of(args)
     } else if is_verb(verb, b"dump") {
         dump_of(args)
+    } else if is_verb(verb, b"run") {
+        run_of(file, args)
     } else {
         None
     }
@@ -145,7 +173,7 @@ pub fn form_of_words(words: &Words) -> Option<Form<'_>>
     match words.as_slice() {
         [verb, file, args @ ..] => {
             if names_file(file.as_slice()) && are_plain(args) {
-                asked_by(verb.as_slice(), args)
+                asked_by(verb.as_slice(), file.as_slice(), args)
             } else {
                 None
             }

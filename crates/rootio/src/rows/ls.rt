@@ -3,7 +3,7 @@ use super::hand::HAND;
 use super::images::{COMPRESSED, EMPTY, LARGE, ODD_NAMES, ONE, TWO};
 use super::runs::{changed, decode, ran, ran_with, words_of};
 use crate::status::{Status, code, fault_text};
-use rio_head::FileFault;
+use rio_head::{FileFault, Reason};
 use rio_num::{Bytes, Name};
 use std::test::Fail;
 
@@ -404,7 +404,7 @@ fn cuts(rt: HostRuntime) -> Result<(), Fail> {
 }
 
 // Words of no form, over a host that fails at its first call.
-static NO_FORMS: [&[&str]; 10] = [
+static NO_FORMS: [&[&str]; 15] = [
     &[],
     &["ls"],
     &["ls", "-x"],
@@ -415,6 +415,11 @@ static NO_FORMS: [&[&str]; 10] = [
     &["ls", "a.root", "b"],
     &["LS", "a.root"],
     &["-ls", "a.root"],
+    &["run"],
+    &["run", "a.root", "01"],
+    &["run", "a.root", "-1"],
+    &["run", "a.root", "4294967296"],
+    &["run", "a.root", "1", "2"],
 ];
 
 #[test]
@@ -467,7 +472,7 @@ fn failing_calls(rt: HostRuntime) -> Result<(), Fail> {
     Ok(())
 }
 
-static STATUSES: [(Status, u8, &str); 6] = [
+static STATUSES: [(Status, u8, &str); 9] = [
     (Status::Done, 0, ""),
     (Status::Usage, 1, "rootio: usage: rootio VERB FILE ARG..."),
     (
@@ -479,7 +484,17 @@ static STATUSES: [(Status, u8, &str); 6] = [
         "rootio: bad file at 4096: BadKeyList",
     ),
     (Status::DiskFault, 3, "rootio: disk fault"),
+    (Status::InputFault, 4, "rootio: input fault"),
     (Status::NoMemory, 5, "rootio: no memory"),
+    (Status::InputTooLong, 6, "rootio: input too long"),
+    (
+        Status::ReadOnly {
+            place: 304,
+            reason: Reason::NoChain,
+        },
+        7,
+        "rootio: read only at 304: NoChain",
+    ),
     (Status::SayFault, 8, "rootio: output fault"),
 ];
 

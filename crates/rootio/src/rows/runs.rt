@@ -69,3 +69,18 @@ pub(super) fn ran_with(
     let status = run(alloc, words, &mut host, &mut input);
     Ok((status, Name::from_slice(alloc, host.said().as_slice())?))
 }
+
+// What a run of a script over a file answers, where these calls of its host fail, and the host behind it.
+pub(super) fn scripted(
+    alloc: Global,
+    words: &[&str],
+    image: Bytes,
+    script: &[u8],
+    failing: &[u64],
+) -> Result<(Status, MemHost), NoMemory> {
+    let words = words_of(alloc, words)?;
+    let mut input = SureSource::new(Bytes::from_slice(alloc, script)?);
+    let mut host = MemHost::new(alloc, image, Numbers::from_slice(alloc, failing)?);
+    let status = run(alloc, &words, &mut host, &mut input);
+    Ok((status, host))
+}

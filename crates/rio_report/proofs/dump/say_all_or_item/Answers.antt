@@ -1,7 +1,7 @@
-use Rattle.std.proofs.Common.{◌≡◌, ◌∙◌, List, ℕ, Some, Ok}
+use Rattle.std.proofs.Common.{◌∙◌, List, ℕ}
 use Rattle.std.specs.Option.{option_copied}
 use Rattle.std.proofs.lemmas.Result.{err_from_is_err_and}
-use Rattle.rio_host.specs.OnlyReads.{OnlyReads, Says}
+use Rattle.rio_host.specs.OnlyReads.{OnlyReads}
 use Rattle.rio_host.proofs.ReadsLaws.{reads_join, reads_one}
 use Rattle.rio_host.proofs.PiecesLaws.{reads_then_piece}
 use Rattle.rio_meaning.specs.declared.described.Described.{Described}

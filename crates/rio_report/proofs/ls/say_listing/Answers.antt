@@ -1,4 +1,4 @@
-use Rattle.std.proofs.Common.{◌≡◌, ◌∙◌, ap, arith}
+use Rattle.std.proofs.Common.{◌∙◌, ap, arith}
 use Rattle.std.proofs.lemmas.Result.{err_from_is_err_and}
 use Rattle.rio_host.proofs.ReadsLaws.{reads_then_says, said_all}
 use Rattle.rio_dir.specs.declared.closed.Closed.{Closed}

@@ -1,0 +1,103 @@
+#!/bin/sh
+# Runs the built program over a real file in a real folder: a script makes it, and `ls` and `dump` read what it left.
+# Usage: .ci/script.sh [PROGRAM]; without PROGRAM it is the one that `rt ci` built. (One that isn't proved has checks in it
+# and takes some four minutes for the longest input.)
+set -u
+top=$(cd "$(dirname "$0")/.." && pwd)
+program=${1:-$top/crates/rootio/out/rootio}
+case $program in /*) ;; *) program=$PWD/$program ;; esac
+
+fail() {
+    echo "script: $1" >&2
+    exit 1
+}
+
+[ -x "$program" ] || fail "there is no program $program"
+folder=$(mktemp -d) || fail "there is no temporary folder"
+trap 'rm -rf "$folder"' EXIT
+cd "$folder" || fail "the temporary folder can't be entered"
+
+# What a run did: its status, what it said and what it told.
+check() {
+    [ "$2" -eq "$3" ] || fail "$1: status $2, not $3 (told '$(cat told)')"
+    [ "$(cat said)" = "$4" ] || fail "$1: said '$(cat said)', not '$4'"
+    [ "$(cat told)" = "$5" ] || fail "$1: told '$(cat told)', not '$5'"
+}
+
+value='TObjString{TObject{fUniqueID: 0, fBits: 0}, fString:'
+printf '%s\n' "put s $value \"hi\"}" "put s $value \"ho\"}" "get s;1" "frob" "ls" >script
+
+"$program" run a.root <script >said 2>told
+check "a script" $? 0 'ok put s;1
+ok put s;2
+ok get s;1 TObjString#1{TObject#1{fUniqueID: 0, fBits: 0}, fString: "hi"}
+no 1 BadLine 4 0
+ok ls 2
+s;2 TObjString
+s;1 TObjString' ""
+
+"$program" ls a.root </dev/null >said 2>told
+check "ls of what it left" $? 0 's;2 TObjString
+s;1 TObjString' ""
+
+"$program" dump a.root 's;2' </dev/null >said 2>told
+check "dump of what it left" $? 0 's;2 TObjString#1{TObject#1{fUniqueID: 0, fBits: 0}, fString: "ho"}' ""
+
+# A made file isn't opened yet: it stays as it is.
+cp a.root kept.root
+"$program" run a.root <script >said 2>told
+check "a made file" $? 7 "" "rootio: read only at 0: NotYet"
+cmp -s a.root kept.root || fail "a made file: it has changed"
+
+"$program" run a.root 1 </dev/null >said 2>told
+check "a made file, with a datime" $? 7 "" "rootio: read only at 0: NotYet"
+
+# An empty script leaves the file of 308 bytes that an empty file is, and one put the stored file, byte for byte.
+mkdir empty && cd empty && "$program" run a.root 1 </dev/null >../said 2>../told
+status=$?
+cd ..
+check "an empty script" $status 0 "" ""
+[ "$(wc -c <empty/a.root)" -eq 308 ] || fail "an empty script: $(wc -c <empty/a.root) bytes, not 308"
+mkdir one && cd one && printf 'put s %s "hi"}\n' "$value" | "$program" run a.root >../said 2>../told
+status=$?
+cd ..
+check "one put" $status 0 "ok put s;1" ""
+cmp -s one/a.root "$top/crates/rootio/data/closed.root" || fail "one put: the file isn't the stored one"
+
+# With its output closed the first reply can't be said, and the file holds what was put.
+"$program" run b.root <script >&- 2>told
+status=$?
+: >said
+check "output closed" $status 8 "" "rootio: output fault"
+grep -q TObjString b.root || fail "output closed: the object isn't in the file"
+
+# An input that can't be read, or is too long by one byte, touches nothing; the longest one is done.
+"$program" run d.root <&- >said 2>told
+check "input closed" $? 4 "" "rootio: input fault"
+line_feeds() { head -c "$1" /dev/zero | tr '\0' '\n'; }
+line_feeds 67108865 | "$program" run d.root >said 2>told
+check "an input that is too long" $? 6 "" "rootio: input too long"
+[ ! -e d.root ] || fail "an input that isn't done: there is a file"
+line_feeds 67108864 | "$program" run d.root >said 2>told
+check "the longest input" $? 0 "" ""
+[ "$(wc -c <d.root)" -eq 308 ] || fail "the longest input: $(wc -c <d.root) bytes, not 308"
+
+# A thousand puts, each under a name of its own.
+number=0
+while [ "$number" -lt 1000 ]; do
+    echo "put n$number $value \"$number\"}"
+    number=$((number + 1))
+done >script
+"$program" run e.root <script >said 2>told || fail "a thousand puts: told '$(cat told)'"
+[ "$(grep -c '^ok put n[0-9]*;1$' said)" -eq 1000 ] || fail "a thousand puts: not all were done"
+"$program" ls e.root </dev/null >said 2>told || fail "a thousand keys: told '$(cat told)'"
+[ "$(grep -c '^n[0-9]*;1 TObjString$' said)" -eq 1000 ] || fail "a thousand keys: not all are listed"
+"$program" dump e.root n999 </dev/null >said 2>told
+check "the last of a thousand" $? 0 'n999;1 TObjString#1{TObject#1{fUniqueID: 0, fBits: 0}, fString: "999"}' ""
+
+# A folder is no file.
+mkdir c.root
+"$program" run c.root <script >said 2>told
+check "a folder" $? 3 "" "rootio: disk fault"
+
+echo "script: a real file is made, listed and dumped"

@@ -1,0 +1,22 @@
+-- What is told by a key: a line of a listing, and what its record holds.
+use Rattle.std.specs.Prelude.{ℕ, List, ◌++◌, codes, length, Result}
+use Rattle.std.specs.List.{flat_map}
+use Rattle.rio_value.specs.declared.value.Value.{Value}
+use Rattle.rio_buffer.specs.declared.fault.ObjFault.{ObjFault}
+use Rattle.rio_key.specs.declared.head.KeyHead.{KeyHead}
+use Rattle.rio_machine.specs.RefusalText.{numbered}
+use Rattle.rio_meaning.specs.Dump.{value_or_fault}
+use Rattle.rio_step.specs.ItemKeys.{told_by_key}
+use Rattle.rio_step.specs.ReplyText.{item_text, listed_text}
+
+-- NAME;CYCLE CLASS
+abbrev pub listed_line : KeyHead → List ℕ
+listed_line head = item_text head.name head.cycle ++ codes " " ++ listed_text (told_by_key head).1 ++ codes "\n"
+
+-- how many keys there are, and the line of each
+unfoldable pub listing_of : List KeyHead → List ℕ
+listing_of heads = codes "ok ls" ++ numbered (length heads) ++ codes "\n" ++ flat_map listed_line heads
+
+-- what a get says of a record: the object that was read, or that it has no reading
+abbrev pub told_of : KeyHead → Result Value ObjFault → List ℕ
+told_of head read = codes "ok get " ++ item_text head.name head.cycle ++ codes " " ++ value_or_fault read ++ codes "\n"

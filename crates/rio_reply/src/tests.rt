@@ -1,0 +1,61 @@
+//! Replies as they are said.
+use crate::{get_reply, listing_reply, put_reply, refusal_reply};
+use rio_key::KeyHead;
+use rio_machine::Refusal;
+use rio_num::Name;
+use rio_types::Classes;
+use std::alloc::Global;
+use std::test::Fail;
+
+// The key of a record of 60 bytes, whose data begin at 40.
+fn head(alloc: Global, name: &[u8], cycle: u16) -> Result<KeyHead, Fail> {
+    Ok(KeyHead {
+        nbytes: 60,
+        version: 4,
+        objlen: 20,
+        datime: 1,
+        keylen: 40,
+        cycle,
+        seek: 208,
+        pdir: 100,
+        class: Name::from_slice(alloc, b"TObjString")?,
+        name: Name::from_slice(alloc, name)?,
+        title: Name::new(alloc),
+    })
+}
+
+#[test]
+fn says_what_was_put_or_refused(rt: HostRuntime) -> Result<(), Fail> {
+    let put = put_reply(rt.alloc(), b"s", 2)?;
+    assert!(rt; put.as_slice() == b"ok put s;2\n".as_slice());
+    let refused = refusal_reply(rt.alloc(), &Refusal::NoSuchCycle)?;
+    assert!(rt; refused.as_slice() == b"no 4 NoSuchCycle\n".as_slice());
+    Ok(())
+}
+
+#[test]
+fn lists_keys(rt: HostRuntime) -> Result<(), Fail> {
+    let heads = [head(rt.alloc(), b"s", 2)?, head(rt.alloc(), b"s", 1)?];
+    let text = listing_reply(rt.alloc(), &heads)?;
+    let expected = b"ok ls 2\ns;2 TObjString\ns;1 TObjString\n";
+    assert!(rt; text.as_slice() == expected.as_slice());
+    Ok(())
+}
+
+// The record of a text, and the same with a byte count that is one too high.
+#[test]
+fn tells_a_record(rt: HostRuntime) -> Result<(), Fail> {
+    let classes = Classes::new(rt.alloc());
+    let head = head(rt.alloc(), b"s", 1)?;
+    let mut bytes = [0u8; 60];
+    bytes[40..59].copy_from_slice(&[
+        0x40, 0, 0, 15, 0, 1, 0, 1, 0, 0, 0, 0, 0, 0, 0, 0, 2, b'h', b'i',
+    ]);
+    let text = get_reply(rt.alloc(), &classes, &head, &bytes)?;
+    let expected = b"ok get s;1 TObjString#1{TObject#1{fUniqueID: 0, fBits: 0}, fString: \"hi\"}\n";
+    assert!(rt; text.as_slice() == expected.as_slice());
+    bytes[43] = 16;
+    let text = get_reply(rt.alloc(), &classes, &head, &bytes)?;
+    assert!(rt; text.as_slice() == b"ok get s;1 fault CountMismatch 40 16 15\n".as_slice());
+    Ok(())
+}

@@ -1,0 +1,85 @@
+-- What a close needs, of what a session keeps.
+use Rattle.std.proofs.Common.{◌≡◌, ◌≤◌, ◌+◌, ◌-◌, ◌==◌, ◌^◌, true≢false, ℕ, Bool, true, false, leb, ltb, List, [], ◌∷◌, length, refl, sym, ap, subst, ◌∙◌, arith}
+use Rattle.std.specs.Prelude.{if◌then◌else◌, slice_index_or}
+use Rattle.std.specs.List.{All, list_all, sum_by}
+use Rattle.std.proofs.lemmas.Bool.{and_parts, eqb-true, leb-true, ltb-true}
+use Rattle.std.proofs.lemmas.List.Folds.{list_all_at}
+use Rattle.std.proofs.lemmas.List.Sums.{sum_by-cons}
+use Rattle.rio_key.specs.Key.{place_len}
+use Rattle.rio_key.specs.Written.{FitsKey}
+use Rattle.rio_key.specs.declared.head.KeyHead.{KeyHead}
+use Rattle.rio_dir.specs.Table.{heads_size}
+use Rattle.rio_chain.specs.Adjoining.{segments_end}
+use Rattle.rio_chain.specs.Placing.{file_end, record_count, rest_of_gap, with_segment}
+use Rattle.rio_chain.specs.declared.segment.Segment.{Segment}
+use Rattle.rio_chain.specs.declared.segment.Segment.TheVariants.{Record, Gap}
+use Rattle.rio_state.specs.Closing.{KeptRecords, close_need, free_length, list_length, padded_length}
+use Rattle.rio_close.specs.Sizes.{close_size, headless}
+use Rattle.rio_session.specs.Kept.{IsKept, is_fit_key, kept_with}
+
+-- ---- keys
+
+fits_one : (h : KeyHead) → is_fit_key h ≡ true → FitsKey h
+fits_one h e =
+    let title = and_parts _ (length h.title == 0) e in
+    let name = and_parts _ (leb (length h.name) 65535) title.0 in
+    let class = and_parts _ (leb (length h.class) 65535) name.0 in
+    let places = and_parts (ltb h.seek (256 ^ place_len h.version)) (ltb h.pdir (256 ^ place_len h.version)) class.0 in
+    record {
+      seek = ltb-true h.seek (256 ^ place_len h.version) places.0;
+      pdir = ltb-true h.pdir (256 ^ place_len h.version) places.1;
+      class = omega (arith, leb-true (length h.class) 65535 class.1);
+      name = omega (arith, leb-true (length h.name) 65535 name.1);
+      title = omega (arith, eqb-true (length h.title) 0 title.1);
+    }
+
+-- the keys can be written
+pub fits_all : (heads : List KeyHead) → list_all is_fit_key heads ≡ true → All FitsKey heads
+fits_all heads all k d lt = by (is_fit_key (slice_index_or heads k d)) refl
+  where
+    by : (b : Bool) → is_fit_key (slice_index_or heads k d) ≡ b → FitsKey (slice_index_or heads k d)
+    by true e = fits_one (slice_index_or heads k d) e
+    by false e = absurd (true≢false (sym all ∙ list_all_at is_fit_key heads k d lt e))
+
+-- ---- room
+
+need_is : (k : KeptRecords) → close_need k ≡ close_size k.name (heads_size k.heads) k.count
+unfolding close_need close_size
+need_is k =
+    let list : list_length k ≡ list_length (headless k.name k.count) + heads_size k.heads = omega arith in
+    ap (λ n. sum_by padded_length (n ∷ free_length k ∷ [])) list
+    ∙ omega (arith, sum_by-cons padded_length (list_length (headless k.name k.count) + heads_size k.heads) (free_length k ∷ []), sum_by-cons padded_length (free_length k) [])
+
+-- there is room for the records of a close
+pub need_low : (segments segments' : List Segment) (heads : List KeyHead) (name name' : List ℕ) → IsKept segments heads name → segments' ≡ segments → name' ≡ name
+    → file_end segments' + close_size name' (heads_size heads) (record_count segments') ≤ 1999999996
+need_low segments segments' heads name name' kept same own =
+    subst (λ (x : List Segment × List ℕ). file_end x.0 + close_size x.1 (heads_size heads) (record_count x.0) ≤ 1999999996) (λ i. (sym same i, sym own i))
+    (omega (arith, kept.room, need_is (kept_with name heads (record_count segments))))
+
+-- ---- END
+
+end_later : (m n : ℕ) (segments : List Segment) → m ≤ n → segments_end m segments ≤ segments_end n segments
+end_later m n [] le = le
+end_later m n (Record p k ∷ segments) le = end_later (m + k) (n + k) segments (omega (arith, le))
+end_later m n (Gap p k ∷ segments) le = end_later (m + k) (n + k) segments (omega (arith, le))
+
+rest_later : (from m n place : ℕ) (segments : List Segment) → segments_end (from + m) segments ≤ segments_end (from + n) (rest_of_gap place (m - n) segments)
+rest_later from m n place segments =
+    elim (m - n == 0) as (λ b. (m - n == 0) ≡ b → segments_end (from + m) segments ≤ segments_end (from + n) (if b then segments else Gap place (m - n) ∷ segments)) [
+      | true ↦ λ e. end_later (from + m) (from + n) segments (omega (arith, eqb-true (m - n) 0 e))
+      | false ↦ λ e. end_later (from + m) (from + n + (m - n)) segments (omega arith)
+    ] refl
+
+with_later : (from place n : ℕ) (segments : List Segment) → segments_end from segments ≤ segments_end from (with_segment place n segments)
+with_later from place n [] = omega arith
+with_later from place n (Record p k ∷ segments) = with_later (from + k) place n segments
+with_later from place n (Gap p k ∷ segments) =
+    elim (p == place) as (λ b. segments_end (from + k) segments ≤ segments_end from (if b then Record place n ∷ rest_of_gap (place + n) (k - n) segments else Gap p k ∷ with_segment place n segments)) [
+      | true ↦ rest_later from k n (place + n) segments
+      | false ↦ with_later (from + k) place n segments
+    ]
+
+-- END doesn't fall where a record is put, so the directory record stays before it
+pub directory_stays : (nbytes_name place n : ℕ) (segments segments' : List Segment) → segments' ≡ with_segment place n segments → nbytes_name + 160 ≤ file_end segments → nbytes_name + 160 ≤ file_end segments'
+directory_stays nbytes_name place n segments segments' put low = omega (arith, low, with_later 100 place n segments, ap file_end put)

@@ -1,0 +1,66 @@
+-- A session's file is ready to be closed, and what a stop leaves of it.
+use Rattle.std.proofs.Common.{◌≡◌, ℕ, List, [], map, refl, sym, ap, subst, ◌∙◌}
+use Rattle.std.specs.FinMap.{FinMap, empty, entries, len-empty, len-entries}
+use Rattle.std.specs.List.{filter, fold}
+use Rattle.std.proofs.lemmas.List.{nil_from_length}
+use Rattle.rio_key.specs.declared.head.KeyHead.{KeyHead}
+use Rattle.rio_host.specs.Host.{Elapses, IsQuiet, Leaves, View}
+use Rattle.rio_host.proofs.Moments.{elapses_as}
+use Rattle.rio_chain.specs.Chains.{HasChain}
+use Rattle.rio_chain.specs.declared.segment.Segment.{Segment}
+use Rattle.rio_machine.specs.State.{State, Tree, name_order}
+use Rattle.rio_machine.specs.declared.command.Command.TheVariants.{Save}
+use Rattle.rio_state.specs.DirectoryKeys.{AreKeysOf}
+use Rattle.rio_state.specs.KeyedRecords.{keyed_records}
+use Rattle.rio_state.specs.Left.{HasOpenHead, IsLeftAs}
+use Rattle.rio_state.specs.Reads.{ReadsAsState, ReadsClosed}
+use Rattle.rio_step.specs.Runs.{closed_of, closing_saves, has_pending, states_of_run}
+use Rattle.rio_step.specs.Step.{state_behind}
+use Rattle.rio_close.specs.Leaving.{HoldsClosed, HoldsOpen, StaysAs}
+use Rattle.rio_close.specs.Written.{OpenFile}
+use Rattle.rio_session.specs.Session.{ClosesAs, SessionState, StandsFor}
+use Rattle.rio_session.proofs.States.{Known, known}
+
+entries-none : entries (empty {X = Tree} {R = name_order}) ≡ []
+entries-none = nil_from_length _ (sym (len-entries (empty {X = Tree} {R = name_order})) ∙ len-empty name_order Tree)
+
+module _ (v : View) (s : SessionState) (m : State) (text : List ℕ) (stands : StandsFor v s m text) where
+  known_here : Known stands.state.links s.heads m
+  known_here = known stands.state.links s.heads m stands.state.records stands.state.keys
+
+  -- what a close asks of the file
+  pub holds_open : (f : OpenFile) → f.segments ≡ s.segments → f.heads ≡ s.heads → f.info ≡ s.info → f.nbytes_name ≡ s.nbytes_name → HoldsOpen v f m
+  holds_open f segments heads info nbytes_name = record {
+    file = stands.file;
+    holds = stands.holds;
+    links = stands.state.links;
+    chain = subst (λ (x : List Segment). HasChain stands.state.links x stands.file) (sym segments) stands.state.chain;
+    head = subst (λ (n : ℕ). HasOpenHead stands.file n) (sym nbytes_name) stands.state.head;
+    records = known_here.records;
+    keys = subst (λ (x : List KeyHead). AreKeysOf (keyed_records stands.state.links) x) (sym heads) stands.state.keys;
+    info = info ∙ stands.state.info;
+  }
+
+  -- no tree has pending rows, so the first state of the close is the last
+  begins : (image said : List ℕ) → StaysAs v m image said → ClosesAs m text image said
+  unfolding states_of_run
+  begins image said stays = record {
+    k = 0;
+    state = m;
+    state_is = refl;
+    left = subst (λ (n : State). IsLeftAs n image) (sym known_here.saved) stays.left;
+    text_is = stays.text text stands.said;
+  }
+
+  pub closing_time : (new : View) → Elapses v new (StaysAs v m) → Elapses v new (ClosesAs m text)
+  closing_time new time = elapses_as (ClosesAs m text) (StaysAs v m) time begins
+
+  closed_same : closed_of m ≡ m
+  unfolding closed_of closing_saves
+  closed_same = ap (λ (es : List (List ℕ × Tree)). fold state_behind m (map (λ e. Save e.0) (filter (λ e. has_pending e.1) es))) (ap (λ (t : FinMap name_order Tree). entries t) known_here.stand.trees ∙ entries-none)
+
+  -- behind the close
+  pub leaves_closed : (new : View) → IsQuiet new → HoldsClosed new m → (image said : List ℕ) → Leaves new image said → ReadsAsState image (closed_of m) × ReadsClosed image (closed_of m)
+  leaves_closed new quiet held image said left =
+      let file_is : image ≡ held.file = quiet image said held.file left held.holds in
+      subst (λ (x : State × List ℕ). ReadsAsState x.1 x.0 × ReadsClosed x.1 x.0) (λ i. (sym closed_same i, sym file_is i)) (held.reads, held.closed)

@@ -1,0 +1,123 @@
+-- What a session keeps is sound with one record more.
+use Rattle.std.proofs.Common.{◌≡◌, ◌==◌, ◌||◌, ℕ, ◌+◌, ◌-◌, ◌≤◌, Bool, true, false, List, [], ◌∷◌, length, refl, sym, ap, subst, ◌∙◌, arith}
+use Rattle.std.specs.Prelude.{if◌then◌else◌}
+use Rattle.std.specs.List.{list_all, list_any}
+use Rattle.std.proofs.lemmas.Bool.{and_from, and_parts, eq-eqb}
+use Rattle.std.proofs.lemmas.List.Sums.{sum_by-cons}
+use Rattle.rio_key.specs.declared.head.KeyHead.{KeyHead}
+use Rattle.rio_key.specs.Written.{written_key}
+use Rattle.rio_dir.specs.Table.{heads_size, is_before, with_head}
+use Rattle.rio_chain.specs.Placing.{file_end, record_count, rest_of_gap, with_segment}
+use Rattle.rio_chain.specs.declared.segment.Segment.{Segment}
+use Rattle.rio_chain.specs.declared.segment.Segment.TheVariants.{Record, Gap}
+use Rattle.rio_state.specs.Closing.{close_need, end_limit}
+use Rattle.rio_record.specs.declared.record.NewRecord.{NewRecord}
+use Rattle.rio_session.specs.Kept.{IsKept, begins_at, is_fit_key, is_placed, is_sized, kept_with}
+use Rattle.rio_session.specs.Puts.{CanBePut}
+use Rattle.rio_session.specs.Session.{SessionState}
+
+-- ---- segments
+
+rest_count : (place n : ℕ) (segments : List Segment) → record_count (rest_of_gap place n segments) ≡ record_count segments
+rest_count place n segments = elim (n == 0) as (λ b. record_count (if b then segments else Gap place n ∷ segments) ≡ record_count segments) [ true ↦ refl | false ↦ refl ]
+
+pub count_with : (place n : ℕ) (segments : List Segment) → record_count (with_segment place n segments) ≡ record_count segments + 1
+count_with place n [] = refl
+count_with place n (Record p m ∷ segments) = ap (λ (k : ℕ). k + 1) (count_with place n segments)
+count_with place n (Gap p m ∷ segments) =
+    elim (p == place) as (λ b. record_count (if b then Record place n ∷ rest_of_gap (place + n) (m - n) segments else Gap p m ∷ with_segment place n segments) ≡ record_count segments + 1) [
+      | true ↦ ap (λ (k : ℕ). k + 1) (rest_count (place + n) (m - n) segments)
+      | false ↦ count_with place n segments
+    ]
+
+same_place : (place : ℕ) → (place == place) ≡ true
+same_place place = eq-eqb place place refl
+
+rest_any : (q place n : ℕ) (segments : List Segment) → list_any (begins_at q) (rest_of_gap place n segments) ≡ list_any (begins_at q) segments
+rest_any q place n segments = elim (n == 0) as (λ b. list_any (begins_at q) (if b then segments else Gap place n ∷ segments) ≡ list_any (begins_at q) segments) [ true ↦ refl | false ↦ refl ]
+
+or_left : (a b : Bool) → a ≡ true → (a || b) ≡ true
+or_left a b e = ap (λ (x : Bool). x || b) e
+
+or_right : (a b : Bool) → b ≡ true → (a || b) ≡ true
+or_right true b e = refl
+or_right false b e = e
+
+or_both : (a b c : Bool) → (a || b) ≡ true → (b ≡ true → c ≡ true) → (a || c) ≡ true
+or_both true b c e next = refl
+or_both false b c e next = next e
+
+-- a record begins at its own place
+pub new_begins : (place n : ℕ) (segments : List Segment) → list_any (begins_at place) (with_segment place n segments) ≡ true
+new_begins place n [] = or_left (place == place) false (same_place place)
+new_begins place n (Record p m ∷ segments) = or_right (p == place) (list_any (begins_at place) (with_segment place n segments)) (new_begins place n segments)
+new_begins place n (Gap p m ∷ segments) =
+    elim (p == place) as (λ b. list_any (begins_at place) (if b then Record place n ∷ rest_of_gap (place + n) (m - n) segments else Gap p m ∷ with_segment place n segments) ≡ true) [
+      | true ↦ or_left (place == place) (list_any (begins_at place) (rest_of_gap (place + n) (m - n) segments)) (same_place place)
+      | false ↦ new_begins place n segments
+    ]
+
+-- and the others where they did
+pub begins_still : (q place n : ℕ) (segments : List Segment) → list_any (begins_at q) segments ≡ true → list_any (begins_at q) (with_segment place n segments) ≡ true
+begins_still q place n [] e = absurd cc
+begins_still q place n (Record p m ∷ segments) e =
+    or_both (p == q) (list_any (begins_at q) segments) (list_any (begins_at q) (with_segment place n segments)) e (λ f. begins_still q place n segments f)
+begins_still q place n (Gap p m ∷ segments) e =
+    elim (p == place) as (λ b. list_any (begins_at q) (if b then Record place n ∷ rest_of_gap (place + n) (m - n) segments else Gap p m ∷ with_segment place n segments) ≡ true) [
+      | true ↦ or_right (place == q) (list_any (begins_at q) (rest_of_gap (place + n) (m - n) segments)) (rest_any q (place + n) (m - n) segments ∙ e)
+      | false ↦ begins_still q place n segments e
+    ]
+
+-- ---- keys
+
+pub all_with : (test : KeyHead → Bool) (h : KeyHead) (heads : List KeyHead) → test h ≡ true → list_all test heads ≡ true → list_all test (with_head h heads) ≡ true
+all_with test h [] one all = and_from (test h) true one refl
+all_with test h (k ∷ ks) one all =
+    let parts = and_parts (test k) (list_all test ks) all in
+    elim (is_before h.name h.cycle k) as (λ b. list_all test (if b then k ∷ with_head h ks else h ∷ k ∷ ks) ≡ true) [
+      | true ↦ and_from (test k) (list_all test (with_head h ks)) parts.0 (all_with test h ks one parts.1)
+      | false ↦ and_from (test h) (list_all test (k ∷ ks)) one all
+    ]
+
+all_placed : (place n : ℕ) (segments : List Segment) (heads : List KeyHead) → list_all (is_placed segments) heads ≡ true → list_all (is_placed (with_segment place n segments)) heads ≡ true
+all_placed place n segments [] all = refl
+all_placed place n segments (h ∷ heads) all =
+    let parts = and_parts (is_placed segments h) (list_all (is_placed segments) heads) all in
+    and_from (is_placed (with_segment place n segments) h) (list_all (is_placed (with_segment place n segments)) heads) (begins_still h.seek place n segments parts.0) (all_placed place n segments heads parts.1)
+
+pub length_with : (h : KeyHead) (heads : List KeyHead) → length (with_head h heads) ≡ length heads + 1
+length_with h [] = refl
+length_with h (k ∷ ks) =
+    elim (is_before h.name h.cycle k) as (λ b. length (if b then k ∷ with_head h ks else h ∷ k ∷ ks) ≡ length (k ∷ ks) + 1) [
+      | true ↦ omega (arith, length_with h ks)
+      | false ↦ omega arith
+    ]
+
+pub size_with : (h : KeyHead) (heads : List KeyHead) → heads_size (with_head h heads) ≡ heads_size heads + length (written_key h)
+size_with h [] = sum_by-cons (λ k. length (written_key k)) h [] ∙ omega arith
+size_with h (k ∷ ks) =
+    elim (is_before h.name h.cycle k) as (λ b. heads_size (if b then k ∷ with_head h ks else h ∷ k ∷ ks) ≡ heads_size (k ∷ ks) + length (written_key h)) [
+      | true ↦ omega (arith, size_with h ks, sum_by-cons (λ j. length (written_key j)) k (with_head h ks), sum_by-cons (λ j. length (written_key j)) k ks)
+      | false ↦ omega (arith, sum_by-cons (λ j. length (written_key j)) h (k ∷ ks), sum_by-cons (λ j. length (written_key j)) k ks)
+    ]
+
+-- ---- all of it
+
+pub kept_more : (segments : List Segment) (heads : List KeyHead) (name : List ℕ) (n : ℕ) (h : KeyHead) → IsKept segments heads name → is_sized h ≡ true → is_fit_key h ≡ true
+    → file_end (with_segment h.seek n segments) + close_need (kept_with name (with_head h heads) (record_count segments + 1)) ≤ end_limit
+    → IsKept (with_segment h.seek n segments) (with_head h heads) name
+kept_more segments heads name n h kept sized fit room = record {
+  sized = all_with is_sized h heads sized kept.sized;
+  fit = all_with is_fit_key h heads fit kept.fit;
+  placed = all_with (is_placed (with_segment h.seek n segments)) h heads (new_begins h.seek n segments) (all_placed h.seek n segments heads kept.placed);
+  short = kept.short;
+  room = subst (λ (k : ℕ). file_end (with_segment h.seek n segments) + close_need (kept_with name (with_head h heads) k) ≤ end_limit) (sym (count_with h.seek n segments)) room;
+}
+
+-- the same with the record that was made
+pub kept_put : (s : SessionState) (made : NewRecord) (segments segments' : List Segment) (heads heads' : List KeyHead) (name : List ℕ) → CanBePut s made → IsKept segments heads name
+    → s.segments ≡ segments → s.heads ≡ heads → s.name ≡ name → segments' ≡ with_segment made.head.seek (length made.bytes.bytes) segments → heads' ≡ with_head made.head heads → IsKept segments' heads' name
+kept_put s made segments segments' heads heads' name can kept a b c put more =
+    let room = subst (λ (x : List Segment × (List KeyHead × List ℕ)). file_end (with_segment made.head.seek (length made.bytes.bytes) x.0) + close_need (kept_with x.1.1 (with_head made.head x.1.0) (record_count x.0 + 1)) ≤ end_limit) (λ i. (a i, (b i, c i))) can.room in
+    let all = kept_more segments heads name (length made.bytes.bytes) made.head kept can.sized can.fit room in
+    subst (λ (x : List Segment × List KeyHead). IsKept x.0 x.1 name) (λ i. (sym put i, sym more i)) all

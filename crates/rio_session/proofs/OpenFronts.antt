@@ -1,0 +1,37 @@
+-- What is told of a file's first 100 bytes is told of the file.
+use Rattle.std.proofs.Common.{◌≡◌, ◌<◌, ◌≤◌, Bool, true, false, ltb, List, ℕ, length, length-take, take, Result, Ok, Err, refl, sym, subst, ◌∙◌, arith}
+use Rattle.std.proofs.lemmas.Bool.{ltb-true, ltb-false, lt-ltb, le-ltb}
+use Rattle.byteorder.specs.Endian.{big_number}
+use Rattle.byteorder.specs.Numbers.{big_from-take}
+use Rattle.rio_head.proofs.HeadCut.{head_in_front}
+use Rattle.rio_dir.specs.Unborn.{header_fault, is_unborn}
+use Rattle.rio_session.specs.Causes.{TellsWhyNot}
+use Rattle.rio_session.specs.declared.fault.OpenFault.{OpenFault}
+use Rattle.rio_session.specs.declared.fault.OpenFault.TheVariants.{BadFile, ReadOnly, NoMemory, HostFault}
+
+few_same : (file : List ℕ) → ltb (length (take 100 file)) 4 ≡ ltb (length file) 4
+few_same file = by (ltb (length file) 4) refl
+  where
+    by : (b : Bool) → ltb (length file) 4 ≡ b → ltb (length (take 100 file)) 4 ≡ b
+    by true t = let few : length file < 4 = ltb-true _ _ t in lt-ltb _ _ (omega (arith, length-take 100 file))
+    by false t = let enough : 4 ≤ length file = ltb-false _ _ t in le-ltb _ _ (omega (arith, length-take 100 file))
+
+word_same : (file : List ℕ) → big_number 4 (take 100 file) ≡ big_number 4 file
+word_same file = big_from-take 0 4 100 file (omega arith)
+
+pub unborn_same : (file : List ℕ) → is_unborn (take 100 file) ≡ is_unborn file
+unborn_same file = rw (few_same file, word_same file) refl
+
+fault_same : (file : List ℕ) → header_fault (take 100 file) ≡ header_fault file
+fault_same file = rw (unborn_same file, head_in_front file) refl
+
+whole_tells : {X : Type 0} (file : List ℕ) (r : Result X OpenFault) → TellsWhyNot (take 100 file) r → TellsWhyNot file r
+whole_tells file (Ok x) told = sym (unborn_same file) ∙ told
+whole_tells file (Err (BadFile place kind)) told = sym (fault_same file) ∙ told
+whole_tells file (Err (ReadOnly place reason)) told = (sym (unborn_same file) ∙ told.0, sym (fault_same file) ∙ told.1, told.2, told.3)
+whole_tells file (Err NoMemory) told = tt
+whole_tells file (Err HostFault) told = tt
+
+-- a front that was read
+pub front_tells_whole : {X : Type 0} (file front : List ℕ) (r : Result X OpenFault) → front ≡ take 100 file → TellsWhyNot front r → TellsWhyNot file r
+front_tells_whole file front r is told = whole_tells file r (subst (λ (f : List ℕ). TellsWhyNot f r) is told)

@@ -1,0 +1,41 @@
+-- What a stop leaves while a file is made.
+use Rattle.std.proofs.Common.{◌≡◌, ℕ, List, Some, true, sym, subst, ◌∙◌}
+use Rattle.std.specs.Prelude.{MatchBool}
+use Rattle.rio_host.specs.Host.{After, Elapses, IsLawful, IsQuiet, Leaves, OnDisk, View}
+use Rattle.rio_host.specs.Image.{Same}
+use Rattle.rio_host.specs.OnlyReads.{OnlyReads}
+use Rattle.rio_host.proofs.Moments.{Outcomes, elapses_as, elapses_join}
+use Rattle.rio_host.proofs.ReadsLaws.{left_before}
+use Rattle.rio_dir.specs.Unborn.{is_unborn}
+use Rattle.rio_machine.specs.State.{State, empty_state}
+use Rattle.rio_state.specs.Left.{IsLeftAs, ReadsClosedUnlessOpen}
+use Rattle.rio_state.specs.Reads.{ReadsAsMade, ReadsAsState}
+use Rattle.rio_create.specs.Creation.{IsLeftEmpty}
+
+-- a file that isn't made yet stands for the empty state alone
+pub unborn_empty : (file : List ℕ) (m : State) → is_unborn file ≡ true → ReadsAsState file m → m ≡ empty_state
+unborn_empty file m unborn reads = subst (λ b. MatchBool b (m ≡ empty_state) (ReadsAsMade file m)) unborn reads
+
+abbrev Stays : List ℕ → State → List ℕ → Outcomes
+Stays file m text image said = ReadsAsState image m × (ReadsClosedUnlessOpen file m → ReadsClosedUnlessOpen image m) × (said ≡ text)
+
+module _ (file text : List ℕ) (m : State) where
+  -- the file itself
+  own_stays : ReadsAsState file m → (image said : List ℕ) → image ≡ file → said ≡ text → Stays file m text image said
+  own_stays reads image said same told = subst (λ (f : List ℕ). Stays file m text f said) (sym same) (reads, λ closed. closed, told)
+
+  empty_stays : m ≡ empty_state → (image said : List ℕ) → IsLeftAs empty_state image → said ≡ text → Stays file m text image said
+  empty_stays none image said left told =
+      let same : IsLeftAs m image = subst (λ (n : State). IsLeftAs n image) (sym none) left in
+      (same.reads, λ was. same.closed, told)
+
+  pub making_time : (a b c d : View) → IsLawful a → IsLawful b → IsQuiet a → a.holds ≡ Some file → a.said ≡ Some text → is_unborn file ≡ true → ReadsAsState file m
+      → OnlyReads a b → OnDisk Same b c → Elapses c d (IsLeftEmpty c) → Elapses a d (Stays file m text)
+  making_time a b c d law_a law_b quiet holds said unborn reads calls sync makes =
+      let here : (image spoken : List ℕ) → Leaves a image spoken → Stays file m text image spoken =
+      λ image spoken left. own_stays reads image spoken (quiet image spoken file left holds) (law_a.text image spoken text left said) in
+      let told : c.said ≡ Some text = sync.said ∙ calls.said ∙ said in
+      let first : Elapses a b (Stays file m text) = elapses_as (Stays file m text) (Leaves a) calls.time here in
+      let second : Elapses a c (Stays file m text) = elapses_join (After Same b) first sync.time (λ image spoken after.
+      subst (λ (f : List ℕ). Stays file m text f spoken) (sym after.2) (here after.0 spoken (left_before law_b calls after.0 spoken after.1))) in
+      elapses_join (IsLeftEmpty c) second makes (λ image spoken left. empty_stays (unborn_empty file m unborn reads) image spoken left.left (left.text text told))

@@ -1,0 +1,92 @@
+-- What a session keeps of a file that is just made, and what it stands for.
+use Rattle.std.proofs.Common.{◌≡◌, ℕ, ◌+◌, ◌≤◌, List, [], length, Option, Some, None, refl, sym, ap, subst, ◌∙◌, arith}
+use Rattle.std.specs.FinMap.{FinMap, empty, get, get-empty, same_map}
+use Rattle.std.specs.Option.{option_map}
+use Rattle.rio_host.specs.Host.{View}
+use Rattle.rio_key.specs.declared.head.KeyHead.{KeyHead}
+use Rattle.rio_chain.specs.Chains.{HasChain}
+use Rattle.rio_chain.specs.Placing.{file_end, record_count}
+use Rattle.rio_chain.specs.declared.segment.Segment.{Segment}
+use Rattle.rio_machine.specs.State.{State, Tree, empty_state, name_order}
+use Rattle.rio_machine.proofs.OrderLaws.{names_tie, names_total}
+use Rattle.rio_state.specs.Closing.{close_need}
+use Rattle.rio_state.specs.KeyedRecords.{KeyedRecord, keyed_records}
+use Rattle.rio_state.specs.Left.{HasOpenHead, info_head}
+use Rattle.rio_state.specs.DirectoryKeys.{AreKeysOf}
+use Rattle.rio_state.specs.Reads.{AreRecordsOf}
+use Rattle.rio_step.specs.Runs.{saved_of, saved_tree}
+use Rattle.rio_step.proofs.ClosedLaws.{saved_keeps_the_rest}
+use Rattle.rio_create.specs.NewFile.{IsNewFile, first_length, first_segments, nbytes_name_of}
+use Rattle.rio_create.proofs.Lengths.{key_long}
+use Rattle.rio_session.specs.Kept.{IsKept}
+use Rattle.rio_session.specs.Session.{HoldsState, SessionState, StandsFor}
+
+-- a state without trees has no pending rows
+pub saved_same : (m : State) → m.trees ≡ empty → saved_of m ≡ m
+unfolding saved_of
+saved_same m none =
+    let gets : (name : List ℕ) → get m.trees name ≡ None = λ name. ap (λ (t : FinMap name_order Tree). get t name) none ∙ get-empty name_order name in
+    let same : (saved_of m).trees ≡ m.trees = same_map names_total names_tie (saved_of m).trees m.trees (λ name. saved_keeps_the_rest m name ∙ ap (option_map saved_tree) (gets name) ∙ sym (gets name)) in
+    λ i. record m { trees = same i }
+
+-- ---- what is kept
+
+kept_empty : (segments : List Segment) (name : List ℕ) → length name ≤ 200 → file_end segments ≤ 700 → record_count segments ≡ 1 → IsKept segments [] name
+unfolding close_need
+kept_empty segments name short low one = record {
+  sized = refl;
+  fit = refl;
+  placed = refl;
+  short = short;
+  room = omega (arith, low, one, short, key_long name short);
+}
+
+pub kept_new : (segments : List Segment) (heads : List KeyHead) (name own : List ℕ) → length name ≤ 200 → segments ≡ first_segments name → file_end segments ≤ 700 → heads ≡ [] → own ≡ name
+    → IsKept segments heads own
+kept_new segments heads name own short segments_are low none same =
+    let one : record_count segments ≡ 1 = ap record_count segments_are in
+    subst (λ (n : List ℕ). IsKept segments heads n) (sym same) (subst (λ (hs : List KeyHead). IsKept segments hs name) (sym none) (kept_empty segments name short low one))
+
+-- the directory record stands before END
+pub directory_before_end : (segments : List Segment) (name : List ℕ) (nbytes_name : ℕ) → segments ≡ first_segments name → nbytes_name ≡ nbytes_name_of name → nbytes_name + 160 ≤ file_end segments
+directory_before_end segments name nbytes_name same is =
+    let long : file_end segments ≡ 100 + first_length name = ap file_end same in
+    omega (arith, long, is)
+
+-- ---- what it stands for
+
+-- what a session keeps of a new file of this name
+pub record KeepsNew (s : SessionState) (name : List ℕ) : Type 0 where
+  pub segments : s.segments ≡ first_segments name
+  pub classes : s.classes ≡ []
+  pub heads : s.heads ≡ []
+  pub info : s.info ≡ None
+  pub name_is : s.name ≡ name
+  pub nbytes_name : s.nbytes_name ≡ nbytes_name_of name
+  pub opened : s.opened ≡ 0
+  pub costs : s.costs ≡ 0
+
+holds_empty : (s : SessionState) (name : List ℕ) (datime : ℕ) (file : List ℕ) → KeepsNew s name → IsNewFile name datime file → HoldsState s empty_state file
+holds_empty s name datime file keeps new =
+    let links = new.links in
+    record {
+      links = links;
+      chain = subst (λ (segments : List Segment). HasChain links segments file) (sym keeps.segments) new.chain;
+      head = subst (λ (n : ℕ). HasOpenHead file n) (sym keeps.nbytes_name) new.head;
+      records = subst (λ (m : State). AreRecordsOf (keyed_records links) m) (sym (saved_same empty_state refl)) new.records;
+      classes = keeps.classes;
+      keys = subst (λ (heads : List KeyHead). AreKeysOf (keyed_records links) heads) (sym keeps.heads) new.keys;
+      info = keeps.info ∙ sym (ap (λ (info : Option KeyedRecord). info_head info) new.info);
+      name = new.name_is ∙ sym keeps.name_is;
+      count = new.count ∙ sym (ap record_count keeps.segments);
+      held = λ less. omega (arith, new.held);
+    }
+
+pub stands_new : (v : View) (s : SessionState) (name : List ℕ) (datime : ℕ) (m : State) (text : List ℕ) → m ≡ empty_state → KeepsNew s name → v.said ≡ Some text
+    → ((new : List ℕ) × (v.holds ≡ Some new) × IsNewFile name datime new) → StandsFor v s m text
+stands_new v s name datime m text none keeps said made = record {
+  file = made.0;
+  holds = made.1;
+  said = said;
+  state = subst (λ (n : State). HoldsState s n made.0) (sym none) (holds_empty s name datime made.0 keeps made.2);
+}

@@ -1,0 +1,228 @@
+-- Commands that aren't puts, and refused ones, are their steps.
+use Rattle.std.proofs.Common.{◌≡◌, inl, inr, ◌==◌, ◌||◌, ℕ, ◌+◌, ◌-◌, List, [], ◌∷◌, length, drop, sum, Option, Some, None, Ok, Bool, true, false, refl, sym, ap, subst, ◌∙◌}
+use Rattle.std.specs.Prelude.{IsSome, if◌then◌else◌, is_some, slice_get, unwrap_or}
+use Rattle.std.specs.FinMap.{get}
+use Rattle.std.specs.List.{Contains, fold, list_all, list_any}
+use Rattle.std.specs.Str.{bytes_eq}
+use Rattle.std.proofs.lemmas.Bool.{and_parts, eqb-true, le-ltb}
+use Rattle.std.proofs.lemmas.Slice.Eq.{bytes_eq-Decides}
+use Rattle.rio_types.specs.declared.class.ClassDef.{ClassDef}
+use Rattle.rio_key.specs.declared.head.KeyHead.{KeyHead}
+use Rattle.rio_value.specs.declared.value.Value.{Value, Null}
+use Rattle.rio_format.specs.Objects.{value_at}
+use Rattle.rio_dir.specs.Table.{head_of, is_at_cycle}
+use Rattle.rio_chain.specs.Chains.{HasRecordSegment}
+use Rattle.rio_chain.specs.Placing.{end_after, file_end, record_count, space_of}
+use Rattle.rio_chain.specs.Segments.{HoldsLink, HoldsLinks, Link, RecordAt, link_length}
+use Rattle.rio_chain.specs.declared.segment.Segment.{Segment}
+use Rattle.rio_chain.specs.declared.segment.Segment.TheVariants.{Record, Gap}
+use Rattle.rio_chain.proofs.OneChain.{link_one}
+use Rattle.rio_machine.specs.RefusalText.{refusal_number}
+use Rattle.rio_machine.specs.State.{State}
+use Rattle.rio_machine.specs.declared.command.Command.{Command}
+use Rattle.rio_machine.specs.declared.command.Command.TheVariants.{Get, Ls}
+use Rattle.rio_machine.specs.declared.command.Outcome.TheVariants.{Accepted, Refused}
+use Rattle.rio_machine.specs.declared.refusal.Refusal.{Refusal}
+use Rattle.rio_machine.specs.declared.refusal.Refusal.TheVariants.{Full}
+use Rattle.rio_reply.specs.Told.{listing_of}
+use Rattle.rio_reply.proofs.Listings.{listing_is, told_is}
+use Rattle.rio_state.specs.Closing.{close_need, end_limit, is_full, lay_all}
+use Rattle.rio_step.specs.Costs.{cost_of}
+use Rattle.rio_step.specs.Refusing.{FullMark, meant_cycle, meant_object, refusal_of, refusals}
+use Rattle.rio_step.specs.ReplyText.{text_of}
+use Rattle.rio_step.specs.Step.{Stepped, object_told, outcome_of, refused, reply_to, state_behind, told_value}
+use Rattle.rio_step.proofs.LowestLaws.{lowest_is_told}
+use Rattle.rio_effect.proofs.KeyReads.{keys_have_records}
+use Rattle.rio_state.proofs.Members.{Found, In, all_at, contains_in, found, in_contained}
+use Rattle.rio_session.specs.Gets.{record_text}
+use Rattle.rio_session.specs.Kept.{IsKept, begins_at, is_placed, kept_with}
+use Rattle.rio_session.specs.Marks.{command_lengths, mark_of, segments_behind, state_need, with_placed}
+use Rattle.rio_session.specs.Session.{HoldsState, LacksRoomIfFull, SessionState, next_of}
+use Rattle.rio_session.proofs.Needs.{need_by_keys}
+use Rattle.rio_session.proofs.PutSteps.{count_is, empty_classes}
+use Rattle.rio_session.proofs.Refused.{cost_accepted, cost_refused, refused_anyway, step_accepted, step_refused}
+use Rattle.rio_session.proofs.Replies.{IsReply}
+use Rattle.rio_session.proofs.States.{Known, known}
+
+-- ---- records by their keys
+
+pub begins_record : (place : ℕ) (segments : List Segment) → list_any (begins_at place) segments ≡ true → HasRecordSegment segments place
+begins_record place [] e = absurd cc
+begins_record place (Gap p n ∷ segments) e =
+    let rest = begins_record place segments e in
+    (Gap p n ∷ rest.0, rest.1, rest.2, ap (λ (l : List Segment). Gap p n ∷ l) rest.3)
+begins_record place (Record p n ∷ segments) e = by (p == place) refl (begins_record place segments) e
+  where
+    by : (b : Bool) → (p == place) ≡ b → (list_any (begins_at place) segments ≡ true → HasRecordSegment segments place) → (b || list_any (begins_at place) segments) ≡ true → HasRecordSegment (Record p n ∷ segments) place
+    by true is later e = ([], n, segments, ap (λ (q : ℕ). Record q n ∷ segments) (eqb-true p place is))
+    by false is later e =
+        let rest = later e in
+        (Record p n ∷ rest.0, rest.1, rest.2, ap (λ (l : List Segment). Record p n ∷ l) rest.3)
+
+pub key_begins : (segments : List Segment) (heads : List KeyHead) (h : KeyHead) → list_all (is_placed segments) heads ≡ true → Contains heads h → HasRecordSegment segments h.seek
+key_begins segments heads h all among = begins_record h.seek segments (all_at (is_placed segments) h heads all (in_contained h heads among))
+
+pub found_key : (heads : List KeyHead) (name : List ℕ) (cycle : ℕ) (h : KeyHead) → head_of name (Some cycle) heads ≡ Some h → Contains heads h
+found_key heads name cycle h is = contains_in h heads (found (is_at_cycle name cycle) h heads is).among
+
+-- one record begins at a place
+holds_at : (file : List ℕ) (p q : ℕ) (bytes : List ℕ) (links : List Link) → HoldsLinks file p links → In (RecordAt q bytes) links → HoldsLink file q (RecordAt q bytes)
+holds_at file p q bytes [] holds i = absurd i
+holds_at file p q bytes (l ∷ links) holds (inl same) =
+    let there : HoldsLink file p (RecordAt q bytes) = subst (HoldsLink file p) same holds.0 in
+    subst (λ (k : ℕ). HoldsLink file k (RecordAt q bytes)) (sym there.0) there
+holds_at file p q bytes (l ∷ links) holds (inr i) = holds_at file (p + link_length l) q bytes links holds.1 i
+
+same_bytes : (q : ℕ) (a b : List ℕ) → RecordAt q a ≡ RecordAt q b → a ≡ b
+same_bytes q a b e = cc
+
+pub one_record : (file : List ℕ) (q : ℕ) (a b : List ℕ) (links : List Link) → HoldsLinks file 100 links → Contains links (RecordAt q a) → Contains links (RecordAt q b) → a ≡ b
+one_record file q a b links holds i j =
+    same_bytes q a b (link_one file q (RecordAt q a) (RecordAt q b)
+    (holds_at file 100 q a links holds (in_contained (RecordAt q a) links i)) (holds_at file 100 q b links holds (in_contained (RecordAt q b) links j)))
+
+-- ---- refused commands
+
+-- want of room isn't what a state refuses for
+lacks_none : (s : SessionState) (m : State) (c : Command) (refusal : Refusal) → slice_get (refusals m c None) (refusal_number refusal - 1) ≡ Some (Some refusal) → LacksRoomIfFull s (Refused refusal)
+lacks_none s m c (Full end wanted) told = absurd cc
+lacks_none s m c other told = tt
+
+module _ (s : SessionState) (m : State) (c : Command) (refusal : Refusal) (is : refusal_of m c None ≡ Some refusal) where
+  marked : refusal_of m c (mark_of s.name s.segments m c) ≡ Some refusal
+  marked = refused_anyway m c (mark_of s.name s.segments m c) refusal is
+
+  refused_next : next_of s m c ≡ record { state = m; reply = refused refusal }
+  refused_next = step_refused m c (mark_of s.name s.segments m c) refusal marked
+
+  refused_segments : segments_behind s.name s.segments m c ≡ s.segments
+  unfolding segments_behind
+  refused_segments = ap (λ (o : Option Refusal). if is_some o then s.segments else fold with_placed s.segments (command_lengths m c)) marked
+
+  pub refused_reply : IsReply s m c (text_of (refused refusal)) 0
+  refused_reply = record {
+    stays = ap (λ (t : Stepped). t.state) refused_next;
+    text_is = ap (λ (t : Stepped). text_of t.reply) (sym refused_next);
+    segments = refused_segments;
+    cost_is = sym (cost_refused m c refusal is);
+  }
+
+  pub refused_outcome : outcome_of (next_of s m c).reply ≡ Refused refusal
+  refused_outcome = ap (λ (t : Stepped). outcome_of t.reply) refused_next
+
+  pub refused_lacks : (after : SessionState) → LacksRoomIfFull after (Refused refusal)
+  refused_lacks after = lacks_none after m c refusal (lowest_is_told.some m c None refusal is).told
+
+-- ---- accepted commands without records
+
+module _ (s : SessionState) (m : State) (file : List ℕ) (h : HoldsState s m file) (none : length s.classes ≡ 0) (listless : is_some s.info ≡ false) (kept : IsKept s.segments s.heads s.name)
+    (c : Command) (free : refusal_of m c None ≡ None) (stays : state_behind m c ≡ m) (lengthless : command_lengths m c ≡ []) where
+  abbrev kn : Known h.links s.heads m
+  kn = known h.links s.heads m h.records h.keys
+
+  need_is : state_need s.name (state_behind m c) ≡ close_need (kept_with s.name s.heads (record_count s.segments))
+  need_is =
+      ap (state_need s.name) stays
+      ∙ need_by_keys s.name s.heads m kn.stand kept.sized (empty_classes s m file h none listless)
+      ∙ ap (λ (k : ℕ). close_need (kept_with s.name s.heads k)) (sym (count_is s m file h none listless))
+
+  abbrev mark_by : List ℕ → ℕ → Option FullMark
+  mark_by lengths k = if is_full s.segments lengths k then Some (record { end = file_end s.segments; wanted = sum lengths }) else None
+
+  not_full : is_full s.segments [] (close_need (kept_with s.name s.heads (record_count s.segments))) ≡ false
+  unfolding is_full lay_all
+  not_full = le-ltb end_limit (end_after [] (space_of s.segments) + close_need (kept_with s.name s.heads (record_count s.segments))) kept.room
+
+  mark_none : mark_of s.name s.segments m c ≡ None
+  unfolding mark_of
+  mark_none =
+      (λ i. mark_by (lengthless i) (need_is i))
+      ∙ ap (λ (b : Bool). let o : Option FullMark = if b then Some (record { end = file_end s.segments; wanted = sum [] }) else None in o) not_full
+
+  unrefused : refusal_of m c (mark_of s.name s.segments m c) ≡ None
+  unrefused = ap (refusal_of m c) mark_none ∙ free
+
+  next_is : next_of s m c ≡ record { state = state_behind m c; reply = reply_to m c }
+  next_is = step_accepted m c (mark_of s.name s.segments m c) unrefused
+
+  same_segments : segments_behind s.name s.segments m c ≡ s.segments
+  unfolding segments_behind
+  same_segments =
+      ap (λ (o : Option Refusal). if is_some o then s.segments else fold with_placed s.segments (command_lengths m c)) unrefused
+      ∙ ap (fold with_placed s.segments) lengthless
+
+  pub accepted_reply : (text : List ℕ) → text ≡ text_of (reply_to m c) → cost_of m c ≡ 0 → IsReply s m c text 0
+  accepted_reply text is costless = record {
+    stays = ap (λ (t : Stepped). t.state) next_is ∙ stays;
+    text_is = is ∙ ap (λ (t : Stepped). text_of t.reply) (sym next_is);
+    segments = same_segments;
+    cost_is = sym costless;
+  }
+
+  pub accepted_outcome : outcome_of (reply_to m c) ≡ Accepted → outcome_of (next_of s m c).reply ≡ Accepted
+  accepted_outcome is = ap (λ (t : Stepped). outcome_of t.reply) next_is ∙ is
+
+-- ---- ls
+
+pub ls_reply : (s : SessionState) (m : State) (file : List ℕ) (h : HoldsState s m file) → length s.classes ≡ 0 → is_some s.info ≡ false → IsKept s.segments s.heads s.name
+    → refusal_of m Ls None ≡ None → IsReply s m Ls (listing_of s.heads) 0
+unfolding command_lengths
+ls_reply s m file h none listless kept free =
+    accepted_reply s m file h none listless kept Ls free refl refl (listing_of s.heads) (listing_is s.heads m (known h.links s.heads m h.records h.keys).stand) (cost_accepted m Ls free)
+
+-- ---- get
+
+some_of : {A : Type 0} (o : Option A) → IsSome o → (x : A) × (o ≡ Some x)
+some_of None i = absurd cc
+some_of (Some x) i = (x, refl)
+
+module _ (s : SessionState) (m : State) (file : List ℕ) (h : HoldsState s m file) (none : length s.classes ≡ 0) (listless : is_some s.info ≡ false) (kept : IsKept s.segments s.heads s.name)
+    (name : List ℕ) (asked : Option ℕ) (number : ℕ) (head : KeyHead) (bytes text : List ℕ) (free : refusal_of m (Get name asked None) None ≡ None) (number_is : number ≡ meant_cycle m name asked)
+    (there : IsSome (meant_object m name asked)) (key : head_of name (Some number) s.heads ≡ Some head) (among : Contains h.links (RecordAt head.seek bytes)) (is : text ≡ record_text s.classes head bytes) where
+  abbrev v : Value
+  v = (some_of (meant_object m name asked) there).0
+
+  object : meant_object m name asked ≡ Some (some_of (meant_object m name asked) there).0
+  object = (some_of (meant_object m name asked) there).1
+
+  its : Found (is_at_cycle name number) head s.heads
+  its = found (is_at_cycle name number) head s.heads key
+
+  parts : (bytes_eq head.name name ≡ true) × ((head.cycle == number) ≡ true)
+  parts = and_parts (bytes_eq head.name name) (head.cycle == number) its.passes
+
+  name_is : head.name ≡ name
+  name_is = (bytes_eq-Decides head.name name).0 parts.0
+
+  cycle_is : head.cycle ≡ number
+  cycle_is = eqb-true head.cycle number parts.1
+
+  held : get m.objects (head.name, head.cycle) ≡ Some (some_of (meant_object m name asked) there).0
+  held = ap (λ (x : List ℕ × ℕ). get m.objects x) (λ i. (name_is i, (cycle_is ∙ number_is) i)) ∙ object
+
+  read : value_at s.classes head.class head.keylen (drop head.keylen bytes) ≡ Ok (some_of (meant_object m name asked) there).0
+  read =
+      let kn : Known h.links s.heads m = known h.links s.heads m h.records h.keys in
+      let r = keys_have_records file h.links s.heads m head v h.chain.chain h.keys kn.records (contains_in head s.heads its.among) held in
+      let same : bytes ≡ r.bytes = one_record file head.seek bytes r.bytes h.links h.chain.chain.links_are among r.there in
+      ap (λ (x : List ClassDef × List ℕ). value_at x.0 head.class head.keylen (drop head.keylen x.1)) (λ i. (h.classes i, same i)) ∙ r.read
+
+  told : text ≡ text_of (object_told name (meant_cycle m name asked) (told_value m name asked None))
+  told =
+      is
+      ∙ told_is head (value_at s.classes head.class head.keylen (drop head.keylen bytes)) v read
+      ∙ ap (λ (x : List ℕ × (ℕ × Value)). text_of (object_told x.0 x.1.0 x.1.1)) (λ i. (name_is i, ((cycle_is ∙ number_is) i, ap (λ (o : Option Value). unwrap_or o Null) (sym object) i)))
+
+  pub get_reply : IsReply s m (Get name asked None) text 0
+  unfolding command_lengths
+  get_reply = accepted_reply s m file h none listless kept (Get name asked None) free refl refl text told (cost_accepted m (Get name asked None) free)
+
+pub ls_outcome : (s : SessionState) (m : State) (file : List ℕ) (h : HoldsState s m file) → length s.classes ≡ 0 → is_some s.info ≡ false → IsKept s.segments s.heads s.name
+    → refusal_of m Ls None ≡ None → outcome_of (next_of s m Ls).reply ≡ Accepted
+unfolding command_lengths
+ls_outcome s m file h none listless kept free = accepted_outcome s m file h none listless kept Ls free refl refl refl
+
+pub get_outcome : (s : SessionState) (m : State) (file : List ℕ) (h : HoldsState s m file) → length s.classes ≡ 0 → is_some s.info ≡ false → IsKept s.segments s.heads s.name
+    → (name : List ℕ) (asked : Option ℕ) → refusal_of m (Get name asked None) None ≡ None → outcome_of (next_of s m (Get name asked None)).reply ≡ Accepted
+unfolding command_lengths
+get_outcome s m file h none listless kept name asked free = accepted_outcome s m file h none listless kept (Get name asked None) free refl refl refl

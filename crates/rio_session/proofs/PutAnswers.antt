@@ -1,0 +1,166 @@
+-- What a put answers, in all clauses.
+use Rattle.std.proofs.Common.{◌≡◌, inl, inr, ⊎_elim, ℕ, ◌+◌, ◌*◌, ◌-◌, ◌^◌, ◌<◌, ◌≤◌, min, false, List, ◌++◌, length, take, Option, Some, Result, Ok, Err, IfOk, sym, ap, subst, ◌∙◌, arith}
+use Rattle.std.proofs.lemmas.Option.{same_Some}
+use Rattle.rio_host.specs.Host.{Elapses, IsLawful, Longer, View}
+use Rattle.rio_host.proofs.Images.{becomes_some, told_before}
+use Rattle.rio_host.proofs.Moments.{elapses_as}
+use Rattle.rio_dir.specs.Table.{with_head}
+use Rattle.rio_chain.specs.Chains.{HasChain}
+use Rattle.rio_chain.specs.Changes.{with_record}
+use Rattle.rio_chain.specs.Placing.{record_count, with_segment}
+use Rattle.rio_chain.specs.Segments.{Link}
+use Rattle.rio_chain.specs.Stops.{Any, KeepsFront}
+use Rattle.rio_machine.specs.State.{State}
+use Rattle.rio_machine.specs.declared.command.Command.{Command}
+use Rattle.rio_machine.specs.declared.command.Outcome.{Outcome}
+use Rattle.rio_machine.specs.declared.command.Outcome.TheVariants.{Accepted}
+use Rattle.rio_state.specs.Closing.{held_of, kept_in}
+use Rattle.rio_state.specs.DirectoryKeys.{AreKeysOf}
+use Rattle.rio_state.specs.KeyedRecords.{info_key, keyed_records}
+use Rattle.rio_state.specs.Left.{info_head}
+use Rattle.rio_state.specs.Reads.{AreRecordsOf}
+use Rattle.rio_step.specs.Costs.{cost_of}
+use Rattle.rio_step.specs.ReplyText.{text_of}
+use Rattle.rio_step.specs.Runs.{saved_of}
+use Rattle.rio_step.specs.Step.{outcome_of}
+use Rattle.rio_session.specs.Causes.{StaysIfRefused}
+use Rattle.rio_session.specs.Does.{Does}
+use Rattle.rio_session.specs.Marks.{segments_behind}
+use Rattle.rio_session.specs.Puts.{IsPutOrNot, PutAndSaid, Puts, Putting, PutsInTime, with_put}
+use Rattle.rio_session.specs.Session.{HoldsState, IsReady, SessionState, StandsFor, Steps, Went, next_of}
+use Rattle.rio_session.specs.declared.fault.SessionFault.{SessionFault}
+use Rattle.rio_session.specs.declared.fault.SessionFault.TheVariants.{HostFault, SayFault, NoMemory}
+use Rattle.rio_session.proofs.Opened.{open_image}
+use Rattle.rio_session.proofs.Replies.{read_steps, told_same}
+
+-- the put is the command's step, on a file of these links
+pub record IsPutting (p : Putting) (s : SessionState) (m : State) (c : Command) (links : List Link) : Type 0 where
+  pub text_is : p.text ≡ text_of (next_of s m c).reply
+  pub accepted : outcome_of (next_of s m c).reply ≡ Accepted
+  pub segments : segments_behind s.name s.segments m c ≡ with_segment p.place (length p.bytes) s.segments
+  pub cost_is : p.cost ≡ cost_of m c
+  pub records : AreRecordsOf (keyed_records (with_record p.place p.bytes links)) (saved_of (next_of s m c).state)
+  pub keys : AreKeysOf (keyed_records (with_record p.place p.bytes links)) (with_head p.head s.heads)
+  pub info : info_key (keyed_records (with_record p.place p.bytes links)) ≡ info_key (keyed_records links)
+  pub name : (kept_in (with_record p.place p.bytes links)).name ≡ (kept_in links).name
+  pub count : (kept_in (with_record p.place p.bytes links)).count ≡ (kept_in links).count + 1
+  pub more : record_count (with_segment p.place (length p.bytes) s.segments) ≡ record_count s.segments + 1
+  pub classes : (next_of s m c).state.classes ≡ m.classes
+  pub held : held_of (with_record p.place p.bytes links) ≤ held_of links + p.cost
+
+held_more : (before after bound costs cost : ℕ) → (costs < 2 ^ 64 - 1 → before ≤ bound + costs + 10000) → after ≤ before + cost → min (costs + cost) (2 ^ 64 - 1) < 2 ^ 64 - 1
+    → after ≤ bound + min (costs + cost) (2 ^ 64 - 1) + 10000
+held_more before after bound costs cost was grown low = omega (arith, was (omega (arith, low)), grown, low)
+
+-- what the session keeps stands for the state behind
+pub put_state : (p : Putting) (s : SessionState) (m : State) (c : Command) (file now : List ℕ) (h : HoldsState s m file) → IsPutting p s m c h.links
+    → HasChain (with_record p.place p.bytes h.links) (with_segment p.place (length p.bytes) s.segments) now → KeepsFront file now → HoldsState (with_put p s) (next_of s m c).state now
+put_state p s m c file now h is chain front = record {
+  links = with_record p.place p.bytes h.links;
+  chain = chain;
+  head = (open_image file now s.nbytes_name h.links (with_record p.place p.bytes h.links) (next_of s m c).state h.head h.chain.chain front chain.chain is.records).head;
+  records = is.records;
+  classes = h.classes ∙ sym is.classes;
+  keys = is.keys;
+  info = h.info ∙ ap info_head (sym is.info);
+  name = is.name ∙ h.name;
+  count = is.count ∙ ap (λ (n : ℕ). n + 1) h.count ∙ sym is.more;
+  held = held_more (held_of h.links) (held_of (with_record p.place p.bytes h.links)) (3 * s.opened) s.costs p.cost h.held is.held;
+}
+
+module _ (p : Putting) (old new : View) (before after : SessionState) (lawful : IsLawful old) (ready : IsReady old before) where
+  -- what a stop leaves
+  pub put_steps : (m : State) (c : Command) (said : List ℕ) (s : StandsFor old before m said) → PutsInTime p old new before → IsPutting p before m c s.state.links → Elapses old new (Steps m (next_of before m c) said)
+  put_steps m c said s time is = elapses_as (Steps m (next_of before m c) said) (IsPutOrNot p s.file said s.state.links) (time s.file said s.state.links s.holds s.said s.state.chain) step
+    where
+      step : (i t : List ℕ) → IsPutOrNot p s.file said s.state.links i t → Steps m (next_of before m c) said i t
+      step i t image = ⊎_elim
+          (λ was. inl ((open_image s.file i before.nbytes_name s.state.links s.state.links m s.state.head s.state.chain.chain image.front was.0 s.state.records).reads, was.1))
+          (λ now. inr (
+            (open_image s.file i before.nbytes_name s.state.links (with_record p.place p.bytes s.state.links) (next_of before m c).state s.state.head s.state.chain.chain image.front now.0 is.records).reads,
+            (now.1.0, now.1.1 ∙ ap (λ (l : List ℕ). said ++ take now.1.0 l) is.text_is),
+          ))
+          image.links_are
+
+  put_stands : (m : State) (c : Command) (said : List ℕ) (s : StandsFor old before m said) → PutAndSaid p old new before after → IsPutting p before m c s.state.links
+      → StandsFor new after (next_of before m c).state (said ++ text_of (next_of before m c).reply)
+  put_stands m c said s is putting =
+      let f = is.holds s.file s.state.links s.holds s.state.chain in
+      let grown = becomes_some (Longer p.text) old.said new.said said s.said is.says in
+      let chain : HasChain (with_record p.place p.bytes s.state.links) (with_segment p.place (length p.bytes) before.segments) f.0 =
+      subst (λ (a : SessionState). HasChain (with_record p.place p.bytes s.state.links) a.segments f.0) is.kept f.2 in
+      record {
+        file = f.0;
+        holds = f.1;
+        said = grown.1 ∙ ap (λ (l : List ℕ). let o : Option (List ℕ) = Some l in o) (grown.2 ∙ ap (λ (l : List ℕ). said ++ l) putting.text_is);
+        state = subst (λ (a : SessionState). HoldsState a (next_of before m c).state f.0) (sym is.kept) (put_state p before m c s.file f.0 s.state putting chain f.3);
+      }
+
+  put_went : (m : State) (c : Command) (said : List ℕ) (s : StandsFor old before m said) → PutAndSaid p old new before after → IsPutting p before m c s.state.links → Went old new before after m c said Accepted
+  put_went m c said s is putting = record {
+    time = put_steps m c said s is.time putting;
+    stands = put_stands m c said s is putting;
+    follows = record {
+      segments = ap (λ (a : SessionState). a.segments) is.kept ∙ sym putting.segments;
+      name = ap (λ (a : SessionState). a.name) is.kept;
+      datime = ap (λ (a : SessionState). a.datime) is.kept;
+      opened = ap (λ (a : SessionState). a.opened) is.kept;
+      costs = ap (λ (a : SessionState). a.costs) is.kept ∙ ap (λ (n : ℕ). min (before.costs + n) (2 ^ 64 - 1)) putting.cost_is;
+    };
+    outcome_is = sym putting.accepted;
+    full = tt;
+  }
+
+  put_ready : PutAndSaid p old new before after → IsReady new after
+  put_ready is = record {
+    quiet = is.quiet;
+    chain = λ file told.
+        let was = told_before Any old.holds new.holds file is.told told in
+        let links = ready.chain was.0 was.1 in
+        let f = is.holds was.0 links.0 was.1 links.1 in
+        (with_record p.place p.bytes links.0, subst (λ (x : List ℕ). HasChain (with_record p.place p.bytes links.0) after.segments x) (same_Some f.0 file (sym f.1 ∙ told)) f.2);
+  }
+
+  -- what a put answers, in all clauses
+  pub does_put : (c : Command) (answer : Result Outcome SessionFault) → before.failed ≡ false → IsLawful new → Puts p old new before after answer
+      → ((m : State) (said : List ℕ) (s : StandsFor old before m said) → IsPutting p before m c s.state.links) → IfOk answer (λ outcome. outcome ≡ Accepted) → Does old new before after c answer
+  does_put c (Ok outcome) fresh lawful' is putting same = record {
+    done = λ m said s. subst (λ (o : Outcome). Went old new before after m c said o) (sym same) (put_went m c said s is (putting m said s));
+    any_moment = tt;
+    ready = put_ready is;
+    refused = subst (λ (o : Outcome). StaysIfRefused old new o) (sym same) tt;
+    no_memory = λ e. absurd cc;
+    failed = ap (λ (a : SessionState). a.failed) is.kept ∙ fresh;
+    told = is.told;
+    cause = is.faults;
+  }
+  does_put c (Err HostFault) fresh lawful' is putting same = record {
+    done = tt;
+    any_moment = λ m said s. put_steps m c said s is.time (putting m said s);
+    ready = tt;
+    refused = tt;
+    no_memory = λ e. absurd cc;
+    failed = is.failed;
+    told = is.told;
+    cause = is.faults;
+  }
+  does_put c (Err SayFault) fresh lawful' is putting same = record {
+    done = tt;
+    any_moment = λ m said s. put_steps m c said s is.time (putting m said s);
+    ready = tt;
+    refused = tt;
+    no_memory = λ e. absurd cc;
+    failed = is.failed;
+    told = is.told;
+    cause = is.faults;
+  }
+  does_put c (Err NoMemory) fresh lawful' is putting same = record {
+    done = tt;
+    any_moment = λ m said s. read_steps old new before after p.text p.cost lawful lawful' ready m c said is.calls s;
+    ready = tt;
+    refused = tt;
+    no_memory = λ e. (is.kept, is.calls);
+    failed = ap (λ (a : SessionState). a.failed) is.kept ∙ fresh;
+    told = told_same old.holds new.holds is.calls.holds;
+    cause = is.faults;
+  }

@@ -1,0 +1,107 @@
+-- A record that was made for a put can be put, and is the put's.
+use Rattle.std.proofs.Common.{◌≡◌, ℕ, ◌+◌, ◌^◌, ◌<◌, ◌≤◌, List, [], length, Option, Some, None, Bool, true, false, cond, ltb, length-append, refl, sym, ap, subst, ◌∙◌, arith}
+use Rattle.std.specs.Prelude.{unwrap_or}
+use Rattle.std.specs.List.{find}
+use Rattle.std.proofs.lemmas.Bool.{and_from, eq-eqb, le-leb, lt-ltb}
+use Rattle.byteorder.specs.Endian.{big_bytes}
+use Rattle.rio_num.specs.Text.{long_form, short_form, text_bytes}
+use Rattle.rio_types.specs.declared.class.ClassDef.{ClassDef}
+use Rattle.rio_key.specs.Written.{written_key}
+use Rattle.rio_key.specs.declared.head.KeyHead.{KeyHead}
+use Rattle.rio_value.specs.declared.value.Value.{Value}
+use Rattle.rio_format.specs.Written.{written_form}
+use Rattle.rio_dir.specs.Table.{head_of, is_at_cycle, with_head}
+use Rattle.rio_chain.specs.Placing.{file_end, place_of, record_count, with_segment}
+use Rattle.rio_chain.specs.Segments.{IsRecord}
+use Rattle.rio_machine.specs.Limits.{head_length}
+use Rattle.rio_machine.specs.State.{State}
+use Rattle.rio_machine.specs.declared.command.Command.TheVariants.{Put}
+use Rattle.rio_record.specs.Record.{new_key, record_bytes}
+use Rattle.rio_record.specs.declared.record.NewRecord.{NewRecord}
+use Rattle.rio_record.specs.declared.words.KeyWords.{KeyWords}
+use Rattle.rio_record.proofs.Records.{key_long}
+use Rattle.rio_state.specs.Closing.{close_need, end_limit, padded_length}
+use Rattle.rio_step.specs.Refusing.{object_class, put_value, refusal_of}
+use Rattle.rio_step.specs.ReplyText.{text_of}
+use Rattle.rio_step.specs.Step.{object_put}
+use Rattle.rio_effect.specs.ObjectRecord.{key_of_put, object_data, object_key, object_record, object_words, record_of_put}
+use Rattle.rio_judge.specs.Judging.{IsStep}
+use Rattle.rio_session.specs.Kept.{is_fit_key, is_sized, kept_with}
+use Rattle.rio_session.specs.Puts.{CanBePut, IsStoredRecord, putting}
+use Rattle.rio_session.specs.Session.{SessionState}
+use Rattle.rio_session.proofs.PutSteps.{IsPutOf}
+use Rattle.rio_session.proofs.Refused.{cost_accepted}
+
+-- a text isn't longer than its bytes
+text_short : (text : List ℕ) → length text ≤ length (text_bytes text)
+text_short text = by (ltb (length text) 255)
+  where
+    by : (b : Bool) → length text ≤ length (cond b (short_form text) (long_form text))
+    by true = omega arith
+    by false = omega (arith, length-append (big_bytes 4 (length text)) text)
+
+module _ (s : SessionState) (place : ℕ) (name : List ℕ) (v : Value) (own : List ℕ) (number size : ℕ) (made : NewRecord) (r : IsStoredRecord s place name v own number size made) where
+  abbrev words : KeyWords
+  words = object_words place s.datime name number own
+
+  abbrev own_key : KeyHead
+  own_key = new_key words (length (object_data s.classes words v))
+
+  pub seek_is : made.head.seek ≡ place
+  seek_is = ap (λ (h : KeyHead). h.seek) r.head
+
+  pub sized_is : is_sized made.head ≡ true
+  sized_is = ap is_sized r.head ∙ eq-eqb (length (written_key own_key)) (head_length own name) (key_long words (length (object_data s.classes words v)))
+
+  pub class_is : made.head.class ≡ own
+  class_is = ap (λ (h : KeyHead). h.class) r.head
+
+  pub name_is : made.head.name ≡ name
+  name_is = ap (λ (h : KeyHead). h.name) r.head
+
+  fit_is : place < 2 ^ 32 → head_length own name ≤ 229 → is_fit_key own_key ≡ true
+  fit_is low short =
+      let class : length own ≤ 65535 = omega (arith, short, text_short own) in
+      let named : length name ≤ 65535 = omega (arith, short, text_short name) in
+      and_from _ _ (and_from _ _ (and_from _ _ (and_from _ _ (lt-ltb place (2 ^ 32) low) refl) (le-leb (length own) 65535 class)) (le-leb (length name) 65535 named)) refl
+
+  pub can_be_put : (need : ℕ) → place < 2 ^ 32 → head_length own name ≤ 229 → place ≡ place_of s.segments (padded_length (head_length own name + size)) → head_of name (Some number) s.heads ≡ None
+      → need ≡ close_need (kept_with s.name (with_head made.head s.heads) (record_count s.segments + 1))
+      → file_end (with_segment (place_of s.segments (padded_length (head_length own name + size))) (padded_length (head_length own name + size)) s.segments) + need ≤ end_limit → CanBePut s made
+  can_be_put need low short at new is room = record {
+    whole = subst (λ (k : ℕ). IsRecord k made.bytes.bytes) (sym seek_is) r.whole;
+    place = seek_is ∙ at ∙ ap (place_of s.segments) (sym r.long);
+    spare = r.spare;
+    new = ap (λ (h : KeyHead). find (is_at_cycle h.name h.cycle) s.heads) r.head ∙ new;
+    sized = sized_is;
+    fit = ap is_fit_key r.head ∙ fit_is low short;
+    room = subst (λ (x : ℕ × (ℕ × ℕ)). file_end (with_segment x.0 x.1.0 s.segments) + x.1.1 ≤ end_limit) (λ i. ((sym at ∙ sym seek_is) i, (sym r.long i, is i))) room;
+  }
+
+  -- by the state
+  module _ (m : State) (value : Value) (classes : s.classes ≡ m.classes) (free : refusal_of m (Put name value) None ≡ None) (step : IsStep m name value v own number size) where
+    own_is : own ≡ unwrap_or (object_class (put_value m value)) []
+    own_is = sym (ap (λ (w : Value). unwrap_or (object_class w) []) (sym step.value) ∙ ap (λ (o : Option (List ℕ)). unwrap_or o []) step.class)
+
+    abbrev key_by : ℕ → List ℕ → Value → List ClassDef → KeyHead
+    key_by k c w cs = let x = object_words place s.datime name k c in new_key x (length (object_data cs x w))
+
+    abbrev bytes_by : ℕ → List ℕ → Value → List ClassDef → List ℕ
+    bytes_by k c w cs = let x = object_words place s.datime name k c in record_bytes x (object_data cs x w)
+
+    pub key_is : made.head ≡ key_of_put m place s.datime name value
+    unfolding object_key
+    key_is = r.head ∙ (λ i. key_by (step.cycle i) (own_is i) (step.value i) (classes i))
+
+    bytes_are : made.bytes.bytes ≡ record_of_put m place s.datime name value
+    unfolding object_record
+    bytes_are = r.bytes ∙ (λ i. bytes_by (step.cycle i) (own_is i) (step.value i) (classes i))
+
+    pub is_put_of : (text : List ℕ) (cost : ℕ) → text ≡ text_of (object_put name number) → cost ≡ 500 + size → IsPutOf m name value place s.datime (putting made text cost)
+    is_put_of text cost is costs = record {
+      place_is = seek_is;
+      bytes = bytes_are;
+      head = key_is;
+      text_is = is ∙ ap (λ (k : ℕ). text_of (object_put name k)) step.cycle;
+      cost_is = costs ∙ ap (λ (k : ℕ). 500 + k) (step.written ∙ ap (λ (w : Value). length (written_form m.classes 0 w)) step.value) ∙ sym (cost_accepted m (Put name value) free);
+    }

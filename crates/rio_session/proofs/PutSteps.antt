@@ -1,0 +1,299 @@
+-- A put is the step of its command.
+use Rattle.std.proofs.Common.{◌≡◌, inl, inr, ℕ, ◌+◌, ◌-◌, ◌*◌, ◌^◌, ◌<◌, ◌≤◌, List, [], ◌∷◌, length, map, min, sum, add-zero, Option, Some, None, Bool, true, false, refl, sym, ap, subst, ◌∙◌, arith}
+use Rattle.std.specs.Prelude.{if◌then◌else◌, is_some, unwrap_or}
+use Rattle.std.specs.FinMap.{entries}
+use Rattle.std.specs.List.{fold, list_all, sum_by}
+use Rattle.std.specs.Option.{option_map_or}
+use Rattle.std.proofs.lemmas.Bool.{cases_lt, eq-eqb, eqb-true}
+use Rattle.std.proofs.lemmas.List.{length-map}
+use Rattle.std.proofs.lemmas.List.Sums.{sum_by-cons}
+use Rattle.rio_num.specs.Word.{is_item_text}
+use Rattle.rio_key.specs.declared.head.KeyHead.{KeyHead}
+use Rattle.rio_key.specs.Written.{written_key}
+use Rattle.rio_value.specs.declared.value.Value.{Value}
+use Rattle.rio_dir.specs.Table.{with_head}
+use Rattle.rio_chain.specs.Changes.{with_record}
+use Rattle.rio_chain.specs.Placing.{file_end, place_of, record_count, with_segment}
+use Rattle.rio_chain.specs.Segments.{Link, chain_end, segment_of}
+use Rattle.rio_chain.proofs.PutChain.{map_end}
+use Rattle.rio_chain.specs.declared.segment.Segment.{Segment}
+use Rattle.rio_model.specs.StateClasses.{StateClasses}
+use Rattle.rio_machine.specs.Limits.{head_length}
+use Rattle.rio_machine.specs.State.{State, next_cycle}
+use Rattle.rio_machine.specs.declared.command.Command.{Command}
+use Rattle.rio_machine.specs.declared.command.Command.TheVariants.{Put}
+use Rattle.rio_machine.specs.declared.command.Outcome.TheVariants.{Refused}
+use Rattle.rio_machine.specs.declared.refusal.Refusal.{Refusal}
+use Rattle.rio_machine.specs.declared.refusal.Refusal.TheVariants.{Full}
+use Rattle.rio_record.proofs.Records.{key_long}
+use Rattle.rio_state.specs.Closing.{close_need, closing_lengths, end_limit, free_length, held_of, is_full, kept_count, kept_in, list_length, padded_length}
+use Rattle.rio_state.specs.DirectoryKeys.{AreKeysOf}
+use Rattle.rio_state.specs.KeyedRecords.{KeyedRecord, info_key, keyed_records}
+use Rattle.rio_state.specs.Left.{info_head}
+use Rattle.rio_state.specs.Reads.{AreRecordsOf}
+use Rattle.rio_step.specs.ItemKeys.{AreKeysOfState, told_by_key}
+use Rattle.rio_step.specs.Refusing.{FullMark, object_class, put_value, refusal_of}
+use Rattle.rio_step.specs.Costs.{cost_of, room_limit, value_size}
+use Rattle.rio_step.specs.ReplyText.{text_of}
+use Rattle.rio_step.specs.Runs.{saved_of}
+use Rattle.rio_step.specs.Step.{Stepped, listed_object, object_put, outcome_of, refused, state_behind}
+use Rattle.rio_state.specs.OneMore.{keyed_bytes}
+use Rattle.rio_effect.specs.Laws.{IsKeptOfState, IsPutRecord, kept_by_keys}
+use Rattle.rio_effect.specs.More.{KeepsOneMore}
+use Rattle.rio_effect.specs.ObjectRecord.{data_of_put, key_of_put, object_key, record_of_put, words_of_put}
+use Rattle.rio_effect.proofs.KeysOfState.{keys_stand_for_state}
+use Rattle.rio_effect.proofs.Held.{held_grows}
+use Rattle.rio_state.proofs.MoreRecords.{record_more}
+use Rattle.rio_effect.proofs.Needs.{need_grows}
+use Rattle.rio_effect.proofs.NeedsByKeys.{need_by_keys as keys_need}
+use Rattle.rio_effect.proofs.PutEffect.{put_takes_effect, puts_have_records, saved_put_takes_effect}
+use Rattle.rio_state.proofs.Stays.{info_stays}
+use Rattle.rio_effect.proofs.PutKeys.{put_key_follows}
+use Rattle.rio_effect.proofs.StateNeeds.{need_of_state}
+use Rattle.rio_judge.specs.Judging.{IsStep}
+use Rattle.rio_session.specs.Kept.{is_sized, kept_with}
+use Rattle.rio_session.specs.Marks.{command_lengths, mark_of, segments_behind, state_need, with_placed}
+use Rattle.rio_session.specs.Puts.{Putting}
+use Rattle.rio_session.specs.Session.{HoldsState, SessionState, next_of}
+use Rattle.rio_session.proofs.Keeps.{all_with, count_with, length_with, size_with}
+use Rattle.rio_session.proofs.Needs.{need_by_keys}
+use Rattle.rio_session.proofs.Places.{end_most, full_is, sum_one}
+use Rattle.rio_session.proofs.PutAnswers.{IsPutting}
+use Rattle.rio_session.proofs.Refused.{refused_full, step_accepted, step_refused}
+use Rattle.rio_session.proofs.Replies.{IsReply}
+use Rattle.rio_session.proofs.States.{Known, known}
+use Rattle.rio_session.proofs.StoredRecords.{no_classes}
+
+sum_two : (f : ℕ → ℕ) (a b : ℕ) → sum_by f (a ∷ b ∷ []) ≡ f a + f b
+sum_two f a b = sum_by-cons f a (b ∷ []) ∙ ap (λ (n : ℕ). f a + n) (sum_by-cons f b [] ∙ add-zero (f b))
+
+-- where what is held passes the limit, the costs pass what there is room for
+lacking : (bound costs cost held : ℕ) → (costs < 2 ^ 64 - 1 → held ≤ bound + costs + 10000) → end_limit < held + cost + 100000 → room_limit < bound + min (costs + cost) (2 ^ 64 - 1)
+lacking bound costs cost held was much = elim (cases_lt costs (2 ^ 64 - 1)) [ inl low ↦ omega (arith, was low, much, low) | inr high ↦ omega (arith, high) ]
+
+-- ---- how many records there are
+
+abbrev info_count : Option KeyedRecord → ℕ
+info_count info = option_map_or (λ (r : KeyedRecord). 1) info 0
+
+no_info : (info : Option KeyedRecord) → is_some (info_head info) ≡ false → info_count info ≡ 0
+no_info None e = refl
+no_info (Some r) e = absurd cc
+
+module _ (s : SessionState) (m : State) (file : List ℕ) (h : HoldsState s m file) (none : length s.classes ≡ 0) (listless : is_some s.info ≡ false) where
+  abbrev pub k : Known h.links s.heads m
+  k = known h.links s.heads m h.records h.keys
+
+  pub empty_classes : length m.classes ≡ 0
+  empty_classes = ap length (sym h.classes) ∙ none
+
+  -- the first record, and one for each key
+  pub count_is : record_count s.segments ≡ 1 + length s.heads
+  count_is =
+      let kept : IsKeptOfState (kept_in h.links) (info_key (keyed_records h.links)) m = need_of_state file h.links s.heads m h.chain.chain h.keys k.records in
+      let objects : length (entries m.objects) ≡ length s.heads = sym (length-map (entries m.objects) listed_object) ∙ ap length (sym k.stand.objects) ∙ length-map s.heads told_by_key in
+      let info : info_count (info_key (keyed_records h.links)) ≡ 0 = no_info (info_key (keyed_records h.links)) (ap is_some (sym h.info) ∙ listless) in
+      sym h.count ∙ kept.count ∙ omega (arith, objects, info)
+
+-- ---- the put
+
+-- the put as the session does it, and as the law of puts has it
+pub record IsPutOf (m : State) (name : List ℕ) (v : Value) (place datime : ℕ) (p : Putting) : Type 0 where
+  pub place_is : p.place ≡ place
+  pub bytes : p.bytes ≡ record_of_put m place datime name v
+  pub head : p.head ≡ key_of_put m place datime name v
+  pub text_is : p.text ≡ text_of (object_put name (next_cycle m name))
+  pub cost_is : p.cost ≡ cost_of m (Put name v)
+
+module _ (s : SessionState) (m : State) (file : List ℕ) (h : HoldsState s m file) (none : length s.classes ≡ 0) (listless : is_some s.info ≡ false) (sized : list_all is_sized s.heads ≡ true)
+    (name : List ℕ) (v stored : Value) (own : List ℕ) (number size place : ℕ) (low : place < 2 ^ 32) (soon : s.datime < 2 ^ 32) (named : is_item_text name ≡ true)
+    (free : refusal_of m (Put name v) None ≡ None) (step : IsStep m name v stored own number size) where
+  abbrev c : Command
+  c = Put name v
+
+  abbrev n : ℕ
+  n = padded_length (head_length own name + size)
+
+  abbrev key : KeyHead
+  key = key_of_put m place s.datime name v
+
+  abbrev after : List Link
+  after = with_record place (record_of_put m place s.datime name v) h.links
+
+  abbrev kn : Known h.links s.heads m
+  kn = known h.links s.heads m h.records h.keys
+
+  classes : StateClasses m.classes
+  classes = no_classes m.classes (empty_classes s m file h none listless)
+
+  own_is : unwrap_or (object_class (put_value m v)) [] ≡ own
+  own_is = ap (λ (w : Value). unwrap_or (object_class w) []) (sym step.value) ∙ ap (λ (o : Option (List ℕ)). unwrap_or o []) step.class
+
+  size_is : value_size m.classes (put_value m v) ≡ size
+  size_is = ap (λ (w : Value). value_size m.classes w) (sym step.value) ∙ sym step.written
+
+  pub key_sized : is_sized key ≡ true
+  unfolding object_key
+  key_sized = eq-eqb (length (written_key key)) (head_length key.class key.name) (key_long (words_of_put m place s.datime name v) (length (data_of_put m place s.datime name v)))
+
+  -- class and name of the key
+  pub key_class : key.class ≡ own
+  unfolding object_key
+  key_class = own_is
+
+  pub key_name : key.name ≡ name
+  unfolding object_key
+  key_name = refl
+
+  records_after : AreRecordsOf (keyed_records after) (state_behind m (Put name v))
+  records_after = put_takes_effect h.links m place s.datime name v None low soon kn.records named free
+
+  keys_after : AreKeysOf (keyed_records after) (with_head key s.heads)
+  keys_after = put_key_follows h.links m s.heads place s.datime name v None low soon kn.records named free h.keys
+
+  stand_after : AreKeysOfState (with_head key s.heads) (state_behind m (Put name v))
+  stand_after = keys_stand_for_state (keyed_records after) (with_head key s.heads) (state_behind m (Put name v)) keys_after records_after
+
+  abbrev need : ℕ
+  need = close_need (kept_with s.name (with_head key s.heads) (record_count s.segments + 1))
+
+  need_is : state_need s.name (state_behind m (Put name v)) ≡ need
+  need_is =
+      let count : 1 + length (with_head key s.heads) ≡ record_count s.segments + 1 = omega (arith, length_with key s.heads, count_is s m file h none listless) in
+      need_by_keys s.name (with_head key s.heads) (state_behind m (Put name v)) stand_after (all_with is_sized key s.heads key_sized sized) (empty_classes s m file h none listless)
+      ∙ ap (λ (k : ℕ). close_need (kept_with s.name (with_head key s.heads) k)) count
+
+  pub lengths_are : command_lengths m (Put name v) ≡ n ∷ []
+  unfolding command_lengths
+  lengths_are = λ i. padded_length (head_length (own_is i) name + size_is i) ∷ []
+
+  abbrev mark_by : List ℕ → ℕ → Option FullMark
+  mark_by lengths k = if is_full s.segments lengths k then Some (record { end = file_end s.segments; wanted = sum lengths }) else None
+
+  mark_is : mark_of s.name s.segments m (Put name v) ≡ mark_by (n ∷ []) need
+  unfolding mark_of
+  mark_is = λ i. mark_by (lengths_are i) (need_is i)
+
+  abbrev told_by : Bool → Option FullMark
+  told_by b = if b then Some (record { end = file_end s.segments; wanted = sum (n ∷ []) }) else None
+
+  pub mark_none : is_full s.segments (n ∷ []) need ≡ false → mark_of s.name s.segments m (Put name v) ≡ None
+  mark_none e = mark_is ∙ ap told_by e
+
+  pub mark_full : is_full s.segments (n ∷ []) need ≡ true → mark_of s.name s.segments m (Put name v) ≡ Some (record { end = file_end s.segments; wanted = n })
+  mark_full e = mark_is ∙ ap told_by e ∙ ap (λ (k : ℕ). let o : Option FullMark = Some (record { end = file_end s.segments; wanted = k }) in o) (sum_one n)
+
+  -- ---- where there is room
+
+  module _ (p : Putting) (is : IsPutOf m name v place s.datime p) (room : is_full s.segments (n ∷ []) need ≡ false) (at : place ≡ place_of s.segments n) (long : length p.bytes ≡ n) where
+    unrefused : refusal_of m (Put name v) (mark_of s.name s.segments m (Put name v)) ≡ None
+    unrefused = ap (refusal_of m (Put name v)) (mark_none room) ∙ free
+
+    next_is : next_of s m (Put name v) ≡ record { state = state_behind m (Put name v); reply = object_put name (next_cycle m name) }
+    next_is = step_accepted m (Put name v) (mark_of s.name s.segments m (Put name v)) unrefused
+
+    pr : IsPutRecord m place s.datime name v
+    pr = puts_have_records m place s.datime name v None low soon classes named free
+
+    grows : KeepsOneMore (kept_in h.links) (kept_in after) key
+    grows = need_grows file h.links place (record_of_put m place s.datime name v) key h.chain.chain pr.read pr.key.top pr.key.object
+
+    put_long : length (record_of_put m place s.datime name v) ≡ n
+    put_long = ap length (sym is.bytes) ∙ long
+
+    segments_are : segments_behind s.name s.segments m (Put name v) ≡ with_segment p.place (length p.bytes) s.segments
+    unfolding segments_behind
+    segments_are =
+        ap (λ (o : Option Refusal). if is_some o then s.segments else fold with_placed s.segments (command_lengths m (Put name v))) unrefused
+        ∙ ap (fold with_placed s.segments) lengths_are
+        ∙ ap (λ (x : ℕ × ℕ). with_segment x.0 x.1 s.segments) (λ i. ((sym at ∙ sym is.place_is) i, sym long i))
+
+    its : Putting
+    its = record p { place = place; bytes = record_of_put m place s.datime name v; head = key }
+
+    its_same : its ≡ p
+    unfolding its
+    its_same = λ i. record p { place = sym is.place_is i; bytes = sym is.bytes i; head = sym is.head i }
+
+    its_putting : IsPutting its s m (Put name v) h.links
+    unfolding its
+    its_putting = record {
+      text_is = is.text_is ∙ ap (λ (t : Stepped). text_of t.reply) (sym next_is);
+      accepted = ap (λ (t : Stepped). outcome_of t.reply) next_is;
+      segments = segments_are ∙ ap (λ (q : Putting). with_segment q.place (length q.bytes) s.segments) (sym its_same);
+      cost_is = is.cost_is;
+      records = subst (λ (k : State). AreRecordsOf (keyed_records after) (saved_of k)) (sym (ap (λ (t : Stepped). t.state) next_is)) (saved_put_takes_effect h.links m place s.datime name v None low soon h.records named free);
+      keys = keys_after;
+      info = info_stays (keyed_records h.links) (keyed_records after) (keyed_bytes key (record_of_put m place s.datime name v)) (record_more h.links place (record_of_put m place s.datime name v) key pr.read) pr.key.other;
+      name = grows.name;
+      count = grows.count;
+      more = count_with place (length (record_of_put m place s.datime name v)) s.segments;
+      classes = ap (λ (t : Stepped). t.state.classes) next_is;
+      held = omega (arith, held_grows file h.links m place s.datime name v low soon h.chain.chain (inl placed) classes named free, is.cost_is);
+    }
+      where
+        placed : place ≡ place_of (map segment_of h.links) (length (record_of_put m place s.datime name v))
+        placed = at ∙ ap (λ (x : List Segment × ℕ). place_of x.0 x.1) (λ i. (h.chain.same i, sym put_long i))
+
+    pub put_is_step : IsPutting p s m (Put name v) h.links
+    put_is_step = subst (λ (q : Putting). IsPutting q s m (Put name v) h.links) its_same its_putting
+
+  -- ---- where there is none
+
+  module _ (full : is_full s.segments (n ∷ []) need ≡ true) where
+    refused_is : refusal_of m (Put name v) (mark_of s.name s.segments m (Put name v)) ≡ Some (Full (file_end s.segments) n)
+    refused_is = ap (refusal_of m (Put name v)) (mark_full full) ∙ refused_full m (Put name v) (record { end = file_end s.segments; wanted = n }) free
+
+    full_next : next_of s m (Put name v) ≡ record { state = m; reply = refused (Full (file_end s.segments) n) }
+    full_next = step_refused m (Put name v) (mark_of s.name s.segments m (Put name v)) (Full (file_end s.segments) n) refused_is
+
+    same_segments : segments_behind s.name s.segments m (Put name v) ≡ s.segments
+    unfolding segments_behind
+    same_segments = ap (λ (o : Option Refusal). if is_some o then s.segments else fold with_placed s.segments (command_lengths m (Put name v))) refused_is
+
+    pub full_reply : (cost : ℕ) → cost ≡ cost_of m (Put name v) → IsReply s m (Put name v) (text_of (refused (Full (file_end s.segments) n))) cost
+    full_reply cost costs = record {
+      stays = ap (λ (t : Stepped). t.state) full_next;
+      text_is = ap (λ (t : Stepped). text_of t.reply) (sym full_next);
+      segments = same_segments;
+      cost_is = costs;
+    }
+
+    pub full_outcome : outcome_of (next_of s m (Put name v)).reply ≡ Refused (Full (file_end s.segments) n)
+    full_outcome = ap (λ (t : Stepped). outcome_of t.reply) full_next
+
+    by_keys : kept_by_keys h.links s.heads ≡ kept_with s.name s.heads (record_count s.segments)
+    unfolding kept_in
+    by_keys =
+        let info : info_count (info_key (keyed_records h.links)) ≡ 0 = no_info (info_key (keyed_records h.links)) (ap is_some (sym h.info) ∙ listless) in
+        let count : kept_count (info_key (keyed_records h.links)) s.heads ≡ record_count s.segments = omega (arith, info, count_is s m file h none listless) in
+        λ i. record { name = h.name i; heads = s.heads; count = count i }
+
+    closing_is : closing_lengths (kept_with s.name s.heads (record_count s.segments)) ≡ closing_lengths (kept_in h.links)
+    closing_is = ap closing_lengths (sym by_keys) ∙ keys_need h.links s.heads m h.keys kn.records
+
+    first_of_two : List ℕ → ℕ
+    first_of_two [] = 0
+    first_of_two (x ∷ xs) = x
+
+    second_of_two : List ℕ → ℕ
+    second_of_two [] = 0
+    second_of_two (x ∷ xs) = first_of_two xs
+
+    held_is : held_of h.links ≡ file_end s.segments + (list_length (kept_with s.name s.heads (record_count s.segments)) + 3 + (free_length (kept_with s.name s.heads (record_count s.segments)) + 3))
+    unfolding held_of
+    held_is =
+        let end : chain_end h.links ≡ file_end s.segments = sym (map_end 100 h.links) ∙ ap file_end (sym h.chain.same) in
+        ap (λ (l : List ℕ). chain_end h.links + sum_by (λ k. k + 3) l) (sym closing_is)
+        ∙ ap (λ (e : ℕ). e + sum_by (λ k. k + 3) (closing_lengths (kept_with s.name s.heads (record_count s.segments)))) end
+        ∙ ap (λ (k : ℕ). file_end s.segments + k) (sum_two (λ k. k + 3) (list_length (kept_with s.name s.heads (record_count s.segments))) (free_length (kept_with s.name s.heads (record_count s.segments))))
+
+    need_most : need ≤ list_length (kept_with s.name s.heads (record_count s.segments)) + head_length own name + 3 + (free_length (kept_with s.name s.heads (record_count s.segments)) + 13)
+    unfolding close_need
+    need_most =
+        let long : length (written_key key) ≡ head_length own name = eqb-true (length (written_key key)) (head_length key.class key.name) key_sized ∙ ap (λ (x : List ℕ × List ℕ). head_length x.0 x.1) (λ i. (key_class i, key_name i)) in
+        omega (arith, sum_two padded_length (list_length (kept_with s.name (with_head key s.heads) (record_count s.segments + 1))) (free_length (kept_with s.name (with_head key s.heads) (record_count s.segments + 1))), size_with key s.heads, long)
+
+    pub full_lacks : (cost : ℕ) → cost ≡ 500 + size → head_length own name ≤ 229 → room_limit < 3 * s.opened + min (s.costs + cost) (2 ^ 64 - 1)
+    full_lacks cost is short = lacking (3 * s.opened) s.costs cost (held_of h.links) h.held
+        (omega (arith, held_is, need_most, full_is s.segments n need full, end_most n s.segments, short, is))

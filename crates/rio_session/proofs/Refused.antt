@@ -1,0 +1,85 @@
+-- Refusals with a mark and without one.
+use Rattle.std.proofs.Common.{◌≡◌, List, [], ◌∷◌, ◌++◌, Option, Some, None, cond, refl, sym, ap, ◌∙◌}
+use Rattle.std.specs.Prelude.{is_some}
+use Rattle.std.specs.Option.{option_or}
+use Rattle.rio_machine.specs.State.{State}
+use Rattle.rio_machine.specs.declared.command.Command.{Command}
+use Rattle.rio_machine.specs.declared.refusal.Refusal.{Refusal}
+use Rattle.rio_machine.specs.declared.refusal.Refusal.TheVariants.{Full, BadName, NoSuchName, NoSuchCycle, NameIsTree, NotATree, NameInUse, NoSuchClass, SameVersion, HoldsItself, DoesNotFit, BadRow, NoVersion, CycleLimit, TooLarge, TooDeep, TooMany}
+use Rattle.rio_step.specs.Costs.{accepted_cost, cost_of}
+use Rattle.rio_step.specs.Refusing.{FullMark, bad_line, first_of, goes_too_deep, has_bad_name, has_too_many, is_at_last_cycle, is_bad_row, is_name_in_use, is_object_name, is_same_version, is_too_large, is_tree_name, is_unfit, kind_change, lacks_class, lacks_cycle, lacks_name, lacks_version, marked_full, refusal_of, refusals, refused_if, would_hold_itself}
+use Rattle.rio_step.specs.Step.{by_refusal, refused, reply_to, state_behind, step}
+
+-- all tests but that of room
+abbrev pub own_refusals : State → Command → List (Option Refusal)
+own_refusals m c =
+    bad_line c
+    ∷ refused_if (has_bad_name c) BadName
+    ∷ refused_if (lacks_name m c) NoSuchName
+    ∷ refused_if (lacks_cycle m c) NoSuchCycle
+    ∷ refused_if (is_tree_name m c) NameIsTree
+    ∷ refused_if (is_object_name m c) NotATree
+    ∷ refused_if (is_name_in_use m c) NameInUse
+    ∷ refused_if (lacks_class m c) NoSuchClass
+    ∷ refused_if (is_same_version m c) SameVersion
+    ∷ refused_if (would_hold_itself m c) HoldsItself
+    ∷ refused_if (is_unfit m c) DoesNotFit
+    ∷ refused_if (is_bad_row m c) BadRow
+    ∷ kind_change m c
+    ∷ refused_if (lacks_version m c) NoVersion
+    ∷ refused_if (is_at_last_cycle m c) CycleLimit
+    ∷ refused_if (is_too_large m c) TooLarge
+    ∷ refused_if (goes_too_deep m c) TooDeep
+    ∷ refused_if (has_too_many m c) TooMany
+    ∷ []
+
+or_none : {A : Type 0} (x : Option A) → option_or x None ≡ x
+or_none None = refl
+or_none (Some x) = refl
+
+or_in : {A : Type 0} (x y z : Option A) → option_or x (option_or y z) ≡ option_or (option_or x y) z
+or_in None y z = refl
+or_in (Some x) y z = refl
+
+first-behind : {A : Type 0} (xs : List (Option A)) (x : Option A) → first_of (xs ++ x ∷ []) ≡ option_or (first_of xs) x
+first-behind [] x = or_none x
+first-behind (y ∷ xs) x = ap (option_or y) (first-behind xs x) ∙ or_in y (first_of xs) x
+
+refusals_are : (m : State) (c : Command) (mark : Option FullMark) → refusals m c mark ≡ own_refusals m c ++ marked_full mark ∷ []
+refusals_are m c mark = refl
+
+refusal_is : (m : State) (c : Command) (mark : Option FullMark) → refusal_of m c mark ≡ option_or (first_of (own_refusals m c)) (marked_full mark)
+unfolding refusal_of
+refusal_is m c mark = ap first_of (refusals_are m c mark) ∙ first-behind (own_refusals m c) (marked_full mark)
+
+-- without a mark the command's own refusal is told
+own_is : (m : State) (c : Command) → refusal_of m c None ≡ first_of (own_refusals m c)
+own_is m c = refusal_is m c None ∙ or_none (first_of (own_refusals m c))
+
+-- a command's own refusal is told whatever the mark
+pub refused_anyway : (m : State) (c : Command) (mark : Option FullMark) (refusal : Refusal) → refusal_of m c None ≡ Some refusal → refusal_of m c mark ≡ Some refusal
+refused_anyway m c mark refusal is =
+    refusal_is m c mark ∙ ap (λ (o : Option Refusal). option_or o (marked_full mark)) (sym (own_is m c) ∙ is)
+
+-- and where there is none, want of room
+pub refused_full : (m : State) (c : Command) (mark : FullMark) → refusal_of m c None ≡ None → refusal_of m c (Some mark) ≡ Some (Full mark.end mark.wanted)
+refused_full m c mark is =
+    refusal_is m c (Some mark) ∙ ap (λ (o : Option Refusal). option_or o (marked_full (Some mark))) (sym (own_is m c) ∙ is)
+
+-- ---- steps
+
+pub step_refused : (m : State) (c : Command) (mark : Option FullMark) (refusal : Refusal) → refusal_of m c mark ≡ Some refusal → step m c mark ≡ record { state = m; reply = refused refusal }
+unfolding step
+step_refused m c mark refusal is = ap (by_refusal m c) is
+
+pub step_accepted : (m : State) (c : Command) (mark : Option FullMark) → refusal_of m c mark ≡ None → step m c mark ≡ record { state = state_behind m c; reply = reply_to m c }
+unfolding step
+step_accepted m c mark is = ap (by_refusal m c) is
+
+pub cost_refused : (m : State) (c : Command) (refusal : Refusal) → refusal_of m c None ≡ Some refusal → cost_of m c ≡ 0
+unfolding cost_of
+cost_refused m c refusal is = ap (λ (o : Option Refusal). cond (is_some o) 0 (accepted_cost m c)) is
+
+pub cost_accepted : (m : State) (c : Command) → refusal_of m c None ≡ None → cost_of m c ≡ accepted_cost m c
+unfolding cost_of
+cost_accepted m c is = ap (λ (o : Option Refusal). cond (is_some o) 0 (accepted_cost m c)) is

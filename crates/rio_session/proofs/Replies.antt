@@ -1,0 +1,220 @@
+-- Commands that do no more than say a reply.
+use Rattle.std.proofs.Common.{◌≡◌, inl, inr, ⊎_elim, ℕ, ◌+◌, ◌*◌, ◌-◌, ◌^◌, ◌<◌, ◌≤◌, min, false, List, [], ◌++◌, take, Option, Some, None, Result, Ok, Err, IfOk, refl, sym, ap, subst, ◌∙◌, arith}
+use Rattle.std.proofs.lemmas.List.{append-nil}
+use Rattle.rio_host.specs.Host.{Becomes, Elapses, IsLawful, Leaves, Longer, Rose, Speaking, Unwritten, View}
+use Rattle.rio_host.specs.OnlyReads.{OnlyReads}
+use Rattle.rio_host.proofs.Images.{becomes_some}
+use Rattle.rio_host.proofs.Moments.{elapses_as, elapses_join, leaves_back, says_quiet}
+use Rattle.rio_chain.specs.Chains.{HasChain}
+use Rattle.rio_chain.specs.Segments.{Link}
+use Rattle.rio_chain.specs.Stops.{Any}
+use Rattle.rio_machine.specs.State.{State}
+use Rattle.rio_machine.specs.declared.command.Command.{Command}
+use Rattle.rio_machine.specs.declared.command.Outcome.{Outcome}
+use Rattle.rio_machine.specs.declared.command.Outcome.TheVariants.{Accepted, Refused}
+use Rattle.rio_state.specs.Closing.{held_of}
+use Rattle.rio_step.specs.Costs.{cost_of}
+use Rattle.rio_step.specs.ReplyText.{text_of}
+use Rattle.rio_step.specs.Step.{Stepped, outcome_of}
+use Rattle.rio_session.specs.Causes.{StaysIfRefused}
+use Rattle.rio_session.specs.Does.{Does}
+use Rattle.rio_session.specs.Gets.{IsSaid}
+use Rattle.rio_session.specs.Marks.{segments_behind}
+use Rattle.rio_session.specs.Says.{NotSaid, Said, Says}
+use Rattle.rio_session.specs.Session.{HoldsState, IsOpenAs, IsReady, LacksRoomIfFull, SessionState, StandsFor, Steps, Went, next_of}
+use Rattle.rio_session.specs.declared.fault.SessionFault.{SessionFault}
+use Rattle.rio_session.specs.declared.fault.SessionFault.TheVariants.{HostFault, SayFault, NoMemory}
+use Rattle.rio_session.proofs.Opened.{reads_open}
+
+-- ---- what is told
+
+-- told before and told after
+pub told_same : (a b : Option (List ℕ)) → b ≡ a → Becomes Any a b
+told_same a b same = subst (λ (o : Option (List ℕ)). Becomes Any a o) (sym same) (by a)
+  where
+    by : (o : Option (List ℕ)) → Becomes Any o o
+    by (Some x) = (x, refl, tt)
+    by None = refl
+
+-- ---- what a command that only says a reply is about
+
+-- the command leaves the state, this is its reply, and it has no records
+pub record IsReply (s : SessionState) (m : State) (c : Command) (text : List ℕ) (cost : ℕ) : Type 0 where
+  pub stays : (next_of s m c).state ≡ m
+  pub text_is : text ≡ text_of (next_of s m c).reply
+  pub segments : segments_behind s.name s.segments m c ≡ s.segments
+  pub cost_is : cost ≡ cost_of m c
+
+-- the bound of what is held stays with higher costs
+held_costs : (held bound costs cost : ℕ) → (costs < 2 ^ 64 - 1 → held ≤ bound + costs + 10000) → min (costs + cost) (2 ^ 64 - 1) < 2 ^ 64 - 1 → held ≤ bound + min (costs + cost) (2 ^ 64 - 1) + 10000
+held_costs held bound costs cost was low = omega (arith, was (omega (arith, low)), low)
+
+pub counted_state : (s : SessionState) (cost : ℕ) (m : State) (file : List ℕ) → HoldsState s m file → HoldsState (record s { costs = min (s.costs + cost) (2 ^ 64 - 1) }) m file
+counted_state s cost m file h = record {
+  links = h.links;
+  chain = h.chain;
+  head = h.head;
+  records = h.records;
+  classes = h.classes;
+  keys = h.keys;
+  info = h.info;
+  name = h.name;
+  count = h.count;
+  held = held_costs (held_of h.links) (3 * s.opened) s.costs cost h.held;
+}
+
+module _ (old new : View) (before after : SessionState) (text : List ℕ) (cost : ℕ) (lawful : IsLawful old) (lawful' : IsLawful new) (ready : IsReady old before) where
+  -- what a stop leaves while the reply is said
+  pub speaks : (m : State) (c : Command) (said : List ℕ) → Elapses old new (Speaking text old) → IsReply before m c text cost → StandsFor old before m said → Elapses old new (Steps m (next_of before m c) said)
+  speaks m c said time reply s = elapses_as (Steps m next said) (Speaking text old) time (λ i t spoken. inr (open_now i spoken.0 spoken.1, (spoken.2.0, told i t spoken.0 spoken.1 spoken.2.0 spoken.2.1)))
+    where
+      next : Stepped
+      next = next_of before m c
+
+      open_now : (i t : List ℕ) → Leaves old i t → IsOpenAs (next_of before m c).state i
+      open_now i t left =
+          let is = ready.quiet i t s.file left s.holds in
+          subst (λ (n : State). IsOpenAs n i) (sym reply.stays) (subst (λ (f : List ℕ). IsOpenAs m f) (sym is) (reads_open s.file before.nbytes_name s.state.links m s.state.head s.state.chain.chain s.state.records))
+
+      told : (i t u : List ℕ) → Leaves old i u → (k : ℕ) → t ≡ u ++ take k text → t ≡ said ++ take k (text_of (next_of before m c).reply)
+      told i t u left k is =
+          is ∙ ap (λ (l : List ℕ). l ++ take k text) (lawful.text i u said left s.said) ∙ ap (λ (l : List ℕ). said ++ take k l) reply.text_is
+
+  -- nothing was written or said
+  pub read_steps : (m : State) (c : Command) (said : List ℕ) → OnlyReads old new → StandsFor old before m said → Elapses old new (Steps m (next_of before m c) said)
+  read_steps m c said calls s = elapses_as (Steps m (next_of before m c) said) (Leaves old) calls.time (λ i t left. inl (
+    subst (λ (f : List ℕ). IsOpenAs m f) (sym (ready.quiet i t s.file left s.holds)) (reads_open s.file before.nbytes_name s.state.links m s.state.head s.state.chain.chain s.state.records),
+    lawful.text i t said left s.said,
+  ))
+
+  -- session and host, once it is said
+  pub said_stands : (m : State) (c : Command) (said : List ℕ) → Said text cost old new before after → IsReply before m c text cost → StandsFor old before m said
+      → StandsFor new after (next_of before m c).state (said ++ text_of (next_of before m c).reply)
+  said_stands m c said is reply s =
+      let grown = becomes_some (Longer text) old.said new.said said s.said is.says in
+      record {
+        file = s.file;
+        holds = is.holds ∙ s.holds;
+        said = grown.1 ∙ ap (λ (l : List ℕ). let o : Option (List ℕ) = Some l in o) (grown.2 ∙ ap (λ (l : List ℕ). said ++ l) reply.text_is);
+        state = subst (λ (n : State). HoldsState after n s.file) (sym reply.stays) (subst (λ (a : SessionState). HoldsState a m s.file) (sym is.kept) (counted_state before cost m s.file s.state));
+      }
+
+  pub said_went : (m : State) (c : Command) (said : List ℕ) (outcome : Outcome) → Said text cost old new before after → IsReply before m c text cost → outcome ≡ outcome_of (next_of before m c).reply
+      → LacksRoomIfFull after outcome → StandsFor old before m said → Went old new before after m c said outcome
+  said_went m c said outcome is reply same full s = record {
+    time = speaks m c said is.time reply s;
+    stands = said_stands m c said is reply s;
+    follows = record {
+      segments = ap (λ (a : SessionState). a.segments) is.kept ∙ sym reply.segments;
+      name = ap (λ (a : SessionState). a.name) is.kept;
+      datime = ap (λ (a : SessionState). a.datime) is.kept;
+      opened = ap (λ (a : SessionState). a.opened) is.kept;
+      costs = ap (λ (a : SessionState). a.costs) is.kept ∙ ap (λ (n : ℕ). min (before.costs + n) (2 ^ 64 - 1)) reply.cost_is;
+    };
+    outcome_is = same;
+    full = full;
+  }
+
+  pub said_ready : Said text cost old new before after → IsReady new after
+  said_ready is = record {
+    quiet = says_quiet text lawful' ready.quiet is.time is.holds;
+    chain = λ file told. let c = ready.chain file (sym is.holds ∙ told) in subst (λ (a : SessionState). (links : List Link) × HasChain links a.segments file) (sym is.kept) c;
+  }
+
+  said_unwritten : Elapses old new (Speaking text old) → Unwritten old new
+  said_unwritten time = elapses_as _ (Speaking text old) time (λ i t spoken. (spoken.0, spoken.1))
+
+  pub said_stays : (outcome : Outcome) → Said text cost old new before after → StaysIfRefused old new outcome
+  said_stays Accepted is = tt
+  said_stays (Refused refusal) is = (is.holds, said_unwritten is.time)
+
+  -- what such a command answers, in all clauses
+  pub does_says : (c : Command) (answer : Result Outcome SessionFault) → before.failed ≡ false → Says text cost old new before after answer
+      → (IsSaid answer → (m : State) (said : List ℕ) → StandsFor old before m said → IsReply before m c text cost)
+      → IfOk answer (λ outcome. (m : State) (said : List ℕ) → StandsFor old before m said → (outcome ≡ outcome_of (next_of before m c).reply) × LacksRoomIfFull after outcome)
+      → Does old new before after c answer
+  does_says c (Ok outcome) fresh is reply same = record {
+    done = λ m said s. said_went m c said outcome is (reply tt m said s) (same m said s).0 (same m said s).1 s;
+    any_moment = tt;
+    ready = said_ready is;
+    refused = said_stays outcome is;
+    no_memory = λ e. absurd cc;
+    failed = ap (λ (a : SessionState). a.failed) is.kept ∙ fresh;
+    told = told_same old.holds new.holds is.holds;
+    cause = is.faults;
+  }
+  does_says c (Err HostFault) fresh is reply same = record {
+    done = tt;
+    any_moment = λ m said s. read_steps m c said is.calls s;
+    ready = tt;
+    refused = tt;
+    no_memory = λ e. absurd cc;
+    failed = is.failed;
+    told = told_same old.holds new.holds is.calls.holds;
+    cause = is.faults;
+  }
+  does_says c (Err SayFault) fresh is reply same = record {
+    done = tt;
+    any_moment = λ m said s. speaks m c said is.time (reply tt m said s) s;
+    ready = tt;
+    refused = tt;
+    no_memory = λ e. absurd cc;
+    failed = is.failed;
+    told = told_same old.holds new.holds is.holds;
+    cause = is.faults;
+  }
+  does_says c (Err NoMemory) fresh is reply same = record {
+    done = tt;
+    any_moment = λ m said s. read_steps m c said is.calls s;
+    ready = tt;
+    refused = tt;
+    no_memory = λ e. (is.kept, is.calls);
+    failed = ap (λ (a : SessionState). a.failed) is.kept ∙ fresh;
+    told = told_same old.holds new.holds is.calls.holds;
+    cause = is.faults;
+  }
+
+-- ---- calls that read, and then a reply
+
+module _ (text : List ℕ) (old mid new : View) (law : IsLawful mid) (calls : OnlyReads old mid) (disk : mid.disk_faults ≡ old.disk_faults) where
+  spoken_before : (i t : List ℕ) → Leaves old i t → Speaking text old i t
+  spoken_before i t left = (t, left, (0, sym (append-nil t)))
+
+  left_before : (i t : List ℕ) → Leaves mid i t → Leaves old i t
+  left_before i t left = ⊎_elim (λ (was : Leaves old i t). was) (λ (is : Leaves old i t). is) (leaves_back law calls.time i t left)
+
+  time_before : Elapses mid new (Speaking text mid) → Elapses old new (Speaking text old)
+  time_before time = elapses_join (Speaking text mid) (elapses_as (Speaking text old) (Leaves old) calls.time spoken_before) time (λ i t spoken. (spoken.0, left_before i spoken.0 spoken.1, spoken.2))
+
+  pub reads_then_said : (cost : ℕ) (before after : SessionState) → Said text cost mid new before after → Said text cost old new before after
+  reads_then_said cost before after is = record {
+    time = time_before is.time;
+    holds = is.holds ∙ calls.holds;
+    says = subst (λ (o : Option (List ℕ)). Becomes (Longer text) o new.said) calls.said is.says;
+    faults = (is.faults.0 ∙ disk, is.faults.1 ∙ calls.say_faults);
+    kept = is.kept;
+  }
+
+  pub reads_not_said : (after : SessionState) → NotSaid text mid new after → NotSaid text old new after
+  reads_not_said after is = record {
+    time = time_before is.time;
+    holds = is.holds ∙ calls.holds;
+    faults = (is.faults.0 ∙ disk, subst (λ (n : ℕ). Rose n new.say_faults) calls.say_faults is.faults.1);
+    failed = is.failed;
+  }
+
+-- ---- nothing done
+
+stays_so : (v : View) → OnlyReads v v
+stays_so v = record {
+  time = record { later = omega arith; nothing_else = λ t i s le left. inl left; keeps = λ t i s le left. left };
+  holds = refl;
+  said = refl;
+  reads = omega arith;
+  disk_faults = omega arith;
+  say_faults = refl;
+}
+
+pub does_nothing : (v : View) (s : SessionState) (c : Command) → IsLawful v → IsReady v s → s.failed ≡ false → Does v v s s c (Err NoMemory)
+does_nothing v s c law ready fresh =
+    does_says v v s s [] 0 law law ready c (Err NoMemory) fresh (record { calls = stays_so v; faults = (refl, refl); kept = refl }) (λ said. absurd said) tt

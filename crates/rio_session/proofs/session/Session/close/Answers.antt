@@ -1,0 +1,73 @@
+use Rattle.std.proofs.Common.{◌∙◌, refl, ap}
+use Rattle.std.specs.Option.{option_copied}
+use Rattle.std.proofs.lemmas.Result.{err_from_is_err_and}
+use Rattle.rio_chain.specs.Chains.{ChainState}
+use Rattle.rio_close.specs.Leaving.{IsReadyToClose}
+use Rattle.rio_close.specs.Written.{OpenFile}
+use Rattle.rio_session.specs.Session.{SessionState}
+use Rattle.rio_session.proofs.CloseRoom.{fits_all, need_low}
+use Rattle.rio_session.proofs.CloseStates.{closing_time, holds_open, leaves_closed}
+use Rattle.rio_session.proofs.session.Session.close.Goals as goal
+
+pub close_records-requires-clause-heads : goal.close_records-requires-clause-heads
+close_records-requires-clause-heads g c =
+    fits_all c.self.inside.table.heads (c.self.invariant.kept (ap (λ (s : SessionState). s.failed) c.self.view_is ∙ c.requires.fresh)).fit
+
+pub close_records-requires-clause-low : goal.close_records-requires-clause-low
+close_records-requires-clause-low g c =
+    need_low c.self.inside.chain.segments c.reserve.new.self.segments c.self.inside.table.heads c.self.inside.name c.as_slice.result.now
+    (c.self.invariant.kept (ap (λ (s : SessionState). s.failed) c.self.view_is ∙ c.requires.fresh))
+    (ap (λ (s : ChainState). s.segments) c.in_ok-reserve.ensures.ok) c.as_slice.ensures
+
+pub returns-in_err-write_close-clause-any_moment : goal.returns-in_err-write_close-clause-any_moment
+returns-in_err-write_close-clause-any_moment g c m text stands =
+    let f : OpenFile = record {
+      segments = c.reserve.new.self.segments;
+      heads = c.self.inside.table.heads;
+      info = option_copied c.as_ref.result;
+      name = c.as_slice.result.now;
+      nbytes_name = c.self.inside.nbytes_name;
+      datime = c.self.inside.datime;
+    } in
+    let held = holds_open (g.H.Host.view c.args.host.now) c.args.self m text stands f
+    (ap (λ (s : ChainState). s.segments) c.in_ok-reserve.ensures.ok ∙ ap (λ (s : SessionState). s.segments) c.self.view_is) (ap (λ (s : SessionState). s.heads) c.self.view_is)
+    (c.as_ref.ensures.value ∙ ap (λ (s : SessionState). s.info) c.self.view_is) (ap (λ (s : SessionState). s.nbytes_name) c.self.view_is) in
+    let ready : IsReadyToClose (g.H.Host.view c.args.host.now) c.reserve.new.self.segments c.in_ok-records.records f m = record { held = held; same = refl; made = c.in_ok-records.ensures } in
+    closing_time (g.H.Host.view c.args.host.now) c.args.self m text stands (g.H.Host.view c.write_close.new.host) (c.write_close.ensures.any_moment f m ready)
+
+pub returns-in_err-write_close-clause-cause : goal.returns-in_err-write_close-clause-cause
+returns-in_err-write_close-clause-cause g c =
+    let p = err_from_is_err_and c.from_residual-in_err-write_close.result c.from_residual-in_err-write_close.ensures.1 in
+    rw (p.1, p.2) (c.in_err-write_close.ensures.cause refl, c.write_close.ensures.say_faults)
+
+pub returns-clause-any_moment : goal.returns-clause-any_moment
+returns-clause-any_moment g c m text stands =
+    let f : OpenFile = record {
+      segments = c.reserve.new.self.segments;
+      heads = c.self.inside.table.heads;
+      info = option_copied c.as_ref.result;
+      name = c.as_slice.result.now;
+      nbytes_name = c.self.inside.nbytes_name;
+      datime = c.self.inside.datime;
+    } in
+    let held = holds_open (g.H.Host.view c.args.host.now) c.args.self m text stands f
+    (ap (λ (s : ChainState). s.segments) c.in_ok-reserve.ensures.ok ∙ ap (λ (s : SessionState). s.segments) c.self.view_is) (ap (λ (s : SessionState). s.heads) c.self.view_is)
+    (c.as_ref.ensures.value ∙ ap (λ (s : SessionState). s.info) c.self.view_is) (ap (λ (s : SessionState). s.nbytes_name) c.self.view_is) in
+    let ready : IsReadyToClose (g.H.Host.view c.args.host.now) c.reserve.new.self.segments c.in_ok-records.records f m = record { held = held; same = refl; made = c.in_ok-records.ensures } in
+    closing_time (g.H.Host.view c.args.host.now) c.args.self m text stands (g.H.Host.view c.write_close.new.host) (c.write_close.ensures.any_moment f m ready)
+
+pub returns-clause-closed : goal.returns-clause-closed
+returns-clause-closed g c m text stands image said left =
+    let f : OpenFile = record {
+      segments = c.reserve.new.self.segments;
+      heads = c.self.inside.table.heads;
+      info = option_copied c.as_ref.result;
+      name = c.as_slice.result.now;
+      nbytes_name = c.self.inside.nbytes_name;
+      datime = c.self.inside.datime;
+    } in
+    let held = holds_open (g.H.Host.view c.args.host.now) c.args.self m text stands f
+    (ap (λ (s : ChainState). s.segments) c.in_ok-reserve.ensures.ok ∙ ap (λ (s : SessionState). s.segments) c.self.view_is) (ap (λ (s : SessionState). s.heads) c.self.view_is)
+    (c.as_ref.ensures.value ∙ ap (λ (s : SessionState). s.info) c.self.view_is) (ap (λ (s : SessionState). s.nbytes_name) c.self.view_is) in
+    let ready : IsReadyToClose (g.H.Host.view c.args.host.now) c.reserve.new.self.segments c.in_ok-records.records f m = record { held = held; same = refl; made = c.in_ok-records.ensures } in
+    leaves_closed (g.H.Host.view c.args.host.now) c.args.self m text stands (g.H.Host.view c.write_close.new.host) c.in_ok-write_close.ensures.quiet (c.in_ok-write_close.ensures.closed f m ready) image said left

@@ -1,0 +1,47 @@
+use Rattle.std.proofs.Common.{◌∙◌, length, refl, sym, ap}
+use Rattle.rio_chain.specs.Chains.{ChainState}
+use Rattle.rio_dir.specs.Table.{TableRoom, heads_size}
+use Rattle.rio_session.proofs.OpenMoments.{making_time, unborn_empty}
+use Rattle.rio_session.proofs.OpenNew.{directory_before_end, kept_new, stands_new}
+use Rattle.rio_session.proofs.session.Session.open.Goals as goal
+
+pub returns-in_err-chain-clause-any_moment : goal.returns-in_err-chain-clause-any_moment
+returns-in_err-chain-clause-any_moment g c file text m quiet holds said reads =
+    let law = g.met.H.Host.lawful in
+    making_time file text m _ _ _ _ (law c.args.host.now) (law c.check_unborn.new.host) quiet holds said (c.in_ok-check_unborn.ensures.tells file holds) reads
+    c.check_unborn.ensures.calls c.sync.ensures.disk (c.create.ensures.any_moment file (c.sync.ensures.holds ∙ c.check_unborn.ensures.calls.holds ∙ holds))
+
+pub invariant_of-result : goal.invariant_of-result
+invariant_of-result g c = record {
+  kept = λ fresh. kept_new c.in_ok-chain.field-0.chain.segments c.new-2.result.heads c.args.name.now c.in_ok-own.own c.requires.short
+      (ap (λ (s : ChainState). s.segments) c.in_ok-chain.ensures.chain) c.in_ok-chain.ensures.low (ap (λ (t : TableRoom). t.heads) c.new-2.ensures) c.in_ok-own.ensures;
+  fresh = λ fresh. ap (λ (s : ChainState). s.spent) c.in_ok-chain.ensures.chain;
+  bytes = λ fresh. sym (ap (λ (t : TableRoom). heads_size t.heads) c.new-2.ensures);
+  directory = λ fresh. directory_before_end c.in_ok-chain.field-0.chain.segments c.args.name.now c.in_ok-chain.field-0.nbytes_name
+      (ap (λ (s : ChainState). s.segments) c.in_ok-chain.ensures.chain) c.in_ok-chain.ensures.name;
+  no_classes = ap length c.new.ensures;
+  no_list = refl;
+}
+
+pub returns-clause-any_moment : goal.returns-clause-any_moment
+returns-clause-any_moment g c file text m quiet holds said reads =
+    let law = g.met.H.Host.lawful in
+    making_time file text m _ _ _ _ (law c.args.host.now) (law c.check_unborn.new.host) quiet holds said (c.in_ok-check_unborn.ensures.tells file holds) reads
+    c.check_unborn.ensures.calls c.sync.ensures.disk (c.create.ensures.any_moment file (c.sync.ensures.holds ∙ c.check_unborn.ensures.calls.holds ∙ holds))
+
+pub returns-clause-stands : goal.returns-clause-stands
+returns-clause-stands g c file text m holds said reads =
+    stands_new (g.H.Host.view c.create.new.host) _ c.args.name.now c.args.datime m text
+    (unborn_empty file m (c.in_ok-check_unborn.ensures.tells file holds) reads)
+    (record {
+      segments = ap (λ (s : ChainState). s.segments) c.in_ok-chain.ensures.chain;
+      classes = c.new.ensures;
+      heads = ap (λ (t : TableRoom). t.heads) c.new-2.ensures;
+      info = refl;
+      name_is = c.in_ok-own.ensures;
+      nbytes_name = c.in_ok-chain.ensures.name;
+      opened = refl;
+      costs = refl;
+    })
+    (c.create.ensures.said ∙ c.sync.ensures.disk.said ∙ c.check_unborn.ensures.calls.said ∙ said)
+    (c.in_ok-chain.ensures.made file (c.sync.ensures.holds ∙ c.check_unborn.ensures.calls.holds ∙ holds))

@@ -1,0 +1,22 @@
+-- What a command does, in all clauses together.
+use Rattle.std.specs.Prelude.{◌≡◌, ℕ, List, IfOk, OnOk, OnErr, IsErrOf, Result}
+use Rattle.rio_host.specs.Host.{Becomes, Elapses, View}
+use Rattle.rio_host.specs.OnlyReads.{OnlyReads}
+use Rattle.rio_chain.specs.Stops.{Any}
+use Rattle.rio_machine.specs.State.{State}
+use Rattle.rio_machine.specs.declared.command.Command.{Command}
+use Rattle.rio_machine.specs.declared.command.Outcome.{Outcome}
+use Rattle.rio_session.specs.Causes.{IsSessionCause, StaysIfRefused, fails_by}
+use Rattle.rio_session.specs.Session.{IsReady, SessionState, StandsFor, Steps, Went, next_of}
+use Rattle.rio_session.specs.declared.fault.SessionFault.{SessionFault}
+use Rattle.rio_session.specs.declared.fault.SessionFault.TheVariants.{NoMemory}
+
+pub record Does (old new : View) (before after : SessionState) (c : Command) (answer : Result Outcome SessionFault) : Type 0 where
+  pub done : IfOk answer (λ outcome. (m : State) (text : List ℕ) → StandsFor old before m text → Went old new before after m c text outcome)
+  pub any_moment : OnErr answer ((m : State) (text : List ℕ) → StandsFor old before m text → Elapses old new (Steps m (next_of before m c) text))
+  pub ready : OnOk answer (IsReady new after)
+  pub refused : IfOk answer (StaysIfRefused old new)
+  pub no_memory : IsErrOf answer NoMemory → (after ≡ before) × OnlyReads old new
+  pub failed : after.failed ≡ fails_by answer
+  pub told : Becomes Any old.holds new.holds
+  pub cause : IsSessionCause old new answer

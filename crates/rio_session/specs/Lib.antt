@@ -1,0 +1,9 @@
+pub mod Causes
+pub mod Does
+pub mod Gets
+pub mod Kept
+pub mod Marks
+pub mod Opening
+pub mod Puts
+pub mod Says
+pub mod Session

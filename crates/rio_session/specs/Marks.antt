@@ -1,0 +1,89 @@
+-- Where a command's records go, and which commands find no room.
+use Rattle.std.specs.Prelude.{ℕ, ◌+◌, List, [], ◌∷◌, codes, length, map, sum, Option, Some, None, is_some, unwrap_or, if◌then◌else◌, ◌==◌}
+use Rattle.std.specs.FinMap.{entries}
+use Rattle.std.specs.List.{fold}
+use Rattle.rio_num.specs.Text.{text_bytes}
+use Rattle.rio_key.specs.declared.head.KeyHead.{KeyHead}
+use Rattle.rio_value.specs.declared.value.Value.{Value}
+use Rattle.rio_chain.specs.declared.segment.Segment.{Segment}
+use Rattle.rio_chain.specs.declared.segment.Segment.TheVariants.{Record}
+use Rattle.rio_chain.specs.Placing.{file_end, place_of, with_segment}
+use Rattle.rio_machine.specs.Limits.{head_length}
+use Rattle.rio_machine.specs.State.{NameAndCycle, State}
+use Rattle.rio_machine.specs.declared.command.Command.{Command}
+use Rattle.rio_machine.specs.declared.command.Command.TheVariants.{Put}
+use Rattle.rio_record.specs.Record.{new_key}
+use Rattle.rio_step.specs.Costs.{value_size}
+use Rattle.rio_step.specs.Refusing.{FullMark, object_class, put_value, refusal_of}
+use Rattle.rio_step.specs.Runs.{Marks}
+use Rattle.rio_step.specs.Step.{state_behind, step}
+use Rattle.rio_state.specs.Closing.{KeptRecords, close_need, is_full, padded_length}
+
+-- ---- what a file of a state keeps
+
+-- the class of an object, and no name for another value
+abbrev pub class_name : Value → List ℕ
+class_name v = unwrap_or (object_class v) []
+
+-- a key as long as that of the object
+abbrev pub key_of_object : NameAndCycle × Value → KeyHead
+key_of_object e = new_key (record { place = 0; directory = 100; datime = 0; cycle = e.0.1; class = class_name e.1; name = e.0.0; title = [] }) 0
+
+-- the class list, if there are classes
+abbrev pub list_count : State → ℕ
+list_count m = if length m.classes == 0 then 0 else 1
+
+-- What a file of this name keeps in a state, as far as a close writes of it. (No command makes a tree yet.)
+abbrev pub kept_of : List ℕ → State → KeptRecords
+kept_of name m = let objects = entries m.objects in
+    record { name = name; heads = map key_of_object objects; count = 1 + list_count m + length objects }
+
+-- how long the records of a close are in this state
+unfoldable pub state_need : List ℕ → State → ℕ
+state_need name m = close_need (kept_of name m)
+
+-- ---- a new file
+
+-- How long the first record of a new file of this name is: its key, the name and an empty title again, and 60 bytes of the
+-- directory.
+abbrev pub first_record_length : List ℕ → ℕ
+first_record_length name = padded_length (head_length (codes "TFile") name + length (text_bytes name) + length (text_bytes []) + 60)
+
+-- the segments of a new file: its first record
+abbrev pub first_segments : List ℕ → List Segment
+first_segments name = Record 100 (first_record_length name) ∷ []
+
+-- ---- a command's records
+
+-- how long the records are that a command puts, with their zero bytes: a put has one. (The other commands that have some come
+-- with their bodies.)
+unfoldable pub command_lengths : State → Command → List ℕ
+command_lengths m (Put name v) =
+    let stored = put_value m v in padded_length (head_length (class_name stored) name + value_size m.classes stored) ∷ []
+command_lengths m other = []
+
+-- the segments with one record more, at the place of the rule
+abbrev pub with_placed : List Segment → ℕ → List Segment
+with_placed segments n = with_segment (place_of segments n) n segments
+
+-- A command's mark: there is no room for its records with what a close needs behind it.
+unfoldable pub mark_of : List ℕ → List Segment → State → Command → Option FullMark
+mark_of name segments m c =
+    let lengths = command_lengths m c in
+    if is_full segments lengths (state_need name (state_behind m c))
+    then Some (record { end = file_end segments; wanted = sum lengths })
+    else None
+
+-- the segments behind a command: a refused one changes none
+unfoldable pub segments_behind : List ℕ → List Segment → State → Command → List Segment
+segments_behind name segments m c =
+    if is_some (refusal_of m c (mark_of name segments m c)) then segments else fold with_placed segments (command_lengths m c)
+
+-- ---- runs
+
+-- the marks of a run's commands, in a file of this name that begins with these segments
+unfoldable pub marks_of_run : List ℕ → List Segment → State → List Command → Marks
+marks_of_run name segments m [] = []
+marks_of_run name segments m (c ∷ cs) =
+    let mark = mark_of name segments m c in
+    mark ∷ marks_of_run name (segments_behind name segments m c) (step m c mark).state cs

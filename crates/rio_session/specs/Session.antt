@@ -1,0 +1,127 @@
+-- A session: what it keeps beside a file, what of a state it stands for, and what a stop leaves while a command is done.
+use Rattle.std.specs.Prelude.{◌≡◌, ◌⊎◌, ◌<◌, ◌≤◌, ℕ, ◌+◌, ◌-◌, ◌*◌, ◌^◌, min, Bool, false, List, [], ◌++◌, take, slice_get, Option, Some}
+use Rattle.rio_types.specs.declared.class.ClassDef.{ClassDef}
+use Rattle.rio_key.specs.declared.head.KeyHead.{KeyHead}
+use Rattle.rio_host.specs.Host.{Elapses, IsQuiet, View}
+use Rattle.rio_chain.specs.Chains.{HasChain, HoldsChain}
+use Rattle.rio_chain.specs.Placing.{record_count}
+use Rattle.rio_chain.specs.Segments.{Link}
+use Rattle.rio_chain.specs.declared.segment.Segment.{Segment}
+use Rattle.rio_machine.specs.State.{State}
+use Rattle.rio_machine.specs.declared.command.Command.{Command}
+use Rattle.rio_machine.specs.declared.command.Outcome.{Outcome}
+use Rattle.rio_machine.specs.declared.command.Outcome.TheVariants.{Refused}
+use Rattle.rio_machine.specs.declared.refusal.Refusal.TheVariants.{Full}
+use Rattle.rio_step.specs.Costs.{cost_of, room_limit}
+use Rattle.rio_step.specs.ReplyText.{text_of}
+use Rattle.rio_step.specs.Runs.{saved_of, states_of_run}
+use Rattle.rio_step.specs.Step.{Stepped, outcome_of, step}
+use Rattle.rio_state.specs.Closing.{held_of, kept_in}
+use Rattle.rio_state.specs.DirectoryKeys.{AreKeysOf}
+use Rattle.rio_state.specs.KeyedRecords.{info_key, keyed_records}
+use Rattle.rio_state.specs.Left.{HasOpenHead, IsLeftAs, IsMarkedOpen, info_head}
+use Rattle.rio_state.specs.Reads.{AreRecordsOf}
+use Rattle.rio_session.specs.Marks.{first_segments, mark_of, segments_behind}
+
+-- ---- what a session keeps
+
+pub record SessionState : Type 0 where
+  pub segments : List Segment
+  pub classes : List ClassDef
+  -- the keys of objects and trees, in the order of the key list
+  pub heads : List KeyHead
+  -- the key of the class list that counts
+  pub info : Option KeyHead
+  -- the file's name, and what its header says how long key and texts of the first record are
+  pub name : List ℕ
+  pub nbytes_name : ℕ
+  pub datime : ℕ
+  -- the file's length when it was opened, 0 for one that wasn't made yet, and the costs of all commands together
+  pub opened : ℕ
+  pub costs : ℕ
+  pub failed : Bool
+
+-- ---- what it stands for
+
+-- The file reads as the state without its pending rows, and what the session keeps are its segments, classes, keys and name. All of its
+-- records count.
+pub record HoldsState (s : SessionState) (m : State) (file : List ℕ) : Type 0 where
+  pub links : List Link
+  pub chain : HasChain links s.segments file
+  pub head : HasOpenHead file s.nbytes_name
+  pub records : AreRecordsOf (keyed_records links) (saved_of m)
+  pub classes : s.classes ≡ m.classes
+  pub keys : AreKeysOf (keyed_records links) s.heads
+  pub info : s.info ≡ info_head (info_key (keyed_records links))
+  pub name : (kept_in links).name ≡ s.name
+  pub count : (kept_in links).count ≡ record_count s.segments
+  -- what the file holds is bounded by its length when it was opened and the costs of the commands since
+  pub held : s.costs < 2 ^ 64 - 1 → held_of links ≤ 3 * s.opened + s.costs + 10000
+
+-- Session and host stand for the state, with this text said.
+pub record StandsFor (v : View) (s : SessionState) (m : State) (text : List ℕ) : Type 0 where
+  pub file : List ℕ
+  pub holds : v.holds ≡ Some file
+  pub said : v.said ≡ Some text
+  pub state : HoldsState s m file
+
+-- what a session of a file that is just made begins with
+pub record BeginsNew (s : SessionState) (name : List ℕ) (datime : ℕ) : Type 0 where
+  pub segments : s.segments ≡ first_segments name
+  pub name_is : s.name ≡ name
+  pub datime_is : s.datime ≡ datime
+  pub opened : s.opened ≡ 0
+  pub costs : s.costs ≡ 0
+  pub fresh : s.failed ≡ false
+
+-- a host as a session leaves it, also where it tells nothing
+pub record IsReady (v : View) (s : SessionState) : Type 0 where
+  pub quiet : IsQuiet v
+  pub chain : HoldsChain v s.segments
+
+-- ---- what a stop leaves
+
+-- a file that is marked as open and reads as the state without its pending rows
+pub record IsOpenAs (m : State) (image : List ℕ) : Type 0 where
+  pub left : IsLeftAs (saved_of m) image
+  pub marked : IsMarkedOpen image
+
+-- While a command is done: the state of before with the text of before, or the state of after with a front of the reply.
+abbrev pub Steps : State → Stepped → List ℕ → List ℕ → List ℕ → Type 0
+Steps m next text image said =
+    (IsOpenAs m image × (said ≡ text)) ⊎ (IsOpenAs next.state image × ((k : ℕ) × (said ≡ text ++ take k (text_of next.reply))))
+
+-- the command's step, with its mark
+abbrev pub next_of : SessionState → State → Command → Stepped
+next_of s m c = step m c (mark_of s.name s.segments m c)
+
+-- What a session keeps follows a command: the command's records stand where the rule places them, and its cost was counted, as far
+-- as 64 bits hold the costs.
+pub record Follows (old new : SessionState) (m : State) (c : Command) : Type 0 where
+  pub segments : new.segments ≡ segments_behind old.name old.segments m c
+  pub name : new.name ≡ old.name
+  pub datime : new.datime ≡ old.datime
+  pub opened : new.opened ≡ old.opened
+  pub costs : new.costs ≡ min (old.costs + cost_of m c) (2 ^ 64 - 1)
+
+-- Want of room is told only where three times the file's length at its opening, with the costs of all commands up to this one,
+-- pass what there is room for.
+abbrev pub LacksRoomIfFull : SessionState → Outcome → Type 0
+LacksRoomIfFull s (Refused (Full end wanted)) = room_limit < 3 * s.opened + s.costs
+LacksRoomIfFull s other = Unit {0}
+
+-- a command is done and its reply is said
+pub record Went (old new : View) (before s : SessionState) (m : State) (c : Command) (text : List ℕ) (outcome : Outcome) : Type 0 where
+  pub time : Elapses old new (Steps m (next_of before m c) text)
+  pub stands : StandsFor new s (next_of before m c).state (text ++ text_of (next_of before m c).reply)
+  pub follows : Follows before s m c
+  pub outcome_is : outcome ≡ outcome_of (next_of before m c).reply
+  pub full : LacksRoomIfFull s outcome
+
+-- while a session is closed: a state of the closing saves, with nothing said
+pub record ClosesAs (m : State) (text image said : List ℕ) : Type 0 where
+  pub k : ℕ
+  pub state : State
+  pub state_is : slice_get (states_of_run m [] []) k ≡ Some state
+  pub left : IsLeftAs (saved_of state) image
+  pub text_is : said ≡ text

@@ -1,0 +1,71 @@
+//! An object is told.
+use crate::{Session, SessionFault};
+use rio_chain::ReadFault;
+use rio_host::Host;
+use rio_key::KeyHead;
+use rio_machine::Outcome;
+use rio_num::Bytes;
+use rio_reply::get_reply;
+
+/// More bytes than a record has.
+const TOO_LONG: usize = 1 << 31;
+
+impl Session {
+    ghost use Rattle.std.specs.Prelude.{◌≡◌, Some, IsSome, false, IfOk, Contains};
+    ghost use Rattle.rio_host.specs.OnlyReads.{OnlyReads};
+    ghost use Rattle.rio_chain.specs.Chains.{HoldsChain};
+    ghost use Rattle.rio_chain.specs.Walks.{IsRecordCause};
+    ghost use Rattle.rio_dir.specs.Table.{head_of};
+    ghost use Rattle.rio_machine.specs.declared.command.Outcome.{Outcome as BecameOf};
+    ghost use Rattle.rio_session.specs.Gets.{Tells, TellsRecord};
+    ghost use Rattle.rio_session.specs.Kept.{IsSoundState};
+
+    // What is told of the object of a key. (A record is never as long as to be refused here.)
+    fn told<H: Host>(&self, host: &mut H, head: &KeyHead) -> Result<Bytes, ReadFault>
+        requires fresh { self.now.failed ≡ false }
+        requires among { Contains self.now.heads head.now }
+        requires holds { HoldsChain (H.view host.old) self.now.segments }
+        ensures text { IfOk result (λ text. TellsRecord (H.view host.old) self.now.segments
+            self.now.classes head.now text.bytes) }
+        ensures calls { OnlyReads (H.view host.old) (H.view host.new) }
+        ensures cause { IsRecordCause (H.view host.old) (H.view host.new) result }
+    {
+        let bytes = self.chain.read_record(host, head.seek)?;
+        if bytes.len() >= TOO_LONG {
+            return Err(ReadFault::NoMemory);
+        }
+        Ok(get_reply(self.alloc, self.registry.classes(), head, bytes.as_slice())?)
+    }
+
+    // Says what is told of the object of a name and cycle, which is there.
+    pub(crate) fn get<H: Host>(
+        &mut self,
+        host: &mut H,
+        name: &[u8],
+        cycle: u16,
+    ) -> Result<Outcome, SessionFault>
+        requires fresh { self.old.failed ≡ false }
+        requires there { IsSome (head_of name.now (Some cycle) self.old.heads) }
+        requires holds { HoldsChain (H.view host.old) self.old.segments }
+        ensures tells { Tells name.now cycle (H.view host.old) (H.view host.new) self.old self.new
+            result }
+        ensures outcome { IfOk result (λ outcome. outcome ≡ BecameOf.Accepted) }
+        ensures sound { IsSoundState self.old }
+    {
+        let head = match self.table.find(name, Some(cycle)) {
+            Some(head) => head,
+            None => unreachable!(),
+        };
+        match self.told(host, head) {
+            Ok(text) => {
+                self.answer(host, text.as_slice(), 0)?;
+                Ok(Outcome::Accepted)
+            }
+            Err(ReadFault::NoMemory) => Err(SessionFault::NoMemory),
+            Err(ReadFault::HostFault) => {
+                self.failed = true;
+                Err(SessionFault::HostFault)
+            }
+        }
+    }
+}

@@ -1,0 +1,23 @@
+//! A session on one file: [`Session::open`] makes it, each command is done by [`Session::apply`], and [`Session::close`]
+//! closes the file. A stop at any moment leaves the state of before the command or of behind it; what is kept beside the
+//! file stands for the state, so no command but `get` reads it again. `specs/Session.antt` says what a session stands for
+//! and what a stop leaves, `specs/Marks.antt` where records go and which commands find no room.
+#![tactic(auto)]
+
+mod close;
+mod fault;
+mod get;
+mod open;
+mod open_front;
+mod place;
+mod put;
+mod say;
+mod session;
+mod store;
+mod work;
+
+pub use fault::{OpenFault, SessionFault};
+pub use session::Session;
+
+#[cfg(test)]
+mod tests;

@@ -1,0 +1,70 @@
+//! A session is begun.
+use crate::open_front::check_unborn;
+use crate::{OpenFault, Session};
+use rio_create::{Created, create};
+use rio_dir::KeyTable;
+use rio_host::Host;
+use rio_num::Name;
+use rio_registry::Registry;
+use std::alloc::Global;
+
+impl Session {
+    ghost use Rattle.std.specs.Prelude.{◌≡◌, ◌≤◌, ℕ, List, Some, length, false, IfOk};
+    ghost use Rattle.rio_host.specs.Host.{Becomes, Elapses, IsQuiet};
+    ghost use Rattle.rio_host.specs.OnlyReads.{OnlyReads};
+    ghost use Rattle.rio_chain.specs.Stops.{Any};
+    ghost use Rattle.rio_chain.specs.Walks.{Told};
+    ghost use Rattle.rio_dir.specs.Unborn.{is_unborn};
+    ghost use Rattle.rio_machine.specs.State.{State};
+    ghost use Rattle.rio_state.specs.Left.{ReadsClosedUnlessOpen};
+    ghost use Rattle.rio_state.specs.Reads.{ReadsAsState};
+    ghost use Rattle.rio_session.specs.Causes.{IsNotOpened, IsOpenCause, TellsWhyNot};
+    ghost use Rattle.rio_session.specs.Session.{BeginsNew, IsReady, StandsFor};
+
+    /// Opens a file: one that isn't made yet is made. A made one isn't opened yet: its first fault is told, or that it is
+    /// read only. The name, which a new file gets, has at most 200 bytes.
+    pub fn open<H: Host>(
+        alloc: Global,
+        host: &mut H,
+        name: &[u8],
+        datime: u32,
+    ) -> Result<Session, OpenFault>
+        requires short { length name.now ≤ 200 }
+        ensures any_moment { (file text : List ℕ) (m : State) → IsQuiet (H.view host.old)
+            → (H.view host.old).holds ≡ Some file → (H.view host.old).said ≡ Some text
+            → ReadsAsState file m
+            → Elapses (H.view host.old) (H.view host.new) (λ image said. ReadsAsState image m
+            × (ReadsClosedUnlessOpen file m → ReadsClosedUnlessOpen image m) × (said ≡ text)) }
+        ensures stands { IfOk result (λ session. (file text : List ℕ) (m : State)
+            → (H.view host.old).holds ≡ Some file → (H.view host.old).said ≡ Some text
+            → ReadsAsState file m → StandsFor (H.view host.new) session m text) }
+        ensures ready { IfOk result (IsReady (H.view host.new)) }
+        ensures begins { IfOk result (λ session. BeginsNew session name.now datime) }
+        ensures why_not { Told (H.view host.old) (λ file. TellsWhyNot file result) }
+        ensures unwritten { (file : List ℕ) → (H.view host.old).holds ≡ Some file
+            → is_unborn file ≡ false → OnlyReads (H.view host.old) (H.view host.new) }
+        ensures untouched { IsNotOpened result → OnlyReads (H.view host.old) (H.view host.new) }
+        ensures told { Becomes Any (H.view host.old).holds (H.view host.new).holds }
+        ensures said { (H.view host.new).said ≡ (H.view host.old).said }
+        ensures cause { IsOpenCause (H.view host.old) (H.view host.new) result }
+    {
+        check_unborn(host)?;
+        let own = Name::from_slice(alloc, name)?;
+        host.sync()?;
+        let Created { chain, nbytes_name } = create(alloc, host, name, datime)?;
+        Ok(Session {
+            alloc,
+            chain,
+            registry: Registry::new(alloc),
+            table: KeyTable::new(alloc),
+            heads_bytes: 0,
+            info: None,
+            name: own,
+            nbytes_name,
+            datime,
+            opened: 0,
+            costs: 0,
+            failed: false,
+        })
+    }
+}

@@ -1,0 +1,48 @@
+//! A record is put, and what is put is said.
+use crate::{Session, SessionFault};
+use rio_host::Host;
+use rio_key::key_length;
+use rio_machine::Outcome;
+use rio_record::NewRecord;
+
+impl Session {
+    ghost use Rattle.std.specs.Prelude.{◌≡◌, false, IfOk};
+    ghost use Rattle.rio_machine.specs.declared.command.Outcome.{Outcome as BecameOf};
+    ghost use Rattle.rio_session.specs.Puts.{CanBePut, Puts, putting};
+    ghost use Rattle.rio_session.specs.Session.{IsReady};
+
+    // Puts a record, keeps its key, and says a reply. All memory is taken before the record is written.
+    pub(crate) fn put_and_say<H: Host>(
+        &mut self,
+        host: &mut H,
+        made: NewRecord,
+        text: &[u8],
+        cost: u64,
+    ) -> Result<Outcome, SessionFault>
+        requires fresh { self.old.failed ≡ false }
+        requires ready { IsReady (H.view host.old) self.old }
+        requires can { CanBePut self.old made }
+        ensures puts { Puts (putting made text.now cost) (H.view host.old) (H.view host.new)
+            self.old self.new result }
+        ensures outcome { IfOk result (λ outcome. outcome ≡ BecameOf.Accepted) }
+        ensures reads { (H.view host.new).reads ≡ (H.view host.old).reads }
+    {
+        self.chain.reserve(1)?;
+        self.table.reserve_one()?;
+        let NewRecord { head, mut bytes } = made;
+        let added = key_length(&head);
+        let sum = self.heads_bytes + added;
+        match self.chain.put_record(host, head.seek, &mut bytes) {
+            Ok(()) => {
+                self.table.insert(head);
+                self.heads_bytes = sum;
+                self.answer(host, text, cost)?;
+                Ok(Outcome::Accepted)
+            }
+            Err(_) => {
+                self.failed = true;
+                Err(SessionFault::HostFault)
+            }
+        }
+    }
+}

@@ -1,0 +1,100 @@
+//! An object is stored.
+use crate::place::{key_length, padded, place_within, record_of, words_of};
+use crate::{Session, SessionFault};
+use rio_chain::PlanFault;
+use rio_close::close_length;
+use rio_host::Host;
+use rio_machine::{Command, Outcome, Refusal};
+use rio_num::NoMemory;
+use rio_record::NewRecord;
+use rio_reply::put_reply;
+use rio_value::Value;
+
+impl Session {
+    ghost use Rattle.std.specs.Prelude.{◌≡◌, ◌+◌, ◌≤◌, ◌<◌, ◌^◌, length, true, false, IfOk};
+    ghost use Rattle.rio_key.specs.declared.head.KeyHead.{KeyHead};
+    ghost use Rattle.rio_dir.specs.Table.{with_head};
+    ghost use Rattle.rio_chain.specs.Placing.{record_count};
+    ghost use Rattle.rio_judge.specs.Judging.{WorkCanBeDone, IsJudgementOfStates};
+    ghost use Rattle.rio_judge.specs.declared.work.Judged.{Judged};
+    ghost use Rattle.rio_judge.specs.declared.work.Work.{Work};
+    ghost use Rattle.rio_state.specs.Closing.{close_need};
+    ghost use Rattle.rio_step.specs.Statable.{IsStatable};
+    ghost use Rattle.rio_session.specs.Does.{Does};
+    ghost use Rattle.rio_session.specs.Kept.{is_sized, kept_with};
+    ghost use Rattle.rio_session.specs.Puts.{IsStored, IsStoredRecord};
+    ghost use Rattle.rio_session.specs.Session.{IsReady};
+
+    // What a close needs with one object more.
+    fn need_with(&self, class: &[u8], name: &[u8]) -> u64
+        requires fresh { self.now.failed ≡ false }
+        requires class { length class.now ≤ 100 }
+        requires name { length name.now ≤ 100 }
+        ensures { (h : KeyHead) → is_sized h ≡ true → h.class ≡ class.now → h.name ≡ name.now
+            → result ≡ close_need (kept_with self.now.name (with_head h self.now.heads)
+            (record_count self.now.segments + 1)) }
+    {
+        let heads = self.heads_bytes + key_length(class, name);
+        close_length(self.name.as_slice(), heads, self.chain.live() + 1)
+    }
+
+    // The record of an object.
+    fn make(
+        &self,
+        place: u64,
+        name: &[u8],
+        class: &[u8],
+        cycle: u16,
+        value: &Value,
+        length: u32,
+    ) -> Result<NewRecord, NoMemory>
+        requires stored { IsStored self.now.classes name.now value.now class.now cycle length }
+        requires low { place < 2 ^ 32 }
+        ensures { IfOk result (λ made. IsStoredRecord self.now place name.now value.now class.now
+            cycle length made) }
+    {
+        let words = words_of(self.alloc, place, self.datime, name, class, cycle)?;
+        record_of(self.alloc, self.registry.classes(), words, value)
+    }
+
+    // Does the work of a put: its object goes where there is room for it, or the put is refused.
+    pub(crate) fn put<H: Host>(
+        &mut self,
+        host: &mut H,
+        command: &Command,
+        value: &Value,
+        class: &[u8],
+        cycle: u16,
+        length: u32,
+    ) -> Result<Outcome, SessionFault>
+        requires fresh { self.old.failed ≡ false }
+        requires ready { IsReady (H.view host.old) self.old }
+        requires statable { IsStatable command.now }
+        requires can { WorkCanBeDone self.old.classes self.old.heads command.now
+            (Work.Put value.now class.now cycle length) }
+        requires judged { IsJudgementOfStates self.old.classes self.old.heads command.now
+            (Judged.Accepted (Work.Put value.now class.now cycle length)) }
+        ensures does { Does (H.view host.old) (H.view host.new) self.old self.new command.now
+            result }
+        ensures reads { (H.view host.new).reads ≡ (H.view host.old).reads }
+    {
+        let alloc = self.alloc;
+        let Command::Put { name, .. } = command else {
+            unreachable!()
+        };
+        let name = name.as_slice();
+        let cost = 500 + u64::from(length);
+        let n = padded(key_length(class, name) + u64::from(length));
+        match place_within(alloc, &self.chain, n, self.need_with(class, name)) {
+            Ok(place) => {
+                let made = self.make(place, name, class, cycle, value, length)?;
+                let text = put_reply(alloc, name, cycle)?;
+                self.put_and_say(host, made, text.as_slice(), cost)
+            }
+            Err(PlanFault::Full { end, wanted }) => {
+                self.refuse(host, Refusal::Full { end, wanted }, cost)
+            }
+            Err(PlanFault::NoMemory) => Err(SessionFault::NoMemory),
+        }
+    }
+}

@@ -1,0 +1,70 @@
+//! What a command is to do is done.
+use crate::{Session, SessionFault};
+use rio_host::Host;
+use rio_judge::{Judged, Work, judge};
+use rio_machine::{Command, Outcome};
+
+impl Session {
+    ghost use Rattle.std.specs.Prelude.{◌≡◌, false};
+    ghost use Rattle.rio_judge.specs.Judging.{WorkCanBeDone, IsJudgementOfStates};
+    ghost use Rattle.rio_judge.specs.declared.work.Judged.{Judged as Judgement};
+    ghost use Rattle.rio_step.specs.Statable.{IsStatable};
+    ghost use Rattle.rio_session.specs.Causes.{IsBuilt, NeverReads};
+    ghost use Rattle.rio_session.specs.Does.{Does};
+    ghost use Rattle.rio_session.specs.Session.{IsReady};
+
+    // Does the work of a command.
+    fn work<H: Host>(
+        &mut self,
+        host: &mut H,
+        command: &Command,
+        work: Work,
+    ) -> Result<Outcome, SessionFault>
+        requires fresh { self.old.failed ≡ false }
+        requires built { IsBuilt command.now }
+        requires statable { IsStatable command.now }
+        requires ready { IsReady (H.view host.old) self.old }
+        requires can { WorkCanBeDone self.old.classes self.old.heads command.now work }
+        requires judged { IsJudgementOfStates self.old.classes self.old.heads command.now
+            (Judgement.Accepted work) }
+        ensures does { Does (H.view host.old) (H.view host.new) self.old self.new command.now
+            result }
+        ensures reads { NeverReads command.now
+            → (H.view host.new).reads ≡ (H.view host.old).reads }
+    {
+        match work {
+            Work::Put {
+                value,
+                class,
+                cycle,
+                length,
+            } => self.put(host, command, &value, class.as_slice(), cycle, length),
+            Work::Get { cycle } => match command {
+                Command::Get { name, .. } => self.get(host, name.as_slice(), cycle),
+                _ => unreachable!(),
+            },
+            Work::Ls => self.list(host),
+        }
+    }
+
+    // Judges a command, and does what it is to do, or says why it is refused.
+    pub(crate) fn judge_and_do<H: Host>(
+        &mut self,
+        host: &mut H,
+        command: &Command,
+    ) -> Result<Outcome, SessionFault>
+        requires fresh { self.old.failed ≡ false }
+        requires built { IsBuilt command.now }
+        requires statable { IsStatable command.now }
+        requires ready { IsReady (H.view host.old) self.old }
+        ensures does { Does (H.view host.old) (H.view host.new) self.old self.new command.now
+            result }
+        ensures reads { NeverReads command.now
+            → (H.view host.new).reads ≡ (H.view host.old).reads }
+    {
+        match judge(self.alloc, self.registry.classes(), &self.table, command)? {
+            Judged::Refused(refusal) => self.refuse(host, refusal, 0),
+            Judged::Accepted(work) => self.work(host, command, work),
+        }
+    }
+}

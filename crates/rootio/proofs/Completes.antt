@@ -1,0 +1,58 @@
+-- Where nothing fails, all is done unless memory runs out.
+use Rattle.std.proofs.Common.{◌≡◌, ℕ, List, true, Some, None, subst, refl, arith}
+use Rattle.rio_head.specs.declared.fault.HeadFault.{HeadFault}
+use Rattle.rio_head.specs.Head.{fault_at}
+use Rattle.rio_host.specs.Host.{View}
+use Rattle.rio_host.specs.Source.{Input}
+use Rattle.rio_dir.specs.Unborn.{header_fault, is_unborn}
+use Rattle.rio_meaning.specs.FirstFault.{first_fault}
+use Rattle.rio_state.specs.Reasons.{ReasonAt, reason_at}
+use Rattle.rootio.specs.Causes.{IsCause}
+use Rattle.rootio.specs.Complete.{CanBeDone, IsComplete}
+use Rattle.rootio.specs.Input.{TellsTooLong}
+use Rattle.rootio.specs.Reading.{TellsFirstFault, reads_input, rules_of, writes_of}
+use Rattle.rootio.specs.Writing.{TellsFirstReason, made_reason, reason_against}
+use Rattle.rootio.specs.declared.status.Status.{Status}
+use Rattle.rootio.specs.declared.status.Status.TheVariants.{Done, Usage, BadFile, DiskFault, InputFault, NoMemory, InputTooLong, ReadOnly, SayFault}
+use Rattle.rootio.specs.declared.words.Form.{Form}
+use Rattle.rootio.specs.declared.words.Form.TheVariants.{Reads, Writes}
+use Rattle.rootio.proofs.Opening.{new_has_no_fault, no_reason_new}
+
+-- words that have a form aren't refused
+pub formed : (form : Form) (old new : View) (before after : Input) (status : Status) → IsCause (Some form) old new before after status → status ≡ Usage → ⊥
+formed form old new before after status cause is =
+    let none : IsCause (Some form) old new before after Usage = subst (λ (s : Status). IsCause (Some form) old new before after s) is cause in
+    let e : Some form ≡ None = none.0 in
+    cc
+
+module _ (old new : View) (before after : Input) where
+  not_bad_file : (form : Form) → CanBeDone form old before → (p : HeadFault) → ((file : List ℕ) → old.holds ≡ Some file → first_fault (rules_of form) file ≡ Some p) → ⊥
+  not_bad_file (Reads list) can p tells = let is = tells can.file can.holds in let sound = can.sound in cc
+  not_bad_file (Writes work) can p tells =
+      let none : header_fault can.file ≡ None = new_has_no_fault (is_unborn can.file) _ can.unborn in
+      let is : header_fault can.file ≡ Some p = tells can.file can.holds in cc
+
+  not_read_only : (form : Form) → CanBeDone form old before → (r : ReasonAt) → writes_of (Some form) ≡ true
+      → ((file : List ℕ) → old.holds ≡ Some file → reason_against form file ≡ Some r) → ⊥
+  not_read_only (Reads list) can r writes tells = cc
+  not_read_only (Writes work) can r writes tells =
+      let none : made_reason (is_unborn can.file) (header_fault can.file) ≡ None = no_reason_new (is_unborn can.file) (header_fault can.file) can.unborn in
+      let is : made_reason (is_unborn can.file) (header_fault can.file) ≡ Some r = tells can.file can.holds in cc
+
+  not_too_long : (form : Form) → CanBeDone form old before → reads_input (Some form) ≡ true → TellsTooLong before InputTooLong → ⊥
+  not_too_long (Reads list) can reads tells = cc
+  not_too_long (Writes work) can reads tells = omega (arith, tells refl can.input can.remaining, can.within)
+
+  pub completes : (form : Form) (status : Status) → TellsFirstFault (rules_of form) old status → TellsFirstReason form old status
+      → TellsTooLong before status → IsCause (Some form) old new before after status → IsComplete form old new before after status
+  completes form Done faults reasons long cause can none = tt
+  completes form Usage faults reasons long cause can none = formed form old new before after Usage cause refl
+  completes form (BadFile place kind) faults reasons long cause can none =
+      not_bad_file form can (fault_at place kind) (λ file here. faults place kind refl file here)
+  completes form DiskFault faults reasons long cause can none = none.disk cause.0
+  completes form InputFault faults reasons long cause can none = none.input cause.3
+  completes form NoMemory faults reasons long cause can none = tt
+  completes form InputTooLong faults reasons long cause can none = not_too_long form can cause.0 long
+  completes form (ReadOnly place reason) faults reasons long cause can none =
+      not_read_only form can (reason_at place reason) cause.0 (λ file here. reasons place reason refl file here)
+  completes form SayFault faults reasons long cause can none = none.say cause.1

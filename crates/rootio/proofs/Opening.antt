@@ -1,0 +1,255 @@
+-- How a run of a script ends: where nothing is done, where the file isn't opened, and where it is.
+use Rattle.std.proofs.Common.{if◌then◌else◌, ◌≡◌, inl, ℕ, Bool, true, false, List, length, Option, Some, None, Result, Ok, Err, subst, sym, refl, ap, ◌∙◌}
+use Rattle.std.specs.Result.{OnOk}
+use Rattle.rio_head.specs.declared.fault.FileFault.{FileFault}
+use Rattle.rio_head.specs.declared.fault.HeadFault.{HeadFault}
+use Rattle.rio_head.specs.declared.reason.Reason.{Reason}
+use Rattle.rio_head.specs.declared.reason.Reason.TheVariants.{NotYet}
+use Rattle.rio_head.specs.Head.{fault_at}
+use Rattle.rio_host.specs.Host.{Becomes, Elapses, IsQuiet, View}
+use Rattle.rio_host.specs.OnlyReads.{OnlyReads}
+use Rattle.rio_host.proofs.Moments.{elapses_as, elapses_join}
+use Rattle.rio_host.proofs.ReadsLaws.{reads_none}
+use Rattle.rio_dir.specs.Unborn.{header_fault, is_unborn}
+use Rattle.rio_chain.specs.Stops.{Any}
+use Rattle.rio_chain.specs.Walks.{Told}
+use Rattle.rio_machine.specs.State.{State}
+use Rattle.rio_machine.specs.declared.command.Command.{Command}
+use Rattle.rio_meaning.specs.FirstFault.{HeaderAlone}
+use Rattle.rio_cmd.specs.Built.{built_script}
+use Rattle.rio_step.specs.Costs.{HasFileRoom}
+use Rattle.rio_state.specs.Reads.{ReadsAsState}
+use Rattle.rio_state.specs.Reasons.{reason_at}
+use Rattle.rio_session.specs.Causes.{IsNotOpened, IsOpenCause, IsSessionCause, NoCountRose, TellsWhyNot}
+use Rattle.rio_session.specs.Marks.{marks_of_run}
+use Rattle.rio_session.specs.Session.{BeginsNew, SessionState, StandsFor}
+use Rattle.rio_session.specs.declared.fault.OpenFault.{OpenFault}
+use Rattle.rio_session.specs.declared.fault.OpenFault.TheVariants.{BadFile as FileBad, ReadOnly as FileReadOnly, NoMemory as NotRoomy, HostFault as NotOpened}
+use Rattle.rio_session.specs.declared.fault.SessionFault.{SessionFault}
+use Rattle.rio_session.specs.declared.fault.SessionFault.TheVariants.{HostFault, SayFault as NotSaid, NoMemory as OutOfMemory}
+use Rattle.rootio.specs.Headline.{IsDone, IsStopOf, ScriptRun, opening_length}
+use Rattle.rootio.specs.Reading.{RefusesBroken, TellsFirstFault}
+use Rattle.rootio.specs.Script.{HasClosed, IsFileCause, RunsScript, StaysOpenBy, session_run, status_of_open, status_of_session}
+use Rattle.rootio.specs.Target.{TargetFile}
+use Rattle.rootio.specs.Writing.{Begins, EndsUnclosed, RefusesFile, RefusesReadOnly, TellsFirstReason, made_reason, run_of_work}
+use Rattle.rootio.specs.declared.status.Status.TheVariants.{Done, BadFile, NoMemory, ReadOnly}
+use Rattle.rootio.specs.declared.words.Form.TheVariants.{Writes}
+use Rattle.rootio.specs.declared.words.Work.TheVariants.{Run}
+use Rattle.rootio.proofs.Scripts.{OpensAs, stop_opening}
+use Rattle.rootio.proofs.Unclosed.{ends_unclosed}
+use Rattle.rootio.proofs.Untouched.{any_join, becomes_same, elapses_none}
+
+-- ---- nothing was done
+
+pub nothing_done : (target : TargetFile) (script : List ℕ) (v : View) → RunsScript target script v v NoMemory
+nothing_done target script v = record {
+  stops = λ file text m begins. elapses_none v (IsStopOf (run_of_work (Run target) script m) file text);
+  done = λ file text m begins is. absurd cc;
+  unclosed = λ file text m begins. inl (reads_none v);
+  told = becomes_same v.holds;
+  faults = λ place kind is. absurd cc;
+  broken = λ fault file here e. tt;
+  reasons = λ place reason is. absurd cc;
+  read_only = λ against file here e. tt;
+  spares = record { answer = λ refuses. absurd refuses; file = λ file here made. reads_none v };
+  cause = (refl, refl);
+}
+
+-- ---- the file isn't opened
+
+-- a file with a fault has no reason beside it
+no_reason : (unborn : Bool) (fault : Option HeadFault) (f : HeadFault) → fault ≡ Some f → made_reason unborn fault ≡ None
+no_reason true fault f e = refl
+no_reason false None f e = absurd cc
+no_reason false (Some g) f e = refl
+
+-- and one that isn't made has neither
+pub no_reason_new : (unborn : Bool) (fault : Option HeadFault) → unborn ≡ true → made_reason unborn fault ≡ None
+no_reason_new true fault e = refl
+no_reason_new false fault e = absurd cc
+
+not_yet : (unborn : Bool) (fault : Option HeadFault) → unborn ≡ false → fault ≡ None → made_reason unborn fault ≡ Some (reason_at 0 NotYet)
+not_yet true fault e f = absurd cc
+not_yet false None e f = refl
+not_yet false (Some g) e f = absurd cc
+
+module _ (target : TargetFile) (v0 v1 : View) where
+  open_faults : (fault : OpenFault) → Told v0 (λ file. TellsWhyNot file {X = SessionState} (Err fault)) → TellsFirstFault HeaderAlone v0 (status_of_open fault)
+  open_faults (FileBad p k) why place kind is file here =
+      let one : p ≡ place = cc in
+      let other : k ≡ kind = cc in
+      why file here ∙ ap (λ (q : ℕ). Some (fault_at q k)) one ∙ ap (λ (q : FileFault). Some (fault_at place q)) other
+  open_faults (FileReadOnly p r) why place kind is file here = absurd cc
+  open_faults NotRoomy why place kind is file here = absurd cc
+  open_faults NotOpened why place kind is file here = absurd cc
+
+  open_broken : (fault : OpenFault) → Told v0 (λ file. TellsWhyNot file {X = SessionState} (Err fault)) → RefusesBroken HeaderAlone v0 (status_of_open fault)
+  open_broken (FileBad p k) why f file here e = let is : header_fault file ≡ Some (fault_at p k) = why file here in cc
+  open_broken (FileReadOnly p r) why f file here e = let is : header_fault file ≡ None = (why file here).1 in absurd cc
+  open_broken NotRoomy why f file here e = tt
+  open_broken NotOpened why f file here e = tt
+
+  open_reasons : (fault : OpenFault) → Told v0 (λ file. TellsWhyNot file {X = SessionState} (Err fault)) → TellsFirstReason (Writes (Run target)) v0 (status_of_open fault)
+  open_reasons (FileBad p k) why place reason is file here = absurd cc
+  open_reasons (FileReadOnly p r) why place reason is file here =
+      let w = why file here in
+      let one : 0 ≡ place = sym w.2 ∙ (let e : p ≡ place = cc in e) in
+      let other : NotYet ≡ reason = sym w.3 ∙ (let e : r ≡ reason = cc in e) in
+      not_yet (is_unborn file) (header_fault file) w.0 w.1
+      ∙ ap (λ (q : ℕ). Some (reason_at q NotYet)) one ∙ ap (λ (q : Reason). Some (reason_at place q)) other
+  open_reasons NotRoomy why place reason is file here = absurd cc
+  open_reasons NotOpened why place reason is file here = absurd cc
+
+  open_read_only : (fault : OpenFault) → Told v0 (λ file. TellsWhyNot file {X = SessionState} (Err fault)) → RefusesReadOnly (Writes (Run target)) v0 (status_of_open fault)
+  open_read_only (FileBad p k) why against file here e =
+      let none : made_reason (is_unborn file) (header_fault file) ≡ None = no_reason (is_unborn file) (header_fault file) (fault_at p k) (why file here) in
+      absurd cc
+  open_read_only (FileReadOnly p r) why against file here e =
+      let w = why file here in
+      let is : made_reason (is_unborn file) (header_fault file) ≡ Some (reason_at 0 NotYet) = not_yet (is_unborn file) (header_fault file) w.0 w.1 in
+      let one : against ≡ reason_at 0 NotYet = cc in
+      one ∙ ap (λ (q : ℕ). reason_at q NotYet) (sym w.2) ∙ ap (λ (q : Reason). reason_at p q) (sym w.3)
+  open_read_only NotRoomy why against file here e = tt
+  open_read_only NotOpened why against file here e = tt
+
+  open_answer : (fault : OpenFault) → (IsNotOpened {X = SessionState} (Err fault) → OnlyReads v0 v1) → RefusesFile (status_of_open fault) → OnlyReads v0 v1
+  open_answer (FileBad p k) untouched refuses = untouched tt
+  open_answer (FileReadOnly p r) untouched refuses = untouched tt
+  open_answer NotRoomy untouched refuses = absurd refuses
+  open_answer NotOpened untouched refuses = absurd refuses
+
+  open_unclosed : (fault : OpenFault) → (IsNotOpened {X = SessionState} (Err fault) → OnlyReads v0 v1) → EndsUnclosed v0 v1 (status_of_open fault)
+  open_unclosed (FileBad p k) untouched = tt
+  open_unclosed (FileReadOnly p r) untouched = tt
+  open_unclosed NotRoomy untouched = inl (untouched tt)
+  open_unclosed NotOpened untouched = tt
+
+  open_cause : (fault : OpenFault) → IsOpenCause {X = SessionState} v0 v1 (Err fault) → IsFileCause v0 v1 (status_of_open fault)
+  open_cause (FileBad p k) cause = (cause.0, cause.1.0, cause.1.1)
+  open_cause (FileReadOnly p r) cause = cause
+  open_cause NotRoomy cause = cause
+  open_cause NotOpened cause = cause
+
+  not_done : (fault : OpenFault) → status_of_open fault ≡ Done → ⊥
+  not_done (FileBad p k) is = cc
+  not_done (FileReadOnly p r) is = cc
+  not_done NotRoomy is = cc
+  not_done NotOpened is = cc
+
+-- what open says of what a stop leaves
+abbrev pub OpensSo : View → View → Type 0
+OpensSo v0 v1 = (file text : List ℕ) (m : State) → IsQuiet v0 → v0.holds ≡ Some file → v0.said ≡ Some text → ReadsAsState file m → Elapses v0 v1 (OpensAs file text m)
+
+pub not_opened : (target : TargetFile) (script : List ℕ) (v0 v1 : View) (fault : OpenFault) → OpensSo v0 v1
+    → Told v0 (λ file. TellsWhyNot file {X = SessionState} (Err fault))
+    → ((file : List ℕ) → v0.holds ≡ Some file → is_unborn file ≡ false → OnlyReads v0 v1)
+    → (IsNotOpened {X = SessionState} (Err fault) → OnlyReads v0 v1) → Becomes Any v0.holds v1.holds → IsOpenCause {X = SessionState} v0 v1 (Err fault)
+    → RunsScript target script v0 v1 (status_of_open fault)
+not_opened target script v0 v1 fault opens why unwritten untouched told cause = record {
+  stops = λ file text m begins.
+      elapses_as (IsStopOf (run_of_work (Run target) script m) file text) (OpensAs file text m) (opens file text m begins.quiet begins.holds begins.said begins.reads)
+      (λ image said left. stop_opening (run_of_work (Run target) script m) file text image said begins.reads left);
+  done = λ file text m begins is. absurd (not_done target v0 v1 fault is);
+  unclosed = λ file text m begins. open_unclosed target v0 v1 fault untouched;
+  told = told;
+  faults = open_faults target v0 v1 fault why;
+  broken = open_broken target v0 v1 fault why;
+  reasons = open_reasons target v0 v1 fault why;
+  read_only = open_read_only target v0 v1 fault why;
+  spares = record { answer = open_answer target v0 v1 fault untouched; file = unwritten };
+  cause = open_cause target v0 v1 fault cause;
+}
+
+-- ---- the file is opened
+
+-- a new session does the run of the words
+run_same : (target : TargetFile) (script : List ℕ) (s : SessionState) (commands : List Command) (m : State)
+    → BeginsNew s target.name target.datime → commands ≡ built_script script → session_run s m commands ≡ run_of_work (Run target) script m
+run_same target script s commands m new are =
+    λ i. record { start = m; commands = are i; marks = marks_of_run (new.name_is i) (new.segments i) m (are i) }
+
+ended_well : (r : Result (Unit {0}) SessionFault) (P : Type 0) → OnOk r P → status_of_session r ≡ Done → P
+ended_well (Ok x) P p is = p
+ended_well (Err HostFault) P p is = absurd cc
+ended_well (Err NotSaid) P p is = absurd cc
+ended_well (Err OutOfMemory) P p is = absurd cc
+
+not_bad : (r : Result (Unit {0}) SessionFault) (place : ℕ) (kind : FileFault) → status_of_session r ≡ BadFile place kind → ⊥
+not_bad (Ok x) place kind is = cc
+not_bad (Err HostFault) place kind is = cc
+not_bad (Err NotSaid) place kind is = cc
+not_bad (Err OutOfMemory) place kind is = cc
+
+not_read_only : (r : Result (Unit {0}) SessionFault) (place : ℕ) (reason : Reason) → status_of_session r ≡ ReadOnly place reason → ⊥
+not_read_only (Ok x) place reason is = cc
+not_read_only (Err HostFault) place reason is = cc
+not_read_only (Err NotSaid) place reason is = cc
+not_read_only (Err OutOfMemory) place reason is = cc
+
+not_refused : (r : Result (Unit {0}) SessionFault) → RefusesFile (status_of_session r) → ⊥
+not_refused (Ok x) refuses = refuses
+not_refused (Err HostFault) refuses = refuses
+not_refused (Err NotSaid) refuses = refuses
+not_refused (Err OutOfMemory) refuses = refuses
+
+session_cause : (v0 v1 v2 : View) (r : Result (Unit {0}) SessionFault) → NoCountRose v0 v1 → IsSessionCause v1 v2 r → IsFileCause v0 v2 (status_of_session r)
+session_cause v0 v1 v2 (Ok x) none cause = (cause.0 ∙ none.0, cause.1 ∙ none.1)
+session_cause v0 v1 v2 (Err HostFault) none cause = (rw (← none.0) cause.0, cause.1 ∙ none.1)
+session_cause v0 v1 v2 (Err NotSaid) none cause = (cause.0 ∙ none.0, rw (← none.1) cause.1)
+session_cause v0 v1 v2 (Err OutOfMemory) none cause = (cause.0 ∙ none.0, cause.1 ∙ none.1)
+
+pub new_has_no_fault : (unborn : Bool) (fault : Option HeadFault) → unborn ≡ true → (if unborn then None else fault) ≡ None
+new_has_no_fault true fault e = refl
+new_has_no_fault false fault e = absurd cc
+
+new_is_empty : (unborn : Bool) (n : ℕ) → unborn ≡ true → (if unborn then 0 else n) ≡ 0
+new_is_empty true n e = refl
+new_is_empty false n e = absurd cc
+
+module _ (target : TargetFile) (script : List ℕ) (v0 v1 v2 : View) (s : SessionState) (commands : List Command) (r : Result (Unit {0}) SessionFault)
+    (opens : OpensSo v0 v1)
+    (stands : (file text : List ℕ) (m : State) → v0.holds ≡ Some file → v0.said ≡ Some text → ReadsAsState file m → StandsFor v1 s m text)
+    (new : BeginsNew s target.name target.datime) (why : Told v0 (λ file. TellsWhyNot file {X = SessionState} (Ok s)))
+    (told01 : Becomes Any v0.holds v1.holds) (none : NoCountRose v0 v1) (are : commands ≡ built_script script)
+    (stops : (file text : List ℕ) (m : State) → StandsFor v1 s m text → Elapses v1 v2 (IsStopOf (session_run s m commands) file text))
+    (done : OnOk r ((m : State) (text : List ℕ) → StandsFor v1 s m text → HasClosed (session_run s m commands) s text v2))
+    (unclosed : (m : State) (text : List ℕ) → StandsFor v1 s m text → StaysOpenBy v2 r)
+    (told12 : Becomes Any v1.holds v2.holds) (cause : IsSessionCause v1 v2 r) where
+  does_all : (file text : List ℕ) (m : State) → Begins v0 file text m → Elapses v0 v2 (IsStopOf (run_of_work (Run target) script m) file text)
+  does_all file text m begins =
+      let P = IsStopOf (run_of_work (Run target) script m) file text in
+      let same = run_same target script s commands m new are in
+      let first = elapses_as P (OpensAs file text m) (opens file text m begins.quiet begins.holds begins.said begins.reads)
+      (λ image said left. stop_opening (run_of_work (Run target) script m) file text image said begins.reads left) in
+      let later = stops file text m (stands file text m begins.holds begins.said begins.reads) in
+      elapses_join (IsStopOf (session_run s m commands) file text) first later
+      (λ image said stop. subst (λ (run : ScriptRun). IsStopOf run file text image said) same stop)
+
+  pub opened : RunsScript target script v0 v2 (status_of_session r)
+  opened = record {
+    stops = does_all;
+    done = λ file text m begins is.
+        let closed = ended_well r _ done is m text (stands file text m begins.holds begins.said begins.reads) in
+        let empty : s.opened ≡ opening_length file = new.opened ∙ sym (new_is_empty (is_unborn file) (length file) (why file begins.holds)) in
+        subst (λ (run : ScriptRun). IsDone run file text v2) (run_same target script s commands m new are)
+        (record {
+          said = closed.said;
+          left = closed.left;
+          room = λ room. closed.room new.costs (subst (λ n. HasFileRoom n m commands (session_run s m commands).marks) (sym empty) room);
+        });
+    unclosed = λ file text m begins. ends_unclosed v0 v2 r (unclosed m text (stands file text m begins.holds begins.said begins.reads));
+    told = any_join v0.holds v1.holds v2.holds told01 told12;
+    faults = λ place kind is. absurd (not_bad r place kind is);
+    broken = λ fault file here e.
+        let none : header_fault file ≡ None = new_has_no_fault (is_unborn file) _ (why file here) in
+        absurd cc;
+    reasons = λ place reason is. absurd (not_read_only r place reason is);
+    read_only = λ against file here e.
+        let none : made_reason (is_unborn file) (header_fault file) ≡ None = no_reason_new (is_unborn file) (header_fault file) (why file here) in
+        absurd cc;
+    spares = record {
+      answer = λ refuses. absurd (not_refused r refuses);
+      file = λ file here made. let unborn : is_unborn file ≡ true = why file here in absurd cc;
+    };
+    cause = session_cause v0 v1 v2 r none cause;
+  }

@@ -1,0 +1,100 @@
+-- The costs of a run's commands, and where there is room for them.
+use Rattle.std.proofs.Common.{◌≡◌, inl, inr, ℕ, ◌+◌, ◌*◌, ◌-◌, ◌^◌, ◌<◌, ◌≤◌, min, List, [], ◌∷◌, ◌++◌, length, take, drop, take-append-drop, subst, sym, refl, ap, ◌∙◌, arith}
+use Rattle.std.proofs.lemmas.Bool.{cases_lt}
+use Rattle.std.proofs.lemmas.Option.{get_or_from_slice_get, slice_get_within}
+use Rattle.rio_machine.specs.State.{State}
+use Rattle.rio_machine.specs.declared.command.Command.{Command}
+use Rattle.rio_machine.specs.declared.command.Command.TheVariants.{Ls}
+use Rattle.rio_machine.specs.declared.command.Outcome.{Outcome}
+use Rattle.rio_machine.specs.declared.refusal.Refusal.TheVariants.{Full}
+use Rattle.rio_step.specs.Costs.{HasFileRoom, cost_of, costs_of_run, room_limit}
+use Rattle.rio_step.specs.Runs.{Marks, first_step, later_marks, state_after}
+use Rattle.rio_step.specs.Step.{Reply, class_declared, object_put, item_deleted, tree_made, row_added, rows_saved, object_told, rows_told, items_listed, refused, outcome_of}
+use Rattle.rio_session.specs.Session.{LacksRoomIfFull, SessionState}
+use Rattle.rootio.specs.Headline.{AllFindRoom, IsWantOfRoom, ScriptRun, reply_at}
+use Rattle.rootio.proofs.RunStops.{IsNext, behind, pushed}
+
+costs_push : (m : State) (cs : List Command) (c : Command) (marks : Marks)
+    → costs_of_run m (cs ++ c ∷ []) marks ≡ costs_of_run m cs marks + cost_of (state_after m cs marks) c
+unfolding costs_of_run state_after
+costs_push m [] c marks = omega arith
+costs_push m (d ∷ cs) c marks =
+    let h = costs_push (first_step m d marks).state cs c (later_marks marks) in
+    omega arith
+
+costs_split : (m : State) (front back : List Command) (marks : Marks) → costs_of_run m front marks ≤ costs_of_run m (front ++ back) marks
+unfolding costs_of_run
+costs_split m [] back marks = omega arith
+costs_split m (d ∷ front) back marks =
+    let h = costs_split (first_step m d marks).state front back (later_marks marks) in
+    omega arith
+
+-- the costs of the first k commands
+abbrev pub costs_to : ScriptRun → ℕ → ℕ
+costs_to r k = costs_of_run r.start (take k r.commands) r.marks
+
+costs_next : (r : ScriptRun) (k : ℕ) (c : Command) → IsNext r k c → costs_to r (k + 1) ≡ costs_to r k + cost_of (behind r k) c
+costs_next r k c next = ap (λ cs. costs_of_run r.start cs r.marks) (pushed r k c next) ∙ costs_push r.start (take k r.commands) c r.marks
+
+costs_whole : (r : ScriptRun) (k : ℕ) → costs_to r k ≤ costs_of_run r.start r.commands r.marks
+costs_whole r k =
+    subst (λ (cs : List Command). costs_to r k ≤ costs_of_run r.start cs r.marks) (take-append-drop k r.commands)
+    (costs_split r.start (take k r.commands) (drop k r.commands) r.marks)
+
+-- The session counts the costs, as far as 64 bits hold them; and a reply of want of room came only where they pass what there is
+-- room for.
+pub record CostsSo (first s : SessionState) (r : ScriptRun) (k : ℕ) : Type 0 where
+  pub opened : s.opened ≡ first.opened
+  pub count : s.costs ≤ first.costs + costs_to r k
+  pub lacks : (j : ℕ) (c : Command) → j < k → IsNext r j c → IsWantOfRoom (reply_at r j c) → room_limit < 3 * first.opened + first.costs + costs_to r (j + 1)
+
+pub no_costs : (first : SessionState) (r : ScriptRun) → CostsSo first first r 0
+no_costs first r = record { opened = refl; count = omega arith; lacks = λ j c below. absurd (omega (arith, below)) }
+
+-- want of room is told as such
+lacking : (s : SessionState) (reply : Reply) → LacksRoomIfFull s (outcome_of reply) → IsWantOfRoom reply → room_limit < 3 * s.opened + s.costs
+lacking s (class_declared name version) told want = absurd want
+lacking s (object_put name cycle) told want = absurd want
+lacking s (item_deleted name cycle) told want = absurd want
+lacking s (tree_made name cycle) told want = absurd want
+lacking s (row_added name entry) told want = absurd want
+lacking s (rows_saved name cycle entries) told want = absurd want
+lacking s (object_told name cycle v) told want = absurd want
+lacking s (rows_told name rows) told want = absurd want
+lacking s (items_listed items) told want = absurd want
+lacking s (refused (Full end wanted)) told want = told
+lacking s (refused other) told want = absurd want
+
+same_next : (r : ScriptRun) (j : ℕ) (c d : Command) → IsNext r j c → IsNext r j d → c ≡ d
+same_next r j c d a b = sym a.is ∙ b.is
+
+pub costs_more : (first s s1 : SessionState) (r : ScriptRun) (k : ℕ) (c : Command) → IsNext r k c → CostsSo first s r k → (outcome : Outcome)
+    → s1.opened ≡ s.opened → s1.costs ≡ min (s.costs + cost_of (behind r k) c) (2 ^ 64 - 1) → outcome ≡ outcome_of (reply_at r k c) → LacksRoomIfFull s1 outcome
+    → CostsSo first s1 r (k + 1)
+costs_more first s s1 r k c next so outcome opened costs is full =
+    let sum = costs_next r k c next in
+    let count : s1.costs ≤ first.costs + costs_to r (k + 1) = omega (arith, costs, so.count, sum) in
+    record {
+      opened = opened ∙ so.opened;
+      count = count;
+      lacks = λ j d below there want. elim (cases_lt j k) [
+        | inl before ↦ so.lacks j d before there want
+        | inr not_before ↦
+            let here : j ≡ k = omega (arith, below, not_before) in
+            let now : IsNext r k d = subst (λ n. IsNext r n d) here there in
+            let same : d ≡ c = same_next r k d c now next in
+            let asked : IsWantOfRoom (reply_at r k c) = subst (λ n. IsWantOfRoom (reply_at r n c)) here (subst (λ x. IsWantOfRoom (reply_at r j x)) same want) in
+            let told : LacksRoomIfFull s1 (outcome_of (reply_at r k c)) = subst (LacksRoomIfFull s1) is full in
+            let lacks = lacking s1 (reply_at r k c) told asked in
+            subst (λ n. room_limit < 3 * first.opened + first.costs + costs_to r (n + 1)) (sym here) (omega (arith, lacks, count, opened, so.opened))
+      ];
+    }
+
+pub all_find_room : (first s : SessionState) (r : ScriptRun) (k : ℕ) → length r.commands ≤ k → CostsSo first s r k → first.costs ≡ 0
+    → HasFileRoom first.opened r.start r.commands r.marks → AllFindRoom r
+all_find_room first s r k all so none room j c there want =
+    let within : j < length r.commands = slice_get_within r.commands j c there in
+    let next : IsNext r j c = record { within = within; is = get_or_from_slice_get r.commands j c Ls there } in
+    let lacks = so.lacks j c (omega (arith, within, all)) next want in
+    let part = costs_whole r (j + 1) in
+    omega (arith, lacks, part, none, room)

@@ -1,0 +1,51 @@
+-- Runs that end without a close: what a stop leaves is marked as open.
+use Rattle.std.proofs.Common.{◌≡◌, inl, inr, ⊎_elim, List, ℕ, Result, Ok, Err, subst, sym, refl}
+use Rattle.rio_host.specs.Host.{Elapses, IsLawful, View}
+use Rattle.rio_host.specs.OnlyReads.{OnlyReads}
+use Rattle.rio_host.proofs.Moments.{leaves_back}
+use Rattle.rio_host.proofs.ReadsLaws.{left_before}
+use Rattle.rio_machine.specs.State.{State}
+use Rattle.rio_step.specs.Step.{Stepped}
+use Rattle.rio_state.specs.Left.{IsMarkedOpen}
+use Rattle.rio_session.specs.Causes.{IsCloseCause}
+use Rattle.rio_session.specs.Session.{IsReady, SessionState, StandsFor, Steps}
+use Rattle.rio_session.specs.declared.fault.SessionFault.{SessionFault}
+use Rattle.rio_session.specs.declared.fault.SessionFault.TheVariants.{HostFault, SayFault, NoMemory}
+use Rattle.rio_session.proofs.Opened.{reads_open}
+use Rattle.rootio.specs.Script.{StaysOpenBy, status_of_session}
+use Rattle.rootio.specs.Writing.{EndsUnclosed, LeavesOpen}
+
+pub steps_are_open : (m : State) (next : Stepped) (text image said : List ℕ) → Steps m next text image said → IsMarkedOpen image
+steps_are_open m next text image said (inl was) = was.0.marked
+steps_are_open m next text image said (inr now) = now.0.marked
+
+module _ (v new : View) (s : SessionState) (m : State) (text : List ℕ) (ready : IsReady v s) (stands : StandsFor v s m text) where
+  -- a session's file is marked as open
+  pub stands_open : LeavesOpen v
+  stands_open image said left =
+      let h = stands.state in
+      let same : image ≡ stands.file = ready.quiet image said stands.file left stands.holds in
+      subst IsMarkedOpen (sym same) (reads_open stands.file s.nbytes_name h.links m h.head h.chain.chain h.records).marked
+
+  -- and stays so while a command is done
+  pub steps_open : IsLawful new → (next : Stepped) → Elapses v new (Steps m next text) → LeavesOpen new
+  steps_open law next time image said left =
+      ⊎_elim (λ was. stands_open image said was) (λ steps. steps_are_open m next text image said steps) (leaves_back law time image said left)
+
+  -- a close that finds no memory writes nothing
+  pub close_open : IsLawful new → (r : Result (Unit {0}) SessionFault) → (r ≡ Err NoMemory → OnlyReads v new) → IsCloseCause v new r → StaysOpenBy new r
+  close_open law (Ok x) only cause = tt
+  close_open law (Err HostFault) only cause = tt
+  close_open law (Err SayFault) only cause = absurd cause
+  close_open law (Err NoMemory) only cause = λ image said left. stands_open image said (left_before law (only refl) image said left)
+
+pub stays_open : (new : View) (e : SessionFault) → LeavesOpen new → StaysOpenBy new (Err e)
+stays_open new HostFault marked = tt
+stays_open new SayFault marked = marked
+stays_open new NoMemory marked = marked
+
+pub ends_unclosed : (old new : View) (r : Result (Unit {0}) SessionFault) → StaysOpenBy new r → EndsUnclosed old new (status_of_session r)
+ends_unclosed old new (Ok x) marked = tt
+ends_unclosed old new (Err HostFault) marked = tt
+ends_unclosed old new (Err SayFault) marked = inr marked
+ends_unclosed old new (Err NoMemory) marked = inr marked

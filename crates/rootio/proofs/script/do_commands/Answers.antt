@@ -1,0 +1,59 @@
+use Rattle.std.proofs.lemmas.Result.{IfOk-from_err, err_from_is_err_and}
+use Rattle.rio_machine.specs.declared.command.Outcome.{Outcome}
+use Rattle.rootio.proofs.Built.{built_at, statable_at}
+use Rattle.rootio.proofs.Doing.{all_done, cause_behind, does_next, leaves_open, nothing_yet, stops_there}
+use Rattle.rootio.proofs.Untouched.{any_join}
+use Rattle.rootio.proofs.script.do_commands.Goals as goal
+
+pub loop-command-init : goal.loop-command-init
+loop-command-init g c = nothing_yet (g.H.Host.view c.args.host.now) c.args.session.now c.args.commands.now c.requires.ready c.requires.fresh
+
+pub apply-requires : goal.apply-requires
+apply-requires g c = record {
+  fresh = c.loop-command.invariant.fresh;
+  built = built_at c.args.commands.now c.loop-command.command-index c.command-item.result c.loop-command-test.true c.command-item.is c.requires.built;
+  statable = statable_at c.args.commands.now c.loop-command.command-index c.command-item.result c.loop-command-test.true c.command-item.is c.requires.statable;
+  ready = c.loop-command.invariant.ready;
+}
+
+pub loop-command-preserved : goal.loop-command-preserved
+loop-command-preserved g c =
+    does_next (g.H.Host.view c.args.host.now) (g.H.Host.view c.loop-command.host) (g.H.Host.view c.apply.new.host) c.args.session.now c.loop-command.session c.apply.new.self
+    c.args.commands.now c.loop-command.command-index c.command-item.result c.loop-command-test.true c.command-item.is c.loop-command.invariant c.in_ok-apply.field-0
+    c.in_ok-apply.ensures.done c.in_ok-apply.ensures.ready c.in_ok-apply.ensures.failed c.in_ok-apply.ensures.told c.in_ok-apply.ensures.cause
+
+pub returns-in_err-apply : goal.returns-in_err-apply
+returns-in_err-apply g c =
+    let p = err_from_is_err_and c.from_residual.result c.from_residual.ensures.1 in
+    record {
+      stops = λ file text m stands.
+          stops_there (g.H.Host.view c.args.host.now) (g.H.Host.view c.loop-command.host) (g.H.Host.view c.apply.new.host) c.args.session.now c.loop-command.session c.apply.new.self
+          c.args.commands.now c.loop-command.command-index c.command-item.result c.loop-command-test.true c.command-item.is c.loop-command.invariant
+          c.in_err-apply.ensures.any_moment file text m stands;
+      unclosed = rw p.1 (λ m text stands.
+          leaves_open (g.H.Host.view c.args.host.now) (g.H.Host.view c.loop-command.host) (g.H.Host.view c.apply.new.host) c.args.session.now c.loop-command.session
+          c.args.commands.now c.loop-command.command-index c.command-item.result c.loop-command.invariant (g.met.H.Host.lawful c.apply.new.host)
+          c.in_err-apply.ensures.any_moment m text stands);
+      done = IfOk-from_err c.from_residual.result _ c.from_residual.ensures.0;
+      ready = IfOk-from_err c.from_residual.result _ c.from_residual.ensures.0;
+      fresh = IfOk-from_err c.from_residual.result _ c.from_residual.ensures.0;
+      told = any_join (g.H.Host.view c.args.host.now).holds (g.H.Host.view c.loop-command.host).holds (g.H.Host.view c.apply.new.host).holds c.loop-command.invariant.told c.in_err-apply.ensures.told;
+      cause = rw (p.1, p.2)
+          (cause_behind Outcome (Unit {0}) (g.H.Host.view c.args.host.now) (g.H.Host.view c.loop-command.host) (g.H.Host.view c.apply.new.host) c.in_err-apply.field-0.0 c.loop-command.invariant.none
+          c.in_err-apply.ensures.cause);
+    }
+
+pub returns : goal.returns
+returns g c =
+    let doing = c.loop-command.invariant in
+    record {
+      stops = λ file text m stands. (doing.sofar m text stands).time file;
+      done = λ m text stands.
+          all_done (g.H.Host.view c.args.host.now) (g.H.Host.view c.loop-command.host) c.args.session.now c.loop-command.session c.args.commands.now c.loop-command.command-index
+          c.loop-command-test.false doing m text stands;
+      unclosed = tt;
+      ready = doing.ready;
+      fresh = doing.fresh;
+      told = doing.told;
+      cause = doing.none;
+    }

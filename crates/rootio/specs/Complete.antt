@@ -1,0 +1,53 @@
+-- Where nothing fails, all is done unless memory runs out.
+use Rattle.std.specs.Prelude.{◌≡◌, ◌≤◌, ℕ, List, length, true, Some, None}
+use Rattle.rio_host.specs.Host.{Rose, View}
+use Rattle.rio_host.specs.Source.{Input}
+use Rattle.rio_dir.specs.Unborn.{is_unborn}
+use Rattle.rio_meaning.specs.FirstFault.{first_fault}
+use Rattle.rootio.specs.Input.{input_limit}
+use Rattle.rootio.specs.Reading.{rules_of}
+use Rattle.rootio.specs.declared.status.Status.{Status}
+use Rattle.rootio.specs.declared.status.Status.TheVariants.{Done, Usage, BadFile, DiskFault, InputFault, NoMemory, InputTooLong, ReadOnly, SayFault}
+use Rattle.rootio.specs.declared.words.Form.{Form}
+use Rattle.rootio.specs.declared.words.Form.TheVariants.{Reads, Writes}
+
+-- the file is told and breaks no rule that the verb tests
+pub record IsSound (form : Form) (old : View) : Type 0 where
+  pub file : List ℕ
+  pub holds : old.holds ≡ Some file
+  pub sound : first_fault (rules_of form) file ≡ None
+
+-- the file isn't made yet, and the input is no longer than it may be
+pub record IsNewWork (old : View) (before : Input) : Type 0 where
+  pub file : List ℕ
+  pub holds : old.holds ≡ Some file
+  pub unborn : is_unborn file ≡ true
+  pub input : List ℕ
+  pub remaining : before.remaining ≡ Some input
+  pub within : length input ≤ input_limit
+
+-- Nothing in file and input stands in the way of the verb. (As yet no made file is written to.)
+abbrev pub CanBeDone : Form → View → Input → Type 0
+CanBeDone (Reads list) old before = IsSound (Reads list) old
+CanBeDone (Writes work) old before = IsNewWork old before
+
+-- no count of faults rose
+pub record NoneRose (old new : View) (before after : Input) : Type 0 where
+  pub disk : ¬ Rose old.disk_faults new.disk_faults
+  pub say : ¬ Rose old.say_faults new.say_faults
+  pub input : ¬ Rose before.faults after.faults
+
+abbrev pub IsDoneOrNoMemory : Status → Type 0
+IsDoneOrNoMemory Done = Unit {0}
+IsDoneOrNoMemory Usage = ⊥
+IsDoneOrNoMemory (BadFile place kind) = ⊥
+IsDoneOrNoMemory DiskFault = ⊥
+IsDoneOrNoMemory InputFault = ⊥
+IsDoneOrNoMemory NoMemory = Unit {0}
+IsDoneOrNoMemory InputTooLong = ⊥
+IsDoneOrNoMemory (ReadOnly place reason) = ⊥
+IsDoneOrNoMemory SayFault = ⊥
+
+-- where the verb can be done and nothing fails, it is done or memory ran out
+abbrev pub IsComplete : Form → View → View → Input → Input → Status → Type 0
+IsComplete form old new before after status = CanBeDone form old before → NoneRose old new before after → IsDoneOrNoMemory status

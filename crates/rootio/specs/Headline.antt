@@ -1,0 +1,91 @@
+-- The headline: wherever a run of a script is stopped, between or within writes, the file that is left reads, by the walk over
+-- its keys, as the objects and saved entries after a prefix of the script's commands and closing saves, one that holds every
+-- put, delete and save whose reply had been said; a run that ends well says exactly the model's replies and leaves the whole
+-- script's state.
+use Rattle.std.specs.Prelude.{◌≡◌, ◌<◌, ◌≤◌, ℕ, ◌+◌, List, ◌++◌, length, take, drop, slice_get, Some, if◌then◌else◌}
+use Rattle.rio_host.specs.Host.{Leaves, View}
+use Rattle.rio_dir.specs.Unborn.{is_unborn}
+use Rattle.rio_machine.specs.State.{State}
+use Rattle.rio_machine.specs.declared.command.Command.{Command}
+use Rattle.rio_machine.specs.declared.refusal.Refusal.TheVariants.{Full}
+use Rattle.rio_step.specs.Costs.{HasFileRoom}
+use Rattle.rio_step.specs.Runs.{Marks, closed_of, first_step, said_of, saved_of, state_after, states_of_run}
+use Rattle.rio_step.specs.Step.{Reply, refused}
+use Rattle.rio_state.specs.Left.{ReadsClosedUnlessOpen}
+use Rattle.rio_state.specs.Reads.{ReadsAsState, ReadsClosed}
+
+-- ---- a run
+
+-- A run of a script: the state that the file reads as at the start, the commands, and the marks of those that find no room.
+pub record ScriptRun : Type 0 where
+  pub start : State
+  pub commands : List Command
+  pub marks : Marks
+
+-- the state at the start, behind each command, and behind each closing save
+abbrev pub states : ScriptRun → List State
+states r = states_of_run r.start r.commands r.marks
+
+-- the last of them
+abbrev pub end_state : ScriptRun → State
+end_state r = closed_of (state_after r.start r.commands r.marks)
+
+-- the replies of the first j commands, and those of all
+abbrev pub replies : ScriptRun → ℕ → List ℕ
+replies r j = said_of r.start (take j r.commands) r.marks
+
+abbrev pub all_replies : ScriptRun → List ℕ
+all_replies r = said_of r.start r.commands r.marks
+
+-- the reply of a command, the k-th
+abbrev pub reply_at : ScriptRun → ℕ → Command → Reply
+reply_at r k c = (first_step (state_after r.start (take k r.commands) r.marks) c (drop k r.marks)).reply
+
+-- ---- at a stop
+
+-- What was said behind the text of before is a front of all replies: the first j are whole, and of the next one there is a part.
+pub record HasSaid (r : ScriptRun) (before said : List ℕ) (j : ℕ) : Type 0 where
+  pub bytes : ℕ
+  pub text : said ≡ before ++ take bytes (all_replies r)
+  pub commands : j ≤ length r.commands
+  pub whole : length (replies r j) ≤ bytes
+  pub part : j < length r.commands → bytes < length (replies r (j + 1))
+
+-- The image reads as the k-th state without its pending rows, by the walk. By the key list an image that isn't marked as open reads
+-- as that state too, if the file at the start either was marked as open or read as its state by the key list.
+pub record HoldsPrefix (r : ScriptRun) (file image : List ℕ) (k : ℕ) : Type 0 where
+  pub state : State
+  pub state_is : slice_get (states r) k ≡ Some state
+  pub reads : ReadsAsState image (saved_of state)
+  pub closed : ReadsClosedUnlessOpen file r.start → ReadsClosedUnlessOpen image (saved_of state)
+
+-- An image and the text of its moment: each command whose reply was said whole is held, and of the others at most the next one.
+pub record IsStopOf (r : ScriptRun) (file before image said : List ℕ) : Type 0 where
+  pub j : ℕ
+  pub k : ℕ
+  pub replies : HasSaid r before said j
+  pub prefix : HoldsPrefix r file image k
+  pub holds : j ≤ k
+  pub next : j < length r.commands → k ≤ j + 1
+
+-- ---- at the end
+
+-- the one reply that is no function of the state: want of room
+abbrev pub IsWantOfRoom : Reply → Type 0
+IsWantOfRoom (refused (Full end wanted)) = Unit {0}
+IsWantOfRoom other = ⊥
+
+-- no command is refused for it
+abbrev pub AllFindRoom : ScriptRun → Type 0
+AllFindRoom r = (k : ℕ) (c : Command) → slice_get r.commands k ≡ Some c → ¬ IsWantOfRoom (reply_at r k c)
+
+-- how long the file was when it was opened: one that isn't made yet counts as empty
+abbrev pub opening_length : List ℕ → ℕ
+opening_length file = if is_unborn file then 0 else length file
+
+-- All replies were said, and a stop leaves what reads as the last state, by the walk and by the key list. Where the file's length
+-- and the costs of the commands leave room for them, no reply was want of room.
+pub record IsDone (r : ScriptRun) (file before : List ℕ) (new : View) : Type 0 where
+  pub said : new.said ≡ Some (before ++ all_replies r)
+  pub left : (image said : List ℕ) → Leaves new image said → ReadsAsState image (end_state r) × ReadsClosed image (end_state r)
+  pub room : HasFileRoom (opening_length file) r.start r.commands r.marks → AllFindRoom r

@@ -1,0 +1,106 @@
+-- A script on a file: how a run of it ends.
+use Rattle.std.specs.Prelude.{◌≡◌, ℕ, List, ◌++◌, Some, Result, Ok, Err}
+use Rattle.rio_head.specs.Head.{IsHeaderKind}
+use Rattle.rio_host.specs.Host.{Becomes, Elapses, Leaves, Rose, View}
+use Rattle.rio_host.specs.Source.{Input}
+use Rattle.rio_chain.specs.Stops.{Any}
+use Rattle.rio_meaning.specs.FirstFault.{HeaderAlone}
+use Rattle.rio_close.specs.Causes.{NoDiskFault, NoSayFault}
+use Rattle.rio_machine.specs.State.{State}
+use Rattle.rio_machine.specs.declared.command.Command.{Command}
+use Rattle.rio_step.specs.Costs.{HasFileRoom}
+use Rattle.rio_step.specs.Runs.{state_after}
+use Rattle.rio_state.specs.Reads.{ReadsAsState, ReadsClosed}
+use Rattle.rio_session.specs.Marks.{marks_of_run}
+use Rattle.rio_session.specs.Session.{SessionState, StandsFor}
+use Rattle.rio_session.specs.declared.fault.OpenFault.{OpenFault}
+use Rattle.rio_session.specs.declared.fault.OpenFault.TheVariants.{BadFile as FileBad, ReadOnly as FileReadOnly, NoMemory as NotRoomy, HostFault as NotOpened}
+use Rattle.rio_session.specs.declared.fault.SessionFault.{SessionFault}
+use Rattle.rio_session.specs.declared.fault.SessionFault.TheVariants.{HostFault, SayFault as NotSaid, NoMemory as OutOfMemory}
+use Rattle.rootio.specs.Causes.{IsCause}
+use Rattle.rootio.specs.Input.{RefusesTooLong, TellsTooLong}
+use Rattle.rootio.specs.Headline.{AllFindRoom, IsDone, IsStopOf, ScriptRun, all_replies, end_state}
+use Rattle.rootio.specs.Reading.{RefusesBroken, TellsFirstFault}
+use Rattle.rootio.specs.Target.{TargetFile}
+use Rattle.rootio.specs.Writing.{Begins, EndsUnclosed, EndsWriting, LeavesOpen, RefusesReadOnly, SparesRefused, TellsFirstReason, run_of_work}
+use Rattle.rootio.specs.declared.status.Status.{Status}
+use Rattle.rootio.specs.declared.status.Status.TheVariants.{Done, Usage, BadFile, DiskFault, InputFault, NoMemory, InputTooLong, ReadOnly, SayFault}
+use Rattle.rootio.specs.declared.words.Form.TheVariants.{Writes}
+use Rattle.rootio.specs.declared.words.Work.{Work}
+use Rattle.rootio.specs.declared.words.Work.TheVariants.{Run}
+
+-- the run of these commands from a session on
+abbrev pub session_run : SessionState → State → List Command → ScriptRun
+session_run s m commands = record { start = m; commands = commands; marks = marks_of_run s.name s.segments m commands }
+
+-- All commands were done, and all replies said; where the costs leave room, none was want of room.
+pub record HasDone (r : ScriptRun) (first s : SessionState) (before : List ℕ) (new : View) : Type 0 where
+  pub stands : StandsFor new s (state_after r.start r.commands r.marks) (before ++ all_replies r)
+  pub room : first.costs ≡ 0 → HasFileRoom first.opened r.start r.commands r.marks → AllFindRoom r
+
+-- All commands were done, all replies said, and the file was closed.
+pub record HasClosed (r : ScriptRun) (first : SessionState) (before : List ℕ) (new : View) : Type 0 where
+  pub said : new.said ≡ Some (before ++ all_replies r)
+  pub left : (image said : List ℕ) → Leaves new image said → ReadsAsState image (end_state r) × ReadsClosed image (end_state r)
+  pub room : first.costs ≡ 0 → HasFileRoom first.opened r.start r.commands r.marks → AllFindRoom r
+
+-- a session that ended without a close, as it does where it finds no memory or can't say a reply, leaves a file marked as open
+abbrev pub StaysOpenBy : View → Result (Unit {0}) SessionFault → Type 0
+StaysOpenBy new (Ok x) = Unit {0}
+StaysOpenBy new (Err HostFault) = Unit {0}
+StaysOpenBy new (Err NotSaid) = LeavesOpen new
+StaysOpenBy new (Err OutOfMemory) = LeavesOpen new
+
+-- how a run ended that opened the file
+abbrev pub status_of_session : Result (Unit {0}) SessionFault → Status
+status_of_session (Ok x) = Done
+status_of_session (Err HostFault) = DiskFault
+status_of_session (Err NotSaid) = SayFault
+status_of_session (Err OutOfMemory) = NoMemory
+
+-- and one that didn't
+abbrev pub status_of_open : OpenFault → Status
+status_of_open (FileBad place kind) = BadFile place kind
+status_of_open (FileReadOnly place reason) = ReadOnly place reason
+status_of_open NotRoomy = NoMemory
+status_of_open NotOpened = DiskFault
+
+-- why a run ended that reads no input
+abbrev pub IsFileCause : View → View → Status → Type 0
+IsFileCause old new Done = NoDiskFault old new × NoSayFault old new
+IsFileCause old new Usage = ⊥
+IsFileCause old new (BadFile place kind) = IsHeaderKind kind × NoDiskFault old new × NoSayFault old new
+IsFileCause old new DiskFault = Rose old.disk_faults new.disk_faults × NoSayFault old new
+IsFileCause old new InputFault = ⊥
+IsFileCause old new NoMemory = NoDiskFault old new × NoSayFault old new
+IsFileCause old new InputTooLong = ⊥
+IsFileCause old new (ReadOnly place reason) = NoDiskFault old new × NoSayFault old new
+IsFileCause old new SayFault = NoDiskFault old new × Rose old.say_faults new.say_faults
+
+-- How a run of a script ends: at any stop it leaves a prefix, and at its end all; a refused file is told and spared.
+pub record RunsScript (target : TargetFile) (script : List ℕ) (old new : View) (status : Status) : Type 0 where
+  pub stops : (file text : List ℕ) (m : State) → Begins old file text m
+      → Elapses old new (IsStopOf (run_of_work (Run target) script m) file text)
+  pub done : (file text : List ℕ) (m : State) → Begins old file text m
+      → status ≡ Done → IsDone (run_of_work (Run target) script m) file text new
+  pub unclosed : (file text : List ℕ) (m : State) → Begins old file text m → EndsUnclosed old new status
+  pub told : Becomes Any old.holds new.holds
+  pub faults : TellsFirstFault HeaderAlone old status
+  pub broken : RefusesBroken HeaderAlone old status
+  pub reasons : TellsFirstReason (Writes (Run target)) old status
+  pub read_only : RefusesReadOnly (Writes (Run target)) old status
+  pub spares : SparesRefused old new status
+  pub cause : IsFileCause old new status
+
+-- ---- with the input
+
+-- How a verb ends that writes.
+pub record WorksOn (work : Work) (old new : View) (before after : Input) (status : Status) : Type 0 where
+  pub writes : EndsWriting work old new before after status
+  pub too_long : TellsTooLong before status
+  pub limited : RefusesTooLong (Some (Writes work)) before status
+  pub faults : TellsFirstFault HeaderAlone old status
+  pub broken : RefusesBroken HeaderAlone old status
+  pub reasons : TellsFirstReason (Writes work) old status
+  pub read_only : RefusesReadOnly (Writes work) old status
+  pub cause : IsCause (Some (Writes work)) old new before after status

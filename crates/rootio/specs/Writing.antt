@@ -1,0 +1,143 @@
+-- What the verbs that write do: their commands, and what they leave of the file.
+use Rattle.std.specs.Prelude.{◌≡◌, ◌⊎◌, ℕ, List, [], Bool, true, false, Option, Some, None}
+use Rattle.rio_head.specs.declared.fault.HeadFault.{HeadFault}
+use Rattle.rio_head.specs.declared.reason.Reason.{Reason}
+use Rattle.rio_head.specs.declared.reason.Reason.TheVariants.{NotYet}
+use Rattle.rio_host.specs.Host.{Becomes, Elapses, IsQuiet, Leaves, View}
+use Rattle.rio_host.specs.OnlyReads.{OnlyReads}
+use Rattle.rio_host.specs.Source.{Input}
+use Rattle.rio_dir.specs.Unborn.{header_fault, is_unborn}
+use Rattle.rio_chain.specs.Stops.{Any}
+use Rattle.rio_machine.specs.State.{State}
+use Rattle.rio_machine.specs.declared.command.Command.{Command}
+use Rattle.rio_cmd.specs.Built.{built_script}
+use Rattle.rio_state.specs.Left.{IsMarkedOpen}
+use Rattle.rio_state.specs.Reads.{ReadsAsState}
+use Rattle.rio_state.specs.Reasons.{ReasonAt, reason_at}
+use Rattle.rio_session.specs.Marks.{first_segments, marks_of_run}
+use Rattle.rootio.specs.Headline.{IsDone, IsStopOf, ScriptRun}
+use Rattle.rootio.specs.Target.{TargetFile}
+use Rattle.rootio.specs.declared.status.Status.{Status}
+use Rattle.rootio.specs.declared.status.Status.TheVariants.{Done, Usage, BadFile, DiskFault, InputFault, NoMemory, InputTooLong, ReadOnly, SayFault}
+use Rattle.rootio.specs.declared.words.Form.{Form}
+use Rattle.rootio.specs.declared.words.Form.TheVariants.{Reads, Writes}
+use Rattle.rootio.specs.declared.words.Work.{Work}
+use Rattle.rootio.specs.declared.words.Work.TheVariants.{Run}
+
+-- ---- what stands against writing
+
+-- As yet a made file isn't opened: where it breaks no rule, that is the reason. (The other reasons are told once made files are
+-- opened.)
+abbrev pub made_reason : Bool → Option HeadFault → Option ReasonAt
+made_reason true fault = None
+made_reason false None = Some (reason_at 0 NotYet)
+made_reason false (Some fault) = None
+
+-- why the verb doesn't write to a file that breaks no rule, and the place
+abbrev pub reason_against : Form → List ℕ → Option ReasonAt
+reason_against (Reads list) file = None
+reason_against (Writes work) file = made_reason (is_unborn file) (header_fault file)
+
+-- a reason that is told is the first one
+abbrev pub TellsFirstReason : Form → View → Status → Type 0
+TellsFirstReason form old status =
+    (place : ℕ) (reason : Reason) → status ≡ ReadOnly place reason
+    → (file : List ℕ) → old.holds ≡ Some file → reason_against form file ≡ Some (reason_at place reason)
+
+-- this reason is told, unless the run ended before the file was judged
+abbrev pub TellsReasonUnlessCut : ReasonAt → Status → Type 0
+TellsReasonUnlessCut against Done = ⊥
+TellsReasonUnlessCut against Usage = ⊥
+TellsReasonUnlessCut against (BadFile place kind) = ⊥
+TellsReasonUnlessCut against DiskFault = Unit {0}
+TellsReasonUnlessCut against InputFault = Unit {0}
+TellsReasonUnlessCut against NoMemory = Unit {0}
+TellsReasonUnlessCut against InputTooLong = Unit {0}
+TellsReasonUnlessCut against (ReadOnly place reason) = against ≡ reason_at place reason
+TellsReasonUnlessCut against SayFault = ⊥
+
+-- a file with a reason against writing is told with its first one
+abbrev pub RefusesReadOnly : Form → View → Status → Type 0
+RefusesReadOnly form old status =
+    (against : ReasonAt) (file : List ℕ) → old.holds ≡ Some file
+    → reason_against form file ≡ Some against → TellsReasonUnlessCut against status
+
+-- ---- refused files
+
+-- answers that refuse the file
+abbrev pub RefusesFile : Status → Type 0
+RefusesFile Done = ⊥
+RefusesFile Usage = ⊥
+RefusesFile (BadFile place kind) = Unit {0}
+RefusesFile DiskFault = ⊥
+RefusesFile InputFault = ⊥
+RefusesFile NoMemory = ⊥
+RefusesFile InputTooLong = ⊥
+RefusesFile (ReadOnly place reason) = Unit {0}
+RefusesFile SayFault = ⊥
+
+-- A file that is refused isn't written to; nor is one that breaks a rule or has a reason against it, whatever is answered: as yet
+-- each file that is made.
+pub record SparesRefused (old new : View) (status : Status) : Type 0 where
+  pub answer : RefusesFile status → OnlyReads old new
+  pub file : (file : List ℕ) → old.holds ≡ Some file → is_unborn file ≡ false → OnlyReads old new
+
+-- ---- runs that end early
+
+-- each file that a stop leaves now is marked as open
+abbrev pub LeavesOpen : View → Type 0
+LeavesOpen v = (image said : List ℕ) → Leaves v image said → IsMarkedOpen image
+
+-- A run that finds no memory, or can't say a reply, ends without a close: nothing was written, or the file is marked as open.
+abbrev pub EndsUnclosed : View → View → Status → Type 0
+EndsUnclosed old new Done = Unit {0}
+EndsUnclosed old new Usage = Unit {0}
+EndsUnclosed old new (BadFile place kind) = Unit {0}
+EndsUnclosed old new DiskFault = Unit {0}
+EndsUnclosed old new InputFault = Unit {0}
+EndsUnclosed old new NoMemory = OnlyReads old new ⊎ LeavesOpen new
+EndsUnclosed old new InputTooLong = Unit {0}
+EndsUnclosed old new (ReadOnly place reason) = Unit {0}
+EndsUnclosed old new SayFault = OnlyReads old new ⊎ LeavesOpen new
+
+-- ---- the run
+
+-- the file that the verb writes
+abbrev pub target_of : Work → TargetFile
+target_of (Run target) = target
+
+-- the commands that it does, by its input
+abbrev pub commands_of : Work → List ℕ → List Command
+commands_of (Run target) input = built_script input
+
+-- Its run on a file that isn't made yet, or reads as this state. (A made file isn't opened yet, so no command of its run is
+-- done.)
+abbrev pub run_of_work : Work → List ℕ → State → ScriptRun
+run_of_work work input m =
+    let name = (target_of work).name in
+    let commands = commands_of work input in
+    record { start = m; commands = commands; marks = marks_of_run name (first_segments name) m commands }
+
+-- What is taken for granted at the start: the host is quiet and tells its file and what it said, and the file isn't made yet or
+-- reads as a state.
+pub record Begins (old : View) (file text : List ℕ) (m : State) : Type 0 where
+  pub quiet : IsQuiet old
+  pub holds : old.holds ≡ Some file
+  pub said : old.said ≡ Some text
+  pub reads : ReadsAsState file m
+
+-- Wherever it is stopped, whatever it answers, it leaves a prefix of the run. Where it says that it is done it is, and all of
+-- the input was read; where it ends early it doesn't close the file.
+pub record KeepsHeadline (work : Work) (old new : View) (before after : Input) (status : Status) : Type 0 where
+  pub stops : (file text input : List ℕ) (m : State) → Begins old file text m → before.remaining ≡ Some input
+      → Elapses old new (IsStopOf (run_of_work work input m) file text)
+  pub done : (file text input : List ℕ) (m : State) → Begins old file text m → before.remaining ≡ Some input
+      → status ≡ Done → IsDone (run_of_work work input m) file text new
+  pub unclosed : (file text : List ℕ) (m : State) → Begins old file text m → EndsUnclosed old new status
+  pub input : (input : List ℕ) → before.remaining ≡ Some input → status ≡ Done → after.remaining ≡ Some []
+  pub told : Becomes Any old.holds new.holds
+
+-- How a run ends that writes.
+pub record EndsWriting (work : Work) (old new : View) (before after : Input) (status : Status) : Type 0 where
+  pub headline : KeepsHeadline work old new before after status
+  pub spares : SparesRefused old new status
