@@ -75,7 +75,7 @@ module _ (p t : KeyHead → Bool) (s : IsSearch p t) where
 
 -- ---- by name and cycle, and by name
 
-none_behind : (name : List ℕ) (cycle : ℕ) (heads : List KeyHead) → AreBehind name cycle heads → find (is_at_cycle name cycle) heads ≡ None
+pub none_behind : (name : List ℕ) (cycle : ℕ) (heads : List KeyHead) → AreBehind name cycle heads → find (is_at_cycle name cycle) heads ≡ None
 none_behind name cycle [] are = refl
 none_behind name cycle (h ∷ hs) are = rw (behind_not_at name cycle h are.0) (none_behind name cycle hs are.1)
 

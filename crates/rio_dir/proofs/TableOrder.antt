@@ -16,7 +16,7 @@ use Rattle.rio_key.specs.declared.head.KeyHead.{KeyHead}
 abbrev compared : List ℕ → List ℕ → Ordering
 compared = slice_cmp nat_cmp
 
-bytes_same : (a b : List ℕ) → bytes_eq a b ≡ true → a ≡ b
+pub bytes_same : (a b : List ℕ) → bytes_eq a b ≡ true → a ≡ b
 bytes_same a b e = (bytes_eq-Decides a b).0 e
 
 bytes_self : (a : List ℕ) → bytes_eq a a ≡ true

@@ -3,4 +3,5 @@ pub mod Grammar
 pub mod KeyList
 pub mod Listing
 pub mod Table
+pub mod TableMap
 pub mod Unborn

@@ -1,6 +1,7 @@
 //! Laws of closed files, each the contract of a function that does nothing.
 ghost use Rattle.rio_dir.specs.Grammar.{IsListedOnce, ClosedIsSpelled, SpelledIsClosed};
 ghost use Rattle.rio_dir.specs.Table.{WrittenKeysAreSpelled};
+ghost use Rattle.rio_dir.specs.TableMap.{GreatestIsFound, PutInIsFound, TakenOutIsGone};
 
 /// What is read of a closed file is spelled there, by the grammar of each part, and what is spelled
 /// there is read.
@@ -18,4 +19,12 @@ pub fn one_listing()
 /// a list is read as it was written.
 pub fn written_key_list_is_spelled()
     ensures { WrittenKeysAreSpelled }
+{}
+
+/// The key table is a map from name and cycle: a key that was put in is found by them, one that was taken out isn't, and each
+/// other one is found as before. Without a cycle the key of the name's greatest cycle is found.
+pub fn key_table_is_a_map()
+    ensures put { PutInIsFound }
+    ensures taken { TakenOutIsGone }
+    ensures greatest { GreatestIsFound }
 {}

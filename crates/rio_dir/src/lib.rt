@@ -3,7 +3,7 @@
 //! of the key list, in which a binary search finds a key, and from which the list is written. The definitions
 //! stand in `specs/`: `Closed` (what is read of a file), `Grammar` (what stands where, and the laws that tie
 //! the two), `Listing` (what `ls` says of it) and `Table` (the order, what each call of the table answers, and
-//! the written list).
+//! the written list), `TableMap` (that the table is a map).
 #![tactic(auto)]
 
 mod closed;
@@ -13,7 +13,9 @@ mod table;
 mod write;
 
 pub use closed::Closed;
-pub use laws::{closed_file_is_spelled, one_listing, written_key_list_is_spelled};
+pub use laws::{
+    closed_file_is_spelled, key_table_is_a_map, one_listing, written_key_list_is_spelled,
+};
 pub use list::read_key_list;
 pub use rio_key::{Heads, ListFault, read_heads};
 pub use table::KeyTable;
