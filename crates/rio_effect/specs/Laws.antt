@@ -1,5 +1,5 @@
 -- What the record of a put makes of what a file reads as, of the keys that are kept beside it, and of what its close needs.
-use Rattle.std.specs.Prelude.{◌≡◌, ◌<◌, ◌≤◌, ℕ, ◌+◌, ◌^◌, List, [], ◌∷◌, drop, length, map, true, false, Option, Some, None, Ok, unwrap_or}
+use Rattle.std.specs.Prelude.{◌≡◌, ◌<◌, ◌≤◌, ℕ, ◌+◌, ◌^◌, List, [], drop, length, map, true, false, Option, Some, None, Ok, unwrap_or}
 use Rattle.std.specs.FinMap.{entries, get}
 use Rattle.std.specs.List.{Contains, find, sum_by}
 use Rattle.std.specs.Option.{option_map_or}
