@@ -9,13 +9,16 @@
 
 mod entries;
 mod fault;
+mod laws;
 mod layout;
 mod offsets;
 mod open;
+mod record;
 mod stored;
 
 pub use entries::{Entries, read_basket};
 pub use fault::BasketFault;
+pub use laws::basket_record_is_read;
 pub use open::Basket;
 pub use stored::StoredBasket;
 
