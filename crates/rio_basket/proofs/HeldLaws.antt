@@ -1,13 +1,13 @@
 -- A basket that is being filled, by what it keeps: the bytes of its entries, and where each of them ends.
-use Rattle.std.proofs.Common.{◌≡◌, ℕ, ◌+◌, ◌*◌, ◌≤◌, List, [], ◌∷◌, ◌++◌, length, map, slice_get, Some, None, Bool, true, false, cond, refl, sym, ap, ◌∙◌, length-append, arith}
+use Rattle.std.proofs.Common.{◌≡◌, ℕ, ◌+◌, ◌*◌, ◌^◌, ◌<◌, ◌≤◌, List, [], ◌∷◌, ◌++◌, length, map, slice_get, Some, None, Bool, true, false, cond, refl, sym, ap, ◌∙◌, length-append, arith}
 use Rattle.std.specs.List.{concat, flat_map}
 use Rattle.std.proofs.lemmas.List.{append-nil}
 use Rattle.std.proofs.lemmas.List.Folds.{flat_map-map}
 use Rattle.byteorder.specs.Endian.{big_bytes}
 use Rattle.byteorder.specs.Numbers.{length-bytes_high_first}
 use Rattle.rio_basket.specs.Open.{OpenBasket, cut_from, data_length, is_cut}
-use Rattle.rio_basket.specs.Record.{basket_data, first_entry_length, offset_table, offsets_of}
-use Rattle.rio_basket.proofs.CutLaws.{concat-cut, offsets_of-cut}
+use Rattle.rio_basket.specs.Record.{basket_data, entry_size, first_entry_length, offset_table, offsets_of}
+use Rattle.rio_basket.proofs.CutLaws.{concat-cut, first_within, offsets_of-cut}
 use Rattle.rio_basket.proofs.OpenLaws.{length-cut}
 
 module _ (ends bytes : List ℕ) (cut : is_cut 0 ends (length bytes) ≡ true) where
@@ -81,3 +81,17 @@ first_is (x ∷ xs) entry e = let same : x ≡ entry = cc in ap length same
 pub first_none : (entries : List (List ℕ)) → slice_get entries 0 ≡ None → first_entry_length entries ≡ 0
 first_none [] e = refl
 first_none (x ∷ xs) e = absurd cc
+
+-- what the head says of the length of an entry, or of their number
+pub size_small : (basket : OpenBasket) → length basket.entries < 2 ^ 31 → data_length basket.entries < 2 ^ 31 → entry_size basket < 2 ^ 31
+size_small basket count long = by basket.offsets
+  where
+    by : (t : Bool) → cond t (length basket.entries) (first_entry_length basket.entries) < 2 ^ 31
+    by true = count
+    by false = omega (arith, first_within basket.entries, long)
+
+pub size_with : (basket : OpenBasket) (n : ℕ) → basket.offsets ≡ true → n ≡ length basket.entries → n ≡ entry_size basket
+size_with basket n with is = is ∙ sym (ap (λ (t : Bool). cond t (length basket.entries) (first_entry_length basket.entries)) with)
+
+pub size_without : (basket : OpenBasket) (n : ℕ) → basket.offsets ≡ false → n ≡ first_entry_length basket.entries → n ≡ entry_size basket
+size_without basket n without is = is ∙ sym (ap (λ (t : Bool). cond t (length basket.entries) (first_entry_length basket.entries)) without)

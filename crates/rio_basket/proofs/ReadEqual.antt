@@ -53,9 +53,9 @@ module _ (front : List ℕ) (entries : List (List ℕ)) (tail : List ℕ) (end :
       let long : length (entry_at entries k) ≡ each = omega (arith, next, product, before_is entries even k (omega arith), before_is entries even (k + 1) (omega arith)) in
       let width : equal_place layout k + entry_length layout - equal_place layout k ≡ length (entry_at entries k) = omega (arith, own, long) in
       sym (
-        ap (λ (n : ℕ). take n (drop (equal_place layout k) bytes)) width
-        ∙ ap (λ (n : ℕ). take (length (entry_at entries k)) (drop n bytes)) place
-        ∙ entry_there entries front tail k lt
+      ap (λ (n : ℕ). take n (drop (equal_place layout k) bytes)) width
+      ∙ ap (λ (n : ℕ). take (length (entry_at entries k)) (drop n bytes)) place
+      ∙ entry_there entries front tail k lt
       )
 
   pub entries_read : entries_of false layout bytes ≡ entries

@@ -122,9 +122,9 @@ module _ (front : List ℕ) (entries : List (List ℕ)) (tail : List ℕ) (end :
       let to = ends_there k lt in
       let long : offset_behind layout bytes k - offset_at layout bytes k ≡ length (entry_at entries k) = omega (arith, from, to, before_next entries k lt) in
       sym (
-        ap (λ (n : ℕ). take n (drop (offset_at layout bytes k) bytes)) long
-        ∙ ap (λ (n : ℕ). take (length (entry_at entries k)) (drop n bytes)) from
-        ∙ entry_there entries front (offset_table (length front) entries ++ tail) k lt
+      ap (λ (n : ℕ). take n (drop (offset_at layout bytes k) bytes)) long
+      ∙ ap (λ (n : ℕ). take (length (entry_at entries k)) (drop n bytes)) from
+      ∙ entry_there entries front (offset_table (length front) entries ++ tail) k lt
       )
 
   pub entries_read : entries_of true layout bytes ≡ entries

@@ -26,10 +26,9 @@ use Rattle.rio_basket.specs.declared.layout.Layout.{Layout}
 use Rattle.rio_basket.specs.Entries.{entries_in, entries_of, offsets_in, sound_layout_in}
 use Rattle.rio_basket.specs.Laws.{AreBasketRecords, IsBasketRecord}
 use Rattle.rio_basket.specs.Open.{OpenBasket, data_length, have_one_length}
-use Rattle.rio_basket.specs.Record.{FitsBasketRecord, basket_data, basket_head, basket_key, basket_key_length, basket_record, basket_record_length, entry_size, first_entry_length, offset_table, padded_data_length, unpadded_basket}
+use Rattle.rio_basket.specs.Record.{FitsBasketRecord, basket_data, basket_head, basket_key, basket_key_length, basket_record, basket_record_length, entry_size, offset_table, padded_data_length, unpadded_basket}
 use Rattle.rio_basket.specs.Stored.{ends_within, from_first, has_negative, has_one_length, is_multiple, is_sound, last_place, layout_by, layout_in, layout_of}
-use Rattle.rio_basket.proofs.CutLaws.{first_within}
-use Rattle.rio_basket.proofs.HeldLaws.{data_alone, data_parts, data_with_offsets, data_within}
+use Rattle.rio_basket.proofs.HeldLaws.{data_alone, data_parts, data_with_offsets, data_within, size_small}
 use Rattle.rio_basket.proofs.ReadEqual.{length_divides, read_without_offsets}
 use Rattle.rio_basket.proofs.ReadOffsets.{read_with_offsets}
 
@@ -168,20 +167,13 @@ module _ (place : ℕ) (tree branch : List ℕ) (datime : ℕ) (basket : OpenBas
 
   -- ---- its front
 
-  size_small : entry_size basket < 2 ^ 31
-  size_small = by basket.offsets refl
-    where
-      by : (t : Bool) → basket.offsets ≡ t → cond t (length basket.entries) (first_entry_length basket.entries) < 2 ^ 31
-      by true e = fits.count_fits
-      by false e = omega (arith, first_within basket.entries, data_within keylen basket, fits.record_fits)
-
   in_range : AreInRange head
   in_range = record {
     version = omega arith;
     buffer_size = omega (arith, ints);
-    nev_size = let small = size_small in omega (arith, ints);
-    nev = let small = fits.count_fits in omega (arith, ints);
-    last = let small : keylen + data_length basket.entries < 2 ^ 31 = omega (arith, data_within keylen basket, fits.record_fits) in omega (arith, ints);
+    nev_size = omega (arith, ints, size_small basket fits.count_fits (omega (arith, data_within keylen basket, fits.record_fits)));
+    nev = omega (arith, ints, fits.count_fits);
+    last = omega (arith, ints, data_within keylen basket, fits.record_fits);
     flag = omega arith;
   }
 

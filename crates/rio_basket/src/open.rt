@@ -143,7 +143,11 @@ impl Basket {
         ensures { result ≡ basket_head keylen self.now }
     {
         let count = self.count();
-        let size = if self.offsets { count } else { self.first_length() };
+        let size = if self.offsets {
+            count
+        } else {
+            self.first_length()
+        };
         BasketHead {
             version: 3,
             buffer_size: BUFFER_SIZE,
@@ -197,7 +201,14 @@ impl Basket {
             → entries_in self.now.offsets (made.bytes ++ rest) ≡ Ok self.now.entries) }
     {
         let alloc = self.bytes.allocator();
-        let key = key_of(alloc, place, tree, branch, datime, self.data_length() as u64)?;
+        let key = key_of(
+            alloc,
+            place,
+            tree,
+            branch,
+            datime,
+            self.data_length() as u64,
+        )?;
         let mut record = Bytes::new(alloc);
         record.reserve(u64::from(key.keylen) + u64::from(key.objlen) + 4)?;
         write_key(&key, &mut record)?;
