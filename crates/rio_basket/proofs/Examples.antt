@@ -1,7 +1,7 @@
 -- The records of two baskets, byte for byte.
 use Rattle.std.proofs.Common.{◌≡◌, ℕ, List, [], ◌∷◌, ◌++◌, Bool, true, false, refl}
 use Rattle.std.specs.Prelude.{codes}
-use Rattle.rio_key.specs.BasketHead.{basket_head_bytes, integer_bytes, sizes_bytes}
+use Rattle.rio_key.specs.BasketHead.{integer_bytes, sizes_bytes}
 use Rattle.rio_basket.specs.Open.{OpenBasket}
 use Rattle.rio_basket.specs.Record.{basket_record}
 

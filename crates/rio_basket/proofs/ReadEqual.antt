@@ -1,6 +1,6 @@
 -- A basket whose entries have one length: they are read as they were written.
 use Rattle.std.proofs.Common.{◌≡◌, ℕ, zero, suc, ◌+◌, ◌-◌, ◌*◌, ◌/◌, ◌%◌, ◌<◌, ◌≤◌, List, [], ◌∷◌, ◌++◌, length, take, drop, Bool, true, false, cond, ◌==◌, add-one, refl, sym, ap, subst, ◌∙◌, arith}
-use Rattle.std.specs.List.{concat, list_all, range_with_len}
+use Rattle.std.specs.List.{concat, list_all}
 use Rattle.std.proofs.Math.Nat.{mul-div_cancel_left, mul-mod_right, suc-mul}
 use Rattle.std.proofs.lemmas.Bool.{eq-eqb, ne_eqb}
 use Rattle.std.proofs.lemmas.List.FromFn.{fill_by_all}

@@ -1,5 +1,5 @@
 -- A basket's record is put together: room for it, its key, its head, its data, and zero bytes.
-use Rattle.std.proofs.Common.{◌≡◌, ℕ, ◌+◌, ◌-◌, ◌≤◌, max, List, [], ◌++◌, length, append_assoc, length-append, sym, ap, ◌∙◌, arith}
+use Rattle.std.proofs.Common.{◌≡◌, ℕ, ◌+◌, ◌≤◌, max, List, [], ◌++◌, length, append_assoc, length-append, sym, ap, ◌∙◌, arith}
 use Rattle.rio_num.specs.Room.{Room, padding, room_of, with_more}
 use Rattle.rio_key.specs.BasketHead.{basket_head_bytes}
 use Rattle.rio_key.specs.Written.{written_key}

@@ -1,24 +1,23 @@
 -- The record that is written for a basket: how long it is, its key, and its entries as they are read.
-use Rattle.std.proofs.Common.{◌≡◌, ◌≤◌, ℕ, ◌+◌, ◌-◌, ◌*◌, ◌%◌, ◌^◌, ◌<◌, pos, ◌-ℤ◌, Bool, true, false, cond, not, nat_lt, int_lt, int_le, ◌&&◌, ◌||◌, List, [], ◌++◌, length, take, drop, Result, Ok, Err, refl, sym, ap, ◌∙◌, append_assoc, length-append, arith}
+use Rattle.std.proofs.Common.{◌≡◌, ◌≤◌, ℕ, ◌+◌, ◌-◌, ◌*◌, ◌%◌, pos, ◌-ℤ◌, Bool, true, false, cond, not, nat_lt, int_lt, int_le, ◌&&◌, ◌||◌, List, [], ◌++◌, length, take, Result, Ok, Err, refl, sym, ap, ◌∙◌, append_assoc, length-append, arith}
 use Rattle.std.specs.Int.{w32, cast_unsigned}
 use Rattle.std.specs.List.{concat}
 use Rattle.std.proofs.lemmas.Bool.{le-ltb}
 use Rattle.std.proofs.lemmas.Int.{ints}
 use Rattle.std.proofs.lemmas.List.{append-nil, length-replicate, take_at}
-use Rattle.rio_num.specs.At.{At}
 use Rattle.rio_num.specs.Reading.{◌>>=◌}
 use Rattle.rio_num.specs.Room.{padding}
 use Rattle.rio_num.specs.Text.{long_form, short_form, text_bytes}
 use Rattle.rio_num.proofs.ReadLaws.{bind_is}
-use Rattle.rio_key.specs.BasketHead.{AreInRange, basket_front_at, basket_head_at, basket_head_bytes, integer_bytes, sizes_bytes, within}
-use Rattle.rio_key.specs.Key.{is_compressed, key_head_at, whole}
+use Rattle.rio_key.specs.BasketHead.{AreInRange, basket_front_at, basket_head_bytes, integer_bytes, sizes_bytes}
+use Rattle.rio_key.specs.Key.{is_compressed}
 use Rattle.rio_key.specs.Spelling.{IsSpelledIn, SpellsKey, number_bytes}
 use Rattle.rio_key.specs.Written.{FitsKey, HoldsItself, written_key}
 use Rattle.rio_key.specs.declared.basket_head.BasketFront.{BasketFront}
 use Rattle.rio_key.specs.declared.basket_head.BasketHead.{BasketHead}
 use Rattle.rio_key.specs.declared.head.KeyHead.{KeyHead}
 use Rattle.rio_key.proofs.BasketHeadLaws.{basket_head_again}
-use Rattle.rio_key.proofs.KeyAgain.{key_again, standing}
+use Rattle.rio_key.proofs.KeyAgain.{key_again}
 use Rattle.rio_key.proofs.KeyWritten.{key_spelled}
 use Rattle.rio_basket.specs.declared.fault.BasketFault.{BasketFault}
 use Rattle.rio_basket.specs.declared.fault.BasketFault.TheVariants.{BadLast, Compressed}
@@ -27,7 +26,7 @@ use Rattle.rio_basket.specs.Entries.{entries_in, entries_of, offsets_in, sound_l
 use Rattle.rio_basket.specs.Laws.{AreBasketRecords, IsBasketRecord}
 use Rattle.rio_basket.specs.Open.{OpenBasket, data_length, have_one_length}
 use Rattle.rio_basket.specs.Record.{FitsBasketRecord, basket_data, basket_head, basket_key, basket_key_length, basket_record, basket_record_length, entry_size, offset_table, padded_data_length, unpadded_basket}
-use Rattle.rio_basket.specs.Stored.{ends_within, from_first, has_negative, has_one_length, is_multiple, is_sound, last_place, layout_by, layout_in, layout_of}
+use Rattle.rio_basket.specs.Stored.{ends_within, from_first, has_negative, has_one_length, is_multiple, is_sound, last_place, layout_by, layout_in}
 use Rattle.rio_basket.proofs.HeldLaws.{data_alone, data_parts, data_with_offsets, data_within, size_small}
 use Rattle.rio_basket.proofs.ReadEqual.{length_divides, read_without_offsets}
 use Rattle.rio_basket.proofs.ReadOffsets.{read_with_offsets}

@@ -2,9 +2,10 @@
 //!
 //! A basket is a record of the class TBasket whose entries all have one length, or stand behind offsets. [`read_basket`]
 //! gives its entries, or the first fault with its place. A [`StoredBasket`] keeps the basket's bytes and shows each entry
-//! in its place, with no copy. A [`Basket`] is filled entry by entry, and tells when it is to be written.
-//! `specs/Stored.antt` has the rules of the key and the head, `specs/Entries.antt` those of
-//! the offsets and where each entry stands.
+//! in its place, with no copy. A [`Basket`] is filled entry by entry, tells when it is to be written, and gives its record.
+//! What is written is read as the same entries ([`basket_record_is_read`]).
+//! `specs/Stored.antt` has the rules of the key and the head, `specs/Entries.antt` those of the offsets and where each
+//! entry stands, and `specs/Record.antt` the record as it is written.
 #![tactic(auto)]
 
 mod entries;

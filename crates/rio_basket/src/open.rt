@@ -183,9 +183,9 @@ impl Basket {
         Ok(())
     }
 
-    /// The record of this basket at a place of the file: of a branch of a tree, with the time of the writing as a TDatime packs
-    /// it. Its numbers fit their fields. It has four bytes spare, for the word behind a record that is put last, and is read as
-    /// the basket's entries.
+    /// The record of this basket at a place of the file, of a branch of a tree, with the time of the writing as a TDatime
+    /// packs it. Its numbers fit their fields. It is read as the basket's entries, whatever follows it, and has four bytes
+    /// spare, which putting it into a file takes.
     pub fn to_record(
         &self,
         place: u64,

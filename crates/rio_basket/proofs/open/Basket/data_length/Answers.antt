@@ -1,6 +1,5 @@
-use Rattle.std.proofs.Common.{◌≡◌, ◌+◌, ◌*◌, length, true, false, sym, ap, ◌∙◌, arith}
+use Rattle.std.proofs.Common.{◌≡◌, true, false, sym, ap, ◌∙◌, arith}
 use Rattle.rio_basket.specs.Open.{OpenBasket, data_length}
-use Rattle.rio_basket.specs.Record.{basket_data}
 use Rattle.rio_basket.proofs.HeldLaws.{data_with_offsets, data_without_offsets, held_length}
 use Rattle.rio_basket.proofs.open.Basket.data_length.Goals as goal
 

@@ -3,7 +3,7 @@ use Rattle.std.specs.Int.{w32, cast_signed, cast_unsigned}
 use Rattle.std.proofs.lemmas.Int.{ints, to_z-of_z}
 use Rattle.rio_key.proofs.Signed.{signed_is}
 use Rattle.rio_basket.specs.Open.{OpenBasket, data_length}
-use Rattle.rio_basket.specs.Record.{basket_head, entry_size}
+use Rattle.rio_basket.specs.Record.{entry_size}
 use Rattle.rio_basket.proofs.HeldLaws.{held_length, size_small, size_with, size_without}
 use Rattle.rio_basket.proofs.open.Basket.head.Goals as goal
 use Rattle.rio_basket.proofs.open.Basket.head.Goals.{then-self, else-self}

@@ -1,8 +1,7 @@
-use Rattle.std.proofs.Common.{◌≡◌, ℕ, ◌+◌, ◌<◌, ◌^◌, List, ◌++◌, ◌||◌, length, Ok, sym, ap, ◌∙◌, arith}
-use Rattle.rio_key.specs.declared.head.KeyHead.{KeyHead}
+use Rattle.std.proofs.Common.{ℕ, ◌+◌, List, ◌++◌, ◌||◌, sym, ap, ◌∙◌, arith}
 use Rattle.rio_basket.specs.Entries.{entries_in}
 use Rattle.rio_basket.specs.Open.{OpenBasket, have_one_length}
-use Rattle.rio_basket.specs.Record.{basket_data, basket_key, basket_key_length, basket_record}
+use Rattle.rio_basket.specs.Record.{basket_key, basket_key_length}
 use Rattle.rio_basket.proofs.HeldLaws.{data_same}
 use Rattle.rio_basket.proofs.RecordMade.{four_spare, made_is}
 use Rattle.rio_basket.proofs.WrittenBaskets.{is_basket_record}
