@@ -2,3 +2,12 @@ pub mod OffsetLaws
 pub mod LaidLaws
 pub mod PlaceLaws
 pub mod OpenLaws
+pub mod PutLaws
+pub mod CutLaws
+pub mod HeldLaws
+pub mod JoinedLaws
+pub mod ReadOffsets
+pub mod ReadEqual
+pub mod WrittenBaskets
+pub mod RecordMade
+pub mod Examples

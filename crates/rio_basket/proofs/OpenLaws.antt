@@ -28,7 +28,7 @@ cut_there start (end ∷ ends) bytes zero lt = refl
 cut_there start (end ∷ ends) bytes (suc k) lt =
     cut_there end ends bytes k (omega arith) ∙ ap (λ (s : ℕ). Some (slice_range bytes s (get_or ends k 0))) (start_next start end ends k)
 
-least : (a b : ℕ) → nat_le a b ≡ true → a ≤ b
+pub least : (a b : ℕ) → nat_le a b ≡ true → a ≤ b
 least a b h = grind (arith, nat_tests)
 
 pub cut_start : (start : ℕ) (ends : List ℕ) (last : ℕ) → is_cut start ends last ≡ true → start ≤ last

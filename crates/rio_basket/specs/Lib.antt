@@ -1,4 +1,6 @@
 pub mod Entries
 pub mod Laid
+pub mod Laws
 pub mod Open
+pub mod Record
 pub mod Stored

@@ -1,5 +1,5 @@
 -- A basket that is being filled: its entries, and how many more there is room for.
-use Rattle.std.specs.Prelude.{◌≡◌, ◌⊎◌, ℕ, zero, suc, ◌+◌, ◌-◌, ◌<◌, List, [], ◌∷◌, ◌++◌, length, max, slice_index, slice_range, Result, Ok, Err, Bool, nat_le, nat_lt, ◌==◌, ◌&&◌, ◌||◌}
+use Rattle.std.specs.Prelude.{◌≡◌, ◌⊎◌, ℕ, zero, suc, ◌+◌, ◌-◌, ◌<◌, List, [], ◌∷◌, ◌++◌, length, max, slice_index, slice_range, Result, Ok, Err, Bool, true, nat_le, nat_lt, ◌==◌, ◌&&◌, ◌||◌}
 use Rattle.std.specs.List.{concat, list_all}
 use Rattle.rio_num.specs.declared.no_memory.NoMemory.{NoMemory}
 
@@ -21,6 +21,11 @@ takes_entry entries n = (length entries == 0) || (nat_le (data_length entries + 
 -- without offsets, all entries have the length of the first
 abbrev pub fits_entry : OpenBasket → List ℕ → Bool
 fits_entry basket entry = basket.offsets || list_all (λ e. length e == length entry) basket.entries
+
+-- all entries have the length of the first
+abbrev pub have_one_length : List (List ℕ) → Bool
+have_one_length [] = true
+have_one_length (entry ∷ entries) = list_all (λ e. length e == length entry) entries
 
 -- with one entry more, which takes from the room what it fills
 abbrev pub with_entry : OpenBasket → List ℕ → OpenBasket
@@ -44,6 +49,11 @@ with_room basket n = record {
   rooms = max basket.rooms 1;
   spare = max basket.spare n;
 }
+
+-- There is that room now, or memory ran out: there was less before, and nothing changed.
+abbrev pub MakesRoom : OpenBasket → OpenBasket → ℕ → Result (Unit {0}) NoMemory → Type 0
+MakesRoom old new n (Ok x) = new ≡ with_room old n
+MakesRoom old new n (Err e) = (new ≡ old) × ((old.rooms < 1) ⊎ (old.spare < n))
 
 -- ---- entries one behind the other
 

@@ -3,6 +3,8 @@ ghost use Rattle.std.specs.Prelude.{◌≡◌, ◌+◌, ◌<◌, ◌≤◌, ◌=
 ghost use Rattle.std.specs.Option.{option_copied};
 ghost use Rattle.rio_basket.specs.Open.{cut_from, is_cut, start_of};
 
+use crate::record::{key_of, put_ends};
+use rio_key::{BasketHead, write_basket_head, write_key};
 use rio_num::{Bytes, NoMemory};
 use std::alloc::Global;
 use std::marker::Model;
@@ -12,6 +14,9 @@ const MOST_BYTES: u128 = 32_000;
 
 /// The most entries of a basket.
 const MOST_ENTRIES: usize = 8_192;
+
+/// What a basket's head says of the buffer that it was filled in.
+const BUFFER_SIZE: i32 = 32_000;
 
 /// A basket that is being filled with the entries of a branch, which have offsets or all have one length.
 #[derive(Debug, Drop)]
@@ -25,8 +30,8 @@ pub struct Basket {
 }
 
 impl Model for Basket {
-    ghost use Rattle.std.specs.Prelude.{◌≡◌, ◌+◌, ◌≤◌, length, true, vec_len, vec_capacity};
-    ghost use Rattle.rio_basket.specs.Open.{OpenBasket, cut_from, is_cut};
+    ghost use Rattle.std.specs.Prelude.{◌≡◌, ◌+◌, ◌≤◌, ◌||◌, length, true, vec_len, vec_capacity};
+    ghost use Rattle.rio_basket.specs.Open.{OpenBasket, cut_from, have_one_length, is_cut};
 
     ghost Value = { OpenBasket };
 
@@ -38,13 +43,17 @@ impl Model for Basket {
     } };
 
     ghost invariant = { λ b. (is_cut 0 b.ends.items (length b.bytes.bytes) ≡ true)
-        × (vec_len b.ends + b.rooms ≤ vec_capacity b.ends) };
+        × (vec_len b.ends + b.rooms ≤ vec_capacity b.ends)
+        × (b.offsets || have_one_length (cut_from 0 b.ends.items b.bytes.bytes) ≡ true) };
 }
 
 impl Basket {
-    ghost use Rattle.std.specs.Prelude.{◌≡◌, [], length, max, slice_get, IsTrue, OnOk, OnErr};
+    ghost use Rattle.std.specs.Prelude.{◌≡◌, ℕ, ◌+◌, ◌<◌, ◌≤◌, ◌^◌, List, [], ◌++◌, length, max, slice_get, Ok, IsTrue, IfOk, OnOk};
     ghost use Rattle.std.specs.Option.{option_copied};
-    ghost use Rattle.rio_basket.specs.Open.{AddsEntry, fits_entry, takes_entry, with_room};
+    ghost use Rattle.rio_num.specs.Room.{with_more};
+    ghost use Rattle.rio_basket.specs.Entries.{entries_in};
+    ghost use Rattle.rio_basket.specs.Open.{AddsEntry, MakesRoom, data_length, fits_entry, takes_entry};
+    ghost use Rattle.rio_basket.specs.Record.{FitsBasketRecord, basket_data, basket_head, basket_record, first_entry_length, offset_table};
 
     /// No entries.
     pub fn new(alloc: Global, offsets: bool) -> Basket
@@ -87,8 +96,7 @@ impl Basket {
 
     /// Makes room for one more entry of at most `n` bytes, which `add` then takes without memory.
     pub fn reserve(&mut self, n: u64) -> Result<(), NoMemory>
-        ensures ok { OnOk result (self.new ≡ with_room self.old n) }
-        ensures err { OnErr result (self.new ≡ self.old) }
+        ensures { MakesRoom self.old self.new n result }
     {
         if self.rooms == 0 {
             self.ends.reserve(1)?;
@@ -104,6 +112,110 @@ impl Basket {
         ensures { result ≡ takes_entry self.now.entries n }
     {
         take_one_more(self.count(), self.bytes.len(), n)
+    }
+
+    // The length of the first entry, and 0 where there is none.
+    fn first_length(&self) -> usize
+        ensures { result ≡ first_entry_length self.now.entries }
+    {
+        match self.entry(0) {
+            Some(entry) => entry.len(),
+            None => 0,
+        }
+    }
+
+    // How many bytes the entries and their offsets take.
+    fn data_length(&self) -> usize
+        requires { length (basket_data 0 self.now) < 2 ^ 32 }
+        ensures { (k : ℕ) → result ≡ length (basket_data k self.now) }
+    {
+        if self.offsets {
+            self.bytes.len() + 4 * self.count() + 8
+        } else {
+            self.bytes.len()
+        }
+    }
+
+    // The head behind a key of this length.
+    fn head(&self, keylen: u16) -> BasketHead
+        requires count { length self.now.entries < 2 ^ 31 }
+        requires last { keylen + data_length self.now.entries < 2 ^ 31 }
+        ensures { result ≡ basket_head keylen self.now }
+    {
+        let count = self.count();
+        let size = if self.offsets {
+            count
+        } else {
+            self.first_length()
+        };
+        BasketHead {
+            version: 3,
+            buffer_size: BUFFER_SIZE,
+            nev_size: size as i32,
+            nev: count as i32,
+            last: i32::from(keylen) + self.bytes.len() as i32,
+            flag: 0,
+        }
+    }
+
+    // How many offsets there are, and each of them.
+    fn put_table(&self, keylen: u16, into: &mut Bytes) -> Result<(), NoMemory>
+        requires count { length self.now.entries < 2 ^ 31 }
+        requires last { keylen + data_length self.now.entries < 2 ^ 31 }
+        ensures { OnOk result (into.new
+            ≡ with_more into.old (offset_table keylen self.now.entries)) }
+    {
+        into.put_u32(self.count() as u32 + 1)?;
+        into.put_u32(u32::from(keylen))?;
+        put_ends(u32::from(keylen), self.ends.as_slice(), into)
+    }
+
+    // The entries, and their offsets where they have some.
+    fn put_data(&self, keylen: u16, into: &mut Bytes) -> Result<(), NoMemory>
+        requires count { length self.now.entries < 2 ^ 31 }
+        requires last { keylen + data_length self.now.entries < 2 ^ 31 }
+        ensures { OnOk result (into.new ≡ with_more into.old (basket_data keylen self.now)) }
+    {
+        into.put(self.bytes.as_slice())?;
+        if self.offsets {
+            self.put_table(keylen, into)?;
+        }
+        Ok(())
+    }
+
+    /// The record of this basket at a place of the file, of a branch of a tree, with the time of the writing as a TDatime
+    /// packs it. Its numbers fit their fields. It is read as the basket's entries, whatever follows it, and has four bytes
+    /// spare, which putting it into a file takes.
+    pub fn to_record(
+        &self,
+        place: u64,
+        tree: &[u8],
+        branch: &[u8],
+        datime: u32,
+    ) -> Result<Bytes, NoMemory>
+        requires { FitsBasketRecord place tree.now branch.now datime self.now }
+        ensures exact { IfOk result (λ made.
+            made.bytes ≡ basket_record place tree.now branch.now datime self.now) }
+        ensures spare { IfOk result (λ made. 4 ≤ made.spare) }
+        ensures read { IfOk result (λ made. (rest : List ℕ)
+            → entries_in self.now.offsets (made.bytes ++ rest) ≡ Ok self.now.entries) }
+    {
+        let alloc = self.bytes.allocator();
+        let key = key_of(
+            alloc,
+            place,
+            tree,
+            branch,
+            datime,
+            self.data_length() as u64,
+        )?;
+        let mut record = Bytes::new(alloc);
+        record.reserve(u64::from(key.keylen) + u64::from(key.objlen) + 4)?;
+        write_key(&key, &mut record)?;
+        write_basket_head(&self.head(key.keylen), &mut record)?;
+        self.put_data(key.keylen, &mut record)?;
+        record.pad4()?;
+        Ok(record)
     }
 }
 

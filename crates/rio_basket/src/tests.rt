@@ -75,6 +75,31 @@ fn reads_entries_with_offsets(rt: HostRuntime) -> Result<(), Fail> {
 }
 
 #[test]
+fn writes_entries_of_one_length(rt: HostRuntime) -> Result<(), Fail> {
+    let mut basket = Basket::new(rt.alloc(), false);
+    basket.add(b"\0\0\0\x01")?;
+    basket.add(b"\0\0\0\x02")?;
+    basket.add(b"\0\0\0\x03")?;
+    let record = basket.to_record(208, b"T", b"x", 1)?;
+    let expected = joined(rt.alloc(), &[KEY, HEAD, NUMBERS])?;
+    assert!(rt; record.as_slice() == expected.as_slice());
+    Ok(())
+}
+
+#[test]
+fn writes_entries_with_offsets(rt: HostRuntime) -> Result<(), Fail> {
+    let mut basket = Basket::new(rt.alloc(), true);
+    basket.add(b"")?;
+    basket.add(b"\x3f\x80\0\0\x40\0\0\0\x40\x40\0\0")?;
+    basket.add(b"")?;
+    let record = basket.to_record(208, b"V", b"v", 1)?;
+    let parts = [COUNTED_KEY, COUNTED_HEAD, COUNTED, b"\0\0\0\x45\0\0\0"];
+    let expected = joined(rt.alloc(), &parts)?;
+    assert!(rt; record.as_slice() == expected.as_slice());
+    Ok(())
+}
+
+#[test]
 fn fills_a_basket(rt: HostRuntime) -> Result<(), Fail> {
     let mut basket = Basket::new(rt.alloc(), true);
     assert!(rt; basket.takes(40_000));

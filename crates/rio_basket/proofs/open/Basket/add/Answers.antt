@@ -1,7 +1,8 @@
 use Rattle.std.proofs.Common.{rules, ◌≡◌, ◌+◌, ℕ, List, [], ◌∷◌, ◌++◌, length, true, ap, ◌∙◌}
 use Rattle.std.proofs.lemmas.List.{length-append}
 use Rattle.rio_num.specs.Room.{Room}
-use Rattle.rio_basket.specs.Open.{OpenBasket, cut_from, is_cut, with_entry}
+use Rattle.rio_basket.specs.Open.{OpenBasket, cut_from, fits_entry, is_cut, with_entry}
+use Rattle.rio_basket.proofs.CutLaws.{even_more}
 use Rattle.rio_basket.proofs.OpenLaws.{cut_more, is_cut_more}
 use Rattle.rio_basket.proofs.open.Basket.add.Goals as goal
 
@@ -19,7 +20,13 @@ invariant_of-self-2 c =
     ∙ ap (λ (n : ℕ). is_cut 0 (items ++ n ∷ []) (length new)) (c.len.ensures ∙ long)
     ∙ ap (λ (n : ℕ). is_cut 0 (items ++ (length b.bytes.bytes + length entry) ∷ []) n) long
     ∙ is_cut_more 0 items (length b.bytes.bytes) (length entry) c.self.invariant.0 in
-    (cut, search rules)
+    let entries_are : cut_from 0 c.push.new.self.items new ≡ cut_from 0 items b.bytes.bytes ++ entry ∷ [] =
+    ap (λ (l : List ℕ). cut_from 0 l new) items_is
+    ∙ ap (λ (n : ℕ). cut_from 0 (items ++ n ∷ []) new) (c.len.ensures ∙ long)
+    ∙ ap (λ (bytes : List ℕ). cut_from 0 (items ++ (length b.bytes.bytes + length entry) ∷ []) bytes) bytes_is
+    ∙ cut_more 0 items b.bytes.bytes entry c.self.invariant.0 in
+    let fits : fits_entry (record { offsets = b.offsets; entries = cut_from 0 items b.bytes.bytes; rooms = b.rooms; spare = b.bytes.spare }) entry ≡ true = ap (λ (o : OpenBasket). fits_entry o entry) c.self.view_is ∙ c.requires in
+    (cut, search rules, even_more b.offsets (cut_from 0 items b.bytes.bytes) entry (cut_from 0 c.push.new.self.items new) entries_are fits)
 
 pub returns : goal.returns
 returns c =
