@@ -16,6 +16,7 @@ use Rattle.rio_state.specs.Reads.{ReadsAsState}
 use Rattle.rio_state.specs.Reasons.{ReasonAt, reason_at}
 use Rattle.rio_session.specs.Marks.{first_segments, marks_of_run}
 use Rattle.rootio.specs.Headline.{IsDone, IsStopOf, ScriptRun}
+use Rattle.rootio.specs.Input.{IsPastInput}
 use Rattle.rootio.specs.Target.{TargetFile}
 use Rattle.rootio.specs.declared.status.Status.{Status}
 use Rattle.rootio.specs.declared.status.Status.TheVariants.{Done, Usage, BadFile, DiskFault, InputFault, NoMemory, InputTooLong, ReadOnly, SayFault}
@@ -126,15 +127,15 @@ pub record Begins (old : View) (file text : List ℕ) (m : State) : Type 0 where
   pub said : old.said ≡ Some text
   pub reads : ReadsAsState file m
 
--- Wherever it is stopped, whatever it answers, it leaves a prefix of the run. Where it says that it is done it is, and all of
--- the input was read; where it ends early it doesn't close the file.
+-- Wherever it is stopped, whatever it answers, it leaves a prefix of the run. Where it says that it is done it is; where it ends
+-- early it doesn't close the file. What it says of the file, of a disk fault or of its text comes only behind all of the input.
 pub record KeepsHeadline (work : Work) (old new : View) (before after : Input) (status : Status) : Type 0 where
   pub stops : (file text input : List ℕ) (m : State) → Begins old file text m → before.remaining ≡ Some input
       → Elapses old new (IsStopOf (run_of_work work input m) file text)
   pub done : (file text input : List ℕ) (m : State) → Begins old file text m → before.remaining ≡ Some input
       → status ≡ Done → IsDone (run_of_work work input m) file text new
   pub unclosed : (file text : List ℕ) (m : State) → Begins old file text m → EndsUnclosed old new status
-  pub input : (input : List ℕ) → before.remaining ≡ Some input → status ≡ Done → after.remaining ≡ Some []
+  pub input : (input : List ℕ) → before.remaining ≡ Some input → IsPastInput status → after.remaining ≡ Some []
   pub told : Becomes Any old.holds new.holds
 
 -- How a run ends that writes.
