@@ -9,7 +9,7 @@ use rio_registry::Registry;
 use std::alloc::Global;
 
 impl Session {
-    ghost use Rattle.std.specs.Prelude.{◌≡◌, ◌≤◌, ℕ, List, Some, length, false, IfOk};
+    ghost use Rattle.std.specs.Prelude.{◌≡◌, ◌≤◌, ℕ, List, Some, length, true, false, IfOk};
     ghost use Rattle.rio_host.specs.Host.{Becomes, Elapses, IsQuiet};
     ghost use Rattle.rio_host.specs.OnlyReads.{OnlyReads};
     ghost use Rattle.rio_chain.specs.Stops.{Any};
@@ -18,6 +18,7 @@ impl Session {
     ghost use Rattle.rio_machine.specs.State.{State};
     ghost use Rattle.rio_state.specs.Left.{ReadsClosedUnlessOpen};
     ghost use Rattle.rio_state.specs.Reads.{ReadsAsState};
+    ghost use Rattle.rio_create.specs.Creation.{LeavesUnclosed};
     ghost use Rattle.rio_session.specs.Causes.{IsNotOpened, IsOpenCause, TellsWhyNot};
     ghost use Rattle.rio_session.specs.Session.{BeginsNew, IsReady, StandsFor};
 
@@ -35,6 +36,9 @@ impl Session {
             → ReadsAsState file m
             → Elapses (H.view host.old) (H.view host.new) (λ image said. ReadsAsState image m
             × (ReadsClosedUnlessOpen file m → ReadsClosedUnlessOpen image m) × (said ≡ text)) }
+        ensures unclosed { (file : List ℕ) → IsQuiet (H.view host.old)
+            → (H.view host.old).holds ≡ Some file
+            → is_unborn file ≡ true → LeavesUnclosed (H.view host.new) }
         ensures stands { IfOk result (λ session. (file text : List ℕ) (m : State)
             → (H.view host.old).holds ≡ Some file → (H.view host.old).said ≡ Some text
             → ReadsAsState file m → StandsFor (H.view host.new) session m text) }
