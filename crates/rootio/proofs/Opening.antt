@@ -1,5 +1,5 @@
 -- How a run of a script ends: where nothing is done, where the file isn't opened, and where it is.
-use Rattle.std.proofs.Common.{if◌then◌else◌, ◌≡◌, inl, ℕ, Bool, true, false, List, length, Option, Some, None, Result, Ok, Err, subst, sym, refl, ap, ◌∙◌}
+use Rattle.std.proofs.Common.{if◌then◌else◌, ◌≡◌, ◌⊎◌, inl, inr, ⊎_elim, ℕ, Bool, true, false, List, length, Option, Some, None, Result, Ok, Err, subst, sym, refl, ap, ◌∙◌}
 use Rattle.std.specs.Result.{OnOk}
 use Rattle.rio_head.specs.declared.fault.FileFault.{FileFault}
 use Rattle.rio_head.specs.declared.fault.HeadFault.{HeadFault}
@@ -20,6 +20,7 @@ use Rattle.rio_cmd.specs.Built.{built_script}
 use Rattle.rio_step.specs.Costs.{HasFileRoom}
 use Rattle.rio_state.specs.Reads.{ReadsAsState}
 use Rattle.rio_state.specs.Reasons.{reason_at}
+use Rattle.rio_create.specs.Creation.{LeavesUnclosed}
 use Rattle.rio_session.specs.Causes.{IsNotOpened, IsOpenCause, IsSessionCause, NoCountRose, TellsWhyNot}
 use Rattle.rio_session.specs.Marks.{marks_of_run}
 use Rattle.rio_session.specs.Session.{BeginsNew, SessionState, StandsFor}
@@ -118,11 +119,17 @@ module _ (target : TargetFile) (v0 v1 : View) where
   open_answer NotRoomy untouched refuses = absurd refuses
   open_answer NotOpened untouched refuses = absurd refuses
 
-  open_unclosed : (fault : OpenFault) → (IsNotOpened {X = SessionState} (Err fault) → OnlyReads v0 v1) → EndsUnclosed v0 v1 (status_of_open fault)
-  open_unclosed (FileBad p k) untouched = tt
-  open_unclosed (FileReadOnly p r) untouched = tt
-  open_unclosed NotRoomy untouched = inl (untouched tt)
-  open_unclosed NotOpened untouched = tt
+  -- a file that is made isn't written to, and one that isn't made stays so or is marked as open
+  made_or_not : (unborn : Bool) → (unborn ≡ true → LeavesUnclosed v1) → (unborn ≡ false → OnlyReads v0 v1) → OnlyReads v0 v1 ⊎ LeavesUnclosed v1
+  made_or_not true new made = inr (new refl)
+  made_or_not false new made = inl (made refl)
+
+  open_unclosed : (run : ScriptRun) (before : List ℕ) (fault : OpenFault) → OnlyReads v0 v1 ⊎ LeavesUnclosed v1
+      → (IsNotOpened {X = SessionState} (Err fault) → OnlyReads v0 v1) → EndsUnclosed run before v0 v1 (status_of_open fault)
+  open_unclosed run before (FileBad p k) stays untouched = tt
+  open_unclosed run before (FileReadOnly p r) stays untouched = tt
+  open_unclosed run before NotRoomy stays untouched = inl (untouched tt)
+  open_unclosed run before NotOpened stays untouched = ⊎_elim (λ reads. inl reads) (λ unclosed. inr (inl unclosed)) stays
 
   open_cause : (fault : OpenFault) → IsOpenCause {X = SessionState} v0 v1 (Err fault) → IsFileCause v0 v1 (status_of_open fault)
   open_cause (FileBad p k) cause = (cause.0, cause.1.0, cause.1.1)
@@ -141,16 +148,19 @@ abbrev pub OpensSo : View → View → Type 0
 OpensSo v0 v1 = (file text : List ℕ) (m : State) → IsQuiet v0 → v0.holds ≡ Some file → v0.said ≡ Some text → ReadsAsState file m → Elapses v0 v1 (OpensAs file text m)
 
 pub not_opened : (target : TargetFile) (script : List ℕ) (v0 v1 : View) (fault : OpenFault) → OpensSo v0 v1
+    → ((file : List ℕ) → IsQuiet v0 → v0.holds ≡ Some file → is_unborn file ≡ true → LeavesUnclosed v1)
     → Told v0 (λ file. TellsWhyNot file {X = SessionState} (Err fault))
     → ((file : List ℕ) → v0.holds ≡ Some file → is_unborn file ≡ false → OnlyReads v0 v1)
     → (IsNotOpened {X = SessionState} (Err fault) → OnlyReads v0 v1) → Becomes Any v0.holds v1.holds → IsOpenCause {X = SessionState} v0 v1 (Err fault)
     → RunsScript target script v0 v1 (status_of_open fault)
-not_opened target script v0 v1 fault opens why unwritten untouched told cause = record {
+not_opened target script v0 v1 fault opens unclosed why unwritten untouched told cause = record {
   stops = λ file text m begins.
       elapses_as (IsStopOf (run_of_work (Run target) script m) file text) (OpensAs file text m) (opens file text m begins.quiet begins.holds begins.said begins.reads)
       (λ image said left. stop_opening (run_of_work (Run target) script m) file text image said begins.reads left);
   done = λ file text m begins is. absurd (not_done target v0 v1 fault is);
-  unclosed = λ file text m begins. open_unclosed target v0 v1 fault untouched;
+  unclosed = λ file text m begins.
+      open_unclosed target v0 v1 (run_of_work (Run target) script m) text fault
+      (made_or_not target v0 v1 (is_unborn file) (unclosed file begins.quiet begins.holds) (unwritten file begins.holds)) untouched;
   told = told;
   faults = open_faults target v0 v1 fault why;
   broken = open_broken target v0 v1 fault why;
@@ -213,7 +223,7 @@ module _ (target : TargetFile) (script : List ℕ) (v0 v1 v2 : View) (s : Sessio
     (told01 : Becomes Any v0.holds v1.holds) (none : NoCountRose v0 v1) (are : commands ≡ built_script script)
     (stops : (file text : List ℕ) (m : State) → StandsFor v1 s m text → Elapses v1 v2 (IsStopOf (session_run s m commands) file text))
     (done : OnOk r ((m : State) (text : List ℕ) → StandsFor v1 s m text → HasClosed (session_run s m commands) s text v2))
-    (unclosed : (m : State) (text : List ℕ) → StandsFor v1 s m text → StaysOpenBy v2 r)
+    (unclosed : (m : State) (text : List ℕ) → StandsFor v1 s m text → StaysOpenBy (session_run s m commands) text v2 r)
     (told12 : Becomes Any v1.holds v2.holds) (cause : IsSessionCause v1 v2 r) where
   does_all : (file text : List ℕ) (m : State) → Begins v0 file text m → Elapses v0 v2 (IsStopOf (run_of_work (Run target) script m) file text)
   does_all file text m begins =
@@ -237,7 +247,9 @@ module _ (target : TargetFile) (script : List ℕ) (v0 v1 v2 : View) (s : Sessio
           left = closed.left;
           room = λ room. closed.room new.costs (subst (λ n. HasFileRoom n m commands (session_run s m commands).marks) (sym empty) room);
         });
-    unclosed = λ file text m begins. ends_unclosed v0 v2 r (unclosed m text (stands file text m begins.holds begins.said begins.reads));
+    unclosed = λ file text m begins.
+        subst (λ (run : ScriptRun). EndsUnclosed run text v0 v2 (status_of_session r)) (run_same target script s commands m new are)
+        (ends_unclosed (session_run s m commands) text v0 v2 r (unclosed m text (stands file text m begins.holds begins.said begins.reads)));
     told = any_join v0.holds v1.holds v2.holds told01 told12;
     faults = λ place kind is. absurd (not_bad r place kind is);
     broken = λ fault file here e.

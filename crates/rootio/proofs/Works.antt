@@ -10,7 +10,7 @@ use Rattle.rio_host.proofs.Images.{becomes_some}
 use Rattle.rio_host.proofs.ReadsLaws.{reads_none}
 use Rattle.rio_state.specs.Reasons.{ReasonAt}
 use Rattle.rootio.specs.Causes.{IsCause, NoInputFault}
-use Rattle.rootio.specs.Headline.{IsDone, IsStopOf}
+use Rattle.rootio.specs.Headline.{IsDone, IsStopOf, ScriptRun}
 use Rattle.rootio.specs.Input.{IsPastInput, ReadsAll, RefusesTooLong, TakenAll, TellsTooLong, status_of_input}
 use Rattle.rootio.specs.Reading.{TellsUnlessCut}
 use Rattle.rootio.specs.Script.{IsFileCause, RunsScript, WorksOn}
@@ -37,14 +37,14 @@ record IsBefore (status : Status) : Type 0 where
   refuses : RefusesFile status → ⊥
   past : IsPastInput status → ⊥
 
-untouched : (work : Work) (v : View) (before after : Input) (status : Status) → IsBefore status → EndsUnclosed v v status → TellsTooLong before status
+untouched : (work : Work) (v : View) (before after : Input) (status : Status) → IsBefore status → ((run : ScriptRun) (text : List ℕ) → EndsUnclosed run text v v status) → TellsTooLong before status
     → RefusesTooLong (Some (Writes work)) before status → IsCause (Some (Writes work)) v v before after status → WorksOn work v v before after status
 untouched work v before after status is unclosed too_long limited cause = record {
   writes = record {
     headline = record {
       stops = λ file text input m begins told. elapses_none v (IsStopOf (run_of_work work input m) file text);
       done = λ file text input m begins told ended. absurd (is.done ended);
-      unclosed = λ file text m begins. unclosed;
+      unclosed = λ file text input m begins told. unclosed (run_of_work work input m) text;
       input = λ input told past. absurd (is.past past);
       told = becomes_same v.holds;
     };
@@ -63,15 +63,15 @@ pub no_input : (target : TargetFile) (v : View) (before after : Input) (error : 
     → WorksOn (Run target) v v before after (status_of_input error)
 no_input target v before after Fault read =
     untouched (Run target) v before after InputFault
-    (record { done = λ e. cc; bad = λ place kind e. cc; read_only = λ place reason e. cc; broken = λ fault. tt; kept = λ against. tt; refuses = λ r. r; past = λ p. p }) tt
+    (record { done = λ e. cc; bad = λ place kind e. cc; read_only = λ place reason e. cc; broken = λ fault. tt; kept = λ against. tt; refuses = λ r. r; past = λ p. p }) (λ run text. tt)
     (λ e. absurd cc) (λ reads bytes told long. tt) (refl, refl, refl, read)
 no_input target v before after OutOfMemory read =
     untouched (Run target) v before after NoMemory
-    (record { done = λ e. cc; bad = λ place kind e. cc; read_only = λ place reason e. cc; broken = λ fault. tt; kept = λ against. tt; refuses = λ r. r; past = λ p. p }) (inl (reads_none v))
+    (record { done = λ e. cc; bad = λ place kind e. cc; read_only = λ place reason e. cc; broken = λ fault. tt; kept = λ against. tt; refuses = λ r. r; past = λ p. p }) (λ run text. inl (reads_none v))
     (λ e. absurd cc) (λ reads bytes told long. tt) (refl, refl, read)
 no_input target v before after TooLong read =
     untouched (Run target) v before after InputTooLong
-    (record { done = λ e. cc; bad = λ place kind e. cc; read_only = λ place reason e. cc; broken = λ fault. tt; kept = λ against. tt; refuses = λ r. r; past = λ p. p }) tt
+    (record { done = λ e. cc; bad = λ place kind e. cc; read_only = λ place reason e. cc; broken = λ fault. tt; kept = λ against. tt; refuses = λ r. r; past = λ p. p }) (λ run text. tt)
     (λ e. read.0) (λ reads bytes told long. tt) (refl, (refl, refl, read.1))
 
 -- ---- all of it
@@ -102,7 +102,9 @@ with_input target old new before after text status read ran =
           done = λ file said input m begins here ended.
               let all : input ≡ text.bytes = (told input here).2.0 in
               subst (λ (l : List ℕ). IsDone (run_of_work (Run target) l m) file said new) (sym all) (ran.done file said m begins ended);
-          unclosed = ran.unclosed;
+          unclosed = λ file said input m begins here.
+              let all : input ≡ text.bytes = (told input here).2.0 in
+              subst (λ (l : List ℕ). EndsUnclosed (run_of_work (Run target) l m) said old new status) (sym all) (ran.unclosed file said m begins);
           input = λ input here past. let rest = told input here in rest.1 ∙ ap Some rest.2.1;
           told = ran.told;
         };

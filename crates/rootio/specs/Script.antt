@@ -1,5 +1,5 @@
 -- A script on a file: how a run of it ends.
-use Rattle.std.specs.Prelude.{◌≡◌, ℕ, List, ◌++◌, Some, Result, Ok, Err}
+use Rattle.std.specs.Prelude.{◌≡◌, ◌⊎◌, ℕ, List, ◌++◌, Some, Result, Ok, Err}
 use Rattle.rio_head.specs.Head.{IsHeaderKind}
 use Rattle.rio_host.specs.Host.{Becomes, Elapses, Leaves, Rose, View}
 use Rattle.rio_host.specs.Source.{Input}
@@ -44,12 +44,13 @@ pub record HasClosed (r : ScriptRun) (first : SessionState) (before : List ℕ) 
   pub left : (image said : List ℕ) → Leaves new image said → ReadsAsState image (end_state r) × ReadsClosed image (end_state r)
   pub room : first.costs ≡ 0 → HasFileRoom first.opened r.start r.commands r.marks → AllFindRoom r
 
--- a session that ended without a close, as it does where it finds no memory or can't say a reply, leaves a file marked as open
-abbrev pub StaysOpenBy : View → Result (Unit {0}) SessionFault → Type 0
-StaysOpenBy new (Ok x) = Unit {0}
-StaysOpenBy new (Err HostFault) = Unit {0}
-StaysOpenBy new (Err NotSaid) = LeavesOpen new
-StaysOpenBy new (Err OutOfMemory) = LeavesOpen new
+-- A session that ended without a close, as it does where it finds no memory, can't say a reply or its disk fails, leaves a file
+-- marked as open; unless it is the close whose disk fails, behind all replies.
+abbrev pub StaysOpenBy : ScriptRun → List ℕ → View → Result (Unit {0}) SessionFault → Type 0
+StaysOpenBy r before new (Ok x) = Unit {0}
+StaysOpenBy r before new (Err HostFault) = LeavesOpen new ⊎ (new.said ≡ Some (before ++ all_replies r))
+StaysOpenBy r before new (Err NotSaid) = LeavesOpen new
+StaysOpenBy r before new (Err OutOfMemory) = LeavesOpen new
 
 -- how a run ended that opened the file
 abbrev pub status_of_session : Result (Unit {0}) SessionFault → Status
@@ -83,7 +84,8 @@ pub record RunsScript (target : TargetFile) (script : List ℕ) (old new : View)
       → Elapses old new (IsStopOf (run_of_work (Run target) script m) file text)
   pub done : (file text : List ℕ) (m : State) → Begins old file text m
       → status ≡ Done → IsDone (run_of_work (Run target) script m) file text new
-  pub unclosed : (file text : List ℕ) (m : State) → Begins old file text m → EndsUnclosed old new status
+  pub unclosed : (file text : List ℕ) (m : State) → Begins old file text m
+      → EndsUnclosed (run_of_work (Run target) script m) text old new status
   pub told : Becomes Any old.holds new.holds
   pub faults : TellsFirstFault HeaderAlone old status
   pub broken : RefusesBroken HeaderAlone old status

@@ -1,5 +1,5 @@
 -- What the verbs that write do: their commands, and what they leave of the file.
-use Rattle.std.specs.Prelude.{◌≡◌, ◌⊎◌, ℕ, List, [], Bool, true, false, Option, Some, None}
+use Rattle.std.specs.Prelude.{◌≡◌, ◌⊎◌, ℕ, List, [], ◌++◌, Bool, true, false, Option, Some, None}
 use Rattle.rio_head.specs.declared.fault.HeadFault.{HeadFault}
 use Rattle.rio_head.specs.declared.reason.Reason.{Reason}
 use Rattle.rio_head.specs.declared.reason.Reason.TheVariants.{NotYet}
@@ -14,8 +14,9 @@ use Rattle.rio_cmd.specs.Built.{built_script}
 use Rattle.rio_state.specs.Left.{IsMarkedOpen}
 use Rattle.rio_state.specs.Reads.{ReadsAsState}
 use Rattle.rio_state.specs.Reasons.{ReasonAt, reason_at}
+use Rattle.rio_create.specs.Creation.{LeavesUnclosed}
 use Rattle.rio_session.specs.Marks.{first_segments, marks_of_run}
-use Rattle.rootio.specs.Headline.{IsDone, IsStopOf, ScriptRun}
+use Rattle.rootio.specs.Headline.{IsDone, IsStopOf, ScriptRun, all_replies}
 use Rattle.rootio.specs.Input.{IsPastInput}
 use Rattle.rootio.specs.Target.{TargetFile}
 use Rattle.rootio.specs.declared.status.Status.{Status}
@@ -89,17 +90,18 @@ pub record SparesRefused (old new : View) (status : Status) : Type 0 where
 abbrev pub LeavesOpen : View → Type 0
 LeavesOpen v = (image said : List ℕ) → Leaves v image said → IsMarkedOpen image
 
--- A run that finds no memory, or can't say a reply, ends without a close: nothing was written, or the file is marked as open.
-abbrev pub EndsUnclosed : View → View → Status → Type 0
-EndsUnclosed old new Done = Unit {0}
-EndsUnclosed old new Usage = Unit {0}
-EndsUnclosed old new (BadFile place kind) = Unit {0}
-EndsUnclosed old new DiskFault = Unit {0}
-EndsUnclosed old new InputFault = Unit {0}
-EndsUnclosed old new NoMemory = OnlyReads old new ⊎ LeavesOpen new
-EndsUnclosed old new InputTooLong = Unit {0}
-EndsUnclosed old new (ReadOnly place reason) = Unit {0}
-EndsUnclosed old new SayFault = OnlyReads old new ⊎ LeavesOpen new
+-- A run that finds no memory, or can't say a reply, ends without a close: nothing was written, or the file is marked as open. So
+-- does one whose disk fails, where the file may also not be made yet; unless it is the close that fails, behind all replies.
+abbrev pub EndsUnclosed : ScriptRun → List ℕ → View → View → Status → Type 0
+EndsUnclosed r before old new Done = Unit {0}
+EndsUnclosed r before old new Usage = Unit {0}
+EndsUnclosed r before old new (BadFile place kind) = Unit {0}
+EndsUnclosed r before old new DiskFault = OnlyReads old new ⊎ (LeavesUnclosed new ⊎ (new.said ≡ Some (before ++ all_replies r)))
+EndsUnclosed r before old new InputFault = Unit {0}
+EndsUnclosed r before old new NoMemory = OnlyReads old new ⊎ LeavesOpen new
+EndsUnclosed r before old new InputTooLong = Unit {0}
+EndsUnclosed r before old new (ReadOnly place reason) = Unit {0}
+EndsUnclosed r before old new SayFault = OnlyReads old new ⊎ LeavesOpen new
 
 -- ---- the run
 
@@ -134,7 +136,8 @@ pub record KeepsHeadline (work : Work) (old new : View) (before after : Input) (
       → Elapses old new (IsStopOf (run_of_work work input m) file text)
   pub done : (file text input : List ℕ) (m : State) → Begins old file text m → before.remaining ≡ Some input
       → status ≡ Done → IsDone (run_of_work work input m) file text new
-  pub unclosed : (file text : List ℕ) (m : State) → Begins old file text m → EndsUnclosed old new status
+  pub unclosed : (file text input : List ℕ) (m : State) → Begins old file text m → before.remaining ≡ Some input
+      → EndsUnclosed (run_of_work work input m) text old new status
   pub input : (input : List ℕ) → before.remaining ≡ Some input → IsPastInput status → after.remaining ≡ Some []
   pub told : Becomes Any old.holds new.holds
 

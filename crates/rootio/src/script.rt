@@ -70,7 +70,7 @@ fn do_and_close<H: Host>(
         → StandsFor (H.view host.old) session m text
         → HasClosed (session_run session m commands.now) session text (H.view host.new)) }
     ensures unclosed { (m : State) (text : List ℕ) → StandsFor (H.view host.old) session m text
-        → StaysOpenBy (H.view host.new) result }
+        → StaysOpenBy (session_run session m commands.now) text (H.view host.new) result }
     ensures told { Becomes Any (H.view host.old).holds (H.view host.new).holds }
     ensures cause { IsSessionCause (H.view host.old) (H.view host.new) result }
 {

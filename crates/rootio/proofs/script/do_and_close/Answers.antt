@@ -18,7 +18,7 @@ returns-in_err-do_commands g c =
       stops = c.in_err-do_commands.ensures.stops;
       done = IfOk-from_err c.from_residual.result _ c.from_residual.ensures.0;
       unclosed = λ m text stands.
-          rw (p.1, p.2) (stays_open (g.H.Host.view c.do_commands.new.host) c.in_err-do_commands.field-0.0 (c.in_err-do_commands.ensures.unclosed m text stands));
+          rw (p.1, p.2) (stays_open (session_run c.args.session m c.args.commands.now) text (g.H.Host.view c.do_commands.new.host) c.in_err-do_commands.field-0.0 (c.in_err-do_commands.ensures.unclosed m text stands));
       told = c.in_err-do_commands.ensures.told;
       cause = rw (p.1, p.2) c.in_err-do_commands.ensures.cause;
     }
@@ -46,7 +46,8 @@ returns g c =
       unclosed = λ m text stands.
           let r = session_run c.args.session m c.args.commands.now in
           close_open (g.H.Host.view c.do_commands.new.host) (g.H.Host.view c.close.new.host) c.do_commands.new.session (state_after m c.args.commands.now r.marks)
-          (text ++ all_replies r) all.ready (all.done m text stands).stands (g.met.H.Host.lawful c.close.new.host) c.close.result c.close.ensures.no_memory c.close.ensures.cause;
+          (text ++ all_replies r) all.ready (all.done m text stands).stands (g.met.H.Host.lawful c.close.new.host) r text c.close.result
+          (c.close.ensures.said ∙ (all.done m text stands).stands.said) c.close.ensures.no_memory c.close.ensures.cause;
       told = any_join (g.H.Host.view c.args.host.now).holds (g.H.Host.view c.do_commands.new.host).holds (g.H.Host.view c.close.new.host).holds all.told c.close.ensures.told;
       cause = cause_of_close (g.H.Host.view c.args.host.now) (g.H.Host.view c.do_commands.new.host) (g.H.Host.view c.close.new.host) c.close.result all.cause c.close.ensures.cause;
     }

@@ -20,5 +20,5 @@ pub returns : goal.returns
 returns g c =
     let e = c.in-Err-open.ensures in
     rw c.status_of_open.ensures
-    (not_opened c.args.target.now c.args.script.now (g.H.Host.view c.args.host.now) (g.H.Host.view c.open.new.host) c.in-Err-open.fault e.any_moment e.why_not e.unwritten e.untouched
+    (not_opened c.args.target.now c.args.script.now (g.H.Host.view c.args.host.now) (g.H.Host.view c.open.new.host) c.in-Err-open.fault e.any_moment e.unclosed e.why_not e.unwritten e.untouched
     e.told e.cause)
