@@ -16,8 +16,11 @@ use Rattle.rio_state.specs.Left.{HasOpenHead, IsLeftAs}
 use Rattle.rio_state.specs.Reads.{ReadsAsState, ReadsClosed}
 use Rattle.rio_step.specs.Runs.{closed_of, closing_saves, has_pending, states_of_run}
 use Rattle.rio_step.specs.Step.{state_behind}
-use Rattle.rio_close.specs.Leaving.{HoldsClosed, HoldsOpen, StaysAs}
-use Rattle.rio_close.specs.Written.{OpenFile}
+use Rattle.rio_close.specs.Leaving.{HoldsClosed, HoldsClosedWith, HoldsOpen, StaysAs}
+use Rattle.rio_close.specs.Written.{AreCloseRecords, OpenFile}
+use Rattle.rio_close.specs.declared.parts.CloseRecords.{CloseRecords}
+use Rattle.rio_session.specs.Closes.{ClosesFile, open_file}
+use Rattle.rio_session.specs.Kept.{IsClosable}
 use Rattle.rio_session.specs.Session.{ClosesAs, SessionState, StandsFor}
 use Rattle.rio_session.proofs.States.{Known, known}
 
@@ -64,3 +67,20 @@ module _ (v : View) (s : SessionState) (m : State) (text : List ℕ) (stands : S
   leaves_closed new quiet held image said left =
       let file_is : image ≡ held.file = quiet image said held.file left held.holds in
       subst (λ (x : State × List ℕ). ReadsAsState x.1 x.0 × ReadsClosed x.1 x.0) (λ i. (sym closed_same i, sym file_is i)) (held.reads, held.closed)
+
+-- what is written
+pub closes_file : (old new : View) (s : SessionState) (m : State) (f : OpenFile) (r : CloseRecords) (held : HoldsOpen old f m) → f ≡ open_file s → AreCloseRecords f r → HoldsClosedWith new f held.links r held.file → IsClosable s.segments s.heads s.name
+    → ClosesFile old new s
+closes_file old new s m f r held same made written kept = record {
+  records = r;
+  made = subst (λ (g : OpenFile). AreCloseRecords g r) same made;
+  file = held.file;
+  holds = held.holds;
+  links = held.links;
+  chain = subst (λ (g : OpenFile). HasChain held.links g.segments held.file) same held.chain;
+  owned = kept.owned;
+  written = subst (λ (g : OpenFile). HoldsClosedWith new g held.links r held.file) same written;
+}
+
+pub same_file : (f g : OpenFile) → f.segments ≡ g.segments → f.heads ≡ g.heads → f.info ≡ g.info → f.name ≡ g.name → f.nbytes_name ≡ g.nbytes_name → f.datime ≡ g.datime → f ≡ g
+same_file f g segments heads info name nbytes_name datime = λ i. record { segments = segments i; heads = heads i; info = info i; name = name i; nbytes_name = nbytes_name i; datime = datime i }

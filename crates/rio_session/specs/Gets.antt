@@ -10,7 +10,7 @@ use Rattle.rio_chain.specs.Segments.{Link, RecordAt}
 use Rattle.rio_chain.specs.Walks.{Told}
 use Rattle.rio_chain.specs.declared.segment.Segment.{Segment}
 use Rattle.rio_reply.specs.Told.{told_of}
-use Rattle.rio_session.specs.Says.{Says}
+use Rattle.rio_session.specs.Says.{SaysReply}
 use Rattle.rio_session.specs.Session.{SessionState}
 use Rattle.rio_session.specs.declared.fault.SessionFault.{SessionFault}
 use Rattle.rio_session.specs.declared.fault.SessionFault.TheVariants.{HostFault, SayFault, NoMemory}
@@ -32,9 +32,9 @@ IsSaid (Err SayFault) = Unit {0}
 IsSaid (Err NoMemory) = ⊥
 
 -- what is told of the object of this name and cycle is said
-pub record Tells {X : Type 0} (name : List ℕ) (cycle : ℕ) (old new : View) (before after : SessionState) (answer : Result X SessionFault) : Type 0 where
+pub record TellsObject {X : Type 0} (name : List ℕ) (cycle : ℕ) (old new : View) (before after : SessionState) (answer : Result X SessionFault) : Type 0 where
   pub text : List ℕ
   pub head : KeyHead
   pub found : head_of name (Some cycle) before.heads ≡ Some head
   pub tells : IsSaid answer → TellsRecord old before.segments before.classes head text
-  pub says : Says text 0 old new before after answer
+  pub says : SaysReply text 0 old new before after answer

@@ -1,5 +1,5 @@
 -- A session: what it keeps beside a file, what of a state it stands for, and what a stop leaves while a command is done.
-use Rattle.std.specs.Prelude.{◌≡◌, ◌⊎◌, ◌<◌, ◌≤◌, ℕ, ◌+◌, ◌-◌, ◌*◌, ◌^◌, min, Bool, false, List, [], ◌++◌, take, slice_get, Option, Some}
+use Rattle.std.specs.Prelude.{◌≡◌, ◌⊎◌, ◌<◌, ◌≤◌, ℕ, ◌+◌, ◌-◌, ◌*◌, ◌^◌, min, Bool, false, List, [], ◌++◌, take, slice_get, Option, Some, None}
 use Rattle.rio_types.specs.declared.class.ClassDef.{ClassDef}
 use Rattle.rio_key.specs.declared.head.KeyHead.{KeyHead}
 use Rattle.rio_host.specs.Host.{Elapses, IsQuiet, View}
@@ -68,6 +68,9 @@ pub record StandsFor (v : View) (s : SessionState) (m : State) (text : List ℕ)
 -- what a session of a file that is just made begins with
 pub record BeginsNew (s : SessionState) (name : List ℕ) (datime : ℕ) : Type 0 where
   pub segments : s.segments ≡ first_segments name
+  pub classes : s.classes ≡ []
+  pub heads : s.heads ≡ []
+  pub info : s.info ≡ None
   pub name_is : s.name ≡ name
   pub datime_is : s.datime ≡ datime
   pub opened : s.opened ≡ 0
@@ -97,7 +100,7 @@ next_of s m c = step m c (mark_of s.name s.segments m c)
 
 -- What a session keeps follows a command: the command's records stand where the rule places them, and its cost was counted, as far
 -- as 64 bits hold the costs.
-pub record Follows (old new : SessionState) (m : State) (c : Command) : Type 0 where
+pub record FollowsCommand (old new : SessionState) (m : State) (c : Command) : Type 0 where
   pub segments : new.segments ≡ segments_behind old.name old.segments m c
   pub name : new.name ≡ old.name
   pub datime : new.datime ≡ old.datime
@@ -114,7 +117,7 @@ LacksRoomIfFull s other = Unit {0}
 pub record Went (old new : View) (before s : SessionState) (m : State) (c : Command) (text : List ℕ) (outcome : Outcome) : Type 0 where
   pub time : Elapses old new (Steps m (next_of before m c) text)
   pub stands : StandsFor new s (next_of before m c).state (text ++ text_of (next_of before m c).reply)
-  pub follows : Follows before s m c
+  pub follows : FollowsCommand before s m c
   pub outcome_is : outcome ≡ outcome_of (next_of before m c).reply
   pub full : LacksRoomIfFull s outcome
 

@@ -32,7 +32,7 @@ impl Model for Session {
     ghost use Rattle.std.specs.Prelude.{◌≡◌, ◌+◌, ◌≤◌, false, length, is_some};
     ghost use Rattle.rio_chain.specs.Placing.{file_end};
     ghost use Rattle.rio_dir.specs.Table.{heads_size};
-    ghost use Rattle.rio_session.specs.Kept.{IsKept};
+    ghost use Rattle.rio_session.specs.Kept.{IsClosable};
     ghost use Rattle.rio_session.specs.Session.{SessionState};
 
     ghost Value = { SessionState };
@@ -52,7 +52,7 @@ impl Model for Session {
 
     // The directory record stands before END. As yet no class is declared, so no class list is kept.
     ghost invariant = { λ s. record {
-      kept : s.failed ≡ false → IsKept s.chain.segments s.table.heads s.name;
+      kept : s.failed ≡ false → IsClosable s.chain.segments s.table.heads s.name;
       fresh : s.failed ≡ false → s.chain.spent ≡ false;
       bytes : s.failed ≡ false → s.heads_bytes ≡ heads_size s.table.heads;
       directory : s.failed ≡ false → s.nbytes_name + 160 ≤ file_end s.chain.segments;
@@ -64,10 +64,15 @@ impl Model for Session {
 impl Session {
     ghost use Rattle.std.specs.Prelude.{◌≡◌, ℕ, List, false, IfOk, OnOk, OnErr, IsErrOf};
     ghost use Rattle.rio_host.specs.Host.{Becomes, Elapses};
-    ghost use Rattle.rio_host.specs.OnlyReads.{OnlyReads};
+    ghost use Rattle.rio_host.specs.OnlyReads.{Grown, OnlyReads};
     ghost use Rattle.rio_chain.specs.Stops.{Any};
     ghost use Rattle.rio_machine.specs.State.{State};
+    ghost use Rattle.rio_machine.specs.declared.command.Command.{Command as Line};
+    ghost use Rattle.rio_machine.specs.declared.command.Outcome.{Outcome as Became};
+    ghost use Rattle.rio_step.specs.ReplyText.{text_of};
     ghost use Rattle.rio_step.specs.Statable.{IsStatable};
+    ghost use Rattle.rio_value.specs.declared.value.Value.{Value};
+    ghost use Rattle.rio_session.specs.Behind.{FollowsStep, HasPut, IsOfKeys, PutsNothing, SaysPart, Stays};
     ghost use Rattle.rio_session.specs.Causes.{IsBuilt, IsSessionCause, NeverReads, StaysIfRefused, fails_by};
     ghost use Rattle.rio_session.specs.Session.{IsReady, StandsFor, Steps, Went, next_of};
     ghost use Rattle.rio_session.specs.declared.fault.SessionFault.{SessionFault as Fault};
@@ -106,6 +111,20 @@ impl Session {
             → (H.view host.new).reads ≡ (H.view host.old).reads }
         ensures told { Becomes Any (H.view host.old).holds (H.view host.new).holds }
         ensures cause { IsSessionCause (H.view host.old) (H.view host.new) result }
+
+        // Also where the host tells nothing: outcome and keys follow each state that the keys stand for.
+        ensures goes { IfOk result (λ outcome. (m : State) → IsOfKeys self.old m
+            → FollowsStep self.old self.new m command.now outcome) }
+
+        // What becomes of the file, and of the text.
+        ensures puts { IfOk result (λ outcome. (m : State) (name : List ℕ) (v : Value)
+            → IsOfKeys self.old m → command.now ≡ Line.Put name v → outcome ≡ Became.Accepted
+            → HasPut (H.view host.old) (H.view host.new) self.old self.new m name v) }
+        ensures unwritten { (m : State) → IsOfKeys self.old m → PutsNothing self.old m command.now
+            → Stays (H.view host.old) (H.view host.new) }
+        ensures said { Becomes Grown (H.view host.old).said (H.view host.new).said }
+        ensures part { (m : State) (text : List ℕ) → StandsFor (H.view host.old) self.old m text
+            → SaysPart (H.view host.new) text (text_of (next_of self.old m command.now).reply) }
     {
         self.judge_and_do(host, command)
     }

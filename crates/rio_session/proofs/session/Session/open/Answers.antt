@@ -45,3 +45,6 @@ returns-clause-stands g c file text m holds said reads =
     })
     (c.create.ensures.said ∙ c.sync.ensures.disk.said ∙ c.check_unborn.ensures.calls.said ∙ said)
     (c.in_ok-chain.ensures.made file (c.sync.ensures.holds ∙ c.check_unborn.ensures.calls.holds ∙ holds))
+
+pub returns-clause-made : goal.returns-clause-made
+returns-clause-made g c file holds = c.in_ok-chain.ensures.made file (c.sync.ensures.holds ∙ c.check_unborn.ensures.calls.holds ∙ holds)
