@@ -45,7 +45,7 @@ use Rattle.rio_state.specs.OneMore.{keyed_bytes}
 use Rattle.rio_state.proofs.KeyRecords.{ObjectOf, TreeOf, key_record}
 use Rattle.rio_state.proofs.Members.{In, contains_in, filter_in}
 use Rattle.rio_close.specs.Fields.{FieldsThenEnd, IsOutsideFields, WritesFields}
-use Rattle.rio_close.specs.Leaving.{IsClosedWith, IsKeptByte}
+use Rattle.rio_close.specs.Leaving.{IsClosedWith, IsKeptByte, IsKeptInFirst}
 use Rattle.rio_close.specs.Written.{AreCloseRecords, OpenFile, dir_field_bytes, free_field_bytes, free_place, info_field_bytes, list_place, own_words, with_both, with_list}
 use Rattle.rio_close.specs.declared.parts.CloseRecords.{CloseRecords}
 use Rattle.rio_close.proofs.FieldsChain.{FirstLink, OtherFields, first_link, other_fields}
@@ -453,6 +453,8 @@ module _ (f : OpenFile) (r : CloseRecords) (made : AreCloseRecords f r) (file : 
       now = o.new;
       others = first.others;
       before = first.links_are;
+      long = o.long;
+      same = kept_in_first;
       chain = record { chain = o.chain; same = sym segments_3 };
       end = grows_at_end (with_list f r) (free_place f r) (length r.free.bytes.bytes) shape_list refl;
     }
@@ -461,6 +463,10 @@ module _ (f : OpenFile) (r : CloseRecords) (made : AreCloseRecords f r) (file : 
         kept i x (inl low) was = put.outside i x (inl low) (fields.others i x (inl (omega (arith, low)), inl (omega (arith, low)), inl (omega (arith, low, at))) was)
         kept i x (inr (inl mid)) was = put_keeps i x (omega (arith, mid.0)) (fields.others i x (inr mid.0, inl mid.1, inl (omega (arith, mid.1, at))) was)
         kept i x (inr (inr high)) was = put_keeps i x (omega (arith, high.0)) (fields.others i x (inr (omega (arith, high.0)), inr high.0, inl (omega (arith, high.1, at))) was)
+
+        kept_in_first : (i x : ℕ) → IsKeptInFirst f.nbytes_name i → slice_get first.bytes i ≡ Some x → slice_get o.new i ≡ Some x
+        kept_in_first i x (inl low) was = o.front i x (omega arith) (omega (arith, low, name)) was
+        kept_in_first i x (inr high) was = o.back i x (omega (arith, high, name)) (slice_get_within first.bytes i x was) was
 
         shape_list : AreSegments (with_list f r)
         shape_list = (laid_put f.segments (length r.list.bytes.bytes) made.shape (record_long r.list.bytes.bytes (record_word (list_place f r) r.list.bytes.bytes list_whole)) list_whole.aligned).0

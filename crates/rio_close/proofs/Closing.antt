@@ -240,6 +240,8 @@ module _ (v0 : View) (f : OpenFile) (r : CloseRecords) (m : State) (made : AreCl
           now = w.now;
           others = w.others;
           before = w.before;
+          long = w.long;
+          same = w.same;
           chain = w.chain;
           end = w.end;
         }

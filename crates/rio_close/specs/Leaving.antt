@@ -1,5 +1,5 @@
 -- What a close makes of a file, and what a stop leaves of it meanwhile.
-use Rattle.std.specs.Prelude.{◌≡◌, ◌⊎◌, ◌<◌, ◌≤◌, ℕ, ◌+◌, List, ◌∷◌, Some, slice_get}
+use Rattle.std.specs.Prelude.{◌≡◌, ◌⊎◌, ◌<◌, ◌≤◌, ℕ, ◌+◌, List, ◌∷◌, length, Some, slice_get}
 use Rattle.byteorder.specs.Endian.{big_bytes}
 use Rattle.rio_host.specs.Host.{View}
 use Rattle.rio_host.specs.Image.{Has}
@@ -50,8 +50,13 @@ pub record HoldsClosed (v : View) (m : State) : Type 0 where
 abbrev pub IsKeptByte : ℕ → Type 0
 IsKeptByte i = (i < 12) ⊎ ((28 ≤ i) × (i < 37)) ⊎ ((45 ≤ i) × (i < 100))
 
--- A file that is closed with these records: the fields of header and directory record are theirs, the first record has its fields,
--- and behind it stand the records of before, the key list and the free record, which ends where the header says END, and none else.
+-- a byte of the first record that a close doesn't write: outside the fields of the directory record
+abbrev pub IsKeptInFirst : ℕ → ℕ → Type 0
+IsKeptInFirst nbytes_name i = (i < nbytes_name + 6) ⊎ (nbytes_name + 30 ≤ i)
+
+-- A file that is closed with these records: the fields of header and directory record are theirs, all other bytes of header and first
+-- record are as before, and behind it stand the records of before, the key list and the free record, and none else. END, which the
+-- header says, is where the free record ends.
 pub record IsClosedWith (f : OpenFile) (links : List Link) (records : CloseRecords) (old file : List ℕ) : Type 0 where
   pub header : (i x : ℕ) → IsKeptByte i → slice_get old i ≡ Some x → slice_get file i ≡ Some x
   pub end_there : Has file 12 (big_bytes 4 (file_end (with_both f records)))
@@ -62,6 +67,8 @@ pub record IsClosedWith (f : OpenFile) (links : List Link) (records : CloseRecor
   pub now : List ℕ
   pub others : List Link
   pub before : links ≡ RecordAt first_place first ∷ others
+  pub long : length now ≡ length first
+  pub same : (i x : ℕ) → IsKeptInFirst f.nbytes_name i → slice_get first i ≡ Some x → slice_get now i ≡ Some x
   pub chain : HasChain (RecordAt first_place now ∷ with_record (free_place f records) records.free.bytes.bytes (with_record (list_place f records) records.list.bytes.bytes others)) (with_both f records) file
   pub end : file_end (with_both f records) ≡ free_place f records + record_size records.free
 

@@ -23,13 +23,12 @@ use Rattle.rio_step.specs.Costs.{cost_of, room_limit, value_size}
 use Rattle.rio_step.specs.Refusing.{refusal_of}
 use Rattle.rio_step.specs.ReplyText.{text_of}
 use Rattle.rio_step.specs.Step.{object_put, outcome_of, refused}
-use Rattle.rio_judge.specs.Judging.{IsJudgementOfStates, IsStep, WorkCanBeDone}
+use Rattle.rio_judge.specs.Judging.{IsJudgementOfStates, IsStep, WorkCanBeDone, is_judged}
 use Rattle.rio_judge.specs.declared.work.Judged.{Judged}
 use Rattle.rio_judge.specs.declared.work.Judged.TheVariants.{Accepted as Judgement, Refused as RefusalOf}
 use Rattle.rio_judge.specs.declared.work.Work.TheVariants.{Put as Storing, Get as Telling, Ls as Listing}
 use Rattle.rio_effect.specs.ObjectRecord.{key_of_put}
 use Rattle.rio_session.specs.Behind.{IsOfKeys}
-use Rattle.rio_session.specs.Causes.{IsBuilt}
 use Rattle.rio_session.specs.Does.{Does}
 use Rattle.rio_session.specs.Gets.{IsSaid, TellsObject}
 use Rattle.rio_session.specs.Kept.{IsClosable, IsSoundState, is_sized, kept_with}
@@ -59,8 +58,9 @@ is_ls classes heads (Get name cycle version) can = absurd can
 is_ls classes heads (Scan name class) can = absurd can
 is_ls classes heads Ls can = refl
 
-unversioned : (name : List ℕ) (asked : Option ℕ) (version : Option ℤ) → IsBuilt (Get name asked version) → version ≡ None
-unversioned name asked version built = built
+unversioned : (name : List ℕ) (asked : Option ℕ) (version : Option ℤ) → is_judged (Get name asked version) ≡ true → version ≡ None
+unversioned name asked None built = refl
+unversioned name asked (Some version) built = absurd cc
 
 module _ (old new : View) (s s' : SessionState) (law : IsLawful old) (law' : IsLawful new) (ready : IsReady old s) (fresh : s.failed ≡ false) (answer : Result Outcome SessionFault) where
   -- ---- refused by the state
@@ -134,10 +134,10 @@ module _ (old new : View) (s s' : SessionState) (law : IsLawful old) (law' : IsL
       let is : c ≡ Ls = is_ls s.classes s.heads c can in
       subst (λ (x : Command). Does old new s s' x answer) (sym is) (ls_does sound (subst (λ (x : Command). IsJudgementOfStates s.classes s.heads x (Judgement Listing)) is judged) says outcome)
 
-  pub get_is_done : (c : Command) (name : List ℕ) (asked : Option ℕ) (version : Option ℤ) (number : ℕ) → c ≡ Get name asked version → IsBuilt c → IsSoundState s → IsJudgementOfStates s.classes s.heads c (Judgement (Telling number))
+  pub get_is_done : (c : Command) (name : List ℕ) (asked : Option ℕ) (version : Option ℤ) (number : ℕ) → c ≡ Get name asked version → is_judged c ≡ true → IsSoundState s → IsJudgementOfStates s.classes s.heads c (Judgement (Telling number))
       → TellsObject name number old new s s' answer → IfOk answer (λ outcome. outcome ≡ Accepted) → Does old new s s' c answer
   get_is_done c name asked version number is built sound judged t outcome =
-      let same : c ≡ Get name asked None = is ∙ ap (Get name asked) (unversioned name asked version (subst IsBuilt is built)) in
+      let same : c ≡ Get name asked None = is ∙ ap (Get name asked) (unversioned name asked version (sym (ap is_judged is) ∙ built)) in
       subst (λ (x : Command). Does old new s s' x answer) (sym same) (get_does name asked number sound (subst (λ (x : Command). IsJudgementOfStates s.classes s.heads x (Judgement (Telling number))) same judged) t outcome)
 
   -- ---- put

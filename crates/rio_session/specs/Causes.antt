@@ -5,7 +5,7 @@ use Rattle.rio_head.specs.declared.reason.Reason.TheVariants.{NotYet}
 use Rattle.rio_dir.specs.Unborn.{header_fault, is_unborn}
 use Rattle.rio_host.specs.Host.{Rose, Unwritten, View}
 use Rattle.rio_machine.specs.declared.command.Command.{Command}
-use Rattle.rio_machine.specs.declared.command.Command.TheVariants.{Bad, Put, Get, Ls}
+use Rattle.rio_machine.specs.declared.command.Command.TheVariants.{Get}
 use Rattle.rio_machine.specs.declared.command.Outcome.{Outcome}
 use Rattle.rio_machine.specs.declared.command.Outcome.TheVariants.{Accepted, Refused}
 use Rattle.rio_session.specs.declared.fault.OpenFault.{OpenFault}
@@ -80,14 +80,6 @@ TellsWhyNot file (Err NotRoomy) = Unit {0}
 TellsWhyNot file (Err NotOpened) = Unit {0}
 
 -- ---- commands
-
--- the commands that are built: as yet bad lines, puts, gets of an object as it is, and ls
-abbrev pub IsBuilt : Command → Type 0
-IsBuilt (Bad line place) = Unit {0}
-IsBuilt (Put name v) = Unit {0}
-IsBuilt (Get name cycle version) = version ≡ None
-IsBuilt Ls = Unit {0}
-IsBuilt other = ⊥
 
 -- commands that don't read the file again
 abbrev pub NeverReads : Command → Type 0

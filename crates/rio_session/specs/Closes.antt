@@ -4,7 +4,7 @@ use Rattle.std.specs.List.{list_all}
 use Rattle.rio_host.specs.Host.{View}
 use Rattle.rio_chain.specs.Chains.{HasChain}
 use Rattle.rio_chain.specs.Segments.{Link}
-use Rattle.rio_close.specs.Leaving.{HoldsClosedWith}
+use Rattle.rio_close.specs.Leaving.{HoldsClosedWith, IsClosedWith}
 use Rattle.rio_close.specs.Written.{AreCloseRecords, OpenFile}
 use Rattle.rio_close.specs.declared.parts.CloseRecords.{CloseRecords}
 use Rattle.rio_session.specs.Kept.{is_owned}
@@ -25,3 +25,17 @@ pub record ClosesFile (old new : View) (s : SessionState) : Type 0 where
   pub chain : HasChain links s.segments file
   pub owned : list_all (is_owned s.heads) s.segments ≡ true
   pub written : HoldsClosedWith new (open_file s) links records file
+
+-- A file of this name that was closed at this time, without garbage: before its close, as it was kept, each of its records was the
+-- first one or one that the key list names.
+pub record IsClosedFile (name : List ℕ) (datime : ℕ) (file : List ℕ) : Type 0 where
+  pub kept : OpenFile
+  pub name_is : kept.name ≡ name
+  pub datime_is : kept.datime ≡ datime
+  pub records : CloseRecords
+  pub made : AreCloseRecords kept records
+  pub before : List ℕ
+  pub links : List Link
+  pub chain : HasChain links kept.segments before
+  pub owned : list_all (is_owned kept.heads) kept.segments ≡ true
+  pub written : IsClosedWith kept links records before file

@@ -7,6 +7,7 @@ use Rattle.rio_chain.specs.Chains.{HasChain, HoldsChain}
 use Rattle.rio_chain.specs.Placing.{record_count}
 use Rattle.rio_chain.specs.Segments.{Link}
 use Rattle.rio_chain.specs.declared.segment.Segment.{Segment}
+use Rattle.rio_create.specs.NewFile.{first_segments}
 use Rattle.rio_machine.specs.State.{State}
 use Rattle.rio_machine.specs.declared.command.Command.{Command}
 use Rattle.rio_machine.specs.declared.command.Outcome.{Outcome}
@@ -21,7 +22,7 @@ use Rattle.rio_state.specs.DirectoryKeys.{AreKeysOf}
 use Rattle.rio_state.specs.KeyedRecords.{info_key, keyed_records}
 use Rattle.rio_state.specs.Left.{HasOpenHead, IsLeftAs, IsMarkedOpen, info_head}
 use Rattle.rio_state.specs.Reads.{AreRecordsOf}
-use Rattle.rio_session.specs.Marks.{first_segments, mark_of, segments_behind}
+use Rattle.rio_session.specs.Marks.{mark_of, segments_behind}
 
 -- ---- what a session keeps
 

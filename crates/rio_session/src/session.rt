@@ -62,10 +62,11 @@ impl Model for Session {
 }
 
 impl Session {
-    ghost use Rattle.std.specs.Prelude.{◌≡◌, ℕ, List, false, IfOk, OnOk, OnErr, IsErrOf};
+    ghost use Rattle.std.specs.Prelude.{◌≡◌, ℕ, List, false, IfOk, OnOk, OnErr, IsErrOf, IsTrue};
     ghost use Rattle.rio_host.specs.Host.{Becomes, Elapses};
     ghost use Rattle.rio_host.specs.OnlyReads.{Grown, OnlyReads};
     ghost use Rattle.rio_chain.specs.Stops.{Any};
+    ghost use Rattle.rio_judge.specs.Judging.{is_judged};
     ghost use Rattle.rio_machine.specs.State.{State};
     ghost use Rattle.rio_machine.specs.declared.command.Command.{Command as Line};
     ghost use Rattle.rio_machine.specs.declared.command.Outcome.{Outcome as Became};
@@ -73,7 +74,7 @@ impl Session {
     ghost use Rattle.rio_step.specs.Statable.{IsStatable};
     ghost use Rattle.rio_value.specs.declared.value.Value.{Value};
     ghost use Rattle.rio_session.specs.Behind.{FollowsStep, HasPut, IsOfKeys, PutsNothing, SaysPart, Stays};
-    ghost use Rattle.rio_session.specs.Causes.{IsBuilt, IsSessionCause, NeverReads, StaysIfRefused, fails_by};
+    ghost use Rattle.rio_session.specs.Causes.{IsSessionCause, NeverReads, StaysIfRefused, fails_by};
     ghost use Rattle.rio_session.specs.Session.{IsReady, StandsFor, Steps, Went, next_of};
     ghost use Rattle.rio_session.specs.declared.fault.SessionFault.{SessionFault as Fault};
 
@@ -91,7 +92,7 @@ impl Session {
         command: &Command,
     ) -> Result<Outcome, SessionFault>
         requires fresh { self.old.failed ≡ false }
-        requires built { IsBuilt command.now }
+        requires built { IsTrue (is_judged command.now) }
         requires statable { IsStatable command.now }
         requires ready { IsReady (H.view host.old) self.old }
         ensures done { IfOk result (λ outcome. (m : State) (text : List ℕ)

@@ -10,7 +10,9 @@ use Rattle.rio_host.proofs.Images.{becomes_some}
 use Rattle.rio_host.proofs.ReadsLaws.{reads_none}
 use Rattle.rio_state.specs.Reasons.{ReasonAt}
 use Rattle.rootio.specs.Causes.{IsCause, NoInputFault}
-use Rattle.rootio.specs.Headline.{IsDone, IsStopOf}
+use Rattle.rio_session.specs.Behind.{SaysPart}
+use Rattle.rio_session.proofs.Spoken.{front_none}
+use Rattle.rootio.specs.Headline.{IsDone, IsStopOf, all_replies}
 use Rattle.rootio.specs.Input.{ReadsAll, RefusesTooLong, TakenAll, TellsTooLong, status_of_input}
 use Rattle.rootio.specs.Reading.{TellsUnlessCut}
 use Rattle.rootio.specs.Script.{IsFileCause, RunsScript, WorksOn}
@@ -42,7 +44,9 @@ untouched work v before after status is unclosed too_long limited cause = record
   writes = record {
     headline = record {
       stops = λ file text input m begins told. elapses_none v (IsStopOf (run_of_work work input m) file text);
+      said = λ file text input m begins told. front_none v v text (all_replies (run_of_work work input m)) begins.said refl;
       done = λ file text input m begins told ended. absurd (is.done ended);
+      written = λ file text m begins ended. absurd (is.done ended);
       unclosed = λ file text m begins. unclosed;
       input = λ input told ended. absurd (is.done ended);
       told = becomes_same v.holds;
@@ -98,9 +102,13 @@ with_input target old new before after text status read ran =
           stops = λ file said input m begins here.
               let all : input ≡ text.bytes = (told input here).2.0 in
               subst (λ (l : List ℕ). Elapses old new (IsStopOf (run_of_work (Run target) l m) file said)) (sym all) (ran.stops file said m begins);
+          said = λ file said input m begins here.
+              let all : input ≡ text.bytes = (told input here).2.0 in
+              subst (λ (l : List ℕ). SaysPart new said (all_replies (run_of_work (Run target) l m))) (sym all) (ran.said file said m begins);
           done = λ file said input m begins here ended.
               let all : input ≡ text.bytes = (told input here).2.0 in
               subst (λ (l : List ℕ). IsDone (run_of_work (Run target) l m) file said new) (sym all) (ran.done file said m begins ended);
+          written = ran.written;
           unclosed = ran.unclosed;
           input = λ input here ended. let rest = told input here in rest.1 ∙ ap Some rest.2.1;
           told = ran.told;

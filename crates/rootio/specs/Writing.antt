@@ -14,8 +14,11 @@ use Rattle.rio_cmd.specs.Built.{built_script}
 use Rattle.rio_state.specs.Left.{IsMarkedOpen}
 use Rattle.rio_state.specs.Reads.{ReadsAsState}
 use Rattle.rio_state.specs.Reasons.{ReasonAt, reason_at}
-use Rattle.rio_session.specs.Marks.{first_segments, marks_of_run}
-use Rattle.rootio.specs.Headline.{IsDone, IsStopOf, ScriptRun}
+use Rattle.rio_create.specs.NewFile.{first_segments}
+use Rattle.rio_session.specs.Behind.{SaysPart}
+use Rattle.rio_session.specs.Closes.{IsClosedFile}
+use Rattle.rio_session.specs.Marks.{marks_of_run}
+use Rattle.rootio.specs.Headline.{IsDone, IsStopOf, ScriptRun, all_replies}
 use Rattle.rootio.specs.Target.{TargetFile}
 use Rattle.rootio.specs.declared.status.Status.{Status}
 use Rattle.rootio.specs.declared.status.Status.TheVariants.{Done, Usage, BadFile, DiskFault, InputFault, NoMemory, InputTooLong, ReadOnly, SayFault}
@@ -126,13 +129,18 @@ pub record Begins (old : View) (file text : List ℕ) (m : State) : Type 0 where
   pub said : old.said ≡ Some text
   pub reads : ReadsAsState file m
 
--- Wherever it is stopped, whatever it answers, it leaves a prefix of the run. Where it says that it is done it is, and all of
--- the input was read; where it ends early it doesn't close the file.
+-- Wherever it is stopped, whatever it answers, it leaves a prefix of the run, and what it said is a front of all replies. Where it
+-- says that it is done it is, the file was closed under its name and time, without garbage, and all of the input was read; where it
+-- ends early it doesn't close the file.
 pub record KeepsHeadline (work : Work) (old new : View) (before after : Input) (status : Status) : Type 0 where
   pub stops : (file text input : List ℕ) (m : State) → Begins old file text m → before.remaining ≡ Some input
       → Elapses old new (IsStopOf (run_of_work work input m) file text)
+  pub said : (file text input : List ℕ) (m : State) → Begins old file text m → before.remaining ≡ Some input
+      → SaysPart new text (all_replies (run_of_work work input m))
   pub done : (file text input : List ℕ) (m : State) → Begins old file text m → before.remaining ≡ Some input
       → status ≡ Done → IsDone (run_of_work work input m) file text new
+  pub written : (file text : List ℕ) (m : State) → Begins old file text m
+      → status ≡ Done → (last : List ℕ) → new.holds ≡ Some last → IsClosedFile (target_of work).name (target_of work).datime last
   pub unclosed : (file text : List ℕ) (m : State) → Begins old file text m → EndsUnclosed old new status
   pub input : (input : List ℕ) → before.remaining ≡ Some input → status ≡ Done → after.remaining ≡ Some []
   pub told : Becomes Any old.holds new.holds

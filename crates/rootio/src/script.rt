@@ -2,6 +2,7 @@
 ghost use Rattle.std.specs.Prelude.{◌≡◌, ◌≤◌, ◌<◌, ◌^◌, ℕ, List, length, true, false, OnOk, OnErr};
 ghost use Rattle.std.specs.List.{list_all};
 ghost use Rattle.rio_host.specs.Host.{Becomes, Elapses};
+ghost use Rattle.rio_host.specs.OnlyReads.{Grown};
 ghost use Rattle.rio_chain.specs.Stops.{Any};
 ghost use Rattle.rio_machine.specs.State.{State};
 ghost use Rattle.rio_step.specs.Statable.{is_statable};
@@ -44,6 +45,7 @@ fn do_commands<H: Host>(
     ensures ready { OnOk result (IsReady (H.view host.new) session.new) }
     ensures fresh { OnOk result (session.new.failed ≡ false) }
     ensures told { Becomes Any (H.view host.old).holds (H.view host.new).holds }
+    ensures said { Becomes Grown (H.view host.old).said (H.view host.new).said }
     ensures cause { IsSessionCause (H.view host.old) (H.view host.new) result }
 {
     for command in commands {
@@ -72,6 +74,7 @@ fn do_and_close<H: Host>(
     ensures unclosed { (m : State) (text : List ℕ) → StandsFor (H.view host.old) session m text
         → StaysOpenBy (H.view host.new) result }
     ensures told { Becomes Any (H.view host.old).holds (H.view host.new).holds }
+    ensures said { Becomes Grown (H.view host.old).said (H.view host.new).said }
     ensures cause { IsSessionCause (H.view host.old) (H.view host.new) result }
 {
     do_commands(&mut session, host, commands)?;

@@ -2,6 +2,7 @@ use Rattle.std.proofs.lemmas.Result.{IfOk-from_err, err_from_is_err_and}
 use Rattle.rio_machine.specs.declared.command.Outcome.{Outcome}
 use Rattle.rootio.proofs.Built.{built_at, statable_at}
 use Rattle.rootio.proofs.Doing.{all_done, cause_behind, does_next, leaves_open, nothing_yet, stops_there}
+use Rattle.rootio.proofs.SaidFronts.{grows_join}
 use Rattle.rootio.proofs.Untouched.{any_join}
 use Rattle.rootio.proofs.script.do_commands.Goals as goal
 
@@ -20,7 +21,7 @@ pub loop-command-preserved : goal.loop-command-preserved
 loop-command-preserved g c =
     does_next (g.H.Host.view c.args.host.now) (g.H.Host.view c.loop-command.host) (g.H.Host.view c.apply.new.host) c.args.session.now c.loop-command.session c.apply.new.self
     c.args.commands.now c.loop-command.command-index c.command-item.result c.loop-command-test.true c.command-item.is c.loop-command.invariant c.in_ok-apply.field-0
-    c.in_ok-apply.ensures.done c.in_ok-apply.ensures.ready c.in_ok-apply.ensures.failed c.in_ok-apply.ensures.told c.in_ok-apply.ensures.cause
+    c.in_ok-apply.ensures.done c.in_ok-apply.ensures.ready c.in_ok-apply.ensures.failed c.in_ok-apply.ensures.told c.in_ok-apply.ensures.said c.in_ok-apply.ensures.cause
 
 pub returns-in_err-apply : goal.returns-in_err-apply
 returns-in_err-apply g c =
@@ -38,6 +39,7 @@ returns-in_err-apply g c =
       ready = IfOk-from_err c.from_residual.result _ c.from_residual.ensures.0;
       fresh = IfOk-from_err c.from_residual.result _ c.from_residual.ensures.0;
       told = any_join (g.H.Host.view c.args.host.now).holds (g.H.Host.view c.loop-command.host).holds (g.H.Host.view c.apply.new.host).holds c.loop-command.invariant.told c.in_err-apply.ensures.told;
+      said = grows_join (g.H.Host.view c.args.host.now).said (g.H.Host.view c.loop-command.host).said (g.H.Host.view c.apply.new.host).said c.loop-command.invariant.said c.in_err-apply.ensures.said;
       cause = rw (p.1, p.2)
           (cause_behind Outcome (Unit {0}) (g.H.Host.view c.args.host.now) (g.H.Host.view c.loop-command.host) (g.H.Host.view c.apply.new.host) c.in_err-apply.field-0.0 c.loop-command.invariant.none
           c.in_err-apply.ensures.cause);
@@ -55,5 +57,6 @@ returns g c =
       ready = doing.ready;
       fresh = doing.fresh;
       told = doing.told;
+      said = doing.said;
       cause = doing.none;
     }
