@@ -30,11 +30,12 @@ use Rattle.rio_judge.specs.declared.work.Work.TheVariants.{Put as Storing, Get a
 use Rattle.rio_effect.specs.ObjectRecord.{key_of_put}
 use Rattle.rio_session.specs.Behind.{IsOfKeys}
 use Rattle.rio_session.specs.Does.{Does}
-use Rattle.rio_session.specs.Gets.{IsSaid, TellsObject}
+use Rattle.rio_session.specs.Causes.{IsSaid}
+use Rattle.rio_session.specs.Gets.{TellsObject}
 use Rattle.rio_session.specs.Kept.{IsClosable, IsSoundState, is_sized, kept_with}
 use Rattle.rio_session.specs.Puts.{IsStoredRecord, PutsRecord, putting}
 use Rattle.rio_session.specs.Says.{SaysReply}
-use Rattle.rio_session.specs.Session.{IsReady, LacksRoomIfFull, SessionState, StandsFor, next_of}
+use Rattle.rio_session.specs.Session.{IsReady, LacksRoomIfFull, SessionState, StandsFor, next_of, with_cost}
 use Rattle.rio_session.specs.declared.fault.SessionFault.{SessionFault}
 use Rattle.rio_session.proofs.OtherSteps.{get_outcome, get_still, get_told, ls_outcome, ls_still, ls_told, refused_lacks, refused_outcome, refused_still, refused_told}
 use Rattle.rio_session.proofs.PutAnswers.{IsPutStep, IsPutting, does_put}
@@ -74,20 +75,19 @@ module _ (old new : View) (s s' : SessionState) (law : IsLawful old) (law' : IsL
   same_refused c refusal (Ok outcome) judged is = λ m keys. is ∙ sym (refused_outcome s m c refusal (judged m keys.classes keys.keys))
   same_refused c refusal (Err e) judged is = tt
 
-  lacks_refused : (c : Command) (refusal : Refusal) (a : Result Outcome SessionFault) → IsJudgementOfStates s.classes s.heads c (RefusalOf refusal) → IfOk a (λ outcome. outcome ≡ Refused refusal)
-      → IfOk a (λ outcome. (m : State) (said : List ℕ) → StandsFor old s m said → LacksRoomIfFull s' outcome)
-  lacks_refused c refusal (Ok outcome) judged is = λ m said st.
-      let keys = of_keys s m st.file st.state in
-      subst (λ (o : Outcome). LacksRoomIfFull s' o) (sym is) (refused_lacks s m c refusal (judged m keys.classes keys.keys) s')
-  lacks_refused c refusal (Err e) judged is = tt
-
   pub refused_does : (c : Command) (refusal : Refusal) → IsJudgementOfStates s.classes s.heads c (RefusalOf refusal) → SaysReply (text_of (refused refusal)) 0 old new s s' answer → IfOk answer (λ outcome. outcome ≡ Refused refusal)
       → Does old new s s' c answer
   refused_does c refusal judged says is =
       does_says old new s s' (text_of (refused refusal)) 0 law law' ready c answer fresh says
       (λ spoken m keys. refused_still s m c refusal (judged m keys.classes keys.keys))
       (λ spoken m said st. let keys = of_keys s m st.file st.state in refused_told s m c refusal (judged m keys.classes keys.keys))
-      (same_refused c refusal answer judged is) (lacks_refused c refusal answer judged is) (not_accepted answer c refusal is)
+      (same_refused c refusal answer judged is) lacks (not_accepted answer c refusal is)
+    where
+      lacks : IsSaid answer → (m : State) (said : List ℕ) → StandsFor old s m said → LacksRoomIfFull (with_cost 0 s) (outcome_of (next_of s m c).reply)
+      lacks spoken m said st =
+          let keys = of_keys s m st.file st.state in
+          let j = judged m keys.classes keys.keys in
+          subst (λ (o : Outcome). LacksRoomIfFull (with_cost 0 s) o) (sym (refused_outcome s m c refusal j)) (refused_lacks s m c refusal j (with_cost 0 s))
 
   -- ---- ls and get
 
@@ -96,9 +96,9 @@ module _ (old new : View) (s s' : SessionState) (law : IsLawful old) (law' : IsL
   same_accepted c (Ok outcome) accepted is = λ m keys. is ∙ sym (accepted m keys)
   same_accepted c (Err e) accepted is = tt
 
-  lacks_accepted : (a : Result Outcome SessionFault) → IfOk a (λ outcome. outcome ≡ Accepted) → IfOk a (λ outcome. (m : State) (said : List ℕ) → StandsFor old s m said → LacksRoomIfFull s' outcome)
-  lacks_accepted (Ok outcome) is = λ m said st. subst (λ (o : Outcome). LacksRoomIfFull s' o) (sym is) tt
-  lacks_accepted (Err e) is = tt
+  lacks_accepted : (c : Command) → ((m : State) → IsOfKeys s m → outcome_of (next_of s m c).reply ≡ Accepted)
+      → (m : State) (said : List ℕ) → StandsFor old s m said → LacksRoomIfFull (with_cost 0 s) (outcome_of (next_of s m c).reply)
+  lacks_accepted c accepted m said st = subst (λ (o : Outcome). LacksRoomIfFull (with_cost 0 s) o) (sym (accepted m (of_keys s m st.file st.state))) tt
 
   no_put : (c : Command) (a : Result Outcome SessionFault) → ((name : List ℕ) (v : Value) → c ≡ Put name v → ⊥) → IfOk a (λ outcome. (name : List ℕ) (v : Value) → c ≡ Put name v → outcome ≡ Accepted → ⊥)
   no_put c (Ok outcome) other = λ name v put accepted. other name v put
@@ -109,8 +109,10 @@ module _ (old new : View) (s s' : SessionState) (law : IsLawful old) (law' : IsL
       does_says old new s s' (listing_of s.heads) 0 law law' ready Ls answer fresh says
       (λ spoken m keys. ls_still s m keys sound.none (sound.kept fresh) (judged m keys.classes keys.keys).0)
       (λ spoken m said st. let keys = of_keys s m st.file st.state in ls_told s m keys sound.none (sound.kept fresh) (judged m keys.classes keys.keys).0)
-      (same_accepted Ls answer (λ m keys. ls_outcome s m keys sound.none (sound.kept fresh) (judged m keys.classes keys.keys).0) is)
-      (lacks_accepted answer is) (no_put Ls answer (λ name v put. absurd cc))
+      (same_accepted Ls answer outcome is) (λ spoken. lacks_accepted Ls outcome) (no_put Ls answer (λ name v put. absurd cc))
+    where
+      outcome : (m : State) → IsOfKeys s m → outcome_of (next_of s m Ls).reply ≡ Accepted
+      outcome m keys = ls_outcome s m keys sound.none (sound.kept fresh) (judged m keys.classes keys.keys).0
 
   pub get_does : (name : List ℕ) (asked : Option ℕ) (number : ℕ) → IsSoundState s → IsJudgementOfStates s.classes s.heads (Get name asked None) (Judgement (Telling number)) → TellsObject name number old new s s' answer
       → IfOk answer (λ outcome. outcome ≡ Accepted) → Does old new s s' (Get name asked None) answer
@@ -118,9 +120,11 @@ module _ (old new : View) (s s' : SessionState) (law : IsLawful old) (law' : IsL
       does_says old new s s' t.text 0 law law' ready (Get name asked None) answer fresh t.says
       (λ spoken m keys. get_still s m keys sound.none (sound.kept fresh) name asked (judged m keys.classes keys.keys).0)
       told
-      (same_accepted (Get name asked None) answer (λ m keys. get_outcome s m keys sound.none (sound.kept fresh) name asked (judged m keys.classes keys.keys).0) is)
-      (lacks_accepted answer is) (no_put (Get name asked None) answer (λ own v put. absurd cc))
+      (same_accepted (Get name asked None) answer outcome is) (λ spoken. lacks_accepted (Get name asked None) outcome) (no_put (Get name asked None) answer (λ own v put. absurd cc))
     where
+      outcome : (m : State) → IsOfKeys s m → outcome_of (next_of s m (Get name asked None)).reply ≡ Accepted
+      outcome m keys = get_outcome s m keys sound.none (sound.kept fresh) name asked (judged m keys.classes keys.keys).0
+
       told : IsSaid answer → (m : State) (said : List ℕ) → StandsFor old s m said → t.text ≡ text_of (next_of s m (Get name asked None)).reply
       told spoken m said st =
           let keys = of_keys s m st.file st.state in
@@ -188,22 +192,20 @@ module _ (old new : View) (s s' : SessionState) (law : IsLawful old) (law' : IsL
         is ∙ ap (λ (k : ℕ). Refused (Full (file_end s.segments) k)) n_is
         ∙ sym (full_outcome s m keys none kept.count kept.sized name v stored own number size 0 (omega arith) soon named j.0 j.1 unused (room_is true 0 (omega arith) room m keys))
 
-    lacks_full : (a : Result Outcome SessionFault) → head_length own name ≤ 229 → is_full s.segments (n ∷ []) need ≡ true → SaysReply (text_of (refused (Full (file_end s.segments) n))) cost old new s s' a
-        → IfOk a (λ outcome. outcome ≡ Refused (Full (file_end s.segments) n)) → IfOk a (λ outcome. (m : State) (said : List ℕ) → StandsFor old s m said → LacksRoomIfFull s' outcome)
-    lacks_full (Err e) short room says is = tt
-    lacks_full (Ok outcome) short room says is = λ m said st.
+    lacks_full : head_length own name ≤ 229 → is_full s.segments (n ∷ []) need ≡ true
+        → (m : State) (said : List ℕ) → StandsFor old s m said → LacksRoomIfFull (with_cost cost s) (outcome_of (next_of s m (Put name v)).reply)
+    lacks_full short room m said st =
         let keys = of_keys s m st.file st.state in
         let j = its m keys in
         let full = room_is true 0 (omega arith) room m keys in
         let lacks = full_lacks s m st.file st.state none kept.count kept.sized name v stored own number size 0 (omega arith) soon named j.0 j.1 unused listless full cost cost_is short in
-        let after : room_limit < 3 * s'.opened + s'.costs = subst (λ (a : SessionState). room_limit < 3 * a.opened + a.costs) (sym says.kept) lacks in
-        subst (λ (o : Outcome). LacksRoomIfFull s' o) (sym is) after
+        subst (λ (o : Outcome). LacksRoomIfFull (with_cost cost s) o) (sym (full_outcome s m keys none kept.count kept.sized name v stored own number size 0 (omega arith) soon named j.0 j.1 unused full)) lacks
 
     pub full_does : head_length own name ≤ 229 → is_full s.segments (n ∷ []) need ≡ true → SaysReply (text_of (refused (Full (file_end s.segments) n))) cost old new s s' answer
         → IfOk answer (λ outcome. outcome ≡ Refused (Full (file_end s.segments) n)) → Does old new s s' (Put name v) answer
     full_does short room says is =
         does_says old new s s' (text_of (refused (Full (file_end s.segments) n))) cost law law' ready (Put name v) answer fresh says still told
-        (same_full answer room is) (lacks_full answer short room says is) (not_accepted answer (Put name v) (Full (file_end s.segments) n) is)
+        (same_full answer room is) (λ spoken. lacks_full short room) (not_accepted answer (Put name v) (Full (file_end s.segments) n) is)
       where
         still : IsSaid answer → (m : State) → IsOfKeys s m → IsStill s m (Put name v) cost
         still spoken m keys =

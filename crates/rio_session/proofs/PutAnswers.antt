@@ -33,7 +33,7 @@ use Rattle.rio_session.specs.Causes.{StaysIfRefused}
 use Rattle.rio_session.specs.Does.{Does}
 use Rattle.rio_session.specs.Marks.{segments_behind}
 use Rattle.rio_session.specs.Puts.{IsPutOrNot, PutAndSaid, PutsRecord, Putting, PutsInTime, with_put}
-use Rattle.rio_session.specs.Session.{FollowsCommand, HoldsState, IsReady, SessionState, StandsFor, Steps, Went, next_of}
+use Rattle.rio_session.specs.Session.{FollowsCommand, HoldsState, IsReady, LacksRoomIfFull, SessionState, StandsFor, Steps, Went, next_of, with_cost}
 use Rattle.rio_session.specs.declared.fault.SessionFault.{SessionFault}
 use Rattle.rio_session.specs.declared.fault.SessionFault.TheVariants.{HostFault, SayFault, NoMemory}
 use Rattle.rio_session.proofs.Opened.{open_image}
@@ -167,6 +167,11 @@ module _ (p : Putting) (old new : View) (before after : SessionState) (lawful : 
   never_nothing : (m : State) (name : List ℕ) (v : Value) → IsPutStep p before m name v → PutsNothing before m (Put name v) → ⊥
   never_nothing m name v step nothing = let same : Accepted ≡ Refused nothing.0 = sym step.accepted ∙ nothing.1 in absurd cc
 
+  -- an accepted put isn't want of room
+  accepted_lacks : (m : State) (name : List ℕ) (v : Value) → outcome_of (next_of before m (Put name v)).reply ≡ Accepted
+      → LacksRoomIfFull (with_cost (cost_of m (Put name v)) before) (outcome_of (next_of before m (Put name v)).reply)
+  accepted_lacks m name v is = subst (λ (o : Outcome). LacksRoomIfFull (with_cost (cost_of m (Put name v)) before) o) (sym is) tt
+
   put_ready : PutAndSaid p old new before after → IsReady new after
   put_ready is = record {
     quiet = is.quiet;
@@ -194,7 +199,9 @@ module _ (p : Putting) (old new : View) (before after : SessionState) (lawful : 
     puts = λ m own w keys put accepted. put_had m name own v w is (step m keys) put;
     unwritten = λ m keys none. absurd (never_nothing m name v (step m keys) none);
     said = grows_whole p.text old.said new.said is.says;
+    silent = λ none. absurd none;
     part = λ m said s. front_whole old new said p.text (text_of (next_of before m (Put name v)).reply) s.said (putting m said s).text_is is.says;
+    lacks = λ spoken m said s. accepted_lacks m name v (putting m said s).accepted;
   }
   does_put name v (Err HostFault) fresh lawful' is step putting same = record {
     done = tt;
@@ -209,7 +216,9 @@ module _ (p : Putting) (old new : View) (before after : SessionState) (lawful : 
     puts = tt;
     unwritten = λ m keys none. absurd (never_nothing m name v (step m keys) none);
     said = grows_none old.said new.said is.said;
+    silent = λ none. is.said;
     part = λ m said s. front_none old new said (text_of (next_of before m (Put name v)).reply) s.said is.said;
+    lacks = λ spoken. absurd spoken;
   }
   does_put name v (Err SayFault) fresh lawful' is step putting same = record {
     done = tt;
@@ -224,7 +233,9 @@ module _ (p : Putting) (old new : View) (before after : SessionState) (lawful : 
     puts = tt;
     unwritten = λ m keys none. absurd (never_nothing m name v (step m keys) none);
     said = grows_part p.text old.said new.said is.says;
+    silent = λ none. absurd none;
     part = λ m said s. front_part old new said p.text (text_of (next_of before m (Put name v)).reply) s.said (putting m said s).text_is is.says;
+    lacks = λ spoken m said s. accepted_lacks m name v (putting m said s).accepted;
   }
   does_put name v (Err NoMemory) fresh lawful' is step putting same = record {
     done = tt;
@@ -239,5 +250,7 @@ module _ (p : Putting) (old new : View) (before after : SessionState) (lawful : 
     puts = tt;
     unwritten = λ m keys none. reads_stay old new is.calls;
     said = grows_none old.said new.said is.calls.said;
+    silent = λ none. is.calls.said;
     part = λ m said s. front_none old new said (text_of (next_of before m (Put name v)).reply) s.said is.calls.said;
+    lacks = λ spoken. absurd spoken;
   }

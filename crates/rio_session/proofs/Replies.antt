@@ -19,12 +19,11 @@ use Rattle.rio_step.specs.Costs.{cost_of}
 use Rattle.rio_step.specs.ReplyText.{text_of}
 use Rattle.rio_step.specs.Step.{Stepped, outcome_of}
 use Rattle.rio_session.specs.Behind.{FollowsStep, IsOfKeys}
-use Rattle.rio_session.specs.Causes.{StaysIfRefused}
+use Rattle.rio_session.specs.Causes.{IsSaid, StaysIfRefused}
 use Rattle.rio_session.specs.Does.{Does}
-use Rattle.rio_session.specs.Gets.{IsSaid}
 use Rattle.rio_session.specs.Marks.{segments_behind}
 use Rattle.rio_session.specs.Says.{NotSaid, Said, SaysReply}
-use Rattle.rio_session.specs.Session.{FollowsCommand, HoldsState, IsOpenAs, IsReady, LacksRoomIfFull, SessionState, StandsFor, Steps, Went, next_of}
+use Rattle.rio_session.specs.Session.{FollowsCommand, HoldsState, IsOpenAs, IsReady, LacksRoomIfFull, SessionState, StandsFor, Steps, Went, next_of, with_cost}
 use Rattle.rio_session.specs.declared.fault.SessionFault.{SessionFault}
 use Rattle.rio_session.specs.declared.fault.SessionFault.TheVariants.{HostFault, SayFault, NoMemory}
 use Rattle.rio_session.proofs.Opened.{reads_open}
@@ -154,15 +153,28 @@ module _ (old new : View) (before after : SessionState) (text : List ℕ) (cost 
     reply : IsSaid answer → (m : State) (said : List ℕ) → StandsFor old before m said → IsReply before m c text cost
     reply spoken m said s = record { still = still spoken m (of_keys before m s.file s.state); text_is = told spoken m said s }
 
+    -- want of room
+    costs_so : IsSaid answer → (m : State) (said : List ℕ) → StandsFor old before m said → LacksRoomIfFull (with_cost cost before) (outcome_of (next_of before m c).reply)
+        → LacksRoomIfFull (with_cost (cost_of m c) before) (outcome_of (next_of before m c).reply)
+    costs_so spoken m said s full =
+        subst (λ (n : ℕ). LacksRoomIfFull (with_cost n before) (outcome_of (next_of before m c).reply)) (still spoken m (of_keys before m s.file s.state)).cost_is full
+
+    after_so : (outcome : Outcome) → Said text cost old new before after → (m : State) → outcome ≡ outcome_of (next_of before m c).reply
+        → LacksRoomIfFull (with_cost cost before) (outcome_of (next_of before m c).reply) → LacksRoomIfFull after outcome
+    after_so outcome is m same full =
+        subst (λ (a : SessionState). LacksRoomIfFull a outcome) (sym is.kept) (subst (λ (o : Outcome). LacksRoomIfFull (with_cost cost before) o) (sym same) full)
+
   pub does_says : (c : Command) (answer : Result Outcome SessionFault) → before.failed ≡ false → SaysReply text cost old new before after answer
       → (IsSaid answer → (m : State) → IsOfKeys before m → IsStill before m c cost)
       → (IsSaid answer → (m : State) (said : List ℕ) → StandsFor old before m said → text ≡ text_of (next_of before m c).reply)
       → IfOk answer (λ outcome. (m : State) → IsOfKeys before m → outcome ≡ outcome_of (next_of before m c).reply)
-      → IfOk answer (λ outcome. (m : State) (said : List ℕ) → StandsFor old before m said → LacksRoomIfFull after outcome)
+      → (IsSaid answer → (m : State) (said : List ℕ) → StandsFor old before m said → LacksRoomIfFull (with_cost cost before) (outcome_of (next_of before m c).reply))
       → IfOk answer (λ outcome. (name : List ℕ) (v : Value) → c ≡ Put name v → outcome ≡ Accepted → ⊥)
       → Does old new before after c answer
   does_says c (Ok outcome) fresh is still told same full other = record {
-    done = λ m said s. said_went m c said outcome is (reply c (Ok outcome) still told tt m said s) (same m (of_keys before m s.file s.state)) (full m said s) s;
+    done = λ m said s.
+        said_went m c said outcome is (reply c (Ok outcome) still told tt m said s) (same m (of_keys before m s.file s.state))
+        (after_so c (Ok outcome) still told outcome is m (same m (of_keys before m s.file s.state)) (full tt m said s)) s;
     any_moment = tt;
     ready = said_ready is;
     refused = said_stays outcome is;
@@ -174,7 +186,9 @@ module _ (old new : View) (before after : SessionState) (text : List ℕ) (cost 
     puts = λ m name v keys put accepted. absurd (other name v put accepted);
     unwritten = λ m keys none. speaking_stays text old new is.holds is.time;
     said = grows_whole text old.said new.said is.says;
+    silent = λ none. absurd none;
     part = λ m said s. front_whole old new said text (text_of (next_of before m c).reply) s.said (told tt m said s) is.says;
+    lacks = λ spoken m said s. costs_so c (Ok outcome) still told tt m said s (full tt m said s);
   }
   does_says c (Err HostFault) fresh is still told same full other = record {
     done = tt;
@@ -189,7 +203,9 @@ module _ (old new : View) (before after : SessionState) (text : List ℕ) (cost 
     puts = tt;
     unwritten = λ m keys none. reads_stay old new is.calls;
     said = grows_none old.said new.said is.calls.said;
+    silent = λ none. is.calls.said;
     part = λ m said s. front_none old new said (text_of (next_of before m c).reply) s.said is.calls.said;
+    lacks = λ spoken. absurd spoken;
   }
   does_says c (Err SayFault) fresh is still told same full other = record {
     done = tt;
@@ -204,7 +220,9 @@ module _ (old new : View) (before after : SessionState) (text : List ℕ) (cost 
     puts = tt;
     unwritten = λ m keys none. speaking_stays text old new is.holds is.time;
     said = grows_part text old.said new.said is.says;
+    silent = λ none. absurd none;
     part = λ m said s. front_part old new said text (text_of (next_of before m c).reply) s.said (told tt m said s) is.says;
+    lacks = λ spoken m said s. costs_so c (Err SayFault) still told tt m said s (full tt m said s);
   }
   does_says c (Err NoMemory) fresh is still told same full other = record {
     done = tt;
@@ -219,7 +237,9 @@ module _ (old new : View) (before after : SessionState) (text : List ℕ) (cost 
     puts = tt;
     unwritten = λ m keys none. reads_stay old new is.calls;
     said = grows_none old.said new.said is.calls.said;
+    silent = λ none. is.calls.said;
     part = λ m said s. front_none old new said (text_of (next_of before m c).reply) s.said is.calls.said;
+    lacks = λ spoken. absurd spoken;
   }
 
 -- ---- calls that read, and then a reply
@@ -266,4 +286,4 @@ stays_so v = record {
 
 pub does_nothing : (v : View) (s : SessionState) (c : Command) → IsLawful v → IsReady v s → s.failed ≡ false → Does v v s s c (Err NoMemory)
 does_nothing v s c law ready fresh =
-    does_says v v s s [] 0 law law ready c (Err NoMemory) fresh (record { calls = stays_so v; faults = (refl, refl); kept = refl }) (λ said. absurd said) (λ said. absurd said) tt tt tt
+    does_says v v s s [] 0 law law ready c (Err NoMemory) fresh (record { calls = stays_so v; faults = (refl, refl); kept = refl }) (λ said. absurd said) (λ said. absurd said) tt (λ said. absurd said) tt

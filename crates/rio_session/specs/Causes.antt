@@ -55,6 +55,20 @@ fails_by (Err HostFault) = true
 fails_by (Err SayFault) = true
 fails_by (Err NoMemory) = false
 
+-- the whole text is said, or a front of it, where it could not be said
+abbrev pub IsSaid : {X : Type 0} → Result X SessionFault → Type 0
+IsSaid (Ok x) = Unit {0}
+IsSaid (Err HostFault) = ⊥
+IsSaid (Err SayFault) = Unit {0}
+IsSaid (Err NoMemory) = ⊥
+
+-- the call failed before it came to that
+abbrev pub IsSilent : {X : Type 0} → Result X SessionFault → Type 0
+IsSilent (Ok x) = ⊥
+IsSilent (Err HostFault) = Unit {0}
+IsSilent (Err SayFault) = ⊥
+IsSilent (Err NoMemory) = Unit {0}
+
 -- a file that isn't opened, for another cause than a fault of the host
 abbrev pub IsNotOpened : {X : Type 0} → Result X OpenFault → Type 0
 IsNotOpened (Ok x) = ⊥

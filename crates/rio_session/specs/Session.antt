@@ -108,6 +108,10 @@ pub record FollowsCommand (old new : SessionState) (m : State) (c : Command) : T
   pub opened : new.opened ≡ old.opened
   pub costs : new.costs ≡ min (old.costs + cost_of m c) (2 ^ 64 - 1)
 
+-- what a session keeps, with a cost counted as far as 64 bits hold the costs
+abbrev pub with_cost : ℕ → SessionState → SessionState
+with_cost cost s = record s { costs = min (s.costs + cost) (2 ^ 64 - 1) }
+
 -- Want of room is told only where three times the file's length at its opening, with the costs of all commands up to this one,
 -- pass what there is room for.
 abbrev pub LacksRoomIfFull : SessionState → Outcome → Type 0
