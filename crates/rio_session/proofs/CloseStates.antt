@@ -20,7 +20,7 @@ use Rattle.rio_step.specs.Step.{state_behind}
 use Rattle.rio_close.specs.Leaving.{HoldsClosed, HoldsClosedWith, HoldsOpen, IsClosedWith, StaysAs}
 use Rattle.rio_close.specs.Written.{AreCloseRecords, OpenFile}
 use Rattle.rio_close.specs.declared.parts.CloseRecords.{CloseRecords}
-use Rattle.rio_session.specs.Closes.{ClosesFile, IsClosedFile, open_file}
+use Rattle.rio_session.specs.Closes.{ClosesFile, IsWellClosed, open_file}
 use Rattle.rio_session.specs.Kept.{IsClosable}
 use Rattle.rio_session.specs.Session.{ClosesAs, SessionState, StandsFor}
 use Rattle.rio_session.proofs.States.{Known, known}
@@ -87,7 +87,7 @@ pub same_file : (f g : OpenFile) → f.segments ≡ g.segments → f.heads ≡ g
 same_file f g segments heads info name nbytes_name datime = λ i. record { segments = segments i; heads = heads i; info = info i; name = name i; nbytes_name = nbytes_name i; datime = datime i }
 
 -- the file that is held then
-pub holds_closed_file : (old new : View) (s : SessionState) (file : List ℕ) → ClosesFile old new s → new.holds ≡ Some file → IsClosedFile s.name s.datime file
+pub holds_closed_file : (old new : View) (s : SessionState) (file : List ℕ) → ClosesFile old new s → new.holds ≡ Some file → IsWellClosed s.name s.datime file
 holds_closed_file old new s file is told = record {
   kept = open_file s;
   name_is = refl;

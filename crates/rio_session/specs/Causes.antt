@@ -63,11 +63,11 @@ IsSaid (Err SayFault) = Unit {0}
 IsSaid (Err NoMemory) = ⊥
 
 -- the call failed before it came to that
-abbrev pub IsSilent : {X : Type 0} → Result X SessionFault → Type 0
-IsSilent (Ok x) = ⊥
-IsSilent (Err HostFault) = Unit {0}
-IsSilent (Err SayFault) = ⊥
-IsSilent (Err NoMemory) = Unit {0}
+abbrev pub SaysNothing : {X : Type 0} → Result X SessionFault → Type 0
+SaysNothing (Ok x) = ⊥
+SaysNothing (Err HostFault) = Unit {0}
+SaysNothing (Err SayFault) = ⊥
+SaysNothing (Err NoMemory) = Unit {0}
 
 -- a file that isn't opened, for another cause than a fault of the host
 abbrev pub IsNotOpened : {X : Type 0} → Result X OpenFault → Type 0

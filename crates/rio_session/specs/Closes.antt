@@ -28,7 +28,7 @@ pub record ClosesFile (old new : View) (s : SessionState) : Type 0 where
 
 -- A file of this name that was closed at this time, without garbage: before its close, as it was kept, each of its records was the
 -- first one or one that the key list names.
-pub record IsClosedFile (name : List ℕ) (datime : ℕ) (file : List ℕ) : Type 0 where
+pub record IsWellClosed (name : List ℕ) (datime : ℕ) (file : List ℕ) : Type 0 where
   pub kept : OpenFile
   pub name_is : kept.name ≡ name
   pub datime_is : kept.datime ≡ datime

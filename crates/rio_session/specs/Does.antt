@@ -13,7 +13,7 @@ use Rattle.rio_step.specs.Costs.{cost_of}
 use Rattle.rio_step.specs.ReplyText.{text_of}
 use Rattle.rio_step.specs.Step.{outcome_of}
 use Rattle.rio_session.specs.Behind.{FollowsStep, HasPut, IsOfKeys, PutsNothing, SaysPart, Stays}
-use Rattle.rio_session.specs.Causes.{IsSaid, IsSessionCause, IsSilent, StaysIfRefused, fails_by}
+use Rattle.rio_session.specs.Causes.{IsSaid, IsSessionCause, SaysNothing, StaysIfRefused, fails_by}
 use Rattle.rio_session.specs.Session.{IsReady, LacksRoomIfFull, SessionState, StandsFor, Steps, Went, next_of, with_cost}
 use Rattle.rio_session.specs.declared.fault.SessionFault.{SessionFault}
 use Rattle.rio_session.specs.declared.fault.SessionFault.TheVariants.{NoMemory}
@@ -31,6 +31,6 @@ pub record Does (old new : View) (before after : SessionState) (c : Command) (an
   pub puts : IfOk answer (λ outcome. (m : State) (name : List ℕ) (v : Value) → IsOfKeys before m → c ≡ Put name v → outcome ≡ Accepted → HasPut old new before after m name v)
   pub unwritten : (m : State) → IsOfKeys before m → PutsNothing before m c → Stays old new
   pub said : Becomes Grown old.said new.said
-  pub silent : IsSilent answer → new.said ≡ old.said
+  pub silent : SaysNothing answer → new.said ≡ old.said
   pub part : (m : State) (text : List ℕ) → StandsFor old before m text → SaysPart new text (text_of (next_of before m c).reply)
   pub lacks : IsSaid answer → (m : State) (text : List ℕ) → StandsFor old before m text → LacksRoomIfFull (with_cost (cost_of m c) before) (outcome_of (next_of before m c).reply)

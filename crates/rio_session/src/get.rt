@@ -47,8 +47,8 @@ impl Session {
         requires fresh { self.old.failed ≡ false }
         requires there { IsSome (head_of name.now (Some cycle) self.old.heads) }
         requires holds { HoldsChain (H.view host.old) self.old.segments }
-        ensures tells { TellsObject name.now cycle (H.view host.old) (H.view host.new) self.old self.new
-            result }
+        ensures tells { TellsObject name.now cycle (H.view host.old) (H.view host.new)
+            self.old self.new result }
         ensures outcome { IfOk result (λ outcome. outcome ≡ BecameOf.Accepted) }
         ensures sound { IsSoundState self.old }
     {

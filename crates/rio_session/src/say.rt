@@ -45,8 +45,8 @@ impl Session {
         refusal: Refusal,
         cost: u64,
     ) -> Result<Outcome, SessionFault>
-        ensures says { SaysReply (text_of (refused refusal)) cost (H.view host.old) (H.view host.new)
-            self.old self.new result }
+        ensures says { SaysReply (text_of (refused refusal)) cost
+            (H.view host.old) (H.view host.new) self.old self.new result }
         ensures outcome { IfOk result (λ outcome. outcome ≡ BecameOf.Refused refusal) }
         ensures reads { (H.view host.new).reads ≡ (H.view host.old).reads }
     {

@@ -76,7 +76,7 @@ impl Session {
     ghost use Rattle.rio_step.specs.Statable.{IsStatable};
     ghost use Rattle.rio_value.specs.declared.value.Value.{Value};
     ghost use Rattle.rio_session.specs.Behind.{FollowsStep, HasPut, IsOfKeys, PutsNothing, SaysPart, Stays};
-    ghost use Rattle.rio_session.specs.Causes.{IsSaid, IsSessionCause, IsSilent, NeverReads, StaysIfRefused, fails_by};
+    ghost use Rattle.rio_session.specs.Causes.{IsSaid, IsSessionCause, SaysNothing, NeverReads, StaysIfRefused, fails_by};
     ghost use Rattle.rio_session.specs.Session.{IsReady, LacksRoomIfFull, StandsFor, Steps, Went, next_of, with_cost};
     ghost use Rattle.rio_session.specs.declared.fault.SessionFault.{SessionFault as Fault};
 
@@ -126,7 +126,7 @@ impl Session {
         ensures unwritten { (m : State) → IsOfKeys self.old m → PutsNothing self.old m command.now
             → Stays (H.view host.old) (H.view host.new) }
         ensures said { Becomes Grown (H.view host.old).said (H.view host.new).said }
-        ensures silent { IsSilent result → (H.view host.new).said ≡ (H.view host.old).said }
+        ensures silent { SaysNothing result → (H.view host.new).said ≡ (H.view host.old).said }
         ensures part { (m : State) (text : List ℕ) → StandsFor (H.view host.old) self.old m text
             → SaysPart (H.view host.new) text (text_of (next_of self.old m command.now).reply) }
         ensures lacks { IsSaid result → (m : State) (text : List ℕ)

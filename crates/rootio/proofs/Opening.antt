@@ -20,7 +20,7 @@ use Rattle.rio_cmd.specs.Built.{built_script}
 use Rattle.rio_step.specs.Costs.{HasFileRoom}
 use Rattle.rio_state.specs.Reads.{ReadsAsState}
 use Rattle.rio_state.specs.Reasons.{reason_at}
-use Rattle.rio_session.specs.Closes.{IsClosedFile}
+use Rattle.rio_session.specs.Closes.{IsWellClosed}
 use Rattle.rio_session.specs.Causes.{IsNotOpened, IsOpenCause, IsSessionCause, NoCountRose, TellsWhyNot}
 use Rattle.rio_session.specs.Marks.{marks_of_run}
 use Rattle.rio_session.specs.Session.{BeginsNew, SessionState, StandsFor}
@@ -253,7 +253,7 @@ module _ (target : TargetFile) (script : List ℕ) (v0 v1 v2 : View) (s : Sessio
         });
     written = λ file text m begins is last held.
         let closed = ended_well r _ done is m text (stands file text m begins.holds begins.said begins.reads) in
-        subst (λ (x : List ℕ × ℕ). IsClosedFile x.0 x.1 last) (λ i. (new.name_is i, new.datime_is i)) (closed.written last held);
+        subst (λ (x : List ℕ × ℕ). IsWellClosed x.0 x.1 last) (λ i. (new.name_is i, new.datime_is i)) (closed.written last held);
     unclosed = λ file text m begins. ends_unclosed v0 v2 r (unclosed m text (stands file text m begins.holds begins.said begins.reads));
     told = any_join v0.holds v1.holds v2.holds told01 told12;
     faults = λ place kind is. absurd (not_bad r place kind is);

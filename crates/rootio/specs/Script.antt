@@ -12,7 +12,7 @@ use Rattle.rio_step.specs.Costs.{HasFileRoom}
 use Rattle.rio_step.specs.Runs.{state_after}
 use Rattle.rio_state.specs.Reads.{ReadsAsState, ReadsClosed}
 use Rattle.rio_session.specs.Behind.{SaysPart}
-use Rattle.rio_session.specs.Closes.{IsClosedFile}
+use Rattle.rio_session.specs.Closes.{IsWellClosed}
 use Rattle.rio_session.specs.Marks.{marks_of_run}
 use Rattle.rio_session.specs.Session.{SessionState, StandsFor}
 use Rattle.rio_session.specs.declared.fault.OpenFault.{OpenFault}
@@ -46,7 +46,7 @@ pub record HasDone (r : ScriptRun) (first s : SessionState) (before : List ℕ) 
 pub record HasClosed (r : ScriptRun) (first : SessionState) (before : List ℕ) (new : View) : Type 0 where
   pub said : new.said ≡ Some (before ++ all_replies r)
   pub left : (image said : List ℕ) → Leaves new image said → ReadsAsState image (end_state r) × ReadsClosed image (end_state r)
-  pub written : (file : List ℕ) → new.holds ≡ Some file → IsClosedFile first.name first.datime file
+  pub written : (file : List ℕ) → new.holds ≡ Some file → IsWellClosed first.name first.datime file
   pub room : first.costs ≡ 0 → HasFileRoom first.opened r.start r.commands r.marks → AllFindRoom r
 
 -- a session that ended without a close, as it does where it finds no memory or can't say a reply, leaves a file marked as open
@@ -91,7 +91,7 @@ pub record RunsScript (target : TargetFile) (script : List ℕ) (old new : View)
   pub done : (file text : List ℕ) (m : State) → Begins old file text m
       → status ≡ Done → IsDone (run_of_work (Run target) script m) file text new
   pub written : (file text : List ℕ) (m : State) → Begins old file text m
-      → status ≡ Done → (last : List ℕ) → new.holds ≡ Some last → IsClosedFile target.name target.datime last
+      → status ≡ Done → (last : List ℕ) → new.holds ≡ Some last → IsWellClosed target.name target.datime last
   pub unclosed : (file text : List ℕ) (m : State) → Begins old file text m → EndsUnclosed old new status
   pub told : Becomes Any old.holds new.holds
   pub faults : TellsFirstFault HeaderAlone old status

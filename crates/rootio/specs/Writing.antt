@@ -16,7 +16,7 @@ use Rattle.rio_state.specs.Reads.{ReadsAsState}
 use Rattle.rio_state.specs.Reasons.{ReasonAt, reason_at}
 use Rattle.rio_create.specs.NewFile.{first_segments}
 use Rattle.rio_session.specs.Behind.{SaysPart}
-use Rattle.rio_session.specs.Closes.{IsClosedFile}
+use Rattle.rio_session.specs.Closes.{IsWellClosed}
 use Rattle.rio_session.specs.Marks.{marks_of_run}
 use Rattle.rootio.specs.Headline.{IsDone, IsStopOf, ScriptRun, all_replies}
 use Rattle.rootio.specs.Target.{TargetFile}
@@ -140,7 +140,7 @@ pub record KeepsHeadline (work : Work) (old new : View) (before after : Input) (
   pub done : (file text input : List ℕ) (m : State) → Begins old file text m → before.remaining ≡ Some input
       → status ≡ Done → IsDone (run_of_work work input m) file text new
   pub written : (file text : List ℕ) (m : State) → Begins old file text m
-      → status ≡ Done → (last : List ℕ) → new.holds ≡ Some last → IsClosedFile (target_of work).name (target_of work).datime last
+      → status ≡ Done → (last : List ℕ) → new.holds ≡ Some last → IsWellClosed (target_of work).name (target_of work).datime last
   pub unclosed : (file text : List ℕ) (m : State) → Begins old file text m → EndsUnclosed old new status
   pub input : (input : List ℕ) → before.remaining ≡ Some input → status ≡ Done → after.remaining ≡ Some []
   pub told : Becomes Any old.holds new.holds

@@ -2,7 +2,7 @@ use Rattle.std.proofs.Common.{◌++◌, ◌∙◌, List, ℕ, subst}
 use Rattle.std.proofs.lemmas.Result.{IfOk-from_err, err_from_is_err_and, on_ok_weaker}
 use Rattle.rio_host.proofs.Moments.{elapses_join}
 use Rattle.rio_step.specs.Runs.{state_after}
-use Rattle.rio_session.specs.Closes.{IsClosedFile}
+use Rattle.rio_session.specs.Closes.{IsWellClosed}
 use Rattle.rio_session.specs.Session.{ClosesAs}
 use Rattle.rio_session.proofs.CloseStates.{holds_closed_file}
 use Rattle.rio_session.proofs.Spoken.{grows_none}
@@ -48,7 +48,7 @@ returns g c =
             left = λ image told leaves. both.0 end (text ++ all_replies r) done.stands image told leaves;
             written = λ file holds.
                 let closed = holds_closed_file (g.H.Host.view c.do_commands.new.host) (g.H.Host.view c.close.new.host) c.do_commands.new.session file (both.1 end (text ++ all_replies r) done.stands) holds in
-                subst (λ (x : List ℕ × ℕ). IsClosedFile x.0 x.1 file) (λ i. (done.name i, done.datime i)) closed;
+                subst (λ (x : List ℕ × ℕ). IsWellClosed x.0 x.1 file) (λ i. (done.name i, done.datime i)) closed;
             room = done.room;
           }) (on_ok_both c.close.result c.close.ensures.closed c.close.ensures.written);
       unclosed = λ m text stands.
