@@ -16,19 +16,21 @@ use Rattle.rio_step.specs.ReplyText.{text_of}
 use Rattle.rio_step.specs.Runs.{first_mark, said_of, saved_of, state_after}
 use Rattle.rio_step.specs.Step.{Stepped, outcome_of, step}
 use Rattle.rio_state.specs.Left.{IsLeftAs}
-use Rattle.rio_session.specs.Causes.{IsCloseCause, IsSessionCause, NoCountRose}
+use Rattle.rio_step.specs.Costs.{HasFileRoom, cost_of}
+use Rattle.rio_session.specs.Behind.{SaysPart}
+use Rattle.rio_session.specs.Causes.{IsCloseCause, IsSaid, IsSessionCause, NoCountRose, SaysNothing}
 use Rattle.rio_session.specs.Marks.{mark_of, marks_of_run, segments_behind}
-use Rattle.rio_session.specs.Session.{IsReady, SessionState, StandsFor, Steps, Went, next_of}
+use Rattle.rio_session.specs.Session.{IsReady, LacksRoomIfFull, SessionState, StandsFor, Steps, Went, next_of, with_cost}
 use Rattle.rio_session.specs.declared.fault.SessionFault.{SessionFault}
 use Rattle.rio_session.specs.declared.fault.SessionFault.TheVariants.{HostFault, SayFault, NoMemory}
 use Rattle.rio_session.proofs.Spoken.{grows_none}
-use Rattle.rootio.specs.Headline.{IsStopOf, ScriptRun, replies}
+use Rattle.rootio.specs.Headline.{IsStopOf, SaidFindRoom, ScriptRun, replies}
 use Rattle.rootio.specs.Script.{HasDone, session_run}
 use Rattle.rootio.specs.Writing.{LeavesOpen}
 use Rattle.rootio.proofs.SaidFronts.{grows_join}
 use Rattle.rootio.proofs.Unclosed.{steps_open}
 use Rattle.rootio.proofs.Untouched.{any_join, becomes_same, elapses_none}
-use Rattle.rootio.proofs.Room.{CostsSo, all_find_room, costs_more, no_costs}
+use Rattle.rootio.proofs.Room.{CostsSo, all_find_room, costs_more, no_costs, room_at_fault}
 use Rattle.rootio.proofs.RunStops.{IsNext, behind, behind_next, prefix_at, replies_next, step_at, stop_between, stop_within}
 
 -- ---- marks
@@ -189,6 +191,21 @@ module _ (start v new : View) (first s s1 : SessionState) (commands : List Comma
       elapses_join (Steps (behind r k) (next_of s (behind r k) c) (text ++ replies r k)) (so.time file)
       (stopped (behind r k) (text ++ replies r k) so.stands)
       (λ image said steps. stops_within r text k c (next_at r k c within is) s so.marks file image said steps)
+
+  -- and nothing of what was said is want of room
+  pub room_there : (e : SessionFault) → (SaysNothing {X = Outcome} (Err e) → new.said ≡ v.said)
+      → (IsSaid {X = Outcome} (Err e) → (m : State) (text : List ℕ) → StandsFor v s m text → LacksRoomIfFull (with_cost (cost_of m c) s) (outcome_of (next_of s m c).reply))
+      → ((m : State) (text : List ℕ) → StandsFor v s m text → SaysPart new text (text_of (next_of s m c).reply))
+      → (m : State) (text : List ℕ) → StandsFor start first m text → first.costs ≡ 0 → HasFileRoom first.opened m commands (session_run first m commands).marks
+      → SaidFindRoom (session_run first m commands) text new
+  room_there e silent lacks part m text stands none room =
+      let r = session_run first m commands in
+      let so = doing.sofar m text stands in
+      let next = next_at r k c within is in
+      let same : step_at r k c ≡ next_of s (behind r k) c = done_is r text k c next s so.marks in
+      room_at_fault first s r text k c next so.costs none room v new e so.stands.said silent
+      (λ spoken. subst (λ (t : Stepped). LacksRoomIfFull (with_cost (cost_of (behind r k) c) s) (outcome_of t.reply)) (sym same) (lacks spoken (behind r k) (text ++ replies r k) so.stands))
+      (subst (λ (t : Stepped). SaysPart new (text ++ replies r k) (text_of t.reply)) (sym same) (part (behind r k) (text ++ replies r k) so.stands))
 
 -- a command that fails leaves the file marked as open
 pub leaves_open : (start v new : View) (first s : SessionState) (commands : List Command) (k : ℕ) (c : Command) → Doing start v first s commands k → IsLawful new

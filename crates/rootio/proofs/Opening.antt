@@ -29,7 +29,7 @@ use Rattle.rio_session.specs.declared.fault.OpenFault.TheVariants.{BadFile as Fi
 use Rattle.rio_session.specs.declared.fault.SessionFault.{SessionFault}
 use Rattle.rio_session.specs.declared.fault.SessionFault.TheVariants.{HostFault, SayFault as NotSaid, NoMemory as OutOfMemory}
 use Rattle.rio_session.proofs.Spoken.{front_none, grows_none}
-use Rattle.rootio.specs.Headline.{IsDone, IsStopOf, ScriptRun, all_replies, opening_length}
+use Rattle.rootio.specs.Headline.{IsDone, IsStopOf, SaidFindRoom, ScriptRun, all_replies, opening_length}
 use Rattle.rootio.specs.Reading.{RefusesBroken, TellsFirstFault}
 use Rattle.rootio.specs.Script.{HasClosed, IsFileCause, RunsScript, StaysOpenBy, session_run, status_of_open, status_of_session}
 use Rattle.rootio.specs.Target.{TargetFile}
@@ -37,6 +37,7 @@ use Rattle.rootio.specs.Writing.{Begins, EndsUnclosed, RefusesFile, RefusesReadO
 use Rattle.rootio.specs.declared.status.Status.TheVariants.{Done, BadFile, NoMemory, ReadOnly}
 use Rattle.rootio.specs.declared.words.Form.TheVariants.{Writes}
 use Rattle.rootio.specs.declared.words.Work.TheVariants.{Run}
+use Rattle.rootio.proofs.Room.{silent_room}
 use Rattle.rootio.proofs.SaidFronts.{grows_join, said_front}
 use Rattle.rootio.proofs.Scripts.{OpensAs, stop_opening}
 use Rattle.rootio.proofs.Unclosed.{ends_unclosed}
@@ -48,6 +49,7 @@ pub nothing_done : (target : TargetFile) (script : List ℕ) (v : View) → Runs
 nothing_done target script v = record {
   stops = λ file text m begins. elapses_none v (IsStopOf (run_of_work (Run target) script m) file text);
   said = λ file text m begins. front_none v v text (all_replies (run_of_work (Run target) script m)) begins.said refl;
+  room = λ file text m begins room. silent_room (run_of_work (Run target) script m) text v begins.said;
   done = λ file text m begins is. absurd cc;
   written = λ file text m begins is. absurd cc;
   unclosed = λ file text m begins. inl (reads_none v);
@@ -154,6 +156,7 @@ not_opened target script v0 v1 fault opens why unwritten untouched told same cau
   stops = stops;
   said = λ file text m begins.
       said_front v0 v1 file text m (run_of_work (Run target) script m) law law' begins (stops file text m begins) told (grows_none v0.said v1.said same);
+  room = λ file text m begins room. silent_room (run_of_work (Run target) script m) text v1 (same ∙ begins.said);
   done = λ file text m begins is. absurd (not_done target v0 v1 fault is);
   written = λ file text m begins is. absurd (not_done target v0 v1 fault is);
   unclosed = λ file text m begins. open_unclosed target v0 v1 fault untouched;
@@ -225,7 +228,9 @@ module _ (target : TargetFile) (script : List ℕ) (v0 v1 v2 : View) (s : Sessio
     (stops : (file text : List ℕ) (m : State) → StandsFor v1 s m text → Elapses v1 v2 (IsStopOf (session_run s m commands) file text))
     (done : OnOk r ((m : State) (text : List ℕ) → StandsFor v1 s m text → HasClosed (session_run s m commands) s text v2))
     (unclosed : (m : State) (text : List ℕ) → StandsFor v1 s m text → StaysOpenBy v2 r)
-    (told12 : Becomes Any v1.holds v2.holds) (said12 : Becomes Grown v1.said v2.said) (cause : IsSessionCause v1 v2 r) (law : IsLawful v0) (law' : IsLawful v2) where
+    (told12 : Becomes Any v1.holds v2.holds) (said12 : Becomes Grown v1.said v2.said)
+    (room12 : (m : State) (text : List ℕ) → StandsFor v1 s m text → s.costs ≡ 0 → HasFileRoom s.opened m commands (session_run s m commands).marks → SaidFindRoom (session_run s m commands) text v2)
+    (cause : IsSessionCause v1 v2 r) (law : IsLawful v0) (law' : IsLawful v2) where
   does_all : (file text : List ℕ) (m : State) → Begins v0 file text m → Elapses v0 v2 (IsStopOf (run_of_work (Run target) script m) file text)
   does_all file text m begins =
       let P = IsStopOf (run_of_work (Run target) script m) file text in
@@ -236,15 +241,23 @@ module _ (target : TargetFile) (script : List ℕ) (v0 v1 v2 : View) (s : Sessio
       elapses_join (IsStopOf (session_run s m commands) file text) first later
       (λ image said stop. subst (λ (run : ScriptRun). IsStopOf run file text image said) same stop)
 
+  opened_empty : (file text : List ℕ) (m : State) → Begins v0 file text m → s.opened ≡ opening_length file
+  opened_empty file text m begins = new.opened ∙ sym (new_is_empty (is_unborn file) (length file) (why file begins.holds))
+
   pub opened : RunsScript target script v0 v2 (status_of_session r)
   opened = record {
     stops = does_all;
     said = λ file text m begins.
         said_front v0 v2 file text m (run_of_work (Run target) script m) law law' begins (does_all file text m begins) (any_join v0.holds v1.holds v2.holds told01 told12)
         (grows_join v0.said v1.said v2.said (grows_none v0.said v1.said said01) said12);
+    room = λ file text m begins.
+        subst (λ (run : ScriptRun). HasFileRoom (opening_length file) m run.commands run.marks → SaidFindRoom run text v2) (run_same target script s commands m new are)
+        (λ room.
+            room12 m text (stands file text m begins.holds begins.said begins.reads) new.costs
+            (subst (λ n. HasFileRoom n m commands (session_run s m commands).marks) (sym (opened_empty file text m begins)) room));
     done = λ file text m begins is.
         let closed = ended_well r _ done is m text (stands file text m begins.holds begins.said begins.reads) in
-        let empty : s.opened ≡ opening_length file = new.opened ∙ sym (new_is_empty (is_unborn file) (length file) (why file begins.holds)) in
+        let empty : s.opened ≡ opening_length file = opened_empty file text m begins in
         subst (λ (run : ScriptRun). IsDone run file text v2) (run_same target script s commands m new are)
         (record {
           said = closed.said;

@@ -21,7 +21,7 @@ use Rattle.rio_session.specs.declared.fault.SessionFault.{SessionFault}
 use Rattle.rio_session.specs.declared.fault.SessionFault.TheVariants.{HostFault, SayFault as NotSaid, NoMemory as OutOfMemory}
 use Rattle.rootio.specs.Causes.{IsCause}
 use Rattle.rootio.specs.Input.{RefusesTooLong, TellsTooLong}
-use Rattle.rootio.specs.Headline.{AllFindRoom, IsDone, IsStopOf, ScriptRun, all_replies, end_state}
+use Rattle.rootio.specs.Headline.{AllFindRoom, IsDone, IsStopOf, SaidFindRoom, ScriptRun, all_replies, end_state, opening_length}
 use Rattle.rootio.specs.Reading.{RefusesBroken, TellsFirstFault}
 use Rattle.rootio.specs.Target.{TargetFile}
 use Rattle.rootio.specs.Writing.{Begins, EndsUnclosed, EndsWriting, LeavesOpen, RefusesReadOnly, SparesRefused, TellsFirstReason, run_of_work}
@@ -88,6 +88,8 @@ pub record RunsScript (target : TargetFile) (script : List ℕ) (old new : View)
       → Elapses old new (IsStopOf (run_of_work (Run target) script m) file text)
   pub said : (file text : List ℕ) (m : State) → Begins old file text m
       → SaysPart new text (all_replies (run_of_work (Run target) script m))
+  pub room : (file text : List ℕ) (m : State) → Begins old file text m
+      → let r = run_of_work (Run target) script m in HasFileRoom (opening_length file) m r.commands r.marks → SaidFindRoom r text new
   pub done : (file text : List ℕ) (m : State) → Begins old file text m
       → status ≡ Done → IsDone (run_of_work (Run target) script m) file text new
   pub written : (file text : List ℕ) (m : State) → Begins old file text m

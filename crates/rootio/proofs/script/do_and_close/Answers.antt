@@ -25,6 +25,7 @@ returns-in_err-do_commands g c =
           rw (p.1, p.2) (stays_open (g.H.Host.view c.do_commands.new.host) c.in_err-do_commands.field-0.0 (c.in_err-do_commands.ensures.unclosed m text stands));
       told = c.in_err-do_commands.ensures.told;
       said = c.in_err-do_commands.ensures.said;
+      room = c.in_err-do_commands.ensures.room;
       cause = rw (p.1, p.2) c.in_err-do_commands.ensures.cause;
     }
 
@@ -39,6 +40,7 @@ returns g c =
           elapses_join (ClosesAs end said) (all.stops file text m stands)
           (c.close.ensures.any_moment end said (all.done m text stands).stands)
           (λ image told closes. stop_closing r file text image told closes);
+      room = λ m text stands none room said told k command there long. (all.done m text stands).room none room k command there;
       done = on_ok_weaker c.close.result (λ both m text stands.
           let r = session_run c.args.session m c.args.commands.now in
           let end = state_after m c.args.commands.now r.marks in

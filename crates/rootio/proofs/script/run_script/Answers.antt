@@ -14,7 +14,7 @@ returns-in-Ok-open g c =
     rw c.status_of_session.ensures
     (opened c.args.target.now c.args.script.now (g.H.Host.view c.args.host.now) (g.H.Host.view c.open.new.host) (g.H.Host.view c.do_and_close.new.host) c.in-Ok-open.session
     c.as_slice.result.now c.do_and_close.result e.any_moment e.stands new e.why_not e.told e.said e.cause (c.as_slice.ensures ∙ c.in-Ok.ensures)
-    c.do_and_close.ensures.stops c.do_and_close.ensures.done c.do_and_close.ensures.unclosed c.do_and_close.ensures.told c.do_and_close.ensures.said c.do_and_close.ensures.cause
+    c.do_and_close.ensures.stops c.do_and_close.ensures.done c.do_and_close.ensures.unclosed c.do_and_close.ensures.told c.do_and_close.ensures.said c.do_and_close.ensures.room c.do_and_close.ensures.cause
     (g.met.H.Host.lawful c.args.host.now) (g.met.H.Host.lawful c.do_and_close.new.host))
 
 pub returns : goal.returns
