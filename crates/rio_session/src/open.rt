@@ -9,10 +9,11 @@ use rio_registry::Registry;
 use std::alloc::Global;
 
 impl Session {
-    ghost use Rattle.std.specs.Prelude.{◌≡◌, ◌≤◌, ℕ, List, Some, length, true, false, IfOk};
+    ghost use Rattle.std.specs.Prelude.{◌≡◌, ◌≤◌, ℕ, List, Some, length, true, false, IfOk, OnOk};
     ghost use Rattle.rio_host.specs.Host.{Becomes, Elapses, IsQuiet};
     ghost use Rattle.rio_host.specs.OnlyReads.{OnlyReads};
     ghost use Rattle.rio_chain.specs.Stops.{Any};
+    ghost use Rattle.rio_create.specs.NewFile.{IsNewFile};
     ghost use Rattle.rio_chain.specs.Walks.{Told};
     ghost use Rattle.rio_dir.specs.Unborn.{is_unborn};
     ghost use Rattle.rio_machine.specs.State.{State};
@@ -44,6 +45,9 @@ impl Session {
             → ReadsAsState file m → StandsFor (H.view host.new) session m text) }
         ensures ready { IfOk result (IsReady (H.view host.new)) }
         ensures begins { IfOk result (λ session. BeginsNew session name.now datime) }
+        ensures made { OnOk result ((file : List ℕ) → (H.view host.old).holds ≡ Some file
+            → (new : List ℕ) × ((H.view host.new).holds ≡ Some new)
+            × IsNewFile name.now datime new) }
         ensures why_not { Told (H.view host.old) (λ file. TellsWhyNot file result) }
         ensures unwritten { (file : List ℕ) → (H.view host.old).holds ≡ Some file
             → is_unborn file ≡ false → OnlyReads (H.view host.old) (H.view host.new) }

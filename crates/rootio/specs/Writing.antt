@@ -12,11 +12,15 @@ use Rattle.rio_machine.specs.State.{State}
 use Rattle.rio_machine.specs.declared.command.Command.{Command}
 use Rattle.rio_cmd.specs.Built.{built_script}
 use Rattle.rio_state.specs.Left.{IsMarkedOpen}
+use Rattle.rio_step.specs.Costs.{HasFileRoom}
 use Rattle.rio_state.specs.Reads.{ReadsAsState}
 use Rattle.rio_state.specs.Reasons.{ReasonAt, reason_at}
 use Rattle.rio_create.specs.Creation.{LeavesUnclosed}
-use Rattle.rio_session.specs.Marks.{first_segments, marks_of_run}
-use Rattle.rootio.specs.Headline.{IsDone, IsStopOf, ScriptRun, all_replies}
+use Rattle.rio_create.specs.NewFile.{first_segments}
+use Rattle.rio_session.specs.Behind.{SaysPart}
+use Rattle.rio_session.specs.Closes.{IsWellClosed}
+use Rattle.rio_session.specs.Marks.{marks_of_run}
+use Rattle.rootio.specs.Headline.{IsDone, IsStopOf, SaidFindRoom, ScriptRun, all_replies, opening_length}
 use Rattle.rootio.specs.Input.{IsPastInput}
 use Rattle.rootio.specs.Target.{TargetFile}
 use Rattle.rootio.specs.declared.status.Status.{Status}
@@ -129,13 +133,21 @@ pub record Begins (old : View) (file text : List ℕ) (m : State) : Type 0 where
   pub said : old.said ≡ Some text
   pub reads : ReadsAsState file m
 
--- Wherever it is stopped, whatever it answers, it leaves a prefix of the run. Where it says that it is done it is; where it ends
--- early it doesn't close the file. What it says of the file, of a disk fault or of its text comes only behind all of the input.
+-- Wherever it is stopped, whatever it answers, it leaves a prefix of the run. What it said is a front of all replies, and where file
+-- and commands leave room for them, none of these is want of room. Where it says that it is done it is, and the file was closed under
+-- its name and time, without garbage; where it ends early it doesn't close the file. What it says of the file, of a disk fault or of
+-- its text comes only behind all of the input.
 pub record KeepsHeadline (work : Work) (old new : View) (before after : Input) (status : Status) : Type 0 where
   pub stops : (file text input : List ℕ) (m : State) → Begins old file text m → before.remaining ≡ Some input
       → Elapses old new (IsStopOf (run_of_work work input m) file text)
+  pub said : (file text input : List ℕ) (m : State) → Begins old file text m → before.remaining ≡ Some input
+      → SaysPart new text (all_replies (run_of_work work input m))
+  pub room : (file text input : List ℕ) (m : State) → Begins old file text m → before.remaining ≡ Some input
+      → let r = run_of_work work input m in HasFileRoom (opening_length file) m r.commands r.marks → SaidFindRoom r text new
   pub done : (file text input : List ℕ) (m : State) → Begins old file text m → before.remaining ≡ Some input
       → status ≡ Done → IsDone (run_of_work work input m) file text new
+  pub written : (file text : List ℕ) (m : State) → Begins old file text m
+      → status ≡ Done → (last : List ℕ) → new.holds ≡ Some last → IsWellClosed (target_of work).name (target_of work).datime last
   pub unclosed : (file text input : List ℕ) (m : State) → Begins old file text m → before.remaining ≡ Some input
       → EndsUnclosed (run_of_work work input m) text old new status
   pub input : (input : List ℕ) → before.remaining ≡ Some input → IsPastInput status → after.remaining ≡ Some []

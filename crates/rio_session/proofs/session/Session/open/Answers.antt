@@ -75,3 +75,6 @@ returns-clause-unclosed g c file quiet holds unborn =
     made_unclosed file (g.H.Host.view c.args.host.now) (g.H.Host.view c.check_unborn.new.host) (law c.check_unborn.new.host) quiet holds unborn
     c.check_unborn.ensures.calls (g.H.Host.view c.sync.new.self) (g.H.Host.view c.create.new.host) (law c.sync.new.self) (law c.create.new.host)
     c.sync.ensures.disk (c.create.ensures.any_moment file (c.sync.ensures.holds ∙ c.check_unborn.ensures.calls.holds ∙ holds))
+
+pub returns-clause-made : goal.returns-clause-made
+returns-clause-made g c file holds = c.in_ok-chain.ensures.made file (c.sync.ensures.holds ∙ c.check_unborn.ensures.calls.holds ∙ holds)
