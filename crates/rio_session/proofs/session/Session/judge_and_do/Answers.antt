@@ -17,7 +17,7 @@ returns-in-Refused-clause-does g c =
     refused_does (g.H.Host.view c.args.host.now) (g.H.Host.view c.refuse.new.host) c.args.self.now c.refuse.new.self (g.met.H.Host.lawful c.args.host.now) (g.met.H.Host.lawful c.refuse.new.host) c.requires.ready c.requires.fresh c.refuse.result
     c.args.command.now c.in-Refused.refusal judged c.refuse.ensures.says c.refuse.ensures.outcome
 
-pub returns-in_err-judge-clause-does : goal.returns-in_err-judge-clause-does
-returns-in_err-judge-clause-does g c =
+pub returns-in_err-refusal-clause-does : goal.returns-in_err-refusal-clause-does
+returns-in_err-refusal-clause-does g c =
     let p = err_from_is_err_and c.from_residual.result c.from_residual.ensures.1 in
     rw (p.1, p.2) (does_nothing (g.H.Host.view c.args.host.now) c.args.self.now c.args.command.now (g.met.H.Host.lawful c.args.host.now) c.requires.ready c.requires.fresh)
