@@ -263,8 +263,8 @@ module _ (target : TargetFile) (script : List ℕ) (v0 v1 v2 : View) (s : Sessio
     room = λ file text m begins.
         subst (λ (run : ScriptRun). HasFileRoom (opening_length file) m run.commands run.marks → SaidFindRoom run text v2) (run_same target script s commands m new are)
         (λ room.
-            room12 m text (stands file text m begins.holds begins.said begins.reads) new.costs
-            (subst (λ n. HasFileRoom n m commands (session_run s m commands).marks) (sym (opened_empty file text m begins)) room));
+        room12 m text (stands file text m begins.holds begins.said begins.reads) new.costs
+        (subst (λ n. HasFileRoom n m commands (session_run s m commands).marks) (sym (opened_empty file text m begins)) room));
     done = λ file text m begins is.
         let closed = ended_well r _ done is m text (stands file text m begins.holds begins.said begins.reads) in
         let empty : s.opened ≡ opening_length file = opened_empty file text m begins in

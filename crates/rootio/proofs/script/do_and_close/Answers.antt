@@ -1,5 +1,5 @@
 use Rattle.std.proofs.Common.{◌++◌, ◌∙◌, List, ℕ, subst}
-use Rattle.std.proofs.lemmas.Result.{IfOk-from_err, err_from_is_err_and, on_ok_weaker}
+use Rattle.std.proofs.lemmas.Result.{IfOk-from_err, err_from_is_err_and}
 use Rattle.rio_host.proofs.Moments.{elapses_join}
 use Rattle.rio_step.specs.Runs.{state_after}
 use Rattle.rio_session.specs.Closes.{IsWellClosed}
@@ -41,18 +41,18 @@ returns g c =
           (c.close.ensures.any_moment end said (all.done m text stands).stands)
           (λ image told closes. stop_closing r file text image told closes);
       room = λ m text stands none room said told k command there long. (all.done m text stands).room none room k command there;
-      done = on_ok_weaker c.close.result (λ both m text stands.
+      done = on_ok_both c.close.result (λ closed written m text stands.
           let r = session_run c.args.session m c.args.commands.now in
           let end = state_after m c.args.commands.now r.marks in
           let done = all.done m text stands in
           record {
             said = c.close.ensures.said ∙ done.stands.said;
-            left = λ image told leaves. both.0 end (text ++ all_replies r) done.stands image told leaves;
+            left = λ image told leaves. closed end (text ++ all_replies r) done.stands image told leaves;
             written = λ file holds.
-                let closed = holds_closed_file (g.H.Host.view c.do_commands.new.host) (g.H.Host.view c.close.new.host) c.do_commands.new.session file (both.1 end (text ++ all_replies r) done.stands) holds in
-                subst (λ (x : List ℕ × ℕ). IsWellClosed x.0 x.1 file) (λ i. (done.name i, done.datime i)) closed;
+                let last = holds_closed_file (g.H.Host.view c.do_commands.new.host) (g.H.Host.view c.close.new.host) c.do_commands.new.session file (written end (text ++ all_replies r) done.stands) holds in
+                subst (λ (x : List ℕ × ℕ). IsWellClosed x.0 x.1 file) (λ i. (done.name i, done.datime i)) last;
             room = done.room;
-          }) (on_ok_both c.close.result c.close.ensures.closed c.close.ensures.written);
+          }) c.close.ensures.closed c.close.ensures.written;
       unclosed = λ m text stands.
           let r = session_run c.args.session m c.args.commands.now in
           close_open (g.H.Host.view c.do_commands.new.host) (g.H.Host.view c.close.new.host) c.do_commands.new.session (state_after m c.args.commands.now r.marks)
