@@ -4,6 +4,7 @@ use Rattle.std.specs.List.{All, Contains, flat_map, slice_get}
 use Rattle.std.specs.Int.{w32, cast_unsigned}
 use Rattle.std.proofs.lemmas.Bool.{le-ltb}
 use Rattle.std.proofs.lemmas.List.Elements.{All-cons, All-nil}
+use Rattle.std.proofs.lemmas.Option.{slice_get_within}
 use Rattle.std.proofs.lemmas.List.Sums.{sum_by-cons}
 use Rattle.byteorder.specs.Endian.{big_bytes, big_number}
 use Rattle.byteorder.specs.Numbers.{length-bytes_high_first}
@@ -23,6 +24,7 @@ use Rattle.rio_dir.proofs.TableWritten.{length-flat}
 use Rattle.rio_free.specs.Record.{free_bytes}
 use Rattle.rio_host.specs.Image.{Has, Put}
 use Rattle.rio_host.proofs.Images.{has_back, has_front, has_keeps}
+use Rattle.rio_chain.specs.Adjoining.{AreSegments}
 use Rattle.rio_chain.specs.Changes.{with_record}
 use Rattle.rio_chain.specs.Placing.{file_end, gaps_in, with_segment}
 use Rattle.rio_chain.specs.Segments.{IsChain, IsRecord, Link, RecordAt, chain_end, end_from, segment_of}
@@ -30,6 +32,8 @@ use Rattle.rio_chain.specs.declared.segment.Segment.{Segment}
 use Rattle.rio_chain.specs.declared.segment.Segment.TheVariants.{Record}
 use Rattle.rio_chain.proofs.Words.{record_long, record_word}
 use Rattle.rio_chain.proofs.Chains.{end-le}
+use Rattle.rio_chain.proofs.Laying.{laid_put}
+use Rattle.rio_chain.proofs.Placed.{end_grows as grows_at_end}
 use Rattle.rio_chain.proofs.PutChain.{map_end, map_with}
 use Rattle.rio_machine.specs.State.{State}
 use Rattle.rio_record.specs.Record.{new_key}
@@ -42,7 +46,8 @@ use Rattle.rio_state.specs.OneMore.{keyed_bytes}
 use Rattle.rio_state.proofs.KeyRecords.{ObjectOf, TreeOf, key_record}
 use Rattle.rio_state.proofs.Members.{In, contains_in, filter_in}
 use Rattle.rio_close.specs.Fields.{FieldsThenEnd, IsOutsideFields, WritesFields}
-use Rattle.rio_close.specs.Written.{AreCloseRecords, OpenFile, dir_field_bytes, free_field_bytes, free_place, info_field_bytes, list_place, own_words, with_both}
+use Rattle.rio_close.specs.Leaving.{IsClosedWith, IsKeptByte, IsKeptInFirst}
+use Rattle.rio_close.specs.Written.{AreCloseRecords, OpenFile, dir_field_bytes, free_field_bytes, free_place, info_field_bytes, list_place, own_words, with_both, with_list}
 use Rattle.rio_close.specs.declared.parts.CloseRecords.{CloseRecords}
 use Rattle.rio_close.proofs.FieldsChain.{FirstLink, OtherFields, first_link, other_fields}
 use Rattle.rio_close.proofs.FirstBytes.{first_internal, first_keyed, info_changes, records_change, tops_change}
@@ -435,3 +440,34 @@ module _ (f : OpenFile) (r : CloseRecords) (made : AreCloseRecords f r) (file : 
       end = sym end_3;
       free = free_record;
     }
+
+    -- ---- what is written
+
+    pub last_written : h.nbytes_name ≡ f.nbytes_name → IsClosedWith f links r file_2 last
+    last_written name = record {
+      header = kept;
+      end_there = subst (λ (e : ℕ). Has last 12 (big_bytes 4 e)) end_is put.written;
+      free_there = there 16 r.free_fields.bytes (omega arith) fields.free_there;
+      info_there = there 37 r.info_fields.bytes (omega arith) fields.info_there;
+      directory_there = subst (λ (p : ℕ). Has last p r.dir_fields.bytes) (at ∙ ap (λ (n : ℕ). n + 106) name) (there place r.dir_fields.bytes (omega (arith, at)) fields.directory_there);
+      first = first.bytes;
+      now = o.new;
+      others = first.others;
+      before = first.links_are;
+      long = o.long;
+      same = kept_in_first;
+      chain = record { chain = o.chain; same = sym segments_3 };
+      end = grows_at_end (with_list f r) (free_place f r) (length r.free.bytes.bytes) shape_list refl;
+    }
+      where
+        kept : (i x : ℕ) → IsKeptByte i → slice_get file_2 i ≡ Some x → slice_get last i ≡ Some x
+        kept i x (inl low) was = put.outside i x (inl low) (fields.others i x (inl (omega (arith, low)), inl (omega (arith, low)), inl (omega (arith, low, at))) was)
+        kept i x (inr (inl mid)) was = put_keeps i x (omega (arith, mid.0)) (fields.others i x (inr mid.0, inl mid.1, inl (omega (arith, mid.1, at))) was)
+        kept i x (inr (inr high)) was = put_keeps i x (omega (arith, high.0)) (fields.others i x (inr (omega (arith, high.0)), inr high.0, inl (omega (arith, high.1, at))) was)
+
+        kept_in_first : (i x : ℕ) → IsKeptInFirst f.nbytes_name i → slice_get first.bytes i ≡ Some x → slice_get o.new i ≡ Some x
+        kept_in_first i x (inl low) was = o.front i x (omega arith) (omega (arith, low, name)) was
+        kept_in_first i x (inr high) was = o.back i x (omega (arith, high, name)) (slice_get_within first.bytes i x was) was
+
+        shape_list : AreSegments (with_list f r)
+        shape_list = (laid_put f.segments (length r.list.bytes.bytes) made.shape (record_long r.list.bytes.bytes (record_word (list_place f r) r.list.bytes.bytes list_whole)) list_whole.aligned).0

@@ -1,5 +1,5 @@
 -- What a stop leaves while a file is closed, and the file then.
-use Rattle.std.proofs.Common.{◌≡◌, ⊎_elim, ℕ, ◌+◌, ◌≤◌, List, [], ◌∷◌, length, Option, Some, None, refl, sym, ap, subst, ◌∙◌, arith}
+use Rattle.std.proofs.Common.{◌≡◌, ⊎_elim, inl, inr, ℕ, ◌+◌, ◌<◌, ◌≤◌, List, [], ◌∷◌, length, Option, Some, None, refl, sym, ap, subst, ◌∙◌, arith}
 use Rattle.rio_key.specs.declared.head.KeyHead.{KeyHead}
 use Rattle.rio_head.specs.declared.head.FileHead.{FileHead}
 use Rattle.rio_free.specs.Record.{free_bytes}
@@ -22,10 +22,10 @@ use Rattle.rio_machine.specs.State.{State}
 use Rattle.rio_state.specs.KeyedRecords.{keyed_records}
 use Rattle.rio_state.specs.Reads.{AreRecordsOf, ReadsAsState, ReadsClosed}
 use Rattle.rio_close.specs.Fields.{FieldsThenEnd, IsFieldsThenEnd}
-use Rattle.rio_close.specs.Leaving.{DirectoryInFront, HoldsClosed, HoldsOpen, StaysAs}
+use Rattle.rio_close.specs.Leaving.{DirectoryInFront, HoldsClosed, HoldsClosedWith, HoldsOpen, IsClosedWith, IsKeptByte, StaysAs}
 use Rattle.rio_close.specs.Written.{AreCloseRecords, OpenFile, free_place, info_field_bytes, list_place, record_size, with_both, with_list}
 use Rattle.rio_close.specs.declared.parts.CloseRecords.{CloseRecords}
-use Rattle.rio_close.proofs.ClosedFile.{last_closed, last_reads, records_1, records_2}
+use Rattle.rio_close.proofs.ClosedFile.{last_closed, last_reads, last_written, records_1, records_2}
 use Rattle.rio_close.proofs.OwnRecords.{own_whole}
 use Rattle.rio_close.proofs.LeftImages.{keeps_head, left_fields, left_open, open_head}
 use Rattle.rio_close.proofs.FieldsChain.{first_link, other_fields}
@@ -222,6 +222,30 @@ module _ (v0 : View) (f : OpenFile) (r : CloseRecords) (m : State) (made : AreCl
     closed : (last : List ℕ) → Done last → ReadsClosed last m
     closed last done = last_closed f r made held.file held.links m held.chain.chain held.chain.same held.records held.keys held.info two.file last two.chain.chain held.head.head small_2 place end at_head done end_is
 
+    low_byte : (i : ℕ) → IsKeptByte i → i < 100
+    low_byte i (inl low) = omega (arith, low)
+    low_byte i (inr (inl mid)) = omega (arith, mid.1)
+    low_byte i (inr (inr high)) = high.1
+
+    written : (last : List ℕ) → Done last → IsClosedWith f held.links r held.file last
+    written last done =
+        let w = last_written f r made held.file held.links m held.chain.chain held.chain.same held.records held.keys held.info two.file last two.chain.chain held.head.head small_2 place end at_head done end_is held.head.name in
+        record {
+          header = λ i x kept was. w.header i x kept (two.front i x (low_byte i kept) was);
+          end_there = w.end_there;
+          free_there = w.free_there;
+          info_there = w.info_there;
+          directory_there = w.directory_there;
+          first = w.first;
+          now = w.now;
+          others = w.others;
+          before = w.before;
+          long = w.long;
+          same = w.same;
+          chain = w.chain;
+          end = w.end;
+        }
+
     fields_stay : (i s : List ℕ) → IsFieldsThenEnd v2 r.free_fields.bytes r.info_fields.bytes place r.dir_fields.bytes end two.file i s → StaysAs v0 m i s
     fields_stay i s e = record {
       left = ⊎_elim
@@ -246,3 +270,10 @@ module _ (v0 : View) (f : OpenFile) (r : CloseRecords) (m : State) (made : AreCl
           let both = subst (λ (b : List ℕ). FieldsThenEnd r.free_fields.bytes b place directory end two.file last.0) info_is one in
           let all = subst (λ (b : List ℕ). FieldsThenEnd r.free_fields.bytes r.info_fields.bytes place b end two.file last.0) directory_is both in
           record { file = last.0; holds = last.1; reads = reads last.0 all; closed = closed last.0 all }
+
+      pub written_then : (v3 : View) → (last : List ℕ) × (v3.holds ≡ Some last) × FieldsThenEnd free info place directory end two.file last → HoldsClosedWith v3 f held.links r held.file
+      written_then v3 last =
+          let one = subst (λ (b : List ℕ). FieldsThenEnd b info place directory end two.file last.0) free_is last.2 in
+          let both = subst (λ (b : List ℕ). FieldsThenEnd r.free_fields.bytes b place directory end two.file last.0) info_is one in
+          let all = subst (λ (b : List ℕ). FieldsThenEnd r.free_fields.bytes r.info_fields.bytes place b end two.file last.0) directory_is both in
+          record { file = last.0; holds = last.1; written = written last.0 all }

@@ -87,6 +87,9 @@ pub record OtherFields (file image bytes : List ℕ) (others : List Link) (head 
   pub chain : IsChain (RecordAt 100 new ∷ others) image
   pub whole : IsRecord 100 new
   pub head_is : whole.head ≡ head
+  -- its bytes are as before, but for the fields of the directory record
+  pub front : KeepsRange 0 (n + 6) bytes new
+  pub back : KeepsRange (n + 30) (length bytes) bytes new
   -- the directory record stands in the first record, and has the version of before, a small one
   pub room : n + 60 ≤ length bytes
   pub version : ℕ
@@ -147,6 +150,12 @@ module _ (file image bytes : List ℕ) (others : List Link) (chain : IsChain (Re
       let lt : i < length bytes = slice_get_within bytes i x was in
       slice_get-take (length bytes) i (drop 100 image) lt ∙ slice_get-drop 100 i (100 + i) image refl
       ∙ front_keeps (100 + i) x (omega arith) (omega (arith, high)) (held.there i x was)
+
+  -- and one behind them
+  new_back : KeepsRange (n + 30) (length bytes) bytes new
+  new_back i x low high was =
+      slice_get-take (length bytes) i (drop 100 image) high ∙ slice_get-drop 100 i (100 + i) image refl
+      ∙ keeps (100 + i) x (omega arith) (inr (omega arith), inr (omega arith), inr (omega (arith, low, at))) (held.there i x was)
 
   same_front : take (n + 6) new ≡ take (n + 6) bytes
   same_front =
@@ -237,6 +246,8 @@ module _ (file image bytes : List ℕ) (others : List Link) (chain : IsChain (Re
     chain = chain_new;
     whole = whole;
     head_is = refl;
+    front = new_front;
+    back = new_back;
     room = room;
     version = big_number 2 (drop n bytes);
     version_there = number_within image 100 new 1 n (big_number 2 (drop n bytes)) (has_own image 100 (length bytes)) new_version;

@@ -7,7 +7,7 @@ ghost use Rattle.rio_chain.specs.Stops.{Any};
 ghost use Rattle.rio_chain.specs.Walks.{Told};
 ghost use Rattle.rio_machine.specs.State.{State};
 ghost use Rattle.rio_close.specs.Fields.{FieldsThenEnd, IsFieldsOrNot, IsFieldsThenEnd, WritesFields};
-ghost use Rattle.rio_close.specs.Leaving.{HoldsClosed, IsReadyToClose, StaysAs};
+ghost use Rattle.rio_close.specs.Leaving.{HoldsClosed, HoldsClosedWith, IsReadyToClose, StaysAs};
 ghost use Rattle.rio_close.specs.Written.{AreForSegments, OpenFile, with_records};
 
 use crate::CloseRecords;
@@ -105,6 +105,9 @@ fn put_and_finish<H: Host>(
     ensures closed { OnOk result ((f : OpenFile) (m : State)
         → IsReadyToClose (H.view host.old) chain.old.segments records.old f m
         → HoldsClosed (H.view host.new) m) }
+    ensures written { OnOk result ((f : OpenFile) (m : State)
+        → (ready : IsReadyToClose (H.view host.old) chain.old.segments records.old f m)
+        → HoldsClosedWith (H.view host.new) f ready.held.links records.old ready.held.file) }
     ensures quiet { OnOk result (IsQuiet (H.view host.new)) }
     ensures chain { OnOk result (chain.new ≡ record chain.old {
       segments = with_records records.old chain.old.segments;
@@ -159,6 +162,9 @@ pub fn write_close<H: Host>(
     ensures closed { OnOk result ((f : OpenFile) (m : State)
         → IsReadyToClose (H.view host.old) chain.old.segments records f m
         → HoldsClosed (H.view host.new) m) }
+    ensures written { OnOk result ((f : OpenFile) (m : State)
+        → (ready : IsReadyToClose (H.view host.old) chain.old.segments records f m)
+        → HoldsClosedWith (H.view host.new) f ready.held.links records ready.held.file) }
     ensures quiet { OnOk result (IsQuiet (H.view host.new)) }
     ensures chain { OnOk result (chain.new ≡ record chain.old {
       segments = with_records records chain.old.segments;

@@ -66,7 +66,11 @@ module _ (name : List ℕ) (datime : ℕ) (short : length name ≤ 200) (low : d
 
   -- a file that isn't made yet, or that begins with the bytes of a new one, reads as the empty state
   left_empty : (v : View) (image said : List ℕ) → IsMadeOrNot v written image said → IsLeftEmpty v image said
-  left_empty v image said x = record { left = ⊎_elim (λ unborn. unborn_left image unborn) (λ has. (written_is_read image has).left) x.image_is; text = x.text }
+  left_empty v image said x = record {
+    left = ⊎_elim (λ unborn. unborn_left image unborn) (λ has. (written_is_read image has).left) x.image_is;
+    unclosed = ⊎_elim (λ unborn. inl unborn) (λ has. inr (written_is_read image has).marked) x.image_is;
+    text = x.text;
+  }
 
   pub made_time : (v0 v1 : View) → Elapses v0 v1 (IsMadeOrNot v0 (codes "root" ++ take (length bytes - 4) (drop 4 bytes))) → Elapses v0 v1 (IsLeftEmpty v0)
   made_time v0 v1 time = elapses_as (IsLeftEmpty v0) (IsMadeOrNot v0 written) time (left_empty v0)

@@ -26,8 +26,8 @@ pub struct Created {
 
 /// Makes a file that isn't made yet: a TFile of this name without objects, open for writing. The
 /// name has at most 200 bytes, and what its header and its directory say of a closed file is zero.
-/// A stop at any moment leaves a file that reads as the empty state. The file isn't read, and all
-/// memory is taken before it is written.
+/// A stop at any moment leaves a file that reads as the empty state, and that isn't made yet or is
+/// marked as open. The file isn't read, and all memory is taken before it is written.
 ///
 /// NoMemory comes before any write, and HostFault only where a call on the file failed.
 pub fn create<H: Host>(

@@ -15,7 +15,7 @@ use Rattle.rio_chain.specs.declared.segment.Segment.{Segment}
 use Rattle.rio_chain.specs.declared.segment.Segment.TheVariants.{Record, Gap}
 use Rattle.rio_state.specs.Closing.{KeptRecords, close_need, free_length, list_length, padded_length}
 use Rattle.rio_close.specs.Sizes.{close_size, headless}
-use Rattle.rio_session.specs.Kept.{IsKept, is_fit_key, kept_with}
+use Rattle.rio_session.specs.Kept.{IsClosable, is_fit_key, kept_with}
 
 -- ---- keys
 
@@ -51,7 +51,7 @@ need_is k =
     ∙ omega (arith, sum_by-cons padded_length (list_length (headless k.name k.count) + heads_size k.heads) (free_length k ∷ []), sum_by-cons padded_length (free_length k) [])
 
 -- there is room for the records of a close
-pub need_low : (segments segments' : List Segment) (heads : List KeyHead) (name name' : List ℕ) → IsKept segments heads name → segments' ≡ segments → name' ≡ name
+pub need_low : (segments segments' : List Segment) (heads : List KeyHead) (name name' : List ℕ) → IsClosable segments heads name → segments' ≡ segments → name' ≡ name
     → file_end segments' + close_size name' (heads_size heads) (record_count segments') ≤ 1999999996
 need_low segments segments' heads name name' kept same own =
     subst (λ (x : List Segment × List ℕ). file_end x.0 + close_size x.1 (heads_size heads) (record_count x.0) ≤ 1999999996) (λ i. (sym same i, sym own i))

@@ -1,8 +1,9 @@
 -- A session's file is ready to be closed, and what a stop leaves of it.
-use Rattle.std.proofs.Common.{◌≡◌, ℕ, List, [], map, refl, sym, ap, subst, ◌∙◌}
+use Rattle.std.proofs.Common.{◌≡◌, ℕ, List, [], map, Some, refl, sym, ap, subst, ◌∙◌}
 use Rattle.std.specs.FinMap.{FinMap, empty, entries, len-empty, len-entries}
 use Rattle.std.specs.List.{filter, fold}
 use Rattle.std.proofs.lemmas.List.{nil_from_length}
+use Rattle.std.proofs.lemmas.Option.{same_Some}
 use Rattle.rio_key.specs.declared.head.KeyHead.{KeyHead}
 use Rattle.rio_host.specs.Host.{Elapses, IsQuiet, Leaves, View}
 use Rattle.rio_host.proofs.Moments.{elapses_as}
@@ -16,8 +17,11 @@ use Rattle.rio_state.specs.Left.{HasOpenHead, IsLeftAs}
 use Rattle.rio_state.specs.Reads.{ReadsAsState, ReadsClosed}
 use Rattle.rio_step.specs.Runs.{closed_of, closing_saves, has_pending, states_of_run}
 use Rattle.rio_step.specs.Step.{state_behind}
-use Rattle.rio_close.specs.Leaving.{HoldsClosed, HoldsOpen, StaysAs}
-use Rattle.rio_close.specs.Written.{OpenFile}
+use Rattle.rio_close.specs.Leaving.{HoldsClosed, HoldsClosedWith, HoldsOpen, IsClosedWith, StaysAs}
+use Rattle.rio_close.specs.Written.{AreCloseRecords, OpenFile}
+use Rattle.rio_close.specs.declared.parts.CloseRecords.{CloseRecords}
+use Rattle.rio_session.specs.Closes.{ClosesFile, IsWellClosed, open_file}
+use Rattle.rio_session.specs.Kept.{IsClosable}
 use Rattle.rio_session.specs.Session.{ClosesAs, SessionState, StandsFor}
 use Rattle.rio_session.proofs.States.{Known, known}
 
@@ -64,3 +68,35 @@ module _ (v : View) (s : SessionState) (m : State) (text : List ℕ) (stands : S
   leaves_closed new quiet held image said left =
       let file_is : image ≡ held.file = quiet image said held.file left held.holds in
       subst (λ (x : State × List ℕ). ReadsAsState x.1 x.0 × ReadsClosed x.1 x.0) (λ i. (sym closed_same i, sym file_is i)) (held.reads, held.closed)
+
+-- what is written
+pub closes_file : (old new : View) (s : SessionState) (m : State) (f : OpenFile) (r : CloseRecords) (held : HoldsOpen old f m) → f ≡ open_file s → AreCloseRecords f r → HoldsClosedWith new f held.links r held.file → IsClosable s.segments s.heads s.name
+    → ClosesFile old new s
+closes_file old new s m f r held same made written kept = record {
+  records = r;
+  made = subst (λ (g : OpenFile). AreCloseRecords g r) same made;
+  file = held.file;
+  holds = held.holds;
+  links = held.links;
+  chain = subst (λ (g : OpenFile). HasChain held.links g.segments held.file) same held.chain;
+  owned = kept.owned;
+  written = subst (λ (g : OpenFile). HoldsClosedWith new g held.links r held.file) same written;
+}
+
+pub same_file : (f g : OpenFile) → f.segments ≡ g.segments → f.heads ≡ g.heads → f.info ≡ g.info → f.name ≡ g.name → f.nbytes_name ≡ g.nbytes_name → f.datime ≡ g.datime → f ≡ g
+same_file f g segments heads info name nbytes_name datime = λ i. record { segments = segments i; heads = heads i; info = info i; name = name i; nbytes_name = nbytes_name i; datime = datime i }
+
+-- the file that is held then
+pub holds_closed_file : (old new : View) (s : SessionState) (file : List ℕ) → ClosesFile old new s → new.holds ≡ Some file → IsWellClosed s.name s.datime file
+holds_closed_file old new s file is told = record {
+  kept = open_file s;
+  name_is = refl;
+  datime_is = refl;
+  records = is.records;
+  made = is.made;
+  before = is.file;
+  links = is.links;
+  chain = is.chain;
+  owned = is.owned;
+  written = subst (λ (l : List ℕ). IsClosedWith (open_file s) is.links is.records is.file l) (same_Some is.written.file file (sym is.written.holds ∙ told)) is.written.written;
+}

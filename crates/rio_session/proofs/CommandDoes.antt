@@ -1,13 +1,12 @@
 -- What each command does, in all clauses.
-use Rattle.std.proofs.Common.{◌≡◌, ℕ, ◌+◌, ◌*◌, ◌^◌, ◌<◌, ◌≤◌, ℤ, List, [], ◌∷◌, length, Option, None, Result, Ok, Err, IfOk, Bool, true, false, refl, sym, ap, subst, ◌∙◌, arith}
+use Rattle.std.proofs.Common.{◌≡◌, ℕ, ◌+◌, ◌*◌, ◌^◌, ◌<◌, ◌≤◌, ℤ, List, [], ◌∷◌, length, Option, Some, None, Result, Ok, Err, IfOk, Bool, true, false, refl, sym, ap, subst, ◌∙◌, arith}
 use Rattle.std.specs.Prelude.{is_some}
-use Rattle.std.specs.List.{list_all}
 use Rattle.rio_host.specs.Host.{IsLawful, View}
 use Rattle.rio_num.specs.Word.{is_item_text}
 use Rattle.rio_types.specs.declared.class.ClassDef.{ClassDef}
 use Rattle.rio_key.specs.declared.head.KeyHead.{KeyHead}
 use Rattle.rio_value.specs.declared.value.Value.{Value}
-use Rattle.rio_dir.specs.Table.{with_head}
+use Rattle.rio_dir.specs.Table.{head_of, with_head}
 use Rattle.rio_chain.specs.Placing.{file_end, place_of, record_count}
 use Rattle.rio_machine.specs.Limits.{head_length}
 use Rattle.rio_machine.specs.State.{State}
@@ -24,30 +23,27 @@ use Rattle.rio_step.specs.Costs.{cost_of, room_limit, value_size}
 use Rattle.rio_step.specs.Refusing.{refusal_of}
 use Rattle.rio_step.specs.ReplyText.{text_of}
 use Rattle.rio_step.specs.Step.{object_put, outcome_of, refused}
-use Rattle.rio_judge.specs.Judging.{IsJudgement, IsJudgementOfStates, IsStep, WorkCanBeDone}
+use Rattle.rio_judge.specs.Judging.{IsJudgementOfStates, IsStep, WorkCanBeDone, is_judged}
 use Rattle.rio_judge.specs.declared.work.Judged.{Judged}
 use Rattle.rio_judge.specs.declared.work.Judged.TheVariants.{Accepted as Judgement, Refused as RefusalOf}
 use Rattle.rio_judge.specs.declared.work.Work.TheVariants.{Put as Storing, Get as Telling, Ls as Listing}
 use Rattle.rio_effect.specs.ObjectRecord.{key_of_put}
-use Rattle.rio_session.specs.Causes.{IsBuilt}
+use Rattle.rio_session.specs.Behind.{IsOfKeys}
 use Rattle.rio_session.specs.Does.{Does}
-use Rattle.rio_session.specs.Gets.{IsSaid, Tells}
-use Rattle.rio_session.specs.Kept.{IsSoundState, is_sized, kept_with}
-use Rattle.rio_session.specs.Puts.{IsStoredRecord, Puts, putting}
-use Rattle.rio_session.specs.Says.{Says}
-use Rattle.rio_session.specs.Session.{HoldsState, IsReady, LacksRoomIfFull, SessionState, StandsFor, next_of}
+use Rattle.rio_session.specs.Causes.{IsSaid}
+use Rattle.rio_session.specs.Gets.{TellsObject}
+use Rattle.rio_session.specs.Kept.{IsClosable, IsSoundState, is_sized, kept_with}
+use Rattle.rio_session.specs.Puts.{IsStoredRecord, PutsRecord, putting}
+use Rattle.rio_session.specs.Says.{SaysReply}
+use Rattle.rio_session.specs.Session.{IsReady, LacksRoomIfFull, SessionState, StandsFor, next_of, with_cost}
 use Rattle.rio_session.specs.declared.fault.SessionFault.{SessionFault}
-use Rattle.rio_session.proofs.OtherSteps.{get_outcome, get_reply, ls_outcome, ls_reply, refused_lacks, refused_outcome, refused_reply}
-use Rattle.rio_session.proofs.PutAnswers.{IsPutting, does_put}
+use Rattle.rio_session.proofs.OtherSteps.{get_outcome, get_still, get_told, ls_outcome, ls_still, ls_told, refused_lacks, refused_outcome, refused_still, refused_told}
+use Rattle.rio_session.proofs.PutAnswers.{IsPutStep, IsPutting, does_put}
 use Rattle.rio_session.proofs.PutFacts.{is_put_of}
-use Rattle.rio_session.proofs.PutSteps.{full_lacks, full_outcome, full_reply, key_class, key_name, key_sized, put_is_step}
+use Rattle.rio_session.proofs.PutSteps.{full_lacks, full_outcome, full_still, full_told, key_class, key_name, key_sized, put_is_kept, put_is_step}
 use Rattle.rio_session.proofs.Refused.{cost_accepted}
-use Rattle.rio_session.proofs.Replies.{IsReply, does_says}
-use Rattle.rio_session.proofs.States.{known}
-
--- the judgement of the state that a session stands for
-judgement : (s : SessionState) (m : State) (file : List ℕ) (c : Command) (judged : Judged) → HoldsState s m file → IsJudgementOfStates s.classes s.heads c judged → IsJudgement m c judged
-judgement s m file c judged h are = are m (sym h.classes) (known h.links s.heads m h.records h.keys).stand
+use Rattle.rio_session.proofs.Replies.{IsStill, does_says}
+use Rattle.rio_session.proofs.States.{of_keys}
 
 -- ---- which command it is
 
@@ -63,116 +59,163 @@ is_ls classes heads (Get name cycle version) can = absurd can
 is_ls classes heads (Scan name class) can = absurd can
 is_ls classes heads Ls can = refl
 
-unversioned : (name : List ℕ) (asked : Option ℕ) (version : Option ℤ) → IsBuilt (Get name asked version) → version ≡ None
-unversioned name asked version built = built
+unversioned : (name : List ℕ) (asked : Option ℕ) (version : Option ℤ) → is_judged (Get name asked version) ≡ true → version ≡ None
+unversioned name asked None built = refl
+unversioned name asked (Some version) built = absurd cc
 
 module _ (old new : View) (s s' : SessionState) (law : IsLawful old) (law' : IsLawful new) (ready : IsReady old s) (fresh : s.failed ≡ false) (answer : Result Outcome SessionFault) where
   -- ---- refused by the state
 
+  not_accepted : (a : Result Outcome SessionFault) (c : Command) (refusal : Refusal) → IfOk a (λ outcome. outcome ≡ Refused refusal) → IfOk a (λ outcome. (name : List ℕ) (v : Value) → c ≡ Put name v → outcome ≡ Accepted → ⊥)
+  not_accepted (Ok outcome) c refusal is = λ name v put accepted. let same : Refused refusal ≡ Accepted = sym is ∙ accepted in absurd cc
+  not_accepted (Err e) c refusal is = tt
+
   same_refused : (c : Command) (refusal : Refusal) (a : Result Outcome SessionFault) → IsJudgementOfStates s.classes s.heads c (RefusalOf refusal) → IfOk a (λ outcome. outcome ≡ Refused refusal)
-      → IfOk a (λ outcome. (m : State) (said : List ℕ) → StandsFor old s m said → (outcome ≡ outcome_of (next_of s m c).reply) × LacksRoomIfFull s' outcome)
-  same_refused c refusal (Ok outcome) judged is = λ m said st.
-      let j = judgement s m st.file c (RefusalOf refusal) st.state judged in
-      (is ∙ sym (refused_outcome s m c refusal j), subst (λ (o : Outcome). LacksRoomIfFull s' o) (sym is) (refused_lacks s m c refusal j s'))
+      → IfOk a (λ outcome. (m : State) → IsOfKeys s m → outcome ≡ outcome_of (next_of s m c).reply)
+  same_refused c refusal (Ok outcome) judged is = λ m keys. is ∙ sym (refused_outcome s m c refusal (judged m keys.classes keys.keys))
   same_refused c refusal (Err e) judged is = tt
 
-  pub refused_does : (c : Command) (refusal : Refusal) → IsJudgementOfStates s.classes s.heads c (RefusalOf refusal) → Says (text_of (refused refusal)) 0 old new s s' answer → IfOk answer (λ outcome. outcome ≡ Refused refusal)
+  pub refused_does : (c : Command) (refusal : Refusal) → IsJudgementOfStates s.classes s.heads c (RefusalOf refusal) → SaysReply (text_of (refused refusal)) 0 old new s s' answer → IfOk answer (λ outcome. outcome ≡ Refused refusal)
       → Does old new s s' c answer
   refused_does c refusal judged says is =
       does_says old new s s' (text_of (refused refusal)) 0 law law' ready c answer fresh says
-      (λ spoken m said st. refused_reply s m c refusal (judgement s m st.file c (RefusalOf refusal) st.state judged)) (same_refused c refusal answer judged is)
+      (λ spoken m keys. refused_still s m c refusal (judged m keys.classes keys.keys))
+      (λ spoken m said st. let keys = of_keys s m st.file st.state in refused_told s m c refusal (judged m keys.classes keys.keys))
+      (same_refused c refusal answer judged is) lacks (not_accepted answer c refusal is)
+    where
+      lacks : IsSaid answer → (m : State) (said : List ℕ) → StandsFor old s m said → LacksRoomIfFull (with_cost 0 s) (outcome_of (next_of s m c).reply)
+      lacks spoken m said st =
+          let keys = of_keys s m st.file st.state in
+          let j = judged m keys.classes keys.keys in
+          subst (λ (o : Outcome). LacksRoomIfFull (with_cost 0 s) o) (sym (refused_outcome s m c refusal j)) (refused_lacks s m c refusal j (with_cost 0 s))
 
   -- ---- ls and get
 
-  same_accepted : (c : Command) (a : Result Outcome SessionFault) → ((m : State) (said : List ℕ) → StandsFor old s m said → outcome_of (next_of s m c).reply ≡ Accepted) → IfOk a (λ outcome. outcome ≡ Accepted)
-      → IfOk a (λ outcome. (m : State) (said : List ℕ) → StandsFor old s m said → (outcome ≡ outcome_of (next_of s m c).reply) × LacksRoomIfFull s' outcome)
-  same_accepted c (Ok outcome) accepted is = λ m said st. (is ∙ sym (accepted m said st), subst (λ (o : Outcome). LacksRoomIfFull s' o) (sym is) tt)
+  same_accepted : (c : Command) (a : Result Outcome SessionFault) → ((m : State) → IsOfKeys s m → outcome_of (next_of s m c).reply ≡ Accepted) → IfOk a (λ outcome. outcome ≡ Accepted)
+      → IfOk a (λ outcome. (m : State) → IsOfKeys s m → outcome ≡ outcome_of (next_of s m c).reply)
+  same_accepted c (Ok outcome) accepted is = λ m keys. is ∙ sym (accepted m keys)
   same_accepted c (Err e) accepted is = tt
 
-  pub ls_does : IsSoundState s → IsJudgementOfStates s.classes s.heads Ls (Judgement Listing) → Says (listing_of s.heads) 0 old new s s' answer → IfOk answer (λ outcome. outcome ≡ Accepted) → Does old new s s' Ls answer
+  lacks_accepted : (c : Command) → ((m : State) → IsOfKeys s m → outcome_of (next_of s m c).reply ≡ Accepted)
+      → (m : State) (said : List ℕ) → StandsFor old s m said → LacksRoomIfFull (with_cost 0 s) (outcome_of (next_of s m c).reply)
+  lacks_accepted c accepted m said st = subst (λ (o : Outcome). LacksRoomIfFull (with_cost 0 s) o) (sym (accepted m (of_keys s m st.file st.state))) tt
+
+  no_put : (c : Command) (a : Result Outcome SessionFault) → ((name : List ℕ) (v : Value) → c ≡ Put name v → ⊥) → IfOk a (λ outcome. (name : List ℕ) (v : Value) → c ≡ Put name v → outcome ≡ Accepted → ⊥)
+  no_put c (Ok outcome) other = λ name v put accepted. other name v put
+  no_put c (Err e) other = tt
+
+  pub ls_does : IsSoundState s → IsJudgementOfStates s.classes s.heads Ls (Judgement Listing) → SaysReply (listing_of s.heads) 0 old new s s' answer → IfOk answer (λ outcome. outcome ≡ Accepted) → Does old new s s' Ls answer
   ls_does sound judged says is =
       does_says old new s s' (listing_of s.heads) 0 law law' ready Ls answer fresh says
-      (λ spoken m said st. ls_reply s m st.file st.state sound.none sound.listless (sound.kept fresh) (judgement s m st.file Ls (Judgement Listing) st.state judged).0)
-      (same_accepted Ls answer (λ m said st. ls_outcome s m st.file st.state sound.none sound.listless (sound.kept fresh) (judgement s m st.file Ls (Judgement Listing) st.state judged).0) is)
+      (λ spoken m keys. ls_still s m keys sound.none (sound.kept fresh) (judged m keys.classes keys.keys).0)
+      (λ spoken m said st. let keys = of_keys s m st.file st.state in ls_told s m keys sound.none (sound.kept fresh) (judged m keys.classes keys.keys).0)
+      (same_accepted Ls answer outcome is) (λ spoken. lacks_accepted Ls outcome) (no_put Ls answer (λ name v put. absurd cc))
+    where
+      outcome : (m : State) → IsOfKeys s m → outcome_of (next_of s m Ls).reply ≡ Accepted
+      outcome m keys = ls_outcome s m keys sound.none (sound.kept fresh) (judged m keys.classes keys.keys).0
 
-  pub get_does : (name : List ℕ) (asked : Option ℕ) (number : ℕ) → IsSoundState s → IsJudgementOfStates s.classes s.heads (Get name asked None) (Judgement (Telling number)) → Tells name number old new s s' answer
+  pub get_does : (name : List ℕ) (asked : Option ℕ) (number : ℕ) → IsSoundState s → IsJudgementOfStates s.classes s.heads (Get name asked None) (Judgement (Telling number)) → TellsObject name number old new s s' answer
       → IfOk answer (λ outcome. outcome ≡ Accepted) → Does old new s s' (Get name asked None) answer
   get_does name asked number sound judged t is =
-      does_says old new s s' t.text 0 law law' ready (Get name asked None) answer fresh t.says reply
-      (same_accepted (Get name asked None) answer (λ m said st. get_outcome s m st.file st.state sound.none sound.listless (sound.kept fresh) name asked (judgement s m st.file (Get name asked None) (Judgement (Telling number)) st.state judged).0) is)
+      does_says old new s s' t.text 0 law law' ready (Get name asked None) answer fresh t.says
+      (λ spoken m keys. get_still s m keys sound.none (sound.kept fresh) name asked (judged m keys.classes keys.keys).0)
+      told
+      (same_accepted (Get name asked None) answer outcome is) (λ spoken. lacks_accepted (Get name asked None) outcome) (no_put (Get name asked None) answer (λ own v put. absurd cc))
     where
-      reply : IsSaid answer → (m : State) (said : List ℕ) → StandsFor old s m said → IsReply s m (Get name asked None) t.text 0
-      reply spoken m said st =
-          let j = judgement s m st.file (Get name asked None) (Judgement (Telling number)) st.state judged in
-          let r = t.tells spoken st.file st.holds st.state.links st.state.chain in
-          get_reply s m st.file st.state sound.none sound.listless (sound.kept fresh) name asked number t.head r.0 t.text j.0 j.1.0 j.1.1 t.found r.1 r.2
+      outcome : (m : State) → IsOfKeys s m → outcome_of (next_of s m (Get name asked None)).reply ≡ Accepted
+      outcome m keys = get_outcome s m keys sound.none (sound.kept fresh) name asked (judged m keys.classes keys.keys).0
 
-  pub ls_is_done : (c : Command) → WorkCanBeDone s.classes s.heads c Listing → IsSoundState s → IsJudgementOfStates s.classes s.heads c (Judgement Listing) → Says (listing_of s.heads) 0 old new s s' answer
+      told : IsSaid answer → (m : State) (said : List ℕ) → StandsFor old s m said → t.text ≡ text_of (next_of s m (Get name asked None)).reply
+      told spoken m said st =
+          let keys = of_keys s m st.file st.state in
+          let j = judged m keys.classes keys.keys in
+          let r = t.tells spoken st.file st.holds st.state.links st.state.chain in
+          get_told s m st.file st.state sound.none (sound.kept fresh) name asked number t.head r.0 t.text j.0 j.1.0 j.1.1 t.found r.1 r.2
+
+  pub ls_is_done : (c : Command) → WorkCanBeDone s.classes s.heads c Listing → IsSoundState s → IsJudgementOfStates s.classes s.heads c (Judgement Listing) → SaysReply (listing_of s.heads) 0 old new s s' answer
       → IfOk answer (λ outcome. outcome ≡ Accepted) → Does old new s s' c answer
   ls_is_done c can sound judged says outcome =
       let is : c ≡ Ls = is_ls s.classes s.heads c can in
       subst (λ (x : Command). Does old new s s' x answer) (sym is) (ls_does sound (subst (λ (x : Command). IsJudgementOfStates s.classes s.heads x (Judgement Listing)) is judged) says outcome)
 
-  pub get_is_done : (c : Command) (name : List ℕ) (asked : Option ℕ) (version : Option ℤ) (number : ℕ) → c ≡ Get name asked version → IsBuilt c → IsSoundState s → IsJudgementOfStates s.classes s.heads c (Judgement (Telling number))
-      → Tells name number old new s s' answer → IfOk answer (λ outcome. outcome ≡ Accepted) → Does old new s s' c answer
+  pub get_is_done : (c : Command) (name : List ℕ) (asked : Option ℕ) (version : Option ℤ) (number : ℕ) → c ≡ Get name asked version → is_judged c ≡ true → IsSoundState s → IsJudgementOfStates s.classes s.heads c (Judgement (Telling number))
+      → TellsObject name number old new s s' answer → IfOk answer (λ outcome. outcome ≡ Accepted) → Does old new s s' c answer
   get_is_done c name asked version number is built sound judged t outcome =
-      let same : c ≡ Get name asked None = is ∙ ap (Get name asked) (unversioned name asked version (subst IsBuilt is built)) in
+      let same : c ≡ Get name asked None = is ∙ ap (Get name asked) (unversioned name asked version (sym (ap is_judged is) ∙ built)) in
       subst (λ (x : Command). Does old new s s' x answer) (sym same) (get_does name asked number sound (subst (λ (x : Command). IsJudgementOfStates s.classes s.heads x (Judgement (Telling number))) same judged) t outcome)
 
   -- ---- put
 
-  module _ (name : List ℕ) (v stored : Value) (own : List ℕ) (number size n need cost : ℕ) (none : length s.classes ≡ 0) (listless : is_some s.info ≡ false) (sized : list_all is_sized s.heads ≡ true)
-      (named : is_item_text name ≡ true) (soon : s.datime < 2 ^ 32) (judged : IsJudgementOfStates s.classes s.heads (Put name v) (Judgement (Storing stored own number size)))
+  module _ (name : List ℕ) (v stored : Value) (own : List ℕ) (number size n need cost : ℕ) (none : length s.classes ≡ 0) (listless : is_some s.info ≡ false) (kept : IsClosable s.segments s.heads s.name)
+      (named : is_item_text name ≡ true) (soon : s.datime < 2 ^ 32) (judged : IsJudgementOfStates s.classes s.heads (Put name v) (Judgement (Storing stored own number size))) (unused : head_of name (Some number) s.heads ≡ None)
       (n_is : n ≡ padded_length (head_length own name + size)) (need_is : (h : KeyHead) → is_sized h ≡ true → h.class ≡ own → h.name ≡ name → need ≡ close_need (kept_with s.name (with_head h s.heads) (record_count s.segments + 1)))
       (cost_is : cost ≡ 500 + size) where
-    its : (m : State) (said : List ℕ) (st : StandsFor old s m said) → (refusal_of m (Put name v) None ≡ None) × IsStep m name v stored own number size
-    its m said st = judgement s m st.file (Put name v) (Judgement (Storing stored own number size)) st.state judged
+    its : (m : State) → IsOfKeys s m → (refusal_of m (Put name v) None ≡ None) × IsStep m name v stored own number size
+    its m keys = judged m keys.classes keys.keys
 
     abbrev room_of : Bool → ℕ → State → Type 0
     room_of b place m = is_full s.segments (padded_length (head_length own name + size) ∷ []) (close_need (kept_with s.name (with_head (key_of_put m place s.datime name v) s.heads) (record_count s.segments + 1))) ≡ b
 
-    room_is : (b : Bool) (place : ℕ) → place < 2 ^ 32 → is_full s.segments (n ∷ []) need ≡ b → (m : State) (said : List ℕ) (st : StandsFor old s m said) → room_of b place m
-    room_is b place low is m said st =
-        let j = its m said st in
+    room_is : (b : Bool) (place : ℕ) → place < 2 ^ 32 → is_full s.segments (n ∷ []) need ≡ b → (m : State) (keys : IsOfKeys s m) → room_of b place m
+    room_is b place low is m keys =
+        let j = its m keys in
         let k = need_is (key_of_put m place s.datime name v)
-        (key_sized s m st.file st.state none listless sized name v stored own number size place low soon named j.0 j.1)
-        (key_class s m st.file st.state none listless sized name v stored own number size place low soon named j.0 j.1)
-        (key_name s m st.file st.state none listless sized name v stored own number size place low soon named j.0 j.1) in
+        (key_sized s m keys none kept.count kept.sized name v stored own number size place low soon named j.0 j.1 unused)
+        (key_class s m keys none kept.count kept.sized name v stored own number size place low soon named j.0 j.1 unused)
+        (key_name s m keys none kept.count kept.sized name v stored own number size place low soon named j.0 j.1 unused) in
         subst (λ (x : ℕ × ℕ). is_full s.segments (x.0 ∷ []) x.1 ≡ b) (λ i. (n_is i, k i)) is
 
     pub put_does : (place : ℕ) (made : NewRecord) (text : List ℕ) → place < 2 ^ 32 → IsStoredRecord s place name stored own number size made → text ≡ text_of (object_put name number)
-        → place ≡ place_of s.segments n → is_full s.segments (n ∷ []) need ≡ false → Puts (putting made text cost) old new s s' answer → IfOk answer (λ outcome. outcome ≡ Accepted) → Does old new s s' (Put name v) answer
-    put_does place made text low r text_is at room puts is = does_put (putting made text cost) old new s s' law ready (Put name v) answer fresh law' puts step is
+        → place ≡ place_of s.segments n → is_full s.segments (n ∷ []) need ≡ false → PutsRecord (putting made text cost) old new s s' answer → IfOk answer (λ outcome. outcome ≡ Accepted) → Does old new s s' (Put name v) answer
+    put_does place made text low r text_is at room puts is = does_put (putting made text cost) old new s s' law ready name v answer fresh law' puts kept_step step is
       where
+        kept_step : (m : State) → IsOfKeys s m → IsPutStep (putting made text cost) s m name v
+        kept_step m keys =
+            let j = its m keys in
+            put_is_kept s m keys none kept.count kept.sized name v stored own number size place low soon named j.0 j.1 unused (putting made text cost)
+            (is_put_of s place name stored own number size made r m v (sym keys.classes) j.0 j.1 text cost text_is cost_is)
+            (room_is false place low room m keys) (at ∙ ap (place_of s.segments) n_is) r.long
+
         step : (m : State) (said : List ℕ) (st : StandsFor old s m said) → IsPutting (putting made text cost) s m (Put name v) st.state.links
         step m said st =
-            let j = its m said st in
-            put_is_step s m st.file st.state none listless sized name v stored own number size place low soon named j.0 j.1 (putting made text cost)
-            (is_put_of s place name stored own number size made r m v st.state.classes j.0 j.1 text cost text_is cost_is)
-            (room_is false place low room m said st) (at ∙ ap (place_of s.segments) n_is) r.long
+            let keys = of_keys s m st.file st.state in
+            let j = its m keys in
+            put_is_step s m st.file st.state none kept.count kept.sized name v stored own number size place low soon named j.0 j.1 unused (putting made text cost)
+            (is_put_of s place name stored own number size made r m v (sym keys.classes) j.0 j.1 text cost text_is cost_is)
+            (room_is false place low room m keys) (at ∙ ap (place_of s.segments) n_is) r.long
 
-    same_full : (a : Result Outcome SessionFault) → head_length own name ≤ 229 → is_full s.segments (n ∷ []) need ≡ true → Says (text_of (refused (Full (file_end s.segments) n))) cost old new s s' a
-        → IfOk a (λ outcome. outcome ≡ Refused (Full (file_end s.segments) n))
-        → IfOk a (λ outcome. (m : State) (said : List ℕ) → StandsFor old s m said → (outcome ≡ outcome_of (next_of s m (Put name v)).reply) × LacksRoomIfFull s' outcome)
-    same_full (Err e) short room says is = tt
-    same_full (Ok outcome) short room says is = λ m said st.
-        let j = its m said st in
-        let full = room_is true 0 (omega arith) room m said st in
-        let lacks = full_lacks s m st.file st.state none listless sized name v stored own number size 0 (omega arith) soon named j.0 j.1 full cost cost_is short in
-        let after : room_limit < 3 * s'.opened + s'.costs = subst (λ (a : SessionState). room_limit < 3 * a.opened + a.costs) (sym says.kept) lacks in (
-          is ∙ ap (λ (k : ℕ). Refused (Full (file_end s.segments) k)) n_is ∙ sym (full_outcome s m st.file st.state none listless sized name v stored own number size 0 (omega arith) soon named j.0 j.1 full),
-          subst (λ (o : Outcome). LacksRoomIfFull s' o) (sym is) after,
-        )
+    same_full : (a : Result Outcome SessionFault) → is_full s.segments (n ∷ []) need ≡ true → IfOk a (λ outcome. outcome ≡ Refused (Full (file_end s.segments) n))
+        → IfOk a (λ outcome. (m : State) → IsOfKeys s m → outcome ≡ outcome_of (next_of s m (Put name v)).reply)
+    same_full (Err e) room is = tt
+    same_full (Ok outcome) room is = λ m keys.
+        let j = its m keys in
+        is ∙ ap (λ (k : ℕ). Refused (Full (file_end s.segments) k)) n_is
+        ∙ sym (full_outcome s m keys none kept.count kept.sized name v stored own number size 0 (omega arith) soon named j.0 j.1 unused (room_is true 0 (omega arith) room m keys))
 
-    pub full_does : head_length own name ≤ 229 → is_full s.segments (n ∷ []) need ≡ true → Says (text_of (refused (Full (file_end s.segments) n))) cost old new s s' answer
+    lacks_full : head_length own name ≤ 229 → is_full s.segments (n ∷ []) need ≡ true
+        → (m : State) (said : List ℕ) → StandsFor old s m said → LacksRoomIfFull (with_cost cost s) (outcome_of (next_of s m (Put name v)).reply)
+    lacks_full short room m said st =
+        let keys = of_keys s m st.file st.state in
+        let j = its m keys in
+        let full = room_is true 0 (omega arith) room m keys in
+        let lacks = full_lacks s m st.file st.state none kept.count kept.sized name v stored own number size 0 (omega arith) soon named j.0 j.1 unused listless full cost cost_is short in
+        subst (λ (o : Outcome). LacksRoomIfFull (with_cost cost s) o) (sym (full_outcome s m keys none kept.count kept.sized name v stored own number size 0 (omega arith) soon named j.0 j.1 unused full)) lacks
+
+    pub full_does : head_length own name ≤ 229 → is_full s.segments (n ∷ []) need ≡ true → SaysReply (text_of (refused (Full (file_end s.segments) n))) cost old new s s' answer
         → IfOk answer (λ outcome. outcome ≡ Refused (Full (file_end s.segments) n)) → Does old new s s' (Put name v) answer
     full_does short room says is =
-        does_says old new s s' (text_of (refused (Full (file_end s.segments) n))) cost law law' ready (Put name v) answer fresh says reply (same_full answer short room says is)
+        does_says old new s s' (text_of (refused (Full (file_end s.segments) n))) cost law law' ready (Put name v) answer fresh says still told
+        (same_full answer room is) (λ spoken. lacks_full short room) (not_accepted answer (Put name v) (Full (file_end s.segments) n) is)
       where
-        reply : IsSaid answer → (m : State) (said : List ℕ) → StandsFor old s m said → IsReply s m (Put name v) (text_of (refused (Full (file_end s.segments) n))) cost
-        reply spoken m said st =
-            let j = its m said st in
-            let full = room_is true 0 (omega arith) room m said st in
+        still : IsSaid answer → (m : State) → IsOfKeys s m → IsStill s m (Put name v) cost
+        still spoken m keys =
+            let j = its m keys in
             let costs : cost ≡ cost_of m (Put name v) = cost_is ∙ ap (λ (k : ℕ). 500 + k) (j.1.written ∙ ap (λ (w : Value). value_size m.classes w) j.1.value) ∙ sym (cost_accepted m (Put name v) j.0) in
-            subst (λ (k : ℕ). IsReply s m (Put name v) (text_of (refused (Full (file_end s.segments) k))) cost) (sym n_is)
-            (full_reply s m st.file st.state none listless sized name v stored own number size 0 (omega arith) soon named j.0 j.1 full cost costs)
+            full_still s m keys none kept.count kept.sized name v stored own number size 0 (omega arith) soon named j.0 j.1 unused (room_is true 0 (omega arith) room m keys) cost costs
+
+        told : IsSaid answer → (m : State) (said : List ℕ) → StandsFor old s m said → text_of (refused (Full (file_end s.segments) n)) ≡ text_of (next_of s m (Put name v)).reply
+        told spoken m said st =
+            let keys = of_keys s m st.file st.state in
+            let j = its m keys in
+            ap (λ (k : ℕ). text_of (refused (Full (file_end s.segments) k))) n_is
+            ∙ full_told s m keys none kept.count kept.sized name v stored own number size 0 (omega arith) soon named j.0 j.1 unused (room_is true 0 (omega arith) room m keys)

@@ -12,7 +12,7 @@ use Rattle.rio_chain.specs.declared.segment.Segment.{Segment}
 use Rattle.rio_chain.specs.declared.segment.Segment.TheVariants.{Record, Gap}
 use Rattle.rio_state.specs.Closing.{close_need, end_limit}
 use Rattle.rio_record.specs.declared.record.NewRecord.{NewRecord}
-use Rattle.rio_session.specs.Kept.{IsKept, begins_at, is_fit_key, is_placed, is_sized, kept_with}
+use Rattle.rio_session.specs.Kept.{IsClosable, begins_at, is_fit_key, is_owned, is_placed, is_sized, kept_with}
 use Rattle.rio_session.specs.Puts.{CanBePut}
 use Rattle.rio_session.specs.Session.{SessionState}
 
@@ -101,23 +101,72 @@ size_with h (k ∷ ks) =
       | false ↦ omega (arith, sum_by-cons (λ j. length (written_key j)) h (k ∷ ks), sum_by-cons (λ j. length (written_key j)) k ks)
     ]
 
+-- ---- records have keys
+
+any_new : (test : KeyHead → Bool) (h : KeyHead) (heads : List KeyHead) → test h ≡ true → list_any test (with_head h heads) ≡ true
+any_new test h [] one = or_left (test h) false one
+any_new test h (k ∷ ks) one =
+    elim (is_before h.name h.cycle k) as (λ b. list_any test (if b then k ∷ with_head h ks else h ∷ k ∷ ks) ≡ true) [
+      | true ↦ or_right (test k) (list_any test (with_head h ks)) (any_new test h ks one)
+      | false ↦ or_left (test h) (list_any test (k ∷ ks)) one
+    ]
+
+any_still : (test : KeyHead → Bool) (h : KeyHead) (heads : List KeyHead) → list_any test heads ≡ true → list_any test (with_head h heads) ≡ true
+any_still test h [] e = absurd cc
+any_still test h (k ∷ ks) e =
+    elim (is_before h.name h.cycle k) as (λ b. list_any test (if b then k ∷ with_head h ks else h ∷ k ∷ ks) ≡ true) [
+      | true ↦ or_both (test k) (list_any test ks) (list_any test (with_head h ks)) e (λ f. any_still test h ks f)
+      | false ↦ or_right (test h) (list_any test (k ∷ ks)) e
+    ]
+
+owned_still : (h : KeyHead) (heads : List KeyHead) (x : Segment) → is_owned heads x ≡ true → is_owned (with_head h heads) x ≡ true
+owned_still h heads (Record p n) e = or_both (p == 100) (list_any (λ k. k.seek == p) heads) (list_any (λ k. k.seek == p) (with_head h heads)) e (λ f. any_still (λ k. k.seek == p) h heads f)
+owned_still h heads (Gap p n) e = refl
+
+all_still : (h : KeyHead) (heads : List KeyHead) (segments : List Segment) → list_all (is_owned heads) segments ≡ true → list_all (is_owned (with_head h heads)) segments ≡ true
+all_still h heads [] all = refl
+all_still h heads (x ∷ xs) all =
+    let parts = and_parts (is_owned heads x) (list_all (is_owned heads) xs) all in
+    and_from (is_owned (with_head h heads) x) (list_all (is_owned (with_head h heads)) xs) (owned_still h heads x parts.0) (all_still h heads xs parts.1)
+
+rest_owned : (heads : List KeyHead) (place n : ℕ) (segments : List Segment) → list_all (is_owned heads) segments ≡ true → list_all (is_owned heads) (rest_of_gap place n segments) ≡ true
+rest_owned heads place n segments all = elim (n == 0) as (λ b. list_all (is_owned heads) (if b then segments else Gap place n ∷ segments) ≡ true) [ true ↦ all | false ↦ all ]
+
+owned_new : (h : KeyHead) (heads : List KeyHead) (n : ℕ) → is_owned (with_head h heads) (Record h.seek n) ≡ true
+owned_new h heads n = or_right (h.seek == 100) (list_any (λ k. k.seek == h.seek) (with_head h heads)) (any_new (λ k. k.seek == h.seek) h heads (same_place h.seek))
+
+-- each record has a key or is the first, with one more too
+all_owned : (h : KeyHead) (n : ℕ) (segments : List Segment) (heads : List KeyHead) → list_all (is_owned heads) segments ≡ true → list_all (is_owned (with_head h heads)) (with_segment h.seek n segments) ≡ true
+all_owned h n [] heads all = and_from (is_owned (with_head h heads) (Record h.seek n)) true (owned_new h heads n) refl
+all_owned h n (Record p m ∷ segments) heads all =
+    let parts = and_parts (is_owned heads (Record p m)) (list_all (is_owned heads) segments) all in
+    and_from (is_owned (with_head h heads) (Record p m)) (list_all (is_owned (with_head h heads)) (with_segment h.seek n segments)) (owned_still h heads (Record p m) parts.0) (all_owned h n segments heads parts.1)
+all_owned h n (Gap p m ∷ segments) heads all =
+    elim (p == h.seek) as (λ b. list_all (is_owned (with_head h heads)) (if b then Record h.seek n ∷ rest_of_gap (h.seek + n) (m - n) segments else Gap p m ∷ with_segment h.seek n segments) ≡ true) [
+      | true ↦ and_from (is_owned (with_head h heads) (Record h.seek n)) (list_all (is_owned (with_head h heads)) (rest_of_gap (h.seek + n) (m - n) segments)) (owned_new h heads n)
+          (rest_owned (with_head h heads) (h.seek + n) (m - n) segments (all_still h heads segments all))
+      | false ↦ all_owned h n segments heads all
+    ]
+
 -- ---- all of it
 
-pub kept_more : (segments : List Segment) (heads : List KeyHead) (name : List ℕ) (n : ℕ) (h : KeyHead) → IsKept segments heads name → is_sized h ≡ true → is_fit_key h ≡ true
+pub kept_more : (segments : List Segment) (heads : List KeyHead) (name : List ℕ) (n : ℕ) (h : KeyHead) → IsClosable segments heads name → is_sized h ≡ true → is_fit_key h ≡ true
     → file_end (with_segment h.seek n segments) + close_need (kept_with name (with_head h heads) (record_count segments + 1)) ≤ end_limit
-    → IsKept (with_segment h.seek n segments) (with_head h heads) name
+    → IsClosable (with_segment h.seek n segments) (with_head h heads) name
 kept_more segments heads name n h kept sized fit room = record {
   sized = all_with is_sized h heads sized kept.sized;
   fit = all_with is_fit_key h heads fit kept.fit;
   placed = all_with (is_placed (with_segment h.seek n segments)) h heads (new_begins h.seek n segments) (all_placed h.seek n segments heads kept.placed);
+  owned = all_owned h n segments heads kept.owned;
   short = kept.short;
+  count = omega (arith, count_with h.seek n segments, length_with h heads, kept.count);
   room = subst (λ (k : ℕ). file_end (with_segment h.seek n segments) + close_need (kept_with name (with_head h heads) k) ≤ end_limit) (sym (count_with h.seek n segments)) room;
 }
 
 -- the same with the record that was made
-pub kept_put : (s : SessionState) (made : NewRecord) (segments segments' : List Segment) (heads heads' : List KeyHead) (name : List ℕ) → CanBePut s made → IsKept segments heads name
-    → s.segments ≡ segments → s.heads ≡ heads → s.name ≡ name → segments' ≡ with_segment made.head.seek (length made.bytes.bytes) segments → heads' ≡ with_head made.head heads → IsKept segments' heads' name
+pub kept_put : (s : SessionState) (made : NewRecord) (segments segments' : List Segment) (heads heads' : List KeyHead) (name : List ℕ) → CanBePut s made → IsClosable segments heads name
+    → s.segments ≡ segments → s.heads ≡ heads → s.name ≡ name → segments' ≡ with_segment made.head.seek (length made.bytes.bytes) segments → heads' ≡ with_head made.head heads → IsClosable segments' heads' name
 kept_put s made segments segments' heads heads' name can kept a b c put more =
     let room = subst (λ (x : List Segment × (List KeyHead × List ℕ)). file_end (with_segment made.head.seek (length made.bytes.bytes) x.0) + close_need (kept_with x.1.1 (with_head made.head x.1.0) (record_count x.0 + 1)) ≤ end_limit) (λ i. (a i, (b i, c i))) can.room in
     let all = kept_more segments heads name (length made.bytes.bytes) made.head kept can.sized can.fit room in
-    subst (λ (x : List Segment × List KeyHead). IsKept x.0 x.1 name) (λ i. (sym put i, sym more i)) all
+    subst (λ (x : List Segment × List KeyHead). IsClosable x.0 x.1 name) (λ i. (sym put i, sym more i)) all

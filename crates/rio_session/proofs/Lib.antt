@@ -2,6 +2,7 @@ pub mod CloseRoom
 pub mod CloseStates
 pub mod CommandDoes
 pub mod Keeps
+pub mod KeysBehind
 pub mod MadeRecords
 pub mod Needs
 pub mod OpenFronts
@@ -17,5 +18,6 @@ pub mod PutMoments
 pub mod PutSteps
 pub mod Refused
 pub mod Replies
+pub mod Spoken
 pub mod States
 pub mod StoredRecords

@@ -19,7 +19,7 @@ use Rattle.rio_record.specs.declared.record.NewRecord.{NewRecord}
 use Rattle.rio_step.specs.ItemKeys.{AreKeysOfState, told_by_key}
 use Rattle.rio_step.specs.Step.{Listed, listed_object, object_listed, tree_listed}
 use Rattle.rio_state.specs.Closing.{KeptRecords, close_need, end_limit, free_length, list_length, padded_length}
-use Rattle.rio_session.specs.Kept.{IsKept, is_sized, kept_with}
+use Rattle.rio_session.specs.Kept.{IsClosable, is_sized, kept_with}
 use Rattle.rio_session.proofs.Keeps.{size_with}
 use Rattle.rio_session.specs.Puts.{CanBePut}
 use Rattle.rio_session.specs.Session.{SessionState}
@@ -88,7 +88,7 @@ unfolding close_size
 size_bounds name heads live limit le = (omega (arith, le), omega (arith, le))
 
 -- where there is room for a close, there are few keys and records
-pub kept_bounds : (segments : List Segment) (heads : List KeyHead) (name : List ℕ) → IsKept segments heads name → (heads_size heads ≤ end_limit) × (record_count segments ≤ end_limit)
+pub kept_bounds : (segments : List Segment) (heads : List KeyHead) (name : List ℕ) → IsClosable segments heads name → (heads_size heads ≤ end_limit) × (record_count segments ≤ end_limit)
 kept_bounds segments heads name kept =
     let is = close_size_is_need (kept_with name heads (record_count segments)) in
     let room : close_need (kept_with name heads (record_count segments)) ≤ end_limit = omega (arith, kept.room) in

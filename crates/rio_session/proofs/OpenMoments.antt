@@ -1,16 +1,16 @@
 -- What a stop leaves while a file is made.
-use Rattle.std.proofs.Common.{◌≡◌, ℕ, List, Some, true, sym, subst, ◌∙◌}
+use Rattle.std.proofs.Common.{◌≡◌, inl, ⊎_elim, ℕ, List, Some, true, sym, ap, subst, ◌∙◌}
 use Rattle.std.specs.Prelude.{MatchBool}
 use Rattle.rio_host.specs.Host.{After, Elapses, IsLawful, IsQuiet, Leaves, OnDisk, View}
 use Rattle.rio_host.specs.Image.{Same}
 use Rattle.rio_host.specs.OnlyReads.{OnlyReads}
-use Rattle.rio_host.proofs.Moments.{Outcomes, elapses_as, elapses_join}
+use Rattle.rio_host.proofs.Moments.{Outcomes, elapses_as, elapses_join, leaves_back}
 use Rattle.rio_host.proofs.ReadsLaws.{left_before}
 use Rattle.rio_dir.specs.Unborn.{is_unborn}
 use Rattle.rio_machine.specs.State.{State, empty_state}
 use Rattle.rio_state.specs.Left.{IsLeftAs, ReadsClosedUnlessOpen}
 use Rattle.rio_state.specs.Reads.{ReadsAsMade, ReadsAsState}
-use Rattle.rio_create.specs.Creation.{IsLeftEmpty}
+use Rattle.rio_create.specs.Creation.{IsLeftEmpty, LeavesUnclosed}
 
 -- a file that isn't made yet stands for the empty state alone
 pub unborn_empty : (file : List ℕ) (m : State) → is_unborn file ≡ true → ReadsAsState file m → m ≡ empty_state
@@ -39,3 +39,20 @@ module _ (file text : List ℕ) (m : State) where
       let second : Elapses a c (Stays file m text) = elapses_join (After Same b) first sync.time (λ image spoken after.
       subst (λ (f : List ℕ). Stays file m text f spoken) (sym after.2) (here after.0 spoken (left_before law_b calls after.0 spoken after.1))) in
       elapses_join (IsLeftEmpty c) second makes (λ image spoken left. empty_stays (unborn_empty file m unborn reads) image spoken left.left (left.text text told))
+
+-- ---- no close comes before the file is made
+
+module _ (file : List ℕ) (a b : View) (law_b : IsLawful b) (quiet : IsQuiet a) (holds : a.holds ≡ Some file) (unborn : is_unborn file ≡ true) (calls : OnlyReads a b) where
+  pub looked_unclosed : LeavesUnclosed b
+  looked_unclosed image said left = inl (ap is_unborn (quiet image said file (left_before law_b calls image said left) holds) ∙ unborn)
+
+  pub synced_unclosed : (c : View) → IsLawful c → OnDisk Same b c → LeavesUnclosed c
+  synced_unclosed c law_c sync image said left =
+      ⊎_elim (λ was. looked_unclosed image said was) (λ after. inl (ap is_unborn after.2 ∙ unborn_before after.0 said after.1)) (leaves_back law_c sync.time image said left)
+    where
+      unborn_before : (before said : List ℕ) → Leaves b before said → is_unborn before ≡ true
+      unborn_before before said was = ap is_unborn (quiet before said file (left_before law_b calls before said was) holds) ∙ unborn
+
+  pub made_unclosed : (c d : View) → IsLawful c → IsLawful d → OnDisk Same b c → Elapses c d (IsLeftEmpty c) → LeavesUnclosed d
+  made_unclosed c d law_c law_d sync makes image said left =
+      ⊎_elim (λ was. synced_unclosed c law_c sync image said was) (λ empty. empty.unclosed) (leaves_back law_d makes image said left)

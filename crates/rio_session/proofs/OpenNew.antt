@@ -1,6 +1,7 @@
 -- What a session keeps of a file that is just made, and what it stands for.
-use Rattle.std.proofs.Common.{◌≡◌, ℕ, ◌+◌, ◌≤◌, List, [], length, Option, Some, None, refl, sym, ap, subst, ◌∙◌, arith}
+use Rattle.std.proofs.Common.{◌≡◌, ℕ, ◌+◌, ◌≤◌, List, [], length, Option, Some, None, true, refl, sym, ap, subst, ◌∙◌, arith}
 use Rattle.std.specs.FinMap.{FinMap, empty, get, get-empty, same_map}
+use Rattle.std.specs.List.{list_all}
 use Rattle.std.specs.Option.{option_map}
 use Rattle.rio_host.specs.Host.{View}
 use Rattle.rio_key.specs.declared.head.KeyHead.{KeyHead}
@@ -18,7 +19,7 @@ use Rattle.rio_step.specs.Runs.{saved_of, saved_tree}
 use Rattle.rio_step.proofs.ClosedLaws.{saved_keeps_the_rest}
 use Rattle.rio_create.specs.NewFile.{IsNewFile, first_length, first_segments, nbytes_name_of}
 use Rattle.rio_create.proofs.Lengths.{key_long}
-use Rattle.rio_session.specs.Kept.{IsKept}
+use Rattle.rio_session.specs.Kept.{IsClosable, is_owned}
 use Rattle.rio_session.specs.Session.{HoldsState, SessionState, StandsFor}
 
 -- a state without trees has no pending rows
@@ -31,21 +32,23 @@ saved_same m none =
 
 -- ---- what is kept
 
-kept_empty : (segments : List Segment) (name : List ℕ) → length name ≤ 200 → file_end segments ≤ 700 → record_count segments ≡ 1 → IsKept segments [] name
+kept_empty : (segments : List Segment) (name : List ℕ) → length name ≤ 200 → file_end segments ≤ 700 → record_count segments ≡ 1 → list_all (is_owned []) segments ≡ true → IsClosable segments [] name
 unfolding close_need
-kept_empty segments name short low one = record {
+kept_empty segments name short low one owned = record {
   sized = refl;
   fit = refl;
   placed = refl;
+  owned = owned;
   short = short;
+  count = one;
   room = omega (arith, low, one, short, key_long name short);
 }
 
 pub kept_new : (segments : List Segment) (heads : List KeyHead) (name own : List ℕ) → length name ≤ 200 → segments ≡ first_segments name → file_end segments ≤ 700 → heads ≡ [] → own ≡ name
-    → IsKept segments heads own
+    → IsClosable segments heads own
 kept_new segments heads name own short segments_are low none same =
     let one : record_count segments ≡ 1 = ap record_count segments_are in
-    subst (λ (n : List ℕ). IsKept segments heads n) (sym same) (subst (λ (hs : List KeyHead). IsKept segments hs name) (sym none) (kept_empty segments name short low one))
+    subst (λ (n : List ℕ). IsClosable segments heads n) (sym same) (subst (λ (hs : List KeyHead). IsClosable segments hs name) (sym none) (kept_empty segments name short low one (ap (list_all (is_owned [])) segments_are)))
 
 -- the directory record stands before END
 pub directory_before_end : (segments : List Segment) (name : List ℕ) (nbytes_name : ℕ) → segments ≡ first_segments name → nbytes_name ≡ nbytes_name_of name → nbytes_name + 160 ≤ file_end segments

@@ -34,15 +34,15 @@ use Rattle.rio_step.specs.Step.{Stepped, object_told, outcome_of, refused, reply
 use Rattle.rio_step.proofs.LowestLaws.{lowest_is_told}
 use Rattle.rio_effect.proofs.KeyReads.{keys_have_records}
 use Rattle.rio_state.proofs.Members.{Found, In, all_at, contains_in, found, in_contained}
+use Rattle.rio_session.specs.Behind.{IsOfKeys}
 use Rattle.rio_session.specs.Gets.{record_text}
-use Rattle.rio_session.specs.Kept.{IsKept, begins_at, is_placed, kept_with}
+use Rattle.rio_session.specs.Kept.{IsClosable, begins_at, is_placed, kept_with}
 use Rattle.rio_session.specs.Marks.{command_lengths, mark_of, segments_behind, state_need, with_placed}
 use Rattle.rio_session.specs.Session.{HoldsState, LacksRoomIfFull, SessionState, next_of}
 use Rattle.rio_session.proofs.Needs.{need_by_keys}
-use Rattle.rio_session.proofs.PutSteps.{count_is, empty_classes}
 use Rattle.rio_session.proofs.Refused.{cost_accepted, cost_refused, refused_anyway, step_accepted, step_refused}
-use Rattle.rio_session.proofs.Replies.{IsReply}
-use Rattle.rio_session.proofs.States.{Known, known}
+use Rattle.rio_session.proofs.Replies.{IsStill}
+use Rattle.rio_session.proofs.States.{Known, known, of_keys}
 
 -- ---- records by their keys
 
@@ -99,13 +99,15 @@ module _ (s : SessionState) (m : State) (c : Command) (refusal : Refusal) (is : 
   unfolding segments_behind
   refused_segments = ap (λ (o : Option Refusal). if is_some o then s.segments else fold with_placed s.segments (command_lengths m c)) marked
 
-  pub refused_reply : IsReply s m c (text_of (refused refusal)) 0
-  refused_reply = record {
+  pub refused_still : IsStill s m c 0
+  refused_still = record {
     stays = ap (λ (t : Stepped). t.state) refused_next;
-    text_is = ap (λ (t : Stepped). text_of t.reply) (sym refused_next);
     segments = refused_segments;
     cost_is = sym (cost_refused m c refusal is);
   }
+
+  pub refused_told : text_of (refused refusal) ≡ text_of (next_of s m c).reply
+  refused_told = ap (λ (t : Stepped). text_of t.reply) (sym refused_next)
 
   pub refused_outcome : outcome_of (next_of s m c).reply ≡ Refused refusal
   refused_outcome = ap (λ (t : Stepped). outcome_of t.reply) refused_next
@@ -115,16 +117,13 @@ module _ (s : SessionState) (m : State) (c : Command) (refusal : Refusal) (is : 
 
 -- ---- accepted commands without records
 
-module _ (s : SessionState) (m : State) (file : List ℕ) (h : HoldsState s m file) (none : length s.classes ≡ 0) (listless : is_some s.info ≡ false) (kept : IsKept s.segments s.heads s.name)
+module _ (s : SessionState) (m : State) (keys : IsOfKeys s m) (none : length s.classes ≡ 0) (kept : IsClosable s.segments s.heads s.name)
     (c : Command) (free : refusal_of m c None ≡ None) (stays : state_behind m c ≡ m) (lengthless : command_lengths m c ≡ []) where
-  abbrev kn : Known h.links s.heads m
-  kn = known h.links s.heads m h.records h.keys
-
   need_is : state_need s.name (state_behind m c) ≡ close_need (kept_with s.name s.heads (record_count s.segments))
   need_is =
       ap (state_need s.name) stays
-      ∙ need_by_keys s.name s.heads m kn.stand kept.sized (empty_classes s m file h none listless)
-      ∙ ap (λ (k : ℕ). close_need (kept_with s.name s.heads k)) (sym (count_is s m file h none listless))
+      ∙ need_by_keys s.name s.heads m keys.keys kept.sized (ap length keys.classes ∙ none)
+      ∙ ap (λ (k : ℕ). close_need (kept_with s.name s.heads k)) (sym kept.count)
 
   abbrev mark_by : List ℕ → ℕ → Option FullMark
   mark_by lengths k = if is_full s.segments lengths k then Some (record { end = file_end s.segments; wanted = sum lengths }) else None
@@ -151,24 +150,33 @@ module _ (s : SessionState) (m : State) (file : List ℕ) (h : HoldsState s m fi
       ap (λ (o : Option Refusal). if is_some o then s.segments else fold with_placed s.segments (command_lengths m c)) unrefused
       ∙ ap (fold with_placed s.segments) lengthless
 
-  pub accepted_reply : (text : List ℕ) → text ≡ text_of (reply_to m c) → cost_of m c ≡ 0 → IsReply s m c text 0
-  accepted_reply text is costless = record {
+  pub accepted_still : cost_of m c ≡ 0 → IsStill s m c 0
+  accepted_still costless = record {
     stays = ap (λ (t : Stepped). t.state) next_is ∙ stays;
-    text_is = is ∙ ap (λ (t : Stepped). text_of t.reply) (sym next_is);
     segments = same_segments;
     cost_is = sym costless;
   }
+
+  pub accepted_told : (text : List ℕ) → text ≡ text_of (reply_to m c) → text ≡ text_of (next_of s m c).reply
+  accepted_told text is = is ∙ ap (λ (t : Stepped). text_of t.reply) (sym next_is)
 
   pub accepted_outcome : outcome_of (reply_to m c) ≡ Accepted → outcome_of (next_of s m c).reply ≡ Accepted
   accepted_outcome is = ap (λ (t : Stepped). outcome_of t.reply) next_is ∙ is
 
 -- ---- ls
 
-pub ls_reply : (s : SessionState) (m : State) (file : List ℕ) (h : HoldsState s m file) → length s.classes ≡ 0 → is_some s.info ≡ false → IsKept s.segments s.heads s.name
-    → refusal_of m Ls None ≡ None → IsReply s m Ls (listing_of s.heads) 0
-unfolding command_lengths
-ls_reply s m file h none listless kept free =
-    accepted_reply s m file h none listless kept Ls free refl refl (listing_of s.heads) (listing_is s.heads m (known h.links s.heads m h.records h.keys).stand) (cost_accepted m Ls free)
+module _ (s : SessionState) (m : State) (keys : IsOfKeys s m) (none : length s.classes ≡ 0) (kept : IsClosable s.segments s.heads s.name) (free : refusal_of m Ls None ≡ None) where
+  pub ls_still : IsStill s m Ls 0
+  unfolding command_lengths
+  ls_still = accepted_still s m keys none kept Ls free refl refl (cost_accepted m Ls free)
+
+  pub ls_told : listing_of s.heads ≡ text_of (next_of s m Ls).reply
+  unfolding command_lengths
+  ls_told = accepted_told s m keys none kept Ls free refl refl (listing_of s.heads) (listing_is s.heads m keys.keys)
+
+  pub ls_outcome : outcome_of (next_of s m Ls).reply ≡ Accepted
+  unfolding command_lengths
+  ls_outcome = accepted_outcome s m keys none kept Ls free refl refl refl
 
 -- ---- get
 
@@ -176,7 +184,7 @@ some_of : {A : Type 0} (o : Option A) → IsSome o → (x : A) × (o ≡ Some x)
 some_of None i = absurd cc
 some_of (Some x) i = (x, refl)
 
-module _ (s : SessionState) (m : State) (file : List ℕ) (h : HoldsState s m file) (none : length s.classes ≡ 0) (listless : is_some s.info ≡ false) (kept : IsKept s.segments s.heads s.name)
+module _ (s : SessionState) (m : State) (file : List ℕ) (h : HoldsState s m file) (none : length s.classes ≡ 0) (kept : IsClosable s.segments s.heads s.name)
     (name : List ℕ) (asked : Option ℕ) (number : ℕ) (head : KeyHead) (bytes text : List ℕ) (free : refusal_of m (Get name asked None) None ≡ None) (number_is : number ≡ meant_cycle m name asked)
     (there : IsSome (meant_object m name asked)) (key : head_of name (Some number) s.heads ≡ Some head) (among : Contains h.links (RecordAt head.seek bytes)) (is : text ≡ record_text s.classes head bytes) where
   abbrev v : Value
@@ -213,16 +221,16 @@ module _ (s : SessionState) (m : State) (file : List ℕ) (h : HoldsState s m fi
       ∙ told_is head (value_at s.classes head.class head.keylen (drop head.keylen bytes)) v read
       ∙ ap (λ (x : List ℕ × (ℕ × Value)). text_of (object_told x.0 x.1.0 x.1.1)) (λ i. (name_is i, ((cycle_is ∙ number_is) i, ap (λ (o : Option Value). unwrap_or o Null) (sym object) i)))
 
-  pub get_reply : IsReply s m (Get name asked None) text 0
+  pub get_told : text ≡ text_of (next_of s m (Get name asked None)).reply
   unfolding command_lengths
-  get_reply = accepted_reply s m file h none listless kept (Get name asked None) free refl refl text told (cost_accepted m (Get name asked None) free)
+  get_told = accepted_told s m (of_keys s m file h) none kept (Get name asked None) free refl refl text told
 
-pub ls_outcome : (s : SessionState) (m : State) (file : List ℕ) (h : HoldsState s m file) → length s.classes ≡ 0 → is_some s.info ≡ false → IsKept s.segments s.heads s.name
-    → refusal_of m Ls None ≡ None → outcome_of (next_of s m Ls).reply ≡ Accepted
-unfolding command_lengths
-ls_outcome s m file h none listless kept free = accepted_outcome s m file h none listless kept Ls free refl refl refl
+module _ (s : SessionState) (m : State) (keys : IsOfKeys s m) (none : length s.classes ≡ 0) (kept : IsClosable s.segments s.heads s.name) (name : List ℕ) (asked : Option ℕ)
+    (free : refusal_of m (Get name asked None) None ≡ None) where
+  pub get_still : IsStill s m (Get name asked None) 0
+  unfolding command_lengths
+  get_still = accepted_still s m keys none kept (Get name asked None) free refl refl (cost_accepted m (Get name asked None) free)
 
-pub get_outcome : (s : SessionState) (m : State) (file : List ℕ) (h : HoldsState s m file) → length s.classes ≡ 0 → is_some s.info ≡ false → IsKept s.segments s.heads s.name
-    → (name : List ℕ) (asked : Option ℕ) → refusal_of m (Get name asked None) None ≡ None → outcome_of (next_of s m (Get name asked None)).reply ≡ Accepted
-unfolding command_lengths
-get_outcome s m file h none listless kept name asked free = accepted_outcome s m file h none listless kept (Get name asked None) free refl refl refl
+  pub get_outcome : outcome_of (next_of s m (Get name asked None)).reply ≡ Accepted
+  unfolding command_lengths
+  get_outcome = accepted_outcome s m keys none kept (Get name asked None) free refl refl refl

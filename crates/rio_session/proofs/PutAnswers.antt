@@ -4,34 +4,59 @@ use Rattle.std.proofs.lemmas.Option.{same_Some}
 use Rattle.rio_host.specs.Host.{Elapses, IsLawful, Longer, View}
 use Rattle.rio_host.proofs.Images.{becomes_some, told_before}
 use Rattle.rio_host.proofs.Moments.{elapses_as}
+use Rattle.rio_key.specs.declared.head.KeyHead.{KeyHead}
+use Rattle.rio_value.specs.declared.value.Value.{Value}
 use Rattle.rio_dir.specs.Table.{with_head}
 use Rattle.rio_chain.specs.Chains.{HasChain}
 use Rattle.rio_chain.specs.Changes.{with_record}
-use Rattle.rio_chain.specs.Placing.{record_count, with_segment}
+use Rattle.rio_chain.specs.Placing.{place_of, record_count, with_segment}
 use Rattle.rio_chain.specs.Segments.{Link}
 use Rattle.rio_chain.specs.Stops.{Any, KeepsFront}
-use Rattle.rio_machine.specs.State.{State}
+use Rattle.rio_machine.specs.State.{State, next_cycle}
 use Rattle.rio_machine.specs.declared.command.Command.{Command}
+use Rattle.rio_machine.specs.declared.command.Command.TheVariants.{Put}
 use Rattle.rio_machine.specs.declared.command.Outcome.{Outcome}
-use Rattle.rio_machine.specs.declared.command.Outcome.TheVariants.{Accepted}
+use Rattle.rio_machine.specs.declared.command.Outcome.TheVariants.{Accepted, Refused}
 use Rattle.rio_state.specs.Closing.{held_of, kept_in}
 use Rattle.rio_state.specs.DirectoryKeys.{AreKeysOf}
 use Rattle.rio_state.specs.KeyedRecords.{info_key, keyed_records}
 use Rattle.rio_state.specs.Left.{info_head}
 use Rattle.rio_state.specs.Reads.{AreRecordsOf}
+use Rattle.rio_effect.specs.ObjectRecord.{key_of_put, record_of_put}
 use Rattle.rio_step.specs.Costs.{cost_of}
+use Rattle.rio_step.specs.ItemKeys.{AreKeysOfState}
 use Rattle.rio_step.specs.ReplyText.{text_of}
 use Rattle.rio_step.specs.Runs.{saved_of}
-use Rattle.rio_step.specs.Step.{outcome_of}
+use Rattle.rio_step.specs.Step.{object_put, outcome_of}
+use Rattle.rio_session.specs.Behind.{FollowsStep, HasPut, IsOfKeys, PutsNothing}
 use Rattle.rio_session.specs.Causes.{StaysIfRefused}
 use Rattle.rio_session.specs.Does.{Does}
 use Rattle.rio_session.specs.Marks.{segments_behind}
-use Rattle.rio_session.specs.Puts.{IsPutOrNot, PutAndSaid, Puts, Putting, PutsInTime, with_put}
-use Rattle.rio_session.specs.Session.{HoldsState, IsReady, SessionState, StandsFor, Steps, Went, next_of}
+use Rattle.rio_session.specs.Puts.{IsPutOrNot, PutAndSaid, PutsRecord, Putting, PutsInTime, with_put}
+use Rattle.rio_session.specs.Session.{FollowsCommand, HoldsState, IsReady, LacksRoomIfFull, SessionState, StandsFor, Steps, Went, next_of, with_cost}
 use Rattle.rio_session.specs.declared.fault.SessionFault.{SessionFault}
 use Rattle.rio_session.specs.declared.fault.SessionFault.TheVariants.{HostFault, SayFault, NoMemory}
 use Rattle.rio_session.proofs.Opened.{open_image}
 use Rattle.rio_session.proofs.Replies.{read_steps, told_same}
+use Rattle.rio_session.proofs.Spoken.{front_none, front_part, front_whole, grows_none, grows_part, grows_whole, reads_stay}
+
+-- the put as the session does it, and as the law of puts has it
+pub record IsPutOf (m : State) (name : List ℕ) (v : Value) (place datime : ℕ) (p : Putting) : Type 0 where
+  pub place_is : p.place ≡ place
+  pub bytes : p.bytes ≡ record_of_put m place datime name v
+  pub head : p.head ≡ key_of_put m place datime name v
+  pub text_is : p.text ≡ text_of (object_put name (next_cycle m name))
+  pub cost_is : p.cost ≡ cost_of m (Put name v)
+
+-- the put is the step of its command for a state of the kept keys
+pub record IsPutStep (p : Putting) (s : SessionState) (m : State) (name : List ℕ) (v : Value) : Type 0 where
+  pub put : IsPutOf m name v p.place s.datime p
+  pub at : p.place ≡ place_of s.segments (length p.bytes)
+  pub accepted : outcome_of (next_of s m (Put name v)).reply ≡ Accepted
+  pub segments : segments_behind s.name s.segments m (Put name v) ≡ with_segment p.place (length p.bytes) s.segments
+  pub cost_is : p.cost ≡ cost_of m (Put name v)
+  pub classes : (next_of s m (Put name v)).state.classes ≡ m.classes
+  pub keys : AreKeysOfState (with_head p.head s.heads) (next_of s m (Put name v)).state
 
 -- the put is the command's step, on a file of these links
 pub record IsPutting (p : Putting) (s : SessionState) (m : State) (c : Command) (links : List Link) : Type 0 where
@@ -96,20 +121,56 @@ module _ (p : Putting) (old new : View) (before after : SessionState) (lawful : 
         state = subst (λ (a : SessionState). HoldsState a (next_of before m c).state f.0) (sym is.kept) (put_state p before m c s.file f.0 s.state putting chain f.3);
       }
 
+  put_follows : (m : State) (c : Command) → PutAndSaid p old new before after → segments_behind before.name before.segments m c ≡ with_segment p.place (length p.bytes) before.segments → p.cost ≡ cost_of m c
+      → FollowsCommand before after m c
+  put_follows m c is segments costs = record {
+    segments = ap (λ (a : SessionState). a.segments) is.kept ∙ sym segments;
+    name = ap (λ (a : SessionState). a.name) is.kept;
+    datime = ap (λ (a : SessionState). a.datime) is.kept;
+    opened = ap (λ (a : SessionState). a.opened) is.kept;
+    costs = ap (λ (a : SessionState). a.costs) is.kept ∙ ap (λ (n : ℕ). min (before.costs + n) (2 ^ 64 - 1)) costs;
+  }
+
   put_went : (m : State) (c : Command) (said : List ℕ) (s : StandsFor old before m said) → PutAndSaid p old new before after → IsPutting p before m c s.state.links → Went old new before after m c said Accepted
   put_went m c said s is putting = record {
     time = put_steps m c said s is.time putting;
     stands = put_stands m c said s is putting;
-    follows = record {
-      segments = ap (λ (a : SessionState). a.segments) is.kept ∙ sym putting.segments;
-      name = ap (λ (a : SessionState). a.name) is.kept;
-      datime = ap (λ (a : SessionState). a.datime) is.kept;
-      opened = ap (λ (a : SessionState). a.opened) is.kept;
-      costs = ap (λ (a : SessionState). a.costs) is.kept ∙ ap (λ (n : ℕ). min (before.costs + n) (2 ^ 64 - 1)) putting.cost_is;
-    };
+    follows = put_follows m c is putting.segments putting.cost_is;
     outcome_is = sym putting.accepted;
     full = tt;
   }
+
+  put_goes : (m : State) (name : List ℕ) (v : Value) (outcome : Outcome) → PutAndSaid p old new before after → IsOfKeys before m → IsPutStep p before m name v → outcome ≡ Accepted
+      → FollowsStep before after m (Put name v) outcome
+  put_goes m name v outcome is keys step same = record {
+    outcome_is = same ∙ sym step.accepted;
+    follows = put_follows m (Put name v) is step.segments step.cost_is;
+    behind = subst (λ (a : SessionState). IsOfKeys a (next_of before m (Put name v)).state) (sym is.kept) (record { classes = step.classes ∙ keys.classes; keys = step.keys });
+  }
+
+  put_has : (m : State) (name : List ℕ) (v : Value) → PutAndSaid p old new before after → IsPutStep p before m name v → HasPut old new before after m name v
+  put_has m name v is step = record {
+    place = p.place;
+    place_is = step.at ∙ ap (λ (b : List ℕ). place_of before.segments (length b)) step.put.bytes;
+    heads = ap (λ (a : SessionState). a.heads) is.kept ∙ ap (λ (h : KeyHead). with_head h before.heads) step.put.head;
+    file = λ file links holds chain.
+        let f = is.holds file links holds chain in
+        (f.0, f.1, subst (λ (b : List ℕ). HasChain (with_record p.place b links) after.segments f.0) step.put.bytes f.2, f.3);
+  }
+
+  put_had : (m : State) (name own : List ℕ) (v w : Value) → PutAndSaid p old new before after → IsPutStep p before m name v → ◌≡◌ {A = Command} (Put name v) (Put own w) → HasPut old new before after m own w
+  put_had m name own v w is step same =
+      let names : name ≡ own = cc in
+      let values : v ≡ w = cc in
+      subst (λ (x : List ℕ × Value). HasPut old new before after m x.0 x.1) (λ i. (names i, values i)) (put_has m name v is step)
+
+  never_nothing : (m : State) (name : List ℕ) (v : Value) → IsPutStep p before m name v → PutsNothing before m (Put name v) → ⊥
+  never_nothing m name v step nothing = let same : Accepted ≡ Refused nothing.0 = sym step.accepted ∙ nothing.1 in absurd cc
+
+  -- an accepted put isn't want of room
+  accepted_lacks : (m : State) (name : List ℕ) (v : Value) → outcome_of (next_of before m (Put name v)).reply ≡ Accepted
+      → LacksRoomIfFull (with_cost (cost_of m (Put name v)) before) (outcome_of (next_of before m (Put name v)).reply)
+  accepted_lacks m name v is = subst (λ (o : Outcome). LacksRoomIfFull (with_cost (cost_of m (Put name v)) before) o) (sym is) tt
 
   put_ready : PutAndSaid p old new before after → IsReady new after
   put_ready is = record {
@@ -122,10 +183,11 @@ module _ (p : Putting) (old new : View) (before after : SessionState) (lawful : 
   }
 
   -- what a put answers, in all clauses
-  pub does_put : (c : Command) (answer : Result Outcome SessionFault) → before.failed ≡ false → IsLawful new → Puts p old new before after answer
-      → ((m : State) (said : List ℕ) (s : StandsFor old before m said) → IsPutting p before m c s.state.links) → IfOk answer (λ outcome. outcome ≡ Accepted) → Does old new before after c answer
-  does_put c (Ok outcome) fresh lawful' is putting same = record {
-    done = λ m said s. subst (λ (o : Outcome). Went old new before after m c said o) (sym same) (put_went m c said s is (putting m said s));
+  pub does_put : (name : List ℕ) (v : Value) (answer : Result Outcome SessionFault) → before.failed ≡ false → IsLawful new → PutsRecord p old new before after answer
+      → ((m : State) → IsOfKeys before m → IsPutStep p before m name v)
+      → ((m : State) (said : List ℕ) (s : StandsFor old before m said) → IsPutting p before m (Put name v) s.state.links) → IfOk answer (λ outcome. outcome ≡ Accepted) → Does old new before after (Put name v) answer
+  does_put name v (Ok outcome) fresh lawful' is step putting same = record {
+    done = λ m said s. subst (λ (o : Outcome). Went old new before after m (Put name v) said o) (sym same) (put_went m (Put name v) said s is (putting m said s));
     any_moment = tt;
     ready = put_ready is;
     refused = subst (λ (o : Outcome). StaysIfRefused old new o) (sym same) tt;
@@ -133,34 +195,62 @@ module _ (p : Putting) (old new : View) (before after : SessionState) (lawful : 
     failed = ap (λ (a : SessionState). a.failed) is.kept ∙ fresh;
     told = is.told;
     cause = is.faults;
+    goes = λ m keys. put_goes m name v outcome is keys (step m keys) same;
+    puts = λ m own w keys put accepted. put_had m name own v w is (step m keys) put;
+    unwritten = λ m keys none. absurd (never_nothing m name v (step m keys) none);
+    said = grows_whole p.text old.said new.said is.says;
+    silent = λ none. absurd none;
+    part = λ m said s. front_whole old new said p.text (text_of (next_of before m (Put name v)).reply) s.said (putting m said s).text_is is.says;
+    lacks = λ spoken m said s. accepted_lacks m name v (putting m said s).accepted;
   }
-  does_put c (Err HostFault) fresh lawful' is putting same = record {
+  does_put name v (Err HostFault) fresh lawful' is step putting same = record {
     done = tt;
-    any_moment = λ m said s. put_steps m c said s is.time (putting m said s);
+    any_moment = λ m said s. put_steps m (Put name v) said s is.time (putting m said s);
     ready = tt;
     refused = tt;
     no_memory = λ e. absurd cc;
     failed = is.failed;
     told = is.told;
     cause = is.faults;
+    goes = tt;
+    puts = tt;
+    unwritten = λ m keys none. absurd (never_nothing m name v (step m keys) none);
+    said = grows_none old.said new.said is.said;
+    silent = λ none. is.said;
+    part = λ m said s. front_none old new said (text_of (next_of before m (Put name v)).reply) s.said is.said;
+    lacks = λ spoken. absurd spoken;
   }
-  does_put c (Err SayFault) fresh lawful' is putting same = record {
+  does_put name v (Err SayFault) fresh lawful' is step putting same = record {
     done = tt;
-    any_moment = λ m said s. put_steps m c said s is.time (putting m said s);
+    any_moment = λ m said s. put_steps m (Put name v) said s is.time (putting m said s);
     ready = tt;
     refused = tt;
     no_memory = λ e. absurd cc;
     failed = is.failed;
     told = is.told;
     cause = is.faults;
+    goes = tt;
+    puts = tt;
+    unwritten = λ m keys none. absurd (never_nothing m name v (step m keys) none);
+    said = grows_part p.text old.said new.said is.says;
+    silent = λ none. absurd none;
+    part = λ m said s. front_part old new said p.text (text_of (next_of before m (Put name v)).reply) s.said (putting m said s).text_is is.says;
+    lacks = λ spoken m said s. accepted_lacks m name v (putting m said s).accepted;
   }
-  does_put c (Err NoMemory) fresh lawful' is putting same = record {
+  does_put name v (Err NoMemory) fresh lawful' is step putting same = record {
     done = tt;
-    any_moment = λ m said s. read_steps old new before after p.text p.cost lawful lawful' ready m c said is.calls s;
+    any_moment = λ m said s. read_steps old new before after p.text p.cost lawful lawful' ready m (Put name v) said is.calls s;
     ready = tt;
     refused = tt;
     no_memory = λ e. (is.kept, is.calls);
     failed = ap (λ (a : SessionState). a.failed) is.kept ∙ fresh;
     told = told_same old.holds new.holds is.calls.holds;
     cause = is.faults;
+    goes = tt;
+    puts = tt;
+    unwritten = λ m keys none. reads_stay old new is.calls;
+    said = grows_none old.said new.said is.calls.said;
+    silent = λ none. is.calls.said;
+    part = λ m said s. front_none old new said (text_of (next_of before m (Put name v)).reply) s.said is.calls.said;
+    lacks = λ spoken. absurd spoken;
   }

@@ -23,8 +23,8 @@ use Rattle.rio_judge.specs.declared.work.Judged.TheVariants.{Accepted as Judgeme
 use Rattle.rio_judge.specs.declared.work.Work.TheVariants.{Put as Storing}
 use Rattle.rio_session.specs.Does.{Does}
 use Rattle.rio_session.specs.Kept.{IsSoundState, is_sized, kept_with}
-use Rattle.rio_session.specs.Puts.{CanBePut, IsStored, IsStoredRecord, Puts, putting}
-use Rattle.rio_session.specs.Says.{Says}
+use Rattle.rio_session.specs.Puts.{CanBePut, IsStored, IsStoredRecord, PutsRecord, putting}
+use Rattle.rio_session.specs.Says.{SaysReply}
 use Rattle.rio_session.specs.Session.{IsReady, SessionState}
 use Rattle.rio_session.specs.declared.fault.SessionFault.{SessionFault}
 use Rattle.rio_session.proofs.CommandDoes.{full_does, put_does}
@@ -66,17 +66,17 @@ module _ (s : SessionState) (name : List ℕ) (v stored : Value) (own : List ℕ
       judged_put = subst (λ (x : Command). IsJudgementOfStates s.classes s.heads x (Judgement (Storing stored own number size))) is judged
 
       pub put_is_done : (place : ℕ) (made : NewRecord) (text : List ℕ) → place < 2 ^ 32 → IsStoredRecord s place name stored own number size made → text ≡ text_of (object_put name number)
-          → place ≡ place_of s.segments n → is_full s.segments (n ∷ []) need ≡ false → Puts (putting made text cost) old new s s' answer → IfOk answer (λ outcome. outcome ≡ Accepted) → Does old new s s' c answer
+          → place ≡ place_of s.segments n → is_full s.segments (n ∷ []) need ≡ false → PutsRecord (putting made text cost) old new s s' answer → IfOk answer (λ outcome. outcome ≡ Accepted) → Does old new s s' c answer
       put_is_done place made text low r text_is at room puts outcome =
           subst (λ (x : Command). Does old new s s' x answer) (sym is)
-          (put_does old new s s' law law' ready fresh answer name v stored own number size n need cost sound.none sound.listless (sound.kept fresh).sized named soon judged_put n_is need_is cost_is
+          (put_does old new s s' law law' ready fresh answer name v stored own number size n need cost sound.none sound.listless (sound.kept fresh) named soon judged_put stores.new n_is need_is cost_is
           place made text low r text_is at room puts outcome)
 
-      pub full_is_said : (end wanted : ℕ) → end ≡ file_end s.segments → wanted ≡ n → is_full s.segments (n ∷ []) need ≡ true → Says (text_of (refused (Full end wanted))) cost old new s s' answer
+      pub full_is_said : (end wanted : ℕ) → end ≡ file_end s.segments → wanted ≡ n → is_full s.segments (n ∷ []) need ≡ true → SaysReply (text_of (refused (Full end wanted))) cost old new s s' answer
           → IfOk answer (λ outcome. outcome ≡ Refused (Full end wanted)) → Does old new s s' c answer
       full_is_said end wanted end_is wanted_is room says outcome =
           subst (λ (x : Command). Does old new s s' x answer) (sym is)
-          (full_does old new s s' law law' ready fresh answer name v stored own number size n need cost sound.none sound.listless (sound.kept fresh).sized named soon judged_put n_is need_is cost_is
+          (full_does old new s s' law law' ready fresh answer name v stored own number size n need cost sound.none sound.listless (sound.kept fresh) named soon judged_put stores.new n_is need_is cost_is
           key_short room
-          (subst (λ (x : ℕ × ℕ). Says (text_of (refused (Full x.0 x.1))) cost old new s s' answer) (λ i. (end_is i, wanted_is i)) says)
+          (subst (λ (x : ℕ × ℕ). SaysReply (text_of (refused (Full x.0 x.1))) cost old new s s' answer) (λ i. (end_is i, wanted_is i)) says)
           (subst (λ (x : ℕ × ℕ). IfOk answer (λ outcome. outcome ≡ Refused (Full x.0 x.1))) (λ i. (end_is i, wanted_is i)) outcome))

@@ -29,7 +29,7 @@ use Rattle.rio_judge.specs.Judging.{IsStep}
 use Rattle.rio_session.specs.Kept.{is_fit_key, is_sized, kept_with}
 use Rattle.rio_session.specs.Puts.{CanBePut, IsStoredRecord, putting}
 use Rattle.rio_session.specs.Session.{SessionState}
-use Rattle.rio_session.proofs.PutSteps.{IsPutOf}
+use Rattle.rio_session.proofs.PutAnswers.{IsPutOf}
 use Rattle.rio_session.proofs.Refused.{cost_accepted}
 
 -- a text isn't longer than its bytes

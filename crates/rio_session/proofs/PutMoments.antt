@@ -1,7 +1,7 @@
 -- A record is put, and then its text is said: what a stop leaves meanwhile.
 use Rattle.std.proofs.Common.{◌≡◌, inl, inr, ⊎_elim, ℕ, ◌+◌, ◌-◌, ◌^◌, min, List, ◌++◌, length, take, Option, Some, Err, sym, ap, subst, ◌∙◌}
 use Rattle.std.proofs.lemmas.List.{append-nil}
-use Rattle.rio_host.specs.Host.{Becomes, Elapses, IsLawful, IsQuiet, Longer, Rose, Speaking, View}
+use Rattle.rio_host.specs.Host.{Becomes, Elapses, IsLawful, IsQuiet, Longer, LongerByPart, Rose, Speaking, View}
 use Rattle.rio_host.proofs.Moments.{elapses_as, elapses_join, says_quiet}
 use Rattle.rio_key.specs.declared.head.KeyHead.{KeyHead}
 use Rattle.rio_dir.specs.Table.{with_head}
@@ -13,7 +13,7 @@ use Rattle.rio_chain.specs.Stops.{Any, IsEither, KeepsFront}
 use Rattle.rio_chain.specs.declared.segment.Segment.{Segment}
 use Rattle.rio_session.specs.Causes.{NoCountRose}
 use Rattle.rio_session.specs.Puts.{IsPutOrNot, PutAndSaid, PutNotSaid, Putting, PutsInTime}
-use Rattle.rio_session.specs.Says.{NotSaid, Said, Says}
+use Rattle.rio_session.specs.Says.{NotSaid, Said, SaysReply}
 use Rattle.rio_session.specs.Session.{SessionState}
 use Rattle.rio_session.specs.declared.fault.SessionFault.{SessionFault}
 use Rattle.rio_session.specs.declared.fault.SessionFault.TheVariants.{SayFault}
@@ -77,13 +77,14 @@ module _ (p : Putting) (old mid : View) (before : SessionState)
     put_not_said new after is told faults = record {
       time = said_in_time new is.time;
       told = subst (λ (o : Option (List ℕ)). Becomes Any old.holds o) (sym is.holds) told;
+      says = subst (λ (o : Option (List ℕ)). Becomes (LongerByPart p.text) o new.said) same is.says;
       faults = (is.faults.0 ∙ faults.0, subst (λ (n : ℕ). Rose n new.say_faults) faults.1 is.faults.1);
       failed = is.failed;
     }
 
 -- what is not said
-pub says_fault : (X : Type 0) (text : List ℕ) (cost : ℕ) (old new : View) (before after : SessionState) (fault : SessionFault) → fault ≡ SayFault → Says {X = X} text cost old new before after (Err fault) → NotSaid text old new after
-says_fault X text cost old new before after fault is says = subst (λ (e : SessionFault). Says {X = X} text cost old new before after (Err e)) is says
+pub says_fault : (X : Type 0) (text : List ℕ) (cost : ℕ) (old new : View) (before after : SessionState) (fault : SessionFault) → fault ≡ SayFault → SaysReply {X = X} text cost old new before after (Err fault) → NotSaid text old new after
+says_fault X text cost old new before after fault is says = subst (λ (e : SessionFault). SaysReply {X = X} text cost old new before after (Err e)) is says
 
 -- what a session keeps with one record more
 pub stored_is : (before v : SessionState) (segments : List Segment) (heads : List KeyHead) (place n : ℕ) (h : KeyHead) → v ≡ before → segments ≡ with_segment place n v.segments → heads ≡ with_head h v.heads

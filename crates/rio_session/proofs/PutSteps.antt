@@ -2,7 +2,7 @@
 use Rattle.std.proofs.Common.{◌≡◌, inl, inr, ℕ, ◌+◌, ◌-◌, ◌*◌, ◌^◌, ◌<◌, ◌≤◌, List, [], ◌∷◌, length, map, min, sum, add-zero, Option, Some, None, Bool, true, false, refl, sym, ap, subst, ◌∙◌, arith}
 use Rattle.std.specs.Prelude.{if◌then◌else◌, is_some, unwrap_or}
 use Rattle.std.specs.FinMap.{entries}
-use Rattle.std.specs.List.{fold, list_all, sum_by}
+use Rattle.std.specs.List.{find, fold, list_all, sum_by}
 use Rattle.std.specs.Option.{option_map_or}
 use Rattle.std.proofs.lemmas.Bool.{cases_lt, eq-eqb, eqb-true}
 use Rattle.std.proofs.lemmas.List.{length-map}
@@ -11,7 +11,7 @@ use Rattle.rio_num.specs.Word.{is_item_text}
 use Rattle.rio_key.specs.declared.head.KeyHead.{KeyHead}
 use Rattle.rio_key.specs.Written.{written_key}
 use Rattle.rio_value.specs.declared.value.Value.{Value}
-use Rattle.rio_dir.specs.Table.{with_head}
+use Rattle.rio_dir.specs.Table.{head_of, is_at_cycle, with_head}
 use Rattle.rio_chain.specs.Changes.{with_record}
 use Rattle.rio_chain.specs.Placing.{file_end, place_of, record_count, with_segment}
 use Rattle.rio_chain.specs.Segments.{Link, chain_end, segment_of}
@@ -38,19 +38,18 @@ use Rattle.rio_step.specs.ReplyText.{text_of}
 use Rattle.rio_step.specs.Runs.{saved_of}
 use Rattle.rio_step.specs.Step.{Stepped, listed_object, object_put, outcome_of, refused, state_behind}
 use Rattle.rio_state.specs.OneMore.{keyed_bytes}
-use Rattle.rio_effect.specs.Laws.{IsKeptOfState, IsPutRecord, kept_by_keys}
+use Rattle.rio_effect.specs.Laws.{IsPutRecord, kept_by_keys}
 use Rattle.rio_effect.specs.More.{KeepsOneMore}
 use Rattle.rio_effect.specs.ObjectRecord.{data_of_put, key_of_put, object_key, record_of_put, words_of_put}
-use Rattle.rio_effect.proofs.KeysOfState.{keys_stand_for_state}
 use Rattle.rio_effect.proofs.Held.{held_grows}
 use Rattle.rio_state.proofs.MoreRecords.{record_more}
 use Rattle.rio_effect.proofs.Needs.{need_grows}
 use Rattle.rio_effect.proofs.NeedsByKeys.{need_by_keys as keys_need}
-use Rattle.rio_effect.proofs.PutEffect.{put_takes_effect, puts_have_records, saved_put_takes_effect}
+use Rattle.rio_effect.proofs.PutEffect.{puts_have_records, saved_put_takes_effect}
 use Rattle.rio_state.proofs.Stays.{info_stays}
 use Rattle.rio_effect.proofs.PutKeys.{put_key_follows}
-use Rattle.rio_effect.proofs.StateNeeds.{need_of_state}
 use Rattle.rio_judge.specs.Judging.{IsStep}
+use Rattle.rio_session.specs.Behind.{IsOfKeys}
 use Rattle.rio_session.specs.Kept.{is_sized, kept_with}
 use Rattle.rio_session.specs.Marks.{command_lengths, mark_of, segments_behind, state_need, with_placed}
 use Rattle.rio_session.specs.Puts.{Putting}
@@ -58,10 +57,11 @@ use Rattle.rio_session.specs.Session.{HoldsState, SessionState, next_of}
 use Rattle.rio_session.proofs.Keeps.{all_with, count_with, length_with, size_with}
 use Rattle.rio_session.proofs.Needs.{need_by_keys}
 use Rattle.rio_session.proofs.Places.{end_most, full_is, sum_one}
-use Rattle.rio_session.proofs.PutAnswers.{IsPutting}
+use Rattle.rio_session.proofs.KeysBehind.{keys_behind}
+use Rattle.rio_session.proofs.PutAnswers.{IsPutOf, IsPutStep, IsPutting}
 use Rattle.rio_session.proofs.Refused.{refused_full, step_accepted, step_refused}
-use Rattle.rio_session.proofs.Replies.{IsReply}
-use Rattle.rio_session.proofs.States.{Known, known}
+use Rattle.rio_session.proofs.Replies.{IsStill}
+use Rattle.rio_session.proofs.States.{Known, known, of_keys}
 use Rattle.rio_session.proofs.StoredRecords.{no_classes}
 
 sum_two : (f : ℕ → ℕ) (a b : ℕ) → sum_by f (a ∷ b ∷ []) ≡ f a + f b
@@ -71,7 +71,7 @@ sum_two f a b = sum_by-cons f a (b ∷ []) ∙ ap (λ (n : ℕ). f a + n) (sum_b
 lacking : (bound costs cost held : ℕ) → (costs < 2 ^ 64 - 1 → held ≤ bound + costs + 10000) → end_limit < held + cost + 100000 → room_limit < bound + min (costs + cost) (2 ^ 64 - 1)
 lacking bound costs cost held was much = elim (cases_lt costs (2 ^ 64 - 1)) [ inl low ↦ omega (arith, was low, much, low) | inr high ↦ omega (arith, high) ]
 
--- ---- how many records there are
+-- ---- the class list
 
 abbrev info_count : Option KeyedRecord → ℕ
 info_count info = option_map_or (λ (r : KeyedRecord). 1) info 0
@@ -80,51 +80,16 @@ no_info : (info : Option KeyedRecord) → is_some (info_head info) ≡ false →
 no_info None e = refl
 no_info (Some r) e = absurd cc
 
-module _ (s : SessionState) (m : State) (file : List ℕ) (h : HoldsState s m file) (none : length s.classes ≡ 0) (listless : is_some s.info ≡ false) where
-  abbrev pub k : Known h.links s.heads m
-  k = known h.links s.heads m h.records h.keys
-
-  pub empty_classes : length m.classes ≡ 0
-  empty_classes = ap length (sym h.classes) ∙ none
-
-  -- the first record, and one for each key
-  pub count_is : record_count s.segments ≡ 1 + length s.heads
-  count_is =
-      let kept : IsKeptOfState (kept_in h.links) (info_key (keyed_records h.links)) m = need_of_state file h.links s.heads m h.chain.chain h.keys k.records in
-      let objects : length (entries m.objects) ≡ length s.heads = sym (length-map (entries m.objects) listed_object) ∙ ap length (sym k.stand.objects) ∙ length-map s.heads told_by_key in
-      let info : info_count (info_key (keyed_records h.links)) ≡ 0 = no_info (info_key (keyed_records h.links)) (ap is_some (sym h.info) ∙ listless) in
-      sym h.count ∙ kept.count ∙ omega (arith, objects, info)
-
 -- ---- the put
 
--- the put as the session does it, and as the law of puts has it
-pub record IsPutOf (m : State) (name : List ℕ) (v : Value) (place datime : ℕ) (p : Putting) : Type 0 where
-  pub place_is : p.place ≡ place
-  pub bytes : p.bytes ≡ record_of_put m place datime name v
-  pub head : p.head ≡ key_of_put m place datime name v
-  pub text_is : p.text ≡ text_of (object_put name (next_cycle m name))
-  pub cost_is : p.cost ≡ cost_of m (Put name v)
-
-module _ (s : SessionState) (m : State) (file : List ℕ) (h : HoldsState s m file) (none : length s.classes ≡ 0) (listless : is_some s.info ≡ false) (sized : list_all is_sized s.heads ≡ true)
+module _ (s : SessionState) (m : State) (keys : IsOfKeys s m) (none : length s.classes ≡ 0) (count : record_count s.segments ≡ 1 + length s.heads) (sized : list_all is_sized s.heads ≡ true)
     (name : List ℕ) (v stored : Value) (own : List ℕ) (number size place : ℕ) (low : place < 2 ^ 32) (soon : s.datime < 2 ^ 32) (named : is_item_text name ≡ true)
-    (free : refusal_of m (Put name v) None ≡ None) (step : IsStep m name v stored own number size) where
-  abbrev c : Command
-  c = Put name v
-
+    (free : refusal_of m (Put name v) None ≡ None) (step : IsStep m name v stored own number size) (new : head_of name (Some number) s.heads ≡ None) where
   abbrev n : ℕ
   n = padded_length (head_length own name + size)
 
   abbrev key : KeyHead
   key = key_of_put m place s.datime name v
-
-  abbrev after : List Link
-  after = with_record place (record_of_put m place s.datime name v) h.links
-
-  abbrev kn : Known h.links s.heads m
-  kn = known h.links s.heads m h.records h.keys
-
-  classes : StateClasses m.classes
-  classes = no_classes m.classes (empty_classes s m file h none listless)
 
   own_is : unwrap_or (object_class (put_value m v)) [] ≡ own
   own_is = ap (λ (w : Value). unwrap_or (object_class w) []) (sym step.value) ∙ ap (λ (o : Option (List ℕ)). unwrap_or o []) step.class
@@ -145,23 +110,25 @@ module _ (s : SessionState) (m : State) (file : List ℕ) (h : HoldsState s m fi
   unfolding object_key
   key_name = refl
 
-  records_after : AreRecordsOf (keyed_records after) (state_behind m (Put name v))
-  records_after = put_takes_effect h.links m place s.datime name v None low soon kn.records named free
+  key_told : told_by_key key ≡ listed_object ((name, next_cycle m name), put_value m v)
+  unfolding object_key
+  key_told = refl
 
-  keys_after : AreKeysOf (keyed_records after) (with_head key s.heads)
-  keys_after = put_key_follows h.links m s.heads place s.datime name v None low soon kn.records named free h.keys
+  key_new : find (is_at_cycle key.name key.cycle) s.heads ≡ None
+  unfolding object_key
+  key_new = ap (λ (k : ℕ). find (is_at_cycle name k) s.heads) (sym step.cycle) ∙ new
 
-  stand_after : AreKeysOfState (with_head key s.heads) (state_behind m (Put name v))
-  stand_after = keys_stand_for_state (keyed_records after) (with_head key s.heads) (state_behind m (Put name v)) keys_after records_after
+  pub stand_after : AreKeysOfState (with_head key s.heads) (state_behind m (Put name v))
+  stand_after = keys_behind s.heads m name v key keys.keys key_told key_new
 
   abbrev need : ℕ
   need = close_need (kept_with s.name (with_head key s.heads) (record_count s.segments + 1))
 
   need_is : state_need s.name (state_behind m (Put name v)) ≡ need
   need_is =
-      let count : 1 + length (with_head key s.heads) ≡ record_count s.segments + 1 = omega (arith, length_with key s.heads, count_is s m file h none listless) in
-      need_by_keys s.name (with_head key s.heads) (state_behind m (Put name v)) stand_after (all_with is_sized key s.heads key_sized sized) (empty_classes s m file h none listless)
-      ∙ ap (λ (k : ℕ). close_need (kept_with s.name (with_head key s.heads) k)) count
+      let more : 1 + length (with_head key s.heads) ≡ record_count s.segments + 1 = omega (arith, length_with key s.heads, count) in
+      need_by_keys s.name (with_head key s.heads) (state_behind m (Put name v)) stand_after (all_with is_sized key s.heads key_sized sized) (ap length keys.classes ∙ none)
+      ∙ ap (λ (k : ℕ). close_need (kept_with s.name (with_head key s.heads) k)) more
 
   pub lengths_are : command_lengths m (Put name v) ≡ n ∷ []
   unfolding command_lengths
@@ -189,54 +156,26 @@ module _ (s : SessionState) (m : State) (file : List ℕ) (h : HoldsState s m fi
     unrefused : refusal_of m (Put name v) (mark_of s.name s.segments m (Put name v)) ≡ None
     unrefused = ap (refusal_of m (Put name v)) (mark_none room) ∙ free
 
-    next_is : next_of s m (Put name v) ≡ record { state = state_behind m (Put name v); reply = object_put name (next_cycle m name) }
+    pub next_is : next_of s m (Put name v) ≡ record { state = state_behind m (Put name v); reply = object_put name (next_cycle m name) }
     next_is = step_accepted m (Put name v) (mark_of s.name s.segments m (Put name v)) unrefused
 
-    pr : IsPutRecord m place s.datime name v
-    pr = puts_have_records m place s.datime name v None low soon classes named free
-
-    grows : KeepsOneMore (kept_in h.links) (kept_in after) key
-    grows = need_grows file h.links place (record_of_put m place s.datime name v) key h.chain.chain pr.read pr.key.top pr.key.object
-
-    put_long : length (record_of_put m place s.datime name v) ≡ n
-    put_long = ap length (sym is.bytes) ∙ long
-
-    segments_are : segments_behind s.name s.segments m (Put name v) ≡ with_segment p.place (length p.bytes) s.segments
+    pub segments_are : segments_behind s.name s.segments m (Put name v) ≡ with_segment p.place (length p.bytes) s.segments
     unfolding segments_behind
     segments_are =
         ap (λ (o : Option Refusal). if is_some o then s.segments else fold with_placed s.segments (command_lengths m (Put name v))) unrefused
         ∙ ap (fold with_placed s.segments) lengths_are
         ∙ ap (λ (x : ℕ × ℕ). with_segment x.0 x.1 s.segments) (λ i. ((sym at ∙ sym is.place_is) i, sym long i))
 
-    its : Putting
-    its = record p { place = place; bytes = record_of_put m place s.datime name v; head = key }
-
-    its_same : its ≡ p
-    unfolding its
-    its_same = λ i. record p { place = sym is.place_is i; bytes = sym is.bytes i; head = sym is.head i }
-
-    its_putting : IsPutting its s m (Put name v) h.links
-    unfolding its
-    its_putting = record {
-      text_is = is.text_is ∙ ap (λ (t : Stepped). text_of t.reply) (sym next_is);
+    pub put_is_kept : IsPutStep p s m name v
+    put_is_kept = record {
+      put = subst (λ (k : ℕ). IsPutOf m name v k s.datime p) (sym is.place_is) is;
+      at = is.place_is ∙ at ∙ ap (place_of s.segments) (sym long);
       accepted = ap (λ (t : Stepped). outcome_of t.reply) next_is;
-      segments = segments_are ∙ ap (λ (q : Putting). with_segment q.place (length q.bytes) s.segments) (sym its_same);
+      segments = segments_are;
       cost_is = is.cost_is;
-      records = subst (λ (k : State). AreRecordsOf (keyed_records after) (saved_of k)) (sym (ap (λ (t : Stepped). t.state) next_is)) (saved_put_takes_effect h.links m place s.datime name v None low soon h.records named free);
-      keys = keys_after;
-      info = info_stays (keyed_records h.links) (keyed_records after) (keyed_bytes key (record_of_put m place s.datime name v)) (record_more h.links place (record_of_put m place s.datime name v) key pr.read) pr.key.other;
-      name = grows.name;
-      count = grows.count;
-      more = count_with place (length (record_of_put m place s.datime name v)) s.segments;
       classes = ap (λ (t : Stepped). t.state.classes) next_is;
-      held = omega (arith, held_grows file h.links m place s.datime name v low soon h.chain.chain (inl placed) classes named free, is.cost_is);
+      keys = subst (λ (x : KeyHead × State). AreKeysOfState (with_head x.0 s.heads) x.1) (λ i. (sym is.head i, sym (ap (λ (t : Stepped). t.state) next_is) i)) stand_after;
     }
-      where
-        placed : place ≡ place_of (map segment_of h.links) (length (record_of_put m place s.datime name v))
-        placed = at ∙ ap (λ (x : List Segment × ℕ). place_of x.0 x.1) (λ i. (h.chain.same i, sym put_long i))
-
-    pub put_is_step : IsPutting p s m (Put name v) h.links
-    put_is_step = subst (λ (q : Putting). IsPutting q s m (Put name v) h.links) its_same its_putting
 
   -- ---- where there is none
 
@@ -251,23 +190,96 @@ module _ (s : SessionState) (m : State) (file : List ℕ) (h : HoldsState s m fi
     unfolding segments_behind
     same_segments = ap (λ (o : Option Refusal). if is_some o then s.segments else fold with_placed s.segments (command_lengths m (Put name v))) refused_is
 
-    pub full_reply : (cost : ℕ) → cost ≡ cost_of m (Put name v) → IsReply s m (Put name v) (text_of (refused (Full (file_end s.segments) n))) cost
-    full_reply cost costs = record {
+    pub full_still : (cost : ℕ) → cost ≡ cost_of m (Put name v) → IsStill s m (Put name v) cost
+    full_still cost costs = record {
       stays = ap (λ (t : Stepped). t.state) full_next;
-      text_is = ap (λ (t : Stepped). text_of t.reply) (sym full_next);
       segments = same_segments;
       cost_is = costs;
     }
 
+    pub full_told : text_of (refused (Full (file_end s.segments) n)) ≡ text_of (next_of s m (Put name v)).reply
+    full_told = ap (λ (t : Stepped). text_of t.reply) (sym full_next)
+
     pub full_outcome : outcome_of (next_of s m (Put name v)).reply ≡ Refused (Full (file_end s.segments) n)
     full_outcome = ap (λ (t : Stepped). outcome_of t.reply) full_next
 
+-- ---- on a file
+
+module _ (s : SessionState) (m : State) (file : List ℕ) (h : HoldsState s m file) (none : length s.classes ≡ 0) (count : record_count s.segments ≡ 1 + length s.heads) (sized : list_all is_sized s.heads ≡ true)
+    (name : List ℕ) (v stored : Value) (own : List ℕ) (number size place : ℕ) (low : place < 2 ^ 32) (soon : s.datime < 2 ^ 32) (named : is_item_text name ≡ true)
+    (free : refusal_of m (Put name v) None ≡ None) (step : IsStep m name v stored own number size) (new : head_of name (Some number) s.heads ≡ None) where
+  abbrev its_key : KeyHead
+  its_key = key_of_put m place s.datime name v
+
+  abbrev size_of : ℕ
+  size_of = padded_length (head_length own name + size)
+
+  abbrev its_need : ℕ
+  its_need = close_need (kept_with s.name (with_head its_key s.heads) (record_count s.segments + 1))
+
+  abbrev after : List Link
+  after = with_record place (record_of_put m place s.datime name v) h.links
+
+  abbrev of : IsOfKeys s m
+  of = of_keys s m file h
+
+  abbrev kn : Known h.links s.heads m
+  kn = known h.links s.heads m h.records h.keys
+
+  classes : StateClasses m.classes
+  classes = no_classes m.classes (ap length (sym h.classes) ∙ none)
+
+  module _ (p : Putting) (is : IsPutOf m name v place s.datime p) (room : is_full s.segments (size_of ∷ []) its_need ≡ false) (at : place ≡ place_of s.segments size_of) (long : length p.bytes ≡ size_of) where
+    abbrev goes : next_of s m (Put name v) ≡ record { state = state_behind m (Put name v); reply = object_put name (next_cycle m name) }
+    goes = next_is s m of none count sized name v stored own number size place low soon named free step new p is room at long
+
+    pr : IsPutRecord m place s.datime name v
+    pr = puts_have_records m place s.datime name v None low soon classes named free
+
+    grows : KeepsOneMore (kept_in h.links) (kept_in after) its_key
+    grows = need_grows file h.links place (record_of_put m place s.datime name v) its_key h.chain.chain pr.read pr.key.top pr.key.object
+
+    put_long : length (record_of_put m place s.datime name v) ≡ size_of
+    put_long = ap length (sym is.bytes) ∙ long
+
+    its : Putting
+    its = record p { place = place; bytes = record_of_put m place s.datime name v; head = its_key }
+
+    its_same : its ≡ p
+    unfolding its
+    its_same = λ i. record p { place = sym is.place_is i; bytes = sym is.bytes i; head = sym is.head i }
+
+    its_putting : IsPutting its s m (Put name v) h.links
+    unfolding its
+    its_putting = record {
+      text_is = is.text_is ∙ ap (λ (t : Stepped). text_of t.reply) (sym goes);
+      accepted = ap (λ (t : Stepped). outcome_of t.reply) goes;
+      segments = segments_are s m of none count sized name v stored own number size place low soon named free step new p is room at long ∙ ap (λ (q : Putting). with_segment q.place (length q.bytes) s.segments) (sym its_same);
+      cost_is = is.cost_is;
+      records = subst (λ (k : State). AreRecordsOf (keyed_records after) (saved_of k)) (sym (ap (λ (t : Stepped). t.state) goes)) (saved_put_takes_effect h.links m place s.datime name v None low soon h.records named free);
+      keys = put_key_follows h.links m s.heads place s.datime name v None low soon kn.records named free h.keys;
+      info = info_stays (keyed_records h.links) (keyed_records after) (keyed_bytes its_key (record_of_put m place s.datime name v)) (record_more h.links place (record_of_put m place s.datime name v) its_key pr.read) pr.key.other;
+      name = grows.name;
+      count = grows.count;
+      more = count_with place (length (record_of_put m place s.datime name v)) s.segments;
+      classes = ap (λ (t : Stepped). t.state.classes) goes;
+      held = omega (arith, held_grows file h.links m place s.datime name v low soon h.chain.chain (inl placed) classes named free, is.cost_is);
+    }
+      where
+        placed : place ≡ place_of (map segment_of h.links) (length (record_of_put m place s.datime name v))
+        placed = at ∙ ap (λ (x : List Segment × ℕ). place_of x.0 x.1) (λ i. (h.chain.same i, sym put_long i))
+
+    pub put_is_step : IsPutting p s m (Put name v) h.links
+    put_is_step = subst (λ (q : Putting). IsPutting q s m (Put name v) h.links) its_same its_putting
+
+  -- what is held where there is no room
+  module _ (listless : is_some s.info ≡ false) (full : is_full s.segments (size_of ∷ []) its_need ≡ true) where
     by_keys : kept_by_keys h.links s.heads ≡ kept_with s.name s.heads (record_count s.segments)
     unfolding kept_in
     by_keys =
         let info : info_count (info_key (keyed_records h.links)) ≡ 0 = no_info (info_key (keyed_records h.links)) (ap is_some (sym h.info) ∙ listless) in
-        let count : kept_count (info_key (keyed_records h.links)) s.heads ≡ record_count s.segments = omega (arith, info, count_is s m file h none listless) in
-        λ i. record { name = h.name i; heads = s.heads; count = count i }
+        let all : kept_count (info_key (keyed_records h.links)) s.heads ≡ record_count s.segments = omega (arith, info, count) in
+        λ i. record { name = h.name i; heads = s.heads; count = all i }
 
     closing_is : closing_lengths (kept_with s.name s.heads (record_count s.segments)) ≡ closing_lengths (kept_in h.links)
     closing_is = ap closing_lengths (sym by_keys) ∙ keys_need h.links s.heads m h.keys kn.records
@@ -288,12 +300,12 @@ module _ (s : SessionState) (m : State) (file : List ℕ) (h : HoldsState s m fi
         ∙ ap (λ (e : ℕ). e + sum_by (λ k. k + 3) (closing_lengths (kept_with s.name s.heads (record_count s.segments)))) end
         ∙ ap (λ (k : ℕ). file_end s.segments + k) (sum_two (λ k. k + 3) (list_length (kept_with s.name s.heads (record_count s.segments))) (free_length (kept_with s.name s.heads (record_count s.segments))))
 
-    need_most : need ≤ list_length (kept_with s.name s.heads (record_count s.segments)) + head_length own name + 3 + (free_length (kept_with s.name s.heads (record_count s.segments)) + 13)
+    need_most : its_need ≤ list_length (kept_with s.name s.heads (record_count s.segments)) + head_length own name + 3 + (free_length (kept_with s.name s.heads (record_count s.segments)) + 13)
     unfolding close_need
     need_most =
-        let long : length (written_key key) ≡ head_length own name = eqb-true (length (written_key key)) (head_length key.class key.name) key_sized ∙ ap (λ (x : List ℕ × List ℕ). head_length x.0 x.1) (λ i. (key_class i, key_name i)) in
-        omega (arith, sum_two padded_length (list_length (kept_with s.name (with_head key s.heads) (record_count s.segments + 1))) (free_length (kept_with s.name (with_head key s.heads) (record_count s.segments + 1))), size_with key s.heads, long)
+        let long : length (written_key its_key) ≡ head_length own name = eqb-true (length (written_key its_key)) (head_length its_key.class its_key.name) (key_sized s m of none count sized name v stored own number size place low soon named free step new) ∙ ap (λ (x : List ℕ × List ℕ). head_length x.0 x.1) (λ i. (key_class s m of none count sized name v stored own number size place low soon named free step new i, key_name s m of none count sized name v stored own number size place low soon named free step new i)) in
+        omega (arith, sum_two padded_length (list_length (kept_with s.name (with_head its_key s.heads) (record_count s.segments + 1))) (free_length (kept_with s.name (with_head its_key s.heads) (record_count s.segments + 1))), size_with its_key s.heads, long)
 
     pub full_lacks : (cost : ℕ) → cost ≡ 500 + size → head_length own name ≤ 229 → room_limit < 3 * s.opened + min (s.costs + cost) (2 ^ 64 - 1)
     full_lacks cost is short = lacking (3 * s.opened) s.costs cost (held_of h.links) h.held
-        (omega (arith, held_is, need_most, full_is s.segments n need full, end_most n s.segments, short, is))
+        (omega (arith, held_is, need_most, full_is s.segments size_of its_need full, end_most size_of s.segments, short, is))

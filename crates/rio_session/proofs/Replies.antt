@@ -1,30 +1,34 @@
 -- Commands that do no more than say a reply.
 use Rattle.std.proofs.Common.{◌≡◌, inl, inr, ⊎_elim, ℕ, ◌+◌, ◌*◌, ◌-◌, ◌^◌, ◌<◌, ◌≤◌, min, false, List, [], ◌++◌, take, Option, Some, None, Result, Ok, Err, IfOk, refl, sym, ap, subst, ◌∙◌, arith}
 use Rattle.std.proofs.lemmas.List.{append-nil}
-use Rattle.rio_host.specs.Host.{Becomes, Elapses, IsLawful, Leaves, Longer, Rose, Speaking, Unwritten, View}
+use Rattle.rio_host.specs.Host.{Becomes, Elapses, IsLawful, Leaves, Longer, LongerByPart, Rose, Speaking, Unwritten, View}
 use Rattle.rio_host.specs.OnlyReads.{OnlyReads}
 use Rattle.rio_host.proofs.Images.{becomes_some}
 use Rattle.rio_host.proofs.Moments.{elapses_as, elapses_join, leaves_back, says_quiet}
+use Rattle.rio_value.specs.declared.value.Value.{Value}
 use Rattle.rio_chain.specs.Chains.{HasChain}
 use Rattle.rio_chain.specs.Segments.{Link}
 use Rattle.rio_chain.specs.Stops.{Any}
 use Rattle.rio_machine.specs.State.{State}
 use Rattle.rio_machine.specs.declared.command.Command.{Command}
+use Rattle.rio_machine.specs.declared.command.Command.TheVariants.{Put}
 use Rattle.rio_machine.specs.declared.command.Outcome.{Outcome}
 use Rattle.rio_machine.specs.declared.command.Outcome.TheVariants.{Accepted, Refused}
 use Rattle.rio_state.specs.Closing.{held_of}
 use Rattle.rio_step.specs.Costs.{cost_of}
 use Rattle.rio_step.specs.ReplyText.{text_of}
 use Rattle.rio_step.specs.Step.{Stepped, outcome_of}
-use Rattle.rio_session.specs.Causes.{StaysIfRefused}
+use Rattle.rio_session.specs.Behind.{FollowsStep, IsOfKeys}
+use Rattle.rio_session.specs.Causes.{IsSaid, StaysIfRefused}
 use Rattle.rio_session.specs.Does.{Does}
-use Rattle.rio_session.specs.Gets.{IsSaid}
 use Rattle.rio_session.specs.Marks.{segments_behind}
-use Rattle.rio_session.specs.Says.{NotSaid, Said, Says}
-use Rattle.rio_session.specs.Session.{HoldsState, IsOpenAs, IsReady, LacksRoomIfFull, SessionState, StandsFor, Steps, Went, next_of}
+use Rattle.rio_session.specs.Says.{NotSaid, Said, SaysReply}
+use Rattle.rio_session.specs.Session.{FollowsCommand, HoldsState, IsOpenAs, IsReady, LacksRoomIfFull, SessionState, StandsFor, Steps, Went, next_of, with_cost}
 use Rattle.rio_session.specs.declared.fault.SessionFault.{SessionFault}
 use Rattle.rio_session.specs.declared.fault.SessionFault.TheVariants.{HostFault, SayFault, NoMemory}
 use Rattle.rio_session.proofs.Opened.{reads_open}
+use Rattle.rio_session.proofs.Spoken.{front_none, front_part, front_whole, grows_none, grows_part, grows_whole, reads_stay, speaking_stays}
+use Rattle.rio_session.proofs.States.{of_keys}
 
 -- ---- what is told
 
@@ -38,12 +42,16 @@ told_same a b same = subst (λ (o : Option (List ℕ)). Becomes Any a o) (sym sa
 
 -- ---- what a command that only says a reply is about
 
--- the command leaves the state, this is its reply, and it has no records
-pub record IsReply (s : SessionState) (m : State) (c : Command) (text : List ℕ) (cost : ℕ) : Type 0 where
+-- the command leaves the state, and it has no records
+pub record IsStill (s : SessionState) (m : State) (c : Command) (cost : ℕ) : Type 0 where
   pub stays : (next_of s m c).state ≡ m
-  pub text_is : text ≡ text_of (next_of s m c).reply
   pub segments : segments_behind s.name s.segments m c ≡ s.segments
   pub cost_is : cost ≡ cost_of m c
+
+-- and this is its reply
+pub record IsReply (s : SessionState) (m : State) (c : Command) (text : List ℕ) (cost : ℕ) : Type 0 where
+  pub still : IsStill s m c cost
+  pub text_is : text ≡ text_of (next_of s m c).reply
 
 -- the bound of what is held stays with higher costs
 held_costs : (held bound costs cost : ℕ) → (costs < 2 ^ 64 - 1 → held ≤ bound + costs + 10000) → min (costs + cost) (2 ^ 64 - 1) < 2 ^ 64 - 1 → held ≤ bound + min (costs + cost) (2 ^ 64 - 1) + 10000
@@ -74,7 +82,7 @@ module _ (old new : View) (before after : SessionState) (text : List ℕ) (cost 
       open_now : (i t : List ℕ) → Leaves old i t → IsOpenAs (next_of before m c).state i
       open_now i t left =
           let is = ready.quiet i t s.file left s.holds in
-          subst (λ (n : State). IsOpenAs n i) (sym reply.stays) (subst (λ (f : List ℕ). IsOpenAs m f) (sym is) (reads_open s.file before.nbytes_name s.state.links m s.state.head s.state.chain.chain s.state.records))
+          subst (λ (n : State). IsOpenAs n i) (sym reply.still.stays) (subst (λ (f : List ℕ). IsOpenAs m f) (sym is) (reads_open s.file before.nbytes_name s.state.links m s.state.head s.state.chain.chain s.state.records))
 
       told : (i t u : List ℕ) → Leaves old i u → (k : ℕ) → t ≡ u ++ take k text → t ≡ said ++ take k (text_of (next_of before m c).reply)
       told i t u left k is =
@@ -96,21 +104,32 @@ module _ (old new : View) (before after : SessionState) (text : List ℕ) (cost 
         file = s.file;
         holds = is.holds ∙ s.holds;
         said = grown.1 ∙ ap (λ (l : List ℕ). let o : Option (List ℕ) = Some l in o) (grown.2 ∙ ap (λ (l : List ℕ). said ++ l) reply.text_is);
-        state = subst (λ (n : State). HoldsState after n s.file) (sym reply.stays) (subst (λ (a : SessionState). HoldsState a m s.file) (sym is.kept) (counted_state before cost m s.file s.state));
+        state = subst (λ (n : State). HoldsState after n s.file) (sym reply.still.stays) (subst (λ (a : SessionState). HoldsState a m s.file) (sym is.kept) (counted_state before cost m s.file s.state));
       }
+
+  said_follows : (m : State) (c : Command) → Said text cost old new before after → IsStill before m c cost → FollowsCommand before after m c
+  said_follows m c is still = record {
+    segments = ap (λ (a : SessionState). a.segments) is.kept ∙ sym still.segments;
+    name = ap (λ (a : SessionState). a.name) is.kept;
+    datime = ap (λ (a : SessionState). a.datime) is.kept;
+    opened = ap (λ (a : SessionState). a.opened) is.kept;
+    costs = ap (λ (a : SessionState). a.costs) is.kept ∙ ap (λ (n : ℕ). min (before.costs + n) (2 ^ 64 - 1)) still.cost_is;
+  }
+
+  said_goes : (m : State) (c : Command) (outcome : Outcome) → Said text cost old new before after → IsOfKeys before m → IsStill before m c cost → outcome ≡ outcome_of (next_of before m c).reply
+      → FollowsStep before after m c outcome
+  said_goes m c outcome is keys still same = record {
+    outcome_is = same;
+    follows = said_follows m c is still;
+    behind = subst (λ (n : State). IsOfKeys after n) (sym still.stays) (subst (λ (a : SessionState). IsOfKeys a m) (sym is.kept) (record { classes = keys.classes; keys = keys.keys }));
+  }
 
   pub said_went : (m : State) (c : Command) (said : List ℕ) (outcome : Outcome) → Said text cost old new before after → IsReply before m c text cost → outcome ≡ outcome_of (next_of before m c).reply
       → LacksRoomIfFull after outcome → StandsFor old before m said → Went old new before after m c said outcome
   said_went m c said outcome is reply same full s = record {
     time = speaks m c said is.time reply s;
     stands = said_stands m c said is reply s;
-    follows = record {
-      segments = ap (λ (a : SessionState). a.segments) is.kept ∙ sym reply.segments;
-      name = ap (λ (a : SessionState). a.name) is.kept;
-      datime = ap (λ (a : SessionState). a.datime) is.kept;
-      opened = ap (λ (a : SessionState). a.opened) is.kept;
-      costs = ap (λ (a : SessionState). a.costs) is.kept ∙ ap (λ (n : ℕ). min (before.costs + n) (2 ^ 64 - 1)) reply.cost_is;
-    };
+    follows = said_follows m c is reply.still;
     outcome_is = same;
     full = full;
   }
@@ -129,12 +148,33 @@ module _ (old new : View) (before after : SessionState) (text : List ℕ) (cost 
   said_stays (Refused refusal) is = (is.holds, said_unwritten is.time)
 
   -- what such a command answers, in all clauses
-  pub does_says : (c : Command) (answer : Result Outcome SessionFault) → before.failed ≡ false → Says text cost old new before after answer
-      → (IsSaid answer → (m : State) (said : List ℕ) → StandsFor old before m said → IsReply before m c text cost)
-      → IfOk answer (λ outcome. (m : State) (said : List ℕ) → StandsFor old before m said → (outcome ≡ outcome_of (next_of before m c).reply) × LacksRoomIfFull after outcome)
+  module _ (c : Command) (answer : Result Outcome SessionFault) (still : IsSaid answer → (m : State) → IsOfKeys before m → IsStill before m c cost)
+      (told : IsSaid answer → (m : State) (said : List ℕ) → StandsFor old before m said → text ≡ text_of (next_of before m c).reply) where
+    reply : IsSaid answer → (m : State) (said : List ℕ) → StandsFor old before m said → IsReply before m c text cost
+    reply spoken m said s = record { still = still spoken m (of_keys before m s.file s.state); text_is = told spoken m said s }
+
+    -- want of room
+    costs_so : IsSaid answer → (m : State) (said : List ℕ) → StandsFor old before m said → LacksRoomIfFull (with_cost cost before) (outcome_of (next_of before m c).reply)
+        → LacksRoomIfFull (with_cost (cost_of m c) before) (outcome_of (next_of before m c).reply)
+    costs_so spoken m said s full =
+        subst (λ (n : ℕ). LacksRoomIfFull (with_cost n before) (outcome_of (next_of before m c).reply)) (still spoken m (of_keys before m s.file s.state)).cost_is full
+
+    after_so : (outcome : Outcome) → Said text cost old new before after → (m : State) → outcome ≡ outcome_of (next_of before m c).reply
+        → LacksRoomIfFull (with_cost cost before) (outcome_of (next_of before m c).reply) → LacksRoomIfFull after outcome
+    after_so outcome is m same full =
+        subst (λ (a : SessionState). LacksRoomIfFull a outcome) (sym is.kept) (subst (λ (o : Outcome). LacksRoomIfFull (with_cost cost before) o) (sym same) full)
+
+  pub does_says : (c : Command) (answer : Result Outcome SessionFault) → before.failed ≡ false → SaysReply text cost old new before after answer
+      → (IsSaid answer → (m : State) → IsOfKeys before m → IsStill before m c cost)
+      → (IsSaid answer → (m : State) (said : List ℕ) → StandsFor old before m said → text ≡ text_of (next_of before m c).reply)
+      → IfOk answer (λ outcome. (m : State) → IsOfKeys before m → outcome ≡ outcome_of (next_of before m c).reply)
+      → (IsSaid answer → (m : State) (said : List ℕ) → StandsFor old before m said → LacksRoomIfFull (with_cost cost before) (outcome_of (next_of before m c).reply))
+      → IfOk answer (λ outcome. (name : List ℕ) (v : Value) → c ≡ Put name v → outcome ≡ Accepted → ⊥)
       → Does old new before after c answer
-  does_says c (Ok outcome) fresh is reply same = record {
-    done = λ m said s. said_went m c said outcome is (reply tt m said s) (same m said s).0 (same m said s).1 s;
+  does_says c (Ok outcome) fresh is still told same full other = record {
+    done = λ m said s.
+        said_went m c said outcome is (reply c (Ok outcome) still told tt m said s) (same m (of_keys before m s.file s.state))
+        (after_so c (Ok outcome) still told outcome is m (same m (of_keys before m s.file s.state)) (full tt m said s)) s;
     any_moment = tt;
     ready = said_ready is;
     refused = said_stays outcome is;
@@ -142,8 +182,15 @@ module _ (old new : View) (before after : SessionState) (text : List ℕ) (cost 
     failed = ap (λ (a : SessionState). a.failed) is.kept ∙ fresh;
     told = told_same old.holds new.holds is.holds;
     cause = is.faults;
+    goes = λ m keys. said_goes m c outcome is keys (still tt m keys) (same m keys);
+    puts = λ m name v keys put accepted. absurd (other name v put accepted);
+    unwritten = λ m keys none. speaking_stays text old new is.holds is.time;
+    said = grows_whole text old.said new.said is.says;
+    silent = λ none. absurd none;
+    part = λ m said s. front_whole old new said text (text_of (next_of before m c).reply) s.said (told tt m said s) is.says;
+    lacks = λ spoken m said s. costs_so c (Ok outcome) still told tt m said s (full tt m said s);
   }
-  does_says c (Err HostFault) fresh is reply same = record {
+  does_says c (Err HostFault) fresh is still told same full other = record {
     done = tt;
     any_moment = λ m said s. read_steps m c said is.calls s;
     ready = tt;
@@ -152,18 +199,32 @@ module _ (old new : View) (before after : SessionState) (text : List ℕ) (cost 
     failed = is.failed;
     told = told_same old.holds new.holds is.calls.holds;
     cause = is.faults;
+    goes = tt;
+    puts = tt;
+    unwritten = λ m keys none. reads_stay old new is.calls;
+    said = grows_none old.said new.said is.calls.said;
+    silent = λ none. is.calls.said;
+    part = λ m said s. front_none old new said (text_of (next_of before m c).reply) s.said is.calls.said;
+    lacks = λ spoken. absurd spoken;
   }
-  does_says c (Err SayFault) fresh is reply same = record {
+  does_says c (Err SayFault) fresh is still told same full other = record {
     done = tt;
-    any_moment = λ m said s. speaks m c said is.time (reply tt m said s) s;
+    any_moment = λ m said s. speaks m c said is.time (reply c (Err SayFault) still told tt m said s) s;
     ready = tt;
     refused = tt;
     no_memory = λ e. absurd cc;
     failed = is.failed;
     told = told_same old.holds new.holds is.holds;
     cause = is.faults;
+    goes = tt;
+    puts = tt;
+    unwritten = λ m keys none. speaking_stays text old new is.holds is.time;
+    said = grows_part text old.said new.said is.says;
+    silent = λ none. absurd none;
+    part = λ m said s. front_part old new said text (text_of (next_of before m c).reply) s.said (told tt m said s) is.says;
+    lacks = λ spoken m said s. costs_so c (Err SayFault) still told tt m said s (full tt m said s);
   }
-  does_says c (Err NoMemory) fresh is reply same = record {
+  does_says c (Err NoMemory) fresh is still told same full other = record {
     done = tt;
     any_moment = λ m said s. read_steps m c said is.calls s;
     ready = tt;
@@ -172,6 +233,13 @@ module _ (old new : View) (before after : SessionState) (text : List ℕ) (cost 
     failed = ap (λ (a : SessionState). a.failed) is.kept ∙ fresh;
     told = told_same old.holds new.holds is.calls.holds;
     cause = is.faults;
+    goes = tt;
+    puts = tt;
+    unwritten = λ m keys none. reads_stay old new is.calls;
+    said = grows_none old.said new.said is.calls.said;
+    silent = λ none. is.calls.said;
+    part = λ m said s. front_none old new said (text_of (next_of before m c).reply) s.said is.calls.said;
+    lacks = λ spoken. absurd spoken;
   }
 
 -- ---- calls that read, and then a reply
@@ -199,6 +267,7 @@ module _ (text : List ℕ) (old mid new : View) (law : IsLawful mid) (calls : On
   reads_not_said after is = record {
     time = time_before is.time;
     holds = is.holds ∙ calls.holds;
+    says = subst (λ (o : Option (List ℕ)). Becomes (LongerByPart text) o new.said) calls.said is.says;
     faults = (is.faults.0 ∙ disk, subst (λ (n : ℕ). Rose n new.say_faults) calls.say_faults is.faults.1);
     failed = is.failed;
   }
@@ -217,4 +286,4 @@ stays_so v = record {
 
 pub does_nothing : (v : View) (s : SessionState) (c : Command) → IsLawful v → IsReady v s → s.failed ≡ false → Does v v s s c (Err NoMemory)
 does_nothing v s c law ready fresh =
-    does_says v v s s [] 0 law law ready c (Err NoMemory) fresh (record { calls = stays_so v; faults = (refl, refl); kept = refl }) (λ said. absurd said) tt
+    does_says v v s s [] 0 law law ready c (Err NoMemory) fresh (record { calls = stays_so v; faults = (refl, refl); kept = refl }) (λ said. absurd said) (λ said. absurd said) tt (λ said. absurd said) tt

@@ -1,5 +1,5 @@
 -- States without trees: what a stop leaves of them is all of them.
-use Rattle.std.proofs.Common.{◌≡◌, List, Option, Some, None, refl, sym, subst, ap, ◌∙◌}
+use Rattle.std.proofs.Common.{◌≡◌, ℕ, List, Option, Some, None, refl, sym, subst, ap, ◌∙◌}
 use Rattle.std.specs.FinMap.{FinMap, empty, get, get-empty, same_map}
 use Rattle.std.specs.Option.{option_map}
 use Rattle.rio_key.specs.declared.head.KeyHead.{KeyHead}
@@ -13,6 +13,8 @@ use Rattle.rio_step.specs.ItemKeys.{AreKeysOfState}
 use Rattle.rio_step.specs.Runs.{saved_of, saved_tree}
 use Rattle.rio_step.proofs.ClosedLaws.{saved_keeps_the_rest}
 use Rattle.rio_effect.proofs.KeysOfState.{keys_stand_for_state}
+use Rattle.rio_session.specs.Behind.{IsOfKeys}
+use Rattle.rio_session.specs.Session.{HoldsState, SessionState}
 
 none_before : (o : Option Tree) → option_map saved_tree o ≡ None → o ≡ None
 none_before None e = refl
@@ -42,3 +44,7 @@ known links heads m records keys =
       records = subst (λ (n : State). AreRecordsOf (keyed_records links) n) same records;
       stand = subst (λ (n : State). AreKeysOfState heads n) same told;
     }
+
+-- the state that a session stands for is one of its keys
+pub of_keys : (s : SessionState) (m : State) (file : List ℕ) → HoldsState s m file → IsOfKeys s m
+of_keys s m file h = record { classes = sym h.classes; keys = (known h.links s.heads m h.records h.keys).stand }

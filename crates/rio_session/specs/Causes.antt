@@ -5,7 +5,7 @@ use Rattle.rio_head.specs.declared.reason.Reason.TheVariants.{NotYet}
 use Rattle.rio_dir.specs.Unborn.{header_fault, is_unborn}
 use Rattle.rio_host.specs.Host.{Rose, Unwritten, View}
 use Rattle.rio_machine.specs.declared.command.Command.{Command}
-use Rattle.rio_machine.specs.declared.command.Command.TheVariants.{Bad, Put, Get, Ls}
+use Rattle.rio_machine.specs.declared.command.Command.TheVariants.{Get}
 use Rattle.rio_machine.specs.declared.command.Outcome.{Outcome}
 use Rattle.rio_machine.specs.declared.command.Outcome.TheVariants.{Accepted, Refused}
 use Rattle.rio_session.specs.declared.fault.OpenFault.{OpenFault}
@@ -55,6 +55,20 @@ fails_by (Err HostFault) = true
 fails_by (Err SayFault) = true
 fails_by (Err NoMemory) = false
 
+-- the whole text is said, or a front of it, where it could not be said
+abbrev pub IsSaid : {X : Type 0} → Result X SessionFault → Type 0
+IsSaid (Ok x) = Unit {0}
+IsSaid (Err HostFault) = ⊥
+IsSaid (Err SayFault) = Unit {0}
+IsSaid (Err NoMemory) = ⊥
+
+-- the call failed before it came to that
+abbrev pub SaysNothing : {X : Type 0} → Result X SessionFault → Type 0
+SaysNothing (Ok x) = ⊥
+SaysNothing (Err HostFault) = Unit {0}
+SaysNothing (Err SayFault) = ⊥
+SaysNothing (Err NoMemory) = Unit {0}
+
 -- a file that isn't opened, for another cause than a fault of the host
 abbrev pub IsNotOpened : {X : Type 0} → Result X OpenFault → Type 0
 IsNotOpened (Ok x) = ⊥
@@ -80,14 +94,6 @@ TellsWhyNot file (Err NotRoomy) = Unit {0}
 TellsWhyNot file (Err NotOpened) = Unit {0}
 
 -- ---- commands
-
--- the commands that are built: as yet bad lines, puts, gets of an object as it is, and ls
-abbrev pub IsBuilt : Command → Type 0
-IsBuilt (Bad line place) = Unit {0}
-IsBuilt (Put name v) = Unit {0}
-IsBuilt (Get name cycle version) = version ≡ None
-IsBuilt Ls = Unit {0}
-IsBuilt other = ⊥
 
 -- commands that don't read the file again
 abbrev pub NeverReads : Command → Type 0

@@ -1,13 +1,20 @@
 -- What a command does, in all clauses together.
 use Rattle.std.specs.Prelude.{◌≡◌, ℕ, List, IfOk, OnOk, OnErr, IsErrOf, Result}
 use Rattle.rio_host.specs.Host.{Becomes, Elapses, View}
-use Rattle.rio_host.specs.OnlyReads.{OnlyReads}
+use Rattle.rio_host.specs.OnlyReads.{Grown, OnlyReads}
+use Rattle.rio_value.specs.declared.value.Value.{Value}
 use Rattle.rio_chain.specs.Stops.{Any}
 use Rattle.rio_machine.specs.State.{State}
 use Rattle.rio_machine.specs.declared.command.Command.{Command}
+use Rattle.rio_machine.specs.declared.command.Command.TheVariants.{Put}
 use Rattle.rio_machine.specs.declared.command.Outcome.{Outcome}
-use Rattle.rio_session.specs.Causes.{IsSessionCause, StaysIfRefused, fails_by}
-use Rattle.rio_session.specs.Session.{IsReady, SessionState, StandsFor, Steps, Went, next_of}
+use Rattle.rio_machine.specs.declared.command.Outcome.TheVariants.{Accepted}
+use Rattle.rio_step.specs.Costs.{cost_of}
+use Rattle.rio_step.specs.ReplyText.{text_of}
+use Rattle.rio_step.specs.Step.{outcome_of}
+use Rattle.rio_session.specs.Behind.{FollowsStep, HasPut, IsOfKeys, PutsNothing, SaysPart, Stays}
+use Rattle.rio_session.specs.Causes.{IsSaid, IsSessionCause, SaysNothing, StaysIfRefused, fails_by}
+use Rattle.rio_session.specs.Session.{IsReady, LacksRoomIfFull, SessionState, StandsFor, Steps, Went, next_of, with_cost}
 use Rattle.rio_session.specs.declared.fault.SessionFault.{SessionFault}
 use Rattle.rio_session.specs.declared.fault.SessionFault.TheVariants.{NoMemory}
 
@@ -20,3 +27,10 @@ pub record Does (old new : View) (before after : SessionState) (c : Command) (an
   pub failed : after.failed ≡ fails_by answer
   pub told : Becomes Any old.holds new.holds
   pub cause : IsSessionCause old new answer
+  pub goes : IfOk answer (λ outcome. (m : State) → IsOfKeys before m → FollowsStep before after m c outcome)
+  pub puts : IfOk answer (λ outcome. (m : State) (name : List ℕ) (v : Value) → IsOfKeys before m → c ≡ Put name v → outcome ≡ Accepted → HasPut old new before after m name v)
+  pub unwritten : (m : State) → IsOfKeys before m → PutsNothing before m c → Stays old new
+  pub said : Becomes Grown old.said new.said
+  pub silent : SaysNothing answer → new.said ≡ old.said
+  pub part : (m : State) (text : List ℕ) → StandsFor old before m text → SaysPart new text (text_of (next_of before m c).reply)
+  pub lacks : IsSaid answer → (m : State) (text : List ℕ) → StandsFor old before m text → LacksRoomIfFull (with_cost (cost_of m c) before) (outcome_of (next_of before m c).reply)

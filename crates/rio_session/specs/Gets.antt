@@ -1,5 +1,5 @@
 -- What it is to tell an object.
-use Rattle.std.specs.Prelude.{◌≡◌, ℕ, List, drop, Some, Contains, Result, Ok, Err}
+use Rattle.std.specs.Prelude.{◌≡◌, ℕ, List, drop, Some, Contains, Result}
 use Rattle.rio_host.specs.Host.{View}
 use Rattle.rio_key.specs.declared.head.KeyHead.{KeyHead}
 use Rattle.rio_dir.specs.Table.{head_of}
@@ -10,10 +10,10 @@ use Rattle.rio_chain.specs.Segments.{Link, RecordAt}
 use Rattle.rio_chain.specs.Walks.{Told}
 use Rattle.rio_chain.specs.declared.segment.Segment.{Segment}
 use Rattle.rio_reply.specs.Told.{told_of}
-use Rattle.rio_session.specs.Says.{Says}
+use Rattle.rio_session.specs.Causes.{IsSaid}
+use Rattle.rio_session.specs.Says.{SaysReply}
 use Rattle.rio_session.specs.Session.{SessionState}
 use Rattle.rio_session.specs.declared.fault.SessionFault.{SessionFault}
-use Rattle.rio_session.specs.declared.fault.SessionFault.TheVariants.{HostFault, SayFault, NoMemory}
 
 -- what is told of a record with this key and these bytes
 abbrev pub record_text : List ClassDef → KeyHead → List ℕ → List ℕ
@@ -24,17 +24,10 @@ abbrev pub TellsRecord : View → List Segment → List ClassDef → KeyHead →
 TellsRecord v segments classes head text = Told v (λ file. (links : List Link) → HasChain links segments file
     → (bytes : List ℕ) × Contains links (RecordAt head.seek bytes) × (text ≡ record_text classes head bytes))
 
--- the whole text is said, or a front of it
-abbrev pub IsSaid : {X : Type 0} → Result X SessionFault → Type 0
-IsSaid (Ok x) = Unit {0}
-IsSaid (Err HostFault) = ⊥
-IsSaid (Err SayFault) = Unit {0}
-IsSaid (Err NoMemory) = ⊥
-
 -- what is told of the object of this name and cycle is said
-pub record Tells {X : Type 0} (name : List ℕ) (cycle : ℕ) (old new : View) (before after : SessionState) (answer : Result X SessionFault) : Type 0 where
+pub record TellsObject {X : Type 0} (name : List ℕ) (cycle : ℕ) (old new : View) (before after : SessionState) (answer : Result X SessionFault) : Type 0 where
   pub text : List ℕ
   pub head : KeyHead
   pub found : head_of name (Some cycle) before.heads ≡ Some head
   pub tells : IsSaid answer → TellsRecord old before.segments before.classes head text
-  pub says : Says text 0 old new before after answer
+  pub says : SaysReply text 0 old new before after answer

@@ -1,5 +1,5 @@
 -- What holds of all that a session keeps, whatever its host tells.
-use Rattle.std.specs.Prelude.{◌≡◌, ◌≤◌, ℕ, ◌+◌, ◌^◌, Bool, true, false, ◌==◌, ◌&&◌, List, length, is_some, nat_lt, nat_le}
+use Rattle.std.specs.Prelude.{◌≡◌, ◌≤◌, ℕ, ◌+◌, ◌^◌, Bool, true, false, ◌==◌, ◌&&◌, ◌||◌, List, length, is_some, nat_lt, nat_le}
 use Rattle.std.specs.List.{list_all, list_any}
 use Rattle.rio_key.specs.Key.{place_len}
 use Rattle.rio_key.specs.Written.{written_key}
@@ -30,20 +30,28 @@ begins_at place (Gap p n) = false
 abbrev pub is_placed : List Segment → KeyHead → Bool
 is_placed segments h = list_any (begins_at h.seek) segments
 
+-- the segment is a gap, the first record, or a record that begins where a key says
+abbrev pub is_owned : List KeyHead → Segment → Bool
+is_owned heads (Record p n) = (p == 100) || list_any (λ h. h.seek == p) heads
+is_owned heads (Gap p n) = true
+
 -- a file of this name that keeps records with these keys, so many in all
 abbrev pub kept_with : List ℕ → List KeyHead → ℕ → KeptRecords
 kept_with name heads count = record { name = name; heads = heads; count = count }
 
 -- The keys can be written and are those of records of the chain, and there is room for a close.
-pub record IsKept (segments : List Segment) (heads : List KeyHead) (name : List ℕ) : Type 0 where
+pub record IsClosable (segments : List Segment) (heads : List KeyHead) (name : List ℕ) : Type 0 where
   pub sized : list_all is_sized heads ≡ true
   pub fit : list_all is_fit_key heads ≡ true
   pub placed : list_all (is_placed segments) heads ≡ true
+  pub owned : list_all (is_owned heads) segments ≡ true
   pub short : length name ≤ 200
+  -- the first record, and one for each key
+  pub count : record_count segments ≡ 1 + length heads
   pub room : file_end segments + close_need (kept_with name heads (record_count segments)) ≤ end_limit
 
 -- The same of a session that hasn't failed. (As yet no class is declared, and there is no class list.)
 pub record IsSoundState (s : SessionState) : Type 0 where
   pub none : length s.classes ≡ 0
   pub listless : is_some s.info ≡ false
-  pub kept : s.failed ≡ false → IsKept s.segments s.heads s.name
+  pub kept : s.failed ≡ false → IsClosable s.segments s.heads s.name

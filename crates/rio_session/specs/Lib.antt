@@ -1,4 +1,6 @@
+pub mod Behind
 pub mod Causes
+pub mod Closes
 pub mod Does
 pub mod Gets
 pub mod Kept

@@ -1,12 +1,10 @@
 -- Where a command's records go, and which commands find no room.
-use Rattle.std.specs.Prelude.{ℕ, ◌+◌, List, [], ◌∷◌, codes, length, map, sum, Option, Some, None, is_some, unwrap_or, if◌then◌else◌, ◌==◌}
+use Rattle.std.specs.Prelude.{ℕ, ◌+◌, List, [], ◌∷◌, length, map, sum, Option, Some, None, is_some, unwrap_or, if◌then◌else◌, ◌==◌}
 use Rattle.std.specs.FinMap.{entries}
 use Rattle.std.specs.List.{fold}
-use Rattle.rio_num.specs.Text.{text_bytes}
 use Rattle.rio_key.specs.declared.head.KeyHead.{KeyHead}
 use Rattle.rio_value.specs.declared.value.Value.{Value}
 use Rattle.rio_chain.specs.declared.segment.Segment.{Segment}
-use Rattle.rio_chain.specs.declared.segment.Segment.TheVariants.{Record}
 use Rattle.rio_chain.specs.Placing.{file_end, place_of, with_segment}
 use Rattle.rio_machine.specs.Limits.{head_length}
 use Rattle.rio_machine.specs.State.{NameAndCycle, State}
@@ -41,17 +39,6 @@ kept_of name m = let objects = entries m.objects in
 -- how long the records of a close are in this state
 unfoldable pub state_need : List ℕ → State → ℕ
 state_need name m = close_need (kept_of name m)
-
--- ---- a new file
-
--- How long the first record of a new file of this name is: its key, the name and an empty title again, and 60 bytes of the
--- directory.
-abbrev pub first_record_length : List ℕ → ℕ
-first_record_length name = padded_length (head_length (codes "TFile") name + length (text_bytes name) + length (text_bytes []) + 60)
-
--- the segments of a new file: its first record
-abbrev pub first_segments : List ℕ → List Segment
-first_segments name = Record 100 (first_record_length name) ∷ []
 
 -- ---- a command's records
 

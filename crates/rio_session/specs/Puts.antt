@@ -1,7 +1,7 @@
 -- What it is to put a record and to say so.
 use Rattle.std.specs.Prelude.{◌≡◌, ◌⊎◌, ◌≤◌, ℕ, ◌+◌, ◌-◌, ◌^◌, min, true, List, [], ◌∷◌, ◌++◌, length, take, Some, None, Result, Ok, Err}
 use Rattle.std.specs.List.{find}
-use Rattle.rio_host.specs.Host.{Becomes, Elapses, IsQuiet, Longer, View}
+use Rattle.rio_host.specs.Host.{Becomes, Elapses, IsQuiet, Longer, LongerByPart, View}
 use Rattle.rio_key.specs.declared.head.KeyHead.{KeyHead}
 use Rattle.rio_dir.specs.Table.{is_at_cycle, with_head}
 use Rattle.rio_chain.specs.Chains.{HasChain}
@@ -70,6 +70,7 @@ pub record PutAndSaid (p : Putting) (old new : View) (before after : SessionStat
 pub record NotPut (p : Putting) (old new : View) (before after : SessionState) : Type 0 where
   pub time : PutsInTime p old new before
   pub told : Becomes Any old.holds new.holds
+  pub said : new.said ≡ old.said
   pub faults : DiskRose old new
   pub failed : after.failed ≡ true
 
@@ -77,15 +78,16 @@ pub record NotPut (p : Putting) (old new : View) (before after : SessionState) :
 pub record PutNotSaid (p : Putting) (old new : View) (before after : SessionState) : Type 0 where
   pub time : PutsInTime p old new before
   pub told : Becomes Any old.holds new.holds
+  pub says : Becomes (LongerByPart p.text) old.said new.said
   pub faults : SayRose old new
   pub failed : after.failed ≡ true
 
 -- The record is put and its text said; or why not.
-abbrev pub Puts : {X : Type 0} → Putting → View → View → SessionState → SessionState → Result X SessionFault → Type 0
-Puts p old new before after (Ok x) = PutAndSaid p old new before after
-Puts p old new before after (Err HostFault) = NotPut p old new before after
-Puts p old new before after (Err SayFault) = PutNotSaid p old new before after
-Puts p old new before after (Err NoMemory) = NotDone old new before after
+abbrev pub PutsRecord : {X : Type 0} → Putting → View → View → SessionState → SessionState → Result X SessionFault → Type 0
+PutsRecord p old new before after (Ok x) = PutAndSaid p old new before after
+PutsRecord p old new before after (Err HostFault) = NotPut p old new before after
+PutsRecord p old new before after (Err SayFault) = PutNotSaid p old new before after
+PutsRecord p old new before after (Err NoMemory) = NotDone old new before after
 
 -- ---- a record that can be put
 

@@ -1,6 +1,6 @@
 -- What it is to say a reply, and what a command that does no more answers.
 use Rattle.std.specs.Prelude.{◌≡◌, ℕ, ◌+◌, ◌-◌, ◌^◌, min, true, List, Result, Ok, Err}
-use Rattle.rio_host.specs.Host.{Becomes, Elapses, Longer, Speaking, View}
+use Rattle.rio_host.specs.Host.{Becomes, Elapses, Longer, LongerByPart, Speaking, View}
 use Rattle.rio_host.specs.OnlyReads.{OnlyReads}
 use Rattle.rio_session.specs.Causes.{DiskRose, NoCountRose, SayRose}
 use Rattle.rio_session.specs.Session.{SessionState}
@@ -19,6 +19,7 @@ pub record Said (text : List ℕ) (cost : ℕ) (old new : View) (before after : 
 pub record NotSaid (text : List ℕ) (old new : View) (after : SessionState) : Type 0 where
   pub time : Elapses old new (Speaking text old)
   pub holds : new.holds ≡ old.holds
+  pub says : Becomes (LongerByPart text) old.said new.said
   pub faults : SayRose old new
   pub failed : after.failed ≡ true
 
@@ -35,8 +36,8 @@ pub record NotDone (old new : View) (before after : SessionState) : Type 0 where
   pub kept : after ≡ before
 
 -- The file stays, and the text is said, at this cost; or why not.
-abbrev pub Says : {X : Type 0} → List ℕ → ℕ → View → View → SessionState → SessionState → Result X SessionFault → Type 0
-Says text cost old new before after (Ok x) = Said text cost old new before after
-Says text cost old new before after (Err HostFault) = NotRead old new after
-Says text cost old new before after (Err SayFault) = NotSaid text old new after
-Says text cost old new before after (Err NoMemory) = NotDone old new before after
+abbrev pub SaysReply : {X : Type 0} → List ℕ → ℕ → View → View → SessionState → SessionState → Result X SessionFault → Type 0
+SaysReply text cost old new before after (Ok x) = Said text cost old new before after
+SaysReply text cost old new before after (Err HostFault) = NotRead old new after
+SaysReply text cost old new before after (Err SayFault) = NotSaid text old new after
+SaysReply text cost old new before after (Err NoMemory) = NotDone old new before after

@@ -1,5 +1,5 @@
 -- A session: what it keeps beside a file, what of a state it stands for, and what a stop leaves while a command is done.
-use Rattle.std.specs.Prelude.{◌≡◌, ◌⊎◌, ◌<◌, ◌≤◌, ℕ, ◌+◌, ◌-◌, ◌*◌, ◌^◌, min, Bool, false, List, [], ◌++◌, take, slice_get, Option, Some}
+use Rattle.std.specs.Prelude.{◌≡◌, ◌⊎◌, ◌<◌, ◌≤◌, ℕ, ◌+◌, ◌-◌, ◌*◌, ◌^◌, min, Bool, false, List, [], ◌++◌, take, slice_get, Option, Some, None}
 use Rattle.rio_types.specs.declared.class.ClassDef.{ClassDef}
 use Rattle.rio_key.specs.declared.head.KeyHead.{KeyHead}
 use Rattle.rio_host.specs.Host.{Elapses, IsQuiet, View}
@@ -7,6 +7,7 @@ use Rattle.rio_chain.specs.Chains.{HasChain, HoldsChain}
 use Rattle.rio_chain.specs.Placing.{record_count}
 use Rattle.rio_chain.specs.Segments.{Link}
 use Rattle.rio_chain.specs.declared.segment.Segment.{Segment}
+use Rattle.rio_create.specs.NewFile.{first_segments}
 use Rattle.rio_machine.specs.State.{State}
 use Rattle.rio_machine.specs.declared.command.Command.{Command}
 use Rattle.rio_machine.specs.declared.command.Outcome.{Outcome}
@@ -21,7 +22,7 @@ use Rattle.rio_state.specs.DirectoryKeys.{AreKeysOf}
 use Rattle.rio_state.specs.KeyedRecords.{info_key, keyed_records}
 use Rattle.rio_state.specs.Left.{HasOpenHead, IsLeftAs, IsMarkedOpen, info_head}
 use Rattle.rio_state.specs.Reads.{AreRecordsOf}
-use Rattle.rio_session.specs.Marks.{first_segments, mark_of, segments_behind}
+use Rattle.rio_session.specs.Marks.{mark_of, segments_behind}
 
 -- ---- what a session keeps
 
@@ -68,6 +69,9 @@ pub record StandsFor (v : View) (s : SessionState) (m : State) (text : List ℕ)
 -- what a session of a file that is just made begins with
 pub record BeginsNew (s : SessionState) (name : List ℕ) (datime : ℕ) : Type 0 where
   pub segments : s.segments ≡ first_segments name
+  pub classes : s.classes ≡ []
+  pub heads : s.heads ≡ []
+  pub info : s.info ≡ None
   pub name_is : s.name ≡ name
   pub datime_is : s.datime ≡ datime
   pub opened : s.opened ≡ 0
@@ -97,12 +101,16 @@ next_of s m c = step m c (mark_of s.name s.segments m c)
 
 -- What a session keeps follows a command: the command's records stand where the rule places them, and its cost was counted, as far
 -- as 64 bits hold the costs.
-pub record Follows (old new : SessionState) (m : State) (c : Command) : Type 0 where
+pub record FollowsCommand (old new : SessionState) (m : State) (c : Command) : Type 0 where
   pub segments : new.segments ≡ segments_behind old.name old.segments m c
   pub name : new.name ≡ old.name
   pub datime : new.datime ≡ old.datime
   pub opened : new.opened ≡ old.opened
   pub costs : new.costs ≡ min (old.costs + cost_of m c) (2 ^ 64 - 1)
+
+-- what a session keeps, with a cost counted as far as 64 bits hold the costs
+abbrev pub with_cost : ℕ → SessionState → SessionState
+with_cost cost s = record s { costs = min (s.costs + cost) (2 ^ 64 - 1) }
 
 -- Want of room is told only where three times the file's length at its opening, with the costs of all commands up to this one,
 -- pass what there is room for.
@@ -114,7 +122,7 @@ LacksRoomIfFull s other = Unit {0}
 pub record Went (old new : View) (before s : SessionState) (m : State) (c : Command) (text : List ℕ) (outcome : Outcome) : Type 0 where
   pub time : Elapses old new (Steps m (next_of before m c) text)
   pub stands : StandsFor new s (next_of before m c).state (text ++ text_of (next_of before m c).reply)
-  pub follows : Follows before s m c
+  pub follows : FollowsCommand before s m c
   pub outcome_is : outcome ≡ outcome_of (next_of before m c).reply
   pub full : LacksRoomIfFull s outcome
 

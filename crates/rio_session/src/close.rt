@@ -12,6 +12,7 @@ impl Session {
     ghost use Rattle.rio_state.specs.Reads.{ReadsAsState, ReadsClosed};
     ghost use Rattle.rio_step.specs.Runs.{closed_of};
     ghost use Rattle.rio_session.specs.Causes.{IsCloseCause};
+    ghost use Rattle.rio_session.specs.Closes.{ClosesFile};
     ghost use Rattle.rio_session.specs.Session.{ClosesAs, IsReady, StandsFor};
     ghost use Rattle.rio_session.specs.declared.fault.SessionFault.{SessionFault as Fault};
 
@@ -26,6 +27,9 @@ impl Session {
             → StandsFor (H.view host.old) self m text → (image said : List ℕ)
             → Leaves (H.view host.new) image said
             → ReadsAsState image (closed_of m) × ReadsClosed image (closed_of m)) }
+        ensures written { OnOk result ((m : State) (text : List ℕ)
+            → StandsFor (H.view host.old) self m text
+            → ClosesFile (H.view host.old) (H.view host.new) self) }
         ensures told { Becomes Any (H.view host.old).holds (H.view host.new).holds }
         ensures said { (H.view host.new).said ≡ (H.view host.old).said }
         ensures no_memory { IsErrOf result Fault.NoMemory

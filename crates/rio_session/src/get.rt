@@ -17,7 +17,7 @@ impl Session {
     ghost use Rattle.rio_chain.specs.Walks.{IsRecordCause};
     ghost use Rattle.rio_dir.specs.Table.{head_of};
     ghost use Rattle.rio_machine.specs.declared.command.Outcome.{Outcome as BecameOf};
-    ghost use Rattle.rio_session.specs.Gets.{Tells, TellsRecord};
+    ghost use Rattle.rio_session.specs.Gets.{TellsObject, TellsRecord};
     ghost use Rattle.rio_session.specs.Kept.{IsSoundState};
 
     // What is told of the object of a key. (A record is never as long as to be refused here.)
@@ -47,8 +47,8 @@ impl Session {
         requires fresh { self.old.failed ≡ false }
         requires there { IsSome (head_of name.now (Some cycle) self.old.heads) }
         requires holds { HoldsChain (H.view host.old) self.old.segments }
-        ensures tells { Tells name.now cycle (H.view host.old) (H.view host.new) self.old self.new
-            result }
+        ensures tells { TellsObject name.now cycle (H.view host.old) (H.view host.new)
+            self.old self.new result }
         ensures outcome { IfOk result (λ outcome. outcome ≡ BecameOf.Accepted) }
         ensures sound { IsSoundState self.old }
     {

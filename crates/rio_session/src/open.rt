@@ -9,15 +9,17 @@ use rio_registry::Registry;
 use std::alloc::Global;
 
 impl Session {
-    ghost use Rattle.std.specs.Prelude.{◌≡◌, ◌≤◌, ℕ, List, Some, length, false, IfOk};
+    ghost use Rattle.std.specs.Prelude.{◌≡◌, ◌≤◌, ℕ, List, Some, length, true, false, IfOk, OnOk};
     ghost use Rattle.rio_host.specs.Host.{Becomes, Elapses, IsQuiet};
     ghost use Rattle.rio_host.specs.OnlyReads.{OnlyReads};
     ghost use Rattle.rio_chain.specs.Stops.{Any};
+    ghost use Rattle.rio_create.specs.NewFile.{IsNewFile};
     ghost use Rattle.rio_chain.specs.Walks.{Told};
     ghost use Rattle.rio_dir.specs.Unborn.{is_unborn};
     ghost use Rattle.rio_machine.specs.State.{State};
     ghost use Rattle.rio_state.specs.Left.{ReadsClosedUnlessOpen};
     ghost use Rattle.rio_state.specs.Reads.{ReadsAsState};
+    ghost use Rattle.rio_create.specs.Creation.{LeavesUnclosed};
     ghost use Rattle.rio_session.specs.Causes.{IsNotOpened, IsOpenCause, TellsWhyNot};
     ghost use Rattle.rio_session.specs.Session.{BeginsNew, IsReady, StandsFor};
 
@@ -35,11 +37,17 @@ impl Session {
             → ReadsAsState file m
             → Elapses (H.view host.old) (H.view host.new) (λ image said. ReadsAsState image m
             × (ReadsClosedUnlessOpen file m → ReadsClosedUnlessOpen image m) × (said ≡ text)) }
+        ensures unclosed { (file : List ℕ) → IsQuiet (H.view host.old)
+            → (H.view host.old).holds ≡ Some file
+            → is_unborn file ≡ true → LeavesUnclosed (H.view host.new) }
         ensures stands { IfOk result (λ session. (file text : List ℕ) (m : State)
             → (H.view host.old).holds ≡ Some file → (H.view host.old).said ≡ Some text
             → ReadsAsState file m → StandsFor (H.view host.new) session m text) }
         ensures ready { IfOk result (IsReady (H.view host.new)) }
         ensures begins { IfOk result (λ session. BeginsNew session name.now datime) }
+        ensures made { OnOk result ((file : List ℕ) → (H.view host.old).holds ≡ Some file
+            → (new : List ℕ) × ((H.view host.new).holds ≡ Some new)
+            × IsNewFile name.now datime new) }
         ensures why_not { Told (H.view host.old) (λ file. TellsWhyNot file result) }
         ensures unwritten { (file : List ℕ) → (H.view host.old).holds ≡ Some file
             → is_unborn file ≡ false → OnlyReads (H.view host.old) (H.view host.new) }

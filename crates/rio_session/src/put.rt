@@ -8,7 +8,7 @@ use rio_record::NewRecord;
 impl Session {
     ghost use Rattle.std.specs.Prelude.{◌≡◌, false, IfOk};
     ghost use Rattle.rio_machine.specs.declared.command.Outcome.{Outcome as BecameOf};
-    ghost use Rattle.rio_session.specs.Puts.{CanBePut, Puts, putting};
+    ghost use Rattle.rio_session.specs.Puts.{CanBePut, PutsRecord, putting};
     ghost use Rattle.rio_session.specs.Session.{IsReady};
 
     // Puts a record, keeps its key, and says a reply. All memory is taken before the record is written.
@@ -22,7 +22,7 @@ impl Session {
         requires fresh { self.old.failed ≡ false }
         requires ready { IsReady (H.view host.old) self.old }
         requires can { CanBePut self.old made }
-        ensures puts { Puts (putting made text.now cost) (H.view host.old) (H.view host.new)
+        ensures puts { PutsRecord (putting made text.now cost) (H.view host.old) (H.view host.new)
             self.old self.new result }
         ensures outcome { IfOk result (λ outcome. outcome ≡ BecameOf.Accepted) }
         ensures reads { (H.view host.new).reads ≡ (H.view host.old).reads }

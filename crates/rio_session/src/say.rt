@@ -11,7 +11,7 @@ impl Session {
     ghost use Rattle.rio_step.specs.ReplyText.{text_of};
     ghost use Rattle.rio_step.specs.Step.{refused};
     ghost use Rattle.rio_session.specs.Kept.{IsSoundState};
-    ghost use Rattle.rio_session.specs.Says.{Says};
+    ghost use Rattle.rio_session.specs.Says.{SaysReply};
     ghost use Rattle.rio_session.specs.declared.fault.SessionFault.{SessionFault as Fault};
 
     // Says a reply, and counts its command's cost.
@@ -21,7 +21,7 @@ impl Session {
         text: &[u8],
         cost: u64,
     ) -> Result<(), SessionFault>
-        ensures says { Says text.now cost (H.view host.old) (H.view host.new) self.old self.new
+        ensures says { SaysReply text.now cost (H.view host.old) (H.view host.new) self.old self.new
             result }
         ensures fault { IsOkUnless result Fault.SayFault }
         ensures reads { (H.view host.new).reads ≡ (H.view host.old).reads }
@@ -45,8 +45,8 @@ impl Session {
         refusal: Refusal,
         cost: u64,
     ) -> Result<Outcome, SessionFault>
-        ensures says { Says (text_of (refused refusal)) cost (H.view host.old) (H.view host.new)
-            self.old self.new result }
+        ensures says { SaysReply (text_of (refused refusal)) cost
+            (H.view host.old) (H.view host.new) self.old self.new result }
         ensures outcome { IfOk result (λ outcome. outcome ≡ BecameOf.Refused refusal) }
         ensures reads { (H.view host.new).reads ≡ (H.view host.old).reads }
     {
@@ -57,7 +57,7 @@ impl Session {
 
     // Says the names of all objects.
     pub(crate) fn list<H: Host>(&mut self, host: &mut H) -> Result<Outcome, SessionFault>
-        ensures says { Says (listing_of self.old.heads) 0 (H.view host.old) (H.view host.new)
+        ensures says { SaysReply (listing_of self.old.heads) 0 (H.view host.old) (H.view host.new)
             self.old self.new result }
         ensures outcome { IfOk result (λ outcome. outcome ≡ BecameOf.Accepted) }
         ensures reads { (H.view host.new).reads ≡ (H.view host.old).reads }

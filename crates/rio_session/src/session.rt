@@ -32,7 +32,7 @@ impl Model for Session {
     ghost use Rattle.std.specs.Prelude.{◌≡◌, ◌+◌, ◌≤◌, false, length, is_some};
     ghost use Rattle.rio_chain.specs.Placing.{file_end};
     ghost use Rattle.rio_dir.specs.Table.{heads_size};
-    ghost use Rattle.rio_session.specs.Kept.{IsKept};
+    ghost use Rattle.rio_session.specs.Kept.{IsClosable};
     ghost use Rattle.rio_session.specs.Session.{SessionState};
 
     ghost Value = { SessionState };
@@ -52,7 +52,7 @@ impl Model for Session {
 
     // The directory record stands before END. As yet no class is declared, so no class list is kept.
     ghost invariant = { λ s. record {
-      kept : s.failed ≡ false → IsKept s.chain.segments s.table.heads s.name;
+      kept : s.failed ≡ false → IsClosable s.chain.segments s.table.heads s.name;
       fresh : s.failed ≡ false → s.chain.spent ≡ false;
       bytes : s.failed ≡ false → s.heads_bytes ≡ heads_size s.table.heads;
       directory : s.failed ≡ false → s.nbytes_name + 160 ≤ file_end s.chain.segments;
@@ -62,14 +62,22 @@ impl Model for Session {
 }
 
 impl Session {
-    ghost use Rattle.std.specs.Prelude.{◌≡◌, ℕ, List, false, IfOk, OnOk, OnErr, IsErrOf};
+    ghost use Rattle.std.specs.Prelude.{◌≡◌, ℕ, List, false, IfOk, OnOk, OnErr, IsErrOf, IsTrue};
     ghost use Rattle.rio_host.specs.Host.{Becomes, Elapses};
-    ghost use Rattle.rio_host.specs.OnlyReads.{OnlyReads};
+    ghost use Rattle.rio_host.specs.OnlyReads.{Grown, OnlyReads};
     ghost use Rattle.rio_chain.specs.Stops.{Any};
+    ghost use Rattle.rio_judge.specs.Judging.{is_judged};
     ghost use Rattle.rio_machine.specs.State.{State};
+    ghost use Rattle.rio_machine.specs.declared.command.Command.{Command as Line};
+    ghost use Rattle.rio_machine.specs.declared.command.Outcome.{Outcome as Became};
+    ghost use Rattle.rio_step.specs.Costs.{cost_of};
+    ghost use Rattle.rio_step.specs.ReplyText.{text_of};
+    ghost use Rattle.rio_step.specs.Step.{outcome_of};
     ghost use Rattle.rio_step.specs.Statable.{IsStatable};
-    ghost use Rattle.rio_session.specs.Causes.{IsBuilt, IsSessionCause, NeverReads, StaysIfRefused, fails_by};
-    ghost use Rattle.rio_session.specs.Session.{IsReady, StandsFor, Steps, Went, next_of};
+    ghost use Rattle.rio_value.specs.declared.value.Value.{Value};
+    ghost use Rattle.rio_session.specs.Behind.{FollowsStep, HasPut, IsOfKeys, PutsNothing, SaysPart, Stays};
+    ghost use Rattle.rio_session.specs.Causes.{IsSaid, IsSessionCause, SaysNothing, NeverReads, StaysIfRefused, fails_by};
+    ghost use Rattle.rio_session.specs.Session.{IsReady, LacksRoomIfFull, StandsFor, Steps, Went, next_of, with_cost};
     ghost use Rattle.rio_session.specs.declared.fault.SessionFault.{SessionFault as Fault};
 
     /// Whether a call of the host failed, after which nothing more can be done.
@@ -86,7 +94,7 @@ impl Session {
         command: &Command,
     ) -> Result<Outcome, SessionFault>
         requires fresh { self.old.failed ≡ false }
-        requires built { IsBuilt command.now }
+        requires built { IsTrue (is_judged command.now) }
         requires statable { IsStatable command.now }
         requires ready { IsReady (H.view host.old) self.old }
         ensures done { IfOk result (λ outcome. (m : State) (text : List ℕ)
@@ -106,6 +114,25 @@ impl Session {
             → (H.view host.new).reads ≡ (H.view host.old).reads }
         ensures told { Becomes Any (H.view host.old).holds (H.view host.new).holds }
         ensures cause { IsSessionCause (H.view host.old) (H.view host.new) result }
+
+        // Also where the host tells nothing: outcome and keys follow each state that the keys stand for.
+        ensures goes { IfOk result (λ outcome. (m : State) → IsOfKeys self.old m
+            → FollowsStep self.old self.new m command.now outcome) }
+
+        // What becomes of the file, and of the text.
+        ensures puts { IfOk result (λ outcome. (m : State) (name : List ℕ) (v : Value)
+            → IsOfKeys self.old m → command.now ≡ Line.Put name v → outcome ≡ Became.Accepted
+            → HasPut (H.view host.old) (H.view host.new) self.old self.new m name v) }
+        ensures unwritten { (m : State) → IsOfKeys self.old m → PutsNothing self.old m command.now
+            → Stays (H.view host.old) (H.view host.new) }
+        ensures said { Becomes Grown (H.view host.old).said (H.view host.new).said }
+        ensures silent { SaysNothing result → (H.view host.new).said ≡ (H.view host.old).said }
+        ensures part { (m : State) (text : List ℕ) → StandsFor (H.view host.old) self.old m text
+            → SaysPart (H.view host.new) text (text_of (next_of self.old m command.now).reply) }
+        ensures lacks { IsSaid result → (m : State) (text : List ℕ)
+            → StandsFor (H.view host.old) self.old m text
+            → LacksRoomIfFull (with_cost (cost_of m command.now) self.old)
+            (outcome_of (next_of self.old m command.now).reply) }
     {
         self.judge_and_do(host, command)
     }

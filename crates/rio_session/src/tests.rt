@@ -1,7 +1,7 @@
 //! A file `a.root` is made, stored into and closed, in memory.
-ghost use Rattle.std.specs.Prelude.{◌<◌, ◌^◌, length, IfOk};
+ghost use Rattle.std.specs.Prelude.{◌<◌, ◌^◌, length, IfOk, IsTrue};
 ghost use Rattle.rio_step.specs.Statable.{IsStatable};
-ghost use Rattle.rio_session.specs.Causes.{IsBuilt};
+ghost use Rattle.rio_judge.specs.Judging.{is_judged};
 
 use crate::{OpenFault, Session, SessionFault};
 use rio_host::MemHost;
@@ -44,7 +44,7 @@ const HU: &[u8] = b"TObjString{TObject{fUniqueID: 0, fBits: 0}, fString: \"hu\"}
 fn put(alloc: Global, text: &[u8]) -> Result<Command, Fail>
     requires { length text.now < 2 ^ 32 }
     ensures stated { IfOk result IsStatable }
-    ensures built { IfOk result IsBuilt }
+    ensures built { IfOk result (λ c. IsTrue (is_judged c)) }
 {
     let name = Name::from_slice(alloc, b"s")?;
     match read_value(alloc, text, 0) {
@@ -56,7 +56,7 @@ fn put(alloc: Global, text: &[u8]) -> Result<Command, Fail>
 // Tells the object `s` of this cycle, or the newest.
 fn get(alloc: Global, cycle: Option<u32>) -> Result<Command, NoMemory>
     ensures stated { IfOk result IsStatable }
-    ensures built { IfOk result IsBuilt }
+    ensures built { IfOk result (λ c. IsTrue (is_judged c)) }
 {
     let name = Name::from_slice(alloc, b"s")?;
     Ok(Command::Get {
@@ -79,9 +79,9 @@ fn run(
     second: &Command,
 ) -> Result<(), SessionFault>
     requires first { IsStatable first.now }
-    requires first_built { IsBuilt first.now }
+    requires first_built { IsTrue (is_judged first.now) }
     requires second { IsStatable second.now }
-    requires second_built { IsBuilt second.now }
+    requires second_built { IsTrue (is_judged second.now) }
 {
     let mut session = match Session::open(alloc, host, b"a.root", 1) {
         Ok(session) => session,

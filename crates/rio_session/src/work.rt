@@ -5,11 +5,11 @@ use rio_judge::{Judged, Work, judge};
 use rio_machine::{Command, Outcome};
 
 impl Session {
-    ghost use Rattle.std.specs.Prelude.{◌≡◌, false};
-    ghost use Rattle.rio_judge.specs.Judging.{WorkCanBeDone, IsJudgementOfStates};
+    ghost use Rattle.std.specs.Prelude.{◌≡◌, false, IsTrue};
+    ghost use Rattle.rio_judge.specs.Judging.{WorkCanBeDone, IsJudgementOfStates, is_judged};
     ghost use Rattle.rio_judge.specs.declared.work.Judged.{Judged as Judgement};
     ghost use Rattle.rio_step.specs.Statable.{IsStatable};
-    ghost use Rattle.rio_session.specs.Causes.{IsBuilt, NeverReads};
+    ghost use Rattle.rio_session.specs.Causes.{NeverReads};
     ghost use Rattle.rio_session.specs.Does.{Does};
     ghost use Rattle.rio_session.specs.Session.{IsReady};
 
@@ -21,7 +21,7 @@ impl Session {
         work: Work,
     ) -> Result<Outcome, SessionFault>
         requires fresh { self.old.failed ≡ false }
-        requires built { IsBuilt command.now }
+        requires built { IsTrue (is_judged command.now) }
         requires statable { IsStatable command.now }
         requires ready { IsReady (H.view host.old) self.old }
         requires can { WorkCanBeDone self.old.classes self.old.heads command.now work }
@@ -54,7 +54,7 @@ impl Session {
         command: &Command,
     ) -> Result<Outcome, SessionFault>
         requires fresh { self.old.failed ≡ false }
-        requires built { IsBuilt command.now }
+        requires built { IsTrue (is_judged command.now) }
         requires statable { IsStatable command.now }
         requires ready { IsReady (H.view host.old) self.old }
         ensures does { Does (H.view host.old) (H.view host.new) self.old self.new command.now

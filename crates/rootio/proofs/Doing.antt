@@ -2,7 +2,9 @@
 use Rattle.std.proofs.Common.{◌≡◌, inl, inr, ℕ, suc, ◌+◌, ◌<◌, ◌≤◌, false, List, ◌∷◌, ◌++◌, length, take, drop, get_or, Result, Ok, Err, subst, sym, refl, ap, ◌∙◌, arith, append_assoc}
 use Rattle.std.proofs.lemmas.List.{append-nil, drop-drop, get_or_default, take_all}
 use Rattle.std.proofs.Math.Seq.{drop-cons}
+use Rattle.std.specs.Result.{OnOk}
 use Rattle.rio_host.specs.Host.{Becomes, Elapses, IsLawful, View}
+use Rattle.rio_host.specs.OnlyReads.{Grown}
 use Rattle.rio_host.proofs.Moments.{elapses_join}
 use Rattle.rio_chain.specs.Stops.{Any}
 use Rattle.rio_chain.specs.declared.segment.Segment.{Segment}
@@ -14,17 +16,21 @@ use Rattle.rio_step.specs.ReplyText.{text_of}
 use Rattle.rio_step.specs.Runs.{first_mark, said_of, saved_of, state_after}
 use Rattle.rio_step.specs.Step.{Stepped, outcome_of, step}
 use Rattle.rio_state.specs.Left.{IsLeftAs}
-use Rattle.rio_session.specs.Causes.{IsCloseCause, IsSessionCause, NoCountRose}
+use Rattle.rio_step.specs.Costs.{HasFileRoom, cost_of}
+use Rattle.rio_session.specs.Behind.{SaysPart}
+use Rattle.rio_session.specs.Causes.{IsCloseCause, IsSaid, IsSessionCause, NoCountRose, SaysNothing}
 use Rattle.rio_session.specs.Marks.{mark_of, marks_of_run, segments_behind}
-use Rattle.rio_session.specs.Session.{IsReady, SessionState, StandsFor, Steps, Went, next_of}
+use Rattle.rio_session.specs.Session.{IsReady, LacksRoomIfFull, SessionState, StandsFor, Steps, Went, next_of, with_cost}
 use Rattle.rio_session.specs.declared.fault.SessionFault.{SessionFault}
 use Rattle.rio_session.specs.declared.fault.SessionFault.TheVariants.{HostFault, SayFault, NoMemory}
-use Rattle.rootio.specs.Headline.{IsStopOf, ScriptRun, replies}
+use Rattle.rio_session.proofs.Spoken.{grows_none}
+use Rattle.rootio.specs.Headline.{IsStopOf, SaidFindRoom, ScriptRun, replies}
 use Rattle.rootio.specs.Script.{HasDone, session_run}
 use Rattle.rootio.specs.Writing.{LeavesOpen}
+use Rattle.rootio.proofs.SaidFronts.{grows_join}
 use Rattle.rootio.proofs.Unclosed.{steps_open}
 use Rattle.rootio.proofs.Untouched.{any_join, becomes_same, elapses_none}
-use Rattle.rootio.proofs.Room.{CostsSo, all_find_room, costs_more, no_costs}
+use Rattle.rootio.proofs.Room.{CostsSo, all_find_room, costs_more, no_costs, room_at_fault}
 use Rattle.rootio.proofs.RunStops.{IsNext, behind, behind_next, prefix_at, replies_next, step_at, stop_between, stop_within}
 
 -- ---- marks
@@ -74,6 +80,8 @@ module _ (name : List ℕ) (segments : List Segment) (r : ScriptRun) (k : ℕ) (
 -- a run so far: the first k commands are done and their replies said
 pub record Sofar (start v : View) (first s : SessionState) (r : ScriptRun) (before : List ℕ) (k : ℕ) : Type 0 where
   pub stands : StandsFor v s (behind r k) (before ++ replies r k)
+  pub name : s.name ≡ first.name
+  pub datime : s.datime ≡ first.datime
   pub marks : MarksLeft s.name s.segments r k
   pub time : (file : List ℕ) → Elapses start v (IsStopOf r file before)
   pub costs : CostsSo first s r k
@@ -100,8 +108,8 @@ module _ (r : ScriptRun) (before : List ℕ) (k : ℕ) (c : Command) (next : IsN
 
   -- one command more
   pub one_more : (start v new : View) (s1 : SessionState) (outcome : Outcome) → ((file : List ℕ) → Elapses start v (IsStopOf r file before))
-      → (first : SessionState) → CostsSo first s r k → Went v new s s1 (behind r k) c (before ++ replies r k) outcome → Sofar start new first s1 r before (k + 1)
-  one_more start v new s1 outcome time first costs went =
+      → (first : SessionState) → s.name ≡ first.name → s.datime ≡ first.datime → CostsSo first s r k → Went v new s s1 (behind r k) c (before ++ replies r k) outcome → Sofar start new first s1 r before (k + 1)
+  one_more start v new s1 outcome time first named soon costs went =
       let state : done.state ≡ behind r (k + 1) = ap (λ (t : Stepped). t.state) (sym done_is) ∙ sym (behind_next r k c next) in
       let text : (before ++ replies r k) ++ text_of done.reply ≡ before ++ replies r (k + 1) =
       append_assoc before (replies r k) (text_of done.reply)
@@ -109,6 +117,8 @@ module _ (r : ScriptRun) (before : List ℕ) (k : ℕ) (c : Command) (next : IsN
       ∙ ap (λ l. before ++ l) (sym (replies_next r k c next)) in
       record {
         stands = subst (λ l. StandsFor new s1 (behind r (k + 1)) l) text (subst (λ m. StandsFor new s1 m ((before ++ replies r k) ++ text_of done.reply)) state went.stands);
+        name = went.follows.name ∙ named;
+        datime = went.follows.datime ∙ soon;
         marks = subst (λ name. MarksLeft name s1.segments r (k + 1)) (sym went.follows.name)
             (subst (λ segments. MarksLeft s.name segments r (k + 1)) (sym went.follows.segments) (marks_next s.name s.segments r k c left next));
         time = λ file. elapses_join (Steps (behind r k) done (before ++ replies r k)) (time file) went.time (λ i t steps. stops_within file i t steps);
@@ -123,6 +133,7 @@ pub record Doing (start v : View) (first s : SessionState) (commands : List Comm
   pub ready : IsReady v s
   pub fresh : s.failed ≡ false
   pub told : Becomes Any start.holds v.holds
+  pub said : Becomes Grown start.said v.said
   pub none : NoCountRose start v
   pub sofar : (m : State) (text : List ℕ) → StandsFor start first m text → Sofar start v first s (session_run first m commands) text k
 
@@ -140,9 +151,12 @@ nothing_yet v first commands ready fresh = record {
   ready = ready;
   fresh = fresh;
   told = becomes_same v.holds;
+  said = grows_none v.said v.said refl;
   none = (refl, refl);
   sofar = λ m text stands. record {
     stands = start_stands v first m commands text stands;
+    name = refl;
+    datime = refl;
     marks = start_marks first m commands;
     time = λ file. elapses_none v (IsStopOf (session_run first m commands) file text);
     costs = no_costs first (session_run first m commands);
@@ -155,16 +169,17 @@ next_at r k c within is = record { within = within; is = get_or_default r.comman
 module _ (start v new : View) (first s s1 : SessionState) (commands : List Command) (k : ℕ) (c : Command) (within : k < length commands) (is : c ≡ get_or commands k c)
     (doing : Doing start v first s commands k) where
   pub does_next : (outcome : Outcome) → ((m : State) (text : List ℕ) → StandsFor v s m text → Went v new s s1 m c text outcome)
-      → IsReady new s1 → s1.failed ≡ false → Becomes Any v.holds new.holds → NoCountRose v new → Doing start new first s1 commands (k + 1)
-  does_next outcome went ready fresh told none = record {
+      → IsReady new s1 → s1.failed ≡ false → Becomes Any v.holds new.holds → Becomes Grown v.said new.said → NoCountRose v new → Doing start new first s1 commands (k + 1)
+  does_next outcome went ready fresh told said none = record {
     ready = ready;
     fresh = fresh;
     told = any_join start.holds v.holds new.holds doing.told told;
+    said = grows_join start.said v.said new.said doing.said said;
     none = (none.0 ∙ doing.none.0, none.1 ∙ doing.none.1);
     sofar = λ m text stands.
         let r = session_run first m commands in
         let so = doing.sofar m text stands in
-        one_more r text k c (next_at r k c within is) s so.marks start v new s1 outcome so.time first so.costs
+        one_more r text k c (next_at r k c within is) s so.marks start v new s1 outcome so.time first so.name so.datime so.costs
         (went (behind r k) (text ++ replies r k) so.stands);
   }
 
@@ -176,6 +191,21 @@ module _ (start v new : View) (first s s1 : SessionState) (commands : List Comma
       elapses_join (Steps (behind r k) (next_of s (behind r k) c) (text ++ replies r k)) (so.time file)
       (stopped (behind r k) (text ++ replies r k) so.stands)
       (λ image said steps. stops_within r text k c (next_at r k c within is) s so.marks file image said steps)
+
+  -- and nothing of what was said is want of room
+  pub room_there : (e : SessionFault) → (SaysNothing {X = Outcome} (Err e) → new.said ≡ v.said)
+      → (IsSaid {X = Outcome} (Err e) → (m : State) (text : List ℕ) → StandsFor v s m text → LacksRoomIfFull (with_cost (cost_of m c) s) (outcome_of (next_of s m c).reply))
+      → ((m : State) (text : List ℕ) → StandsFor v s m text → SaysPart new text (text_of (next_of s m c).reply))
+      → (m : State) (text : List ℕ) → StandsFor start first m text → first.costs ≡ 0 → HasFileRoom first.opened m commands (session_run first m commands).marks
+      → SaidFindRoom (session_run first m commands) text new
+  room_there e silent lacks part m text stands none room =
+      let r = session_run first m commands in
+      let so = doing.sofar m text stands in
+      let next = next_at r k c within is in
+      let same : step_at r k c ≡ next_of s (behind r k) c = done_is r text k c next s so.marks in
+      room_at_fault first s r text k c next so.costs none room v new e so.stands.said silent
+      (λ spoken. subst (λ (t : Stepped). LacksRoomIfFull (with_cost (cost_of (behind r k) c) s) (outcome_of t.reply)) (sym same) (lacks spoken (behind r k) (text ++ replies r k) so.stands))
+      (subst (λ (t : Stepped). SaysPart new (text ++ replies r k) (text_of t.reply)) (sym same) (part (behind r k) (text ++ replies r k) so.stands))
 
 -- a command that fails leaves the file marked as open
 pub leaves_open : (start v new : View) (first s : SessionState) (commands : List Command) (k : ℕ) (c : Command) → Doing start v first s commands k → IsLawful new
@@ -193,6 +223,8 @@ all_done start v first s commands k all doing m text stands =
     let so = doing.sofar m text stands in
     record {
       stands = subst (λ (cs : List Command). StandsFor v s (state_after m cs r.marks) (text ++ said_of m cs r.marks)) (take_all k commands all) so.stands;
+      name = so.name;
+      datime = so.datime;
       room = λ none room. all_find_room first s r k all so.costs none room;
     }
 
@@ -206,3 +238,8 @@ cause_of_close start v new (Ok x) none cause = (cause.0 ∙ none.0, cause.1 ∙ 
 cause_of_close start v new (Err HostFault) none cause = (rw (← none.0) cause.0, cause.1 ∙ none.1)
 cause_of_close start v new (Err SayFault) none cause = absurd cause
 cause_of_close start v new (Err NoMemory) none cause = (cause.0 ∙ none.0, cause.1 ∙ none.1)
+
+-- what follows from two clauses where a call succeeds
+pub on_ok_both : {X E P Q R : Type 0} (r : Result X E) → (P → Q → R) → OnOk r P → OnOk r Q → OnOk r R
+on_ok_both (Ok x) f p q = f p q
+on_ok_both (Err e) f p q = tt

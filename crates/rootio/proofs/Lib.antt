@@ -6,6 +6,7 @@ pub mod Opening
 pub mod Pieces
 pub mod Room
 pub mod RunStops
+pub mod SaidFronts
 pub mod Scripts
 pub mod Unclosed
 pub mod Untouched

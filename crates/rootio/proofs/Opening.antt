@@ -1,13 +1,13 @@
 -- How a run of a script ends: where nothing is done, where the file isn't opened, and where it is.
-use Rattle.std.proofs.Common.{if◌then◌else◌, ◌≡◌, inl, ℕ, Bool, true, false, List, length, Option, Some, None, Result, Ok, Err, subst, sym, refl, ap, ◌∙◌}
+use Rattle.std.proofs.Common.{if◌then◌else◌, ◌≡◌, ◌⊎◌, inl, inr, ⊎_elim, ℕ, Bool, true, false, List, length, Option, Some, None, Result, Ok, Err, subst, sym, refl, ap, ◌∙◌}
 use Rattle.std.specs.Result.{OnOk}
 use Rattle.rio_head.specs.declared.fault.FileFault.{FileFault}
 use Rattle.rio_head.specs.declared.fault.HeadFault.{HeadFault}
 use Rattle.rio_head.specs.declared.reason.Reason.{Reason}
 use Rattle.rio_head.specs.declared.reason.Reason.TheVariants.{NotYet}
 use Rattle.rio_head.specs.Head.{fault_at}
-use Rattle.rio_host.specs.Host.{Becomes, Elapses, IsQuiet, View}
-use Rattle.rio_host.specs.OnlyReads.{OnlyReads}
+use Rattle.rio_host.specs.Host.{Becomes, Elapses, IsLawful, IsQuiet, View}
+use Rattle.rio_host.specs.OnlyReads.{Grown, OnlyReads}
 use Rattle.rio_host.proofs.Moments.{elapses_as, elapses_join}
 use Rattle.rio_host.proofs.ReadsLaws.{reads_none}
 use Rattle.rio_dir.specs.Unborn.{header_fault, is_unborn}
@@ -20,6 +20,8 @@ use Rattle.rio_cmd.specs.Built.{built_script}
 use Rattle.rio_step.specs.Costs.{HasFileRoom}
 use Rattle.rio_state.specs.Reads.{ReadsAsState}
 use Rattle.rio_state.specs.Reasons.{reason_at}
+use Rattle.rio_create.specs.Creation.{LeavesUnclosed}
+use Rattle.rio_session.specs.Closes.{IsWellClosed}
 use Rattle.rio_session.specs.Causes.{IsNotOpened, IsOpenCause, IsSessionCause, NoCountRose, TellsWhyNot}
 use Rattle.rio_session.specs.Marks.{marks_of_run}
 use Rattle.rio_session.specs.Session.{BeginsNew, SessionState, StandsFor}
@@ -27,7 +29,8 @@ use Rattle.rio_session.specs.declared.fault.OpenFault.{OpenFault}
 use Rattle.rio_session.specs.declared.fault.OpenFault.TheVariants.{BadFile as FileBad, ReadOnly as FileReadOnly, NoMemory as NotRoomy, HostFault as NotOpened}
 use Rattle.rio_session.specs.declared.fault.SessionFault.{SessionFault}
 use Rattle.rio_session.specs.declared.fault.SessionFault.TheVariants.{HostFault, SayFault as NotSaid, NoMemory as OutOfMemory}
-use Rattle.rootio.specs.Headline.{IsDone, IsStopOf, ScriptRun, opening_length}
+use Rattle.rio_session.proofs.Spoken.{front_none, grows_none}
+use Rattle.rootio.specs.Headline.{IsDone, IsStopOf, SaidFindRoom, ScriptRun, all_replies, opening_length}
 use Rattle.rootio.specs.Reading.{RefusesBroken, TellsFirstFault}
 use Rattle.rootio.specs.Script.{HasClosed, IsFileCause, RunsScript, StaysOpenBy, session_run, status_of_open, status_of_session}
 use Rattle.rootio.specs.Target.{TargetFile}
@@ -35,6 +38,8 @@ use Rattle.rootio.specs.Writing.{Begins, EndsUnclosed, RefusesFile, RefusesReadO
 use Rattle.rootio.specs.declared.status.Status.TheVariants.{Done, BadFile, NoMemory, ReadOnly}
 use Rattle.rootio.specs.declared.words.Form.TheVariants.{Writes}
 use Rattle.rootio.specs.declared.words.Work.TheVariants.{Run}
+use Rattle.rootio.proofs.Room.{silent_room}
+use Rattle.rootio.proofs.SaidFronts.{grows_join, said_front}
 use Rattle.rootio.proofs.Scripts.{OpensAs, stop_opening}
 use Rattle.rootio.proofs.Unclosed.{ends_unclosed}
 use Rattle.rootio.proofs.Untouched.{any_join, becomes_same, elapses_none}
@@ -44,7 +49,10 @@ use Rattle.rootio.proofs.Untouched.{any_join, becomes_same, elapses_none}
 pub nothing_done : (target : TargetFile) (script : List ℕ) (v : View) → RunsScript target script v v NoMemory
 nothing_done target script v = record {
   stops = λ file text m begins. elapses_none v (IsStopOf (run_of_work (Run target) script m) file text);
+  said = λ file text m begins. front_none v v text (all_replies (run_of_work (Run target) script m)) begins.said refl;
+  room = λ file text m begins room. silent_room (run_of_work (Run target) script m) text v begins.said;
   done = λ file text m begins is. absurd cc;
+  written = λ file text m begins is. absurd cc;
   unclosed = λ file text m begins. inl (reads_none v);
   told = becomes_same v.holds;
   faults = λ place kind is. absurd cc;
@@ -118,11 +126,17 @@ module _ (target : TargetFile) (v0 v1 : View) where
   open_answer NotRoomy untouched refuses = absurd refuses
   open_answer NotOpened untouched refuses = absurd refuses
 
-  open_unclosed : (fault : OpenFault) → (IsNotOpened {X = SessionState} (Err fault) → OnlyReads v0 v1) → EndsUnclosed v0 v1 (status_of_open fault)
-  open_unclosed (FileBad p k) untouched = tt
-  open_unclosed (FileReadOnly p r) untouched = tt
-  open_unclosed NotRoomy untouched = inl (untouched tt)
-  open_unclosed NotOpened untouched = tt
+  -- a file that is made isn't written to, and one that isn't made stays so or is marked as open
+  made_or_not : (unborn : Bool) → (unborn ≡ true → LeavesUnclosed v1) → (unborn ≡ false → OnlyReads v0 v1) → OnlyReads v0 v1 ⊎ LeavesUnclosed v1
+  made_or_not true new made = inr (new refl)
+  made_or_not false new made = inl (made refl)
+
+  open_unclosed : (run : ScriptRun) (before : List ℕ) (fault : OpenFault) → OnlyReads v0 v1 ⊎ LeavesUnclosed v1
+      → (IsNotOpened {X = SessionState} (Err fault) → OnlyReads v0 v1) → EndsUnclosed run before v0 v1 (status_of_open fault)
+  open_unclosed run before (FileBad p k) stays untouched = tt
+  open_unclosed run before (FileReadOnly p r) stays untouched = tt
+  open_unclosed run before NotRoomy stays untouched = inl (untouched tt)
+  open_unclosed run before NotOpened stays untouched = ⊎_elim (λ reads. inl reads) (λ unclosed. inr (inl unclosed)) stays
 
   open_cause : (fault : OpenFault) → IsOpenCause {X = SessionState} v0 v1 (Err fault) → IsFileCause v0 v1 (status_of_open fault)
   open_cause (FileBad p k) cause = (cause.0, cause.1.0, cause.1.1)
@@ -141,16 +155,21 @@ abbrev pub OpensSo : View → View → Type 0
 OpensSo v0 v1 = (file text : List ℕ) (m : State) → IsQuiet v0 → v0.holds ≡ Some file → v0.said ≡ Some text → ReadsAsState file m → Elapses v0 v1 (OpensAs file text m)
 
 pub not_opened : (target : TargetFile) (script : List ℕ) (v0 v1 : View) (fault : OpenFault) → OpensSo v0 v1
+    → ((file : List ℕ) → IsQuiet v0 → v0.holds ≡ Some file → is_unborn file ≡ true → LeavesUnclosed v1)
     → Told v0 (λ file. TellsWhyNot file {X = SessionState} (Err fault))
     → ((file : List ℕ) → v0.holds ≡ Some file → is_unborn file ≡ false → OnlyReads v0 v1)
-    → (IsNotOpened {X = SessionState} (Err fault) → OnlyReads v0 v1) → Becomes Any v0.holds v1.holds → IsOpenCause {X = SessionState} v0 v1 (Err fault)
-    → RunsScript target script v0 v1 (status_of_open fault)
-not_opened target script v0 v1 fault opens why unwritten untouched told cause = record {
-  stops = λ file text m begins.
-      elapses_as (IsStopOf (run_of_work (Run target) script m) file text) (OpensAs file text m) (opens file text m begins.quiet begins.holds begins.said begins.reads)
-      (λ image said left. stop_opening (run_of_work (Run target) script m) file text image said begins.reads left);
+    → (IsNotOpened {X = SessionState} (Err fault) → OnlyReads v0 v1) → Becomes Any v0.holds v1.holds → v1.said ≡ v0.said → IsOpenCause {X = SessionState} v0 v1 (Err fault)
+    → IsLawful v0 → IsLawful v1 → RunsScript target script v0 v1 (status_of_open fault)
+not_opened target script v0 v1 fault opens unclosed why unwritten untouched told same cause law law' = record {
+  stops = stops;
+  said = λ file text m begins.
+      said_front v0 v1 file text m (run_of_work (Run target) script m) law law' begins (stops file text m begins) told (grows_none v0.said v1.said same);
+  room = λ file text m begins room. silent_room (run_of_work (Run target) script m) text v1 (same ∙ begins.said);
   done = λ file text m begins is. absurd (not_done target v0 v1 fault is);
-  unclosed = λ file text m begins. open_unclosed target v0 v1 fault untouched;
+  written = λ file text m begins is. absurd (not_done target v0 v1 fault is);
+  unclosed = λ file text m begins.
+      open_unclosed target v0 v1 (run_of_work (Run target) script m) text fault
+      (made_or_not target v0 v1 (is_unborn file) (unclosed file begins.quiet begins.holds) (unwritten file begins.holds)) untouched;
   told = told;
   faults = open_faults target v0 v1 fault why;
   broken = open_broken target v0 v1 fault why;
@@ -159,6 +178,11 @@ not_opened target script v0 v1 fault opens why unwritten untouched told cause = 
   spares = record { answer = open_answer target v0 v1 fault untouched; file = unwritten };
   cause = open_cause target v0 v1 fault cause;
 }
+  where
+    stops : (file text : List ℕ) (m : State) → Begins v0 file text m → Elapses v0 v1 (IsStopOf (run_of_work (Run target) script m) file text)
+    stops file text m begins =
+        elapses_as (IsStopOf (run_of_work (Run target) script m) file text) (OpensAs file text m) (opens file text m begins.quiet begins.holds begins.said begins.reads)
+        (λ image said left. stop_opening (run_of_work (Run target) script m) file text image said begins.reads left)
 
 -- ---- the file is opened
 
@@ -210,11 +234,13 @@ module _ (target : TargetFile) (script : List ℕ) (v0 v1 v2 : View) (s : Sessio
     (opens : OpensSo v0 v1)
     (stands : (file text : List ℕ) (m : State) → v0.holds ≡ Some file → v0.said ≡ Some text → ReadsAsState file m → StandsFor v1 s m text)
     (new : BeginsNew s target.name target.datime) (why : Told v0 (λ file. TellsWhyNot file {X = SessionState} (Ok s)))
-    (told01 : Becomes Any v0.holds v1.holds) (none : NoCountRose v0 v1) (are : commands ≡ built_script script)
+    (told01 : Becomes Any v0.holds v1.holds) (said01 : v1.said ≡ v0.said) (none : NoCountRose v0 v1) (are : commands ≡ built_script script)
     (stops : (file text : List ℕ) (m : State) → StandsFor v1 s m text → Elapses v1 v2 (IsStopOf (session_run s m commands) file text))
     (done : OnOk r ((m : State) (text : List ℕ) → StandsFor v1 s m text → HasClosed (session_run s m commands) s text v2))
-    (unclosed : (m : State) (text : List ℕ) → StandsFor v1 s m text → StaysOpenBy v2 r)
-    (told12 : Becomes Any v1.holds v2.holds) (cause : IsSessionCause v1 v2 r) where
+    (unclosed : (m : State) (text : List ℕ) → StandsFor v1 s m text → StaysOpenBy (session_run s m commands) text v2 r)
+    (told12 : Becomes Any v1.holds v2.holds) (said12 : Becomes Grown v1.said v2.said)
+    (room12 : (m : State) (text : List ℕ) → StandsFor v1 s m text → s.costs ≡ 0 → HasFileRoom s.opened m commands (session_run s m commands).marks → SaidFindRoom (session_run s m commands) text v2)
+    (cause : IsSessionCause v1 v2 r) (law : IsLawful v0) (law' : IsLawful v2) where
   does_all : (file text : List ℕ) (m : State) → Begins v0 file text m → Elapses v0 v2 (IsStopOf (run_of_work (Run target) script m) file text)
   does_all file text m begins =
       let P = IsStopOf (run_of_work (Run target) script m) file text in
@@ -225,19 +251,35 @@ module _ (target : TargetFile) (script : List ℕ) (v0 v1 v2 : View) (s : Sessio
       elapses_join (IsStopOf (session_run s m commands) file text) first later
       (λ image said stop. subst (λ (run : ScriptRun). IsStopOf run file text image said) same stop)
 
+  opened_empty : (file text : List ℕ) (m : State) → Begins v0 file text m → s.opened ≡ opening_length file
+  opened_empty file text m begins = new.opened ∙ sym (new_is_empty (is_unborn file) (length file) (why file begins.holds))
+
   pub opened : RunsScript target script v0 v2 (status_of_session r)
   opened = record {
     stops = does_all;
+    said = λ file text m begins.
+        said_front v0 v2 file text m (run_of_work (Run target) script m) law law' begins (does_all file text m begins) (any_join v0.holds v1.holds v2.holds told01 told12)
+        (grows_join v0.said v1.said v2.said (grows_none v0.said v1.said said01) said12);
+    room = λ file text m begins.
+        subst (λ (run : ScriptRun). HasFileRoom (opening_length file) m run.commands run.marks → SaidFindRoom run text v2) (run_same target script s commands m new are)
+        (λ room.
+        room12 m text (stands file text m begins.holds begins.said begins.reads) new.costs
+        (subst (λ n. HasFileRoom n m commands (session_run s m commands).marks) (sym (opened_empty file text m begins)) room));
     done = λ file text m begins is.
         let closed = ended_well r _ done is m text (stands file text m begins.holds begins.said begins.reads) in
-        let empty : s.opened ≡ opening_length file = new.opened ∙ sym (new_is_empty (is_unborn file) (length file) (why file begins.holds)) in
+        let empty : s.opened ≡ opening_length file = opened_empty file text m begins in
         subst (λ (run : ScriptRun). IsDone run file text v2) (run_same target script s commands m new are)
         (record {
           said = closed.said;
           left = closed.left;
           room = λ room. closed.room new.costs (subst (λ n. HasFileRoom n m commands (session_run s m commands).marks) (sym empty) room);
         });
-    unclosed = λ file text m begins. ends_unclosed v0 v2 r (unclosed m text (stands file text m begins.holds begins.said begins.reads));
+    written = λ file text m begins is last held.
+        let closed = ended_well r _ done is m text (stands file text m begins.holds begins.said begins.reads) in
+        subst (λ (x : List ℕ × ℕ). IsWellClosed x.0 x.1 last) (λ i. (new.name_is i, new.datime_is i)) (closed.written last held);
+    unclosed = λ file text m begins.
+        subst (λ (run : ScriptRun). EndsUnclosed run text v0 v2 (status_of_session r)) (run_same target script s commands m new are)
+        (ends_unclosed (session_run s m commands) text v0 v2 r (unclosed m text (stands file text m begins.holds begins.said begins.reads)));
     told = any_join v0.holds v1.holds v2.holds told01 told12;
     faults = λ place kind is. absurd (not_bad r place kind is);
     broken = λ fault file here e.

@@ -1,7 +1,8 @@
 -- The costs of a run's commands, and where there is room for them.
-use Rattle.std.proofs.Common.{◌≡◌, inl, inr, ℕ, ◌+◌, ◌*◌, ◌-◌, ◌^◌, ◌<◌, ◌≤◌, min, List, [], ◌∷◌, ◌++◌, length, take, drop, take-append-drop, subst, sym, refl, ap, ◌∙◌, arith}
+use Rattle.std.proofs.Common.{◌≡◌, inl, inr, ℕ, zero, suc, add-zero, length-append, length-take, Some, Err, ◌+◌, ◌*◌, ◌-◌, ◌^◌, ◌<◌, ◌≤◌, min, List, [], ◌∷◌, ◌++◌, length, take, drop, take-append-drop, subst, sym, refl, ap, ◌∙◌, arith}
 use Rattle.std.proofs.lemmas.Bool.{cases_lt}
-use Rattle.std.proofs.lemmas.Option.{get_or_from_slice_get, slice_get_within}
+use Rattle.std.proofs.lemmas.Option.{get_or_from_slice_get, same_Some, slice_get_within}
+use Rattle.rio_host.specs.Host.{View}
 use Rattle.rio_machine.specs.State.{State}
 use Rattle.rio_machine.specs.declared.command.Command.{Command}
 use Rattle.rio_machine.specs.declared.command.Command.TheVariants.{Ls}
@@ -10,9 +11,14 @@ use Rattle.rio_machine.specs.declared.refusal.Refusal.TheVariants.{Full}
 use Rattle.rio_step.specs.Costs.{HasFileRoom, cost_of, costs_of_run, room_limit}
 use Rattle.rio_step.specs.Runs.{Marks, first_step, later_marks, state_after}
 use Rattle.rio_step.specs.Step.{Reply, class_declared, object_put, item_deleted, tree_made, row_added, rows_saved, object_told, rows_told, items_listed, refused, outcome_of}
-use Rattle.rio_session.specs.Session.{LacksRoomIfFull, SessionState}
-use Rattle.rootio.specs.Headline.{AllFindRoom, IsWantOfRoom, ScriptRun, reply_at}
-use Rattle.rootio.proofs.RunStops.{IsNext, behind, pushed}
+use Rattle.rio_step.specs.ReplyText.{text_of}
+use Rattle.rio_session.specs.Behind.{SaysPart}
+use Rattle.rio_session.specs.Causes.{IsSaid, SaysNothing}
+use Rattle.rio_session.specs.Session.{LacksRoomIfFull, SessionState, with_cost}
+use Rattle.rio_session.specs.declared.fault.SessionFault.{SessionFault}
+use Rattle.rio_session.specs.declared.fault.SessionFault.TheVariants.{HostFault, SayFault, NoMemory}
+use Rattle.rootio.specs.Headline.{AllFindRoom, IsWantOfRoom, SaidFindRoom, ScriptRun, replies, reply_at}
+use Rattle.rootio.proofs.RunStops.{IsNext, behind, pushed, replies_grow, replies_longer}
 
 costs_push : (m : State) (cs : List Command) (c : Command) (marks : Marks)
     → costs_of_run m (cs ++ c ∷ []) marks ≡ costs_of_run m cs marks + cost_of (state_after m cs marks) c
@@ -98,3 +104,75 @@ all_find_room first s r k all so none room j c there want =
     let lacks = so.lacks j c (omega (arith, within, all)) next want in
     let part = costs_whole r (j + 1) in
     omega (arith, lacks, part, none, room)
+
+-- ---- whatever is answered
+
+-- more replies are longer
+replies_later : (r : ScriptRun) (k d : ℕ) → k + d ≤ length r.commands → length (replies r k) ≤ length (replies r (k + d))
+replies_later r k zero le = subst (λ (n : ℕ). length (replies r k) ≤ length (replies r n)) (sym (add-zero k)) (omega arith)
+replies_later r k (suc d) le =
+    let one = replies_later r k d (omega (arith, le)) in
+    let more = replies_grow r (k + d) (omega (arith, le)) in
+    let e : k + d + 1 ≡ k + suc d = omega arith in
+    subst (λ (n : ℕ). length (replies r k) ≤ length (replies r n)) e (omega (arith, one, more))
+
+-- nothing was said
+pub silent_room : (r : ScriptRun) (text : List ℕ) (new : View) → new.said ≡ Some text → SaidFindRoom r text new
+silent_room r text new is said told k c there long want = omega (arith, ap length (same_Some said text (sym told ∙ is)), long)
+
+module _ (first s : SessionState) (r : ScriptRun) (text : List ℕ) (k : ℕ) (c : Command) (next : IsNext r k c) (so : CostsSo first s r k) (none : first.costs ≡ 0)
+    (room : HasFileRoom first.opened r.start r.commands r.marks) where
+  earlier : (j : ℕ) (d : Command) → j < k → IsNext r j d → IsWantOfRoom (reply_at r j d) → ⊥
+  earlier j d below at want =
+      let lacks = so.lacks j d below at want in
+      let part = costs_whole r (j + 1) in
+      omega (arith, lacks, part, none, room)
+
+  here : LacksRoomIfFull (with_cost (cost_of (behind r k) c) s) (outcome_of (reply_at r k c)) → (d : Command) → IsNext r k d → IsWantOfRoom (reply_at r k d) → ⊥
+  here full d at want =
+      let asked : IsWantOfRoom (reply_at r k c) = subst (λ (x : Command). IsWantOfRoom (reply_at r k x)) (same_next r k d c at next) want in
+      let lacks = lacking (with_cost (cost_of (behind r k) c) s) (reply_at r k c) full asked in
+      let sum = costs_next r k c next in
+      let part = costs_whole r (k + 1) in
+      omega (arith, lacks, so.count, so.opened, sum, part, none, room)
+
+  module _ (v new : View) (was : v.said ≡ Some (text ++ replies r k)) (said : List ℕ) (told : new.said ≡ Some said) where
+    nothing_more : new.said ≡ v.said → length said ≡ length text + length (replies r k)
+    nothing_more same = ap length (same_Some said (text ++ replies r k) (sym told ∙ same ∙ was)) ∙ length-append text (replies r k)
+
+    this_one : (e : SessionFault) → (SaysNothing {X = Outcome} (Err e) → new.said ≡ v.said)
+        → (IsSaid {X = Outcome} (Err e) → LacksRoomIfFull (with_cost (cost_of (behind r k) c) s) (outcome_of (reply_at r k c)))
+        → (d : Command) → IsNext r k d → length text + length (replies r k) < length said → IsWantOfRoom (reply_at r k d) → ⊥
+    this_one HostFault silent full d at long want = omega (arith, nothing_more (silent tt), long)
+    this_one SayFault silent full d at long want = here (full tt) d at want
+    this_one NoMemory silent full d at long want = omega (arith, nothing_more (silent tt), long)
+
+    -- no more than this reply was said
+    short : SaysPart new (text ++ replies r k) (text_of (reply_at r k c)) → length said ≤ length text + length (replies r (k + 1))
+    short part =
+        let is = ap length (same_Some said ((text ++ replies r k) ++ take part.0 (text_of (reply_at r k c))) (sym told ∙ part.1)) in
+        let one = length-append (text ++ replies r k) (take part.0 (text_of (reply_at r k c))) in
+        omega (arith, is, one, length-append text (replies r k), length-take part.0 (text_of (reply_at r k c)), replies_longer r k c next)
+
+    later : (j : ℕ) → k < j → j < length r.commands → length (replies r (k + 1)) ≤ length (replies r j)
+    later j behind_k within =
+        let e : k + 1 + (j - (k + 1)) ≡ j = omega (arith, behind_k) in
+        subst (λ (n : ℕ). length (replies r (k + 1)) ≤ length (replies r n)) e (replies_later r (k + 1) (j - (k + 1)) (omega (arith, within, behind_k)))
+
+  -- a command failed
+  pub room_at_fault : (v new : View) (e : SessionFault) → v.said ≡ Some (text ++ replies r k) → (SaysNothing {X = Outcome} (Err e) → new.said ≡ v.said)
+      → (IsSaid {X = Outcome} (Err e) → LacksRoomIfFull (with_cost (cost_of (behind r k) c) s) (outcome_of (reply_at r k c)))
+      → SaysPart new (text ++ replies r k) (text_of (reply_at r k c)) → SaidFindRoom r text new
+  room_at_fault v new e was silent full part said told j d there long want =
+      let within : j < length r.commands = slice_get_within r.commands j d there in
+      let at : IsNext r j d = record { within = within; is = get_or_from_slice_get r.commands j d Ls there } in
+      elim (cases_lt j k) [
+        | inl in_front ↦ earlier j d in_front at want
+        | inr not_in_front ↦ elim (cases_lt k j) [
+          | inl behind_k ↦ omega (arith, long, short v new was said told part, later v new was said told j behind_k within)
+          | inr not_behind ↦
+              let same : j ≡ k = omega (arith, not_in_front, not_behind) in
+              let long_here : length text + length (replies r k) < length said = subst (λ (n : ℕ). length text + length (replies r n) < length said) same long in
+              this_one v new was said told e silent full d (subst (λ (n : ℕ). IsNext r n d) same at) long_here (subst (λ (n : ℕ). IsWantOfRoom (reply_at r n d)) same want)
+        ]
+      ]

@@ -93,7 +93,7 @@ take_replies r k j =
     ∙ take-append_add (replies r k) (later_replies r k) j (length (replies r k) + j) refl
 
 -- no reply is empty
-replies_grow : (r : ScriptRun) (k : ℕ) → k < length r.commands → length (replies r k) < length (replies r (k + 1))
+pub replies_grow : (r : ScriptRun) (k : ℕ) → k < length r.commands → length (replies r k) < length (replies r (k + 1))
 replies_grow r k within =
     let next : IsNext r k (get_or r.commands k Ls) = record { within = within; is = refl } in
     let some = replies_say_something (step_at r k (get_or r.commands k Ls)).reply in

@@ -1,5 +1,5 @@
 -- Runs that end without a close: what a stop leaves is marked as open.
-use Rattle.std.proofs.Common.{◌≡◌, inl, inr, ⊎_elim, List, ℕ, Result, Ok, Err, subst, sym, refl}
+use Rattle.std.proofs.Common.{◌≡◌, inl, inr, ⊎_elim, List, ◌++◌, ℕ, Some, Result, Ok, Err, subst, sym, refl}
 use Rattle.rio_host.specs.Host.{Elapses, IsLawful, View}
 use Rattle.rio_host.specs.OnlyReads.{OnlyReads}
 use Rattle.rio_host.proofs.Moments.{leaves_back}
@@ -12,6 +12,7 @@ use Rattle.rio_session.specs.Session.{IsReady, SessionState, StandsFor, Steps}
 use Rattle.rio_session.specs.declared.fault.SessionFault.{SessionFault}
 use Rattle.rio_session.specs.declared.fault.SessionFault.TheVariants.{HostFault, SayFault, NoMemory}
 use Rattle.rio_session.proofs.Opened.{reads_open}
+use Rattle.rootio.specs.Headline.{ScriptRun, all_replies}
 use Rattle.rootio.specs.Script.{StaysOpenBy, status_of_session}
 use Rattle.rootio.specs.Writing.{EndsUnclosed, LeavesOpen}
 
@@ -32,20 +33,22 @@ module _ (v new : View) (s : SessionState) (m : State) (text : List ℕ) (ready 
   steps_open law next time image said left =
       ⊎_elim (λ was. stands_open image said was) (λ steps. steps_are_open m next text image said steps) (leaves_back law time image said left)
 
-  -- a close that finds no memory writes nothing
-  pub close_open : IsLawful new → (r : Result (Unit {0}) SessionFault) → (r ≡ Err NoMemory → OnlyReads v new) → IsCloseCause v new r → StaysOpenBy new r
-  close_open law (Ok x) only cause = tt
-  close_open law (Err HostFault) only cause = tt
-  close_open law (Err SayFault) only cause = absurd cause
-  close_open law (Err NoMemory) only cause = λ image said left. stands_open image said (left_before law (only refl) image said left)
+  -- a close that finds no memory writes nothing, and one whose disk fails stands behind all replies
+  pub close_open : IsLawful new → (run : ScriptRun) (before : List ℕ) (r : Result (Unit {0}) SessionFault) → new.said ≡ Some (before ++ all_replies run)
+      → (r ≡ Err NoMemory → OnlyReads v new) → IsCloseCause v new r → StaysOpenBy run before new r
+  close_open law run before (Ok x) said only cause = tt
+  close_open law run before (Err HostFault) said only cause = inr said
+  close_open law run before (Err SayFault) said only cause = absurd cause
+  close_open law run before (Err NoMemory) said only cause = λ image told left. stands_open image told (left_before law (only refl) image told left)
 
-pub stays_open : (new : View) (e : SessionFault) → LeavesOpen new → StaysOpenBy new (Err e)
-stays_open new HostFault marked = tt
-stays_open new SayFault marked = marked
-stays_open new NoMemory marked = marked
+pub stays_open : (run : ScriptRun) (before : List ℕ) (new : View) (e : SessionFault) → LeavesOpen new → StaysOpenBy run before new (Err e)
+stays_open run before new HostFault marked = inl marked
+stays_open run before new SayFault marked = marked
+stays_open run before new NoMemory marked = marked
 
-pub ends_unclosed : (old new : View) (r : Result (Unit {0}) SessionFault) → StaysOpenBy new r → EndsUnclosed old new (status_of_session r)
-ends_unclosed old new (Ok x) marked = tt
-ends_unclosed old new (Err HostFault) marked = tt
-ends_unclosed old new (Err SayFault) marked = inr marked
-ends_unclosed old new (Err NoMemory) marked = inr marked
+pub ends_unclosed : (run : ScriptRun) (before : List ℕ) (old new : View) (r : Result (Unit {0}) SessionFault) → StaysOpenBy run before new r
+    → EndsUnclosed run before old new (status_of_session r)
+ends_unclosed run before old new (Ok x) stays = tt
+ends_unclosed run before old new (Err HostFault) stays = inr (⊎_elim (λ marked. inl (λ image said left. inr (marked image said left))) (λ said. inr said) stays)
+ends_unclosed run before old new (Err SayFault) marked = inr marked
+ends_unclosed run before old new (Err NoMemory) marked = inr marked

@@ -10,8 +10,11 @@ use Rattle.rio_host.proofs.Images.{becomes_some}
 use Rattle.rio_host.proofs.ReadsLaws.{reads_none}
 use Rattle.rio_state.specs.Reasons.{ReasonAt}
 use Rattle.rootio.specs.Causes.{IsCause, NoInputFault}
-use Rattle.rootio.specs.Headline.{IsDone, IsStopOf}
-use Rattle.rootio.specs.Input.{ReadsAll, RefusesTooLong, TakenAll, TellsTooLong, status_of_input}
+use Rattle.rio_step.specs.Costs.{HasFileRoom}
+use Rattle.rio_session.specs.Behind.{SaysPart}
+use Rattle.rio_session.proofs.Spoken.{front_none}
+use Rattle.rootio.specs.Headline.{IsDone, IsStopOf, SaidFindRoom, ScriptRun, all_replies, opening_length}
+use Rattle.rootio.specs.Input.{IsPastInput, ReadsAll, RefusesTooLong, TakenAll, TellsTooLong, status_of_input}
 use Rattle.rootio.specs.Reading.{TellsUnlessCut}
 use Rattle.rootio.specs.Script.{IsFileCause, RunsScript, WorksOn}
 use Rattle.rootio.specs.Target.{TargetFile}
@@ -23,6 +26,7 @@ use Rattle.rootio.specs.declared.status.Status.TheVariants.{Done, Usage, BadFile
 use Rattle.rootio.specs.declared.words.Form.TheVariants.{Writes}
 use Rattle.rootio.specs.declared.words.Work.{Work}
 use Rattle.rootio.specs.declared.words.Work.TheVariants.{Run}
+use Rattle.rootio.proofs.Room.{silent_room}
 use Rattle.rootio.proofs.Untouched.{becomes_same, elapses_none}
 
 -- ---- no input
@@ -35,16 +39,20 @@ record IsBefore (status : Status) : Type 0 where
   broken : (fault : HeadFault) → TellsUnlessCut fault status
   kept : (against : ReasonAt) → TellsReasonUnlessCut against status
   refuses : RefusesFile status → ⊥
+  past : IsPastInput status → ⊥
 
-untouched : (work : Work) (v : View) (before after : Input) (status : Status) → IsBefore status → EndsUnclosed v v status → TellsTooLong before status
+untouched : (work : Work) (v : View) (before after : Input) (status : Status) → IsBefore status → ((run : ScriptRun) (text : List ℕ) → EndsUnclosed run text v v status) → TellsTooLong before status
     → RefusesTooLong (Some (Writes work)) before status → IsCause (Some (Writes work)) v v before after status → WorksOn work v v before after status
 untouched work v before after status is unclosed too_long limited cause = record {
   writes = record {
     headline = record {
       stops = λ file text input m begins told. elapses_none v (IsStopOf (run_of_work work input m) file text);
+      said = λ file text input m begins told. front_none v v text (all_replies (run_of_work work input m)) begins.said refl;
+      room = λ file text input m begins told room. silent_room (run_of_work work input m) text v begins.said;
       done = λ file text input m begins told ended. absurd (is.done ended);
-      unclosed = λ file text m begins. unclosed;
-      input = λ input told ended. absurd (is.done ended);
+      written = λ file text m begins ended. absurd (is.done ended);
+      unclosed = λ file text input m begins told. unclosed (run_of_work work input m) text;
+      input = λ input told past. absurd (is.past past);
       told = becomes_same v.holds;
     };
     spares = record { answer = λ refuses. absurd (is.refuses refuses); file = λ file here made. reads_none v };
@@ -62,15 +70,15 @@ pub no_input : (target : TargetFile) (v : View) (before after : Input) (error : 
     → WorksOn (Run target) v v before after (status_of_input error)
 no_input target v before after Fault read =
     untouched (Run target) v before after InputFault
-    (record { done = λ e. cc; bad = λ place kind e. cc; read_only = λ place reason e. cc; broken = λ fault. tt; kept = λ against. tt; refuses = λ r. r }) tt
+    (record { done = λ e. cc; bad = λ place kind e. cc; read_only = λ place reason e. cc; broken = λ fault. tt; kept = λ against. tt; refuses = λ r. r; past = λ p. p }) (λ run text. tt)
     (λ e. absurd cc) (λ reads bytes told long. tt) (refl, refl, refl, read)
 no_input target v before after OutOfMemory read =
     untouched (Run target) v before after NoMemory
-    (record { done = λ e. cc; bad = λ place kind e. cc; read_only = λ place reason e. cc; broken = λ fault. tt; kept = λ against. tt; refuses = λ r. r }) (inl (reads_none v))
+    (record { done = λ e. cc; bad = λ place kind e. cc; read_only = λ place reason e. cc; broken = λ fault. tt; kept = λ against. tt; refuses = λ r. r; past = λ p. p }) (λ run text. inl (reads_none v))
     (λ e. absurd cc) (λ reads bytes told long. tt) (refl, refl, read)
 no_input target v before after TooLong read =
     untouched (Run target) v before after InputTooLong
-    (record { done = λ e. cc; bad = λ place kind e. cc; read_only = λ place reason e. cc; broken = λ fault. tt; kept = λ against. tt; refuses = λ r. r }) tt
+    (record { done = λ e. cc; bad = λ place kind e. cc; read_only = λ place reason e. cc; broken = λ fault. tt; kept = λ against. tt; refuses = λ r. r; past = λ p. p }) (λ run text. tt)
     (λ e. read.0) (λ reads bytes told long. tt) (refl, (refl, refl, read.1))
 
 -- ---- all of it
@@ -98,11 +106,20 @@ with_input target old new before after text status read ran =
           stops = λ file said input m begins here.
               let all : input ≡ text.bytes = (told input here).2.0 in
               subst (λ (l : List ℕ). Elapses old new (IsStopOf (run_of_work (Run target) l m) file said)) (sym all) (ran.stops file said m begins);
+          said = λ file said input m begins here.
+              let all : input ≡ text.bytes = (told input here).2.0 in
+              subst (λ (l : List ℕ). SaysPart new said (all_replies (run_of_work (Run target) l m))) (sym all) (ran.said file said m begins);
+          room = λ file said input m begins here.
+              let all : input ≡ text.bytes = (told input here).2.0 in
+              subst (λ (l : List ℕ). let r = run_of_work (Run target) l m in HasFileRoom (opening_length file) m r.commands r.marks → SaidFindRoom r said new) (sym all) (ran.room file said m begins);
           done = λ file said input m begins here ended.
               let all : input ≡ text.bytes = (told input here).2.0 in
               subst (λ (l : List ℕ). IsDone (run_of_work (Run target) l m) file said new) (sym all) (ran.done file said m begins ended);
-          unclosed = ran.unclosed;
-          input = λ input here ended. let rest = told input here in rest.1 ∙ ap Some rest.2.1;
+          written = ran.written;
+          unclosed = λ file said input m begins here.
+              let all : input ≡ text.bytes = (told input here).2.0 in
+              subst (λ (l : List ℕ). EndsUnclosed (run_of_work (Run target) l m) said old new status) (sym all) (ran.unclosed file said m begins);
+          input = λ input here past. let rest = told input here in rest.1 ∙ ap Some rest.2.1;
           told = ran.told;
         };
         spares = ran.spares;

@@ -79,6 +79,11 @@ IsWantOfRoom other = ⊥
 abbrev pub AllFindRoom : ScriptRun → Type 0
 AllFindRoom r = (k : ℕ) (c : Command) → slice_get r.commands k ≡ Some c → ¬ IsWantOfRoom (reply_at r k c)
 
+-- no reply of which something was said is want of room
+abbrev pub SaidFindRoom : ScriptRun → List ℕ → View → Type 0
+SaidFindRoom r before new = (said : List ℕ) → new.said ≡ Some said → (k : ℕ) (c : Command) → slice_get r.commands k ≡ Some c
+    → length before + length (replies r k) < length said → ¬ IsWantOfRoom (reply_at r k c)
+
 -- how long the file was when it was opened: one that isn't made yet counts as empty
 abbrev pub opening_length : List ℕ → ℕ
 opening_length file = if is_unborn file then 0 else length file

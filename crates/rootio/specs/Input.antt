@@ -84,6 +84,18 @@ abbrev pub RefusesTooLong : Option Form → Input → Status → Type 0
 RefusesTooLong form before status =
     reads_input form ≡ true → (bytes : List ℕ) → before.remaining ≡ Some bytes → input_limit < length bytes → IsTooLongUnlessCut status
 
+-- answers that come only where all of the input was read
+abbrev pub IsPastInput : Status → Type 0
+IsPastInput Done = Unit {0}
+IsPastInput Usage = ⊥
+IsPastInput (BadFile place kind) = Unit {0}
+IsPastInput DiskFault = Unit {0}
+IsPastInput InputFault = ⊥
+IsPastInput NoMemory = ⊥
+IsPastInput InputTooLong = ⊥
+IsPastInput (ReadOnly place reason) = Unit {0}
+IsPastInput SayFault = Unit {0}
+
 -- a run that ended with its input
 abbrev pub EndsWithInput : Status → Type 0
 EndsWithInput Done = ⊥

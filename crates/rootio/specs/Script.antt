@@ -1,5 +1,5 @@
 -- A script on a file: how a run of it ends.
-use Rattle.std.specs.Prelude.{◌≡◌, ℕ, List, ◌++◌, Some, Result, Ok, Err}
+use Rattle.std.specs.Prelude.{◌≡◌, ◌⊎◌, ℕ, List, ◌++◌, Some, Result, Ok, Err}
 use Rattle.rio_head.specs.Head.{IsHeaderKind}
 use Rattle.rio_host.specs.Host.{Becomes, Elapses, Leaves, Rose, View}
 use Rattle.rio_host.specs.Source.{Input}
@@ -11,6 +11,8 @@ use Rattle.rio_machine.specs.declared.command.Command.{Command}
 use Rattle.rio_step.specs.Costs.{HasFileRoom}
 use Rattle.rio_step.specs.Runs.{state_after}
 use Rattle.rio_state.specs.Reads.{ReadsAsState, ReadsClosed}
+use Rattle.rio_session.specs.Behind.{SaysPart}
+use Rattle.rio_session.specs.Closes.{IsWellClosed}
 use Rattle.rio_session.specs.Marks.{marks_of_run}
 use Rattle.rio_session.specs.Session.{SessionState, StandsFor}
 use Rattle.rio_session.specs.declared.fault.OpenFault.{OpenFault}
@@ -19,7 +21,7 @@ use Rattle.rio_session.specs.declared.fault.SessionFault.{SessionFault}
 use Rattle.rio_session.specs.declared.fault.SessionFault.TheVariants.{HostFault, SayFault as NotSaid, NoMemory as OutOfMemory}
 use Rattle.rootio.specs.Causes.{IsCause}
 use Rattle.rootio.specs.Input.{RefusesTooLong, TellsTooLong}
-use Rattle.rootio.specs.Headline.{AllFindRoom, IsDone, IsStopOf, ScriptRun, all_replies, end_state}
+use Rattle.rootio.specs.Headline.{AllFindRoom, IsDone, IsStopOf, SaidFindRoom, ScriptRun, all_replies, end_state, opening_length}
 use Rattle.rootio.specs.Reading.{RefusesBroken, TellsFirstFault}
 use Rattle.rootio.specs.Target.{TargetFile}
 use Rattle.rootio.specs.Writing.{Begins, EndsUnclosed, EndsWriting, LeavesOpen, RefusesReadOnly, SparesRefused, TellsFirstReason, run_of_work}
@@ -36,20 +38,24 @@ session_run s m commands = record { start = m; commands = commands; marks = mark
 -- All commands were done, and all replies said; where the costs leave room, none was want of room.
 pub record HasDone (r : ScriptRun) (first s : SessionState) (before : List ℕ) (new : View) : Type 0 where
   pub stands : StandsFor new s (state_after r.start r.commands r.marks) (before ++ all_replies r)
+  pub name : s.name ≡ first.name
+  pub datime : s.datime ≡ first.datime
   pub room : first.costs ≡ 0 → HasFileRoom first.opened r.start r.commands r.marks → AllFindRoom r
 
--- All commands were done, all replies said, and the file was closed.
+-- All commands were done, all replies said, and the file was closed, without garbage.
 pub record HasClosed (r : ScriptRun) (first : SessionState) (before : List ℕ) (new : View) : Type 0 where
   pub said : new.said ≡ Some (before ++ all_replies r)
   pub left : (image said : List ℕ) → Leaves new image said → ReadsAsState image (end_state r) × ReadsClosed image (end_state r)
+  pub written : (file : List ℕ) → new.holds ≡ Some file → IsWellClosed first.name first.datime file
   pub room : first.costs ≡ 0 → HasFileRoom first.opened r.start r.commands r.marks → AllFindRoom r
 
--- a session that ended without a close, as it does where it finds no memory or can't say a reply, leaves a file marked as open
-abbrev pub StaysOpenBy : View → Result (Unit {0}) SessionFault → Type 0
-StaysOpenBy new (Ok x) = Unit {0}
-StaysOpenBy new (Err HostFault) = Unit {0}
-StaysOpenBy new (Err NotSaid) = LeavesOpen new
-StaysOpenBy new (Err OutOfMemory) = LeavesOpen new
+-- A session that ended without a close, as it does where it finds no memory, can't say a reply or its disk fails, leaves a file
+-- marked as open; unless it is the close whose disk fails, behind all replies.
+abbrev pub StaysOpenBy : ScriptRun → List ℕ → View → Result (Unit {0}) SessionFault → Type 0
+StaysOpenBy r before new (Ok x) = Unit {0}
+StaysOpenBy r before new (Err HostFault) = LeavesOpen new ⊎ (new.said ≡ Some (before ++ all_replies r))
+StaysOpenBy r before new (Err NotSaid) = LeavesOpen new
+StaysOpenBy r before new (Err OutOfMemory) = LeavesOpen new
 
 -- how a run ended that opened the file
 abbrev pub status_of_session : Result (Unit {0}) SessionFault → Status
@@ -81,9 +87,16 @@ IsFileCause old new SayFault = NoDiskFault old new × Rose old.say_faults new.sa
 pub record RunsScript (target : TargetFile) (script : List ℕ) (old new : View) (status : Status) : Type 0 where
   pub stops : (file text : List ℕ) (m : State) → Begins old file text m
       → Elapses old new (IsStopOf (run_of_work (Run target) script m) file text)
+  pub said : (file text : List ℕ) (m : State) → Begins old file text m
+      → SaysPart new text (all_replies (run_of_work (Run target) script m))
+  pub room : (file text : List ℕ) (m : State) → Begins old file text m
+      → let r = run_of_work (Run target) script m in HasFileRoom (opening_length file) m r.commands r.marks → SaidFindRoom r text new
   pub done : (file text : List ℕ) (m : State) → Begins old file text m
       → status ≡ Done → IsDone (run_of_work (Run target) script m) file text new
-  pub unclosed : (file text : List ℕ) (m : State) → Begins old file text m → EndsUnclosed old new status
+  pub written : (file text : List ℕ) (m : State) → Begins old file text m
+      → status ≡ Done → (last : List ℕ) → new.holds ≡ Some last → IsWellClosed target.name target.datime last
+  pub unclosed : (file text : List ℕ) (m : State) → Begins old file text m
+      → EndsUnclosed (run_of_work (Run target) script m) text old new status
   pub told : Becomes Any old.holds new.holds
   pub faults : TellsFirstFault HeaderAlone old status
   pub broken : RefusesBroken HeaderAlone old status

@@ -1,5 +1,5 @@
 -- What the verbs that write do: their commands, and what they leave of the file.
-use Rattle.std.specs.Prelude.{◌≡◌, ◌⊎◌, ℕ, List, [], Bool, true, false, Option, Some, None}
+use Rattle.std.specs.Prelude.{◌≡◌, ◌⊎◌, ℕ, List, [], ◌++◌, Bool, true, false, Option, Some, None}
 use Rattle.rio_head.specs.declared.fault.HeadFault.{HeadFault}
 use Rattle.rio_head.specs.declared.reason.Reason.{Reason}
 use Rattle.rio_head.specs.declared.reason.Reason.TheVariants.{NotYet}
@@ -12,10 +12,16 @@ use Rattle.rio_machine.specs.State.{State}
 use Rattle.rio_machine.specs.declared.command.Command.{Command}
 use Rattle.rio_cmd.specs.Built.{built_script}
 use Rattle.rio_state.specs.Left.{IsMarkedOpen}
+use Rattle.rio_step.specs.Costs.{HasFileRoom}
 use Rattle.rio_state.specs.Reads.{ReadsAsState}
 use Rattle.rio_state.specs.Reasons.{ReasonAt, reason_at}
-use Rattle.rio_session.specs.Marks.{first_segments, marks_of_run}
-use Rattle.rootio.specs.Headline.{IsDone, IsStopOf, ScriptRun}
+use Rattle.rio_create.specs.Creation.{LeavesUnclosed}
+use Rattle.rio_create.specs.NewFile.{first_segments}
+use Rattle.rio_session.specs.Behind.{SaysPart}
+use Rattle.rio_session.specs.Closes.{IsWellClosed}
+use Rattle.rio_session.specs.Marks.{marks_of_run}
+use Rattle.rootio.specs.Headline.{IsDone, IsStopOf, SaidFindRoom, ScriptRun, all_replies, opening_length}
+use Rattle.rootio.specs.Input.{IsPastInput}
 use Rattle.rootio.specs.Target.{TargetFile}
 use Rattle.rootio.specs.declared.status.Status.{Status}
 use Rattle.rootio.specs.declared.status.Status.TheVariants.{Done, Usage, BadFile, DiskFault, InputFault, NoMemory, InputTooLong, ReadOnly, SayFault}
@@ -88,17 +94,18 @@ pub record SparesRefused (old new : View) (status : Status) : Type 0 where
 abbrev pub LeavesOpen : View → Type 0
 LeavesOpen v = (image said : List ℕ) → Leaves v image said → IsMarkedOpen image
 
--- A run that finds no memory, or can't say a reply, ends without a close: nothing was written, or the file is marked as open.
-abbrev pub EndsUnclosed : View → View → Status → Type 0
-EndsUnclosed old new Done = Unit {0}
-EndsUnclosed old new Usage = Unit {0}
-EndsUnclosed old new (BadFile place kind) = Unit {0}
-EndsUnclosed old new DiskFault = Unit {0}
-EndsUnclosed old new InputFault = Unit {0}
-EndsUnclosed old new NoMemory = OnlyReads old new ⊎ LeavesOpen new
-EndsUnclosed old new InputTooLong = Unit {0}
-EndsUnclosed old new (ReadOnly place reason) = Unit {0}
-EndsUnclosed old new SayFault = OnlyReads old new ⊎ LeavesOpen new
+-- A run that finds no memory, or can't say a reply, ends without a close: nothing was written, or the file is marked as open. So
+-- does one whose disk fails, where the file may also not be made yet; unless it is the close that fails, behind all replies.
+abbrev pub EndsUnclosed : ScriptRun → List ℕ → View → View → Status → Type 0
+EndsUnclosed r before old new Done = Unit {0}
+EndsUnclosed r before old new Usage = Unit {0}
+EndsUnclosed r before old new (BadFile place kind) = Unit {0}
+EndsUnclosed r before old new DiskFault = OnlyReads old new ⊎ (LeavesUnclosed new ⊎ (new.said ≡ Some (before ++ all_replies r)))
+EndsUnclosed r before old new InputFault = Unit {0}
+EndsUnclosed r before old new NoMemory = OnlyReads old new ⊎ LeavesOpen new
+EndsUnclosed r before old new InputTooLong = Unit {0}
+EndsUnclosed r before old new (ReadOnly place reason) = Unit {0}
+EndsUnclosed r before old new SayFault = OnlyReads old new ⊎ LeavesOpen new
 
 -- ---- the run
 
@@ -126,15 +133,24 @@ pub record Begins (old : View) (file text : List ℕ) (m : State) : Type 0 where
   pub said : old.said ≡ Some text
   pub reads : ReadsAsState file m
 
--- Wherever it is stopped, whatever it answers, it leaves a prefix of the run. Where it says that it is done it is, and all of
--- the input was read; where it ends early it doesn't close the file.
+-- Wherever it is stopped, whatever it answers, it leaves a prefix of the run. What it said is a front of all replies, and where file
+-- and commands leave room for them, none of these is want of room. Where it says that it is done it is, and the file was closed under
+-- its name and time, without garbage; where it ends early it doesn't close the file. What it says of the file, of a disk fault or of
+-- its text comes only behind all of the input.
 pub record KeepsHeadline (work : Work) (old new : View) (before after : Input) (status : Status) : Type 0 where
   pub stops : (file text input : List ℕ) (m : State) → Begins old file text m → before.remaining ≡ Some input
       → Elapses old new (IsStopOf (run_of_work work input m) file text)
+  pub said : (file text input : List ℕ) (m : State) → Begins old file text m → before.remaining ≡ Some input
+      → SaysPart new text (all_replies (run_of_work work input m))
+  pub room : (file text input : List ℕ) (m : State) → Begins old file text m → before.remaining ≡ Some input
+      → let r = run_of_work work input m in HasFileRoom (opening_length file) m r.commands r.marks → SaidFindRoom r text new
   pub done : (file text input : List ℕ) (m : State) → Begins old file text m → before.remaining ≡ Some input
       → status ≡ Done → IsDone (run_of_work work input m) file text new
-  pub unclosed : (file text : List ℕ) (m : State) → Begins old file text m → EndsUnclosed old new status
-  pub input : (input : List ℕ) → before.remaining ≡ Some input → status ≡ Done → after.remaining ≡ Some []
+  pub written : (file text : List ℕ) (m : State) → Begins old file text m
+      → status ≡ Done → (last : List ℕ) → new.holds ≡ Some last → IsWellClosed (target_of work).name (target_of work).datime last
+  pub unclosed : (file text input : List ℕ) (m : State) → Begins old file text m → before.remaining ≡ Some input
+      → EndsUnclosed (run_of_work work input m) text old new status
+  pub input : (input : List ℕ) → before.remaining ≡ Some input → IsPastInput status → after.remaining ≡ Some []
   pub told : Becomes Any old.holds new.holds
 
 -- How a run ends that writes.

@@ -2,13 +2,15 @@
 ghost use Rattle.std.specs.Prelude.{◌≡◌, ◌≤◌, ◌<◌, ◌^◌, ℕ, List, length, true, false, OnOk, OnErr};
 ghost use Rattle.std.specs.List.{list_all};
 ghost use Rattle.rio_host.specs.Host.{Becomes, Elapses};
+ghost use Rattle.rio_host.specs.OnlyReads.{Grown};
 ghost use Rattle.rio_chain.specs.Stops.{Any};
 ghost use Rattle.rio_machine.specs.State.{State};
+ghost use Rattle.rio_step.specs.Costs.{HasFileRoom};
 ghost use Rattle.rio_step.specs.Statable.{is_statable};
 ghost use Rattle.rio_cmd.specs.Laws.{is_built};
 ghost use Rattle.rio_session.specs.Causes.{IsSessionCause};
 ghost use Rattle.rio_session.specs.Session.{IsReady, StandsFor};
-ghost use Rattle.rootio.specs.Headline.{IsStopOf};
+ghost use Rattle.rootio.specs.Headline.{IsStopOf, SaidFindRoom};
 ghost use Rattle.rootio.specs.Script.{HasClosed, HasDone, RunsScript, StaysOpenBy, session_run, status_of_open, status_of_session};
 ghost use Rattle.rootio.specs.Writing.{LeavesOpen};
 
@@ -44,6 +46,12 @@ fn do_commands<H: Host>(
     ensures ready { OnOk result (IsReady (H.view host.new) session.new) }
     ensures fresh { OnOk result (session.new.failed ≡ false) }
     ensures told { Becomes Any (H.view host.old).holds (H.view host.new).holds }
+    ensures said { Becomes Grown (H.view host.old).said (H.view host.new).said }
+    ensures room { (m : State) (text : List ℕ)
+        → StandsFor (H.view host.old) session.old m text → session.old.costs ≡ 0
+        → let r = session_run session.old m commands.now in
+        HasFileRoom session.old.opened m r.commands r.marks
+        → SaidFindRoom r text (H.view host.new) }
     ensures cause { IsSessionCause (H.view host.old) (H.view host.new) result }
 {
     for command in commands {
@@ -70,8 +78,14 @@ fn do_and_close<H: Host>(
         → StandsFor (H.view host.old) session m text
         → HasClosed (session_run session m commands.now) session text (H.view host.new)) }
     ensures unclosed { (m : State) (text : List ℕ) → StandsFor (H.view host.old) session m text
-        → StaysOpenBy (H.view host.new) result }
+        → StaysOpenBy (session_run session m commands.now) text (H.view host.new) result }
     ensures told { Becomes Any (H.view host.old).holds (H.view host.new).holds }
+    ensures said { Becomes Grown (H.view host.old).said (H.view host.new).said }
+    ensures room { (m : State) (text : List ℕ)
+        → StandsFor (H.view host.old) session m text → session.costs ≡ 0
+        → let r = session_run session m commands.now in
+        HasFileRoom session.opened m r.commands r.marks
+        → SaidFindRoom r text (H.view host.new) }
     ensures cause { IsSessionCause (H.view host.old) (H.view host.new) result }
 {
     do_commands(&mut session, host, commands)?;

@@ -6,7 +6,7 @@ use Rattle.rio_chain.specs.Placing.{file_end}
 use Rattle.rio_chain.specs.Segments.{IsRecord}
 use Rattle.rio_chain.specs.Stops.{Any}
 use Rattle.rio_chain.specs.declared.segment.Segment.{Segment}
-use Rattle.rio_close.proofs.Closing.{both_there, closed_then, dir_within, fields_time, free_is_record, free_reached, free_seek, free_time, list_is_record, list_low, list_reached, list_seek, list_time}
+use Rattle.rio_close.proofs.Closing.{both_there, closed_then, dir_within, fields_time, free_is_record, free_reached, free_seek, free_time, list_is_record, list_low, list_reached, list_seek, list_time, written_then}
 use Rattle.rio_close.proofs.writing.put_and_finish.Goals as goal
 
 pub put_record-requires-clause-whole : goal.put_record-requires-clause-whole
@@ -109,4 +109,22 @@ returns-clause-closed g c f m ready =
     let end = c.end-end.ensures.end ∙ ap file_end both in
     let at = ap (λ (k : ℕ). k + 106) c.from-place.ensures in
     closed_then v0 f records m ready.made ready.held v2 c.put_record-2.new.self.segments two _ _ at end _ _ _ c.as_slice.ensures c.as_slice-2.ensures c.as_slice-3.ensures
+    (g.H.Host.view c.finish.new.host) (c.in_ok-finish.ensures.holds two.file two.holds)
+
+pub returns-clause-written : goal.returns-clause-written
+returns-clause-written g c f m ready =
+    let records = c.args.records.now in
+    let v0 = g.H.Host.view c.args.host.now in
+    let v1 = g.H.Host.view c.put_record.new.host in
+    let v2 = g.H.Host.view c.put_record-2.new.host in
+    let chain = subst (λ (s : List Segment). HasChain ready.held.links s ready.held.file) ready.same ready.held.chain in
+    let one = list_reached v0 f records m ready.made ready.held v1 records.list.head.seek c.put_record.new.self.segments (list_seek f records ready.made) c.put_record.ensures.said
+    (c.put_record.ensures.any_moment ready.held.file ready.held.links ready.held.holds chain) (c.in_ok-put_record.ensures.holds ready.held.file ready.held.links ready.held.holds chain) in
+    let two = free_reached v0 f records m ready.made ready.held v1 c.put_record.new.self.segments one v2 records.free.head.seek c.put_record-2.new.self.segments (free_seek f records ready.made) c.put_record-2.ensures.said
+    (c.put_record-2.ensures.any_moment one.file _ one.holds one.chain) (c.in_ok-put_record-2.ensures.holds one.file _ one.holds one.chain) in
+    let first = ap (λ (s : ChainState). s.segments) c.in_ok-put_record.ensures.chain in
+    let both = ap (λ (s : ChainState). s.segments) c.in_ok-put_record-2.ensures.chain ∙ both_there f records ready.made c.args.chain.now.segments c.put_record.new.self.segments ready.same first in
+    let end = c.end-end.ensures.end ∙ ap file_end both in
+    let at = ap (λ (k : ℕ). k + 106) c.from-place.ensures in
+    written_then v0 f records m ready.made ready.held v2 c.put_record-2.new.self.segments two _ _ at end _ _ _ c.as_slice.ensures c.as_slice-2.ensures c.as_slice-3.ensures
     (g.H.Host.view c.finish.new.host) (c.in_ok-finish.ensures.holds two.file two.holds)

@@ -1,12 +1,16 @@
-use Rattle.std.proofs.Common.{◌++◌, ◌∙◌}
-use Rattle.std.proofs.lemmas.Result.{IfOk-from_err, err_from_is_err_and, on_ok_weaker}
+use Rattle.std.proofs.Common.{◌++◌, ◌∙◌, List, ℕ, subst}
+use Rattle.std.proofs.lemmas.Result.{IfOk-from_err, err_from_is_err_and}
 use Rattle.rio_host.proofs.Moments.{elapses_join}
 use Rattle.rio_step.specs.Runs.{state_after}
+use Rattle.rio_session.specs.Closes.{IsWellClosed}
 use Rattle.rio_session.specs.Session.{ClosesAs}
+use Rattle.rio_session.proofs.CloseStates.{holds_closed_file}
+use Rattle.rio_session.proofs.Spoken.{grows_none}
 use Rattle.rootio.specs.Headline.{all_replies}
 use Rattle.rootio.specs.Script.{session_run}
-use Rattle.rootio.proofs.Doing.{cause_of_close}
+use Rattle.rootio.proofs.Doing.{cause_of_close, on_ok_both}
 use Rattle.rootio.proofs.RunStops.{stop_closing}
+use Rattle.rootio.proofs.SaidFronts.{grows_join}
 use Rattle.rootio.proofs.Unclosed.{close_open, stays_open}
 use Rattle.rootio.proofs.Untouched.{any_join}
 use Rattle.rootio.proofs.script.do_and_close.Goals as goal
@@ -18,8 +22,10 @@ returns-in_err-do_commands g c =
       stops = c.in_err-do_commands.ensures.stops;
       done = IfOk-from_err c.from_residual.result _ c.from_residual.ensures.0;
       unclosed = λ m text stands.
-          rw (p.1, p.2) (stays_open (g.H.Host.view c.do_commands.new.host) c.in_err-do_commands.field-0.0 (c.in_err-do_commands.ensures.unclosed m text stands));
+          rw (p.1, p.2) (stays_open (session_run c.args.session m c.args.commands.now) text (g.H.Host.view c.do_commands.new.host) c.in_err-do_commands.field-0.0 (c.in_err-do_commands.ensures.unclosed m text stands));
       told = c.in_err-do_commands.ensures.told;
+      said = c.in_err-do_commands.ensures.said;
+      room = c.in_err-do_commands.ensures.room;
       cause = rw (p.1, p.2) c.in_err-do_commands.ensures.cause;
     }
 
@@ -34,19 +40,26 @@ returns g c =
           elapses_join (ClosesAs end said) (all.stops file text m stands)
           (c.close.ensures.any_moment end said (all.done m text stands).stands)
           (λ image told closes. stop_closing r file text image told closes);
-      done = on_ok_weaker c.close.result (λ closed m text stands.
+      room = λ m text stands none room said told k command there long. (all.done m text stands).room none room k command there;
+      done = on_ok_both c.close.result (λ closed written m text stands.
           let r = session_run c.args.session m c.args.commands.now in
           let end = state_after m c.args.commands.now r.marks in
           let done = all.done m text stands in
           record {
             said = c.close.ensures.said ∙ done.stands.said;
             left = λ image told leaves. closed end (text ++ all_replies r) done.stands image told leaves;
+            written = λ file holds.
+                let last = holds_closed_file (g.H.Host.view c.do_commands.new.host) (g.H.Host.view c.close.new.host) c.do_commands.new.session file (written end (text ++ all_replies r) done.stands) holds in
+                subst (λ (x : List ℕ × ℕ). IsWellClosed x.0 x.1 file) (λ i. (done.name i, done.datime i)) last;
             room = done.room;
-          }) c.close.ensures.closed;
+          }) c.close.ensures.closed c.close.ensures.written;
       unclosed = λ m text stands.
           let r = session_run c.args.session m c.args.commands.now in
           close_open (g.H.Host.view c.do_commands.new.host) (g.H.Host.view c.close.new.host) c.do_commands.new.session (state_after m c.args.commands.now r.marks)
-          (text ++ all_replies r) all.ready (all.done m text stands).stands (g.met.H.Host.lawful c.close.new.host) c.close.result c.close.ensures.no_memory c.close.ensures.cause;
+          (text ++ all_replies r) all.ready (all.done m text stands).stands (g.met.H.Host.lawful c.close.new.host) r text c.close.result
+          (c.close.ensures.said ∙ (all.done m text stands).stands.said) c.close.ensures.no_memory c.close.ensures.cause;
       told = any_join (g.H.Host.view c.args.host.now).holds (g.H.Host.view c.do_commands.new.host).holds (g.H.Host.view c.close.new.host).holds all.told c.close.ensures.told;
+      said = grows_join (g.H.Host.view c.args.host.now).said (g.H.Host.view c.do_commands.new.host).said (g.H.Host.view c.close.new.host).said all.said
+          (grows_none (g.H.Host.view c.do_commands.new.host).said (g.H.Host.view c.close.new.host).said c.close.ensures.said);
       cause = cause_of_close (g.H.Host.view c.args.host.now) (g.H.Host.view c.do_commands.new.host) (g.H.Host.view c.close.new.host) c.close.result all.cause c.close.ensures.cause;
     }

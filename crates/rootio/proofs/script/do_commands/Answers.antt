@@ -1,7 +1,8 @@
 use Rattle.std.proofs.lemmas.Result.{IfOk-from_err, err_from_is_err_and}
 use Rattle.rio_machine.specs.declared.command.Outcome.{Outcome}
 use Rattle.rootio.proofs.Built.{built_at, statable_at}
-use Rattle.rootio.proofs.Doing.{all_done, cause_behind, does_next, leaves_open, nothing_yet, stops_there}
+use Rattle.rootio.proofs.Doing.{all_done, cause_behind, does_next, leaves_open, nothing_yet, room_there, stops_there}
+use Rattle.rootio.proofs.SaidFronts.{grows_join}
 use Rattle.rootio.proofs.Untouched.{any_join}
 use Rattle.rootio.proofs.script.do_commands.Goals as goal
 
@@ -20,7 +21,7 @@ pub loop-command-preserved : goal.loop-command-preserved
 loop-command-preserved g c =
     does_next (g.H.Host.view c.args.host.now) (g.H.Host.view c.loop-command.host) (g.H.Host.view c.apply.new.host) c.args.session.now c.loop-command.session c.apply.new.self
     c.args.commands.now c.loop-command.command-index c.command-item.result c.loop-command-test.true c.command-item.is c.loop-command.invariant c.in_ok-apply.field-0
-    c.in_ok-apply.ensures.done c.in_ok-apply.ensures.ready c.in_ok-apply.ensures.failed c.in_ok-apply.ensures.told c.in_ok-apply.ensures.cause
+    c.in_ok-apply.ensures.done c.in_ok-apply.ensures.ready c.in_ok-apply.ensures.failed c.in_ok-apply.ensures.told c.in_ok-apply.ensures.said c.in_ok-apply.ensures.cause
 
 pub returns-in_err-apply : goal.returns-in_err-apply
 returns-in_err-apply g c =
@@ -34,10 +35,15 @@ returns-in_err-apply g c =
           leaves_open (g.H.Host.view c.args.host.now) (g.H.Host.view c.loop-command.host) (g.H.Host.view c.apply.new.host) c.args.session.now c.loop-command.session
           c.args.commands.now c.loop-command.command-index c.command-item.result c.loop-command.invariant (g.met.H.Host.lawful c.apply.new.host)
           c.in_err-apply.ensures.any_moment m text stands);
+      room = λ m text stands none room.
+          room_there (g.H.Host.view c.args.host.now) (g.H.Host.view c.loop-command.host) (g.H.Host.view c.apply.new.host) c.args.session.now c.loop-command.session c.apply.new.self
+          c.args.commands.now c.loop-command.command-index c.command-item.result c.loop-command-test.true c.command-item.is c.loop-command.invariant c.in_err-apply.field-0.0
+          c.in_err-apply.ensures.silent c.in_err-apply.ensures.lacks c.in_err-apply.ensures.part m text stands none room;
       done = IfOk-from_err c.from_residual.result _ c.from_residual.ensures.0;
       ready = IfOk-from_err c.from_residual.result _ c.from_residual.ensures.0;
       fresh = IfOk-from_err c.from_residual.result _ c.from_residual.ensures.0;
       told = any_join (g.H.Host.view c.args.host.now).holds (g.H.Host.view c.loop-command.host).holds (g.H.Host.view c.apply.new.host).holds c.loop-command.invariant.told c.in_err-apply.ensures.told;
+      said = grows_join (g.H.Host.view c.args.host.now).said (g.H.Host.view c.loop-command.host).said (g.H.Host.view c.apply.new.host).said c.loop-command.invariant.said c.in_err-apply.ensures.said;
       cause = rw (p.1, p.2)
           (cause_behind Outcome (Unit {0}) (g.H.Host.view c.args.host.now) (g.H.Host.view c.loop-command.host) (g.H.Host.view c.apply.new.host) c.in_err-apply.field-0.0 c.loop-command.invariant.none
           c.in_err-apply.ensures.cause);
@@ -51,9 +57,13 @@ returns g c =
       done = λ m text stands.
           all_done (g.H.Host.view c.args.host.now) (g.H.Host.view c.loop-command.host) c.args.session.now c.loop-command.session c.args.commands.now c.loop-command.command-index
           c.loop-command-test.false doing m text stands;
+      room = λ m text stands none room said told k command there long.
+          (all_done (g.H.Host.view c.args.host.now) (g.H.Host.view c.loop-command.host) c.args.session.now c.loop-command.session c.args.commands.now c.loop-command.command-index
+          c.loop-command-test.false doing m text stands).room none room k command there;
       unclosed = tt;
       ready = doing.ready;
       fresh = doing.fresh;
       told = doing.told;
+      said = doing.said;
       cause = doing.none;
     }

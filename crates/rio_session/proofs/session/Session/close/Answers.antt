@@ -1,12 +1,14 @@
-use Rattle.std.proofs.Common.{◌∙◌, refl, ap}
+use Rattle.std.proofs.Common.{◌≡◌, ◌∙◌, refl, ap, subst}
 use Rattle.std.specs.Option.{option_copied}
 use Rattle.std.proofs.lemmas.Result.{err_from_is_err_and}
 use Rattle.rio_chain.specs.Chains.{ChainState}
 use Rattle.rio_close.specs.Leaving.{IsReadyToClose}
 use Rattle.rio_close.specs.Written.{OpenFile}
+use Rattle.rio_session.specs.Closes.{open_file}
+use Rattle.rio_session.specs.Kept.{IsSoundState}
 use Rattle.rio_session.specs.Session.{SessionState}
 use Rattle.rio_session.proofs.CloseRoom.{fits_all, need_low}
-use Rattle.rio_session.proofs.CloseStates.{closing_time, holds_open, leaves_closed}
+use Rattle.rio_session.proofs.CloseStates.{closes_file, closing_time, holds_open, leaves_closed, same_file}
 use Rattle.rio_session.proofs.session.Session.close.Goals as goal
 
 pub close_records-requires-clause-heads : goal.close_records-requires-clause-heads
@@ -71,3 +73,23 @@ returns-clause-closed g c m text stands image said left =
     (c.as_ref.ensures.value ∙ ap (λ (s : SessionState). s.info) c.self.view_is) (ap (λ (s : SessionState). s.nbytes_name) c.self.view_is) in
     let ready : IsReadyToClose (g.H.Host.view c.args.host.now) c.reserve.new.self.segments c.in_ok-records.records f m = record { held = held; same = refl; made = c.in_ok-records.ensures } in
     leaves_closed (g.H.Host.view c.args.host.now) c.args.self m text stands (g.H.Host.view c.write_close.new.host) c.in_ok-write_close.ensures.quiet (c.in_ok-write_close.ensures.closed f m ready) image said left
+
+pub returns-clause-written : goal.returns-clause-written
+returns-clause-written g c m text stands =
+    let f : OpenFile = record {
+      segments = c.reserve.new.self.segments;
+      heads = c.self.inside.table.heads;
+      info = option_copied c.as_ref.result;
+      name = c.as_slice.result.now;
+      nbytes_name = c.self.inside.nbytes_name;
+      datime = c.self.inside.datime;
+    } in
+    let segments = ap (λ (s : ChainState). s.segments) c.in_ok-reserve.ensures.ok ∙ ap (λ (s : SessionState). s.segments) c.self.view_is in
+    let heads = ap (λ (s : SessionState). s.heads) c.self.view_is in
+    let info = c.as_ref.ensures.value ∙ ap (λ (s : SessionState). s.info) c.self.view_is in
+    let nbytes_name = ap (λ (s : SessionState). s.nbytes_name) c.self.view_is in
+    let held = holds_open (g.H.Host.view c.args.host.now) c.args.self m text stands f segments heads info nbytes_name in
+    let ready : IsReadyToClose (g.H.Host.view c.args.host.now) c.reserve.new.self.segments c.in_ok-records.records f m = record { held = held; same = refl; made = c.in_ok-records.ensures } in
+    let same : f ≡ open_file c.args.self = same_file f (open_file c.args.self) segments heads info (c.as_slice.ensures ∙ ap (λ (s : SessionState). s.name) c.self.view_is) nbytes_name (ap (λ (s : SessionState). s.datime) c.self.view_is) in
+    let sound : IsSoundState c.args.self = subst IsSoundState c.self.view_is (record { none = c.self.invariant.no_classes; listless = c.self.invariant.no_list; kept = c.self.invariant.kept }) in
+    closes_file (g.H.Host.view c.args.host.now) (g.H.Host.view c.write_close.new.host) c.args.self m f c.in_ok-records.records held same c.in_ok-records.ensures (c.in_ok-write_close.ensures.written f m ready) (sound.kept c.requires.fresh)

@@ -1,7 +1,7 @@
 use Rattle.std.proofs.Common.{◌∙◌, length, refl, sym, ap}
 use Rattle.rio_chain.specs.Chains.{ChainState}
 use Rattle.rio_dir.specs.Table.{TableRoom, heads_size}
-use Rattle.rio_session.proofs.OpenMoments.{making_time, unborn_empty}
+use Rattle.rio_session.proofs.OpenMoments.{looked_unclosed, made_unclosed, making_time, synced_unclosed, unborn_empty}
 use Rattle.rio_session.proofs.OpenNew.{directory_before_end, kept_new, stands_new}
 use Rattle.rio_session.proofs.session.Session.open.Goals as goal
 
@@ -45,3 +45,36 @@ returns-clause-stands g c file text m holds said reads =
     })
     (c.create.ensures.said ∙ c.sync.ensures.disk.said ∙ c.check_unborn.ensures.calls.said ∙ said)
     (c.in_ok-chain.ensures.made file (c.sync.ensures.holds ∙ c.check_unborn.ensures.calls.holds ∙ holds))
+
+pub returns-in_err-check_unborn-clause-unclosed : goal.returns-in_err-check_unborn-clause-unclosed
+returns-in_err-check_unborn-clause-unclosed g c file quiet holds unborn =
+    looked_unclosed file (g.H.Host.view c.args.host.now) (g.H.Host.view c.check_unborn.new.host) (g.met.H.Host.lawful c.check_unborn.new.host) quiet holds unborn
+    c.check_unborn.ensures.calls
+
+pub returns-in_err-own-clause-unclosed : goal.returns-in_err-own-clause-unclosed
+returns-in_err-own-clause-unclosed g c file quiet holds unborn =
+    looked_unclosed file (g.H.Host.view c.args.host.now) (g.H.Host.view c.check_unborn.new.host) (g.met.H.Host.lawful c.check_unborn.new.host) quiet holds unborn
+    c.check_unborn.ensures.calls
+
+pub returns-in_err-sync-clause-unclosed : goal.returns-in_err-sync-clause-unclosed
+returns-in_err-sync-clause-unclosed g c file quiet holds unborn =
+    let law = g.met.H.Host.lawful in
+    synced_unclosed file (g.H.Host.view c.args.host.now) (g.H.Host.view c.check_unborn.new.host) (law c.check_unborn.new.host) quiet holds unborn
+    c.check_unborn.ensures.calls (g.H.Host.view c.sync.new.self) (law c.sync.new.self) c.sync.ensures.disk
+
+pub returns-in_err-chain-clause-unclosed : goal.returns-in_err-chain-clause-unclosed
+returns-in_err-chain-clause-unclosed g c file quiet holds unborn =
+    let law = g.met.H.Host.lawful in
+    made_unclosed file (g.H.Host.view c.args.host.now) (g.H.Host.view c.check_unborn.new.host) (law c.check_unborn.new.host) quiet holds unborn
+    c.check_unborn.ensures.calls (g.H.Host.view c.sync.new.self) (g.H.Host.view c.create.new.host) (law c.sync.new.self) (law c.create.new.host)
+    c.sync.ensures.disk (c.create.ensures.any_moment file (c.sync.ensures.holds ∙ c.check_unborn.ensures.calls.holds ∙ holds))
+
+pub returns-clause-unclosed : goal.returns-clause-unclosed
+returns-clause-unclosed g c file quiet holds unborn =
+    let law = g.met.H.Host.lawful in
+    made_unclosed file (g.H.Host.view c.args.host.now) (g.H.Host.view c.check_unborn.new.host) (law c.check_unborn.new.host) quiet holds unborn
+    c.check_unborn.ensures.calls (g.H.Host.view c.sync.new.self) (g.H.Host.view c.create.new.host) (law c.sync.new.self) (law c.create.new.host)
+    c.sync.ensures.disk (c.create.ensures.any_moment file (c.sync.ensures.holds ∙ c.check_unborn.ensures.calls.holds ∙ holds))
+
+pub returns-clause-made : goal.returns-clause-made
+returns-clause-made g c file holds = c.in_ok-chain.ensures.made file (c.sync.ensures.holds ∙ c.check_unborn.ensures.calls.holds ∙ holds)

@@ -24,6 +24,11 @@ make-requires-clause-stored g c =
     let sound : IsSoundState s = subst IsSoundState c.self.view_is (record { none = c.self.invariant.no_classes; listless = c.self.invariant.no_list; kept = c.self.invariant.kept }) in
     rw (c.as_slice-name.ensures) (object_stored s c.in-Put.name c.in-Put.value c.args.value.now c.args.class.now c.args.cycle c.args.length c.args.command.now c.in-Put.is c.requires.can c.requires.statable sound)
 
+pub returns-in_err-made-in-Ok-clause-does : goal.returns-in_err-made-in-Ok-clause-does
+returns-in_err-made-in-Ok-clause-does g c =
+    let p = err_from_is_err_and c.from_residual.result c.from_residual.ensures.1 in
+    rw (p.1, p.2) (does_nothing (g.H.Host.view c.args.host.now) c.args.self.now c.args.command.now (g.met.H.Host.lawful c.args.host.now) c.requires.ready c.requires.fresh)
+
 pub returns-in_err-text-in-Ok-clause-does : goal.returns-in_err-text-in-Ok-clause-does
 returns-in_err-text-in-Ok-clause-does g c =
     let p = err_from_is_err_and c.from_residual-in_err-text-in-Ok.result c.from_residual-in_err-text-in-Ok.ensures.1 in
@@ -79,3 +84,6 @@ returns-in-Err-Full-clause-does g c =
     (g.H.Host.view c.args.host.now) (g.H.Host.view c.refuse.new.host) c.refuse.new.self (g.met.H.Host.lawful c.args.host.now) (g.met.H.Host.lawful c.refuse.new.host)
     c.requires.ready c.requires.fresh (omega (arith, ap (λ (x : SessionState). x.datime) v)) c.refuse.result c.requires.judged (500 + c.from-cost.result) (ap (λ (k : ℕ). 500 + k) c.from-cost.ensures)
     c.in-Err-Full.end c.in-Err-Full.wanted full.1 full.2 full.0 says outcome
+
+pub returns-in-Err-NoMemory-clause-does : goal.returns-in-Err-NoMemory-clause-does
+returns-in-Err-NoMemory-clause-does g c = does_nothing (g.H.Host.view c.args.host.now) c.args.self.now c.args.command.now (g.met.H.Host.lawful c.args.host.now) c.requires.ready c.requires.fresh

@@ -45,6 +45,7 @@ returns-in-Err-clause-puts g c =
       time = put_in_time (putting c.args.made c.args.text.now c.args.cost) (g.H.Host.view c.args.host.now) (g.H.Host.view c.put_record.new.host) c.args.self.now
           (λ file links holds chain. c.put_record.ensures.any_moment file links holds (subst (λ (s : List Segment). HasChain links s file) same chain));
       told = c.put_record.ensures.told;
+      said = c.put_record.ensures.said;
       faults = (c.in-Err.ensures.cause refl, c.put_record.ensures.say_faults);
       failed = refl;
     }

@@ -1,0 +1,41 @@
+-- What a close makes of the file of a session.
+use Rattle.std.specs.Prelude.{◌≡◌, true, List, ℕ, Some}
+use Rattle.std.specs.List.{list_all}
+use Rattle.rio_host.specs.Host.{View}
+use Rattle.rio_chain.specs.Chains.{HasChain}
+use Rattle.rio_chain.specs.Segments.{Link}
+use Rattle.rio_close.specs.Leaving.{HoldsClosedWith, IsClosedWith}
+use Rattle.rio_close.specs.Written.{AreCloseRecords, OpenFile}
+use Rattle.rio_close.specs.declared.parts.CloseRecords.{CloseRecords}
+use Rattle.rio_session.specs.Kept.{is_owned}
+use Rattle.rio_session.specs.Session.{SessionState}
+
+-- what a close writes of
+abbrev pub open_file : SessionState → OpenFile
+open_file s = record { segments = s.segments; heads = s.heads; info = s.info; name = s.name; nbytes_name = s.nbytes_name; datime = s.datime }
+
+-- The file is written as the session keeps it, with its name and time. Before the close each of its records is the first one or
+-- one that the key list names, so behind it there is no other but these, the key list and the free record.
+pub record ClosesFile (old new : View) (s : SessionState) : Type 0 where
+  pub records : CloseRecords
+  pub made : AreCloseRecords (open_file s) records
+  pub file : List ℕ
+  pub holds : old.holds ≡ Some file
+  pub links : List Link
+  pub chain : HasChain links s.segments file
+  pub owned : list_all (is_owned s.heads) s.segments ≡ true
+  pub written : HoldsClosedWith new (open_file s) links records file
+
+-- A file of this name that was closed at this time, without garbage: before its close, as it was kept, each of its records was the
+-- first one or one that the key list names.
+pub record IsWellClosed (name : List ℕ) (datime : ℕ) (file : List ℕ) : Type 0 where
+  pub kept : OpenFile
+  pub name_is : kept.name ≡ name
+  pub datime_is : kept.datime ≡ datime
+  pub records : CloseRecords
+  pub made : AreCloseRecords kept records
+  pub before : List ℕ
+  pub links : List Link
+  pub chain : HasChain links kept.segments before
+  pub owned : list_all (is_owned kept.heads) kept.segments ≡ true
+  pub written : IsClosedWith kept links records before file
