@@ -14,7 +14,7 @@ use Rattle.rio_model.specs.Stated.{is_stated_class}
 use Rattle.rio_model.specs.StateClasses.{AreAccepted, AreDeclared, HasShortList, IsDeclared, StateClasses}
 use Rattle.rio_state.specs.Contents.{HasStateClasses, IsStateList, classes_behind, described_in, state_classes}
 use Rattle.rio_state.specs.KeyedRecords.{KeyedRecord}
-use Rattle.rio_recover.specs.Classes.{AreClassesOf}
+use Rattle.rio_recover.specs.Classes.{AreClassesOf, AreListedForState}
 
 -- ---- classes that are declared one after the other
 
@@ -159,17 +159,14 @@ none_yet classes = record { registry_is = refl; onward = λ all. all; back = λ 
 pub short_told : (n m : ℕ) → n ≡ min m (length_limit + 1) → (n ≤ length_limit → m ≤ length_limit) × (m ≤ length_limit → n ≤ length_limit)
 short_told n m is = (λ le. omega (arith, is, le), λ le. omega (arith, is, le))
 
-abbrev pub IsListOf : List ClassDef → Type 0
-IsListOf classes = (declared : List ClassDef) × (classes ≡ written_classes declared) × StateClasses declared
-
-pub not_in_front : (classes : List ClassDef) → ((declared : List ClassDef) × (classes ≡ written_classes declared) → ⊥) → IsListOf classes → ⊥
+pub not_in_front : (classes : List ClassDef) → ((declared : List ClassDef) × (classes ≡ written_classes declared) → ⊥) → AreListedForState classes → ⊥
 not_in_front classes none list = none (list.0, list.1)
 
-pub not_declared : (classes declared : List ClassDef) → classes ≡ written_classes declared → (AreDeclared [] declared → ⊥) → IsListOf classes → ⊥
+pub not_declared : (classes declared : List ClassDef) → classes ≡ written_classes declared → (AreDeclared [] declared → ⊥) → AreListedForState classes → ⊥
 not_declared classes declared is none list =
     none (subst (AreDeclared []) (one_list classes list.0 declared list.1 is) (accepted_declared [] list.0 list.2))
 
-pub not_short : (classes declared : List ClassDef) → classes ≡ written_classes declared → 0 < length declared → (HasShortList declared → ⊥) → IsListOf classes → ⊥
+pub not_short : (classes declared : List ClassDef) → classes ≡ written_classes declared → 0 < length declared → (HasShortList declared → ⊥) → AreListedForState classes → ⊥
 not_short classes declared is some long list =
     let same = one_list classes list.0 declared list.1 is in
     long (state_short declared some (subst StateClasses same list.2))

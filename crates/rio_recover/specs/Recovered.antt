@@ -110,7 +110,7 @@ abbrev pub kept_by : Recovered → KeptRecords
 kept_by r = record { name = r.name; heads = r.table.heads; count = 1 + option_map_or (λ k. 1) r.info 0 + length r.table.heads }
 
 -- there aren't too many items, and there is room for a close
-pub record HasRoom (r : Recovered) : Type 0 where
+pub record HasRoomBehind (r : Recovered) : Type 0 where
   pub items : length r.table.heads ≤ item_limit
   pub close : file_end r.chain.segments + close_need (kept_by r) ≤ end_limit
   pub release : length r.garbage ≤ r.chain.spare

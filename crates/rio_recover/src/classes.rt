@@ -8,7 +8,7 @@ ghost use Rattle.rio_host.specs.OnlyReads.{OnlyReads};
 ghost use Rattle.rio_model.specs.StateClasses.{AreDeclared, HasShortList, IsDeclared, StateClasses};
 ghost use Rattle.rio_state.specs.KeyedRecords.{KeyedRecord};
 ghost use Rattle.rio_recover.specs.Causes.{IsRecoverCause, Obtains};
-ghost use Rattle.rio_recover.specs.Classes.{AreClassesOf};
+ghost use Rattle.rio_recover.specs.Classes.{AreClassesOf, AreListedForState};
 ghost use Rattle.rio_recover.specs.Keys.{StandsIn, record_end};
 
 use crate::RecoverFault;
@@ -99,7 +99,7 @@ fn has_short_list(alloc: Global, classes: &Classes) -> Result<bool, NoMemory>
 // The classes of a state, where a class list describes these.
 fn accept_all(alloc: Global, classes: &Classes) -> Result<Option<Registry>, NoMemory>
     ensures { IfOk result (λ found. MatchOption found
-        (¬ ((declared : List Class) × (classes.now ≡ written_classes declared) × StateClasses declared))
+        (¬ AreListedForState classes.now)
         (λ registry. (classes.now ≡ written_classes registry) × StateClasses registry)) }
 {
     let Some(declared) = declared_in(alloc, classes)? else {

@@ -72,7 +72,8 @@ impl KeyCheck {
 
     // Before the first key of the file with these keys.
     fn new(alloc: Global, heads: &[KeyHead]) -> Result<KeyCheck, NoMemory>
-        ensures names { IfOk result (λ check. IndexesNames (top_keys (keyed_by heads.now)) check.names) }
+        ensures names { IfOk result
+            (λ check. IndexesNames (top_keys (keyed_by heads.now)) check.names) }
         ensures passed { IfOk result (λ check. check.passed.heads ≡ []) }
     {
         Ok(KeyCheck {

@@ -14,7 +14,7 @@ ghost use Rattle.rio_state.specs.Closing.{end_limit, name_in};
 ghost use Rattle.rio_state.specs.KeyedRecords.{KeyedRecord, info_key, is_top_key, keyed_records};
 ghost use Rattle.rio_recover.specs.Causes.{IsRecoverCause};
 ghost use Rattle.rio_recover.specs.Keys.{AreWithin, StandsIn, keyed_by, record_heads};
-ghost use Rattle.rio_recover.specs.Recovered.{AreParts, HasRoom, IsAnswer, IsKeptOf, JudgesLinks, JudgesState, TellsAll, is_left_over, place_in, places_left};
+ghost use Rattle.rio_recover.specs.Recovered.{AreParts, HasRoomBehind, IsAnswer, IsKeptOf, JudgesLinks, JudgesState, TellsAll, is_left_over, place_in, places_left};
 
 use crate::RecoverFault;
 use crate::classes::read_classes;
@@ -191,7 +191,7 @@ fn recover_walked<H: Host>(
         → HasChain links walked.segments file → walked.heads ≡ record_heads (keyed_records links)
         → JudgesLinks result links }
     ensures kept { IfOk result (IsKeptOf walked) }
-    ensures room { IfOk result HasRoom }
+    ensures room { IfOk result HasRoomBehind }
     ensures calls { OnlyReads (H.view host.old) (H.view host.new) }
     ensures cause { IsRecoverCause (H.view host.old) (H.view host.new) result }
 {
@@ -218,7 +218,7 @@ pub fn recover<H: Host>(alloc: Global, host: &mut H) -> Result<Recovered, Recove
     ensures answer { Told (H.view host.old) (IsAnswer result) }
     ensures told { Told (H.view host.old) (TellsAll result) }
     ensures fresh { IfOk result (λ r. r.chain.spent ≡ false) }
-    ensures room { IfOk result HasRoom }
+    ensures room { IfOk result HasRoomBehind }
     ensures calls { OnlyReads (H.view host.old) (H.view host.new) }
     ensures cause { IsRecoverCause (H.view host.old) (H.view host.new) result }
 {

@@ -1,10 +1,11 @@
 //! Files `a.root` are recovered, in memory: the closed file without objects, and files of its first record and others.
-ghost use Rattle.std.specs.Prelude.{◌<◌, length};
-
 use crate::{RecoverFault, Recovered, is_unborn, recover};
+use rio_decl::{print_class, read_class};
 use rio_head::{FileFault, Reason};
 use rio_host::MemHost;
+use rio_info::{info_length, write_info};
 use rio_num::{Bytes, NoMemory, Numbers};
+use rio_types::{ClassDef, Classes};
 use std::alloc::Global;
 use std::test::Fail;
 
@@ -48,12 +49,20 @@ const TREE: &[u8] =
 const LATE_TREE: &[u8] =
     b"\0\0\0\x24\0\x04\0\0\0\x01\0\0\0\x01\0\x23\0\x01\0\0\x01\x0c\0\0\0\x64\x05TTree\x01s\0\0";
 
-// A class list at 208 whose data are two bytes, and one at 268.
+// A class list whose data are two bytes: at 208, at 256 and at 268.
 const LIST: &[u8] =
     b"\0\0\0\x30\0\x04\0\0\0\x02\0\0\0\x01\0\x2e\0\x01\0\0\0\xd0\0\0\0\x64\x05TList\x0cStreamerInfo\0\0\0";
 
+const NEXT_LIST: &[u8] =
+    b"\0\0\0\x30\0\x04\0\0\0\x02\0\0\0\x01\0\x2e\0\x01\0\0\x01\0\0\0\0\x64\x05TList\x0cStreamerInfo\0\0\0";
+
 const LATE_LIST: &[u8] =
     b"\0\0\0\x30\0\x04\0\0\0\x02\0\0\0\x01\0\x2e\0\x01\0\0\x01\x0c\0\0\0\x64\x05TList\x0cStreamerInfo\0\0\0";
+
+// Behind the lengths of a class list at 208: version and time, and then from its place on.
+const LIST_FRONT: &[u8] = b"\0\0\0\x01\0\x2e";
+
+const LIST_BACK: &[u8] = b"\0\0\0\xd0\0\0\0\x64\x05TList\x0cStreamerInfo\0";
 
 // A file of the first record and these.
 fn file_of(alloc: Global, records: &[&[u8]]) -> Result<Bytes, NoMemory> {
@@ -65,22 +74,36 @@ fn file_of(alloc: Global, records: &[&[u8]]) -> Result<Bytes, NoMemory> {
     Ok(image)
 }
 
-// The same with another byte at a place.
-fn with_byte(alloc: Global, records: &[&[u8]], place: usize, byte: u8) -> Result<Bytes, NoMemory> {
-    let image = file_of(alloc, records)?;
+// The image with other bytes at a place.
+fn with_bytes(alloc: Global, image: &Bytes, place: usize, bytes: &[u8]) -> Result<Bytes, NoMemory> {
     let mut edited = Bytes::new(alloc);
     for (k, old) in image.as_slice().iter().enumerate() {
-        edited.push(if k == place { byte } else { *old })?;
+        let byte = if k < place { None } else { bytes.get(k - place) };
+        edited.push(*byte.unwrap_or(old))?;
     }
     Ok(edited)
 }
 
-fn answer(alloc: Global, image: Bytes) -> Result<Result<Recovered, RecoverFault>, Fail> {
-    let mut host = MemHost::new(alloc, image, Numbers::new(alloc));
+// A file of the first record and these, with another byte at a place.
+fn with_byte(alloc: Global, records: &[&[u8]], place: usize, byte: u8) -> Result<Bytes, NoMemory> {
+    with_bytes(alloc, &file_of(alloc, records)?, place, &[byte])
+}
+
+// What is answered where the calls of the host with these numbers fail. The first two ask whether the file is made.
+fn answer_failing(
+    alloc: Global,
+    image: Bytes,
+    failing: Numbers,
+) -> Result<Result<Recovered, RecoverFault>, Fail> {
+    let mut host = MemHost::new(alloc, image, failing);
     if is_unborn(&mut host)? {
         return Err(Fail::from("the file isn't made"));
     }
     Ok(recover(alloc, &mut host))
+}
+
+fn answer(alloc: Global, image: Bytes) -> Result<Result<Recovered, RecoverFault>, Fail> {
+    answer_failing(alloc, image, Numbers::new(alloc))
 }
 
 // Why the file isn't recovered.
@@ -93,6 +116,31 @@ fn fault(alloc: Global, image: Bytes) -> Result<RecoverFault, Fail> {
 
 fn read_only(place: u64, reason: Reason) -> RecoverFault {
     RecoverFault::ReadOnly { place, reason }
+}
+
+// The class list at 208 that is written for a class, with this cycle.
+fn list_of(alloc: Global, class: ClassDef, cycle: u16) -> Result<Bytes, Fail> {
+    let mut classes = Classes::new(alloc);
+    classes.push(class)?;
+    if info_length(alloc, &classes)? > 16_777_216 {
+        return Err(Fail::from("the list is too long"));
+    }
+    let mut data = write_info(alloc, &classes, 46)?;
+    data.pad4()?;
+    data.put(&[0; 2])?;
+    if data.len() > 10_000 {
+        return Err(Fail::from("the list is too long"));
+    }
+    let length = data.len() as u32;
+    let mut record = Bytes::new(alloc);
+    record.put_u32(length + 46)?;
+    record.put_u16(4)?;
+    record.put_u32(length)?;
+    record.put(LIST_FRONT)?;
+    record.put_u16(cycle)?;
+    record.put(LIST_BACK)?;
+    record.put(data.as_slice())?;
+    Ok(record)
 }
 
 #[test]
@@ -113,8 +161,8 @@ fn recovers_a_closed_file(rt: HostRuntime) -> Result<(), Fail> {
 fn recovers_a_file_without_records(rt: HostRuntime) -> Result<(), Fail> {
     let mut image = file_of(rt.alloc(), &[])?;
     image.put(&[0xa5; 60])?;
-    image.patch_u32(12, 2_000_000_000);
-    let found = answer(rt.alloc(), image)??;
+    let open = with_bytes(rt.alloc(), &image, 12, b"\x77\x35\x94\0")?;
+    let found = answer(rt.alloc(), open)??;
     assert_eq!(rt; found.chain.end(), 208);
     assert_eq!(rt; found.table.count(), 0);
     assert!(rt; found.garbage.is_empty());
@@ -175,9 +223,9 @@ fn tells_faults_of_the_header(rt: HostRuntime) -> Result<(), Fail> {
 // A header of the large form has its units at 40.
 #[test]
 fn tells_the_large_form(rt: HostRuntime) -> Result<(), Fail> {
-    let mut image = with_byte(rt.alloc(), &[CLOSING], 40, 8)?;
-    image.patch_u32(4, 1_060_000);
-    assert!(rt; fault(rt.alloc(), image)? == read_only(4, Reason::LargeForm));
+    let units = with_byte(rt.alloc(), &[CLOSING], 40, 8)?;
+    let large = with_bytes(rt.alloc(), &units, 4, &1_060_000u32.to_be_bytes())?;
+    assert!(rt; fault(rt.alloc(), large)? == read_only(4, Reason::LargeForm));
     Ok(())
 }
 
@@ -202,6 +250,35 @@ fn tells_other_directories_and_class_lists(rt: HostRuntime) -> Result<(), Fail> 
     // The name of the object at 208 is a blank, but class lists are tested first.
     let both = with_byte(rt.alloc(), &[FIRST, LATE_LIST], 246, b' ')?;
     assert!(rt; fault(rt.alloc(), both)? == read_only(268, Reason::BadInfo));
+    Ok(())
+}
+
+// The one with the greatest cycle counts, and of equal cycles the last.
+#[test]
+fn tells_the_class_list_that_counts(rt: HostRuntime) -> Result<(), Fail> {
+    let two = file_of(rt.alloc(), &[LIST, NEXT_LIST])?;
+    let greater = with_bytes(rt.alloc(), &two, 225, &[2])?;
+    assert!(rt; fault(rt.alloc(), two)? == read_only(256, Reason::BadInfo));
+    assert!(rt; fault(rt.alloc(), greater)? == read_only(208, Reason::BadInfo));
+    Ok(())
+}
+
+// A class command makes no higher cycle than one more than there are classes.
+#[test]
+fn reads_declared_classes(rt: HostRuntime) -> Result<(), Fail> {
+    let text = b"class A 1 { x: i32 }";
+    let list = list_of(rt.alloc(), read_class(rt.alloc(), text, 0)?, 2)?;
+    let found = answer(rt.alloc(), file_of(rt.alloc(), &[list.as_slice()])?)??;
+    let mut printed = Bytes::new(rt.alloc());
+    for class in found.registry.classes().as_slice() {
+        print_class(class, &mut printed)?;
+    }
+    assert!(rt; printed.as_slice() == b"class A 1 { x: i32 }".as_slice());
+    assert!(rt; found.info.is_some_and(|head| head.seek == 208));
+    assert!(rt; found.garbage.is_empty());
+    let high = list_of(rt.alloc(), read_class(rt.alloc(), text, 0)?, 3)?;
+    let image = file_of(rt.alloc(), &[high.as_slice()])?;
+    assert!(rt; fault(rt.alloc(), image)? == read_only(208, Reason::BadInfo));
     Ok(())
 }
 
@@ -231,12 +308,20 @@ fn tells_keys_beside_others(rt: HostRuntime) -> Result<(), Fail> {
     Ok(())
 }
 
+// Each call of the host fails in turn, of those that ask whether the file is made and then of those that recover it.
 #[test]
 fn tells_calls_that_fail(rt: HostRuntime) -> Result<(), Fail> {
-    let failing = Numbers::from_slice(rt.alloc(), &[0])?;
-    let mut host = MemHost::new(rt.alloc(), file_of(rt.alloc(), &[])?, failing);
-    assert!(rt; is_unborn(&mut host).is_err());
-    assert!(rt; !is_unborn(&mut host)?);
+    for number in 0..2 {
+        let failing = Numbers::from_slice(rt.alloc(), &[number])?;
+        let mut host = MemHost::new(rt.alloc(), file_of(rt.alloc(), &[])?, failing);
+        assert!(rt; is_unborn(&mut host).is_err());
+        assert!(rt; !is_unborn(&mut host)?);
+    }
+    for number in 2..15 {
+        let failing = Numbers::from_slice(rt.alloc(), &[number])?;
+        let found = answer_failing(rt.alloc(), file_of(rt.alloc(), &[FIRST])?, failing)?;
+        assert!(rt; matches!(found, Err(RecoverFault::HostFault)), "call {number}");
+    }
     Ok(())
 }
 
