@@ -1,5 +1,5 @@
 -- What a recovery answers, by what was walked and what was judged.
-use Rattle.std.proofs.Common.{◌≡◌, inr, inl, ◌∙◌, ℕ, List, [], ◌++◌, map, Bool, true, false, MatchBool, Option, Some, None, Result, Ok, Err, refl, sym, ap, subst, slice_get}
+use Rattle.std.proofs.Common.{◌≡◌, inr, inl, ◌∙◌, ℕ, List, [], ◌++◌, map, Bool, true, false, cond, MatchBool, Option, Some, None, Result, Ok, Err, refl, sym, ap, subst, slice_get}
 use Rattle.std.specs.List.{Contains}
 use Rattle.std.specs.List.Sorted.{IsPermutation}
 use Rattle.std.proofs.lemmas.List.Sorted.{Contains-permutation, IsPermutation-sym}

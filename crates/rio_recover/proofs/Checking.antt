@@ -2,6 +2,7 @@
 use Rattle.std.proofs.Common.{◌≡◌, ◌∙◌, ℕ, ◌+◌, ◌<◌, ◌≤◌, List, [], ◌∷◌, ◌++◌, append_assoc, map, length, take, drop, Bool, true, false, cond, not, ◌&&◌, ◌||◌, ◌==◌, ltb, Option, Some, None, Result, Ok, Err, refl, sym, ap, subst, slice_get, arith}
 use Rattle.std.proofs.lemmas.Bool.Decides.{nat_tests}
 use Rattle.std.proofs.lemmas.List.{map-append, take_all, drop_all}
+use Rattle.std.proofs.lemmas.List.Sums.{sum_by-cons}
 use Rattle.std.proofs.lemmas.List.Sorted.{IsPermutation-cons, IsPermutation-refl, IsPermutation-to_front, IsPermutation-trans, sum_by-IsPermutation}
 use Rattle.std.specs.List.{All, find, list_any, sum_by}
 use Rattle.std.specs.List.Sorted.{IsPermutation}
@@ -15,7 +16,6 @@ use Rattle.rio_key.specs.declared.head.KeyHead.{KeyHead}
 use Rattle.rio_head.specs.declared.reason.Reason.{Reason}
 use Rattle.rio_head.specs.declared.reason.Reason.TheVariants.{BadKey, BadName, BadObject, BadTree, DoubleKey, MixedName}
 use Rattle.rio_dir.specs.Table.{is_at_cycle, with_head}
-use Rattle.rio_state.proofs.NoReason.{none_if}
 use Rattle.rio_state.specs.Contents.{tree_of}
 use Rattle.rio_state.specs.KeyedRecords.{KeyedRecord, has_item, is_mixed_name, is_outdated, is_top_key, is_tree_key, is_tree_record, item_of_key, top_keys}
 use Rattle.rio_state.specs.Reasons.{Beside, ReasonAt, is_bad_object, is_bad_tree, key_reasons, keys_reasons, reason_at, reason_if}
@@ -26,7 +26,7 @@ use Rattle.rio_recover.specs.Names.{IndexesNames}
 use Rattle.rio_recover.specs.declared.fault.RecoverFault.{RecoverFault}
 use Rattle.rio_recover.specs.declared.judge.KeyCheck.{KeyCheck}
 use Rattle.rio_recover.specs.declared.names.NameIndex.{NameIndex}
-use Rattle.rio_recover.proofs.Judging.{first_in, judges_as, judges_behind, judges_on, judges_same}
+use Rattle.rio_recover.proofs.Judging.{judges_on, judges_same, none_if}
 use Rattle.rio_recover.proofs.Keyed.{any_keyed, keyed_again, top_keyed}
 use Rattle.rio_recover.proofs.Numbered.{RecordAtIndex, before_other, before_top, behind_other, behind_top}
 use Rattle.rio_recover.proofs.Tables.{some_found, with_moved}
@@ -41,7 +41,7 @@ reason_first false place reason ys e = absurd cc
 
 any_sum : {X : Type 0} (p : X → Bool) (xs : List X) → list_any p xs ≡ ltb 0 (sum_by (λ x. cond (p x) 1 0) xs)
 any_sum p [] = refl
-any_sum p (x ∷ xs) = by (p x) (any_sum p xs)
+any_sum p (x ∷ xs) = by (p x) (any_sum p xs) ∙ ap (ltb 0) (sym (sum_by-cons (λ y. cond (p y) 1 0) x xs))
   where
     by : (b : Bool) → list_any p xs ≡ ltb 0 (sum_by (λ y. cond (p y) 1 0) xs) → (b || list_any p xs) ≡ ltb 0 (cond b 1 0 + sum_by (λ y. cond (p y) 1 0) xs)
     by true e = grind (arith, nat_tests)
@@ -59,6 +59,25 @@ any_heads p (r ∷ rs) = ap (λ (b : Bool). p r.head || b) (any_heads p rs)
 and_true : (b : Bool) → (b && true) ≡ b
 and_true true = refl
 and_true false = refl
+
+abbrev some_of : ReasonAt → Option ReasonAt
+some_of x = Some x
+
+and_false : (b : Bool) → (b && false) ≡ false
+and_false true = refl
+and_false false = refl
+
+not_false_is : (b : Bool) → not b ≡ false → b ≡ true
+not_false_is true e = refl
+not_false_is false e = absurd cc
+
+not_true_is : (b : Bool) → not b ≡ true → b ≡ false
+not_true_is true e = absurd cc
+not_true_is false e = refl
+
+-- what was put, where it was
+pub put_there : (put : Bool) (a b new : List KeyHead) → put ≡ true → new ≡ cond put a b → new ≡ a
+put_there put a b new is e = e ∙ ap (λ (x : Bool). cond x a b) is
 
 module _ (beside : Beside) (before : List KeyedRecord) (r : KeyedRecord) (head : KeyHead) (same : r.head ≡ head) where
   -- no record stands for a tree yet
@@ -113,6 +132,33 @@ module _ (beside : Beside) (before : List KeyedRecord) (r : KeyedRecord) (head :
   pub no_item_reason : is_bad_tree beside r ≡ false → list_any (has_item (item_of_key r.head)) before ≡ false → is_mixed_name beside.tops r.head.name ≡ false
       → item_reasons beside before r ≡ []
   no_item_reason e d m = behind_double e d ∙ none_if (is_mixed_name beside.tops r.head.name) r.head.seek MixedName m
+
+  pub tree_told : (tree out : Bool) → tree ≡ is_tree_key head → tree ≡ true → out ≡ is_outdated beside.tops (keyed head) → out ≡ false
+      → slice_get (item_reasons beside before r) 0 ≡ Some (reason_at head.seek BadTree)
+  tree_told tree out t is o fresh =
+      tree_first (bad_tree ∙ (λ i. (sym t ∙ is) i && not ((sym o ∙ fresh) i))) ∙ ap (λ (h : KeyHead). some_of (reason_at h.seek BadTree)) same
+
+  pub other_kind : (tree : Bool) → tree ≡ is_tree_key head → tree ≡ false → is_bad_tree beside r ≡ false
+  other_kind tree t isnt = bad_tree ∙ (λ i. (sym t ∙ isnt) i && not (is_outdated beside.tops (keyed head)))
+
+  pub old_tree : (out : Bool) → out ≡ is_outdated beside.tops (keyed head) → out ≡ true → is_bad_tree beside r ≡ false
+  old_tree out o is = bad_tree ∙ (λ i. is_tree_key head && not ((sym o ∙ is) i)) ∙ and_false (is_tree_key head)
+
+  pub double_told : (put : Bool) (passed : List KeyHead) → IsPermutation (record_heads before) passed → put ≡ not (is_some (find (is_at_cycle head.name head.cycle) passed)) → put ≡ false
+      → is_bad_tree beside r ≡ false → slice_get (item_reasons beside before r) 0 ≡ Some (reason_at head.seek DoubleKey)
+  double_told put passed moved told fails good =
+      double_first good (sym (double passed moved) ∙ not_false_is (is_some (find (is_at_cycle head.name head.cycle) passed)) (sym told ∙ fails)) ∙ ap (λ (h : KeyHead). some_of (reason_at h.seek DoubleKey)) same
+
+  pub single : (put : Bool) (passed : List KeyHead) → IsPermutation (record_heads before) passed → put ≡ not (is_some (find (is_at_cycle head.name head.cycle) passed)) → put ≡ true
+      → list_any (has_item (item_of_key r.head)) before ≡ false
+  single put passed moved told passes = sym (double passed moved) ∙ not_true_is (is_some (find (is_at_cycle head.name head.cycle) passed)) (sym told ∙ passes)
+
+  pub mixed_is : (name : List ℕ) (b : Bool) → name ≡ head.name → b ≡ is_mixed_name beside.tops name → is_mixed_name beside.tops r.head.name ≡ b
+  mixed_is name b named told = mixed ∙ ap (is_mixed_name beside.tops) (sym named) ∙ sym told
+
+  pub mixed_told : (name : List ℕ) (b : Bool) → name ≡ head.name → b ≡ is_mixed_name beside.tops name → b ≡ true → is_bad_tree beside r ≡ false
+      → list_any (has_item (item_of_key r.head)) before ≡ false → slice_get (item_reasons beside before r) 0 ≡ Some (reason_at head.seek MixedName)
+  mixed_told name b named told is good one = mixed_first good one (mixed_is name b named told ∙ is) ∙ ap (λ (h : KeyHead). some_of (reason_at h.seek MixedName)) same
 
   pub passed_more : (old new : List KeyHead) → IsPermutation (record_heads before) old → new ≡ with_head head old → IsPermutation (record_heads (before ++ r ∷ [])) new
   passed_more old new moved is =

@@ -72,8 +72,8 @@ module _ (classes : List ClassDef) (k : ℕ) (class : ClassDef) (lt : k < length
       }
 
   pub none_declared : (old : List ClassDef) → DeclaringSoFar classes k old → (IsDeclared old class → ⊥) → AreDeclared [] classes → ⊥
-  none_declared old sofar no all =
-      no (subst (λ (cs : List ClassDef). IsDeclared cs class) (sym sofar.registry_is) (subst (AreDeclared (take k classes)) behind_here (sofar.onward all)).0)
+  none_declared old sofar unstated all =
+      unstated (subst (λ (cs : List ClassDef). IsDeclared cs class) (sym sofar.registry_is) (subst (AreDeclared (take k classes)) behind_here (sofar.onward all)).0)
 
 pub all_declared : (classes : List ClassDef) (k : ℕ) (registry : List ClassDef) → length classes ≤ k → DeclaringSoFar classes k registry → AreDeclared [] classes × (registry ≡ classes)
 all_declared classes k registry le sofar =
@@ -115,15 +115,15 @@ pub declared_next : (old new : List ClassDef) (class : ClassDef) (test : Bool) �
     → new ≡ old ++ declared old class ∷ [] → (IsTrue test ↔ ((declared old class).bases ≡ class.bases))
     → MatchBool test (IsDeclared old class × (new ≡ old ++ class ∷ [])) (¬ IsDeclared old class)
 declared_next old new class true stated free allowed grown tells =
-    let d = next_declared old class (subst IsTrue (sym stated) tt) (subst (λ (b : Bool). IsTrue (not b)) (sym free) tt) allowed (tells.0 tt) in
+    let d = next_declared old class stated (ap not free) allowed (tells.0 refl) in
     (d, grown ∙ ap (λ (c : ClassDef). old ++ c ∷ []) (sym d.newest))
-declared_next old new class false stated free allowed grown tells = λ d. tells.1 (sym (ap (λ (c : ClassDef). c.bases) d.newest))
+declared_next old new class false stated free allowed grown tells = λ d. let h : false ≡ true = tells.1 (sym (ap (λ (c : ClassDef). c.bases) d.newest)) in cc
 
 pub not_stated : (before : List ClassDef) (class : ClassDef) → is_stated_class class ≡ false → IsDeclared before class → ⊥
-not_stated before class e d = subst IsTrue e d.stated
+not_stated before class e d = let h : is_stated_class class ≡ true = d.stated in cc
 
 pub not_free : (before : List ClassDef) (class : ClassDef) → is_reserved_name class.name ≡ true → IsDeclared before class → ⊥
-not_free before class e d = subst (λ (b : Bool). IsTrue (not b)) e d.free
+not_free before class e d = let h : not (is_reserved_name class.name) ≡ true = d.free in let f : not (is_reserved_name class.name) ≡ false = ap not e in cc
 
 pub not_allowed : (before : List ClassDef) (class : ClassDef) (e : DeclareFault) → declare_fault before class ≡ Some e → IsDeclared before class → ⊥
 not_allowed before class e fault d = let none = d.allowed in cc
@@ -149,7 +149,7 @@ module _ (r : KeyedRecord) (classes : List ClassDef) where
       let list : described_in r ≡ Ok (written_classes classes) = s.list in
       let same : listed ≡ written_classes classes = cc in
       let one : registry ≡ classes = one_list listed registry classes written same in
-      subst IsTrue fails (tells.1 (subst (λ (cs : List ClassDef). r.head.cycle ≤ length cs + 1) (sym one) s.cycle))
+      let h : test ≡ true = tells.1 (subst (λ (cs : List ClassDef). r.head.cycle ≤ length cs + 1) (sym one) s.cycle) in cc
 
 -- ---- the classes behind those of trees
 

@@ -11,10 +11,10 @@ use Rattle.rio_recover.proofs.Keyed.{head_in}
 use Rattle.rio_recover.proofs.NoTrees.{has_no_tree}
 
 -- an item that is no tree's
-no_tree_item : (top tree other : Bool) → (top ≡ true → tree ≡ false) → (top && (not tree || other)) ≡ top
+no_tree_item : (top kind other : Bool) → (top ≡ true → kind ≡ false) → (top && (not kind || other)) ≡ top
 no_tree_item true true other e = let z : true ≡ false = e refl in absurd cc
 no_tree_item true false other e = refl
-no_tree_item false tree other e = refl
+no_tree_item false kind other e = refl
 
 not_true : (b : Bool) → not b ≡ true → b ≡ false
 not_true true e = absurd cc

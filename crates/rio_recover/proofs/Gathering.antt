@@ -34,7 +34,7 @@ info_walked heads rs same = ap (λ (hs : List KeyHead). head_in (info_key (keyed
 pub name_walked : (heads : List KeyHead) (rs : List KeyedRecord) → heads ≡ record_heads rs → name_in (keyed_by heads) ≡ name_in rs
 name_walked heads rs same = ap (λ (hs : List KeyHead). name_in (keyed_by hs)) same ∙ name_keyed rs
 
-count_in : (o : Option KeyedRecord) → option_map_or (λ h. 1) (head_in o) 0 ≡ option_map_or (λ r. 1) o 0
+count_in : (o : Option KeyedRecord) → ◌≡◌ {A = ℕ} (option_map_or (λ h. 1) (head_in o) 0) (option_map_or (λ r. 1) o 0)
 count_in None = refl
 count_in (Some r) = refl
 

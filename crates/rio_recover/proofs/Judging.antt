@@ -1,15 +1,20 @@
 -- What is told of a list of reasons, one part of the list after the other.
-use Rattle.std.proofs.Common.{◌≡◌, ◌∙◌, List, [], ◌∷◌, ◌++◌, Some, Result, Ok, Err, refl, sym, ap, subst, slice_get}
+use Rattle.std.proofs.Common.{◌≡◌, ◌∙◌, ℕ, Bool, true, false, List, [], ◌∷◌, ◌++◌, Some, Result, Ok, Err, refl, sym, ap, subst, slice_get}
 use Rattle.rio_host.specs.Host.{View, Rose}
 use Rattle.rio_chain.specs.Walks.{IsReadCause, IsWalkCause}
 use Rattle.rio_chain.specs.declared.fault.WalkFault.{WalkFault}
 use Rattle.rio_chain.specs.declared.fault.WalkFault.TheVariants.{NoChain, NoMemory as WalkMemory, HostFault as WalkDisk}
-use Rattle.rio_state.specs.Reasons.{ReasonAt, reason_at}
-use Rattle.rio_recover.specs.Causes.{IsRecoverCause, Judges, Obtains, fault_of_walk}
+use Rattle.rio_head.specs.declared.reason.Reason.{Reason}
+use Rattle.rio_state.specs.Reasons.{ReasonAt, reason_at, reason_if}
+use Rattle.rio_recover.specs.Causes.{CallsNoHost, IsRecoverCause, Judges, Obtains, fault_of_walk}
 use Rattle.rio_recover.specs.declared.fault.RecoverFault.{RecoverFault}
 use Rattle.rio_recover.specs.declared.fault.RecoverFault.TheVariants.{BadFile, ReadOnly, NoMemory, HostFault}
 
 -- ---- reasons
+
+pub none_if : (b : Bool) (place : ℕ) (reason : Reason) → b ≡ false → reason_if b place reason ≡ []
+none_if true place reason e = absurd cc
+none_if false place reason e = refl
 
 pub first_in : (xs ys : List ReasonAt) (r : ReasonAt) → slice_get xs 0 ≡ Some r → slice_get (xs ++ ys) 0 ≡ Some r
 first_in [] ys r e = absurd cc
@@ -83,6 +88,21 @@ cause_behind a b c (Err (BadFile place kind)) e h = h ∙ e
 cause_behind a b c (Err (ReadOnly place reason)) e h = h ∙ e
 cause_behind a b c (Err NoMemory) e h = h ∙ e
 cause_behind a b c (Err HostFault) e h = subst (λ n. Rose n c.disk_faults) e h
+
+-- the answer of a call behind it that calls no host
+pub cause_alone : {X : Type 0} (a b : View) (r : Result X RecoverFault) → b.disk_faults ≡ a.disk_faults → CallsNoHost r → IsRecoverCause a b r
+cause_alone a b (Ok x) e h = e
+cause_alone a b (Err (BadFile place kind)) e h = e
+cause_alone a b (Err (ReadOnly place reason)) e h = e
+cause_alone a b (Err NoMemory) e h = e
+cause_alone a b (Err HostFault) e h = absurd h
+
+-- and of one whose fault is passed on
+pub cause_alone_on : (X Y : Type 0) (a b : View) (e : RecoverFault) → b.disk_faults ≡ a.disk_faults → CallsNoHost {X = X} (Err e) → IsRecoverCause {X = Y} a b (Err e)
+cause_alone_on X Y a b (BadFile place kind) e h = e
+cause_alone_on X Y a b (ReadOnly place reason) e h = e
+cause_alone_on X Y a b NoMemory e h = e
+cause_alone_on X Y a b HostFault e h = absurd h
 
 pub cause_on : (X Y : Type 0) (a b : View) (e : RecoverFault) → IsRecoverCause {X = X} a b (Err e) → IsRecoverCause {X = Y} a b (Err e)
 cause_on X Y a b (BadFile place kind) h = h

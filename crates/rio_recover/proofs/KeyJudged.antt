@@ -7,7 +7,6 @@ use Rattle.rio_num.specs.Word.{is_item_text}
 use Rattle.rio_key.specs.declared.head.KeyHead.{KeyHead}
 use Rattle.rio_head.specs.declared.reason.Reason.TheVariants.{BadKey, BadName, BadObject}
 use Rattle.rio_dir.specs.Table.{is_before, with_head}
-use Rattle.rio_state.proofs.NoReason.{none_if}
 use Rattle.rio_state.specs.Contents.{object_in}
 use Rattle.rio_state.specs.KeyedRecords.{KeyedRecord, is_tree_key}
 use Rattle.rio_state.specs.Reasons.{Beside, ReasonAt, is_bad_object, key_reasons, reason_at, reason_if}
@@ -15,7 +14,7 @@ use Rattle.rio_recover.specs.Causes.{Judges}
 use Rattle.rio_recover.specs.Checks.{item_reasons}
 use Rattle.rio_recover.specs.declared.fault.RecoverFault.{RecoverFault}
 use Rattle.rio_recover.proofs.Checking.{key_parts, reason_first}
-use Rattle.rio_recover.proofs.Judging.{judges_behind, judges_on, judges_same}
+use Rattle.rio_recover.proofs.Judging.{judges_behind, judges_on, judges_same, none_if}
 
 -- ---- its name and title
 
@@ -92,8 +91,8 @@ module _ (beside : Beside) (r : KeyedRecord) (head : KeyHead) (same : r.head ≡
 
 pub all_with : (P : KeyHead → Type 0) (h : KeyHead) (hs : List KeyHead) → P h → All P hs → All P (with_head h hs)
 all_with P h [] here all = All-cons P h [] here all
-all_with P h (k ∷ ks) here all = by (is_before h.name h.cycle k)
+all_with P h (k ∷ ks) here all = by (is_before h.name h.cycle k) (all_with P h ks here (All-tail P k ks all))
   where
-    by : (b : Bool) → All P (cond b (k ∷ with_head h ks) (h ∷ k ∷ ks))
-    by true = All-cons P k (with_head h ks) (All-head P k ks all) (all_with P h ks here (All-tail P k ks all))
-    by false = All-cons P h (k ∷ ks) here all
+    by : (b : Bool) → All P (with_head h ks) → All P (cond b (k ∷ with_head h ks) (h ∷ k ∷ ks))
+    by true rest = All-cons P k (with_head h ks) (All-head P k ks all) rest
+    by false rest = All-cons P h (k ∷ ks) here all

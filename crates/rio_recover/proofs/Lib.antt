@@ -3,6 +3,7 @@ pub mod Checking
 pub mod Declared
 pub mod Garbage
 pub mod Gathering
+pub mod HeadLoop
 pub mod Judging
 pub mod KeyJudged
 pub mod Keyed

@@ -3,6 +3,7 @@ use Rattle.std.proofs.Common.{◌≡◌, ◌⊎◌, inl, inr, ◌∙◌, ℕ, ze
 use Rattle.std.proofs.lemmas.Bool.{ltb-true}
 use Rattle.std.proofs.lemmas.List.{append-nil}
 use Rattle.std.proofs.lemmas.List.Sorted.{Contains-permutation, IsPermutation-sym, length_permutation}
+use Rattle.std.proofs.lemmas.List.Sums.{sum_by-cons}
 use Rattle.std.specs.List.{Contains, filter, list_all, list_any, sum_by}
 use Rattle.std.specs.List.Sorted.{IsPermutation}
 use Rattle.std.specs.Str.{bytes_eq}
@@ -49,8 +50,8 @@ witness p (x ∷ xs) e = witness_by p x xs (p x) refl e (witness p xs)
 
 within_sum : {X : Type 0} (f : X → ℕ) (xs : List X) (x : X) → Among xs x → f x ≤ sum_by f xs
 within_sum f [] x a = absurd a
-within_sum f (y ∷ ys) x (inl is) = subst (λ z. f z ≤ f y + sum_by f ys) is (omega arith)
-within_sum f (y ∷ ys) x (inr a) = let le = within_sum f ys x a in omega (arith, le)
+within_sum f (y ∷ ys) x (inl is) = let same : f y ≡ f x = ap f is in omega (arith, same, sum_by-cons f y ys)
+within_sum f (y ∷ ys) x (inr a) = let le = within_sum f ys x a in omega (arith, le, sum_by-cons f y ys)
 
 kept_all : {X : Type 0} (p : X → Bool) (xs : List X) → list_all p xs ≡ true → filter p xs ≡ xs
 kept_all p [] e = refl
@@ -68,12 +69,12 @@ module _ (beside : Beside) where
 
   left_out : (p : KeyedRecord → Bool) (rs : List KeyedRecord) → filter p rs ≡ [] → (r : KeyedRecord) → Among rs r → p r ≡ false
   left_out p [] e r a = absurd a
-  left_out p (s ∷ rs) e r a = by (p s) refl e a
+  left_out p (s ∷ rs) e r a = by (p s) refl e a (λ none b. left_out p rs none r b)
     where
-      by : (b : Bool) → p s ≡ b → cond b (s ∷ filter p rs) (filter p rs) ≡ [] → (s ≡ r) ⊎ Among rs r → p r ≡ false
-      by true is e a = absurd cc
-      by false is e (inl same) = ap p (sym same) ∙ is
-      by false is e (inr a) = left_out p rs e r a
+      by : (b : Bool) → p s ≡ b → cond b (s ∷ filter p rs) (filter p rs) ≡ [] → (s ≡ r) ⊎ Among rs r → (filter p rs ≡ [] → Among rs r → p r ≡ false) → p r ≡ false
+      by true is e a rest = absurd cc
+      by false is e (inl same) rest = ap p (sym same) ∙ is
+      by false is e (inr a) rest = rest e a
 
 -- ---- none is a tree's
 

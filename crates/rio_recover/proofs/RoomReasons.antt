@@ -2,16 +2,17 @@
 use Rattle.std.proofs.Common.{◌≡◌, ◌∙◌, ℕ, ◌+◌, ◌*◌, ◌^◌, ◌<◌, ◌≤◌, List, [], ◌∷◌, ◌++◌, length, codes, Bool, true, false, ltb, Some, refl, sym, ap, slice_get, arith}
 use Rattle.std.proofs.lemmas.Bool.{le-ltb, lt-ltb, ltb-false}
 use Rattle.std.proofs.lemmas.List.Elements.{All-head, All-tail}
+use Rattle.std.proofs.lemmas.List.Sums.{sum_by-cons}
 use Rattle.std.specs.List.{All, sum_by}
 use Rattle.rio_key.specs.declared.head.KeyHead.{KeyHead}
 use Rattle.rio_head.specs.declared.reason.Reason.TheVariants.{NoRoom, TooMany}
 use Rattle.rio_chain.specs.Found.{IsShortKey}
 use Rattle.rio_dir.specs.Table.{heads_size}
 use Rattle.rio_machine.specs.Limits.{head_length, item_limit}
-use Rattle.rio_state.proofs.NoReason.{none_if}
 use Rattle.rio_state.proofs.Unreasoned.{if_none, nil_two}
 use Rattle.rio_state.specs.Closing.{KeptRecords, close_need, end_limit, padded_length}
 use Rattle.rio_state.specs.Reasons.{ReasonAt, reason_at, reason_if}
+use Rattle.rio_recover.proofs.Judging.{none_if}
 
 -- short keys take few bytes together
 pub sizes_short : (heads : List KeyHead) → All IsShortKey heads → heads_size heads ≤ 65535 * length heads
@@ -19,7 +20,7 @@ sizes_short [] all = omega arith
 sizes_short (h ∷ hs) all =
     let short = All-head IsShortKey h hs all in
     let rest = sizes_short hs (All-tail IsShortKey h hs all) in
-    omega (arith, rest, short.size)
+    omega (arith, rest, short.size, sum_by-cons (λ k. length (written_key k)) h hs)
 
 -- the records that are kept, by the table of the items' keys
 abbrev pub kept_with : List ℕ → List KeyHead → ℕ → KeptRecords
@@ -33,8 +34,16 @@ pub need_is : (name : List ℕ) (heads : List KeyHead) (others : ℕ)
 unfolding close_need
 need_is name heads others = last (padded_length (head_length (codes "TFile") name + 4 + heads_size heads)) (padded_length (head_length (codes "TFile") name + 10 * (others + length heads + 2)))
   where
-    last : (m n : ℕ) → m + n ≡ m + (n + 0)
+    last : (m n : ℕ) → m + n ≡ (0 + m) + n
     last m n = omega arith
+
+-- the same by numbers that are known
+pub need_by : (name : List ℕ) (heads : List KeyHead) (others size count n : ℕ) → size ≡ heads_size heads → count ≡ others + length heads
+    → n ≡ padded_length (head_length (codes "TFile") name + 4 + size) + padded_length (head_length (codes "TFile") name + 10 * (count + 2)) → n ≡ close_need (kept_with name heads others)
+need_by name heads others size count n sized counted is =
+    is
+    ∙ (λ i. padded_length (head_length (codes "TFile") name + 4 + sized i) + padded_length (head_length (codes "TFile") name + 10 * (counted i + 2)))
+    ∙ need_is name heads others
 
 pub room_many : (items end : ℕ) (kept : KeptRecords) → item_limit < items → slice_get (room_of items end kept) 0 ≡ Some (reason_at 0 TooMany)
 room_many items end kept lt =

@@ -50,9 +50,9 @@ module _ (records : List KeyedRecord) where
 
   -- classes without a reading
   pub info_first : (place : ℕ) → place ≡ option_map_or (λ r. r.head.seek) info 0 → directory ≡ [] → ¬ HasStateClasses info → JudgesState (Err (ReadOnly place BadInfo)) records
-  info_first place is none no = (
+  info_first place is none unread_list = (
     false,
-    no,
+    unread_list,
     ap (λ (rs : List ReasonAt). slice_get rs 0) (parts false ∙ ap (λ (xs : List ReasonAt). xs ++ (info_reasons false info ++ of_keys (state_classes info))) none)
         ∙ ap (λ (p : ℕ). some (reason_at p BadInfo)) (sym is),
   )

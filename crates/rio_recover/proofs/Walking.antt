@@ -1,5 +1,6 @@
 -- A file that is walked: its header, and the keys of its records.
 use Rattle.std.proofs.Common.{◌≡◌, ◌∙◌, ℕ, zero, suc, ◌+◌, ◌^◌, ◌<◌, ◌≤◌, min, List, [], ◌∷◌, ◌++◌, append_assoc, map, length, length-take, take, drop, Option, Some, None, Result, Ok, Err, refl, sym, ap, subst, slice_get, arith}
+use Rattle.std.proofs.lemmas.Bool.{le-leb, lt-leb}
 use Rattle.std.proofs.lemmas.List.Elements.{All-cons, All-nil, All-head, All-tail}
 use Rattle.std.specs.List.{All, cons_option}
 use Rattle.rio_host.specs.Host.{View}
@@ -18,12 +19,14 @@ use Rattle.rio_chain.specs.declared.fault.WalkFault.TheVariants.{NoChain, NoMemo
 use Rattle.rio_chain.specs.declared.segment.Segment.{Segment}
 use Rattle.rio_chain.proofs.Words.{has_own, has_same}
 use Rattle.rio_state.specs.KeyedRecords.{KeyedRecord, keyed_records, record_in_link}
+use Rattle.rio_head.specs.declared.reason.Reason.TheVariants.{LargeForm}
+use Rattle.rio_state.specs.Reasons.{IsReasonOfMade, reason_at}
 use Rattle.rio_recover.specs.Causes.{Obtains, fault_of_walk}
 use Rattle.rio_recover.specs.Keys.{StandsIn, record_end, record_heads}
 use Rattle.rio_recover.specs.Walked.{IsSmallHead, JudgesHead, JudgesWalk}
 use Rattle.rio_recover.specs.declared.fault.RecoverFault.{RecoverFault}
 use Rattle.rio_recover.specs.declared.fault.RecoverFault.TheVariants.{BadFile, ReadOnly, NoMemory, HostFault}
-use Rattle.rio_recover.proofs.Answering.{reason_broken}
+use Rattle.rio_recover.proofs.Answering.{reason_broken, reason_large}
 use Rattle.rio_recover.proofs.LinkRecords.{end_of_record, link_record}
 
 -- ---- the header
@@ -33,6 +36,16 @@ pub head_of_front : (file front : List ℕ) → length front ≡ min (length fil
 head_of_front file front long has =
     let same : front ≡ take 100 file = has_same file 0 front (take 100 file) (omega (arith, long, length-take 100 file)) has (has_own file 0 100) in
     ap head_at same ∙ head_in_front file
+
+-- by what the reader saw
+pub head_by_front : (file front seen : List ℕ) → length front ≡ min (length file) 100 → Has file 0 front → seen ≡ front → head_at seen ≡ head_at file
+head_by_front file front seen long has is = ap head_at is ∙ head_of_front file front long has
+
+pub large_by_front : (file seen : List ℕ) (head : FileHead) → head_at seen ≡ head_at file → Ok head ≡ head_at seen → 1000000 ≤ head.version → IsReasonOfMade file (Some (reason_at 4 LargeForm))
+large_by_front file seen head same is large = reason_large file head (sym same ∙ sym is) (le-leb 1000000 head.version large)
+
+pub small_by_front : (file seen : List ℕ) (head : FileHead) → head_at seen ≡ head_at file → Ok head ≡ head_at seen → head.version < 1000000 → IsSmallHead file head
+small_by_front file seen head same is small = record { head_is = sym same ∙ sym is; small = lt-leb 1000000 head.version small }
 
 pub head_unread : (X : Type 0) (old new : View) (e : WalkFault) (file : List ℕ) → IsReadCause {X = X} old new (Err e) → JudgesHead (Err (fault_of_walk e)) file
 head_unread X old new (NoChain place) file c = absurd c

@@ -24,6 +24,14 @@ IsRecoverCause old new (Err (ReadOnly place reason)) = new.disk_faults ≡ old.d
 IsRecoverCause old new (Err NoMemory) = new.disk_faults ≡ old.disk_faults
 IsRecoverCause old new (Err HostFault) = Rose old.disk_faults new.disk_faults
 
+-- a call that calls no host doesn't tell a fault of it
+abbrev pub CallsNoHost : {X : Type 0} → Result X RecoverFault → Type 0
+CallsNoHost (Ok x) = Unit {0}
+CallsNoHost (Err (BadFile place kind)) = Unit {0}
+CallsNoHost (Err (ReadOnly place reason)) = Unit {0}
+CallsNoHost (Err NoMemory) = Unit {0}
+CallsNoHost (Err HostFault) = ⊥
+
 -- ---- answers
 
 -- A call that tests for these reasons: it tells the first of them, or there are none and it gives what is asked for. Want of

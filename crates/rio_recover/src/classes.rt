@@ -119,7 +119,7 @@ fn accept_all(alloc: Global, classes: &Classes) -> Result<Option<Registry>, NoMe
 fn has_cycle_of(registry: &Registry, cycle: u16) -> bool
     ensures { IsTrue result ↔ (cycle ≤ length registry.now + 1) }
 {
-    usize::from(cycle) <= registry.classes().len() + 1
+    usize::from(cycle).saturating_sub(1) <= registry.classes().len()
 }
 
 // The classes that the class list with this key and these bytes stands for, or None.

@@ -9,7 +9,7 @@ ghost use Rattle.rio_host.specs.OnlyReads.{OnlyReads};
 ghost use Rattle.rio_chain.specs.Found.{IsShortKey};
 ghost use Rattle.rio_state.specs.KeyedRecords.{KeyedRecord, top_keys};
 ghost use Rattle.rio_state.specs.Reasons.{Beside, is_bad_object, key_reasons, keys_reasons, reason_if};
-ghost use Rattle.rio_recover.specs.Causes.{IsRecoverCause, Judges};
+ghost use Rattle.rio_recover.specs.Causes.{CallsNoHost, IsRecoverCause, Judges};
 ghost use Rattle.rio_recover.specs.Checks.{IsChecking, beside_of};
 ghost use Rattle.rio_recover.specs.Keys.{AreWithin, StandsIn, record_end, record_heads};
 
@@ -45,9 +45,10 @@ fn read_only(head: &KeyHead, reason: Reason) -> RecoverFault
 
 // Refuses a name that no script can say, and a title.
 fn check_name(head: &KeyHead) -> Result<(), RecoverFault>
-    ensures { Judges result
+    ensures told { Judges result
         (reason_if (not (is_item_text head.now.name)) head.now.seek BadName
         ++ reason_if (not (length head.now.title == 0)) head.now.seek BadKey) (λ _. Unit {0}) }
+    ensures alone { CallsNoHost result }
 {
     if !is_item(head.name.as_slice()) {
         return Err(read_only(head, Reason::BadName));
@@ -65,7 +66,7 @@ impl KeyCheck {
     ghost use Rattle.rio_chain.specs.Found.{IsShortKey};
     ghost use Rattle.rio_state.specs.KeyedRecords.{KeyedRecord, top_keys};
     ghost use Rattle.rio_state.specs.Reasons.{Beside};
-    ghost use Rattle.rio_recover.specs.Causes.{Judges};
+    ghost use Rattle.rio_recover.specs.Causes.{CallsNoHost, Judges};
     ghost use Rattle.rio_recover.specs.Checks.{IsChecking, item_reasons};
     ghost use Rattle.rio_recover.specs.Names.{IndexesNames};
     ghost use Rattle.rio_recover.specs.Keys.{keyed_by};
@@ -92,6 +93,7 @@ impl KeyCheck {
             (λ _. IsChecking beside (before ++ r ∷ []) self.new) }
         ensures short { IsShortKey head.now → All IsShortKey self.old.passed.heads
             → OnOk result (All IsShortKey self.new.passed.heads) }
+        ensures alone { CallsNoHost result }
     {
         if is_tree_key(head) && !self.names.is_outdated(head) {
             return Err(read_only(head, Reason::BadTree));

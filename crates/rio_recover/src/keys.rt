@@ -3,7 +3,7 @@ ghost use Rattle.std.specs.Prelude.{◌≡◌, nat_le, true};
 ghost use Rattle.std.specs.Option.{option_copied, option_map, option_map_or};
 ghost use Rattle.rio_state.specs.KeyedRecords.{has_class, has_info_name, info_key, is_elsewhere, is_in_directory, is_info_key, is_internal, is_top_key, is_tree_key};
 ghost use Rattle.rio_state.specs.Reasons.{directory_reasons};
-ghost use Rattle.rio_recover.specs.Causes.{Judges};
+ghost use Rattle.rio_recover.specs.Causes.{CallsNoHost, Judges};
 ghost use Rattle.rio_recover.specs.Keys.{keyed_by};
 
 use crate::RecoverFault;
@@ -69,7 +69,8 @@ pub(crate) fn is_tree_key(head: &KeyHead) -> bool
 
 /// Refuses a file with a key of another directory.
 pub(crate) fn check_directory(heads: &[KeyHead]) -> Result<(), RecoverFault>
-    ensures { Judges result (directory_reasons (keyed_by heads.now)) (λ _. Unit {0}) }
+    ensures told { Judges result (directory_reasons (keyed_by heads.now)) (λ _. Unit {0}) }
+    ensures alone { CallsNoHost result }
 {
     for head in heads {
         if is_elsewhere(head) {

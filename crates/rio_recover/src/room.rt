@@ -6,7 +6,7 @@ ghost use Rattle.rio_chain.specs.Found.{IsShortKey};
 ghost use Rattle.rio_machine.specs.Limits.{head_length, item_limit};
 ghost use Rattle.rio_state.specs.Closing.{close_need, end_limit, padded_length};
 ghost use Rattle.rio_state.specs.Reasons.{reason_if};
-ghost use Rattle.rio_recover.specs.Causes.{Judges};
+ghost use Rattle.rio_recover.specs.Causes.{CallsNoHost, Judges};
 
 use crate::RecoverFault;
 use rio_dir::KeyTable;
@@ -60,13 +60,14 @@ pub(crate) fn check_room(
     requires name { length name.now < 2 ^ 32 }
     requires short { All IsShortKey table.now.heads }
     requires others { others ≤ 2 }
-    ensures { Judges result
+    ensures told { Judges result
         (reason_if (nat_lt item_limit (length table.now.heads)) 0 TooMany
         ++ reason_if (nat_lt end_limit (end + close_need (record {
           name = name.now;
           heads = table.now.heads;
           count = others + length table.now.heads;
         }))) 0 NoRoom) (λ _. Unit {0}) }
+    ensures alone { CallsNoHost result }
 {
     if table.count() > ITEM_LIMIT {
         return Err(RecoverFault::ReadOnly {
