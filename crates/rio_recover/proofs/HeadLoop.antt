@@ -105,3 +105,8 @@ heads_all file links segments k heads chain le sofar =
     let long : length segments ≡ length links = ap length chain.same ∙ length-map links segment_of in
     let none : drop k links ≡ [] = drop_all k links (omega (arith, le, long)) in
     sym (append-nil heads) ∙ ap (λ (ls : List Link). heads ++ record_heads (keyed_records ls)) (sym none) ∙ sofar
+
+-- by what the step left
+pub heads_moved : (start : View) (segments : List Segment) (k : ℕ) {now new : View} {heads grown : List KeyHead} → new ≡ now → grown ≡ heads → HeadsSoFar start now segments (k + 1) heads → HeadsSoFar start new segments (k + 1) grown
+heads_moved start segments k {now} {new} {heads} {grown} moved more sofar =
+    subst (λ (v : View). HeadsSoFar start v segments (k + 1) grown) (sym moved) (subst (HeadsSoFar start now segments (k + 1)) (sym more) sofar)

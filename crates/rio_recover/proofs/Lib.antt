@@ -1,3 +1,4 @@
+pub mod Accepting
 pub mod Answering
 pub mod Checking
 pub mod Declared
@@ -7,14 +8,17 @@ pub mod HeadLoop
 pub mod Judging
 pub mod KeyJudged
 pub mod Keyed
+pub mod KeyLoop
 pub mod LinkRecords
 pub mod NameTables
 pub mod NoTrees
 pub mod Numbered
 pub mod Objects
+pub mod Recovering
 pub mod RoomReasons
 pub mod Rooms
 pub mod SameLists
 pub mod StateJudged
+pub mod StateRead
 pub mod Tables
 pub mod Walking

@@ -4,6 +4,7 @@ use Rattle.std.proofs.lemmas.Bool.{le-ltb, lt-ltb, ltb-false}
 use Rattle.std.proofs.lemmas.List.Elements.{All-head, All-tail}
 use Rattle.std.proofs.lemmas.List.Sums.{sum_by-cons}
 use Rattle.std.specs.List.{All, sum_by}
+use Rattle.rio_key.specs.Written.{written_key}
 use Rattle.rio_key.specs.declared.head.KeyHead.{KeyHead}
 use Rattle.rio_head.specs.declared.reason.Reason.TheVariants.{NoRoom, TooMany}
 use Rattle.rio_chain.specs.Found.{IsShortKey}

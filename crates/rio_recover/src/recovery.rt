@@ -9,6 +9,7 @@ ghost use Rattle.rio_chain.specs.Found.{IsShortKey};
 ghost use Rattle.rio_chain.specs.Placing.{file_end};
 ghost use Rattle.rio_chain.specs.Segments.{Link};
 ghost use Rattle.rio_chain.specs.Walks.{Told};
+ghost use Rattle.rio_dir.specs.Table.{AreOrdered};
 ghost use Rattle.rio_dir.specs.Unborn.{is_unborn};
 ghost use Rattle.rio_state.specs.Closing.{end_limit, name_in};
 ghost use Rattle.rio_state.specs.KeyedRecords.{KeyedRecord, info_key, is_top_key, keyed_records};
@@ -191,6 +192,7 @@ fn recover_walked<H: Host>(
         → HasChain links walked.segments file → walked.heads ≡ record_heads (keyed_records links)
         → JudgesLinks result links }
     ensures kept { IfOk result (IsKeptOf walked) }
+    ensures ordered { IfOk result (λ r. AreOrdered r.table.heads) }
     ensures room { IfOk result HasRoomBehind }
     ensures calls { OnlyReads (H.view host.old) (H.view host.new) }
     ensures cause { IsRecoverCause (H.view host.old) (H.view host.new) result }
@@ -198,6 +200,8 @@ fn recover_walked<H: Host>(
     let heads = walked.heads.as_slice();
     let info = copy_of(info_head(heads))?;
     let state = read_state(alloc, host, heads, info.as_ref())?;
+    // The table has them in the order of the key list.
+    let _ordered = state.table.as_slice();
     let name = name_of(alloc, heads)?;
     let end = end_of(walked.segments.as_slice());
     check_room(
