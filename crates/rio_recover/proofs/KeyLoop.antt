@@ -66,7 +66,7 @@ module _ (start now : View) (classes : List ClassDef) (heads : List KeyHead) (k 
       let r = record_here file records same in
       let before = sofar.told file records holds stand same in
       let j = told file r.item (beside_of classes records) (top_keys (take k records)) (sofar.calls.holds ∙ holds) (r.stands stand) r.head_is refl before.checking in
-      refused {X = X} file (beside_of classes records) records k head r old e P (Q (beside_of classes records) (top_keys (take k records)) r.item) top before j
+      refused file (beside_of classes records) records k head r {X = X} old e P (Q (beside_of classes records) (top_keys (take k records)) r.item) top before j
 
 -- by what the step left
 pub keys_moved : (start : View) (classes : List ClassDef) (heads : List KeyHead) (k : ℕ) {now new : View} {check left : KeyCheck} → new ≡ now → left ≡ check → KeysSoFar start now classes heads (k + 1) check

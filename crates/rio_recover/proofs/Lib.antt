@@ -1,5 +1,6 @@
 pub mod Accepting
 pub mod Answering
+pub mod BytesRead
 pub mod Checking
 pub mod Declared
 pub mod Garbage

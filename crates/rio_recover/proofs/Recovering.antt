@@ -3,6 +3,7 @@ use Rattle.std.proofs.Common.{◌≡◌, ◌∙◌, ℕ, ◌+◌, ◌^◌, ◌<�
 use Rattle.std.proofs.lemmas.List.Elements.{All-head}
 use Rattle.std.specs.List.{All}
 use Rattle.std.specs.Option.{option_map_or}
+use Rattle.std.specs.Result.{IfOk}
 use Rattle.rio_types.specs.declared.class.ClassDef.{ClassDef}
 use Rattle.rio_key.specs.declared.head.KeyHead.{KeyHead}
 use Rattle.rio_chain.specs.Chains.{HasChain}
@@ -85,15 +86,7 @@ has_room walked name seen info state r others end parts ends sees other none =
 
 -- ---- the answer
 
-abbrev pub IsOrderedIn : Result Recovered RecoverFault → Type 0
-IsOrderedIn (Ok r) = AreOrdered r.table.heads
-IsOrderedIn (Err e) = Unit {0}
-
-abbrev pub IsKeptIn : Walked → Result Recovered RecoverFault → Type 0
-IsKeptIn walked (Ok r) = IsKeptOf walked r
-IsKeptIn walked (Err e) = Unit {0}
-
-pub answered : (file : List ℕ) (made : is_unborn file ≡ false) (walked : Walked) (is : IsWalked file walked) (result : Result Recovered RecoverFault) → IsKeptIn walked result → IsOrderedIn result → JudgesLinks result is.links
+pub answered : (file : List ℕ) (made : is_unborn file ≡ false) (walked : Walked) (is : IsWalked file walked) (result : Result Recovered RecoverFault) → IfOk result (IsKeptOf walked) → IfOk result (λ r. AreOrdered r.table.heads) → JudgesLinks result is.links
     → IsAnswer result file
 answered file made walked is (Ok r) kept ordered judged = recovered file made walked is r kept ordered judged
 answered file made walked is (Err e) kept ordered judged = refused file made walked is e judged

@@ -18,7 +18,7 @@ returns-in_err-check_key-clause-told g c file records told stand same =
     let p = err_from_is_err_and c.from_residual-in_err-check_key.result c.from_residual-in_err-check_key.ensures.1 in
     rw (p.1, p.2)
     (keys_refuse (g.H.Host.view c.args.host.now) (g.H.Host.view c.loop-head.host) c.args.classes.now c.args.heads.now c.loop-head.head-index c.loop-head.check c.loop-head.invariant c.head-item.result c.loop-head-test.true
-    c.head-item.is {X = Unit {0}} c.in_err-check_key.field-0.0 (λ x. Unit {0}) (λ beside before r x. Unit {0}) (sym c.is_top_key.ensures ∙ c.if-is_top_key.true)
+    c.head-item.is c.in_err-check_key.field-0.0 _ (λ beside before r x. IsChecking beside (before ++ r ∷ []) c.check_key.new.check) (sym c.is_top_key.ensures ∙ c.if-is_top_key.true)
     (λ f r beside before holds stands is classes checking. c.in_err-check_key.ensures.told f r beside before holds stands is classes checking)
     file records told stand same)
 

@@ -1,10 +1,12 @@
 use Rattle.std.proofs.Common.{◌≡◌, ◌∙◌, Err, List, [], sym, ap, subst}
 use Rattle.std.proofs.lemmas.Result.{err_from_is_err_and}
 use Rattle.rio_host.proofs.ReadsLaws.{reads_join}
-use Rattle.rio_state.specs.KeyedRecords.{info_key}
+use Rattle.std.specs.List.Sorted.{IsPermutation}
+use Rattle.rio_dir.specs.Table.{TableRoom}
+use Rattle.rio_state.specs.KeyedRecords.{info_key, top_keys}
 use Rattle.rio_state.specs.Reasons.{directory_reasons}
 use Rattle.rio_recover.specs.Classes.{AreClassesOf}
-use Rattle.rio_recover.specs.Keys.{StandsIn, keyed_by}
+use Rattle.rio_recover.specs.Keys.{StandsIn, keyed_by, record_heads}
 use Rattle.rio_recover.specs.Recovered.{place_in}
 use Rattle.rio_recover.proofs.Gathering.{info_walked}
 use Rattle.rio_recover.proofs.Judging.{cause_alone_on, judges_same}
@@ -22,7 +24,7 @@ returns-in_err-classes-clause-told g c file records told stand same =
     let stands = info_stands (StandsIn file) records stand in
     let listed = sym (info_walked heads records same) ∙ sym c.requires.info in
     let p = err_from_is_err_and c.from_residual.result c.from_residual.ensures.1 in
-    rw (p.1, p.2) (unread records {X = Unit {0}} c.in_err-classes.field-0.0 (λ x. Unit {0}) (c.in_err-classes.ensures.classes file found told stands listed))
+    rw (p.1, p.2) (unread records c.in_err-classes.field-0.0 (AreClassesOf found) (c.in_err-classes.ensures.classes file found told stands listed))
 
 pub returns-in_err-check_directory-clause-told : goal.returns-in_err-check_directory-clause-told
 returns-in_err-check_directory-clause-told g c file records told stand same =
@@ -50,12 +52,13 @@ returns-in_err-table-in-Some-clause-told g c file records told stand same =
     let listed = sym (info_walked heads records same) ∙ sym c.requires.info in
     let p = err_from_is_err_and c.from_residual-in_err-table-in-Some.result c.from_residual-in_err-table-in-Some.ensures.1 in
     let e = c.in_err-table-in-Some.field-0.0 in
+    let passed : TableRoom → Type 0 = λ table. IsPermutation (record_heads (top_keys records)) table.heads in
     let registry = c.in-Some.registry in
     let classes = subst (AreClassesOf found) c.in-Some.is (c.in_ok-classes.ensures.classes file found told stands listed) in
     let none : directory_reasons records ≡ [] = sym (directory_same heads records same) ∙ c.in_ok-check_directory.ensures.told.0 in
     rw (p.1, p.2)
-    (key_first records {X = Unit {0}} registry e (λ x. Unit {0}) classes none
-    (judges_same {X = Unit {0}} (Err e) (of_keys records c.classes.result.now) (of_keys records registry) (λ x. Unit {0}) (ap (of_keys records) c.classes.ensures)
+    (key_first records {X = TableRoom} registry e passed classes none
+    (judges_same {X = TableRoom} (Err e) (of_keys records c.classes.result.now) (of_keys records registry) passed (ap (of_keys records) c.classes.ensures)
     (c.in_err-table-in-Some.ensures.told file records (c.read_classes.ensures.calls.holds ∙ told) stand same)))
 
 pub returns-in_ok-table-in-Some-clause-told : goal.returns-in_ok-table-in-Some-clause-told

@@ -72,7 +72,7 @@ returns-clause-told g c file links told chain same =
     all_gathered file links walked chain same state c.in_ok-name.name c.in_ok-info.info c.in_ok-gather.field-0 items room named counts c.in_ok-gather.ensures.parts c.in_ok-gather.ensures.garbage
 
 pub returns-clause-ordered : goal.returns-clause-ordered
-returns-clause-ordered g c = subst AreOrdered (λ i. (sym c.in_ok-gather.ensures.parts.table i).heads) c.as_slice-_ordered.ensures.ordered
+returns-clause-ordered g c = subst AreOrdered (λ i. (sym c.in_ok-gather.ensures.parts.table i).heads) c.as_slice-ordered.ensures.ordered
 
 pub returns-clause-room : goal.returns-clause-room
 returns-clause-room g c =

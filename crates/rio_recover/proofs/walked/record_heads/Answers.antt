@@ -18,7 +18,7 @@ pub returns-in_err-record_head-in-Record-clause-keys : goal.returns-in_err-recor
 returns-in_err-record_head-in-Record-clause-keys g c file links told chain =
     let p = err_from_is_err_and c.from_residual.result c.from_residual.ensures.1 in
     rw (p.1, p.2)
-    (key_refused {X = Unit {0}} c.args.segments.now c.loop-segment.segment-index c.loop-segment-test.true file links chain c.in-Record.place c.in-Record.length c.in_err-record_head-in-Record.field-0.0 (λ x. Unit {0}) c.in-Record.is
+    (key_refused c.args.segments.now c.loop-segment.segment-index c.loop-segment-test.true file links chain c.in-Record.place c.in-Record.length c.in_err-record_head-in-Record.field-0.0 _ c.in-Record.is
     (λ bytes holds long. c.in_err-record_head-in-Record.ensures.key file bytes (c.loop-segment.invariant.calls.holds ∙ told) holds long))
 
 pub loop-segment-preserved : goal.loop-segment-preserved
