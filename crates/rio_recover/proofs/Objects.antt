@@ -1,0 +1,24 @@
+-- The object of a record, by its key and its bytes.
+use Rattle.std.proofs.Common.{◌≡◌, ◌∙◌, ℕ, List, drop, length, Bool, ◌&&◌, not, Option, Some, None, Result, Ok, Err, refl, sym, ap, cond}
+use Rattle.std.specs.Option.{is_some}
+use Rattle.rio_types.specs.declared.class.ClassDef.{ClassDef}
+use Rattle.rio_value.specs.declared.value.Value.{Value}
+use Rattle.rio_buffer.specs.Frames.{Step}
+use Rattle.rio_format.specs.Objects.{first_at}
+use Rattle.rio_key.specs.declared.head.KeyHead.{KeyHead}
+use Rattle.rio_state.specs.Contents.{can_be_stored, is_padding, object_in, stored_in}
+use Rattle.rio_state.specs.KeyedRecords.{KeyedRecord}
+use Rattle.rio_recover.specs.Keys.{keyed}
+
+-- what can be stored in a record depends on its key alone
+stored_same : (classes : List ClassDef) (r s : KeyedRecord) (x : Step Value) → r.head ≡ s.head → stored_in classes r x ≡ stored_in classes s x
+stored_same classes r s (Ok x) e =
+    ap (λ (h : KeyHead). cond (is_padding x.1.at.rest && can_be_stored classes (keyed h) x.0) (Some x.0) None) e
+stored_same classes r s (Err f) e = refl
+
+pub object_same : (classes : List ClassDef) (r : KeyedRecord) (head : KeyHead) (bytes : List ℕ) → r.head ≡ head → bytes ≡ r.bytes
+    → stored_in classes (keyed head) (first_at classes head.class head.keylen (drop head.keylen bytes)) ≡ object_in classes r
+unfolding object_in
+object_same classes r head bytes e b =
+    (λ i. stored_in classes (keyed head) (first_at classes (sym e i).class (sym e i).keylen (drop (sym e i).keylen (b i))))
+    ∙ stored_same classes (keyed head) r (first_at classes r.head.class r.head.keylen (drop r.head.keylen r.bytes)) (sym e)

@@ -1,0 +1,48 @@
+use Rattle.std.proofs.Common.{◌≡◌, ◌∙◌, ◌++◌, ◌∷◌, [], ◌≤◌, List, length, sym, ap, arith}
+use Rattle.std.proofs.lemmas.List.{length-map}
+use Rattle.std.proofs.lemmas.Result.{err_from_is_err_and}
+use Rattle.rio_host.proofs.ReadsLaws.{reads_join}
+use Rattle.rio_state.specs.KeyedRecords.{KeyedRecord}
+use Rattle.rio_state.specs.Reasons.{Beside}
+use Rattle.rio_recover.specs.Checks.{IsChecking, beside_of}
+use Rattle.rio_recover.proofs.Checking.{all_checked}
+use Rattle.rio_recover.proofs.KeyLoop.{keys_begin, keys_moved, keys_pass, keys_refuse, keys_skip}
+use Rattle.rio_recover.proofs.judge.check_keys.Goals.{then-is_top_key+in_ok-check_key, else-is_top_key}
+use Rattle.rio_recover.proofs.judge.check_keys.Goals as goal
+
+pub loop-head-init : goal.loop-head-init
+loop-head-init g c = keys_begin (g.H.Host.view c.args.host.now) c.args.classes.now c.args.heads.now c.in_ok-check.check c.in_ok-check.ensures.names c.in_ok-check.ensures.passed
+
+pub returns-in_err-check_key-clause-told : goal.returns-in_err-check_key-clause-told
+returns-in_err-check_key-clause-told g c file records told stand same =
+    let p = err_from_is_err_and c.from_residual-in_err-check_key.result c.from_residual-in_err-check_key.ensures.1 in
+    rw (p.1, p.2)
+    (keys_refuse (g.H.Host.view c.args.host.now) (g.H.Host.view c.loop-head.host) c.args.classes.now c.args.heads.now c.loop-head.head-index c.loop-head.check c.loop-head.invariant c.head-item.result c.loop-head-test.true
+    c.head-item.is c.in_err-check_key.field-0.0 _ (λ beside before r x. IsChecking beside (before ++ r ∷ []) c.check_key.new.check) (sym c.is_top_key.ensures ∙ c.if-is_top_key.true)
+    (λ f r beside before holds stands is classes checking. c.in_err-check_key.ensures.told f r beside before holds stands is classes checking)
+    file records told stand same)
+
+pub loop-head-preserved : goal.loop-head-preserved
+loop-head-preserved g c =
+    let start = g.H.Host.view c.args.host.now in
+    let now = g.H.Host.view c.loop-head.host in
+    let classes = c.args.classes.now in
+    let heads = c.args.heads.now in
+    let k = c.loop-head.head-index in
+    let inv = c.loop-head.invariant in
+    elim c.if-is_top_key.branch [
+      | then-is_top_key+in_ok-check_key w ↦
+          keys_moved start classes heads k (ap g.H.Host.view w.host-is) w.check-is
+          (keys_pass start now classes heads k c.loop-head.check inv c.head-item.result c.loop-head-test.true c.head-item.is (g.H.Host.view w.check_key.new.host) w.check_key.new.check
+          (sym c.is_top_key.ensures ∙ w.if-is_top_key.true) (reads_join (g.met.H.Host.lawful c.loop-head.host) inv.calls w.check_key.ensures.calls) (w.in_ok-check_key.ensures.cause ∙ inv.calm)
+          w.in_ok-check_key.ensures.short
+          (λ f r beside before holds stands is same checking. w.in_ok-check_key.ensures.told f r beside before holds stands is same checking))
+      | else-is_top_key w ↦
+          keys_moved start classes heads k (ap g.H.Host.view w.host-is) w.check-is
+          (keys_skip start now classes heads k c.loop-head.check inv c.head-item.result c.loop-head-test.true c.head-item.is (sym c.is_top_key.ensures ∙ w.if-is_top_key.false))
+    ]
+
+pub returns-clause-told : goal.returns-clause-told
+returns-clause-told g c file records told stand same =
+    let long : length c.args.heads.now ≡ length records = ap length same ∙ length-map records (λ r. r.head) in
+    all_checked (beside_of c.args.classes.now records) records c.loop-head.head-index c.loop-head.check (omega (arith, long, c.loop-head-test.false)) (c.loop-head.invariant.told file records told stand same)

@@ -1,0 +1,16 @@
+-- The classes that a file's class list stands for.
+use Rattle.std.specs.Prelude.{◌≡◌, List, Option, Some, None}
+use Rattle.rio_types.specs.declared.class.ClassDef.{ClassDef}
+use Rattle.rio_format.specs.TreeClasses.{written_classes}
+use Rattle.rio_model.specs.StateClasses.{StateClasses}
+use Rattle.rio_state.specs.Contents.{HasStateClasses, state_classes}
+use Rattle.rio_state.specs.KeyedRecords.{KeyedRecord}
+
+-- these are the classes of a file with this class list that counts, or they have no reading
+abbrev pub AreClassesOf : Option KeyedRecord → Option (List ClassDef) → Type 0
+AreClassesOf info None = ¬ HasStateClasses info
+AreClassesOf info (Some classes) = HasStateClasses info × (classes ≡ state_classes info)
+
+-- the classes of trees, and then those of a state
+abbrev pub AreListedForState : List ClassDef → Type 0
+AreListedForState classes = (declared : List ClassDef) × (classes ≡ written_classes declared) × StateClasses declared

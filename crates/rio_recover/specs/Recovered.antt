@@ -1,0 +1,159 @@
+-- What is recovered of a file that reads as a state, and what a recovery answers.
+use Rattle.std.specs.Prelude.{◌≡◌, ◌+◌, ◌≤◌, ℕ, List, [], ◌++◌, map, length, Bool, true, false, ◌==◌, ◌&&◌, ◌||◌, not, MatchBool, Option, Some, None, Result, Ok, Err, slice_get}
+use Rattle.std.specs.List.{filter}
+use Rattle.std.specs.List.Sorted.{IsPermutation}
+use Rattle.std.specs.Option.{option_map, option_map_or}
+use Rattle.rio_types.specs.declared.class.ClassDef.{ClassDef}
+use Rattle.rio_key.specs.declared.head.KeyHead.{KeyHead}
+use Rattle.rio_head.specs.Head.{fault_at, head_at}
+use Rattle.rio_head.specs.declared.fault.FileFault.{FileFault}
+use Rattle.rio_head.specs.declared.head.FileHead.{FileHead}
+use Rattle.rio_head.specs.declared.reason.Reason.{Reason}
+use Rattle.rio_chain.specs.Chains.{HasChain}
+use Rattle.rio_chain.specs.Placing.{file_end}
+use Rattle.rio_chain.specs.Segments.{Link}
+use Rattle.rio_dir.specs.Unborn.{header_fault}
+use Rattle.rio_machine.specs.Limits.{item_limit}
+use Rattle.rio_machine.specs.State.{State}
+use Rattle.rio_state.specs.Closing.{KeptRecords, close_need, end_limit, name_in}
+use Rattle.rio_state.specs.Contents.{HasStateClasses, state_classes}
+use Rattle.rio_state.specs.DirectoryKeys.{AreKeysOf}
+use Rattle.rio_state.specs.KeyedRecords.{KeyedRecord, first_place, info_key, is_top_key, is_tree_key, is_tree_record, keyed_records, top_keys}
+use Rattle.rio_state.specs.Reads.{ReadsAsState, info_place}
+use Rattle.rio_state.specs.Reasons.{IsFirstReason, ReasonAt, reason_at, room_reasons, state_reasons}
+use Rattle.rio_recover.specs.Keys.{record_heads}
+use Rattle.rio_recover.specs.declared.fault.RecoverFault.{RecoverFault}
+use Rattle.rio_recover.specs.declared.fault.RecoverFault.TheVariants.{BadFile, ReadOnly, NoMemory, HostFault}
+use Rattle.rio_recover.specs.declared.recovery.ReadState.{ReadState}
+use Rattle.rio_recover.specs.declared.recovery.Recovered.{Recovered}
+use Rattle.rio_recover.specs.declared.walked.Walked.{Walked}
+
+-- ---- garbage
+
+-- the record is that of an object or a tree; of a tree's name it has the greatest cycle
+abbrev pub is_item_record : List KeyedRecord → KeyedRecord → Bool
+is_item_record tops r = is_top_key r.head && (not (is_tree_key r.head) || is_tree_record tops r)
+
+-- the state refers to the record, or the file itself does: it is the first, that of the class list that counts, or an item's
+abbrev pub is_referred : List KeyedRecord → KeyedRecord → Bool
+is_referred records r = (r.head.seek == first_place) || (r.head.seek == info_place (info_key records)) || is_item_record (top_keys records) r
+
+-- the places of the records that nothing refers to, in order
+abbrev pub garbage_of : List KeyedRecord → List ℕ
+garbage_of records = map (λ r. r.head.seek) (filter (λ r. not (is_referred records r)) records)
+
+-- a key that is neither that of the first record nor of the class list at this place, nor of an item: where no item is a
+-- tree's, nothing refers to its record
+abbrev pub is_left_over : ℕ → KeyHead → Bool
+is_left_over info head = not ((head.seek == first_place) || (head.seek == info) || is_top_key head)
+
+abbrev pub places_left : ℕ → List KeyHead → List ℕ
+places_left info heads = map (λ h. h.seek) (filter (is_left_over info) heads)
+
+abbrev pub place_in : Option KeyHead → ℕ
+place_in info = option_map_or (λ h. h.seek) info 0
+
+-- ---- the parts of the state
+
+-- a reason that is told first, by whether the classes have a reading
+abbrev pub IsTold : (Bool → List ReasonAt) → Option KeyedRecord → ReasonAt → Type 0
+IsTold reasons info told = (listed : Bool) × MatchBool listed (HasStateClasses info) (¬ HasStateClasses info) × (slice_get (reasons listed) 0 ≡ Some told)
+
+-- the classes of the state, and the keys of its items
+pub record AreItemsOf (records : List KeyedRecord) (classes : List ClassDef) (heads : List KeyHead) : Type 0 where
+  pub listed : HasStateClasses (info_key records)
+  pub none : state_reasons true records ≡ []
+  pub classes_are : classes ≡ state_classes (info_key records)
+  pub heads_are : IsPermutation (record_heads (top_keys records)) heads
+
+-- they are those that these records stand for, or the first reason is told why they stand for none
+abbrev pub JudgesState : Result ReadState RecoverFault → List KeyedRecord → Type 0
+JudgesState (Ok s) records = AreItemsOf records s.registry s.table.heads
+JudgesState (Err (BadFile place kind)) records = ⊥
+JudgesState (Err (ReadOnly place reason)) records = IsTold (λ listed. state_reasons listed records) (info_key records) (reason_at place reason)
+JudgesState (Err NoMemory) records = Unit {0}
+JudgesState (Err HostFault) records = Unit {0}
+
+-- what is recovered of records beside the classes and the keys
+pub record IsGathered (records : List KeyedRecord) (r : Recovered) : Type 0 where
+  pub info : r.info ≡ option_map (λ k. k.head) (info_key records)
+  pub garbage : r.garbage ≡ garbage_of records
+  pub name : r.name ≡ name_in records
+
+-- the same for all that is recovered, where the file has these links
+abbrev pub JudgesLinks : Result Recovered RecoverFault → List Link → Type 0
+JudgesLinks (Ok r) links = AreItemsOf (keyed_records links) r.registry r.table.heads × (room_reasons links ≡ []) × IsGathered (keyed_records links) r
+JudgesLinks (Err (BadFile place kind)) links = ⊥
+JudgesLinks (Err (ReadOnly place reason)) links = IsTold (λ listed. state_reasons listed (keyed_records links) ++ room_reasons links) (info_key (keyed_records links)) (reason_at place reason)
+JudgesLinks (Err NoMemory) links = Unit {0}
+JudgesLinks (Err HostFault) links = Unit {0}
+
+-- it has the segments that were walked, and the header's number
+pub record IsKeptOf (walked : Walked) (r : Recovered) : Type 0 where
+  pub segments : r.chain.segments ≡ walked.segments
+  pub spent : r.chain.spent ≡ false
+  pub nbytes_name : r.nbytes_name ≡ walked.nbytes_name
+
+-- it has these parts, and room to release its garbage
+pub record AreParts (walked : Walked) (name : List ℕ) (info : Option KeyHead) (state : ReadState) (r : Recovered) : Type 0 where
+  pub kept : IsKeptOf walked r
+  pub release : length r.garbage ≤ r.chain.spare
+  pub registry : r.registry ≡ state.registry
+  pub table : r.table ≡ state.table
+  pub info_is : r.info ≡ info
+  pub name_is : r.name ≡ name
+
+-- ---- room
+
+-- what a close writes of, behind the file that is recovered
+abbrev pub kept_by : Recovered → KeptRecords
+kept_by r = record { name = r.name; heads = r.table.heads; count = 1 + option_map_or (λ k. 1) r.info 0 + length r.table.heads }
+
+-- there aren't too many items, and there is room for a close
+pub record HasRoomBehind (r : Recovered) : Type 0 where
+  pub items : length r.table.heads ≤ item_limit
+  pub close : file_end r.chain.segments + close_need (kept_by r) ≤ end_limit
+  pub release : length r.garbage ≤ r.chain.spare
+
+-- ---- what is recovered
+
+pub record IsRecovered (file : List ℕ) (r : Recovered) : Type 0 where
+  -- the bytes read as a state
+  pub m : State
+  pub reads : ReadsAsState file m
+  -- they have these links, whose segments the chain has
+  pub links : List Link
+  pub chain : HasChain links r.chain.segments file
+  -- classes and keys are those of the state
+  pub classes : r.registry ≡ m.classes
+  pub keys : AreKeysOf (keyed_records links) r.table.heads
+  pub info : r.info ≡ option_map (λ k. k.head) (info_key (keyed_records links))
+  -- nothing refers to the garbage
+  pub garbage : r.garbage ≡ garbage_of (keyed_records links)
+  -- the file's name, and its header's fNbytesName
+  pub name : r.name ≡ name_in (keyed_records links)
+  pub head : FileHead
+  pub head_is : head_at file ≡ Ok head
+  pub nbytes_name : r.nbytes_name ≡ head.nbytes_name
+
+-- The answer is what the file's bytes say: what is recovered of a state, where nothing stands against writing; the rule that
+-- the header breaks; or the first reason not to write to a file whose header breaks none.
+abbrev pub IsAnswer : Result Recovered RecoverFault → List ℕ → Type 0
+IsAnswer (Ok r) file = IsRecovered file r × (header_fault file ≡ None) × IsFirstReason file None
+IsAnswer (Err (BadFile place kind)) file = header_fault file ≡ Some (fault_at place kind)
+IsAnswer (Err (ReadOnly place reason)) file = (header_fault file ≡ None) × IsFirstReason file (Some (reason_at place reason))
+IsAnswer (Err NoMemory) file = Unit {0}
+IsAnswer (Err HostFault) file = Unit {0}
+
+-- the fault is told, unless memory ran out or the host failed
+abbrev pub TellsFault : Result Recovered RecoverFault → RecoverFault → Type 0
+TellsFault (Ok r) fault = ⊥
+TellsFault (Err NoMemory) fault = Unit {0}
+TellsFault (Err HostFault) fault = Unit {0}
+TellsFault (Err (BadFile place kind)) fault = BadFile place kind ≡ fault
+TellsFault (Err (ReadOnly place reason)) fault = ReadOnly place reason ≡ fault
+
+-- a file that breaks a rule of the header is told so, and one that has a first reason
+pub record TellsAll (result : Result Recovered RecoverFault) (file : List ℕ) : Type 0 where
+  pub fault : (place : ℕ) (kind : FileFault) → header_fault file ≡ Some (fault_at place kind) → TellsFault result (BadFile place kind)
+  pub reason : (place : ℕ) (reason : Reason) → header_fault file ≡ None → IsFirstReason file (Some (reason_at place reason)) → TellsFault result (ReadOnly place reason)

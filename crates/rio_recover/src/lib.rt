@@ -1,0 +1,27 @@
+//! The state that a file reads as, by a walk through it, with every reason why nothing is written to a file.
+//! [`is_unborn`] tells whether a file is made. Of a made one [`recover`] tells the state, or the first rule that its
+//! header breaks, or the first reason not to write to it, and writes nothing. No tree is read yet: a tree's key is a
+//! reason, unless another has its name and a higher cycle.
+//!
+//! The definitions stand in `specs/`: `Recovered` (what is recovered and what is answered) and `Causes` (why a call
+//! fails); `Walked`, `Keys`, `Names`, `Checks` and `Classes` are of the steps.
+#![tactic(auto)]
+
+mod classes;
+mod fault;
+mod judge;
+mod keys;
+mod names;
+mod object;
+mod recovery;
+mod room;
+mod same;
+mod unborn;
+mod walked;
+
+pub use fault::RecoverFault;
+pub use recovery::{Recovered, recover};
+pub use unborn::is_unborn;
+
+#[cfg(test)]
+mod tests;

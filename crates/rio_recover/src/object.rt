@@ -1,0 +1,136 @@
+//! Whether a record stands for an object.
+ghost use Rattle.std.specs.Prelude.{◌≡◌, ◌≢◌, ◌==◌, ◌&&◌, ◌+◌, ◌<◌, ◌^◌, not, is_some, drop, length, ℕ, List, Some, IfOk, IfErr, Ok};
+ghost use Rattle.std.specs.Int.{w32, cast_unsigned};
+ghost use Rattle.rio_format.specs.Objects.{first_at};
+ghost use Rattle.rio_host.specs.Host.{IsWithin};
+ghost use Rattle.rio_host.specs.OnlyReads.{OnlyReads};
+ghost use Rattle.rio_value.specs.declared.value.Value.{Value as Read};
+ghost use Rattle.rio_buffer.specs.Frames.{Step};
+ghost use Rattle.rio_machine.specs.Limits.{has_long_list, is_too_deep, is_too_long};
+ghost use Rattle.rio_state.specs.Contents.{can_be_stored, is_padding, object_in, stored_in};
+ghost use Rattle.rio_state.specs.KeyedRecords.{KeyedRecord};
+ghost use Rattle.rio_recover.specs.Causes.{IsRecoverCause, Obtains};
+ghost use Rattle.rio_recover.specs.Keys.{StandsIn, keyed, record_end};
+
+use crate::RecoverFault;
+use rio_buffer::{ObjFault, ObjReader};
+use rio_chain::bytes_at;
+use rio_fit::{can_be_put, fits};
+use rio_host::Host;
+use rio_key::KeyHead;
+use rio_num::NoMemory;
+use rio_read::read_next;
+use rio_types::Classes;
+use rio_value::{Value, depth, longest_list};
+use std::alloc::Global;
+
+// How long an object's data may be.
+const LENGTH_LIMIT: u32 = 16_777_216;
+
+// How deep an object may be.
+const DEPTH_LIMIT: u32 = 256;
+
+// How many values a list may have.
+const LIST_LIMIT: u64 = 100_000;
+
+/// The bytes of the record with this key.
+pub(crate) fn record_bytes<H: Host>(
+    alloc: Global,
+    host: &mut H,
+    head: &KeyHead,
+) -> Result<Vec<u8>, RecoverFault>
+    requires { IsWithin (H.view host.old) (record_end head.now) }
+    ensures size { IfOk result (λ bytes. length bytes.items < 2 ^ 32) }
+    ensures bytes { (file : List ℕ) (r : KeyedRecord) → (H.view host.old).holds ≡ Some file
+        → StandsIn file r → r.head ≡ head.now → Obtains result (λ bytes. bytes.items ≡ r.bytes) }
+    ensures calls { OnlyReads (H.view host.old) (H.view host.new) }
+    ensures cause { IsRecoverCause (H.view host.old) (H.view host.new) result }
+{
+    let length = head.nbytes.cast_unsigned();
+    Ok(bytes_at(alloc, host, head.seek, length as usize)?)
+}
+
+/// The data of a record, where these are its bytes and this is its key: they begin at KeyLen. There are
+/// none where the bytes end before.
+pub(crate) fn data_of<'a>(head: &KeyHead, bytes: &'a [u8]) -> &'a [u8]
+    ensures { result.now ≡ drop head.now.keylen bytes.now }
+{
+    let keylen = usize::from(head.keylen);
+    if keylen < bytes.len() {
+        &bytes[keylen..]
+    } else {
+        &[]
+    }
+}
+
+// Whether at most three bytes are left, and each is zero. They are read.
+fn is_padding(reader: &mut ObjReader) -> bool
+    ensures { result ≡ is_padding reader.old.at.rest }
+{
+    if reader.left() > 3 {
+        return false;
+    }
+    while reader.left() > 0 {
+        match reader.take_u8() {
+            Ok(0) => {}
+            Ok(_) | Err(_) => return false,
+        }
+    }
+    true
+}
+
+// Whether a put takes the value and stores it in data as long as the key says.
+fn can_be_stored(
+    alloc: Global,
+    classes: &Classes,
+    head: &KeyHead,
+    value: &Value,
+) -> Result<bool, NoMemory>
+    ensures { IfOk result (λ b. b ≡ can_be_stored classes.now (keyed head.now) value.now) }
+{
+    Ok(
+        fits(alloc, classes, head.class.as_slice(), value)?
+            && can_be_put(classes, head.class.as_slice())
+            && head.objlen <= LENGTH_LIMIT
+            && depth(value) <= DEPTH_LIMIT
+            && longest_list(value) <= LIST_LIMIT,
+    )
+}
+
+// Whether the data, where this is their record's key, spell a value that a put takes, with at most
+// three zero bytes behind it.
+fn spells_object(
+    alloc: Global,
+    classes: &Classes,
+    head: &KeyHead,
+    contents: &[u8],
+) -> Result<bool, NoMemory>
+    requires { length contents.now < 2 ^ 32 }
+    ensures { IfOk result (λ b. b ≡ is_some (stored_in classes.now (keyed head.now)
+        (first_at classes.now head.now.class head.now.keylen contents.now))) }
+{
+    let mut reader = ObjReader::new(alloc, contents, u64::from(head.keylen));
+    match read_next(alloc, classes, &mut reader, head.class.as_slice()) {
+        Ok(value) => { Ok(is_padding(&mut reader) && can_be_stored(alloc, classes, head, &value)?) }
+        Err(ObjFault::NoMemory) => Err(NoMemory),
+        Err(_) => Ok(false),
+    }
+}
+
+/// Whether the record with this key stands for an object.
+pub(crate) fn is_object<H: Host>(
+    alloc: Global,
+    host: &mut H,
+    classes: &Classes,
+    head: &KeyHead,
+) -> Result<bool, RecoverFault>
+    requires { IsWithin (H.view host.old) (record_end head.now) }
+    ensures object { (file : List ℕ) (r : KeyedRecord) → (H.view host.old).holds ≡ Some file
+        → StandsIn file r → r.head ≡ head.now
+        → Obtains result (λ b. b ≡ is_some (object_in classes.now r)) }
+    ensures calls { OnlyReads (H.view host.old) (H.view host.new) }
+    ensures cause { IsRecoverCause (H.view host.old) (H.view host.new) result }
+{
+    let bytes = record_bytes(alloc, host, head)?;
+    Ok(spells_object(alloc, classes, head, data_of(head, &bytes))?)
+}

@@ -1,0 +1,231 @@
+//! A file is recovered.
+ghost use Rattle.std.specs.Prelude.{◌≡◌, ◌==◌, ◌||◌, ◌+◌, ◌<◌, ◌≤◌, ◌^◌, not, false, true, ℕ, List, Some, IfOk};
+ghost use Rattle.std.specs.List.{All};
+ghost use Rattle.std.specs.Option.{option_copied, option_map, option_map_or};
+ghost use Rattle.rio_host.specs.OnlyReads.{OnlyReads};
+ghost use Rattle.rio_chain.specs.Adjoining.{AreSegments};
+ghost use Rattle.rio_chain.specs.Chains.{HasChain};
+ghost use Rattle.rio_chain.specs.Found.{IsShortKey};
+ghost use Rattle.rio_chain.specs.Placing.{file_end};
+ghost use Rattle.rio_chain.specs.Segments.{Link};
+ghost use Rattle.rio_chain.specs.Walks.{Told};
+ghost use Rattle.rio_dir.specs.Table.{AreOrdered};
+ghost use Rattle.rio_dir.specs.Unborn.{is_unborn};
+ghost use Rattle.rio_state.specs.Closing.{end_limit, name_in};
+ghost use Rattle.rio_state.specs.KeyedRecords.{KeyedRecord, info_key, is_top_key, keyed_records};
+ghost use Rattle.rio_recover.specs.Causes.{IsRecoverCause};
+ghost use Rattle.rio_recover.specs.Keys.{AreWithin, StandsIn, keyed_by, record_heads};
+ghost use Rattle.rio_recover.specs.Recovered.{AreParts, HasRoomBehind, IsAnswer, IsKeptOf, JudgesLinks, JudgesState, TellsAll, is_left_over, place_in, places_left};
+
+use crate::RecoverFault;
+use crate::classes::read_classes;
+use crate::judge::check_keys;
+use crate::keys::{check_directory, info_head, is_top_key};
+use crate::room::check_room;
+use crate::walked::{Walked, walk_file};
+use rio_chain::{Chain, end_of};
+use rio_dir::KeyTable;
+use rio_head::Reason;
+use rio_host::Host;
+use rio_key::KeyHead;
+use rio_num::{Name, NoMemory, Places};
+use rio_registry::Registry;
+use std::alloc::Global;
+
+/// What a file has whose bytes read as a state.
+#[derive(Debug, Drop)]
+pub struct Recovered {
+    /// Its segments, with room for the release of the garbage.
+    pub chain: Chain,
+    /// The classes of the state.
+    pub registry: Registry,
+    /// The keys of its objects and trees.
+    pub table: KeyTable,
+    /// The key of the class list that counts.
+    pub info: Option<KeyHead>,
+    /// The places of the records that nothing refers to, in order.
+    pub garbage: Places,
+    /// The file's name, as its first record has it.
+    pub name: Name,
+    /// The header's fNbytesName.
+    pub nbytes_name: u32,
+}
+
+// The classes of a state, and the keys of its items.
+#[derive(Drop)]
+struct ReadState {
+    registry: Registry,
+    table: KeyTable,
+}
+
+// Where the class list stands, and 0 where there is none.
+fn place_of(info: Option<&KeyHead>) -> u64
+    ensures { result ≡ place_in (option_copied info.entry) }
+{
+    match info {
+        Some(head) => head.seek,
+        None => 0,
+    }
+}
+
+// Whether the record is neither the first nor that of the class list at this place, and no item's.
+fn is_left_over(head: &KeyHead, info: u64) -> bool
+    ensures { result ≡ is_left_over info head.now }
+{
+    head.seek != 100 && head.seek != info && !is_top_key(head)
+}
+
+// The places of the records that nothing refers to, where none of them is a tree's.
+fn garbage_of(alloc: Global, heads: &[KeyHead], info: u64) -> Result<Places, NoMemory>
+    ensures { IfOk result (λ places. places ≡ places_left info heads.now) }
+{
+    let mut places = Places::new(alloc);
+    for head in heads {
+        if is_left_over(head, info) {
+            places.push(head.seek)?;
+        }
+    }
+    Ok(places)
+}
+
+fn copy_of(head: Option<&KeyHead>) -> Result<Option<KeyHead>, NoMemory>
+    ensures { IfOk result (λ copied. copied ≡ option_copied head.entry) }
+{
+    match head {
+        Some(head) => Ok(Some(head.copy()?)),
+        None => Ok(None),
+    }
+}
+
+// The name of the file, which its first record has.
+fn name_of(alloc: Global, heads: &[KeyHead]) -> Result<Name, NoMemory>
+    ensures { IfOk result (λ name. name ≡ name_in (keyed_by heads.now)) }
+{
+    match heads {
+        [first, ..] => first.name.copy(),
+        [] => Ok(Name::new(alloc)),
+    }
+}
+
+// The classes and the keys of the state that the records of these keys stand for, or the first reason
+// why they stand for none.
+fn read_state<H: Host>(
+    alloc: Global,
+    host: &mut H,
+    heads: &[KeyHead],
+    info: Option<&KeyHead>,
+) -> Result<ReadState, RecoverFault>
+    requires within { AreWithin (H.view host.old) heads.now }
+    requires info { option_copied info
+        ≡ option_map (λ r. r.head) (info_key (keyed_by heads.now)) }
+    ensures told { (file : List ℕ) (records : List KeyedRecord)
+        → (H.view host.old).holds ≡ Some file → All (StandsIn file) records
+        → heads.now ≡ record_heads records → JudgesState result records }
+    ensures short { All IsShortKey heads.now
+        → IfOk result (λ state. All IsShortKey state.table.heads) }
+    ensures calls { OnlyReads (H.view host.old) (H.view host.new) }
+    ensures cause { IsRecoverCause (H.view host.old) (H.view host.new) result }
+{
+    let classes = read_classes(alloc, host, info)?;
+    check_directory(heads)?;
+    match classes {
+        Some(registry) => {
+            let table = check_keys(alloc, host, registry.classes(), heads)?;
+            Ok(ReadState { registry, table })
+        }
+        None => Err(RecoverFault::ReadOnly {
+            place: place_of(info),
+            reason: Reason::BadInfo,
+        }),
+    }
+}
+
+// How many records are kept beside those of items: the first, and the class list.
+fn count_others(info: Option<&KeyHead>) -> u64
+    ensures value { result ≡ 1 + option_map_or (λ head. 1) (option_copied info.entry) 0 }
+    ensures few { result ≤ 2 }
+{
+    match info {
+        Some(_) => 2,
+        None => 1,
+    }
+}
+
+// Puts together what is recovered.
+fn gather(
+    alloc: Global,
+    walked: Walked,
+    name: Name,
+    info: Option<KeyHead>,
+    state: ReadState,
+) -> Result<Recovered, NoMemory>
+    requires shape { AreSegments walked.segments }
+    requires low { file_end walked.segments ≤ end_limit }
+    ensures parts { IfOk result (AreParts walked name info state) }
+    ensures garbage { IfOk result (λ r. r.garbage ≡ places_left (place_in info) walked.heads) }
+{
+    let garbage = garbage_of(alloc, walked.heads.as_slice(), place_of(info.as_ref()))?;
+    let mut chain = Chain::from_segments(walked.segments)?;
+    chain.reserve(garbage.len() as u64)?;
+    Ok(Recovered {
+        chain,
+        registry: state.registry,
+        table: state.table,
+        info,
+        garbage,
+        name,
+        nbytes_name: walked.nbytes_name,
+    })
+}
+
+// What the file that was walked has, or the first reason why nothing is written to it.
+fn recover_walked<H: Host>(
+    alloc: Global,
+    host: &mut H,
+    walked: Walked,
+) -> Result<Recovered, RecoverFault>
+    requires shape { AreSegments walked.segments }
+    requires end { file_end walked.segments < 2 ^ 64 }
+    requires short { All IsShortKey walked.heads }
+    requires within { AreWithin (H.view host.old) walked.heads }
+    ensures told { (file : List ℕ) (links : List Link) → (H.view host.old).holds ≡ Some file
+        → HasChain links walked.segments file → walked.heads ≡ record_heads (keyed_records links)
+        → JudgesLinks result links }
+    ensures kept { IfOk result (IsKeptOf walked) }
+    ensures ordered { IfOk result (λ r. AreOrdered r.table.heads) }
+    ensures room { IfOk result HasRoomBehind }
+    ensures calls { OnlyReads (H.view host.old) (H.view host.new) }
+    ensures cause { IsRecoverCause (H.view host.old) (H.view host.new) result }
+{
+    let heads = walked.heads.as_slice();
+    let info = copy_of(info_head(heads))?;
+    let state = read_state(alloc, host, heads, info.as_ref())?;
+    // The table has them in the order of the key list.
+    let _ordered = state.table.as_slice();
+    let name = name_of(alloc, heads)?;
+    let end = end_of(walked.segments.as_slice());
+    check_room(
+        end,
+        name.as_slice(),
+        &state.table,
+        count_others(info.as_ref()),
+    )?;
+    Ok(gather(alloc, walked, name, info, state)?)
+}
+
+/// What the file has, whose bytes read as a state; nothing is written to it. The file is made already.
+/// BadFile is the first rule that the header breaks, of those that are tested before anything is written
+/// to a file, and ReadOnly the first reason not to write to a file whose header breaks none; each has
+/// its place. HostFault comes only where a call on the file failed.
+pub fn recover<H: Host>(alloc: Global, host: &mut H) -> Result<Recovered, RecoverFault>
+    requires { Told (H.view host.old) (λ file. is_unborn file ≡ false) }
+    ensures answer { Told (H.view host.old) (IsAnswer result) }
+    ensures told { Told (H.view host.old) (TellsAll result) }
+    ensures fresh { IfOk result (λ r. r.chain.spent ≡ false) }
+    ensures room { IfOk result HasRoomBehind }
+    ensures calls { OnlyReads (H.view host.old) (H.view host.new) }
+    ensures cause { IsRecoverCause (H.view host.old) (H.view host.new) result }
+{
+    let walked = walk_file(alloc, host)?;
+    recover_walked(alloc, host, walked)
+}
