@@ -1,400 +1,357 @@
-//! Entries of branches, good and bad.
+//! Entries of branches of leaves, good and bad.
+mod objects;
+mod texts;
+
 use crate::{EntryFault, read_entry, write_entry};
-use rio_leaf::{BranchDef, Dim, Leaf, Leaves, Shape};
-use rio_num::{Boxed, Bytes, Name};
-use rio_types::{Bases, ClassDef, Classes, Kind, Member, Members, Prim};
-use rio_value::{Part, Parts, Value, Values};
+use rio_leaf::{BranchDef, Dim, Leaf, Leaves, Shape, read_leaves};
+use rio_num::{Bytes, Name};
+use rio_types::Classes;
+use rio_value::{Value, Values};
 use std::alloc::Global;
 use std::test::Fail;
+use texts::{hex_bytes, put_row};
 
-fn branch(alloc: Global, letter: u8, dim: Dim) -> Result<BranchDef, Fail> {
+// The leaves, what counts each of them in an earlier branch, the entry, and the row that it is.
+static ENTRIES: [(&str, &[i128], &str, &str); 20] = [
+    // The entries of tree `T`, branch `x`.
+    ("x/I", &[], "00000001", " 1"),
+    ("x/I", &[], "00000002", " 2"),
+    ("x/I", &[], "00000003", " 3"),
+    // The entries of tree `V`, branch `v`, which the leaf of branch `n` counts.
+    ("v[n]/F", &[0], "", " [ ]"),
+    (
+        "v[n]/F",
+        &[3],
+        "3F800000 40000000 40400000",
+        " [ 0x3f800000 0x40000000 0x40400000 ]",
+    ),
+    // Where no count is given, it is 0.
+    ("v[n]/F", &[], "", " [ ]"),
+    // The least and the greatest number of each letter, and numbers that differ with the sign.
+    (
+        "a/B:b/S:c/I:d/L",
+        &[],
+        "80 8000 80000000 8000000000000000",
+        " -128 -32768 -2147483648 -9223372036854775808",
+    ),
+    (
+        "a/B:b/S:c/I:d/L",
+        &[],
+        "7F 7FFF 7FFFFFFF 7FFFFFFFFFFFFFFF",
+        " 127 32767 2147483647 9223372036854775807",
+    ),
+    (
+        "a/B:b/S:c/I:d/L",
+        &[],
+        "FF FFFE FFFFFFFD FFFFFFFFFFFFFFFC",
+        " -1 -2 -3 -4",
+    ),
+    (
+        "a/b:b/s:c/i:d/l",
+        &[],
+        "FF FFFE FFFFFFFD FFFFFFFFFFFFFFFC",
+        " 255 65534 4294967293 18446744073709551612",
+    ),
+    (
+        "f/F:d/D:o/O:p/O",
+        &[],
+        "BF800000 3FF0000000000000 01 00",
+        " 0xbf800000 0x3ff0000000000000 true false",
+    ),
+    // A list of a fixed length, which no count changes.
+    ("x[2]/I", &[7], "00000001 FFFFFFFF", " [ 1 -1 ]"),
+    // A leaf before it in the branch counts, whatever count is given.
+    ("n/I:w[n]/b", &[], "00000002 07FF", " 2 [ 7 255 ]"),
+    ("n/I:w[n]/b", &[9, 1], "00000002 07FF", " 2 [ 7 255 ]"),
+    (
+        "n/I:m/I:w[n]/b:v[m]/S",
+        &[],
+        "00000001 00000002 07 FFFE 0003",
+        " 1 2 [ 7 ] [ -2 3 ]",
+    ),
+    // Each count is that of its own leaf.
+    ("w[k]/b:v[j]/b", &[1, 2], "07 0809", " [ 7 ] [ 8 9 ]"),
+    // Texts.
+    ("c/C", &[], "00", " \"\""),
+    ("c/C:d/C", &[], "02 6869 01 61", " \"hi\" \"a\""),
+    ("c/C:x/I", &[5], "02 6869 00000005", " \"hi\" 5"),
+    ("n/I:c/C:w[n]/b", &[], "00000001 01 61 07", " 1 \"a\" [ 7 ]"),
+];
+
+// Entries that are read, and which no row is written as: any byte but 0 is true, and a short text may have the five bytes
+// of length of a long one.
+static OTHER_FORMS: [(&str, &[i128], &str, &str); 2] = [
+    ("o/O:p[2]/O", &[], "02 FF00", " true [ true false ]"),
+    ("c/C", &[], "FF 00000002 6869", " \"hi\""),
+];
+
+// Bytes that are no entries of the leaves, and the place of the first part that breaks.
+static BROKEN: [(&str, &[i128], &str, u64); 21] = [
+    ("x/I", &[], "", 0),
+    ("x/I", &[], "000000", 0),
+    // Bytes behind the last leaf.
+    ("x/I", &[], "00000001 00", 4),
+    ("x/I", &[], "00000001 000000000000", 4),
+    ("v[n]/F", &[0], "00", 0),
+    ("v[n]/F", &[2], "3F800000 40000000 40400000", 8),
+    // A value of a list that isn't whole.
+    ("v[n]/F", &[3], "3F800000 40000000", 8),
+    ("v[n]/F", &[3], "3F800000 40000000 404000", 8),
+    ("x[2]/I", &[], "00000001", 4),
+    ("n/I:w[n]/b", &[], "00000002 07", 5),
+    ("n/I:w[n]/S", &[], "00000002 0007 FF", 6),
+    ("n/I:w[n]/b", &[9, 1], "00000002 07FF 00", 6),
+    // No list is so long.
+    ("w[n]/b", &[2147483647], "07", 1),
+    // A count below 0 breaks where the values would begin.
+    ("v[n]/F", &[-1], "3F800000", 0),
+    ("n/I:w[n]/b", &[], "FFFFFFFF 07", 4),
+    ("n/I:c/C:w[n]/b", &[], "80000000 01 61 07", 6),
+    // Texts.
+    ("c/C", &[], "", 0),
+    ("c/C", &[], "02 68", 0),
+    ("c/C:d/C", &[], "02 6869", 3),
+    ("c/C:d/C", &[], "02 6869 FF000000", 3),
+    ("c/C:d/C", &[], "02 6869 FF00000001", 3),
+];
+
+// A row, as an entry of other leaves, which doesn't fit the leaves and counts behind it.
+static BAD_ROWS: [(&str, &str, &str, &[i128]); 19] = [
+    // More values than leaves, and fewer.
+    ("x/I:y/I", "00000001 00000002", "x/I", &[]),
+    ("x/I", "00000001", "x/I:y/I", &[]),
+    // Numbers that are too great or too small.
+    ("x/b", "80", "x/B", &[]),
+    ("x/B", "FF", "x/b", &[]),
+    ("x/i", "80000000", "x/I", &[]),
+    ("x/L", "FFFFFFFFFFFFFFFF", "x/l", &[]),
+    ("x/s", "0100", "x/b", &[]),
+    ("x[2]/s", "00010100", "x[2]/b", &[]),
+    // Values of another kind.
+    ("x/F", "3F800000", "x/I", &[]),
+    ("x/I", "00000001", "x/F", &[]),
+    ("x/F", "3F800000", "x/D", &[]),
+    ("x/B", "01", "x/O", &[]),
+    ("x/O", "01", "x/B", &[]),
+    ("c/C", "00", "x/I", &[]),
+    ("x/I", "00000001", "c/C", &[]),
+    // A value for a list, a list for a value, and lists of another length.
+    ("x/b", "01", "x[n]/b", &[1]),
+    ("x[2]/b", "0102", "x/b", &[]),
+    ("x[2]/b", "0102", "x[3]/b", &[]),
+    ("x[2]/b", "0102", "x[n]/b", &[1]),
+];
+
+fn branch(alloc: Global, leaves: &str) -> Result<BranchDef, Fail> {
+    let text = leaves.as_bytes();
+    if text.len() > 1000 {
+        return Err(Fail::new("the list of leaves is too long"));
+    }
+    Ok(BranchDef {
+        name: Name::from_slice(alloc, b"branch")?,
+        shape: Shape::Leaves(read_leaves(alloc, text)?),
+    })
+}
+
+fn counts_of(alloc: Global, counts: &[i128]) -> Result<Values, Fail> {
+    let mut values = Values::new(alloc);
+    for n in counts {
+        values.push(Value::Int(*n))?;
+    }
+    Ok(values)
+}
+
+// The row that the bytes are, of a branch without classes.
+fn row_of(
+    alloc: Global,
+    branch: &BranchDef,
+    counts: &[i128],
+    bytes: &[u8],
+) -> Result<Result<Values, EntryFault>, Fail> {
+    if bytes.len() > 1000 {
+        return Err(Fail::new("the entry is too long"));
+    }
+    let counts = counts_of(alloc, counts)?;
+    let classes = Classes::new(alloc);
+    Ok(read_entry(alloc, &classes, branch, &counts, bytes))
+}
+
+// What is written for the row, of a branch without classes.
+fn entry_of(
+    alloc: Global,
+    branch: &BranchDef,
+    counts: &[i128],
+    row: &Values,
+) -> Result<Result<Bytes, EntryFault>, Fail> {
+    let counts = counts_of(alloc, counts)?;
+    let classes = Classes::new(alloc);
+    Ok(write_entry(alloc, &classes, branch, &counts, row))
+}
+
+// The fault, or none.
+fn refusal<T: Drop>(answer: &Result<T, EntryFault>) -> Option<EntryFault> {
+    match answer {
+        Ok(_) => None,
+        Err(fault) => Some(*fault),
+    }
+}
+
+#[test]
+fn entries_are_read_and_written(rt: HostRuntime) -> Result<(), Fail> {
+    for (leaves, counts, hex, text) in &ENTRIES {
+        let branch = branch(rt.alloc(), leaves)?;
+        let bytes = hex_bytes(rt.alloc(), hex)?;
+        let row = row_of(rt.alloc(), &branch, counts, bytes.as_slice())??;
+        let mut printed = Bytes::new(rt.alloc());
+        put_row(&mut printed, row.as_slice())?;
+        assert!(rt; printed.as_slice() == text.as_bytes(), "{leaves} {hex}");
+        let again = entry_of(rt.alloc(), &branch, counts, &row)??;
+        assert!(rt; again.as_slice() == bytes.as_slice(), "{leaves} {hex}");
+    }
+    Ok(())
+}
+
+#[test]
+fn other_forms_are_read(rt: HostRuntime) -> Result<(), Fail> {
+    for (leaves, counts, hex, text) in &OTHER_FORMS {
+        let branch = branch(rt.alloc(), leaves)?;
+        let bytes = hex_bytes(rt.alloc(), hex)?;
+        let row = row_of(rt.alloc(), &branch, counts, bytes.as_slice())??;
+        let mut printed = Bytes::new(rt.alloc());
+        put_row(&mut printed, row.as_slice())?;
+        assert!(rt; printed.as_slice() == text.as_bytes(), "{leaves} {hex}");
+    }
+    Ok(())
+}
+
+#[test]
+fn broken_entries_tell_the_place(rt: HostRuntime) -> Result<(), Fail> {
+    for (leaves, counts, hex, place) in &BROKEN {
+        let branch = branch(rt.alloc(), leaves)?;
+        let bytes = hex_bytes(rt.alloc(), hex)?;
+        let answer = row_of(rt.alloc(), &branch, counts, bytes.as_slice())?;
+        let wanted = EntryFault::BadEntry { place: *place };
+        assert_eq!(rt; refusal(&answer), Some(wanted), "{leaves} {hex}");
+    }
+    Ok(())
+}
+
+#[test]
+fn rows_that_do_not_fit(rt: HostRuntime) -> Result<(), Fail> {
+    for (read_as, hex, leaves, counts) in &BAD_ROWS {
+        let bytes = hex_bytes(rt.alloc(), hex)?;
+        let other = branch(rt.alloc(), read_as)?;
+        let row = row_of(rt.alloc(), &other, &[], bytes.as_slice())??;
+        let branch = branch(rt.alloc(), leaves)?;
+        let answer = entry_of(rt.alloc(), &branch, counts, &row)?;
+        assert_eq!(rt;
+            refusal(&answer),
+            Some(EntryFault::BadRow),
+            "{leaves} {hex}"
+        );
+    }
+    Ok(())
+}
+
+// A branch of one leaf, with so many values for each that leaf `n` of an earlier branch counts.
+fn counted(alloc: Global, letter: u8, times: u32) -> Result<BranchDef, Fail> {
     let mut leaves = Leaves::new(alloc);
     leaves.push(Leaf {
         name: Name::from_slice(alloc, b"x")?,
         letter,
-        dim,
+        dim: Dim::Counted {
+            counter: Name::from_slice(alloc, b"n")?,
+            times,
+        },
     })?;
     Ok(BranchDef {
-        name: Name::from_slice(alloc, b"x")?,
+        name: Name::from_slice(alloc, b"branch")?,
         shape: Shape::Leaves(leaves),
     })
 }
 
-fn counted(alloc: Global, letter: u8) -> Result<BranchDef, Fail> {
-    let dim = Dim::Counted {
-        counter: Name::from_slice(alloc, b"n")?,
-        times: 1,
-    };
-    branch(alloc, letter, dim)
+#[test]
+fn three_values_for_each(rt: HostRuntime) -> Result<(), Fail> {
+    let branch = counted(rt.alloc(), b'S', 3)?;
+    let bytes = hex_bytes(rt.alloc(), "0001 0002 0003 0004 0005 0006")?;
+    let row = row_of(rt.alloc(), &branch, &[2], bytes.as_slice())??;
+    let mut printed = Bytes::new(rt.alloc());
+    put_row(&mut printed, row.as_slice())?;
+    assert!(rt; printed.as_slice() == b" [ 1 2 3 4 5 6 ]".as_slice());
+    let again = entry_of(rt.alloc(), &branch, &[2], &row)??;
+    assert!(rt; again.as_slice() == bytes.as_slice());
+    let one = row_of(rt.alloc(), &branch, &[1], bytes.as_slice())?;
+    assert_eq!(rt; refusal(&one), Some(EntryFault::BadEntry { place: 6 }));
+    let three = row_of(rt.alloc(), &branch, &[3], bytes.as_slice())?;
+    assert_eq!(rt; refusal(&three), Some(EntryFault::BadEntry { place: 12 }));
+    let other = entry_of(rt.alloc(), &branch, &[6], &row)?;
+    assert_eq!(rt; refusal(&other), Some(EntryFault::BadRow));
+    Ok(())
 }
 
-fn one(alloc: Global, value: Value) -> Result<Values, Fail> {
-    let mut values = Values::new(alloc);
-    values.push(value)?;
-    Ok(values)
+// A count below 0 leaves no list that fits, also no empty one.
+#[test]
+fn no_list_fits_below_0(rt: HostRuntime) -> Result<(), Fail> {
+    let branch = counted(rt.alloc(), b'F', 1)?;
+    let row = row_of(rt.alloc(), &branch, &[0], b"")??;
+    let none = entry_of(rt.alloc(), &branch, &[0], &row)??;
+    assert!(rt; none.is_empty());
+    let below = entry_of(rt.alloc(), &branch, &[-1], &row)?;
+    assert_eq!(rt; refusal(&below), Some(EntryFault::BadRow));
+    Ok(())
 }
 
-fn bits(alloc: Global, bits: &[u32]) -> Result<Value, Fail> {
-    let mut values = Values::new(alloc);
-    for n in bits {
-        values.push(Value::Bits32(*n))?;
-    }
-    Ok(Value::List(values))
+// A text has no dimension, whatever its leaf says.
+#[test]
+fn a_text_is_not_counted(rt: HostRuntime) -> Result<(), Fail> {
+    let branch = counted(rt.alloc(), b'C', 2)?;
+    let row = row_of(rt.alloc(), &branch, &[-1], b"\x02hi")??;
+    let mut printed = Bytes::new(rt.alloc());
+    put_row(&mut printed, row.as_slice())?;
+    assert!(rt; printed.as_slice() == b" \"hi\"".as_slice());
+    let again = entry_of(rt.alloc(), &branch, &[7], &row)??;
+    assert!(rt; again.as_slice() == b"\x02hi".as_slice());
+    Ok(())
 }
 
-fn text(alloc: Global, len: usize) -> Result<Value, Fail> {
+fn text(alloc: Global, len: usize) -> Result<Values, Fail> {
     let bytes = vec![in alloc; 97u8; len]?;
-    Ok(Value::Text(Name::from_slice(alloc, bytes.as_slice())?))
-}
-
-// What is written for the value in a branch of one leaf, where this count is given.
-fn written(
-    alloc: Global,
-    branch: &BranchDef,
-    count: i128,
-    value: Value,
-) -> Result<Result<Bytes, EntryFault>, Fail> {
-    let counts = one(alloc, Value::Int(count))?;
-    let row = one(alloc, value)?;
-    Ok(write_entry(alloc, &Classes::new(alloc), branch, &counts, &row))
-}
-
-fn is_written(answer: &Result<Bytes, EntryFault>, bytes: &[u8]) -> bool {
-    match answer {
-        Ok(written) => written.as_slice() == bytes,
-        Err(_) => false,
-    }
-}
-
-fn is_refused(answer: &Result<Bytes, EntryFault>, fault: EntryFault) -> bool {
-    match answer {
-        Ok(_) => false,
-        Err(e) => *e == fault,
-    }
-}
-
-// The place of the first part that breaks, or 1,000 where nothing does.
-fn broken_at(alloc: Global, branch: &BranchDef, count: i128, bytes: &[u8]) -> Result<u64, Fail> {
-    let counts = one(alloc, Value::Int(count))?;
-    match read_entry(alloc, &Classes::new(alloc), branch, &counts, bytes) {
-        Err(EntryFault::BadEntry { place }) => Ok(place),
-        _ => Ok(1000),
-    }
-}
-
-// Whether the bytes are read, and the same are written again.
-fn is_read(alloc: Global, branch: &BranchDef, count: i128, bytes: &[u8]) -> Result<bool, Fail> {
-    let classes = Classes::new(alloc);
-    let counts = one(alloc, Value::Int(count))?;
-    let row = read_entry(alloc, &classes, branch, &counts, bytes)?;
-    let again = write_entry(alloc, &classes, branch, &counts, &row);
-    Ok(row.len() == 1 && is_written(&again, bytes))
-}
-
-// The entry 3 of branch `x` of tree `T`.
-#[test]
-fn numbers(rt: HostRuntime) -> Result<(), Fail> {
-    let signed = branch(rt.alloc(), b'I', Dim::One)?;
-    let answer = written(rt.alloc(), &signed, 0, Value::Int(3))?;
-    assert!(rt; is_written(&answer, b"\0\0\0\x03"));
-    assert!(rt; is_read(rt.alloc(), &signed, 0, b"\0\0\0\x03")?);
-    assert_eq!(rt; broken_at(rt.alloc(), &signed, 0, b"\0\0\x03")?, 0);
-    assert_eq!(rt; broken_at(rt.alloc(), &signed, 0, b"\0\0\0\x03\0")?, 4);
-    Ok(())
-}
-
-#[test]
-fn signs(rt: HostRuntime) -> Result<(), Fail> {
-    let signed = branch(rt.alloc(), b'B', Dim::One)?;
-    let unsigned = branch(rt.alloc(), b'b', Dim::One)?;
-    assert!(rt; is_written(&written(rt.alloc(), &signed, 0, Value::Int(-1))?, b"\xff"));
-    assert!(rt;
-        is_written(
-            &written(rt.alloc(), &unsigned, 0, Value::Int(255))?,
-            b"\xff"
-        )
-    );
-    let answer = written(rt.alloc(), &unsigned, 0, Value::Int(-1))?;
-    assert!(rt; is_refused(&answer, EntryFault::BadRow));
-    Ok(())
-}
-
-// The entries of branch `v` of tree `V`: three values, and none.
-#[test]
-fn counted_values(rt: HostRuntime) -> Result<(), Fail> {
-    let list = counted(rt.alloc(), b'F')?;
-    let three = b"\x3f\x80\0\0\x40\0\0\0\x40\x40\0\0";
-    let value = bits(rt.alloc(), &[0x3f80_0000, 0x4000_0000, 0x4040_0000])?;
-    let answer = written(rt.alloc(), &list, 3, value)?;
-    assert!(rt; is_written(&answer, three));
-    assert!(rt; is_read(rt.alloc(), &list, 3, three)?);
-    assert!(rt; is_read(rt.alloc(), &list, 0, b"")?);
-    assert_eq!(rt;
-        broken_at(rt.alloc(), &list, 3, b"\x3f\x80\0\0\x40\0\0\0\x40\x40\0")?,
-        8
-    );
-    assert_eq!(rt; broken_at(rt.alloc(), &list, 2, three)?, 8);
-    assert_eq!(rt; broken_at(rt.alloc(), &list, -1, three)?, 0);
-    Ok(())
-}
-
-// Each count is for two values; a negative one leaves nothing that fits.
-#[test]
-fn two_values_for_each(rt: HostRuntime) -> Result<(), Fail> {
-    let dim = Dim::Counted {
-        counter: Name::from_slice(rt.alloc(), b"n")?,
-        times: 2,
-    };
-    let list = branch(rt.alloc(), b'F', dim)?;
-    let answer = written(rt.alloc(), &list, 1, bits(rt.alloc(), &[1, 2])?)?;
-    assert!(rt; is_written(&answer, b"\0\0\0\x01\0\0\0\x02"));
-    assert!(rt; is_read(rt.alloc(), &list, 1, b"\0\0\0\x01\0\0\0\x02")?);
-    assert_eq!(rt; broken_at(rt.alloc(), &list, 1, b"\0\0\0\x01")?, 4);
-    let none = written(rt.alloc(), &list, -1, bits(rt.alloc(), &[])?)?;
-    assert!(rt; is_refused(&none, EntryFault::BadRow));
-    Ok(())
-}
-
-#[test]
-fn fixed_values(rt: HostRuntime) -> Result<(), Fail> {
-    let list = branch(rt.alloc(), b'F', Dim::Fixed(2))?;
-    let answer = written(rt.alloc(), &list, 7, bits(rt.alloc(), &[1, 2])?)?;
-    assert!(rt; is_written(&answer, b"\0\0\0\x01\0\0\0\x02"));
-    let few = written(rt.alloc(), &list, 1, bits(rt.alloc(), &[1])?)?;
-    assert!(rt; is_refused(&few, EntryFault::BadRow));
-    Ok(())
-}
-
-#[test]
-fn truth_and_bits(rt: HostRuntime) -> Result<(), Fail> {
-    let truth = branch(rt.alloc(), b'O', Dim::One)?;
-    assert!(rt; is_written(&written(rt.alloc(), &truth, 0, Value::Bool(true))?, b"\x01"));
-    let wide = branch(rt.alloc(), b'D', Dim::One)?;
-    let answer = written(rt.alloc(), &wide, 0, Value::Bits64(0x3ff0_0000_0000_0000))?;
-    assert!(rt; is_written(&answer, b"\x3f\xf0\0\0\0\0\0\0"));
-    let classes = Classes::new(rt.alloc());
-    let row = read_entry(
-        rt.alloc(),
-        &classes,
-        &truth,
-        &Values::new(rt.alloc()),
-        b"\x02",
-    )?;
-    match row.get(0) {
-        Some(Value::Bool(b)) => assert!(rt; *b),
-        _ => assert!(rt; false),
-    }
-    Ok(())
-}
-
-#[test]
-fn refuses_another_count(rt: HostRuntime) -> Result<(), Fail> {
-    let list = counted(rt.alloc(), b'F')?;
-    let answer = written(rt.alloc(), &list, 2, bits(rt.alloc(), &[1])?)?;
-    assert!(rt; is_refused(&answer, EntryFault::BadRow));
-    Ok(())
+    let mut row = Values::new(alloc);
+    row.push(Value::Text(Name::from_slice(alloc, bytes.as_slice())?))?;
+    Ok(row)
 }
 
 // A text of 254 bytes has one byte of length, one of 255 has five.
 #[test]
-fn texts(rt: HostRuntime) -> Result<(), Fail> {
-    let leaf = branch(rt.alloc(), b'C', Dim::One)?;
-    let short = written(rt.alloc(), &leaf, 0, text(rt.alloc(), 254)?)??;
+fn long_texts(rt: HostRuntime) -> Result<(), Fail> {
+    let branch = branch(rt.alloc(), "c/C")?;
+    let short = entry_of(rt.alloc(), &branch, &[], &text(rt.alloc(), 254)?)??;
     assert_eq!(rt; short.len(), 255);
-    assert!(rt; short.as_slice()[..2] == *b"\xfea");
-    assert!(rt; is_read(rt.alloc(), &leaf, 0, short.as_slice())?);
-    let long = written(rt.alloc(), &leaf, 0, text(rt.alloc(), 255)?)??;
+    assert!(rt; short.as_slice().starts_with(b"\xfea"));
+    let long = entry_of(rt.alloc(), &branch, &[], &text(rt.alloc(), 255)?)??;
     assert_eq!(rt; long.len(), 260);
-    assert!(rt; long.as_slice()[..6] == *b"\xff\0\0\0\xffa");
-    assert!(rt; is_read(rt.alloc(), &leaf, 0, long.as_slice())?);
-    assert_eq!(rt; broken_at(rt.alloc(), &leaf, 0, b"\x02a")?, 0);
+    assert!(rt; long.as_slice().starts_with(b"\xff\0\0\0\xffa"));
+    let row = row_of(rt.alloc(), &branch, &[], long.as_slice())??;
+    let again = entry_of(rt.alloc(), &branch, &[], &row)??;
+    assert!(rt; again.as_slice() == long.as_slice());
     Ok(())
 }
 
 #[test]
 fn too_large(rt: HostRuntime) -> Result<(), Fail> {
-    let leaf = branch(rt.alloc(), b'C', Dim::One)?;
-    let most = written(rt.alloc(), &leaf, 0, text(rt.alloc(), 16_777_211)?)??;
+    let branch = branch(rt.alloc(), "c/C")?;
+    let most = entry_of(rt.alloc(), &branch, &[], &text(rt.alloc(), 16_777_211)?)??;
     assert_eq!(rt; most.len(), 16_777_216);
-    let more = written(rt.alloc(), &leaf, 0, text(rt.alloc(), 16_777_212)?)?;
-    assert!(rt; is_refused(&more, EntryFault::TooLarge));
+    let more = entry_of(rt.alloc(), &branch, &[], &text(rt.alloc(), 16_777_212)?)?;
+    assert_eq!(rt; refusal(&more), Some(EntryFault::TooLarge));
     Ok(())
 }
 
-// A number, and as many bytes as it says, of one branch.
+// A row that doesn't fit and is too long: the row is told.
 #[test]
-fn counter_in_the_branch(rt: HostRuntime) -> Result<(), Fail> {
-    let mut leaves = Leaves::new(rt.alloc());
-    leaves.push(Leaf {
-        name: Name::from_slice(rt.alloc(), b"n")?,
-        letter: b'I',
-        dim: Dim::One,
-    })?;
-    leaves.push(Leaf {
-        name: Name::from_slice(rt.alloc(), b"w")?,
-        letter: b'b',
-        dim: Dim::Counted {
-            counter: Name::from_slice(rt.alloc(), b"n")?,
-            times: 1,
-        },
-    })?;
-    let branch = BranchDef {
-        name: Name::from_slice(rt.alloc(), b"w")?,
-        shape: Shape::Leaves(leaves),
-    };
-    let classes = Classes::new(rt.alloc());
-    let counts = Values::new(rt.alloc());
-    let bytes = b"\0\0\0\x02\x07\xff";
-    let row = read_entry(rt.alloc(), &classes, &branch, &counts, bytes)?;
-    assert_eq!(rt; row.len(), 2);
-    let again = write_entry(rt.alloc(), &classes, &branch, &counts, &row);
-    assert!(rt; is_written(&again, bytes));
-    Ok(())
-}
-
-fn member(alloc: Global, name: &[u8], kind: Kind) -> Result<Member, Fail> {
-    Ok(Member {
-        name: Name::from_slice(alloc, name)?,
-        kind,
-        title: Name::new(alloc),
-    })
-}
-
-// The class `Node 1 { val: i32, next: Node* }`.
-fn node_class(alloc: Global) -> Result<Classes, Fail> {
-    let mut members = Members::new(alloc);
-    members.push(member(alloc, b"val", Kind::Plain { of: Prim::I32 })?)?;
-    let next = Kind::Pointer {
-        class: Name::from_slice(alloc, b"Node")?,
-    };
-    members.push(member(alloc, b"next", next)?)?;
-    let mut classes = Classes::new(alloc);
-    classes.push(ClassDef {
-        name: Name::from_slice(alloc, b"Node")?,
-        version: 1,
-        sum: 0,
-        bases: Bases::new(alloc),
-        members,
-    })?;
-    Ok(classes)
-}
-
-fn node(alloc: Global, val: i128, next: Value) -> Result<Value, Fail> {
-    let mut parts = Parts::new(alloc);
-    parts.push(Part {
-        name: Name::from_slice(alloc, b"val")?,
-        value: Value::Int(val),
-    })?;
-    parts.push(Part {
-        name: Name::from_slice(alloc, b"next")?,
-        value: next,
-    })?;
-    Ok(Value::Object {
-        class: Name::from_slice(alloc, b"Node")?,
-        version: 1,
-        parts,
-    })
-}
-
-fn pointed(alloc: Global, label: u32, object: Value) -> Result<Value, Fail> {
-    Ok(Value::Pointed {
-        label,
-        object: Boxed::new(alloc, object)?,
-    })
-}
-
-fn class_branch(alloc: Global) -> Result<BranchDef, Fail> {
-    Ok(BranchDef {
-        name: Name::from_slice(alloc, b"o")?,
-        shape: Shape::Class(Name::from_slice(alloc, b"Node")?),
-    })
-}
-
-// A list of three nodes; the class word of the third refers to the place of the second one's, which is 14.
-const NODES: &[u8] =
-    b"\x40\0\0\x33\0\x01\0\0\0\x01\x40\0\0\x29\xff\xff\xff\xffNode\0\x40\0\0\x1c\0\x01\0\0\0\x02\
-    \x40\0\0\x12\x80\0\0\x10\x40\0\0\x0a\0\x01\0\0\0\x03\0\0\0\0";
-
-#[test]
-fn objects_written(rt: HostRuntime) -> Result<(), Fail> {
-    let last = pointed(rt.alloc(), 1, node(rt.alloc(), 3, Value::Null)?)?;
-    let second = pointed(rt.alloc(), 0, node(rt.alloc(), 2, last)?)?;
-    let row = one(rt.alloc(), node(rt.alloc(), 1, second)?)?;
-    let branch = class_branch(rt.alloc())?;
-    let counts = Values::new(rt.alloc());
-    let answer = write_entry(rt.alloc(), &node_class(rt.alloc())?, &branch, &counts, &row);
-    assert!(rt; is_written(&answer, NODES));
-    let none = write_entry(
-        rt.alloc(),
-        &Classes::new(rt.alloc()),
-        &branch,
-        &counts,
-        &row,
-    );
-    assert!(rt; is_refused(&none, EntryFault::BadRow));
-    Ok(())
-}
-
-#[test]
-fn objects_read(rt: HostRuntime) -> Result<(), Fail> {
-    let classes = node_class(rt.alloc())?;
-    let branch = class_branch(rt.alloc())?;
-    let counts = Values::new(rt.alloc());
-    let row = read_entry(rt.alloc(), &classes, &branch, &counts, NODES)?;
-    let again = write_entry(rt.alloc(), &classes, &branch, &counts, &row);
-    assert!(rt; is_written(&again, NODES));
-    Ok(())
-}
-
-#[test]
-fn objects_broken(rt: HostRuntime) -> Result<(), Fail> {
-    let classes = node_class(rt.alloc())?;
-    let branch = class_branch(rt.alloc())?;
-    let counts = Values::new(rt.alloc());
-    let more = b"\x40\0\0\x0a\0\x01\0\0\0\x03\0\0\0\0\0";
-    match read_entry(rt.alloc(), &classes, &branch, &counts, more) {
-        Err(fault) => assert_eq!(rt; fault, EntryFault::BadEntry { place: 14 }),
-        Ok(_) => assert!(rt; false),
-    }
-    let short = b"\x40\0\0\x0a\0\x01\0\0\0\x03\0\0\0";
-    match read_entry(rt.alloc(), &classes, &branch, &counts, short) {
-        Err(fault) => assert_eq!(rt; fault, EntryFault::BadEntry { place: 0 }),
-        Ok(_) => assert!(rt; false),
-    }
-    Ok(())
-}
-
-// A node in a version that isn't described.
-#[test]
-fn objects_not_read(rt: HostRuntime) -> Result<(), Fail> {
-    let classes = node_class(rt.alloc())?;
-    let branch = class_branch(rt.alloc())?;
-    let counts = Values::new(rt.alloc());
-    let bytes = b"\x40\0\0\x0a\0\x02\0\0\0\x03\0\0\0\0";
-    let row = read_entry(rt.alloc(), &classes, &branch, &counts, bytes)?;
-    match row.get(0) {
-        Some(Value::Opaque { length, .. }) => assert_eq!(rt; *length, 10),
-        _ => assert!(rt; false),
-    }
-    Ok(())
-}
-
-// A chain of 257 nodes. The second stands at 23, behind a class word that spells the class, and each later one 18 bytes
-// behind the one before.
-#[test]
-fn objects_too_deep(rt: HostRuntime) -> Result<(), Fail> {
-    let mut chain = node(rt.alloc(), 1, Value::Null)?;
-    for k in 0..256 {
-        chain = node(rt.alloc(), 1, pointed(rt.alloc(), 255 - k, chain)?)?;
-    }
-    let classes = node_class(rt.alloc())?;
-    let branch = class_branch(rt.alloc())?;
-    let counts = Values::new(rt.alloc());
-    let row = one(rt.alloc(), chain)?;
-    let bytes = write_entry(rt.alloc(), &classes, &branch, &counts, &row)?;
-    match read_entry(rt.alloc(), &classes, &branch, &counts, bytes.as_slice()) {
-        Err(fault) => assert_eq!(rt; fault, EntryFault::BadEntry { place: 4613 }),
-        Ok(_) => assert!(rt; false),
-    }
+fn a_bad_row_first(rt: HostRuntime) -> Result<(), Fail> {
+    let branch = branch(rt.alloc(), "c/C:x/I")?;
+    let answer = entry_of(rt.alloc(), &branch, &[], &text(rt.alloc(), 16_777_212)?)?;
+    assert_eq!(rt; refusal(&answer), Some(EntryFault::BadRow));
     Ok(())
 }

@@ -1,5 +1,5 @@
 use Rattle.std.proofs.Common.{◌≡◌, ◌+◌, drop, length, min}
-use Rattle.rio_entry.specs.Kinds.{most_bytes}
+use Rattle.rio_entry.specs.Bounds.{most_bytes}
 use Rattle.rio_entry.specs.Leaves.{leaves_bytes}
 use Rattle.rio_entry.proofs.length.leaves_length.Given as goal
 

@@ -1,6 +1,6 @@
 use Rattle.std.proofs.Common.{◌≡◌, ◌+◌, drop, length, min}
 use Rattle.std.specs.List.{flat_map}
-use Rattle.rio_entry.specs.Kinds.{most_bytes}
+use Rattle.rio_entry.specs.Bounds.{most_bytes}
 use Rattle.rio_entry.specs.Leaves.{single_bytes}
 use Rattle.rio_entry.proofs.length.list_length.Given as goal
 
