@@ -32,6 +32,7 @@ use Rattle.rio_entry.specs.Leaves.{leaves_bytes, leaves_fit}
 use Rattle.rio_entry.specs.Reading.{BreaksEntry, HasMore, SpellsEntry, columns_values, entry_in, entry_values, only_values}
 use Rattle.rio_entry.specs.declared.fault.EntryFault.{EntryFault}
 use Rattle.rio_entry.specs.declared.fault.EntryFault.TheVariants.{BadEntry}
+use Rattle.rio_entry.proofs.Answered.{what_is_written}
 use Rattle.rio_entry.proofs.ClassBytes.{object_bytes}
 use Rattle.rio_entry.proofs.LeafBytes.{bytes_is, fits_is}
 use Rattle.rio_entry.proofs.LeafSpells.{leaves_spelled}
@@ -182,6 +183,8 @@ written_spelled classes (Class class) counts (v ∷ []) fit back room =
     object_spelled classes class counts v first.0 one.0 room
 
 pub written_are_read : WrittenEntriesAreRead
-written_are_read classes shape counts row fit back room =
-    let c = written_spelled classes shape counts row fit back room in
-    (c, spelled_is_read classes shape counts (branch_entry_bytes classes shape counts row) row c)
+written_are_read classes shape counts row bytes e back =
+    let all = what_is_written classes shape counts row bytes e in
+    let own = written_spelled classes shape counts row all.0 back all.1 in
+    let c = subst (SpellsEntry classes shape counts row) all.2 own in
+    (c, spelled_is_read classes shape counts bytes row c)

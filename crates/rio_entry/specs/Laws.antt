@@ -1,5 +1,5 @@
 -- How the reading, spelling and writing of entries belong together.
-use Rattle.std.specs.Prelude.{◌≡◌, ◌⊎◌, ◌≤◌, ℕ, ℤ, List, [], ◌∷◌, drop, length, nat_le, Bool, ◌&&◌, Some, None, Ok, IsTrue, is_some}
+use Rattle.std.specs.Prelude.{◌≡◌, ◌⊎◌, ℕ, ℤ, List, [], ◌∷◌, drop, nat_le, Bool, ◌&&◌, Some, None, Ok, IsTrue, is_some}
 use Rattle.std.specs.List.{list_all}
 use Rattle.std.specs.Map.{lookup}
 use Rattle.std.specs.Str.{bytes_eq}
@@ -10,12 +10,11 @@ use Rattle.rio_leaf.specs.declared.leaf.Dim.TheVariants.{Counted}
 use Rattle.rio_format.specs.Bodies.{Counters}
 use Rattle.rio_format.specs.Laws.{has_versions}
 use Rattle.rio_format.specs.Objects.{depth_limit}
-use Rattle.rio_format.specs.WrittenBytes.{length_limit}
 use Rattle.rio_machine.specs.Rows.{Column, leaf_column, object_column, columns_bytes, columns_fit, leaf_numbers_behind, letter_kind, shape_columns}
 use Rattle.rio_types.specs.declared.class.ClassDef.{ClassDef}
 use Rattle.rio_value.specs.Depth.{depth_of}
 use Rattle.rio_value.specs.declared.value.Value.{Value}
-use Rattle.rio_entry.specs.Entries.{branch_entry_bytes, entry_fits, given_count}
+use Rattle.rio_entry.specs.Entries.{branch_entry_bytes, entry_fits, entry_written, given_count}
 use Rattle.rio_entry.specs.Reading.{BreaksEntry, SpellsEntry, entry_in}
 use Rattle.rio_entry.specs.declared.fault.EntryFault.{EntryFault}
 
@@ -37,10 +36,10 @@ EntriesHaveOneAnswer = (classes : List ClassDef) (shape : Shape) (counts : List 
 abbrev pub can_be_read_back : Value → Bool
 can_be_read_back v = nat_le (depth_of v) depth_limit && has_versions v
 
--- What is written for values that fit spells them, and is read as them, where it isn't too long.
+-- What is written for a row spells it, and is read as it, if its objects can be read back.
 abbrev pub WrittenEntriesAreRead : Type 0
-WrittenEntriesAreRead = (classes : List ClassDef) (shape : Shape) (counts row : List Value) → IsTrue (entry_fits classes shape counts row) → IsTrue (list_all can_be_read_back row) → length (branch_entry_bytes classes shape counts row) ≤ length_limit
-    → SpellsEntry classes shape counts row (branch_entry_bytes classes shape counts row) × (entry_in classes shape counts (branch_entry_bytes classes shape counts row) ≡ Ok row)
+WrittenEntriesAreRead = (classes : List ClassDef) (shape : Shape) (counts row : List Value) (bytes : List ℕ) → entry_written classes shape counts row ≡ Ok bytes → IsTrue (list_all can_be_read_back row)
+    → SpellsEntry classes shape counts row bytes × (entry_in classes shape counts bytes ≡ Ok row)
 
 -- ---- the branches of a tree
 

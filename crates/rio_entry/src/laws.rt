@@ -6,8 +6,8 @@ pub fn entries_have_one_answer()
     ensures { EntriesHaveOneAnswer }
 {}
 
-/// What is written for values that fit a branch spells them, and is read as them, if its objects aren't too deep, their
-/// versions can be written, and it isn't too long.
+/// What is written for a row spells it, and is read as it, if its objects aren't too deep and their versions can be
+/// written.
 pub fn written_entries_are_read()
     ensures { WrittenEntriesAreRead }
 {}

@@ -79,10 +79,11 @@ fn read_shape(
     }
 }
 
-/// The values of an entry of the branch: one for each leaf, or the one object of a branch of a class. `counts` has for
-/// each leaf what its counter says where that stands in an earlier branch, and else 0. A count that isn't given, or is no integer, is 0; an earlier leaf of the same branch counts before a given count, and counts behind those of the leaves say nothing.
-/// BadEntry tells the place of the
-/// first part that breaks, counted from the entry's first byte; what stands behind the last value breaks too.
+/// The values of an entry of the branch: one for each leaf, or the one object of a branch of a class. `counts` is as
+/// [`crate::write_entry`] has it.
+///
+/// BadEntry tells the place of the first part that breaks, counted from the entry's first byte. What stands behind the
+/// last value breaks too.
 pub fn read_entry(
     alloc: Global,
     classes: &Classes,

@@ -74,9 +74,13 @@ fn write_class(
     }
 }
 
-/// The bytes of an entry of the branch. The row has the values of the branch alone: one for each leaf, or the one object
-/// of a branch of a class. `counts` has for each leaf what its counter says where that stands in an earlier branch, and
-/// else 0. A count that isn't given, or is no integer, is 0; an earlier leaf of the same branch counts before a given count, and counts behind those of the leaves say nothing.
+/// The bytes of an entry of the branch, for the values of a row that belong to it: one for each leaf, or the one object of
+/// a branch of a class.
+///
+/// `counts` has for each leaf what its counter says where that stands in an earlier branch, and else 0. The nearest leaf
+/// of the counter's name before it in the branch counts, if there is one, and else this count. One that isn't there, or is
+/// no integer, is 0.
+///
 /// BadRow where the values don't fit the branch, and else TooLarge where they have more than 16,777,216 bytes.
 pub fn write_entry(
     alloc: Global,
