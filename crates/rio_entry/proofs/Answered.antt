@@ -33,6 +33,7 @@ module _ (classes : List ClassDef) (shape : Shape) (counts row : List Value) whe
       short : (b : Bool) → ltb length_limit (length (branch_entry_bytes classes shape counts row)) ≡ b → (let r : Written = cond b (Err TooLarge) (Ok (branch_entry_bytes classes shape counts row)) in r) ≡ Ok bytes → (length (branch_entry_bytes classes shape counts row) ≤ length_limit) × (branch_entry_bytes classes shape counts row ≡ bytes)
       short true long g = absurd cc
       short false le g = (ltb-false _ _ le, ok_is {E = EntryFault} (branch_entry_bytes classes shape counts row) bytes g)
+
       by : (b : Bool) → entry_fits classes shape counts row ≡ b → (let r : Written = cond b (within_limit (branch_entry_bytes classes shape counts row)) (Err BadRow) in r) ≡ Ok bytes → (entry_fits classes shape counts row ≡ true) × (length (branch_entry_bytes classes shape counts row) ≤ length_limit) × (branch_entry_bytes classes shape counts row ≡ bytes)
       by false fit g = absurd cc
       by true fit g = let rest = short (ltb length_limit (length (branch_entry_bytes classes shape counts row))) refl g in (fit, rest.0, rest.1)

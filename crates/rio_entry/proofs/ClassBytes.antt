@@ -1,5 +1,5 @@
 -- Entries of a branch of a class.
-use Rattle.std.proofs.Common.{◌≡◌, ◌&&◌, ℕ, ◌+◌, List, [], ◌∷◌, ◌++◌, Bool, true, false, Option, Some, None, refl, sym, ap, ◌∙◌}
+use Rattle.std.proofs.Common.{◌≡◌, ◌&&◌, ℕ, ◌+◌, List, [], ◌∷◌, ◌++◌, Bool, true, false, Option, Some, None, length, slice_index_or, refl, sym, ap, ◌∙◌, arith}
 use Rattle.std.proofs.lemmas.List.{append-nil}
 use Rattle.std.specs.Prelude.{IsTrue, is_some}
 use Rattle.rio_leaf.specs.declared.branch.Shape.TheVariants.{Class}
@@ -40,3 +40,8 @@ no_object false = refl
 -- two values are no object
 pub two_values : (classes : List ClassDef) (class : List ℕ) (counts : List Value) (v w : Value) (vs : List Value) → entry_fits classes (Class class) counts (v ∷ w ∷ vs) ≡ false
 two_values classes class counts v w vs = no_object (fits classes class v)
+
+pub only_one : (row : List Value) (v : Value) → length row ≡ 1 → v ≡ slice_index_or row 0 v → v ∷ [] ≡ row
+only_one [] v len e = absurd (omega (arith, len))
+only_one (w ∷ []) v len e = ap (λ (z : Value). z ∷ []) e
+only_one (w ∷ x ∷ more) v len e = absurd (omega (arith, len))

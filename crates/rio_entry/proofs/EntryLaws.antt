@@ -1,9 +1,9 @@
 -- How the reading, spelling and writing of entries belong together.
 use Rattle.std.proofs.Common.{◌≡◌, ◌==◌, ◌&&◌, ◌⊎◌, inl, inr, ℕ, zero, suc, ◌+◌, ◌^◌, ◌<◌, ◌≤◌, ◌-◌, Bool, true, false, cond, List, [], ◌∷◌, ◌++◌, length, map, Result, Ok, Err, refl, sym, ap, subst, ◌∙◌, arith}
-use Rattle.std.proofs.lemmas.Bool.{leb-true}
+use Rattle.std.proofs.lemmas.Bool.{eqb-true, leb-true, ne_eqb}
 use Rattle.std.proofs.lemmas.List.{append-nil, length-append}
 use Rattle.std.specs.List.{list_all}
-use Rattle.std.specs.Prelude.{IsTrue, nat_le}
+use Rattle.std.specs.Prelude.{IfOk, IsTrue, nat_le}
 use Rattle.rio_num.specs.At.{AreBytes, end_place}
 use Rattle.rio_num.specs.Meanings.{Breaks, Spells, read}
 use Rattle.rio_num.proofs.Agree as Agree
@@ -26,7 +26,7 @@ use Rattle.rio_types.specs.declared.class.ClassDef.{ClassDef}
 use Rattle.rio_value.specs.Depth.{depth_of}
 use Rattle.rio_value.specs.declared.value.Value.{Value}
 use Rattle.rio_entry.specs.Entries.{branch_entry_bytes, entry_fits}
-use Rattle.rio_entry.specs.Faults.{entry_fault}
+use Rattle.rio_entry.specs.Faults.{GivesEntry, entry_fault}
 use Rattle.rio_entry.specs.Laws.{EntriesHaveOneAnswer, WrittenEntriesAreRead, can_be_read_back}
 use Rattle.rio_entry.specs.Leaves.{leaves_bytes, leaves_fit}
 use Rattle.rio_entry.specs.Reading.{BreaksEntry, HasMore, SpellsEntry, columns_values, entry_in, entry_values, only_values}
@@ -56,7 +56,7 @@ module _ (classes : List ClassDef) (shape : Shape) (counts : List Value) (bytes 
 
   nothing_left : (rest : List ℕ) → (length rest == 0) ≡ true → rest ≡ []
   nothing_left [] e = refl
-  nothing_left (b ∷ rest) e = absurd cc
+  nothing_left (b ∷ rest) e = absurd (omega (arith, eqb-true _ _ e))
 
   whole_read : AreBytes bytes → (row : List Value) (x : List Value × ReaderState) → reading ≡ Ok x → (b : Bool) → (length x.1.at.rest == 0) ≡ b → cond b (Ok x.0) (Err (BadEntry x.1.at.place)) ≡ Ok row → (t : WordsMet) × Spells (entry_values classes shape counts) (length bytes) 0 no_words row bytes t
   whole_read fits row x is true none g =
@@ -98,7 +98,7 @@ module _ (classes : List ClassDef) (shape : Shape) (counts : List Value) (bytes 
     where
       left : (more : List ℕ) → 0 < length more → (length more == 0) ≡ false
       left [] lt = absurd (omega (arith, lt))
-      left (b ∷ more) lt = refl
+      left (b ∷ more) lt = ne_eqb _ _ (omega (arith, lt))
 
   abbrev Broken : EntryFault → Type 0
   Broken e = ((fault : ObjFault) × (e ≡ entry_fault fault) × Breaks (entry_values classes shape counts) 0 no_words bytes fault) ⊎ ((place : ℕ) × (e ≡ BadEntry place) × HasMore classes shape counts bytes place)
@@ -125,6 +125,22 @@ module _ (classes : List ClassDef) (shape : Shape) (counts : List Value) (bytes 
       by : (r : Step (List Value)) → reading ≡ r → only_values r ≡ Err e → Broken e
       by (Err d) is f = inl (d, sym (err_is (entry_fault d) e f), broken_here fits d is)
       by (Ok x) is f = inr (more_read fits e x is (length x.1.at.rest == 0) refl f)
+
+-- ---- what a call that reads returns
+
+module _ (classes : List ClassDef) (shape : Shape) (counts : List Value) (bytes : List ℕ) (result : Result (List Value) EntryFault) (given : GivesEntry result (entry_in classes shape counts bytes)) where
+  pub is_found : AreBytes bytes → IfOk result (λ row. SpellsEntry classes shape counts row bytes)
+  is_found fits = by result given
+    where
+      by : (r : Result (List Value) EntryFault) → GivesEntry r (entry_in classes shape counts bytes) → IfOk r (λ row. SpellsEntry classes shape counts row bytes)
+      by (Ok row) e = read_is_spelled classes shape counts bytes fits row e
+      by (Err fault) e = tt
+
+  pub is_only : (row : List Value) → SpellsEntry classes shape counts row bytes → GivesEntry result (Ok row)
+  is_only row spelled = subst (GivesEntry result) (spelled_is_read classes shape counts bytes row spelled) given
+
+  pub is_broken : (e : EntryFault) → BreaksEntry classes shape counts bytes e → GivesEntry result (Err e)
+  is_broken e breaks = subst (GivesEntry result) (broken_is_fault classes shape counts bytes e breaks) given
 
 -- ---- one answer
 

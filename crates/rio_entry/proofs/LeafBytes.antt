@@ -1,5 +1,5 @@
 -- Entries of leaves: what fits, and the bytes, by the leaves alone; and the loops that go over them.
-use Rattle.std.proofs.Common.{◌≡◌, ◌&&◌, ℕ, suc, ◌+◌, ◌<◌, ◌≤◌, List, [], ◌∷◌, ◌++◌, length, map, take, drop, Bool, true, false, refl, sym, ap, ◌∙◌, slice_index_or, append_assoc, arith}
+use Rattle.std.proofs.Common.{◌≡◌, ◌&&◌, ℕ, zero, suc, ◌+◌, ◌<◌, ◌≤◌, List, [], ◌∷◌, ◌++◌, length, map, take, drop, Bool, true, false, refl, sym, ap, ◌∙◌, slice_index_or, append_assoc, arith}
 use Rattle.std.proofs.lemmas.List.{append-nil, drop-drop, drop_all, drop_more, length-append, length-take, take_more}
 use Rattle.rio_leaf.specs.declared.leaf.Leaf.{Leaf}
 use Rattle.rio_buffer.specs.ReaderState.{WordsMet, no_words}
@@ -108,3 +108,26 @@ past_leaves ls row k le = let leaf : drop k ls ≡ [] = drop_all k ls le in rw l
 
 pub bytes_done : (ls : List Leaf) (row : List Value) (k : ℕ) (before total : List ℕ) → length ls ≤ k → before ++ leaves_bytes (drop k ls) (drop k row) ≡ total → before ≡ total
 bytes_done ls row k before total le so_far = sym (append-nil before) ∙ ap (λ (b : List ℕ). before ++ b) (sym (past_leaves ls row k le)) ∙ so_far
+
+-- values for other than all leaves don't fit
+pub too_few : (ls : List Leaf) (counts row : List Value) (own : Counters) → (length ls ≡ length row → ⊥) → leaves_fit ls counts row own ≡ false
+too_few ls counts row own ne = by (leaves_fit ls counts row own) refl
+  where
+    by : (b : Bool) → leaves_fit ls counts row own ≡ b → leaves_fit ls counts row own ≡ false
+    by true e = absurd (ne (other_length ls counts row own e))
+    by false e = e
+
+-- ---- the bytes of one value among all
+
+no_values : (ls : List Leaf) → leaves_bytes ls [] ≡ []
+no_values [] = refl
+no_values (l ∷ ls) = refl
+
+pub within_all : (ls : List Leaf) (row : List Value) (k : ℕ) → length (leaves_bytes (drop k ls) (drop k row)) ≤ length (leaves_bytes ls row)
+within_all ls row zero = omega arith
+within_all [] row (suc k) = omega arith
+within_all (l ∷ ls) [] (suc k) = omega (arith, ap length (no_values (drop k ls)))
+within_all (l ∷ ls) (v ∷ vs) (suc k) =
+    let rest = within_all ls vs k in
+    let len = length-append (value_bytes (letter_kind l.letter) v) (leaves_bytes ls vs) in
+    omega (arith, rest, len)

@@ -12,11 +12,11 @@ use Rattle.rio_buffer.specs.Frames.{ObjLayout, Step}
 use Rattle.rio_buffer.specs.ReaderState.{ReaderState}
 use Rattle.rio_buffer.specs.declared.fault.ObjFault.{ObjFault}
 use Rattle.rio_buffer.specs.declared.fault.ObjFault.TheVariants.{Short}
-use Rattle.rio_format.specs.Objects.{number_value}
+use Rattle.rio_format.specs.Objects.{number_value, numbers}
 use Rattle.rio_format.specs.Prims.{value_of_prim, width_of}
 use Rattle.rio_types.specs.declared.kind.Primitive.{Primitive}
 use Rattle.rio_types.specs.declared.kind.Primitive.TheVariants.{I8, I16, I32, I64, U8, U16, U32, U64, Bool as Boolean, F32, F64}
-use Rattle.rio_value.specs.declared.value.Value.{Value}
+use Rattle.rio_value.specs.declared.value.Value.{Value, List as Items}
 use Rattle.rio_entry.specs.Bounds.{most_values}
 
 some_wide : (of : Primitive) → 0 < width_of of
@@ -75,6 +75,20 @@ as_many of count n m s e f few = by (cases_lt (length s.at.rest) count)
     by : (length s.at.rest < count) ⊎ (count ≤ length s.at.rest) → read (times m (number_value of)) s ≡ read (times count (number_value of)) s
     by (inl lt) = few_bytes of m count s (omega (arith, e, f, few, lt)) lt
     by (inr le) = let same : m ≡ count = omega (arith, e, f, few, le) in ap (λ (j : ℕ). read (times j (number_value of)) s) same
+
+-- the list of them
+module _ (of : Primitive) (count n m : ℕ) (s : ReaderState) (e : n ≡ min count most_values) (f : m ≡ min n (length s.at.rest + 1)) (few : length s.at.rest < most_values) where
+  pub list_is_read : (vs : List Value) (s1 : ReaderState) → read (times m (number_value of)) s ≡ Ok (vs, s1) → read (numbers of count) s ≡ Ok (Items vs, s1)
+  unfolding numbers
+  list_is_read vs s1 h =
+      let whole : read (times count (number_value of)) s ≡ Ok (vs, s1) = sym (as_many of count n m s e f few) ∙ h in
+      rw whole refl
+
+  pub list_fails : (d : ObjFault) → read (times m (number_value of)) s ≡ Err d → read (numbers of count) s ≡ Err d
+  unfolding numbers
+  list_fails d h =
+      let whole : read (times count (number_value of)) s ≡ Err d = sym (as_many of count n m s e f few) ∙ h in
+      rw whole refl
 
 -- a list is as long as the count says
 pub as_long : (len n count : ℕ) → len < most_values → n ≡ min count most_values → (len == n) ≡ (len == count)

@@ -1,5 +1,5 @@
 //! What a leaf's letter and its counter say.
-ghost use Rattle.std.specs.Prelude.{◌≡◌, [], drop, length};
+ghost use Rattle.std.specs.Prelude.{◌≡◌, [], Some, drop, length, if◌then◌else◌};
 ghost use Rattle.std.specs.Map.{lookup};
 ghost use Rattle.std.specs.Str.{bytes_eq};
 ghost use Rattle.rio_format.specs.Bodies.{number_in};
@@ -51,6 +51,17 @@ pub(crate) fn given_count(counts: &[Value], k: usize) -> i128
     }
 }
 
+// The number, if the leaf has the name, or else what was found before.
+fn number_if_named(name: &[u8], leaf: &Leaf, number: i128, found: Option<i128>) -> Option<i128>
+    ensures { result ≡ (if bytes_eq name.now leaf.now.name then Some number else found) }
+{
+    if name == leaf.name.as_slice() {
+        Some(number)
+    } else {
+        found
+    }
+}
+
 // The number of the nearest of the leaves that has the name.
 fn last_number(name: &[u8], leaves: &[Leaf], values: &[Value]) -> Option<i128>
     requires { length leaves.now ≡ length values.now }
@@ -58,9 +69,7 @@ fn last_number(name: &[u8], leaves: &[Leaf], values: &[Value]) -> Option<i128>
 {
     let mut found = None;
     for (k, leaf) in leaves.iter().enumerate() {
-        if name == leaf.name.as_slice() {
-            found = Some(number_in(&values[k]));
-        }
+        found = number_if_named(name, leaf, number_in(&values[k]), found);
     }
     found
 }

@@ -1,15 +1,18 @@
 //! Entries are read.
 ghost use Rattle.std.specs.Prelude.{◌≡◌, ◌<◌, ◌^◌, List, length, Err, IfOk, Ok};
+ghost use Rattle.rio_num.specs.At.{GoesOn};
+ghost use Rattle.rio_num.specs.Meanings.{read};
+ghost use Rattle.rio_buffer.specs.Frames.{ReadsAs};
 ghost use Rattle.rio_leaf.specs.declared.branch.Shape.TheVariants.{Leaves as Leafy, Class as Classed};
 ghost use Rattle.rio_types.specs.declared.class.ClassDef.{ClassDef as Class};
 ghost use Rattle.rio_value.specs.declared.value.Value.{Value as Given};
 ghost use Rattle.rio_entry.specs.Faults.{GivesEntry};
 ghost use Rattle.rio_entry.specs.declared.fault.EntryFault.{EntryFault as Fault};
-ghost use Rattle.rio_entry.specs.Reading.{BreaksEntry, SpellsEntry, entry_in, only_values};
+ghost use Rattle.rio_entry.specs.Reading.{BreaksEntry, SpellsEntry, entry_in, entry_values, only_values};
 
 use crate::EntryFault;
 use crate::read_leaves::read_leaves;
-use rio_buffer::ObjReader;
+use rio_buffer::{ObjFault, ObjReader};
 use rio_leaf::{BranchDef, Leaf, Shape};
 use rio_read::read_next;
 use rio_types::Classes;
@@ -29,6 +32,24 @@ fn check_end(reader: &ObjReader) -> Result<(), EntryFault>
     }
 }
 
+// The one object of a branch of a class.
+#[tactic(auto, unfolding(crate::specs::Reading::columns_values))]
+fn read_one(
+    alloc: Global,
+    classes: &Classes,
+    reader: &mut ObjReader,
+    class: &[u8],
+) -> Result<Values, ObjFault>
+    ensures exact { (counts : List Given) → ReadsAs (λ x. x) result
+        (read (entry_values classes.now (Classed class.now) counts) reader.old) reader.new }
+    ensures goes { GoesOn reader.old.at reader.new.at }
+{
+    let value = read_next(alloc, classes, reader, class)?;
+    let mut values = Values::new(alloc);
+    values.push(value)?;
+    Ok(values)
+}
+
 fn read_class(
     alloc: Global,
     classes: &Classes,
@@ -40,10 +61,8 @@ fn read_class(
         (entry_in classes.now (Classed class.now) counts bytes.now) }
 {
     let mut reader = ObjReader::new(alloc, bytes, 0);
-    let value = read_next(alloc, classes, &mut reader, class)?;
+    let values = read_one(alloc, classes, &mut reader, class)?;
     check_end(&reader)?;
-    let mut values = Values::new(alloc);
-    values.push(value)?;
     Ok(values)
 }
 
