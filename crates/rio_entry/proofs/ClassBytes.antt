@@ -33,14 +33,7 @@ module _ (classes : List ClassDef) (class : List ℕ) (counts : List Value) (v :
       let same = inline_class classes v class [] labels.0 labels.1 in
       ap (λ (c : List ℕ). ((writing_of classes v).bytes (kinded (Inline c)) 0 no_words).0) same ∙ sym (append-nil (((writing_of classes v).bytes (kinded (Inline class)) 0 no_words).0))
 
-no_object : (b : Bool) → (b && false) ≡ false
-no_object true = refl
-no_object false = refl
-
--- two values are no object
-pub two_values : (classes : List ClassDef) (class : List ℕ) (counts : List Value) (v w : Value) (vs : List Value) → entry_fits classes (Class class) counts (v ∷ w ∷ vs) ≡ false
-two_values classes class counts v w vs = no_object (fits classes class v)
-
+-- a row of one value
 pub only_one : (row : List Value) (v : Value) → length row ≡ 1 → v ≡ slice_index_or row 0 v → v ∷ [] ≡ row
 only_one [] v len e = absurd (omega (arith, len))
 only_one (w ∷ []) v len e = ap (λ (z : Value). z ∷ []) e

@@ -89,14 +89,3 @@ module _ (of : Primitive) (count n m : ℕ) (s : ReaderState) (e : n ≡ min cou
   list_fails d h =
       let whole : read (times count (number_value of)) s ≡ Err d = sym (as_many of count n m s e f few) ∙ h in
       rw whole refl
-
--- a list is as long as the count says
-pub as_long : (len n count : ℕ) → len < most_values → n ≡ min count most_values → (len == n) ≡ (len == count)
-as_long len n count few e = by (cases_lt most_values count)
-  where
-    by : (most_values < count) ⊎ (count ≤ most_values) → (len == n) ≡ (len == count)
-    by (inl lt) =
-        let one : (len == n) ≡ false = ne_eqb _ _ (omega (arith, e, few, lt)) in
-        let other : (len == count) ≡ false = ne_eqb _ _ (omega (arith, few, lt)) in
-        one ∙ sym other
-    by (inr le) = let same : n ≡ count = omega (arith, e, le) in ap (λ (j : ℕ). len == j) same

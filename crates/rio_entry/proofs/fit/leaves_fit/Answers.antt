@@ -1,4 +1,5 @@
-use Rattle.std.proofs.Common.{◌≡◌, ℤ, [], drop, take, true, false, w128, rules, ◌∙◌, sym, ap, arith}
+use Rattle.std.proofs.Common.{◌≡◌, ℤ, [], drop, take, true, false, rules, ◌∙◌, sym, ap, arith}
+use Rattle.std.specs.Int.{w128}
 use Rattle.std.proofs.lemmas.Int.{to_z-of_z}
 use Rattle.rio_machine.specs.Rows.{leaf_kind}
 use Rattle.rio_entry.specs.Entries.{counter_saying, said_count}

@@ -1,4 +1,5 @@
-use Rattle.std.proofs.Common.{◌≡◌, ◌+◌, ℤ, Option, Some, Bool, cond, [], drop, w128, rules, ◌∙◌, sym, ap, arith}
+use Rattle.std.proofs.Common.{◌≡◌, ◌+◌, ℤ, Option, Some, Bool, cond, [], drop, rules, ◌∙◌, sym, ap, arith}
+use Rattle.std.specs.Int.{w128}
 use Rattle.std.proofs.lemmas.Int.{to_z-of_z}
 use Rattle.std.specs.Str.{bytes_eq}
 use Rattle.rio_entry.specs.Leaves.{last_number}

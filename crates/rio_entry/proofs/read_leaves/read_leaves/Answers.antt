@@ -1,4 +1,5 @@
-use Rattle.std.proofs.Common.{ℤ, List, [], ◌∷◌, drop, take, w128, rules, ◌∙◌, sym, ap, arith}
+use Rattle.std.proofs.Common.{ℤ, List, [], ◌∷◌, drop, take, rules, ◌∙◌, sym, ap, arith}
+use Rattle.std.specs.Int.{w128}
 use Rattle.std.proofs.lemmas.Int.{to_z-of_z}
 use Rattle.std.proofs.lemmas.List.{length-append}
 use Rattle.std.proofs.lemmas.Result.{err_from_is_err_and}
