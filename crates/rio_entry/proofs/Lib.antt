@@ -1,0 +1,11 @@
+pub mod Answered
+pub mod ClassBytes
+pub mod Counting
+pub mod EntryLaws
+pub mod LeafBytes
+pub mod LeafKinds
+pub mod LeafReads
+pub mod LeafSpells
+pub mod RowLaws
+pub mod Singles
+pub mod Totals

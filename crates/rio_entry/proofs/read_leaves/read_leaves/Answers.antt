@@ -1,0 +1,40 @@
+use Rattle.std.proofs.Common.{ℤ, List, [], ◌∷◌, drop, take, rules, ◌∙◌, sym, ap, arith}
+use Rattle.std.specs.Int.{w128}
+use Rattle.std.proofs.lemmas.Int.{to_z-of_z}
+use Rattle.std.proofs.lemmas.List.{length-append}
+use Rattle.std.proofs.lemmas.Result.{err_from_is_err_and}
+use Rattle.rio_num.specs.Meanings.{read}
+use Rattle.rio_machine.specs.Rows.{leaf_kind}
+use Rattle.rio_value.specs.declared.value.Value.{Value}
+use Rattle.rio_entry.specs.Entries.{counter_saying, given_count, said_count}
+use Rattle.rio_entry.specs.Leaves.{kind_layout, numbers_after}
+use Rattle.rio_entry.proofs.LeafReads.{leaves_done, leaves_fail, leaves_go_on}
+use Rattle.rio_entry.proofs.read_leaves.read_leaves.Goals as goal
+
+pub returns-in_err-read_leaf-clause-exact : goal.returns-in_err-read_leaf-clause-exact
+returns-in_err-read_leaf-clause-exact c = λ classes.
+    let p = err_from_is_err_and c.from_residual.result c.from_residual.ensures.1 in
+    let l = c.index-leaves-k.result in
+    let own = take c.loop-k.k c.args.leaves.now in
+    let given = to_z-of_z w128 c.given_count-given.result (search rules) ∙ c.given_count-given.ensures in
+    let counted = c.said_count-count.ensures ∙ ap (λ (n : ℤ). said_count l.dim n (numbers_after own c.as_slice.result.now [])) given in
+    let count = counted ∙ ap (λ (vs : List Value). said_count l.dim (given_count (drop c.loop-k.k c.args.counts.now)) (numbers_after own vs [])) c.as_slice.ensures in
+    let said = to_z-of_z w128 c.said_count-count.result (search rules) ∙ count in
+    let layout = ap (λ (n : ℤ). read (kind_layout (leaf_kind (counter_saying l.dim n) l)) c.loop-k.reader) (sym said) in
+    rw (p.1, p.2) (λ ne. leaves_fail classes c.args.leaves.now c.args.counts.now c.loop-k.values c.loop-k.k c.loop-k.reader _ l (omega arith) c.index-leaves-k.is c.in_err-read_leaf.field-0.0 (layout ∙ c.in_err-read_leaf.ensures.exact ne) (c.loop-k.invariant.0 classes))
+
+pub loop-k-preserved : goal.loop-k-preserved
+loop-k-preserved c =
+    let l = c.index-leaves-k.result in
+    let own = take c.loop-k.k c.args.leaves.now in
+    let given = to_z-of_z w128 c.given_count-given.result (search rules) ∙ c.given_count-given.ensures in
+    let counted = c.said_count-count.ensures ∙ ap (λ (n : ℤ). said_count l.dim n (numbers_after own c.as_slice.result.now [])) given in
+    let count = counted ∙ ap (λ (vs : List Value). said_count l.dim (given_count (drop c.loop-k.k c.args.counts.now)) (numbers_after own vs [])) c.as_slice.ensures in
+    let said = to_z-of_z w128 c.said_count-count.result (search rules) ∙ count in
+    let layout = ap (λ (n : ℤ). read (kind_layout (leaf_kind (counter_saying l.dim n) l)) c.loop-k.reader) (sym said) in
+    ((λ classes. rw c.in_ok-push.ensures.ok (leaves_go_on classes c.args.leaves.now c.args.counts.now c.loop-k.values c.loop-k.k c.loop-k.reader _ l (omega arith) c.index-leaves-k.is c.in_ok-read_leaf.field-0 c.read_leaf.new.reader c.loop-k.invariant.1 (layout ∙ c.in_ok-read_leaf.ensures.exact) (c.loop-k.invariant.0 classes))),
+    rw c.in_ok-push.ensures.ok (omega (arith, length-append c.loop-k.values (c.in_ok-read_leaf.field-0 ∷ []), c.loop-k.invariant.1)),
+    search rules)
+
+pub returns-clause-exact : goal.returns-clause-exact
+returns-clause-exact c = λ classes. leaves_done classes c.args.leaves.now c.args.counts.now c.loop-k.values c.loop-k.k c.loop-k.reader _ (omega arith) (c.loop-k.invariant.0 classes)

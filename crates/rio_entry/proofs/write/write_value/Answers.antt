@@ -1,0 +1,25 @@
+use Rattle.std.proofs.Common.{◌≡◌, ℕ, List, [], ◌∷◌, true, Result, Ok, ◌∙◌, sym, ap, arith}
+use Rattle.rio_num.specs.Room.{Room}
+use Rattle.rio_leaf.specs.declared.branch.Shape.TheVariants.{Class}
+use Rattle.rio_format.specs.Fits.{fits}
+use Rattle.rio_format.specs.Written.{written_form}
+use Rattle.rio_entry.proofs.Answered.{too_long, written}
+use Rattle.rio_entry.proofs.ClassBytes.{object_bytes, object_fits}
+use Rattle.rio_entry.specs.declared.fault.EntryFault.{EntryFault}
+use Rattle.rio_entry.proofs.write.write_value.Goals as goal
+
+pub returns-then-branch-gt-LIMIT : goal.returns-then-branch-gt-LIMIT
+returns-then-branch-gt-LIMIT c = λ counts ne.
+    let fit : fits c.args.classes.now c.args.class.now c.args.value.now ≡ true = sym c.in_ok-fits.ensures ∙ c.if-not-branch.false in
+    let same = object_bytes c.args.classes.now c.args.class.now counts c.args.value.now fit in
+    too_long c.args.classes.now (Class c.args.class.now) counts (c.args.value.now ∷ []) (object_fits c.args.classes.now c.args.class.now counts c.args.value.now ∙ fit) (written_form c.args.classes.now 0 c.args.value.now) (sym same) (omega (arith, c.in_ok-written_length.ensures 0, c.if-branch-gt-LIMIT.true))
+
+pub write_object-requires : goal.write_object-requires
+write_object-requires c = omega (arith, c.in_ok-written_length.ensures 0, c.if-branch-gt-LIMIT.false)
+
+pub returns : goal.returns
+returns c = λ counts.
+    let fit : fits c.args.classes.now c.args.class.now c.args.value.now ≡ true = sym c.in_ok-fits.ensures ∙ c.if-not-branch.false in
+    let same = object_bytes c.args.classes.now c.args.class.now counts c.args.value.now fit in
+    written c.args.classes.now (Class c.args.class.now) counts (c.args.value.now ∷ []) (object_fits c.args.classes.now c.args.class.now counts c.args.value.now ∙ fit) (written_form c.args.classes.now 0 c.args.value.now) (sym same) (omega (arith, c.in_ok-written_length.ensures 0, c.if-branch-gt-LIMIT.false))
+    ∙ ap (λ (room : Room). let r : Result (List ℕ) EntryFault = Ok room.bytes in r) (sym c.in_ok-write_object.ensures.exact)

@@ -1,0 +1,80 @@
+-- The entry of a branch: which values fit it, and the bytes that are written for them. The values of leaves stand one
+-- behind the other; a branch of a class has one object.
+use Rattle.std.specs.Prelude.{ℕ, ℤ, pos, List, [], ◌∷◌, ◌++◌, drop, length, nat_lt, Bool, true, false, ◌&&◌, Result, Ok, Err, unwrap_or, if◌then◌else◌}
+use Rattle.std.specs.Map.{lookup}
+use Rattle.std.specs.Str.{bytes_eq}
+use Rattle.rio_leaf.specs.declared.branch.Shape.{Shape}
+use Rattle.rio_leaf.specs.declared.leaf.Dim.{Dim}
+use Rattle.rio_leaf.specs.declared.leaf.Dim.TheVariants.{Counted}
+use Rattle.rio_buffer.specs.ReaderState.{no_words}
+use Rattle.rio_format.specs.Bodies.{Counters, number_in}
+use Rattle.rio_format.specs.Slots.{Slot}
+use Rattle.rio_format.specs.Written.{writing_of}
+use Rattle.rio_format.specs.WrittenBytes.{length_limit}
+use Rattle.rio_machine.specs.Rows.{Column, leaf_column, object_column, column_slot, leaf_numbers_behind, shape_columns, stands_in}
+use Rattle.rio_types.specs.declared.class.ClassDef.{ClassDef}
+use Rattle.rio_value.specs.declared.value.Value.{Value, out-Value}
+use Rattle.rio_entry.specs.declared.fault.EntryFault.{EntryFault}
+use Rattle.rio_entry.specs.declared.fault.EntryFault.TheVariants.{BadRow, TooLarge}
+
+-- ---- counts
+
+-- Beside an entry a count is given for each leaf of its branch: what the leaf's counter says where that stands in an
+-- earlier branch. This is the first of them, and 0 where none is given.
+abbrev pub given_count : List Value → ℤ
+given_count [] = pos 0
+given_count (v ∷ vs) = number_in (out-Value v)
+
+-- what a leaf is counted by: the nearest leaf of the counter's name before it in the branch, or else the given count
+abbrev pub said_count : Dim → ℤ → Counters → ℤ
+said_count (Counted counter times) given own = unwrap_or (lookup (bytes_eq counter) own) given
+said_count other given own = given
+
+-- the counter of a leaf, which says this number
+abbrev pub counter_saying : Dim → ℤ → Counters
+counter_saying (Counted counter times) n = (counter, n) ∷ []
+counter_saying other n = []
+
+-- the counter of a column, behind these leaves of its branch, the nearest first
+abbrev pub counters_for : Column → ℤ → Counters → Counters
+counters_for (leaf_column leaf) given own = counter_saying leaf.dim (said_count leaf.dim given own)
+counters_for (object_column class) given own = []
+
+-- what may stand in a column
+abbrev pub entry_slot : Column → List Value → Counters → Slot
+entry_slot c counts own = column_slot (counters_for c (given_count counts) own) c
+
+-- ---- values
+
+-- one value for each column, and it fits there
+abbrev pub values_fit : List ClassDef → List Column → List Value → List Value → Counters → Bool
+values_fit classes [] counts [] own = true
+values_fit classes [] counts (v ∷ vs) own = false
+values_fit classes (c ∷ cs) counts [] own = false
+values_fit classes (c ∷ cs) counts (v ∷ vs) own =
+    stands_in classes (entry_slot c counts own) v && values_fit classes cs (drop 1 counts) vs (leaf_numbers_behind c v own)
+
+-- their bytes, one behind the other; places in an object count from the entry's first byte
+abbrev pub values_bytes : List ClassDef → List Column → List Value → List Value → Counters → List ℕ
+values_bytes classes [] counts row own = []
+values_bytes classes (c ∷ cs) counts [] own = []
+values_bytes classes (c ∷ cs) counts (v ∷ vs) own =
+    ((writing_of classes v).bytes (entry_slot c counts own) 0 no_words).0 ++ values_bytes classes cs (drop 1 counts) vs (leaf_numbers_behind c v own)
+
+-- ---- entries
+
+-- the values of a row that belong to a branch fit it
+abbrev pub entry_fits : List ClassDef → Shape → List Value → List Value → Bool
+entry_fits classes shape counts row = values_fit classes (shape_columns shape) counts row []
+
+-- the bytes of an entry of a branch
+abbrev pub branch_entry_bytes : List ClassDef → Shape → List Value → List Value → List ℕ
+branch_entry_bytes classes shape counts row = values_bytes classes (shape_columns shape) counts row []
+
+abbrev pub within_limit : List ℕ → Result (List ℕ) EntryFault
+within_limit bytes = if nat_lt length_limit (length bytes) then Err TooLarge else Ok bytes
+
+-- what is written, or why there is no entry
+abbrev pub entry_written : List ClassDef → Shape → List Value → List Value → Result (List ℕ) EntryFault
+entry_written classes shape counts row =
+    if entry_fits classes shape counts row then within_limit (branch_entry_bytes classes shape counts row) else Err BadRow

@@ -1,0 +1,110 @@
+-- The values of leaves, by cases on the leaf and the value, without classes: what fits, and its bytes.
+use Rattle.std.specs.Prelude.{ℕ, ℤ, List, [], ◌∷◌, ◌++◌, codes, drop, length, Bool, true, false, ◌&&◌, ◌==◌, Option, Some, None, if◌then◌else◌}
+use Rattle.std.specs.List.{flat_map, list_all}
+use Rattle.std.specs.Str.{bytes_eq}
+use Rattle.byteorder.specs.Endian.{big_bytes}
+use Rattle.rio_num.specs.Text.{text_bytes}
+use Rattle.rio_num.specs.Layout.{broken, here, ◌>>=◌}
+use Rattle.rio_leaf.specs.declared.leaf.Leaf.{Leaf}
+use Rattle.rio_buffer.specs.Frames.{ObjLayout}
+use Rattle.rio_buffer.specs.declared.fault.ObjFault.TheVariants.{NoCount}
+use Rattle.rio_format.specs.Bodies.{Counters, number_in}
+use Rattle.rio_format.specs.Fits.{bits32_fits, bits64_fits, int_fits, truth_fits}
+use Rattle.rio_format.specs.Objects.{number_value, numbers, text_value}
+use Rattle.rio_format.specs.Slots.{kinded}
+use Rattle.rio_format.specs.Written.{int_bytes, truth_byte}
+use Rattle.rio_machine.specs.Rows.{leaf_kind, letter_kind, unread}
+use Rattle.rio_types.specs.declared.kind.Kind.{Kind}
+use Rattle.rio_types.specs.declared.kind.Kind.TheVariants.{Plain, Fixed, Text as Texted}
+use Rattle.rio_types.specs.declared.kind.Primitive.{Primitive}
+use Rattle.rio_value.specs.declared.value.Part.{Part}
+use Rattle.rio_value.specs.declared.value.Value.{Value, out-Value}
+use Rattle.rio_value.specs.declared.value.Value.TheOpen.{Value-F, Int, Bits32, Bits64, Bool as Truth, Text, List as Items}
+use Rattle.rio_entry.specs.Entries.{counter_saying, given_count, said_count}
+
+-- ---- single values
+
+abbrev pub layer_fits : Primitive → Value-F Value Part → Bool
+layer_fits of (Int z) = int_fits z (kinded (Plain of))
+layer_fits of (Bits32 n) = bits32_fits n (kinded (Plain of))
+layer_fits of (Bits64 n) = bits64_fits n (kinded (Plain of))
+layer_fits of (Truth b) = truth_fits (kinded (Plain of))
+layer_fits of other = false
+
+-- it is a value of the kind
+abbrev pub single_fits : Primitive → Value → Bool
+single_fits of v = layer_fits of (out-Value v)
+
+abbrev pub layer_bytes : Primitive → Value-F Value Part → List ℕ
+layer_bytes of (Int z) = int_bytes z (kinded (Plain of))
+layer_bytes of (Bits32 n) = big_bytes 4 n
+layer_bytes of (Bits64 n) = big_bytes 8 n
+layer_bytes of (Truth b) = truth_byte b ∷ []
+layer_bytes of other = []
+
+abbrev pub single_bytes : Primitive → Value → List ℕ
+single_bytes of v = layer_bytes of (out-Value v)
+
+-- ---- lists and texts
+
+abbrev pub layer_fits_kind : Kind → Value-F Value Part → Bool
+layer_fits_kind (Plain of) x = layer_fits of x
+layer_fits_kind (Fixed of count) (Items vs) = (length vs == count) && list_all (single_fits of) vs
+layer_fits_kind Texted (Text t) = true
+layer_fits_kind other x = false
+
+abbrev pub kind_fits : Kind → Value → Bool
+kind_fits kind v = layer_fits_kind kind (out-Value v)
+
+-- what stands in the bytes
+abbrev pub kind_layout : Kind → ObjLayout Value
+kind_layout (Plain of) = number_value of
+kind_layout (Fixed of count) = numbers of count
+kind_layout Texted = text_value
+kind_layout other = do place ← here; broken (NoCount place)
+
+-- the kind of a leaf whose letter stands for no single values
+abbrev pub without_number : ℕ → Kind
+without_number letter = if bytes_eq (letter ∷ []) (codes "C") then Texted else unread
+
+-- ---- leaves
+
+-- the kind of a leaf, behind these leaves of its branch, the nearest first
+abbrev pub entry_kind : Leaf → List Value → Counters → Kind
+entry_kind leaf counts own = leaf_kind (counter_saying leaf.dim (said_count leaf.dim (given_count counts) own)) leaf
+
+abbrev pub numbers_with : Leaf → Value → Counters → Counters
+numbers_with leaf v own = (leaf.name, number_in (out-Value v)) ∷ own
+
+-- the numbers of leaves, behind others, the nearest first
+abbrev pub numbers_after : List Leaf → List Value → Counters → Counters
+numbers_after [] vs own = own
+numbers_after (l ∷ ls) [] own = own
+numbers_after (l ∷ ls) (v ∷ vs) own = numbers_after ls vs (numbers_with l v own)
+
+-- the number of the last of the leaves that has the name, or else what was found before
+abbrev pub last_number : List ℕ → List Leaf → List Value → Option ℤ → Option ℤ
+last_number name [] vs found = found
+last_number name (l ∷ ls) [] found = found
+last_number name (l ∷ ls) (v ∷ vs) found = last_number name ls vs (if bytes_eq name l.name then Some (number_in (out-Value v)) else found)
+
+abbrev pub leaves_fit : List Leaf → List Value → List Value → Counters → Bool
+leaves_fit [] counts [] own = true
+leaves_fit [] counts (v ∷ vs) own = false
+leaves_fit (l ∷ ls) counts [] own = false
+leaves_fit (l ∷ ls) counts (v ∷ vs) own = kind_fits (entry_kind l counts own) v && leaves_fit ls (drop 1 counts) vs (numbers_with l v own)
+
+-- the bytes of a value of a leaf that fits, by the kind of its single values; without one it is a text
+abbrev pub layer_value_bytes : Option Primitive → Value-F Value Part → List ℕ
+layer_value_bytes (Some of) (Items vs) = flat_map (single_bytes of) vs
+layer_value_bytes (Some of) other = layer_bytes of other
+layer_value_bytes None (Text t) = text_bytes t
+layer_value_bytes None other = []
+
+abbrev pub value_bytes : Option Primitive → Value → List ℕ
+value_bytes of v = layer_value_bytes of (out-Value v)
+
+abbrev pub leaves_bytes : List Leaf → List Value → List ℕ
+leaves_bytes [] vs = []
+leaves_bytes (l ∷ ls) [] = []
+leaves_bytes (l ∷ ls) (v ∷ vs) = value_bytes (letter_kind l.letter) v ++ leaves_bytes ls vs

@@ -1,0 +1,19 @@
+//! Laws of entries.
+ghost use Rattle.rio_entry.specs.Laws.{EntriesHaveOneAnswer, EntryIsPartOfRow, WrittenEntriesAreRead};
+
+/// The bytes of an entry spell values or break at a place, never both, and in one way.
+pub fn entries_have_one_answer()
+    ensures { EntriesHaveOneAnswer }
+{}
+
+/// What is written for a row spells it, and is read as it, if its objects aren't too deep and their versions can be
+/// written.
+pub fn written_entries_are_read()
+    ensures { WrittenEntriesAreRead }
+{}
+
+/// With the counts of a tree's earlier branches, the entry of one branch is a part of the tree's row: it fits exactly where
+/// that part fits, and has its bytes.
+pub fn entry_is_part_of_row()
+    ensures { EntryIsPartOfRow }
+{}

@@ -1,0 +1,130 @@
+//! Entries are read.
+ghost use Rattle.std.specs.Prelude.{◌≡◌, ◌<◌, ◌^◌, List, length, Err, IfOk, Ok};
+ghost use Rattle.rio_num.specs.At.{GoesOn};
+ghost use Rattle.rio_num.specs.Meanings.{read};
+ghost use Rattle.rio_buffer.specs.Frames.{ReadsAs};
+ghost use Rattle.rio_leaf.specs.declared.branch.Shape.TheVariants.{Leaves as Leafy, Class as Classed};
+ghost use Rattle.rio_types.specs.declared.class.ClassDef.{ClassDef as Class};
+ghost use Rattle.rio_value.specs.declared.value.Value.{Value as Given};
+ghost use Rattle.rio_entry.specs.Faults.{GivesEntry};
+ghost use Rattle.rio_entry.specs.declared.fault.EntryFault.{EntryFault as Fault};
+ghost use Rattle.rio_entry.specs.Reading.{BreaksEntry, SpellsEntry, entry_in, entry_values, only_values};
+
+use crate::EntryFault;
+use crate::read_leaves::read_leaves;
+use rio_buffer::{ObjFault, ObjReader};
+use rio_leaf::{BranchDef, Leaf, Shape};
+use rio_read::read_next;
+use rio_types::Classes;
+use rio_value::{Value, Values};
+use std::alloc::Global;
+
+// Nothing stands behind what was read.
+fn check_end(reader: &ObjReader) -> Result<(), EntryFault>
+    ensures { result ≡ only_values (Ok (tt, reader.now)) }
+{
+    if reader.left() == 0 {
+        Ok(())
+    } else {
+        Err(EntryFault::BadEntry {
+            place: reader.place(),
+        })
+    }
+}
+
+// The one object of a branch of a class.
+#[tactic(auto, unfolding(crate::specs::Reading::columns_values))]
+fn read_one(
+    alloc: Global,
+    classes: &Classes,
+    reader: &mut ObjReader,
+    class: &[u8],
+) -> Result<Values, ObjFault>
+    ensures exact { (counts : List Given) → ReadsAs (λ x. x) result
+        (read (entry_values classes.now (Classed class.now) counts) reader.old) reader.new }
+    ensures goes { GoesOn reader.old.at reader.new.at }
+{
+    let value = read_next(alloc, classes, reader, class)?;
+    let mut values = Values::new(alloc);
+    values.push(value)?;
+    Ok(values)
+}
+
+fn read_class(
+    alloc: Global,
+    classes: &Classes,
+    class: &[u8],
+    bytes: &[u8],
+) -> Result<Values, EntryFault>
+    requires { length bytes.now < 2 ^ 32 }
+    ensures { (counts : List Given) → GivesEntry result
+        (entry_in classes.now (Classed class.now) counts bytes.now) }
+{
+    let mut reader = ObjReader::new(alloc, bytes, 0);
+    let values = read_one(alloc, classes, &mut reader, class)?;
+    check_end(&reader)?;
+    Ok(values)
+}
+
+fn read_values(
+    alloc: Global,
+    leaves: &[Leaf],
+    counts: &[Value],
+    bytes: &[u8],
+) -> Result<Values, EntryFault>
+    requires { length bytes.now < 2 ^ 32 }
+    ensures { (classes : List Class) → GivesEntry result
+        (entry_in classes (Leafy leaves.now) counts.now bytes.now) }
+{
+    let mut reader = ObjReader::new(alloc, bytes, 0);
+    let values = read_leaves(alloc, &mut reader, leaves, counts)?;
+    check_end(&reader)?;
+    Ok(values)
+}
+
+fn read_shape(
+    alloc: Global,
+    classes: &Classes,
+    shape: &Shape,
+    counts: &[Value],
+    bytes: &[u8],
+) -> Result<Values, EntryFault>
+    requires { length bytes.now < 2 ^ 32 }
+    ensures { GivesEntry result (entry_in classes.now shape.now counts.now bytes.now) }
+{
+    match shape {
+        Shape::Leaves(leaves) => read_values(alloc, leaves.as_slice(), counts, bytes),
+        Shape::Class(class) => read_class(alloc, classes, class.as_slice(), bytes),
+    }
+}
+
+/// The values of an entry of the branch: one for each leaf, or the one object of a branch of a class. `counts` is as
+/// [`crate::write_entry`] has it.
+///
+/// BadEntry tells the place of the first part that breaks, counted from the entry's first byte. What stands behind the
+/// last value breaks too.
+pub fn read_entry(
+    alloc: Global,
+    classes: &Classes,
+    branch: &BranchDef,
+    counts: &Values,
+    bytes: &[u8],
+) -> Result<Values, EntryFault>
+    requires { length bytes.now < 2 ^ 32 }
+    // What is read is spelled by the bytes.
+    ensures found { IfOk result
+        (λ row. SpellsEntry classes.now branch.now.shape counts.now row bytes.now) }
+    // What the bytes spell is read, unless memory runs out.
+    ensures only { (row : List Given)
+        → SpellsEntry classes.now branch.now.shape counts.now row bytes.now
+        → GivesEntry result (Ok row) }
+    // The fault with which the bytes break is told, unless memory runs out.
+    ensures broken { (e : Fault)
+        → BreaksEntry classes.now branch.now.shape counts.now bytes.now e
+        → GivesEntry result (Err e) }
+    // Which values, or which place, as reading from left to right gives them.
+    ensures exact { GivesEntry result
+        (entry_in classes.now branch.now.shape counts.now bytes.now) }
+{
+    read_shape(alloc, classes, &branch.shape, counts.as_slice(), bytes)
+}

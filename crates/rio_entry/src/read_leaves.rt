@@ -1,0 +1,166 @@
+//! The values of leaves are read.
+ghost use Rattle.std.specs.Prelude.{◌≡◌, ℕ, List, Some, [], min};
+ghost use Rattle.rio_num.specs.At.{GoesOn};
+ghost use Rattle.rio_num.specs.Layout.{times};
+ghost use Rattle.rio_num.specs.Meanings.{read};
+ghost use Rattle.rio_buffer.specs.Frames.{ReadsAs};
+ghost use Rattle.rio_format.specs.Objects.{number_value, numbers, text_value};
+ghost use Rattle.rio_leaf.specs.declared.branch.Shape.TheVariants.{Leaves as Leafy};
+ghost use Rattle.rio_machine.specs.Rows.{counted_leaf_kind, leaf_kind, sized_kind};
+ghost use Rattle.rio_types.specs.declared.class.ClassDef.{ClassDef as Class};
+ghost use Rattle.rio_entry.specs.Bounds.{most_values};
+ghost use Rattle.rio_entry.specs.Entries.{counter_saying};
+ghost use Rattle.rio_entry.specs.Leaves.{kind_layout, without_number};
+ghost use Rattle.rio_entry.specs.Reading.{entry_values};
+
+use crate::leaf::{given_count, letter_kind, said_count};
+use rio_buffer::{ObjFault, ObjReader};
+use rio_leaf::{Dim, Leaf};
+use rio_num::Name;
+use rio_types::Prim;
+use rio_value::{Value, Values};
+use std::alloc::Global;
+
+#[tactic(auto, unfolding(rio_format::specs::Objects::number_value))]
+fn read_single(reader: &mut ObjReader, of: Prim) -> Result<Value, ObjFault>
+    ensures exact { ReadsAs (λ x. x) result (read (number_value of) reader.old) reader.new }
+    ensures goes { GoesOn reader.old.at reader.new.at }
+{
+    match of {
+        Prim::I8 => Ok(Value::Int(i128::from(reader.take_u8()?.cast_signed()))),
+        Prim::I16 => Ok(Value::Int(i128::from(reader.take_u16()?.cast_signed()))),
+        Prim::I32 => Ok(Value::Int(i128::from(reader.take_u32()?.cast_signed()))),
+        Prim::I64 => Ok(Value::Int(i128::from(reader.take_u64()?.cast_signed()))),
+        Prim::U8 => Ok(Value::Int(i128::from(reader.take_u8()?))),
+        Prim::U16 => Ok(Value::Int(i128::from(reader.take_u16()?))),
+        Prim::U32 => Ok(Value::Int(i128::from(reader.take_u32()?))),
+        Prim::U64 => Ok(Value::Int(i128::from(reader.take_u64()?))),
+        Prim::Bool => Ok(Value::Bool(reader.take_u8()? != 0)),
+        Prim::F32 => Ok(Value::Bits32(reader.take_u32()?)),
+        Prim::F64 => Ok(Value::Bits64(reader.take_u64()?)),
+    }
+}
+
+fn read_times(alloc: Global, reader: &mut ObjReader, of: Prim, n: u64) -> Result<Values, ObjFault>
+    ensures exact { ReadsAs (λ x. x) result (read (times n (number_value of)) reader.old)
+        reader.new }
+    ensures goes { GoesOn reader.old.at reader.new.at }
+{
+    let mut values = Values::new(alloc);
+    for _done in 0..n {
+        values.push(read_single(reader, of)?)?;
+    }
+    Ok(values)
+}
+
+// A list of values. No more are read than there are bytes, and one, which is then not there.
+fn read_list(alloc: Global, reader: &mut ObjReader, of: Prim, n: u128) -> Result<Value, ObjFault>
+    ensures exact { (count : ℕ) → n ≡ min count most_values
+        → ReadsAs (λ x. x) result (read (numbers of count) reader.old) reader.new }
+    ensures goes { GoesOn reader.old.at reader.new.at }
+{
+    let most = u128::from(reader.left()) + 1;
+    let values = read_times(alloc, reader, of, n.min(most) as u64)?;
+    Ok(Value::List(values))
+}
+
+// A list of so many values for each that was counted.
+fn read_counted(
+    alloc: Global,
+    reader: &mut ObjReader,
+    of: Prim,
+    times: u32,
+    count: i128,
+) -> Result<Value, ObjFault>
+    ensures exact { ReadsAs (λ x. x) result
+        (read (kind_layout (counted_leaf_kind of times (Some count))) reader.old) reader.new }
+    ensures goes { GoesOn reader.old.at reader.new.at }
+{
+    if count < 0 {
+        return Err(ObjFault::NoCount {
+            place: reader.place(),
+        });
+    }
+    let n = count.unsigned_abs().saturating_mul(u128::from(times));
+    read_list(alloc, reader, of, n)
+}
+
+fn read_sized(
+    alloc: Global,
+    reader: &mut ObjReader,
+    of: Prim,
+    dim: &Dim,
+    count: i128,
+) -> Result<Value, ObjFault>
+    ensures exact { ReadsAs (λ x. x) result
+        (read (kind_layout (sized_kind (counter_saying dim.now count) of dim.now)) reader.old)
+        reader.new }
+    ensures goes { GoesOn reader.old.at reader.new.at }
+{
+    match dim {
+        Dim::One => read_single(reader, of),
+        Dim::Fixed(n) => read_list(alloc, reader, of, u128::from(*n)),
+        Dim::Counted { times, .. } => read_counted(alloc, reader, of, *times, count),
+    }
+}
+
+#[tactic(auto, unfolding(rio_format::specs::Objects::text_value))]
+fn read_text(alloc: Global, reader: &mut ObjReader) -> Result<Value, ObjFault>
+    ensures exact { ReadsAs (λ x. x) result (read text_value reader.old) reader.new }
+    ensures goes { GoesOn reader.old.at reader.new.at }
+{
+    let text = reader.take_text()?;
+    Ok(Value::Text(Name::from_slice(alloc, text)?))
+}
+
+fn read_without_number(alloc: Global, reader: &mut ObjReader, letter: u8) -> Result<Value, ObjFault>
+    ensures exact { ReadsAs (λ x. x) result
+        (read (kind_layout (without_number letter)) reader.old) reader.new }
+    ensures goes { GoesOn reader.old.at reader.new.at }
+{
+    if letter == b'C' {
+        read_text(alloc, reader)
+    } else {
+        Err(ObjFault::NoCount {
+            place: reader.place(),
+        })
+    }
+}
+
+// The value of a leaf, whose counter says so.
+fn read_leaf(
+    alloc: Global,
+    reader: &mut ObjReader,
+    leaf: &Leaf,
+    count: i128,
+) -> Result<Value, ObjFault>
+    ensures exact { ReadsAs (λ x. x) result
+        (read (kind_layout (leaf_kind (counter_saying leaf.now.dim count) leaf.now)) reader.old)
+        reader.new }
+    ensures goes { GoesOn reader.old.at reader.new.at }
+{
+    match letter_kind(leaf.letter) {
+        Some(of) => read_sized(alloc, reader, of, &leaf.dim, count),
+        None => read_without_number(alloc, reader, leaf.letter),
+    }
+}
+
+/// The values of leaves, one behind the other.
+pub(crate) fn read_leaves(
+    alloc: Global,
+    reader: &mut ObjReader,
+    leaves: &[Leaf],
+    counts: &[Value],
+) -> Result<Values, ObjFault>
+    ensures exact { (classes : List Class) → ReadsAs (λ x. x) result
+        (read (entry_values classes (Leafy leaves.now) counts.now) reader.old) reader.new }
+    ensures goes { GoesOn reader.old.at reader.new.at }
+{
+    let mut values = Values::new(alloc);
+    for (k, leaf) in leaves.iter().enumerate() {
+        let given = given_count(counts, k);
+        let count = said_count(&leaf.dim, given, &leaves[..k], values.as_slice());
+        values.push(read_leaf(alloc, reader, leaf, count)?)?;
+    }
+    Ok(values)
+}

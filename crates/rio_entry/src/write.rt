@@ -1,0 +1,101 @@
+//! Entries are written.
+ghost use Rattle.std.specs.Prelude.{List, [], ◌∷◌};
+ghost use Rattle.rio_leaf.specs.declared.branch.Shape.TheVariants.{Leaves as Leafy, Class as Classed};
+ghost use Rattle.rio_entry.specs.Entries.{entry_written};
+ghost use Rattle.rio_entry.specs.Faults.{GivesBytes};
+ghost use Rattle.rio_types.specs.declared.class.ClassDef.{ClassDef as Class};
+ghost use Rattle.rio_value.specs.declared.value.Value.{Value as Given};
+
+use crate::EntryFault;
+use crate::fit::leaves_fit;
+use crate::length::leaves_length;
+use crate::put::put_leaves;
+use rio_fit::fits;
+use rio_leaf::{BranchDef, Leaf, Shape};
+use rio_num::Bytes;
+use rio_types::Classes;
+use rio_value::{Value, Values};
+use rio_write::{write_object, written_length};
+use std::alloc::Global;
+
+/// The greatest length of an entry.
+const LIMIT: u64 = 16_777_216;
+
+fn write_leaves(
+    alloc: Global,
+    leaves: &[Leaf],
+    counts: &[Value],
+    row: &[Value],
+) -> Result<Bytes, EntryFault>
+    ensures { (classes : List Class)
+        → GivesBytes result (entry_written classes (Leafy leaves.now) counts.now row.now) }
+{
+    if !leaves_fit(leaves, counts, row) {
+        return Err(EntryFault::BadRow);
+    }
+    if leaves_length(leaves, row) > LIMIT {
+        return Err(EntryFault::TooLarge);
+    }
+    let mut bytes = Bytes::new(alloc);
+    put_leaves(&mut bytes, leaves, row)?;
+    Ok(bytes)
+}
+
+fn write_value(
+    alloc: Global,
+    classes: &Classes,
+    class: &[u8],
+    value: &Value,
+) -> Result<Bytes, EntryFault>
+    ensures { (counts : List Given) → GivesBytes result
+        (entry_written classes.now (Classed class.now) counts (value.now ∷ [])) }
+{
+    if !fits(alloc, classes, class, value)? {
+        return Err(EntryFault::BadRow);
+    }
+    if written_length(alloc, classes, value)? > LIMIT {
+        return Err(EntryFault::TooLarge);
+    }
+    Ok(write_object(alloc, classes, value, 0)?)
+}
+
+fn write_class(
+    alloc: Global,
+    classes: &Classes,
+    class: &[u8],
+    row: &[Value],
+) -> Result<Bytes, EntryFault>
+    ensures { (counts : List Given) → GivesBytes result
+        (entry_written classes.now (Classed class.now) counts row.now) }
+{
+    match row {
+        [value] => write_value(alloc, classes, class, value),
+        _ => Err(EntryFault::BadRow),
+    }
+}
+
+/// The bytes of an entry of the branch, for the values of a row that belong to it: one for each leaf, or the one object of
+/// a branch of a class.
+///
+/// `counts` has for each leaf what its counter says where that stands in an earlier branch, and else 0. The nearest leaf
+/// of the counter's name before it in the branch counts, if there is one, and else this count. One that isn't there, or is
+/// no integer, is 0.
+///
+/// BadRow where the values don't fit the branch, and else TooLarge where they have more than 16,777,216 bytes.
+pub fn write_entry(
+    alloc: Global,
+    classes: &Classes,
+    branch: &BranchDef,
+    counts: &Values,
+    row: &Values,
+) -> Result<Bytes, EntryFault>
+    ensures exact { GivesBytes result
+        (entry_written classes.now branch.now.shape counts.now row.now) }
+{
+    match &branch.shape {
+        Shape::Leaves(leaves) => {
+            write_leaves(alloc, leaves.as_slice(), counts.as_slice(), row.as_slice())
+        }
+        Shape::Class(class) => write_class(alloc, classes, class.as_slice(), row.as_slice()),
+    }
+}
