@@ -31,10 +31,11 @@ loop-k-preserved c =
     let counted = c.said_count-count.ensures ∙ ap (λ (n : ℤ). said_count l.dim n (numbers_after own c.as_slice.result.now [])) given in
     let count = counted ∙ ap (λ (vs : List Value). said_count l.dim (given_count (drop c.loop-k.k c.args.counts.now)) (numbers_after own vs [])) c.as_slice.ensures in
     let said = to_z-of_z w128 c.said_count-count.result (search rules) ∙ count in
-    let layout = ap (λ (n : ℤ). read (kind_layout (leaf_kind (counter_saying l.dim n) l)) c.loop-k.reader) (sym said) in
-    ((λ classes. rw c.in_ok-push.ensures.ok (leaves_go_on classes c.args.leaves.now c.args.counts.now c.loop-k.values c.loop-k.k c.loop-k.reader _ l (omega arith) c.index-leaves-k.is c.in_ok-read_leaf.field-0 c.read_leaf.new.reader c.loop-k.invariant.1 (layout ∙ c.in_ok-read_leaf.ensures.exact) (c.loop-k.invariant.0 classes))),
-    rw c.in_ok-push.ensures.ok (omega (arith, length-append c.loop-k.values (c.in_ok-read_leaf.field-0 ∷ []), c.loop-k.invariant.1)),
-    search rules)
+    let layout = ap (λ (n : ℤ). read (kind_layout (leaf_kind (counter_saying l.dim n) l)) c.loop-k.reader) (sym said) in (
+      (λ classes. rw c.in_ok-push.ensures.ok (leaves_go_on classes c.args.leaves.now c.args.counts.now c.loop-k.values c.loop-k.k c.loop-k.reader _ l (omega arith) c.index-leaves-k.is c.in_ok-read_leaf.field-0 c.read_leaf.new.reader c.loop-k.invariant.1 (layout ∙ c.in_ok-read_leaf.ensures.exact) (c.loop-k.invariant.0 classes))),
+      rw c.in_ok-push.ensures.ok (omega (arith, length-append c.loop-k.values (c.in_ok-read_leaf.field-0 ∷ []), c.loop-k.invariant.1)),
+      search rules,
+    )
 
 pub returns-clause-exact : goal.returns-clause-exact
 returns-clause-exact c = λ classes. leaves_done classes c.args.leaves.now c.args.counts.now c.loop-k.values c.loop-k.k c.loop-k.reader _ (omega arith) (c.loop-k.invariant.0 classes)
