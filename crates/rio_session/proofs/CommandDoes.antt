@@ -1,5 +1,5 @@
 -- What each command does, in all clauses.
-use Rattle.std.proofs.Common.{◌≡◌, ℕ, ◌+◌, ◌*◌, ◌^◌, ◌<◌, ◌≤◌, ℤ, List, [], ◌∷◌, length, Option, Some, None, Result, Ok, Err, IfOk, Bool, true, false, refl, sym, ap, subst, ◌∙◌, arith}
+use Rattle.std.proofs.Common.{◌≡◌, ℕ, ◌+◌, ◌^◌, ◌<◌, ◌≤◌, ℤ, List, [], ◌∷◌, length, Option, Some, None, Result, Ok, Err, IfOk, Bool, true, false, refl, sym, ap, subst, ◌∙◌, arith}
 use Rattle.std.specs.Prelude.{is_some}
 use Rattle.rio_host.specs.Host.{IsLawful, View}
 use Rattle.rio_num.specs.Word.{is_item_text}
@@ -19,12 +19,11 @@ use Rattle.rio_machine.specs.declared.refusal.Refusal.TheVariants.{Full}
 use Rattle.rio_record.specs.declared.record.NewRecord.{NewRecord}
 use Rattle.rio_reply.specs.Told.{listing_of}
 use Rattle.rio_state.specs.Closing.{close_need, is_full, padded_length}
-use Rattle.rio_step.specs.Costs.{cost_of, room_limit, value_size}
+use Rattle.rio_step.specs.Costs.{cost_of, value_size}
 use Rattle.rio_step.specs.Refusing.{refusal_of}
 use Rattle.rio_step.specs.ReplyText.{text_of}
 use Rattle.rio_step.specs.Step.{object_put, outcome_of, refused}
 use Rattle.rio_judge.specs.Judging.{IsJudgementOfStates, IsStep, WorkCanBeDone, is_judged}
-use Rattle.rio_judge.specs.declared.work.Judged.{Judged}
 use Rattle.rio_judge.specs.declared.work.Judged.TheVariants.{Accepted as Judgement, Refused as RefusalOf}
 use Rattle.rio_judge.specs.declared.work.Work.TheVariants.{Put as Storing, Get as Telling, Ls as Listing}
 use Rattle.rio_effect.specs.ObjectRecord.{key_of_put}

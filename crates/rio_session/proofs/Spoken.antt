@@ -1,8 +1,8 @@
 -- What was said, whatever was told before.
-use Rattle.std.proofs.Common.{◌≡◌, ℕ, List, [], ◌++◌, length, take, Option, Some, None, sym, ap, subst, ◌∙◌}
+use Rattle.std.proofs.Common.{◌≡◌, ℕ, List, [], ◌++◌, length, take, Option, Some, None, sym, ap, ◌∙◌}
 use Rattle.std.proofs.Math.Seq.{take-length}
 use Rattle.std.proofs.lemmas.List.{append-nil}
-use Rattle.rio_host.specs.Host.{Becomes, Elapses, Leaves, Longer, LongerByPart, Speaking, Unwritten, View}
+use Rattle.rio_host.specs.Host.{Becomes, Elapses, Leaves, Longer, LongerByPart, Speaking, View}
 use Rattle.rio_host.specs.OnlyReads.{Grown, OnlyReads}
 use Rattle.rio_host.proofs.Images.{becomes_as, becomes_some}
 use Rattle.rio_host.proofs.Moments.{elapses_as}

@@ -1,12 +1,13 @@
 //! A file `a.root` is made, stored into and closed, in memory.
-ghost use Rattle.std.specs.Prelude.{◌<◌, ◌^◌, length, IfOk, IsTrue};
+ghost use Rattle.std.specs.Prelude.{◌≡◌, ◌<◌, ◌^◌, length, false, IfOk, OnOk, IsTrue};
 ghost use Rattle.rio_step.specs.Statable.{IsStatable};
+ghost use Rattle.rio_session.specs.Session.{IsReady};
 ghost use Rattle.rio_judge.specs.Judging.{is_judged};
 
 use crate::{OpenFault, Session, SessionFault};
-use rio_host::MemHost;
+use rio_host::{Host, MemHost};
 use rio_machine::Command;
-use rio_num::{Bytes, Name, NoMemory, Numbers};
+use rio_num::{Bytes, Name, Numbers};
 use rio_valtext::read_value;
 use std::alloc::Global;
 use std::test::Fail;
@@ -41,7 +42,7 @@ const HI: &[u8] = b"TObjString{TObject{fUniqueID: 0, fBits: 0}, fString: \"hi\"}
 const HU: &[u8] = b"TObjString{TObject{fUniqueID: 0, fBits: 0}, fString: \"hu\"}";
 
 // Stores the value of this text under the name `s`.
-fn put(alloc: Global, text: &[u8]) -> Result<Command, Fail>
+fn put(alloc: Global, text: &[u8]) -> Result<Command, SessionFault>
     requires { length text.now < 2 ^ 32 }
     ensures stated { IfOk result IsStatable }
     ensures built { IfOk result (λ c. IsTrue (is_judged c)) }
@@ -49,12 +50,12 @@ fn put(alloc: Global, text: &[u8]) -> Result<Command, Fail>
     let name = Name::from_slice(alloc, b"s")?;
     match read_value(alloc, text, 0) {
         Ok((value, _)) => Ok(Command::Put { name, value }),
-        Err(_) => Err(Fail::from("no value")),
+        Err(_) => Err(SessionFault::NoMemory),
     }
 }
 
 // Tells the object `s` of this cycle, or the newest.
-fn get(alloc: Global, cycle: Option<u32>) -> Result<Command, NoMemory>
+fn get(alloc: Global, cycle: Option<u32>) -> Result<Command, SessionFault>
     ensures stated { IfOk result IsStatable }
     ensures built { IfOk result (λ c. IsTrue (is_judged c)) }
 {
@@ -69,6 +70,28 @@ fn get(alloc: Global, cycle: Option<u32>) -> Result<Command, NoMemory>
 // A host without bytes, of which the calls with these numbers fail.
 fn empty_host(alloc: Global, failing: Numbers) -> MemHost {
     MemHost::new(alloc, Bytes::new(alloc), failing)
+}
+
+// Does two commands and lists what there is.
+fn do_both<H: Host>(
+    session: &mut Session,
+    host: &mut H,
+    first: &Command,
+    second: &Command,
+) -> Result<(), SessionFault>
+    requires fresh { session.old.failed ≡ false }
+    requires ready { IsReady (H.view host.old) session.old }
+    requires first { IsStatable first.now }
+    requires first_built { IsTrue (is_judged first.now) }
+    requires second { IsStatable second.now }
+    requires second_built { IsTrue (is_judged second.now) }
+    ensures fresh { OnOk result (session.new.failed ≡ false) }
+    ensures ready { OnOk result (IsReady (H.view host.new) session.new) }
+{
+    session.apply(host, first)?;
+    session.apply(host, second)?;
+    session.apply(host, &Command::Ls)?;
+    Ok(())
 }
 
 // Makes a file, does two commands, lists what there is, and closes the file.
@@ -88,10 +111,32 @@ fn run(
         Err(OpenFault::HostFault) => return Err(SessionFault::HostFault),
         Err(_) => return Err(SessionFault::NoMemory),
     };
-    session.apply(host, first)?;
-    session.apply(host, second)?;
-    session.apply(host, &Command::Ls)?;
+    do_both(&mut session, host, first, second)?;
     session.close(host)
+}
+
+// The same of two values that are stored.
+fn run_puts(
+    alloc: Global,
+    host: &mut MemHost,
+    first: &[u8],
+    second: &[u8],
+) -> Result<(), SessionFault>
+    requires first { length first.now < 2 ^ 32 }
+    requires second { length second.now < 2 ^ 32 }
+{
+    let first = put(alloc, first)?;
+    let second = put(alloc, second)?;
+    run(alloc, host, &first, &second)
+}
+
+// The same of a value that is stored and told.
+fn run_put_and_get(alloc: Global, host: &mut MemHost, value: &[u8]) -> Result<(), SessionFault>
+    requires { length value.now < 2 ^ 32 }
+{
+    let first = put(alloc, value)?;
+    let second = get(alloc, Some(1))?;
+    run(alloc, host, &first, &second)
 }
 
 #[test]
@@ -110,10 +155,8 @@ fn closes_an_empty_file(rt: HostRuntime) -> Result<(), Fail> {
 #[test]
 fn stores_two_objects(rt: HostRuntime) -> Result<(), Fail> {
     let alloc = rt.alloc();
-    let first = put(alloc, HI)?;
-    let second = put(alloc, HU)?;
     let mut host = empty_host(alloc, Numbers::new(alloc));
-    run(alloc, &mut host, &first, &second)?;
+    run_puts(alloc, &mut host, HI, HU)?;
     let said = b"ok put s;1\nok put s;2\nok ls 2\ns;2 TObjString\ns;1 TObjString\n";
     assert!(rt; host.said().as_slice() == said.as_slice());
     assert_eq!(rt; host.image().len(), 508);
@@ -126,10 +169,8 @@ fn stores_two_objects(rt: HostRuntime) -> Result<(), Fail> {
 #[test]
 fn tells_an_object(rt: HostRuntime) -> Result<(), Fail> {
     let alloc = rt.alloc();
-    let first = put(alloc, HI)?;
-    let second = get(alloc, Some(1))?;
     let mut host = empty_host(alloc, Numbers::new(alloc));
-    run(alloc, &mut host, &first, &second)?;
+    run_put_and_get(alloc, &mut host, HI)?;
     let said =
         b"ok put s;1\nok get s;1 TObjString#1{TObject#1{fUniqueID: 0, fBits: 0}, fString: \"hi\"}\nok ls 1\ns;1 TObjString\n";
     assert!(rt; host.said().as_slice() == said.as_slice());
@@ -169,10 +210,8 @@ fn stores_before_it_says_so(rt: HostRuntime) -> Result<(), Fail> {
     let mut unsaid: u32 = 0;
     let mut failed: u32 = 0;
     for k in 0..64 {
-        let first = put(alloc, HI)?;
-        let second = put(alloc, HU)?;
         let mut host = empty_host(alloc, Numbers::from_slice(alloc, &[k])?);
-        match run(alloc, &mut host, &first, &second) {
+        match run_puts(alloc, &mut host, HI, HU) {
             Ok(()) => (),
             Err(SessionFault::SayFault) => unsaid = unsaid.saturating_add(1),
             Err(_) => failed = failed.saturating_add(1),

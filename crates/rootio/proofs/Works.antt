@@ -1,5 +1,5 @@
 -- How a verb ends that writes: where its input isn't read whole, and where it is.
-use Rattle.std.proofs.Common.{◌≡◌, inl, ℕ, List, length, Some, Ok, Err, subst, sym, refl, ap, ◌∙◌, arith}
+use Rattle.std.proofs.Common.{◌≡◌, inl, inr, ℕ, List, length, Some, Ok, Err, subst, sym, refl, ap, ◌∙◌, arith}
 use Rattle.rio_num.specs.Room.{Room}
 use Rattle.rio_head.specs.declared.fault.FileFault.{FileFault}
 use Rattle.rio_head.specs.declared.fault.HeadFault.{HeadFault}
@@ -53,6 +53,7 @@ untouched work v before after status is unclosed too_long limited cause = record
       written = λ file text m begins ended. absurd (is.done ended);
       unclosed = λ file text input m begins told. unclosed (run_of_work work input m) text;
       input = λ input told past. absurd (is.past past);
+      order = λ input told. inr (reads_none v, refl);
       told = becomes_same v.holds;
     };
     spares = record { answer = λ refuses. absurd (is.refuses refuses); file = λ file here made. reads_none v };
@@ -120,6 +121,7 @@ with_input target old new before after text status read ran =
               let all : input ≡ text.bytes = (told input here).2.0 in
               subst (λ (l : List ℕ). EndsUnclosed (run_of_work (Run target) l m) said old new status) (sym all) (ran.unclosed file said m begins);
           input = λ input here past. let rest = told input here in rest.1 ∙ ap Some rest.2.1;
+          order = λ input here. let rest = told input here in inl (rest.1 ∙ ap Some rest.2.1);
           told = ran.told;
         };
         spares = ran.spares;

@@ -125,6 +125,10 @@ run_of_work work input m =
     let commands = commands_of work input in
     record { start = m; commands = commands; marks = marks_of_run name (first_segments name) m commands }
 
+-- nothing was written and no call looked at the file
+abbrev pub IsUntouched : View → View → Type 0
+IsUntouched old new = OnlyReads old new × (new.reads ≡ old.reads)
+
 -- What is taken for granted at the start: the host is quiet and tells its file and what it said, and the file isn't made yet or
 -- reads as a state.
 pub record Begins (old : View) (file text : List ℕ) (m : State) : Type 0 where
@@ -135,8 +139,8 @@ pub record Begins (old : View) (file text : List ℕ) (m : State) : Type 0 where
 
 -- Wherever it is stopped, whatever it answers, it leaves a prefix of the run. What it said is a front of all replies, and where file
 -- and commands leave room for them, none of these is want of room. Where it says that it is done it is, and the file was closed under
--- its name and time, without garbage; where it ends early it doesn't close the file. What it says of the file, of a disk fault or of
--- its text comes only behind all of the input.
+-- its name and time, without garbage; where it ends early it doesn't close the file. Until all of the input was read it
+-- doesn't touch the file, nor says anything of it, of a disk fault or of its text.
 pub record KeepsHeadline (work : Work) (old new : View) (before after : Input) (status : Status) : Type 0 where
   pub stops : (file text input : List ℕ) (m : State) → Begins old file text m → before.remaining ≡ Some input
       → Elapses old new (IsStopOf (run_of_work work input m) file text)
@@ -151,6 +155,7 @@ pub record KeepsHeadline (work : Work) (old new : View) (before after : Input) (
   pub unclosed : (file text input : List ℕ) (m : State) → Begins old file text m → before.remaining ≡ Some input
       → EndsUnclosed (run_of_work work input m) text old new status
   pub input : (input : List ℕ) → before.remaining ≡ Some input → IsPastInput status → after.remaining ≡ Some []
+  pub order : (input : List ℕ) → before.remaining ≡ Some input → (after.remaining ≡ Some []) ⊎ IsUntouched old new
   pub told : Becomes Any old.holds new.holds
 
 -- How a run ends that writes.
