@@ -78,7 +78,11 @@ fn file_of(alloc: Global, records: &[&[u8]]) -> Result<Bytes, NoMemory> {
 fn with_bytes(alloc: Global, image: &Bytes, place: usize, bytes: &[u8]) -> Result<Bytes, NoMemory> {
     let mut edited = Bytes::new(alloc);
     for (k, old) in image.as_slice().iter().enumerate() {
-        let byte = if k < place { None } else { bytes.get(k - place) };
+        let byte = if k < place {
+            None
+        } else {
+            bytes.get(k - place)
+        };
         edited.push(*byte.unwrap_or(old))?;
     }
     Ok(edited)
@@ -320,7 +324,10 @@ fn tells_calls_that_fail(rt: HostRuntime) -> Result<(), Fail> {
     for number in 2..15 {
         let failing = Numbers::from_slice(rt.alloc(), &[number])?;
         let found = answer_failing(rt.alloc(), file_of(rt.alloc(), &[FIRST])?, failing)?;
-        assert!(rt; matches!(found, Err(RecoverFault::HostFault)), "call {number}");
+        assert!(rt;
+            matches!(found, Err(RecoverFault::HostFault)),
+            "call {number}"
+        );
     }
     Ok(())
 }
