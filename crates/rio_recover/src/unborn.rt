@@ -22,7 +22,8 @@ pub fn is_unborn<H: Host>(host: &mut H) -> Result<bool, HostFault>
         (λ unborn. Told (H.view host.old) (λ file. unborn ≡ is_unborn file)) }
     ensures calls { OnlyReads (H.view host.old) (H.view host.new) }
     ensures counted { IsOk result → (H.view host.new).disk_faults ≡ (H.view host.old).disk_faults }
-    ensures cause { IsErr result → Rose (H.view host.old).disk_faults (H.view host.new).disk_faults }
+    ensures cause { IsErr result
+        → Rose (H.view host.old).disk_faults (H.view host.new).disk_faults }
 {
     let file_length = host.length()?;
     if file_length < 4 {
