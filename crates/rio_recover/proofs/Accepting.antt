@@ -1,5 +1,5 @@
 -- A class list that stands for the classes of a state, or doesn't.
-use Rattle.std.proofs.Common.{◌≡◌, ◌∙◌, ℕ, ◌+◌, ◌<◌, ◌≤◌, List, [], length, Bool, true, false, refl, sym, ap, subst, IsTrue, arith}
+use Rattle.std.proofs.Common.{◌≡◌, ◌∙◌, ◌<◌, List, [], length, Bool, true, false, sym, subst, IsTrue}
 use Rattle.std.specs.Prelude.{◌↔◌}
 use Rattle.rio_types.specs.declared.class.ClassDef.{ClassDef}
 use Rattle.rio_format.specs.TreeClasses.{written_classes}

@@ -1,5 +1,5 @@
 -- Keys of objects and trees, checked one after the other.
-use Rattle.std.proofs.Common.{◌≡◌, ◌∙◌, ℕ, ◌+◌, ◌<◌, ◌≤◌, List, [], ◌∷◌, ◌++◌, append_assoc, map, length, take, drop, Bool, true, false, cond, not, ◌&&◌, ◌||◌, ◌==◌, ltb, Option, Some, None, Result, Ok, Err, refl, sym, ap, subst, slice_get, arith}
+use Rattle.std.proofs.Common.{◌≡◌, ◌∙◌, ℕ, ◌+◌, ◌≤◌, List, [], ◌∷◌, ◌++◌, append_assoc, length, take, drop, Bool, true, false, cond, not, ◌&&◌, ◌||◌, ◌==◌, ltb, Option, Some, Err, refl, sym, ap, subst, slice_get, arith}
 use Rattle.std.proofs.lemmas.Bool.Decides.{nat_tests}
 use Rattle.std.proofs.lemmas.List.{map-append, take_all, drop_all}
 use Rattle.std.proofs.lemmas.List.Sums.{sum_by-cons}
@@ -25,7 +25,6 @@ use Rattle.rio_recover.specs.Keys.{StandsIn, keyed, keyed_by, record_heads}
 use Rattle.rio_recover.specs.Names.{IndexesNames}
 use Rattle.rio_recover.specs.declared.fault.RecoverFault.{RecoverFault}
 use Rattle.rio_recover.specs.declared.judge.KeyCheck.{KeyCheck}
-use Rattle.rio_recover.specs.declared.names.NameIndex.{NameIndex}
 use Rattle.rio_recover.proofs.Judging.{judges_on, judges_same, none_if}
 use Rattle.rio_recover.proofs.Keyed.{any_keyed, keyed_again, top_keyed}
 use Rattle.rio_recover.proofs.Numbered.{RecordAtIndex, before_other, before_top, behind_other, behind_top}

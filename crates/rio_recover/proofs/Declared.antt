@@ -1,18 +1,16 @@
 -- Classes that commands have declared, in a class list.
-use Rattle.std.proofs.Common.{◌≡◌, ◌∙◌, ℕ, ◌+◌, ◌<◌, ◌≤◌, min, add-one, drop-cons, get_or, length-append, List, [], ◌∷◌, ◌++◌, append_assoc, codes, length, take, drop, Bool, true, false, not, Option, Some, None, Result, Ok, Err, refl, sym, ap, subst, IsTrue, arith}
-use Rattle.std.specs.Prelude.{MatchBool, MatchOption, ◌↔◌}
-use Rattle.std.proofs.Math.Seq.{drop-append_seam, take-append_seam}
-use Rattle.std.proofs.lemmas.List.{drop_all, take-append-drop, take_all, take_more}
+use Rattle.std.proofs.Common.{◌≡◌, ◌∙◌, ℕ, ◌+◌, ◌<◌, ◌≤◌, add-one, drop-cons, get_or, List, [], ◌∷◌, ◌++◌, append_assoc, codes, length, take, drop, Bool, true, false, not, Some, None, Ok, Err, refl, sym, ap, subst, IsTrue, arith}
+use Rattle.std.specs.Prelude.{◌↔◌}
+use Rattle.std.proofs.Math.Seq.{drop-append_seam}
+use Rattle.std.proofs.lemmas.List.{drop_all, take_all, take_more}
 use Rattle.rio_types.specs.declared.class.ClassDef.{ClassDef}
 use Rattle.rio_buffer.specs.declared.fault.ObjFault.{ObjFault}
 use Rattle.rio_format.specs.TreeClasses.{tree_classes, written_classes}
-use Rattle.rio_format.specs.WrittenBytes.{length_limit}
 use Rattle.rio_info.proofs.ListGrowth.{last_length_decides}
 use Rattle.rio_model.specs.Declaring.{declare_fault, declared, is_reserved_name}
-use Rattle.rio_model.specs.declared.declare.DeclareFault.{DeclareFault}
 use Rattle.rio_model.specs.Stated.{is_stated_class}
 use Rattle.rio_model.specs.StateClasses.{AreAccepted, AreDeclared, HasShortList, IsDeclared, StateClasses}
-use Rattle.rio_state.specs.Contents.{HasStateClasses, IsStateList, classes_behind, described_in, state_classes}
+use Rattle.rio_state.specs.Contents.{IsStateList, classes_behind, described_in, state_classes}
 use Rattle.rio_state.specs.KeyedRecords.{KeyedRecord}
 use Rattle.rio_recover.specs.Classes.{AreClassesOf, AreListedForState}
 
@@ -82,16 +80,6 @@ all_declared classes k registry le sofar =
 
 -- ---- the classes of trees in front
 
--- a list that is too short, or begins with other classes
-pub too_short : (classes declared : List ClassDef) → length classes < length tree_classes → classes ≡ written_classes declared → ⊥
-too_short classes declared short is = omega (arith, short, ap length is, length-append tree_classes declared)
-
-pub other_front : (classes declared : List ClassDef) → (take (length tree_classes) classes ≡ tree_classes → ⊥) → classes ≡ written_classes declared → ⊥
-other_front classes declared other is = other (ap (take (length tree_classes)) is ∙ take-append_seam tree_classes declared)
-
-pub same_front : (classes : List ClassDef) → take (length tree_classes) classes ≡ tree_classes → classes ≡ written_classes (drop (length tree_classes) classes)
-same_front classes same = sym (take-append-drop (length tree_classes) classes) ∙ ap (λ (cs : List ClassDef). cs ++ drop (length tree_classes) classes) same
-
 -- one list for the classes of trees and these
 pub one_list : (classes a b : List ClassDef) → classes ≡ written_classes a → classes ≡ written_classes b → a ≡ b
 one_list classes a b x y = sym (drop-append_seam tree_classes a) ∙ ap (drop (length tree_classes)) (sym x ∙ y) ∙ drop-append_seam tree_classes b
@@ -110,23 +98,6 @@ state_short [] some s = absurd (omega (arith, some))
 state_short (c ∷ cs) some s = accepted_short [] c cs s
 
 -- ---- one class more is declared, or isn't
-
-pub declared_next : (old new : List ClassDef) (class : ClassDef) (test : Bool) → is_stated_class class ≡ true → is_reserved_name class.name ≡ false → declare_fault old class ≡ None
-    → new ≡ old ++ declared old class ∷ [] → (IsTrue test ↔ ((declared old class).bases ≡ class.bases))
-    → MatchBool test (IsDeclared old class × (new ≡ old ++ class ∷ [])) (¬ IsDeclared old class)
-declared_next old new class true stated free allowed grown tells =
-    let d = next_declared old class stated (ap not free) allowed (tells.0 refl) in
-    (d, grown ∙ ap (λ (c : ClassDef). old ++ c ∷ []) (sym d.newest))
-declared_next old new class false stated free allowed grown tells = λ d. let h : false ≡ true = tells.1 (sym (ap (λ (c : ClassDef). c.bases) d.newest)) in cc
-
-pub not_stated : (before : List ClassDef) (class : ClassDef) → is_stated_class class ≡ false → IsDeclared before class → ⊥
-not_stated before class e d = let h : is_stated_class class ≡ true = d.stated in cc
-
-pub not_free : (before : List ClassDef) (class : ClassDef) → is_reserved_name class.name ≡ true → IsDeclared before class → ⊥
-not_free before class e d = let h : not (is_reserved_name class.name) ≡ true = d.free in let f : not (is_reserved_name class.name) ≡ false = ap not e in cc
-
-pub not_allowed : (before : List ClassDef) (class : ClassDef) (e : DeclareFault) → declare_fault before class ≡ Some e → IsDeclared before class → ⊥
-not_allowed before class e fault d = let none = d.allowed in cc
 
 -- ---- a class list that stands for no classes
 
@@ -155,12 +126,6 @@ module _ (r : KeyedRecord) (classes : List ClassDef) where
 
 pub none_yet : (classes : List ClassDef) → DeclaringSoFar classes 0 []
 none_yet classes = record { registry_is = refl; onward = λ all. all; back = λ all. all }
-
-pub short_told : (n m : ℕ) → n ≡ min m (length_limit + 1) → (n ≤ length_limit → m ≤ length_limit) × (m ≤ length_limit → n ≤ length_limit)
-short_told n m is = (λ le. omega (arith, is, le), λ le. omega (arith, is, le))
-
-pub not_in_front : (classes : List ClassDef) → ((declared : List ClassDef) × (classes ≡ written_classes declared) → ⊥) → AreListedForState classes → ⊥
-not_in_front classes none list = none (list.0, list.1)
 
 pub not_declared : (classes declared : List ClassDef) → classes ≡ written_classes declared → (AreDeclared [] declared → ⊥) → AreListedForState classes → ⊥
 not_declared classes declared is none list =

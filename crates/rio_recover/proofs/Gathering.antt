@@ -1,8 +1,7 @@
 -- What is recovered is put together.
-use Rattle.std.proofs.Common.{◌≡◌, ◌∙◌, ℕ, ◌+◌, List, [], ◌∷◌, ◌++◌, map, length, Bool, true, Option, Some, None, Result, Ok, Err, refl, sym, ap, subst}
+use Rattle.std.proofs.Common.{◌≡◌, ◌∙◌, ℕ, ◌+◌, List, [], ◌∷◌, length, Option, Some, None, Ok, refl, sym, ap, subst}
 use Rattle.std.specs.List.Sorted.{IsPermutation}
-use Rattle.std.specs.Option.{option_map, option_map_or}
-use Rattle.rio_types.specs.declared.class.ClassDef.{ClassDef}
+use Rattle.std.specs.Option.{option_map_or}
 use Rattle.rio_key.specs.declared.head.KeyHead.{KeyHead}
 use Rattle.rio_chain.specs.Chains.{HasChain}
 use Rattle.rio_chain.specs.Placing.{file_end}
@@ -10,14 +9,14 @@ use Rattle.rio_chain.specs.Segments.{Link}
 use Rattle.rio_state.specs.Closing.{name_in}
 use Rattle.rio_state.specs.KeyedRecords.{KeyedRecord, info_key, keyed_records, top_keys}
 use Rattle.rio_state.specs.Reads.{info_place}
-use Rattle.rio_state.specs.Reasons.{ReasonAt, room_reasons}
+use Rattle.rio_state.specs.Reasons.{room_reasons}
 use Rattle.rio_recover.specs.Keys.{keyed_by, record_heads}
-use Rattle.rio_recover.specs.Recovered.{AreItemsOf, AreParts, IsGathered, JudgesLinks, garbage_of, place_in, places_left}
+use Rattle.rio_recover.specs.Recovered.{AreItemsOf, AreParts, JudgesLinks, place_in, places_left}
 use Rattle.rio_recover.specs.declared.recovery.ReadState.{ReadState}
 use Rattle.rio_recover.specs.declared.recovery.Recovered.{Recovered}
 use Rattle.rio_recover.specs.declared.walked.Walked.{Walked}
 use Rattle.rio_recover.proofs.Garbage.{garbage_is, info_place_is}
-use Rattle.rio_recover.proofs.Keyed.{head_in, info_head_keyed, info_head_of, info_keyed, keyed_again}
+use Rattle.rio_recover.proofs.Keyed.{head_in, info_keyed, keyed_again}
 use Rattle.rio_recover.proofs.NoTrees.{objects_alone}
 use Rattle.rio_recover.proofs.RoomReasons.{kept_with, room_of}
 use Rattle.rio_recover.proofs.Rooms.{room_same}

@@ -1,12 +1,9 @@
 -- What is told of a list of reasons, one part of the list after the other.
-use Rattle.std.proofs.Common.{◌≡◌, ◌∙◌, ℕ, Bool, true, false, List, [], ◌∷◌, ◌++◌, Some, Result, Ok, Err, refl, sym, ap, subst, slice_get}
-use Rattle.rio_host.specs.Host.{View, Rose}
-use Rattle.rio_chain.specs.Walks.{IsReadCause, IsWalkCause}
-use Rattle.rio_chain.specs.declared.fault.WalkFault.{WalkFault}
-use Rattle.rio_chain.specs.declared.fault.WalkFault.TheVariants.{NoChain, NoMemory as WalkMemory, HostFault as WalkDisk}
+use Rattle.std.proofs.Common.{◌≡◌, ℕ, Bool, true, false, List, [], ◌∷◌, ◌++◌, Some, Result, Ok, Err, refl, sym, subst, slice_get}
+use Rattle.rio_host.specs.Host.{View}
 use Rattle.rio_head.specs.declared.reason.Reason.{Reason}
 use Rattle.rio_state.specs.Reasons.{ReasonAt, reason_at, reason_if}
-use Rattle.rio_recover.specs.Causes.{CallsNoHost, IsRecoverCause, Judges, Obtains, fault_of_walk}
+use Rattle.rio_recover.specs.Causes.{CallsNoHost, IsRecoverCause, Judges, Obtains}
 use Rattle.rio_recover.specs.declared.fault.RecoverFault.{RecoverFault}
 use Rattle.rio_recover.specs.declared.fault.RecoverFault.TheVariants.{BadFile, ReadOnly, NoMemory, HostFault}
 
@@ -31,13 +28,6 @@ judges_on HostFault xs ys P Q j = tt
 pub judges_behind : {X : Type 0} (r : Result X RecoverFault) (xs ys : List ReasonAt) (P : X → Type 0) → xs ≡ [] → Judges r ys P → Judges r (xs ++ ys) P
 judges_behind r xs ys P none j = subst (λ (zs : List ReasonAt). Judges r (zs ++ ys) P) (sym none) j
 
-pub judges_as : {X : Type 0} (r : Result X RecoverFault) (xs : List ReasonAt) (P Q : X → Type 0) → ((x : X) → P x → Q x) → Judges r xs P → Judges r xs Q
-judges_as (Ok x) xs P Q f j = (j.0, f x j.1)
-judges_as (Err (BadFile place kind)) xs P Q f j = j
-judges_as (Err (ReadOnly place reason)) xs P Q f j = j
-judges_as (Err NoMemory) xs P Q f j = tt
-judges_as (Err HostFault) xs P Q f j = tt
-
 pub judges_same : {X : Type 0} (r : Result X RecoverFault) (xs ys : List ReasonAt) (P : X → Type 0) → xs ≡ ys → Judges r xs P → Judges r ys P
 judges_same r xs ys P e j = subst (λ (zs : List ReasonAt). Judges r zs P) e j
 
@@ -55,39 +45,9 @@ obtains_judged (ReadOnly place reason) xs P Q o = absurd o
 obtains_judged NoMemory xs P Q o = tt
 obtains_judged HostFault xs P Q o = tt
 
-pub obtains_as : {X : Type 0} (r : Result X RecoverFault) (P Q : X → Type 0) → ((x : X) → P x → Q x) → Obtains r P → Obtains r Q
-obtains_as (Ok x) P Q f o = f x o
-obtains_as (Err (BadFile place kind)) P Q f o = o
-obtains_as (Err (ReadOnly place reason)) P Q f o = o
-obtains_as (Err NoMemory) P Q f o = tt
-obtains_as (Err HostFault) P Q f o = tt
-
 -- ---- faults of a walk
 
-pub read_obtains : (X : Type 0) {Y : Type 0} (old new : View) (e : WalkFault) (P : Y → Type 0) → IsReadCause {X = X} old new (Err e) → Obtains (Err (fault_of_walk e)) P
-read_obtains X old new (NoChain place) P c = absurd c
-read_obtains X old new WalkMemory P c = tt
-read_obtains X old new WalkDisk P c = tt
-
-pub read_cause : (X Y : Type 0) (old new : View) (e : WalkFault) → IsReadCause {X = X} old new (Err e) → IsRecoverCause {X = Y} old new (Err (fault_of_walk e))
-read_cause X Y old new (NoChain place) c = absurd c
-read_cause X Y old new WalkMemory c = c
-read_cause X Y old new WalkDisk c = c
-
-pub walk_cause : (X Y : Type 0) (old new : View) (e : WalkFault) → IsWalkCause {X = X} old new (Err e) → IsRecoverCause {X = Y} old new (Err (fault_of_walk e))
-walk_cause X Y old new (NoChain place) c = c
-walk_cause X Y old new WalkMemory c = c
-walk_cause X Y old new WalkDisk c = c
-
 -- ---- causes
-
--- the fault of a later call
-pub cause_behind : {X : Type 0} (a b c : View) (r : Result X RecoverFault) → b.disk_faults ≡ a.disk_faults → IsRecoverCause b c r → IsRecoverCause a c r
-cause_behind a b c (Ok x) e h = h ∙ e
-cause_behind a b c (Err (BadFile place kind)) e h = h ∙ e
-cause_behind a b c (Err (ReadOnly place reason)) e h = h ∙ e
-cause_behind a b c (Err NoMemory) e h = h ∙ e
-cause_behind a b c (Err HostFault) e h = subst (λ n. Rose n c.disk_faults) e h
 
 -- the answer of a call behind it that calls no host
 pub cause_alone : {X : Type 0} (a b : View) (r : Result X RecoverFault) → b.disk_faults ≡ a.disk_faults → CallsNoHost r → IsRecoverCause a b r
@@ -103,9 +63,3 @@ cause_alone_on X Y a b (BadFile place kind) e h = e
 cause_alone_on X Y a b (ReadOnly place reason) e h = e
 cause_alone_on X Y a b NoMemory e h = e
 cause_alone_on X Y a b HostFault e h = absurd h
-
-pub cause_on : (X Y : Type 0) (a b : View) (e : RecoverFault) → IsRecoverCause {X = X} a b (Err e) → IsRecoverCause {X = Y} a b (Err e)
-cause_on X Y a b (BadFile place kind) h = h
-cause_on X Y a b (ReadOnly place reason) h = h
-cause_on X Y a b NoMemory h = h
-cause_on X Y a b HostFault h = h

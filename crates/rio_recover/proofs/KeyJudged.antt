@@ -1,8 +1,8 @@
 -- The reasons against one key: those of its name, that of its object, and those beside other keys.
-use Rattle.std.proofs.Common.{◌≡◌, ◌∙◌, ℕ, List, [], ◌∷◌, ◌++◌, length, Bool, true, false, not, ◌&&◌, ◌==◌, cond, Option, Some, None, Result, Ok, Err, refl, sym, ap, slice_get}
+use Rattle.std.proofs.Common.{◌≡◌, ◌∙◌, ℕ, List, [], ◌∷◌, ◌++◌, length, Bool, true, false, not, ◌&&◌, ◌==◌, cond, Option, Some, Result, Err, refl, ap, slice_get}
 use Rattle.std.specs.List.{All}
 use Rattle.std.specs.Option.{is_some}
-use Rattle.std.proofs.lemmas.List.Elements.{All-cons, All-head, All-nil, All-tail}
+use Rattle.std.proofs.lemmas.List.Elements.{All-cons, All-head, All-tail}
 use Rattle.rio_num.specs.Word.{is_item_text}
 use Rattle.rio_key.specs.declared.head.KeyHead.{KeyHead}
 use Rattle.rio_head.specs.declared.reason.Reason.TheVariants.{BadKey, BadName, BadObject}
@@ -13,16 +13,13 @@ use Rattle.rio_state.specs.Reasons.{Beside, ReasonAt, is_bad_object, key_reasons
 use Rattle.rio_recover.specs.Causes.{Judges}
 use Rattle.rio_recover.specs.Checks.{item_reasons}
 use Rattle.rio_recover.specs.declared.fault.RecoverFault.{RecoverFault}
-use Rattle.rio_recover.proofs.Checking.{key_parts, reason_first}
+use Rattle.rio_recover.proofs.Checking.{key_parts}
 use Rattle.rio_recover.proofs.Judging.{judges_behind, judges_on, judges_same, none_if}
 
 -- ---- its name and title
 
 abbrev pub name_reasons : KeyHead → List ReasonAt
 name_reasons head = reason_if (not (is_item_text head.name)) head.seek BadName ++ reason_if (not (length head.title == 0)) head.seek BadKey
-
-pub name_first : (head : KeyHead) → is_item_text head.name ≡ false → slice_get (name_reasons head) 0 ≡ Some (reason_at head.seek BadName)
-name_first head e = reason_first (not (is_item_text head.name)) head.seek BadName (reason_if (not (length head.title == 0)) head.seek BadKey) (ap not e)
 
 behind_name : (head : KeyHead) → is_item_text head.name ≡ true → name_reasons head ≡ reason_if (not (length head.title == 0)) head.seek BadKey
 behind_name head e =
@@ -31,12 +28,6 @@ behind_name head e =
 only_first : (b : Bool) (place : ℕ) → b ≡ true → slice_get (reason_if b place BadKey) 0 ≡ Some (reason_at place BadKey)
 only_first true place e = refl
 only_first false place e = absurd cc
-
-pub title_first : (head : KeyHead) → is_item_text head.name ≡ true → (length head.title == 0) ≡ false → slice_get (name_reasons head) 0 ≡ Some (reason_at head.seek BadKey)
-title_first head e t = ap (λ (xs : List ReasonAt). slice_get xs 0) (behind_name head e) ∙ only_first (not (length head.title == 0)) head.seek (ap not t)
-
-pub name_good : (head : KeyHead) → is_item_text head.name ≡ true → (length head.title == 0) ≡ true → name_reasons head ≡ []
-name_good head e t = behind_name head e ∙ none_if (not (length head.title == 0)) head.seek BadKey (ap not t)
 
 -- ---- its object
 
@@ -73,19 +64,10 @@ module _ (beside : Beside) (r : KeyedRecord) (head : KeyHead) (same : r.head ≡
     whole : {X : Type 0} (result : Result X RecoverFault) (P : X → Type 0) → Judges result (name_reasons r.head ++ (object_reasons ++ item_reasons beside before r)) P → Judges result (key_reasons beside before r) P
     whole result P j = judges_same result (name_reasons r.head ++ (object_reasons ++ item_reasons beside before r)) (key_reasons beside before r) P (key_parts beside before r) j
 
-    pub name_refused : {X Y : Type 0} (e : RecoverFault) (P : X → Type 0) (Q : Y → Type 0) → Judges (Err e) (name_reasons r.head) P → Judges (Err e) (key_reasons beside before r) Q
-    name_refused e P Q j = whole (Err e) Q (judges_on e (name_reasons r.head) (object_reasons ++ item_reasons beside before r) P Q j)
-
     pub object_refused : {X Y : Type 0} (e : RecoverFault) (P : X → Type 0) (Q : Y → Type 0) → name_reasons r.head ≡ [] → Judges (Err e) object_reasons P → Judges (Err e) (key_reasons beside before r) Q
     object_refused e P Q named j =
         whole (Err e) Q
         (judges_behind (Err e) (name_reasons r.head) (object_reasons ++ item_reasons beside before r) Q named (judges_on e object_reasons (item_reasons beside before r) P Q j))
-
-    pub item_judged : {X : Type 0} (result : Result X RecoverFault) (P : X → Type 0) → name_reasons r.head ≡ [] → object_reasons ≡ [] → Judges result (item_reasons beside before r) P
-        → Judges result (key_reasons beside before r) P
-    item_judged result P named object j =
-        whole result P
-        (judges_behind result (name_reasons r.head) (object_reasons ++ item_reasons beside before r) P named (judges_behind result object_reasons (item_reasons beside before r) P object j))
 
 -- ---- the table of those that passed
 

@@ -1,5 +1,5 @@
 -- The records of a file's links, one after the other.
-use Rattle.std.proofs.Common.{◌≡◌, ◌∙◌, ℕ, zero, suc, ◌+◌, ◌-◌, ◌^◌, ◌<◌, ◌≤◌, add-one, pos, List, [], ◌∷◌, ◌++◌, map, length, drop, Option, Some, None, Ok, refl, sym, ap, subst, slice_get, arith}
+use Rattle.std.proofs.Common.{◌≡◌, ◌∙◌, ℕ, zero, suc, ◌+◌, ◌-◌, ◌≤◌, add-one, pos, List, [], ◌∷◌, map, length, drop, Option, Some, None, Ok, refl, sym, ap, subst, slice_get, arith}
 use Rattle.std.proofs.lemmas.List.Elements.{All-cons, All-nil}
 use Rattle.std.specs.List.{All, cons_option}
 use Rattle.std.specs.Int.{w32, cast_signed, cast_unsigned}
@@ -10,11 +10,9 @@ use Rattle.rio_key.proofs.KeyAgain.{key_again, standing}
 use Rattle.rio_key.proofs.Signed.{signed_is}
 use Rattle.rio_key.specs.Key.{key_at, value_of}
 use Rattle.rio_key.specs.declared.head.KeyHead.{KeyHead}
-use Rattle.rio_key.specs.declared.fault.KeyFault.{KeyFault}
 use Rattle.rio_chain.specs.declared.segment.Segment.{Segment}
 use Rattle.rio_chain.specs.declared.segment.Segment.TheVariants.{Record, Gap}
 use Rattle.rio_chain.specs.Adjoining.{AreAdjacent, segment_length, segment_place, segments_end}
-use Rattle.rio_chain.specs.Chains.{HasChain}
 use Rattle.rio_chain.specs.Segments.{Link, RecordAt, GapAt, HoldsLink, HoldsLinks, HoldsRecord, IsRecord, link_length, segment_of}
 use Rattle.rio_chain.proofs.Placed.{end-le}
 use Rattle.rio_chain.proofs.Words.{has_same, held_long, held_positive}

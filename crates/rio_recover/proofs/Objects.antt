@@ -1,6 +1,5 @@
 -- The object of a record, by its key and its bytes.
-use Rattle.std.proofs.Common.{◌≡◌, ◌∙◌, ℕ, List, drop, length, Bool, ◌&&◌, not, Option, Some, None, Result, Ok, Err, refl, sym, ap, cond}
-use Rattle.std.specs.Option.{is_some}
+use Rattle.std.proofs.Common.{◌≡◌, ◌∙◌, ℕ, List, drop, ◌&&◌, Some, None, Ok, Err, refl, sym, ap, cond}
 use Rattle.rio_types.specs.declared.class.ClassDef.{ClassDef}
 use Rattle.rio_value.specs.declared.value.Value.{Value}
 use Rattle.rio_buffer.specs.Frames.{Step}

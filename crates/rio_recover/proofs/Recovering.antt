@@ -1,10 +1,9 @@
 -- What a walked file has, or the first reason against writing to it.
-use Rattle.std.proofs.Common.{◌≡◌, ◌∙◌, ℕ, ◌+◌, ◌^◌, ◌<◌, ◌≤◌, List, [], ◌∷◌, ◌++◌, length, Option, Some, None, Result, Ok, Err, refl, sym, ap, subst, slice_get, arith, Bool, false}
+use Rattle.std.proofs.Common.{◌≡◌, ◌∙◌, ℕ, ◌+◌, ◌^◌, ◌<◌, ◌≤◌, List, [], ◌∷◌, length, Option, Result, Ok, Err, sym, ap, subst, arith, false}
 use Rattle.std.proofs.lemmas.List.Elements.{All-head}
 use Rattle.std.specs.List.{All}
 use Rattle.std.specs.Option.{option_map_or}
 use Rattle.std.specs.Result.{IfOk}
-use Rattle.rio_types.specs.declared.class.ClassDef.{ClassDef}
 use Rattle.rio_key.specs.declared.head.KeyHead.{KeyHead}
 use Rattle.rio_chain.specs.Chains.{HasChain}
 use Rattle.rio_chain.specs.Found.{IsShortKey}
@@ -14,11 +13,11 @@ use Rattle.rio_dir.specs.Table.{AreOrdered}
 use Rattle.rio_dir.specs.Unborn.{is_unborn}
 use Rattle.rio_machine.specs.Limits.{item_limit}
 use Rattle.rio_state.specs.Closing.{KeptRecords, close_need, end_limit, name_in}
-use Rattle.rio_state.specs.KeyedRecords.{KeyedRecord, info_key, keyed_records}
-use Rattle.rio_state.specs.Reasons.{ReasonAt, room_reasons}
+use Rattle.rio_state.specs.KeyedRecords.{info_key, keyed_records}
+use Rattle.rio_state.specs.Reasons.{room_reasons}
 use Rattle.rio_recover.specs.Causes.{Judges}
-use Rattle.rio_recover.specs.Keys.{StandsIn, keyed_by, record_heads}
-use Rattle.rio_recover.specs.Recovered.{AreItemsOf, AreParts, HasRoomBehind, IsAnswer, IsKeptOf, JudgesLinks, JudgesState, kept_by}
+use Rattle.rio_recover.specs.Keys.{keyed_by, record_heads}
+use Rattle.rio_recover.specs.Recovered.{AreItemsOf, AreParts, HasRoomBehind, IsAnswer, IsKeptOf, JudgesLinks, kept_by}
 use Rattle.rio_recover.specs.Walked.{IsWalked}
 use Rattle.rio_recover.specs.declared.fault.RecoverFault.{RecoverFault}
 use Rattle.rio_recover.specs.declared.recovery.ReadState.{ReadState}
@@ -28,7 +27,7 @@ use Rattle.rio_recover.proofs.Answering.{recovered, refused}
 use Rattle.rio_recover.proofs.Gathering.{room_walked}
 use Rattle.rio_recover.proofs.Judging.{judges_same}
 use Rattle.rio_recover.proofs.Keyed.{head_in}
-use Rattle.rio_recover.proofs.RoomReasons.{LeavesRoom, kept_with, leaves_room, room_of}
+use Rattle.rio_recover.proofs.RoomReasons.{kept_with, leaves_room, room_of}
 use Rattle.rio_recover.proofs.StateJudged.{room_refused}
 
 -- the file's name is short enough
@@ -59,10 +58,6 @@ module _ (file : List ℕ) (links : List Link) (walked : Walked) (chain : HasCha
 
   pub some_room : room_of (length state.table.heads) end (kept_with seen state.table.heads others) ≡ [] → room_reasons links ≡ []
   some_room none = sym reasons_same ∙ none
-
--- END is low enough for a chain
-pub low_end : (items end : ℕ) (kept : KeptRecords) → room_of items end kept ≡ [] → end ≤ end_limit
-low_end items end kept none = let r = leaves_room items end kept none in omega (arith, r.low)
 
 pub has_room : (walked : Walked) (name seen : List ℕ) (info : Option KeyHead) (state : ReadState) (r : Recovered) (others end : ℕ) → AreParts walked name info state r → end ≡ file_end walked.segments
     → seen ≡ name → others ≡ 1 + option_map_or (λ h. 1) info 0 → room_of (length state.table.heads) end (kept_with seen state.table.heads others) ≡ [] → HasRoomBehind r

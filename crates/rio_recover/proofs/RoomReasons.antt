@@ -1,9 +1,9 @@
 -- Too many items, and no room for a close.
-use Rattle.std.proofs.Common.{◌≡◌, ◌∙◌, ℕ, ◌+◌, ◌*◌, ◌^◌, ◌<◌, ◌≤◌, List, [], ◌∷◌, ◌++◌, length, codes, Bool, true, false, ltb, Some, refl, sym, ap, slice_get, arith}
+use Rattle.std.proofs.Common.{◌≡◌, ◌∙◌, ℕ, ◌+◌, ◌*◌, ◌<◌, ◌≤◌, List, [], ◌∷◌, ◌++◌, length, codes, Bool, ltb, Some, ap, slice_get, arith}
 use Rattle.std.proofs.lemmas.Bool.{le-ltb, lt-ltb, ltb-false}
 use Rattle.std.proofs.lemmas.List.Elements.{All-head, All-tail}
 use Rattle.std.proofs.lemmas.List.Sums.{sum_by-cons}
-use Rattle.std.specs.List.{All, sum_by}
+use Rattle.std.specs.List.{All}
 use Rattle.rio_key.specs.Written.{written_key}
 use Rattle.rio_key.specs.declared.head.KeyHead.{KeyHead}
 use Rattle.rio_head.specs.declared.reason.Reason.TheVariants.{NoRoom, TooMany}
@@ -45,10 +45,6 @@ need_by name heads others size count n sized counted is =
     is
     ∙ (λ i. padded_length (head_length (codes "TFile") name + 4 + sized i) + padded_length (head_length (codes "TFile") name + 10 * (counted i + 2)))
     ∙ need_is name heads others
-
-pub room_many : (items end : ℕ) (kept : KeptRecords) → item_limit < items → slice_get (room_of items end kept) 0 ≡ Some (reason_at 0 TooMany)
-room_many items end kept lt =
-    ap (λ (b : Bool). slice_get (reason_if b 0 TooMany ++ reason_if (ltb end_limit (end + close_need kept)) 0 NoRoom) 0) (lt-ltb item_limit items lt)
 
 few_items : (items : ℕ) → items ≤ item_limit → reason_if (ltb item_limit items) 0 TooMany ≡ []
 few_items items le = none_if (ltb item_limit items) 0 TooMany (le-ltb item_limit items le)

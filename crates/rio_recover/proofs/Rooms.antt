@@ -1,16 +1,13 @@
 -- Whether there is room behind what was walked.
-use Rattle.std.proofs.Common.{◌≡◌, ◌∙◌, ℕ, ◌+◌, ◌*◌, ◌^◌, ◌<◌, ◌≤◌, List, [], ◌∷◌, ◌++◌, map, length, codes, Bool, true, false, cond, ltb, Option, Some, None, refl, sym, ap, subst, arith}
+use Rattle.std.proofs.Common.{◌≡◌, ◌∙◌, ℕ, ◌+◌, ◌*◌, List, [], ◌∷◌, ◌++◌, map, length, codes, ltb, refl, sym, ap}
 use Rattle.std.proofs.lemmas.List.{length-map}
-use Rattle.std.proofs.lemmas.List.Elements.{All-head, All-tail}
 use Rattle.std.proofs.lemmas.List.Sorted.{length_permutation, sum_by-IsPermutation}
-use Rattle.std.specs.List.{All, sum_by}
-use Rattle.std.specs.List.Sorted.{IsPermutation}
-use Rattle.std.specs.Option.{option_map, option_map_or}
+use Rattle.std.specs.List.{sum_by}
+use Rattle.std.specs.Option.{option_map_or}
 use Rattle.rio_types.specs.declared.class.ClassDef.{ClassDef}
 use Rattle.rio_key.specs.Written.{written_key}
 use Rattle.rio_key.specs.declared.head.KeyHead.{KeyHead}
 use Rattle.rio_head.specs.declared.reason.Reason.TheVariants.{NoRoom, TooMany}
-use Rattle.rio_chain.specs.Found.{IsShortKey}
 use Rattle.rio_chain.specs.Adjoining.{segment_length, segments_end}
 use Rattle.rio_chain.specs.Placing.{file_end}
 use Rattle.rio_chain.specs.Segments.{GapAt, Link, RecordAt, chain_end, end_from, link_length, segment_of}
@@ -18,12 +15,12 @@ use Rattle.rio_chain.specs.declared.segment.Segment.{Segment}
 use Rattle.rio_dir.specs.Table.{heads_size}
 use Rattle.rio_machine.specs.Limits.{head_length, item_limit}
 use Rattle.rio_state.specs.Closing.{KeptRecords, close_need, end_limit, item_heads, kept_count, kept_in, name_in, padded_length}
-use Rattle.rio_state.specs.KeyedRecords.{KeyedRecord, info_key, keyed_records, top_keys}
-use Rattle.rio_state.specs.Reasons.{ReasonAt, items_among, reason_if, room_reasons}
+use Rattle.rio_state.specs.KeyedRecords.{info_key, keyed_records, top_keys}
+use Rattle.rio_state.specs.Reasons.{items_among, reason_if, room_reasons}
 use Rattle.rio_recover.specs.Keys.{record_heads}
 use Rattle.rio_recover.specs.Recovered.{AreItemsOf}
 use Rattle.rio_recover.proofs.RoomReasons.{kept_with, room_of}
-use Rattle.rio_recover.proofs.NoTrees.{HasObjects, item_heads_are, items_are, objects_alone}
+use Rattle.rio_recover.proofs.NoTrees.{item_heads_are, items_are, objects_alone}
 
 -- ---- lengths
 

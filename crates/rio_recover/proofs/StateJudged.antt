@@ -1,6 +1,6 @@
 -- What is told of a file's records, by the tests of their keys and of the class list.
-use Rattle.std.proofs.Common.{◌≡◌, ◌∙◌, ℕ, ◌+◌, List, [], ◌∷◌, ◌++◌, Bool, true, false, MatchBool, Option, Some, None, Result, Ok, Err, refl, sym, ap, slice_get}
-use Rattle.std.specs.Option.{option_map, option_map_or}
+use Rattle.std.proofs.Common.{◌≡◌, ◌∙◌, ℕ, List, [], ◌++◌, Bool, true, false, MatchBool, Option, Some, None, Err, refl, sym, ap, slice_get}
+use Rattle.std.specs.Option.{option_map_or}
 use Rattle.std.specs.List.Sorted.{IsPermutation}
 use Rattle.rio_types.specs.declared.class.ClassDef.{ClassDef}
 use Rattle.rio_key.specs.declared.head.KeyHead.{KeyHead}
@@ -13,7 +13,7 @@ use Rattle.rio_recover.specs.Causes.{Judges, Obtains}
 use Rattle.rio_recover.specs.Checks.{beside_of}
 use Rattle.rio_recover.specs.Classes.{AreClassesOf}
 use Rattle.rio_recover.specs.Keys.{record_heads}
-use Rattle.rio_recover.specs.Recovered.{AreItemsOf, IsTold, JudgesLinks, JudgesState}
+use Rattle.rio_recover.specs.Recovered.{AreItemsOf, JudgesLinks, JudgesState}
 use Rattle.rio_recover.specs.declared.fault.RecoverFault.{RecoverFault}
 use Rattle.rio_recover.specs.declared.fault.RecoverFault.TheVariants.{BadFile, ReadOnly, NoMemory, HostFault}
 use Rattle.rio_recover.proofs.Judging.{first_in, judges_on}

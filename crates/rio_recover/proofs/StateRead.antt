@@ -1,12 +1,12 @@
 -- The class list that counts among keys and among records.
-use Rattle.std.proofs.Common.{◌≡◌, ◌∙◌, ℕ, ◌≤◌, List, [], ◌∷◌, ◌++◌, length, Bool, true, false, cond, ltb, Option, Some, None, refl, sym, ap, subst}
+use Rattle.std.proofs.Common.{◌≡◌, ◌∙◌, List, [], ◌∷◌, Bool, true, false, cond, ltb, Option, Some, None, refl, sym, ap, subst}
 use Rattle.std.specs.List.{All}
 use Rattle.std.specs.Option.{IfSome, option_map_or}
 use Rattle.std.proofs.lemmas.List.Elements.{All-head, All-tail}
 use Rattle.rio_host.specs.Host.{IsWithin, View}
 use Rattle.rio_key.specs.declared.head.KeyHead.{KeyHead}
 use Rattle.rio_state.specs.KeyedRecords.{KeyedRecord, info_key, is_info_key, later_info}
-use Rattle.rio_state.specs.Reasons.{ReasonAt, directory_reasons}
+use Rattle.rio_state.specs.Reasons.{directory_reasons}
 use Rattle.rio_recover.specs.Keys.{AreWithin, keyed_by, record_end, record_heads}
 use Rattle.rio_recover.specs.Recovered.{place_in}
 use Rattle.rio_recover.proofs.Keyed.{directory_keyed, head_in, info_head_keyed, info_head_of, later_head}

@@ -1,8 +1,8 @@
 -- A file that is walked: its header, and the keys of its records.
-use Rattle.std.proofs.Common.{◌≡◌, ◌∙◌, ℕ, zero, suc, ◌+◌, ◌^◌, ◌<◌, ◌≤◌, min, List, [], ◌∷◌, ◌++◌, append_assoc, map, length, length-take, take, drop, Option, Some, None, Result, Ok, Err, refl, sym, ap, subst, slice_get, arith}
+use Rattle.std.proofs.Common.{◌≡◌, ◌∙◌, ℕ, ◌<◌, ◌≤◌, min, List, [], ◌∷◌, ◌++◌, append_assoc, length, length-take, take, drop, Option, Some, None, Ok, Err, sym, ap, arith}
 use Rattle.std.proofs.lemmas.Bool.{le-leb, lt-leb}
 use Rattle.std.proofs.lemmas.List.Elements.{All-cons, All-nil, All-head, All-tail}
-use Rattle.std.specs.List.{All, cons_option}
+use Rattle.std.specs.List.{All}
 use Rattle.rio_host.specs.Host.{View}
 use Rattle.rio_host.specs.Image.{Has}
 use Rattle.rio_host.specs.OnlyReads.{OnlyReads}
@@ -13,7 +13,7 @@ use Rattle.rio_head.specs.declared.head.FileHead.{FileHead}
 use Rattle.rio_chain.specs.Chains.{HasChain}
 use Rattle.rio_chain.specs.Found.{FindsKeyAt, IsShortKey}
 use Rattle.rio_chain.specs.Segments.{HoldsRecord, Link, RecordAt}
-use Rattle.rio_chain.specs.Walks.{IsReadCause, TellsFirstBreak}
+use Rattle.rio_chain.specs.Walks.{TellsFirstBreak}
 use Rattle.rio_chain.specs.declared.fault.WalkFault.{WalkFault}
 use Rattle.rio_chain.specs.declared.fault.WalkFault.TheVariants.{NoChain, NoMemory as WalkMemory, HostFault as WalkDisk}
 use Rattle.rio_chain.specs.declared.segment.Segment.{Segment}
@@ -21,11 +21,9 @@ use Rattle.rio_chain.proofs.Words.{has_own, has_same}
 use Rattle.rio_state.specs.KeyedRecords.{KeyedRecord, keyed_records, record_in_link}
 use Rattle.rio_head.specs.declared.reason.Reason.TheVariants.{LargeForm}
 use Rattle.rio_state.specs.Reasons.{IsReasonOfMade, reason_at}
-use Rattle.rio_recover.specs.Causes.{Obtains, fault_of_walk}
+use Rattle.rio_recover.specs.Causes.{fault_of_walk}
 use Rattle.rio_recover.specs.Keys.{StandsIn, record_end, record_heads}
-use Rattle.rio_recover.specs.Walked.{IsSmallHead, JudgesHead, JudgesWalk}
-use Rattle.rio_recover.specs.declared.fault.RecoverFault.{RecoverFault}
-use Rattle.rio_recover.specs.declared.fault.RecoverFault.TheVariants.{BadFile, ReadOnly, NoMemory, HostFault}
+use Rattle.rio_recover.specs.Walked.{IsSmallHead, JudgesWalk}
 use Rattle.rio_recover.proofs.Answering.{reason_broken, reason_large}
 use Rattle.rio_recover.proofs.LinkRecords.{end_of_record, link_record}
 
@@ -47,29 +45,12 @@ large_by_front file seen head same is large = reason_large file head (sym same �
 pub small_by_front : (file seen : List ℕ) (head : FileHead) → head_at seen ≡ head_at file → Ok head ≡ head_at seen → head.version < 1000000 → IsSmallHead file head
 small_by_front file seen head same is small = record { head_is = sym same ∙ sym is; small = lt-leb 1000000 head.version small }
 
-pub head_unread : (X : Type 0) (old new : View) (e : WalkFault) (file : List ℕ) → IsReadCause {X = X} old new (Err e) → JudgesHead (Err (fault_of_walk e)) file
-head_unread X old new (NoChain place) file c = absurd c
-head_unread X old new WalkMemory file c = tt
-head_unread X old new WalkDisk file c = tt
-
 -- ---- the walk
-
-pub head_refused : (e : RecoverFault) (file : List ℕ) → JudgesHead (Err e) file → JudgesWalk (Err e) file
-head_refused (BadFile place kind) file j = j
-head_refused (ReadOnly place reason) file j = j
-head_refused NoMemory file j = tt
-head_refused HostFault file j = tt
 
 pub walk_judged : (v : View) (e : WalkFault) (file : List ℕ) (head : FileHead) → v.holds ≡ Some file → IsSmallHead file head → TellsFirstBreak v e → JudgesWalk (Err (fault_of_walk e)) file
 walk_judged v (NoChain place) file head told small breaks = reason_broken file head place small (breaks file told)
 walk_judged v WalkMemory file head told small breaks = tt
 walk_judged v WalkDisk file head told small breaks = tt
-
-pub heads_unread : {X : Type 0} (e : RecoverFault) (file : List ℕ) (P : X → Type 0) → Obtains (Err e) P → JudgesWalk (Err e) file
-heads_unread (BadFile place kind) file P o = absurd o
-heads_unread (ReadOnly place reason) file P o = absurd o
-heads_unread NoMemory file P o = tt
-heads_unread HostFault file P o = tt
 
 -- ---- the key of a record
 

@@ -1,5 +1,5 @@
 -- Why a call of this crate fails, and what it tells of a file.
-use Rattle.std.specs.Prelude.{◌≡◌, ℕ, List, [], Some, Result, Ok, Err, slice_get}
+use Rattle.std.specs.Prelude.{◌≡◌, List, [], Some, Result, Ok, Err, slice_get}
 use Rattle.rio_head.specs.declared.reason.Reason.TheVariants.{NoChain}
 use Rattle.rio_host.specs.Host.{View, Rose}
 use Rattle.rio_chain.specs.declared.fault.WalkFault.{WalkFault}

@@ -1,5 +1,5 @@
 -- The keys of objects and trees while they are checked one after the other.
-use Rattle.std.specs.Prelude.{◌≡◌, List, ◌++◌}
+use Rattle.std.specs.Prelude.{List, ◌++◌}
 use Rattle.std.specs.List.{list_any}
 use Rattle.std.specs.List.Sorted.{IsPermutation}
 use Rattle.rio_types.specs.declared.class.ClassDef.{ClassDef}

@@ -1,4 +1,4 @@
-use Rattle.std.proofs.Common.{◌≡◌, ◌∷◌, ◌++◌, [], List, sym, subst}
+use Rattle.std.proofs.Common.{◌≡◌, ◌∷◌, ◌++◌, [], sym, subst}
 use Rattle.std.specs.Prelude.{MatchBool}
 use Rattle.rio_model.specs.StateClasses.{IsDeclared}
 use Rattle.rio_recover.proofs.Declared.{DeclaringSoFar, all_declared, none_declared, none_yet, one_declared}

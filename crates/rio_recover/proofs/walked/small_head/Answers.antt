@@ -1,6 +1,5 @@
-use Rattle.std.proofs.Common.{◌≡◌, ◌∙◌, min, length, sym, ap, arith}
+use Rattle.std.proofs.Common.{◌≡◌, ◌∙◌, min, length, sym, arith}
 use Rattle.std.proofs.lemmas.Result.{err_from_is_err_and}
-use Rattle.rio_head.specs.Head.{head_at}
 use Rattle.rio_recover.proofs.Walking.{head_by_front, large_by_front, small_by_front}
 use Rattle.rio_recover.proofs.walked.small_head.Goals as goal
 

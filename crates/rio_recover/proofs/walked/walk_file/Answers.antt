@@ -1,4 +1,4 @@
-use Rattle.std.proofs.Common.{◌≡◌, ◌∙◌, ◌≤◌, length, refl, sym, subst}
+use Rattle.std.proofs.Common.{◌∙◌, ◌≤◌, length, refl, sym, subst}
 use Rattle.std.proofs.lemmas.Result.{err_from_is_err_and}
 use Rattle.std.specs.List.{All}
 use Rattle.rio_chain.specs.Chains.{HasChain}

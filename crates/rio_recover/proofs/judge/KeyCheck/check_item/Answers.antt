@@ -1,11 +1,8 @@
-use Rattle.std.proofs.Common.{◌≡◌, ◌∙◌, ◌++◌, ◌∷◌, [], Bool, List, false, sym, subst}
+use Rattle.std.proofs.Common.{◌≡◌, ◌∙◌, false, sym, subst}
 use Rattle.std.specs.List.{All}
 use Rattle.rio_chain.specs.Found.{IsShortKey}
 use Rattle.rio_dir.specs.Table.{with_head}
-use Rattle.rio_key.specs.declared.head.KeyHead.{KeyHead}
-use Rattle.rio_state.specs.KeyedRecords.{KeyedRecord}
-use Rattle.rio_state.specs.Reasons.{Beside, is_bad_tree}
-use Rattle.rio_recover.specs.Checks.{IsChecking}
+use Rattle.rio_state.specs.Reasons.{is_bad_tree}
 use Rattle.rio_recover.proofs.Checking.{double_told, mixed_is, mixed_told, no_item_reason, old_tree, other_kind, passed_more, put_there, single, tree_told}
 use Rattle.rio_recover.proofs.KeyJudged.{all_with}
 use Rattle.rio_recover.proofs.judge.KeyCheck.check_item.Goals.{else-is_tree_key-via-then-is_tree_key+else-not-is_outdated, else-is_tree_key-via-else-is_tree_key}
