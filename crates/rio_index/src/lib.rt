@@ -10,6 +10,3 @@ mod search;
 
 pub use basket_at::{BasketAt, Baskets};
 pub use search::basket_of;
-
-#[cfg(test)]
-mod tests;
