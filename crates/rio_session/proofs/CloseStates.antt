@@ -11,9 +11,10 @@ use Rattle.rio_chain.specs.Chains.{HasChain}
 use Rattle.rio_chain.specs.declared.segment.Segment.{Segment}
 use Rattle.rio_machine.specs.State.{State, Tree, name_order}
 use Rattle.rio_machine.specs.declared.command.Command.TheVariants.{Save}
+use Rattle.rio_state.specs.Closing.{kept_in}
 use Rattle.rio_state.specs.DirectoryKeys.{AreKeysOf}
-use Rattle.rio_state.specs.KeyedRecords.{keyed_records}
-use Rattle.rio_state.specs.Left.{HasOpenHead, IsLeftAs}
+use Rattle.rio_state.specs.KeyedRecords.{info_key, keyed_records}
+use Rattle.rio_state.specs.Left.{HasOpenHead, IsLeftAs, info_head}
 use Rattle.rio_state.specs.Reads.{ReadsAsState, ReadsClosed}
 use Rattle.rio_step.specs.Runs.{closed_of, closing_saves, has_pending, states_of_run}
 use Rattle.rio_step.specs.Step.{state_behind}
@@ -45,6 +46,12 @@ module _ (v : View) (s : SessionState) (m : State) (text : List ℕ) (stands : S
     info = info ∙ stands.state.info;
   }
 
+  -- under the name that is kept
+  pub open_named : (f : OpenFile) (segments : f.segments ≡ s.segments) (heads : f.heads ≡ s.heads) (info : f.info ≡ s.info) (nbytes_name : f.nbytes_name ≡ s.nbytes_name)
+      → (kept_in (holds_open f segments heads info nbytes_name).links).name ≡ s.name
+  unfolding holds_open
+  open_named f segments heads info nbytes_name = stands.state.name
+
   -- no tree has pending rows, so the first state of the close is the last
   begins : (image said : List ℕ) → StaysAs v m image said → ClosesAs m text image said
   unfolding states_of_run
@@ -71,14 +78,18 @@ module _ (v : View) (s : SessionState) (m : State) (text : List ℕ) (stands : S
 
 -- what is written
 pub closes_file : (old new : View) (s : SessionState) (m : State) (f : OpenFile) (r : CloseRecords) (held : HoldsOpen old f m) → f ≡ open_file s → AreCloseRecords f r → HoldsClosedWith new f held.links r held.file → IsClosable s.segments s.heads s.name
-    → ClosesFile old new s
-closes_file old new s m f r held same made written kept = record {
+    → (kept_in held.links).name ≡ s.name → ClosesFile old new s
+closes_file old new s m f r held same made written kept named = record {
   records = r;
   made = subst (λ (g : OpenFile). AreCloseRecords g r) same made;
   file = held.file;
   holds = held.holds;
   links = held.links;
   chain = subst (λ (g : OpenFile). HasChain held.links g.segments held.file) same held.chain;
+  head = subst (λ (g : OpenFile). HasOpenHead held.file g.nbytes_name) same held.head;
+  keys = subst (λ (g : OpenFile). AreKeysOf (keyed_records held.links) g.heads) same held.keys;
+  info = subst (λ (g : OpenFile). g.info ≡ info_head (info_key (keyed_records held.links))) same held.info;
+  named = named;
   owned = kept.owned;
   written = subst (λ (g : OpenFile). HoldsClosedWith new g held.links r held.file) same written;
 }
@@ -97,6 +108,10 @@ holds_closed_file old new s file is told = record {
   before = is.file;
   links = is.links;
   chain = is.chain;
+  head = is.head;
+  keys = is.keys;
+  info = is.info;
+  named = is.named;
   owned = is.owned;
   written = subst (λ (l : List ℕ). IsClosedWith (open_file s) is.links is.records is.file l) (same_Some is.written.file file (sym is.written.holds ∙ told)) is.written.written;
 }

@@ -4,6 +4,10 @@ use Rattle.std.specs.List.{list_all}
 use Rattle.rio_host.specs.Host.{View}
 use Rattle.rio_chain.specs.Chains.{HasChain}
 use Rattle.rio_chain.specs.Segments.{Link}
+use Rattle.rio_state.specs.Closing.{kept_in}
+use Rattle.rio_state.specs.DirectoryKeys.{AreKeysOf}
+use Rattle.rio_state.specs.KeyedRecords.{info_key, keyed_records}
+use Rattle.rio_state.specs.Left.{HasOpenHead, info_head}
 use Rattle.rio_close.specs.Leaving.{HoldsClosedWith, IsClosedWith}
 use Rattle.rio_close.specs.Written.{AreCloseRecords, OpenFile}
 use Rattle.rio_close.specs.declared.parts.CloseRecords.{CloseRecords}
@@ -14,8 +18,9 @@ use Rattle.rio_session.specs.Session.{SessionState}
 abbrev pub open_file : SessionState → OpenFile
 open_file s = record { segments = s.segments; heads = s.heads; info = s.info; name = s.name; nbytes_name = s.nbytes_name; datime = s.datime }
 
--- The file is written as the session keeps it, with its name and time. Before the close each of its records is the first one or
--- one that the key list names, so behind it there is no other but these, the key list and the free record.
+-- The file is written as the session keeps it, with its name and time: its header, its keys, its class list and its name were those that
+-- the session keeps. Before the close each of its records is the first one or one that the key list names, so behind it there is no other
+-- but these, the key list and the free record.
 pub record ClosesFile (old new : View) (s : SessionState) : Type 0 where
   pub records : CloseRecords
   pub made : AreCloseRecords (open_file s) records
@@ -23,11 +28,15 @@ pub record ClosesFile (old new : View) (s : SessionState) : Type 0 where
   pub holds : old.holds ≡ Some file
   pub links : List Link
   pub chain : HasChain links s.segments file
+  pub head : HasOpenHead file s.nbytes_name
+  pub keys : AreKeysOf (keyed_records links) s.heads
+  pub info : s.info ≡ info_head (info_key (keyed_records links))
+  pub named : (kept_in links).name ≡ s.name
   pub owned : list_all (is_owned s.heads) s.segments ≡ true
   pub written : HoldsClosedWith new (open_file s) links records file
 
--- A file of this name that was closed at this time, without garbage: before its close, as it was kept, each of its records was the
--- first one or one that the key list names.
+-- A file of this name that was closed at this time, without garbage: what was kept of it was what it was, and before its close each of
+-- its records was the first one or one that the key list names.
 pub record IsWellClosed (name : List ℕ) (datime : ℕ) (file : List ℕ) : Type 0 where
   pub kept : OpenFile
   pub name_is : kept.name ≡ name
@@ -37,5 +46,9 @@ pub record IsWellClosed (name : List ℕ) (datime : ℕ) (file : List ℕ) : Typ
   pub before : List ℕ
   pub links : List Link
   pub chain : HasChain links kept.segments before
+  pub head : HasOpenHead before kept.nbytes_name
+  pub keys : AreKeysOf (keyed_records links) kept.heads
+  pub info : kept.info ≡ info_head (info_key (keyed_records links))
+  pub named : (kept_in links).name ≡ kept.name
   pub owned : list_all (is_owned kept.heads) kept.segments ≡ true
   pub written : IsClosedWith kept links records before file

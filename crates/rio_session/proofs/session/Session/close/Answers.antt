@@ -8,7 +8,7 @@ use Rattle.rio_session.specs.Closes.{open_file}
 use Rattle.rio_session.specs.Kept.{IsSoundState}
 use Rattle.rio_session.specs.Session.{SessionState}
 use Rattle.rio_session.proofs.CloseRoom.{fits_all, need_low}
-use Rattle.rio_session.proofs.CloseStates.{closes_file, closing_time, holds_open, leaves_closed, same_file}
+use Rattle.rio_session.proofs.CloseStates.{closes_file, closing_time, holds_open, leaves_closed, open_named, same_file}
 use Rattle.rio_session.proofs.session.Session.close.Goals as goal
 
 pub close_records-requires-clause-heads : goal.close_records-requires-clause-heads
@@ -93,3 +93,4 @@ returns-clause-written g c m text stands =
     let same : f ≡ open_file c.args.self = same_file f (open_file c.args.self) segments heads info (c.as_slice.ensures ∙ ap (λ (s : SessionState). s.name) c.self.view_is) nbytes_name (ap (λ (s : SessionState). s.datime) c.self.view_is) in
     let sound : IsSoundState c.args.self = subst IsSoundState c.self.view_is (record { none = c.self.invariant.no_classes; listless = c.self.invariant.no_list; kept = c.self.invariant.kept }) in
     closes_file (g.H.Host.view c.args.host.now) (g.H.Host.view c.write_close.new.host) c.args.self m f c.in_ok-records.records held same c.in_ok-records.ensures (c.in_ok-write_close.ensures.written f m ready) (sound.kept c.requires.fresh)
+    (open_named (g.H.Host.view c.args.host.now) c.args.self m text stands f segments heads info nbytes_name)
