@@ -200,7 +200,7 @@ fn recover_walked<H: Host>(
     let heads = walked.heads.as_slice();
     let info = copy_of(info_head(heads))?;
     let state = read_state(alloc, host, heads, info.as_ref())?;
-    // The table has them in the order of the key list.
+    // Looked at so that its order is known to the proof.
     let _ordered = state.table.as_slice();
     let name = name_of(alloc, heads)?;
     let end = end_of(walked.segments.as_slice());

@@ -139,8 +139,8 @@ pub record Begins (old : View) (file text : List ℕ) (m : State) : Type 0 where
 
 -- Wherever it is stopped, whatever it answers, it leaves a prefix of the run. What it said is a front of all replies, and where file
 -- and commands leave room for them, none of these is want of room. Where it says that it is done it is, and the file was closed under
--- its name and time, without garbage; where it ends early it doesn't close the file. Until all of the input was read it
--- doesn't touch the file, nor says anything of it, of a disk fault or of its text.
+-- its name and time, without garbage; where it ends early it doesn't close the file. Where not all of the input was read, nothing was
+-- written and no call looked at the file, and no answer tells of the file, its disk or its text.
 pub record KeepsHeadline (work : Work) (old new : View) (before after : Input) (status : Status) : Type 0 where
   pub stops : (file text input : List ℕ) (m : State) → Begins old file text m → before.remaining ≡ Some input
       → Elapses old new (IsStopOf (run_of_work work input m) file text)
