@@ -1,6 +1,6 @@
 //! A closed file: its header, its directory record and its key list, read and written.
-//! [`open_closed`] reads them. [`close_records`] makes what a close writes, as long as
-//! [`close_length`] says, and [`write_close`] writes it: the key list, the free record, fields of
+//! [`open_closed`] reads them. [`close_records`] makes what a close writes, where there is room for
+//! what [`close_length`] says, and [`write_close`] writes it: the key list, the free record, fields of
 //! header and directory record, and last of all the word that says where the file ends. A stop at
 //! any moment leaves a file that reads as before, and that is marked as open or closed whole.
 //!

@@ -1,7 +1,6 @@
 //! A new file. [`create`] makes one where none is made yet: the header and the first record are
 //! written behind a zero word and reach the disk before the word `root` does, so that a stop at any
-//! moment leaves a file that isn't made yet, or the whole new one, and both read as the empty
-//! state.
+//! moment leaves a file that reads as the empty state, and that isn't made yet or is marked as open.
 //!
 //! `specs/NewFile.antt` says what a new file is, byte for byte, and what it stands for;
 //! `specs/Creation.antt` what a stop leaves and why a file could not be made.

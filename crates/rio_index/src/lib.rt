@@ -10,3 +10,6 @@ mod search;
 
 pub use basket_at::{BasketAt, Baskets};
 pub use search::basket_of;
+
+#[cfg(test)]
+mod tests;
