@@ -43,6 +43,13 @@ s;1 TObjString' ""
 "$program" dump a.root 's;2' </dev/null >said 2>told
 check "dump of what it left" $? 0 's;2 TObjString#1{TObject#1{fUniqueID: 0, fBits: 0}, fString: "ho"}' ""
 
+"$program" scan a.root s </dev/null >said 2>told
+check "scan of an object" $? 0 'no 6 NotATree' ""
+"$program" scan a.root t </dev/null >said 2>told
+check "scan of what isn't there" $? 0 'no 3 NoSuchName' ""
+"$program" scan a.root t P#1 </dev/null >said 2>told
+check "scan as a class" $? 1 "" "rootio: usage: rootio VERB FILE ARG..."
+
 # A made file isn't opened yet: it stays as it is.
 cp a.root kept.root
 "$program" run a.root <script >said 2>told
@@ -95,9 +102,28 @@ done >script
 "$program" dump e.root n999 </dev/null >said 2>told
 check "the last of a thousand" $? 0 'n999;1 TObjString#1{TObject#1{fUniqueID: 0, fBits: 0}, fString: "999"}' ""
 
+# Trees in files that another writer made, one of them of the large form with baskets past 2 GB (a sparse file).
+long=$(printf '%300s' '' | tr ' ' z)
+rows="branch nested refused SubBranches
+ok scan T 3
+0 [-5, \"a\\\"b\", 0, [], [1, 65535], false, Hit#1{id: 7, charge: 0x3f800000}, []]
+1 [6, \"\", 2, [0x3f800000, 0x40000000], [2, 3], true, Hit#1{id: 8, charge: 0x00000000}, [1, -1]]
+2 [2147483647, \"$long\", 1, [0x40400000], [0, 0], true, Hit#1{id: -9, charge: 0x00000001}, [2]]"
+for form in small large; do
+    python3 "$top/bench/tree_file.py" f.root $form || fail "a $form file isn't made"
+    "$program" scan f.root T </dev/null >said 2>told
+    check "scan of a $form file" $? 0 "$rows" ""
+    "$program" dump f.root T </dev/null >said 2>told
+    check "a tree of a $form file" $? 0 "T;1 TTree 3" ""
+done
+"$program" scan f.root s </dev/null >said 2>told
+check "scan of an object" $? 0 "no 6 NotATree" ""
+"$program" scan f.root U </dev/null >said 2>told
+check "scan of no tree" $? 0 "no 3 NoSuchName" ""
+
 # A folder is no file.
 mkdir c.root
 "$program" run c.root <script >said 2>told
 check "a folder" $? 3 "" "rootio: disk fault"
 
-echo "script: a real file is made, listed and dumped"
+echo "script: a real file is made, listed and dumped, and trees are scanned"

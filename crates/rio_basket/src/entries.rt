@@ -1,5 +1,5 @@
 //! The entries of a basket that is read.
-ghost use Rattle.std.specs.Prelude.{◌≡◌, ◌+◌, ◌<◌, ◌≤◌, length, true, false, slice_range};
+ghost use Rattle.std.specs.Prelude.{◌≡◌, ◌+◌, ◌<◌, ◌≤◌, ◌^◌, length, true, false, slice_range};
 ghost use Rattle.rio_basket.specs.Entries.{entry_length, entry_of, entries_in, entries_of, offset_at, offset_behind, offset_place};
 ghost use Rattle.rio_basket.specs.Laid.{AreOffsets, IsLaid, IsWithin};
 ghost use Rattle.rio_basket.specs.Stored.{GivesBasket};
@@ -14,7 +14,8 @@ use std::marker::Model;
 // Where the k-th entry begins.
 fn offset_at(layout: &Layout, bytes: &[u8], k: u32) -> usize
     requires { offset_place layout.now k + 4 ≤ length bytes.now }
-    ensures { result ≡ offset_at layout.now bytes.now k }
+    ensures same { result ≡ offset_at layout.now bytes.now k }
+    ensures short { result < 2 ^ 32 }
 {
     number_there(bytes, offset_place(layout, k)) as usize
 }
@@ -23,7 +24,8 @@ fn offset_at(layout: &Layout, bytes: &[u8], k: u32) -> usize
 fn offset_behind(layout: &Layout, bytes: &[u8], k: u32) -> usize
     requires inside { k < layout.now.count }
     requires laid { AreOffsets layout.now bytes.now }
-    ensures { result ≡ offset_behind layout.now bytes.now k }
+    ensures same { result ≡ offset_behind layout.now bytes.now k }
+    ensures short { result < 2 ^ 32 }
 {
     if k + 1 == layout.count {
         layout.last as usize
@@ -32,23 +34,35 @@ fn offset_behind(layout: &Layout, bytes: &[u8], k: u32) -> usize
     }
 }
 
+// The bytes from a place to another.
+fn bytes_between(bytes: &[u8], from: usize, to: usize) -> &[u8]
+    requires rises { from ≤ to }
+    requires within { to ≤ length bytes.now }
+    ensures same { result.now ≡ slice_range bytes.now from to }
+    ensures short { length result.now ≤ to }
+{
+    &bytes[from..to]
+}
+
 // The k-th entry of a basket with offsets.
 fn entry_between<'a>(layout: &Layout, bytes: &'a [u8], k: u32) -> &'a [u8]
     requires inside { k < layout.now.count }
     requires within { IsWithin layout.now bytes.now }
     requires laid { AreOffsets layout.now bytes.now }
-    ensures { result.now ≡ entry_of true layout.now bytes.now k }
+    ensures same { result.now ≡ entry_of true layout.now bytes.now k }
+    ensures short { length result.now < 2 ^ 32 }
 {
     let from = offset_at(layout, bytes, k);
     let to = offset_behind(layout, bytes, k);
-    &bytes[from..to]
+    bytes_between(bytes, from, to)
 }
 
 // The k-th of entries of one length.
 fn equal_entry<'a>(layout: &Layout, bytes: &'a [u8], k: u32) -> &'a [u8]
     requires inside { k < layout.now.count }
     requires within { IsWithin layout.now bytes.now }
-    ensures { result.now ≡ entry_of false layout.now bytes.now k }
+    ensures same { result.now ≡ entry_of false layout.now bytes.now k }
+    ensures short { length result.now < 2 ^ 32 }
 {
     let each = (layout.last - layout.first) as usize / layout.count as usize;
     let from = layout.first as usize + k as usize * each;
@@ -59,7 +73,8 @@ fn equal_entry<'a>(layout: &Layout, bytes: &'a [u8], k: u32) -> &'a [u8]
 pub(crate) fn entry_of<'a>(offsets: bool, layout: &Layout, bytes: &'a [u8], k: u32) -> &'a [u8]
     requires inside { k < layout.now.count }
     requires laid { IsLaid offsets layout.now bytes.now }
-    ensures { result.now ≡ entry_of offsets layout.now bytes.now k }
+    ensures same { result.now ≡ entry_of offsets layout.now bytes.now k }
+    ensures short { length result.now < 2 ^ 32 }
 {
     if offsets {
         entry_between(layout, bytes, k)

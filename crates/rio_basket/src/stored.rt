@@ -29,7 +29,7 @@ impl Model for StoredBasket {
 }
 
 impl StoredBasket {
-    ghost use Rattle.std.specs.Prelude.{◌≡◌, length, slice_get};
+    ghost use Rattle.std.specs.Prelude.{◌≡◌, ◌<◌, ◌^◌, length, slice_get, IfSome};
     ghost use Rattle.std.specs.Option.{option_copied};
     ghost use Rattle.rio_basket.specs.Entries.{entries_in};
     ghost use Rattle.rio_basket.specs.Stored.{GivesBasket};
@@ -56,7 +56,8 @@ impl StoredBasket {
 
     /// The entry at `k`, counted from 0, in its place.
     pub fn entry(&self, k: usize) -> Option<&[u8]>
-        ensures { option_copied result ≡ slice_get self.now k }
+        ensures there { option_copied result ≡ slice_get self.now k }
+        ensures short { IfSome result (λ entry. length entry.now < 2 ^ 32) }
     {
         if k < self.layout.count as usize {
             Some(entry_of(self.offsets, &self.layout, self.bytes.as_slice(), k as u32))

@@ -9,3 +9,5 @@ pub mod LeafSpells
 pub mod RowLaws
 pub mod Singles
 pub mod Totals
+pub mod WholeRows
+pub mod RowReads

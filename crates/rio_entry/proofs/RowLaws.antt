@@ -24,7 +24,7 @@ one_more true n own before all rest = refl
 one_more false n own before all rest = rest
 
 -- what a name finds in two lists, one behind the other
-found_in : (name : List ℕ) (own before : Counters) → lookup (bytes_eq name) (own ++ before) ≡ cond (is_some (lookup (bytes_eq name) own)) (lookup (bytes_eq name) own) (lookup (bytes_eq name) before)
+pub found_in : (name : List ℕ) (own before : Counters) → lookup (bytes_eq name) (own ++ before) ≡ cond (is_some (lookup (bytes_eq name) own)) (lookup (bytes_eq name) own) (lookup (bytes_eq name) before)
 found_in name [] before = refl
 found_in name (x ∷ own) before = one_more (bytes_eq name x.0) x.1 (lookup (bytes_eq name) own) (lookup (bytes_eq name) before) (lookup (bytes_eq name) (own ++ before)) (found_in name own before)
 
@@ -54,7 +54,7 @@ slot_is (leaf_column leaf) counts own before count = ap kinded (kind_is leaf (gi
 slot_is (object_column class) counts own before count = refl
 
 -- a leaf more
-behind_is : (c : Column) (v : Value) (own before : Counters) → leaf_numbers_behind c v own ++ before ≡ leaf_numbers_behind c v (own ++ before)
+pub behind_is : (c : Column) (v : Value) (own before : Counters) → leaf_numbers_behind c v own ++ before ≡ leaf_numbers_behind c v (own ++ before)
 behind_is (leaf_column leaf) v own before = refl
 behind_is (object_column class) v own before = refl
 

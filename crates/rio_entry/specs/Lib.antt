@@ -4,3 +4,4 @@ pub mod Faults
 pub mod Laws
 pub mod Leaves
 pub mod Reading
+pub mod Rows

@@ -1,5 +1,6 @@
 //! Laws of entries.
 ghost use Rattle.rio_entry.specs.Laws.{EntriesHaveOneAnswer, EntryIsPartOfRow, WrittenEntriesAreRead};
+ghost use Rattle.rio_entry.specs.Rows.{BrokenRowsHaveABranch, WrittenRowsAreRead};
 
 /// The bytes of an entry spell values or break at a place, never both, and in one way.
 pub fn entries_have_one_answer()
@@ -16,4 +17,15 @@ pub fn written_entries_are_read()
 /// that part fits, and has its bytes.
 pub fn entry_is_part_of_row()
     ensures { EntryIsPartOfRow }
+{}
+
+/// What is written for a row that fits the branches of a tree is read as the row, if no entry is too long and its objects
+/// can be read back.
+pub fn written_rows_are_read()
+    ensures { WrittenRowsAreRead }
+{}
+
+/// A row is read exactly where no branch breaks.
+pub fn broken_rows_have_a_branch()
+    ensures { BrokenRowsHaveABranch }
 {}

@@ -32,7 +32,8 @@ pub(crate) fn letter_kind(letter: u8) -> Option<Prim>
     }
 }
 
-fn number_in(value: &Value) -> i128
+/// The number that an integer is, and 0 of any other value.
+pub(crate) fn number_in(value: &Value) -> i128
     ensures { result ≡ number_in (out-Value value.now) }
 {
     match value {

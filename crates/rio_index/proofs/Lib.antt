@@ -1,1 +1,4 @@
-mod IndexLaws
+pub mod GivenLaws
+pub mod IndexLaws
+pub mod PartLaws
+pub mod ScanLaws

@@ -1,15 +1,19 @@
-//! The index of a branch: which basket holds an entry.
+//! Scans of trees: which basket holds an entry, and the rows of a tree, one after the other.
 //!
-//! A branch of a tree keeps of each of its baskets where it stands and which entry it begins with ([`BasketAt`]).
-//! [`basket_of`] tells the basket that holds an entry, by a search that halves the list. `specs/Index.antt` has which
-//! lists are an index, and which basket holds an entry.
+//! A branch of a tree keeps of each of its baskets where it stands and which entry it begins with. [`basket_of`] tells the
+//! basket that holds an entry, by a search that halves the list. A [`Scanner`] holds one basket of each branch, tells which
+//! basket it wants next, and reads row after row of those that it is given. `specs/Index.antt` has which basket holds an
+//! entry, `specs/Scan.antt` what a scan holds and wants and its next row, `specs/Given.antt` what a call returns.
 #![tactic(auto)]
 
-mod basket_at;
+mod lane;
+mod next;
+mod scanner;
 mod search;
 
-pub use basket_at::{BasketAt, Baskets};
-pub use search::basket_of;
+pub use lane::{Held, Lane};
+pub use scanner::Scanner;
+pub use search::{basket_of, entry_count};
 
 #[cfg(test)]
 mod tests;

@@ -3,6 +3,7 @@ use Rattle.std.specs.Prelude.{ℕ, Bool, ◌++◌, List, codes, Option, Some, No
 use Rattle.std.specs.List.{flat_map}
 use Rattle.std.specs.Str.{bytes_eq}
 use Rattle.std.specs.Fmt.{decimal}
+use Rattle.rio_num.specs.Printed.{name_text}
 use Rattle.rio_num.specs.Reading.{◌>>=◌}
 use Rattle.rio_types.specs.declared.class.ClassDef.{ClassDef}
 use Rattle.rio_value.specs.declared.value.Value.{Value}
@@ -14,6 +15,10 @@ use Rattle.rio_buffer.specs.declared.fault.ObjFault.{ObjFault}
 use Rattle.rio_buffer.specs.declared.fault.ObjFault.TheVariants.{Short, BadCount, UnknownClassWord, UnknownRef, NoCount, BadFlag, CountMismatch, TooDeep, NoMemory}
 use Rattle.rio_model.specs.ValueText.{text_of_value}
 use Rattle.rio_model.specs.ClassText.{text_of_class}
+use Rattle.rio_tree.specs.declared.fault.TreeFault.{TreeFault}
+use Rattle.rio_tree.specs.declared.fault.TreeFault.TheVariants.{MissingMember, NoMemory as OutOfMemory}
+use Rattle.rio_tree.specs.declared.head.TreeHead.{TreeHead}
+use Rattle.rio_tree.specs.Header.{tree_head_in}
 use Rattle.rio_meaning.specs.declared.described.Described.{Described}
 use Rattle.rio_meaning.specs.declared.item.Item.{Item}
 use Rattle.rio_meaning.specs.declared.item.Missing.{Missing}
@@ -43,18 +48,49 @@ object_fault_text NoMemory = codes "NoMemory"
 abbrev pub stored_value : List ℕ → List ClassDef → KeyHead → Result Value ObjFault
 stored_value file classes key = value_at classes key.class key.keylen (data_at file key.seek key).rest
 
+abbrev pub fault_text : ObjFault → List ℕ
+fault_text e = codes "fault " ++ object_fault_text e
+
 abbrev pub value_or_fault : Result Value ObjFault → List ℕ
 value_or_fault (Ok v) = text_of_value v
-value_or_fault (Err e) = codes "fault " ++ object_fault_text e
+value_or_fault (Err e) = fault_text e
+
+-- ---- trees
 
 abbrev pub is_tree : KeyHead → Bool
 is_tree key = bytes_eq key.class (codes "TTree")
 
--- what is said of what a key holds: the values of trees aren't
+-- the kind of a fault, and the member that the tree lacks
+abbrev pub tree_fault_text : TreeFault → List ℕ
+tree_fault_text (MissingMember member) = codes "MissingMember " ++ name_text member
+tree_fault_text OutOfMemory = codes "NoMemory"
+
+-- the header of a tree, or what is said in its place
+abbrev pub header_or_text : Result TreeHead TreeFault → Result TreeHead (List ℕ)
+header_or_text (Ok head) = Ok head
+header_or_text (Err e) = Err (codes "fault " ++ tree_fault_text e)
+
+-- the same of what is read of a tree's record
+abbrev pub header_of_value : Result Value ObjFault → Result TreeHead (List ℕ)
+header_of_value (Ok v) = header_or_text (tree_head_in v)
+header_of_value (Err e) = Err (fault_text e)
+
+-- the header of the tree of a key, or what is said in its place
+abbrev pub stored_tree : List ℕ → List ClassDef → KeyHead → Result TreeHead (List ℕ)
+stored_tree file classes key = header_of_value (stored_value file classes key)
+
+-- TTree ENTRIES
+abbrev pub tree_text : Result TreeHead (List ℕ) → List ℕ
+tree_text (Ok head) = codes "TTree " ++ decimal head.entries
+tree_text (Err text) = text
+
+-- ---- lines
+
+-- what is said of what a key holds: of a tree how many entries it has
 abbrev pub content_text : List ℕ → List ClassDef → KeyHead → List ℕ
 content_text file classes key =
     if is_compressed key then codes "compressed"
-    else if is_tree key then codes "TTree"
+    else if is_tree key then tree_text (stored_tree file classes key)
     else value_or_fault (stored_value file classes key)
 
 -- NAME;CYCLE and what the key holds

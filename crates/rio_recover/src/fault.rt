@@ -9,10 +9,10 @@ use thiserror::Error;
 #[derive(Clone, Copy, Debug, PartialEq, Eq, Error)]
 pub enum RecoverFault {
     /// The header breaks a rule at this place.
-    #[error("bad file at {place}: {kind}")]
+    #[error("bad file at {place}: {kind:?}")]
     BadFile { place: u64, kind: FileFault },
     /// Nothing is written to the file: the first reason, and its place.
-    #[error("read only at {place}: {reason}")]
+    #[error("read only at {place}: {reason:?}")]
     ReadOnly { place: u64, reason: Reason },
     #[error("no memory")]
     NoMemory,

@@ -348,3 +348,17 @@ fn knows_files_that_are_not_made(rt: HostRuntime) -> Result<(), Fail> {
     assert!(rt; is_unborn(&mut zero)?);
     Ok(())
 }
+
+#[test]
+fn tells_faults_with_their_place(rt: HostRuntime) -> Result<(), Fail> {
+    let bad = RecoverFault::BadFile {
+        place: 32,
+        kind: FileFault::BadUnits,
+    };
+    let text = format!(in rt.alloc(); "{bad}")?;
+    assert_eq!(rt; text.as_str(), "bad file at 32: BadUnits");
+    let refused = read_only(268, Reason::DoubleKey);
+    let text = format!(in rt.alloc(); "{refused}")?;
+    assert_eq!(rt; text.as_str(), "read only at 268: DoubleKey");
+    Ok(())
+}

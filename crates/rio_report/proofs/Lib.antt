@@ -1,5 +1,12 @@
 pub mod Dumps
+pub mod FirstRefusals
 pub mod Gather
 pub mod Infos
+pub mod Left
 pub mod LineByLine
 pub mod Lines
+pub mod Numbers
+pub mod Scans
+pub mod Trees
+pub mod ValueTexts
+pub mod Walks

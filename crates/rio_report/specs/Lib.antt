@@ -1,4 +1,6 @@
 pub mod Described
 pub mod Gathered
 pub mod GreatestCycle
+pub mod Lanes
 pub mod Lists
+pub mod TreeTexts

@@ -8,6 +8,7 @@ ghost use Rattle.rio_meaning.specs.Dump.{content_text, is_tree, object_fault_tex
 ghost use Rattle.rio_close.specs.Causes.{IsCallCause};
 
 use crate::ls::put_named_cycle;
+use crate::tree_line::{put_tree, read_stored_tree};
 use rio_buffer::ObjFault;
 use rio_close::{ReportFault, data_of, read_up_to};
 use rio_host::Host;
@@ -57,8 +58,8 @@ fn put_mismatch(text: &mut Bytes, place: u64, said: u32, used: u32) -> Result<()
     put_number(text, u64::from(used))
 }
 
-// Puts the kind of a fault at the end, and its numbers.
-fn put_object_fault(text: &mut Bytes, fault: &ObjFault) -> Result<(), NoMemory>
+/// Puts the kind of a fault at the end, and its numbers.
+pub(crate) fn put_object_fault(text: &mut Bytes, fault: &ObjFault) -> Result<(), NoMemory>
     ensures { OnOk result (text.new.bytes ≡ text.old.bytes ++ object_fault_text fault.now) }
 {
     match fault {
@@ -105,13 +106,14 @@ fn put_value(
     }
 }
 
-fn is_tree(key: &KeyHead) -> bool
+/// Whether the key is a tree's.
+pub(crate) fn is_tree(key: &KeyHead) -> bool
     ensures { result ≡ is_tree key.now }
 {
     key.class.as_slice() == b"TTree".as_slice()
 }
 
-// Puts what the key's record holds at the end. The record isn't read where it is compressed, or a tree.
+// Puts what the key's record holds at the end. The record isn't read where it is compressed.
 fn put_content<H: Host>(
     alloc: Global,
     host: &mut H,
@@ -131,7 +133,8 @@ fn put_content<H: Host>(
         return Ok(());
     }
     if is_tree(key) {
-        text.put(b"TTree")?;
+        let tree = read_stored_tree(alloc, host, file_length, classes, key)?;
+        put_tree(text, &tree)?;
         return Ok(());
     }
     let bytes = read_up_to(

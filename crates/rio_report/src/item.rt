@@ -8,14 +8,15 @@ ghost use Rattle.rio_report.specs.GreatestCycle.{greatest_cycle_of};
 use rio_key::KeyHead;
 use rio_meaning::{Item, Missing};
 
-fn has_name(key: &KeyHead, name: &[u8]) -> bool
+/// Whether the key has the name.
+pub(crate) fn has_name(key: &KeyHead, name: &[u8]) -> bool
     ensures { result ≡ has_name name.now key.now }
 {
     key.name.as_slice() == name
 }
 
-// The one with the greater cycle, where there are two: the first of equal ones.
-fn greater_cycle<'a>(best: Option<&'a KeyHead>, key: &'a KeyHead) -> Option<&'a KeyHead>
+/// The one with the greater cycle, where there are two: the first of equal ones.
+pub(crate) fn greater_cycle<'a>(best: Option<&'a KeyHead>, key: &'a KeyHead) -> Option<&'a KeyHead>
     ensures { option_copied result ≡ greatest_cycle_of (option_copied best.entry) (Some key.now) }
 {
     match best {
@@ -45,7 +46,8 @@ fn with_cycle<'a>(keys: &'a [KeyHead], name: &[u8], cycle: u32) -> Option<&'a Ke
         .find(|key| has_name(key, name) && u32::from(key.cycle) == cycle)
 }
 
-fn has_any(keys: &[KeyHead], name: &[u8]) -> bool
+/// Whether one of the keys has the name.
+pub(crate) fn has_any(keys: &[KeyHead], name: &[u8]) -> bool
     ensures { result ≡ list_any (has_name name.now) keys.now }
 {
     keys.iter().any(|key| has_name(key, name))

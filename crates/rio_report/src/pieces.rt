@@ -20,7 +20,8 @@ use std::alloc::Global;
 // So many bytes are said as soon as they are gathered.
 const LONG: usize = 65_536;
 
-fn say_piece<H: Host>(host: &mut H, text: &[u8]) -> Result<(), ReportFault>
+/// Says this text.
+pub(crate) fn say_piece<H: Host>(host: &mut H, text: &[u8]) -> Result<(), ReportFault>
     ensures says { Says (λ file. text.now) (H.view host.old) (H.view host.new) result }
     ensures cause { IsSayCauseOf NoKind (H.view host.old) (H.view host.new) result }
 {
@@ -38,8 +39,12 @@ pub(crate) fn say_held<H: Host>(host: &mut H, held: &Bytes) -> Result<(), Report
     say_piece(host, held.as_slice())
 }
 
-// Says what is held where it has become long, and then holds nothing.
-fn say_long<H: Host>(alloc: Global, host: &mut H, held: &mut Bytes) -> Result<(), ReportFault>
+/// Says what is held where it has become long, and then holds nothing.
+pub(crate) fn say_long<H: Host>(
+    alloc: Global,
+    host: &mut H,
+    held: &mut Bytes,
+) -> Result<(), ReportFault>
     ensures says { Gathers (λ file. held.old.bytes) held.new.bytes
         (H.view host.old) (H.view host.new) result }
     ensures cause { IsSayCauseOf NoKind (H.view host.old) (H.view host.new) result }

@@ -13,7 +13,7 @@ pub enum OpenFault {
     #[error("bad file at {place}: {kind:?}")]
     BadFile { place: u64, kind: FileFault },
     /// Nothing is written to the file, for this reason at this place.
-    #[error("read only at {place}: {reason}")]
+    #[error("read only at {place}: {reason:?}")]
     ReadOnly { place: u64, reason: Reason },
     #[error("no memory")]
     NoMemory,

@@ -11,6 +11,7 @@ use Rattle.rio_dir.specs.Listing.{key_lines, listed_file}
 use Rattle.rio_meaning.specs.declared.item.Item.{Item}
 use Rattle.rio_meaning.specs.Described.{described_file}
 use Rattle.rio_meaning.specs.Dump.{dump_text, dumped_file}
+use Rattle.rio_scan.specs.Scan.{scan_text, scanned_file}
 use Rattle.rio_close.specs.Causes.{AnyKind, IsSayCauseOf, IsTested}
 use Rattle.rio_close.specs.declared.fault.ReportFault.TheVariants.{BadFile as FileBad, NoMemory as OutOfMemory, HostFault, SayFault as NotSaid}
 use Rattle.rio_report.specs.Lists.{AnswersOf, ListingAnswer}
@@ -18,7 +19,7 @@ use Rattle.rootio.specs.declared.status.Status.{Status}
 use Rattle.rootio.specs.declared.status.Status.TheVariants.{BadFile}
 use Rattle.rootio.specs.declared.words.Form.TheVariants.{Reads}
 use Rattle.rootio.specs.declared.words.Listing.{Listing}
-use Rattle.rootio.specs.declared.words.Listing.TheVariants.{Ls, Dump}
+use Rattle.rootio.specs.declared.words.Listing.TheVariants.{Ls, Dump, Scan}
 use Rattle.rootio.specs.Complete.{CanBeDone, IsComplete, IsDoneOrNoMemory, NoneRose}
 use Rattle.rootio.specs.Reading.{EndsListing, RefusesBroken, TellsFirstFault, TellsUnlessCut, rules_of}
 use Rattle.rootio.specs.Status.{status_of}
@@ -36,6 +37,10 @@ listed_first file = fault_kept (closed_file file) (λ c. key_lines c.keys)
 dumped_first : (item : Option Item) (file : List ℕ) → fault_of (dumped_file item file) ≡ fault_of (described_file file)
 unfolding dumped_file
 dumped_first item file = fault_kept (described_file file) (λ d. dump_text file item d)
+
+scanned_first : (tree : List ℕ) (file : List ℕ) → fault_of (scanned_file tree file) ≡ fault_of (described_file file)
+unfolding scanned_file
+scanned_first tree file = fault_kept (described_file file) (λ d. scan_text file tree d)
 
 -- ---- and it is told
 
@@ -65,12 +70,16 @@ module _ (old new : View) (status : Status) where
       sym (listed_first file) ∙ tells (listed_file file) ends.0 (ends.2.refused file here) place kind (sym ends.1 ∙ e)
   ends_tells (Dump item) ends place kind e file here =
       sym (dumped_first item file) ∙ tells (dumped_file item file) ends.0 (ends.2.refused file here) place kind (sym ends.1 ∙ e)
+  ends_tells (Scan tree) ends place kind e file here =
+      sym (scanned_first tree file) ∙ tells (scanned_file tree file) ends.0 (ends.2.refused file here) place kind (sym ends.1 ∙ e)
 
   pub ends_refused : (list : Listing) → EndsListing list old new status → RefusesBroken (rules_of (Reads list)) old status
   ends_refused Ls ends fault file here e =
       rw ends.1 (yields (listed_file file) ends.0 fault (ends.2.refused file here) (listed_first file ∙ e))
   ends_refused (Dump item) ends fault file here e =
       rw ends.1 (yields (dumped_file item file) ends.0 fault (ends.2.refused file here) (dumped_first item file ∙ e))
+  ends_refused (Scan tree) ends fault file here e =
+      rw ends.1 (yields (scanned_file tree file) ends.0 fault (ends.2.refused file here) (scanned_first tree file ∙ e))
 
 -- ---- where nothing fails
 
@@ -92,3 +101,4 @@ module _ (old new : View) (status : Status) (before : Input) where
   pub ends_complete : (list : Listing) → EndsListing list old new status → IsComplete (Reads list) old new before before status
   ends_complete Ls ends can none = rw ends.1 (ends_by IsTested Ls can ends ends.0 ends.1 ends.2.cause none)
   ends_complete (Dump item) ends can none = rw ends.1 (ends_by AnyKind (Dump item) can ends ends.0 ends.1 ends.2.cause none)
+  ends_complete (Scan tree) ends can none = rw ends.1 (ends_by AnyKind (Scan tree) can ends ends.0 ends.1 ends.2.cause none)

@@ -5,6 +5,7 @@ pub mod Endings
 pub mod Opening
 pub mod Pieces
 pub mod Room
+pub mod Named
 pub mod RunStops
 pub mod SaidFronts
 pub mod Scripts

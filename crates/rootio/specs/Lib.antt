@@ -2,6 +2,7 @@ pub mod Causes
 pub mod Complete
 pub mod Headline
 pub mod Input
+pub mod Naming
 pub mod Reading
 pub mod Script
 pub mod Status

@@ -7,6 +7,7 @@ use Rattle.rio_host.specs.Host.{View}
 use Rattle.rio_dir.specs.Listing.{listed_file}
 use Rattle.rio_meaning.specs.Dump.{dumped_file}
 use Rattle.rio_meaning.specs.FirstFault.{HeaderAlone, Tests, ToClassList, ToKeyList, first_fault}
+use Rattle.rio_scan.specs.Scan.{scanned_file}
 use Rattle.rio_close.specs.Causes.{AnyKind, IsTested, NoKind}
 use Rattle.rio_report.specs.Lists.{AtOnce, InPieces, ListingAnswer, Lists}
 use Rattle.rootio.specs.Status.{status_of}
@@ -15,7 +16,7 @@ use Rattle.rootio.specs.declared.status.Status.TheVariants.{Done, Usage, BadFile
 use Rattle.rootio.specs.declared.words.Form.{Form}
 use Rattle.rootio.specs.declared.words.Form.TheVariants.{Reads, Writes}
 use Rattle.rootio.specs.declared.words.Listing.{Listing}
-use Rattle.rootio.specs.declared.words.Listing.TheVariants.{Ls, Dump}
+use Rattle.rootio.specs.declared.words.Listing.TheVariants.{Ls, Dump, Scan}
 use Rattle.rootio.specs.declared.words.Work.{Work}
 use Rattle.rootio.specs.declared.words.Work.TheVariants.{Run}
 
@@ -54,6 +55,7 @@ reads_input (Some (Writes work)) = takes_script work
 abbrev pub rules_of : Form → Tests
 rules_of (Reads Ls) = ToKeyList
 rules_of (Reads (Dump item)) = ToClassList
+rules_of (Reads (Scan tree)) = ToClassList
 rules_of (Writes work) = HeaderAlone
 
 abbrev pub kinds_of : Tests → FileFault → Type 0
@@ -94,6 +96,7 @@ RefusesBroken tests old status =
 abbrev pub ListsFor : Listing → View → View → ListingAnswer → Type 0
 ListsFor Ls old new told = Lists AtOnce IsTested listed_file old new told
 ListsFor (Dump item) old new told = Lists InPieces AnyKind (dumped_file item) old new told
+ListsFor (Scan tree) old new told = Lists InPieces AnyKind (scanned_file tree) old new told
 
 -- with the status of a call that said the listing
 abbrev pub EndsListing : Listing → View → View → Status → Type 0

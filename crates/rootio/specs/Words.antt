@@ -7,7 +7,7 @@ use Rattle.rio_token.specs.Words.{num_of}
 use Rattle.rio_meaning.specs.declared.item.Item.{Item}
 use Rattle.rootio.specs.declared.words.Form.{Form}
 use Rattle.rootio.specs.declared.words.Form.TheVariants.{Reads, Writes}
-use Rattle.rootio.specs.declared.words.Listing.TheVariants.{Ls, Dump}
+use Rattle.rootio.specs.declared.words.Listing.TheVariants.{Ls, Dump, Scan}
 use Rattle.rootio.specs.declared.words.Work.TheVariants.{Run}
 
 -- a word that doesn't begin with -
@@ -46,6 +46,16 @@ dump_of [] = Some (Reads (Dump None))
 dump_of (item ∷ []) = option_map (λ i. Reads (Dump (Some i))) (item_of item)
 dump_of (item ∷ word ∷ words) = None
 
+-- the entries of the tree of this name, where a tree can be called so
+abbrev pub scan_of_tree : List ℕ → Option Form
+scan_of_tree name = if is_item_text name then Some (Reads (Scan name)) else None
+
+-- scan FILE TREE
+abbrev pub scan_of_words : List (List ℕ) → Option Form
+scan_of_words [] = None
+scan_of_words (tree ∷ []) = scan_of_tree tree
+scan_of_words (tree ∷ word ∷ words) = None
+
 -- the commands of a script, on the file of this name and with this datime
 abbrev pub written_at : List ℕ → ℕ → Form
 written_at name datime = Writes (Run (record { name = name; datime = datime }))
@@ -61,6 +71,7 @@ abbrev pub asked_by : List ℕ → List ℕ → List (List ℕ) → Option Form
 asked_by verb file args =
     if bytes_eq verb (codes "ls") then ls_of args
     else if bytes_eq verb (codes "dump") then dump_of args
+    else if bytes_eq verb (codes "scan") then scan_of_words args
     else if bytes_eq verb (codes "run") then run_of file args
     else None
 

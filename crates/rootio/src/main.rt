@@ -11,11 +11,12 @@ mod status;
 mod streams;
 mod target;
 mod top;
+mod tree_word;
 mod words;
 
 use rio_host::{FileHost, StdSource};
 use rio_num::{Name, NoMemory, Words};
-use split::file_word;
+use split::{file_word, host_may_write, is_split};
 use status::{Status, code, ended, shown, told_line};
 use std::alloc::Global;
 use std::env;
@@ -23,7 +24,6 @@ use std::io::{ErrorKind, Write};
 use std::process::ExitCode;
 use streams::Streams;
 use top::run;
-use words::may_write;
 
 // The words behind the program's name: none where one of them is no text.
 fn args_of(rt: &HostRuntime) -> Result<Vec<String>, NoMemory> {
@@ -51,12 +51,13 @@ fn words_of(alloc: Global, args: &[String]) -> Result<Words, NoMemory> {
 fn run_words(rt: &HostRuntime) -> Result<Status, NoMemory> {
     let args = args_of(rt)?;
     let words = words_of(rt.alloc(), &args)?;
-    let path = file_word(rt.alloc(), &args)?;
+    let split = is_split(rt.alloc(), &args)?;
+    let path = Name::from_slice(rt.alloc(), file_word(&words, split))?;
     let _streams = match Streams::hold(rt) {
         Ok(streams) => streams,
         Err(_) => return Ok(Status::DiskFault),
     };
-    let mut host = FileHost::new(rt, path, may_write(&words));
+    let mut host = FileHost::new(rt, path, host_may_write(&words, split));
     let mut input = StdSource::new(rt);
     Ok(run(rt.alloc(), &words, &mut host, &mut input))
 }

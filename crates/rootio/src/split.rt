@@ -1,7 +1,13 @@
-//! The words of the command line, as clap splits them.
+//! The words of the command line, as clap splits them, and what the host is given of them.
+ghost use Rattle.std.specs.Prelude.{◌≡◌, ◌&&◌};
+ghost use Rattle.rootio.specs.Naming.{file_word};
+ghost use Rattle.rootio.specs.Reading.{writes_of};
+ghost use Rattle.rootio.specs.Words.{form_of};
+
+use crate::words::may_write;
 use clap::error::ErrorKind;
 use clap::{Arg, ArgMatches, Command, Error};
-use rio_num::{Name, NoMemory};
+use rio_num::{NoMemory, Words};
 use std::alloc::Global;
 
 // VERB FILE ARG..., each of which may be absent, and no flags.
@@ -16,14 +22,31 @@ fn split<'a>(alloc: Global, words: &'a [String]) -> Result<ArgMatches<'a>, Error
         .try_get_matches_from(words)
 }
 
-/// The word that names the file: none where there is none, or where the words can't be split so.
-pub fn file_word(alloc: Global, words: &[String]) -> Result<Name, NoMemory> {
+/// Whether the words can be split so.
+pub fn is_split(alloc: Global, words: &[String]) -> Result<bool, NoMemory> {
     match split(alloc, words) {
-        Ok(matches) => match matches.get_str("FILE") {
-            Some(file) => Ok(Name::from_slice(alloc, file.as_bytes())?),
-            None => Ok(Name::new(alloc)),
-        },
+        Ok(_matches) => Ok(true),
         Err(error) if error.kind() == ErrorKind::OutOfMemory => Err(NoMemory),
-        Err(_) => Ok(Name::new(alloc)),
+        Err(_) => Ok(false),
     }
+}
+
+/// The word that names the file: the second one, and none where the words can't be split.
+pub fn file_word(words: &Words, split: bool) -> &[u8]
+    ensures { result.now ≡ file_word words.now split }
+{
+    if !split {
+        return &[];
+    }
+    match words.as_slice() {
+        [_, file, ..] => file.as_slice(),
+        _ => &[],
+    }
+}
+
+/// Whether the host may write: only by a verb that writes, and only where the words are split.
+pub fn host_may_write(words: &Words, split: bool) -> bool
+    ensures { result ≡ (split && writes_of (form_of words.now)) }
+{
+    split && may_write(words)
 }

@@ -16,10 +16,11 @@ use crate::item_word::ItemWord;
 use crate::script::run_script;
 use crate::status::Status;
 use crate::target::Target;
+use crate::tree_word::TreeWord;
 use crate::words::{Form, Listing, Work, form_of_words};
 use rio_host::{Host, Source};
 use rio_num::{NoMemory, Words};
-use rio_report::{ReportFault, say_dump, say_ls};
+use rio_report::{ReportFault, say_dump, say_ls, say_scan};
 use std::alloc::Global;
 
 /// Does what the words ask for, over a file with its text output, and an input. The words are those
@@ -30,6 +31,7 @@ use std::alloc::Global;
 /// | `ls FILE` | a line for each key of the file's key list is said |
 /// | `dump FILE` | a line for each class that the file describes is said, and one with the value of each key |
 /// | `dump FILE NAME;CYCLE` | the line of that key is said; without `;CYCLE` that of the greatest cycle |
+/// | `scan FILE TREE` | a line for each branch of the tree that can't be read is said, and one with the values of each entry |
 /// | `run FILE [DATIME]` | the commands of the script, which is the input, are done on the file, and it is closed |
 ///
 /// The order is words, input, file, then command by command, and the close. Whatever ends a run ends it where it comes.
@@ -93,6 +95,7 @@ fn say_file<H: Host>(alloc: Global, host: &mut H, list: &Listing) -> Status
         Listing::Ls => ls(alloc, host),
         Listing::Dump { item: None } => dump(alloc, host),
         Listing::Dump { item: Some(item) } => dump_item(alloc, host, item),
+        Listing::Scan { tree } => scan(alloc, host, tree),
     }
 }
 
@@ -116,6 +119,12 @@ fn dump_item<H: Host>(alloc: Global, host: &mut H, word: &ItemWord) -> Status
         Ok(item) => status_of(say_dump(alloc, host, Some(&item))),
         Err(NoMemory) => Status::NoMemory,
     }
+}
+
+fn scan<H: Host>(alloc: Global, host: &mut H, tree: &TreeWord) -> Status
+    ensures { EndsListing (Listing.Scan tree.now) (H.view host.old) (H.view host.new) result }
+{
+    status_of(say_scan(alloc, host, tree.name))
 }
 
 // How a run ends whose input could not be read whole.

@@ -3,10 +3,11 @@ ghost use Rattle.std.specs.Prelude.{◌≡◌, ◌==◌, nat_le, position};
 ghost use Rattle.std.specs.Str.{bytes_eq};
 ghost use Rattle.std.specs.List.{list_all};
 ghost use Rattle.rootio.specs.Reading.{writes_of};
-ghost use Rattle.rootio.specs.Words.{asked_by, cycle_item, dump_of, form_of, is_file, is_no_flag, item_of, ls_of, newest_item, run_of, written_at};
+ghost use Rattle.rootio.specs.Words.{asked_by, cycle_item, dump_of, form_of, is_file, is_no_flag, item_of, ls_of, newest_item, run_of, scan_of_words, scan_of_tree, written_at};
 
 use crate::item_word::ItemWord;
 use crate::target::Target;
+use crate::tree_word::TreeWord;
 use rio_num::{Name, Words, is_item};
 use rio_token::parse_num;
 
@@ -26,6 +27,8 @@ pub enum Listing<'a> {
     Ls,
     /// `dump FILE` and `dump FILE ITEM`: the classes and the values of all keys, or the value of one.
     Dump { item: Option<ItemWord<'a>> },
+    /// `scan FILE TREE`: the entries of a tree.
+    Scan { tree: TreeWord<'a> },
 }
 
 /// What is done to a file.
@@ -123,6 +126,24 @@ fn dump_of(args: &[Name]) -> Option<Form<'_>>
     }
 }
 
+// What is asked for by `scan` of this tree, where a tree can be called so.
+fn scan_of_tree(name: &[u8]) -> Option<Form<'_>>
+    ensures { result ≡ scan_of_tree name.now }
+{
+    is_item(name).then_some(Form::Reads(Listing::Scan {
+        tree: TreeWord { name },
+    }))
+}
+
+fn scan_of_words(args: &[Name]) -> Option<Form<'_>>
+    ensures { result ≡ scan_of_words args.now }
+{
+    match args {
+        [tree] => scan_of_tree(tree.as_slice()),
+        _ => None,
+    }
+}
+
 // What is asked for by `run`, with this datime.
 fn written_at(name: &[u8], datime: u32) -> Form<'_>
     ensures { result ≡ written_at name.now datime }
@@ -153,6 +174,8 @@ fn asked_by<'a>(verb: &[u8], file: &'a [u8], args: &'a [Name]) -> Option<Form<'a
         ls_of(args)
     } else if is_verb(verb, b"dump") {
         dump_of(args)
+    } else if is_verb(verb, b"scan") {
+        scan_of_words(args)
     } else if is_verb(verb, b"run") {
         run_of(file, args)
     } else {

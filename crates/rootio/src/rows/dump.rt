@@ -28,17 +28,17 @@ impl File {
 }
 
 // One of the files, with some words written over: what `dump` answers and says.
-struct Row {
-    name: &'static str,
+pub(super) struct Row {
+    pub(super) name: &'static str,
     file: File,
     item: Option<&'static str>,
     words: &'static [(usize, u32)],
-    status: Status,
+    pub(super) status: Status,
     said: &'static str,
 }
 
 impl Row {
-    fn image(&self, alloc: Global) -> Result<Bytes, NoMemory> {
+    pub(super) fn image(&self, alloc: Global) -> Result<Bytes, NoMemory> {
         let whole = decode(alloc, self.file.lines())?;
         changed(alloc, whole.as_slice(), usize::MAX, self.words)
     }
@@ -52,7 +52,7 @@ impl Row {
     }
 }
 
-static ROWS: [Row; 32] = [
+pub(super) static ROWS: [Row; 32] = [
     Row {
         name: "one object",
         file: File::One,
@@ -191,7 +191,7 @@ static ROWS: [Row; 32] = [
         item: None,
         words: &[],
         status: Status::Done,
-        said: "class Node 1 { val: i32, next: Node* }\nclass C 1 { n: i32, w: u8[n] }\nclass Odd 1 { v: other(500), ?: other(0) }\ns;2 TObjString#1{TObject#1{fUniqueID: 0, fBits: 0}, fString: \"ho\"}\ns;1 TObjString#1{TObject#1{fUniqueID: 0, fBits: 0}, fString: \"hi\"}\nL;1 Node#1{val: 1, next: @0=Node#1{val: 2, next: @1=Node#1{val: 3, next: null}}}\nc;1 Node#1{val: 1, next: @0=Node#1{val: 2, next: @0}}\na;1 C#1{n: 2, w: [7, 255]}\no;1 opaque(Odd, 12)\nT;1 TTree\nz;1 compressed\n\"deep name\";7 TObjString#1{TObject#1{fUniqueID: 0, fBits: 0}, fString: \"tab\\t\"}\n",
+        said: "class Node 1 { val: i32, next: Node* }\nclass C 1 { n: i32, w: u8[n] }\nclass Odd 1 { v: other(500), ?: other(0) }\ns;2 TObjString#1{TObject#1{fUniqueID: 0, fBits: 0}, fString: \"ho\"}\ns;1 TObjString#1{TObject#1{fUniqueID: 0, fBits: 0}, fString: \"hi\"}\nL;1 Node#1{val: 1, next: @0=Node#1{val: 2, next: @1=Node#1{val: 3, next: null}}}\nc;1 Node#1{val: 1, next: @0=Node#1{val: 2, next: @0}}\na;1 C#1{n: 2, w: [7, 255]}\no;1 opaque(Odd, 12)\nT;1 fault MissingMember fEntries\nz;1 compressed\n\"deep name\";7 TObjString#1{TObject#1{fUniqueID: 0, fBits: 0}, fString: \"tab\\t\"}\n",
     },
     Row {
         name: "the greatest cycle",
@@ -210,12 +210,12 @@ static ROWS: [Row; 32] = [
         said: "s;1 TObjString#1{TObject#1{fUniqueID: 0, fBits: 0}, fString: \"hi\"}\n",
     },
     Row {
-        name: "the key of a tree",
+        name: "a tree that no description covers",
         file: File::Hand,
         item: Some("T"),
         words: &[],
         status: Status::Done,
-        said: "T;1 TTree\n",
+        said: "T;1 fault MissingMember fEntries\n",
     },
     Row {
         name: "an object that no description covers",
@@ -287,7 +287,7 @@ static ROWS: [Row; 32] = [
         item: None,
         words: &[(536, 0x00000202)],
         status: Status::Done,
-        said: "class Node 1 { val: i32, next: Node* }\nclass C 1 { n: i32, w: u8[n] }\nclass Odd 1 { v: other(500), ?: other(0) }\ns;2 TObjString#1{TObject#1{fUniqueID: 0, fBits: 0}, fString: \"ho\"}\ns;1 TObjString#1{TObject#1{fUniqueID: 0, fBits: 0}, fString: \"hi\"}\nL;1 Node#1{val: 1, next: @0=Node#1{val: 2, next: @1=Node#1{val: 3, next: null}}}\nc;1 Node#1{val: 1, next: @0=Node#1{val: 2, next: @0}}\na;1 fault BadFlag 41\no;1 opaque(Odd, 12)\nT;1 TTree\nz;1 compressed\n\"deep name\";7 TObjString#1{TObject#1{fUniqueID: 0, fBits: 0}, fString: \"tab\\t\"}\n",
+        said: "class Node 1 { val: i32, next: Node* }\nclass C 1 { n: i32, w: u8[n] }\nclass Odd 1 { v: other(500), ?: other(0) }\ns;2 TObjString#1{TObject#1{fUniqueID: 0, fBits: 0}, fString: \"ho\"}\ns;1 TObjString#1{TObject#1{fUniqueID: 0, fBits: 0}, fString: \"hi\"}\nL;1 Node#1{val: 1, next: @0=Node#1{val: 2, next: @1=Node#1{val: 3, next: null}}}\nc;1 Node#1{val: 1, next: @0=Node#1{val: 2, next: @0}}\na;1 fault BadFlag 41\no;1 opaque(Odd, 12)\nT;1 fault MissingMember fEntries\nz;1 compressed\n\"deep name\";7 TObjString#1{TObject#1{fUniqueID: 0, fBits: 0}, fString: \"tab\\t\"}\n",
     },
     Row {
         name: "no class list",
@@ -390,11 +390,11 @@ fn long_items(rt: HostRuntime) -> Result<(), Fail> {
 
 // How many calls a run over the file of another maker makes on the file, before it says all its lines at
 // once: the length, the header, the directory record and two for each of the key list and the class list,
-// and then one for each record whose value is said. The tree's and the compressed one aren't read.
+// and then one for each record of an object or a tree. The compressed one isn't read.
 static CALLS: [(&[&str], u64); 5] = [
-    (&["dump", "b.root"], 14),
+    (&["dump", "b.root"], 15),
     (&["dump", "b.root", "s"], 8),
-    (&["dump", "b.root", "T"], 7),
+    (&["dump", "b.root", "T"], 8),
     (&["dump", "b.root", "z"], 7),
     (&["dump", "b.root", "x"], 7),
 ];

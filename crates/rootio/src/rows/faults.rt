@@ -46,9 +46,17 @@ fn a_file_that_is_not_opened_is_told_with_its_place(rt: HostRuntime) -> Result<(
         reason: Reason::NoChain,
     };
     let text = format!(in rt.alloc(); "{fault}")?;
-    assert_eq!(rt;
-        text.as_str(),
-        "read only at 304: the chain of records breaks"
-    );
+    assert_eq!(rt; text.as_str(), "read only at 304: NoChain");
+    Ok(())
+}
+
+#[test]
+fn a_bad_file_that_is_not_opened_is_told_with_its_place(rt: HostRuntime) -> Result<(), Fail> {
+    let fault = OpenFault::BadFile {
+        place: 8,
+        kind: FileFault::BadBegin,
+    };
+    let text = format!(in rt.alloc(); "{fault}")?;
+    assert_eq!(rt; text.as_str(), "bad file at 8: BadBegin");
     Ok(())
 }

@@ -1,5 +1,5 @@
 //! Rows of `run`.
-use super::images::{EMPTY, ONE, TWO};
+use super::images::{EMPTY, ONE, TWO, WORKED};
 use super::runs::{changed, decode, scripted, words_of};
 use crate::status::Status;
 use crate::top::run;
@@ -37,6 +37,8 @@ enum File {
     Five,
     One,
     Two,
+    // What the worked run leaves.
+    Worked,
 }
 
 impl File {
@@ -48,6 +50,7 @@ impl File {
             File::RootAlone => &ROOT_ALONE,
             File::One => &ONE,
             File::Two => &TWO,
+            File::Worked => &WORKED,
             _ => &EMPTY,
         }
     }
@@ -86,7 +89,7 @@ struct Row {
 
 static WORDS: [&str; 2] = ["run", "a.root"];
 
-static ROWS: [Row; 12] = [
+static ROWS: [Row; 13] = [
     Row {
         name: "no bytes, no lines",
         datime: None,
@@ -200,6 +203,15 @@ static ROWS: [Row; 12] = [
         status: Status::Done,
         said: "ok put s;1\nok put s;2\nok ls 2\ns;2 TObjString\ns;1 TObjString\n",
         after: File::Two,
+    },
+    Row {
+        name: "the worked run",
+        datime: None,
+        before: File::Nothing,
+        script: "put s TObjString{TObject{fUniqueID: 0, fBits: 0}, fString: \"hi\"}\nput s TObjString{TObject{fUniqueID: 0, fBits: 0}, fString: \"ho\"}\nput s TObjString{TObject{fUniqueID: 0, fBits: 0}, fString: \"hu\"}\nls\n",
+        status: Status::Done,
+        said: "ok put s;1\nok put s;2\nok put s;3\nok ls 3\ns;3 TObjString\ns;2 TObjString\ns;1 TObjString\n",
+        after: File::Worked,
     },
     Row {
         name: "bad lines",

@@ -1,7 +1,9 @@
-use Rattle.std.proofs.Common.{◌≡◌}
+use Rattle.std.proofs.Common.{◌≡◌, Some}
 use Rattle.rootio.specs.declared.words.Form.TheVariants.{Reads, Writes}
+use Rattle.rootio.specs.Words.{form_of}
 use Rattle.rootio.proofs.Completes.{completes, formed}
 use Rattle.rootio.proofs.Endings.{ends_complete, ends_refused, ends_tells}
+use Rattle.rootio.proofs.Named.{writes_named}
 use Rattle.rootio.proofs.top.run.Goals as goal
 
 pub returns-in-Some-Reads-clause-bad_file : goal.returns-in-Some-Reads-clause-bad_file
@@ -51,3 +53,8 @@ returns-in-Some-Writes-clause-complete g c form is =
     rw same
     (completes (g.H.Host.view c.args.host.now) (g.H.Host.view c.write_file.new.host) (g.S.Source.view c.args.input.now) (g.S.Source.view c.write_file.new.input)
     (Writes c.in-Some-Writes.work) c.write_file.result done.faults done.reasons done.too_long done.cause)
+
+pub write_file-requires : goal.write_file-requires
+write_file-requires g c =
+    let is : form_of c.args.words.now ≡ Some (Writes c.in-Some-Writes.work) = cc in
+    writes_named c.args.words.now c.in-Some-Writes.work is

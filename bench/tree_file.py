@@ -1,0 +1,376 @@
+#!/usr/bin/env python3
+"""Writes closed ROOT files with trees, by the published layouts alone: nothing of this project makes them.
+
+tree_file.py FILE wide ENTRIES BRANCHES   a tree `G` with branches `b00`, `b01` .. of one integer each; entry e has the
+                                          number e * BRANCHES + j in the j-th of them
+tree_file.py FILE small                   a tree `T` with leaves of several kinds, a branch of objects, and a branch
+                                          that has a branch of its own; and an object `s`
+tree_file.py FILE large                   the tree `T` in a file of the large form whose baskets stand past 2 GB (sparse)
+
+Sources: ROOT's I/O documentation (io/doc/TFile), and the pages of TTree, TBranch, TLeaf, TBasket and TStreamerInfo.
+"""
+import struct
+import sys
+
+BASKET_BYTES = 32000
+
+
+def u16(n):
+    return struct.pack('>H', n)
+
+
+def i32(n):
+    return struct.pack('>i', n)
+
+
+def u32(n):
+    return struct.pack('>I', n)
+
+
+def i64(n):
+    return struct.pack('>q', n)
+
+
+def text(word):
+    word = word.encode() if isinstance(word, str) else word
+    return (bytes([len(word)]) if len(word) < 255 else b'\xff' + u32(len(word))) + word
+
+
+class Buffer:
+    """The data of a key: byte counts, class words and references count from the key's first byte."""
+
+    def __init__(self, start):
+        self.start, self.data, self.words = start, bytearray(), {}
+
+    def place(self):
+        return self.start + len(self.data)
+
+    def put(self, some):
+        self.data += some
+
+    def begin(self, version):
+        at = len(self.data)
+        self.put(bytes(4) + u16(version))
+        return at
+
+    def end(self, at):
+        self.data[at:at + 4] = u32(0x40000000 | (len(self.data) - at - 4))
+
+    def pointer(self, name, write):
+        """A new object; gives the word by which others refer to it."""
+        at, word = len(self.data), self.place() + 2
+        self.put(bytes(4))
+        if name in self.words:
+            self.put(u32(0x80000000 | self.words[name]))
+        else:
+            self.words[name] = self.place() + 2
+            self.put(b'\xff\xff\xff\xff' + name.encode() + b'\0')
+        write()
+        self.end(at)
+        return word
+
+    def object(self):
+        self.put(u16(1) + u32(0) + u32(0))
+
+    def named(self, name, title=''):
+        at = self.begin(1)
+        self.object()
+        self.put(text(name) + text(title))
+        self.end(at)
+
+    def array(self, items):
+        """A TObjArray; each item is a function that writes a pointer. Gives what they give."""
+        at = self.begin(3)
+        self.object()
+        self.put(text('') + i32(len(items)) + i32(0))
+        got = [item() for item in items]
+        self.end(at)
+        return got
+
+
+# ---- class descriptions
+
+def element(kind, version, name, code, size, type_name, more=b'', base=None):
+    return dict(kind=kind, version=version, name=name, code=code, size=size, type_name=type_name, more=more)
+
+
+def base(name, version):
+    code = 67 if name == 'TNamed' else 0
+    return element('TStreamerBase', 3, name, code, 0, 'BASE', i32(version))
+
+
+def basic(name, code, size, type_name):
+    return element('TStreamerBasicType', 2, name, code, size, type_name)
+
+
+def counted(name, code, size, type_name, by, owner, version):
+    return element('TStreamerBasicPointer', 2, name, code + 40, size, type_name + '*',
+                   i32(version) + text(by) + text(owner))
+
+
+def array_member(name):
+    return element('TStreamerObject', 2, name, 61, 0, 'TObjArray')
+
+
+def tree_classes():
+    branch = [base('TNamed', 1), basic('fEntryOffsetLen', 3, 4, 'int'), basic('fWriteBasket', 3, 4, 'int'),
+              basic('fMaxBaskets', 6, 4, 'int'), basic('fEntries', 16, 8, 'Long64_t'), array_member('fBranches'),
+              array_member('fLeaves'), array_member('fBaskets'),
+              counted('fBasketBytes', 3, 4, 'int', 'fMaxBaskets', 'TBranch', 113),
+              counted('fBasketEntry', 16, 8, 'Long64_t', 'fMaxBaskets', 'TBranch', 113),
+              counted('fBasketSeek', 16, 8, 'Long64_t', 'fMaxBaskets', 'TBranch', 113)]
+    leaf = [base('TNamed', 1), basic('fLen', 3, 4, 'int'), basic('fLenType', 3, 4, 'int'),
+            basic('fIsUnsigned', 18, 1, 'bool'),
+            element('TStreamerObjectPointer', 2, 'fLeafCount', 64, 0, 'TLeaf*')]
+    classes = [('TTree', 120, [base('TNamed', 1), basic('fEntries', 16, 8, 'Long64_t'), array_member('fBranches'),
+                               array_member('fLeaves')]),
+               ('TBranch', 113, branch),
+               ('TBranchElement', 110, [base('TBranch', 113),
+                                        element('TStreamerString', 2, 'fClassName', 65, 0, 'TString'),
+                                        basic('fClassVersion', 3, 4, 'int')]),
+               ('TLeaf', 102, leaf)]
+    return classes + [('TLeaf' + k, 101, [base('TLeaf', 102)]) for k in 'BSILFDOC']
+
+
+def hit_class():
+    return ('Hit', 1, [basic('id', 3, 4, 'int'), basic('charge', 5, 4, 'float')])
+
+
+def write_element(buffer, e):
+    outer = buffer.begin(e['version'])
+    inner = buffer.begin(4)
+    buffer.named(e['name'])
+    buffer.put(i32(e['code']) + i32(e['size']) + i32(0) + i32(0) + i32(0) * 5 + text(e['type_name']))
+    buffer.end(inner)
+    buffer.put(e['more'])
+    buffer.end(outer)
+
+
+def write_info(buffer, name, version, elements):
+    at = buffer.begin(9)
+    buffer.named(name)
+    buffer.put(u32(0) + i32(version))
+    items = [lambda e=e: buffer.pointer(e['kind'], lambda: write_element(buffer, e)) for e in elements]
+    buffer.pointer('TObjArray', lambda: buffer.array(items))
+    buffer.end(at)
+
+
+def class_list(start, classes):
+    buffer = Buffer(start)
+    at = buffer.begin(5)
+    buffer.object()
+    buffer.put(text('') + i32(len(classes)))
+    for name, version, elements in classes:
+        buffer.pointer('TStreamerInfo', lambda: write_info(buffer, name, version, elements))
+        buffer.put(text(''))
+    buffer.end(at)
+    return bytes(buffer.data)
+
+
+# ---- trees
+
+WIDTHS = dict(B=1, b=1, S=2, s=2, I=4, i=4, L=8, l=8, F=4, D=8, O=1, C=1)
+
+
+class Branch:
+    """A branch: its leaves as (name, letter, count or counter or None), or the name of its class; and its baskets as
+    (bytes, first entry, place)."""
+
+    def __init__(self, name, leaves=(), class_name=None, nested=False):
+        self.name, self.leaves, self.class_name, self.nested = name, list(leaves), class_name, nested
+        self.baskets, self.entries = [], 0
+
+    def has_offsets(self):
+        return bool(self.class_name) or any(x[1] == 'C' or isinstance(x[2], str) for x in self.leaves)
+
+    def title(self):
+        spelled = [n + ('' if d is None else f'[{d}]') + '/' + letter for n, letter, d in self.leaves]
+        return self.class_name or ':'.join(spelled)
+
+
+def write_leaf(buffer, leaf, words):
+    name, letter, dim = leaf
+    outer = buffer.begin(101)
+    inner = buffer.begin(102)
+    buffer.named(name, name + ('' if dim is None else f'[{dim}]'))
+    fixed = dim if isinstance(dim, int) else 1
+    buffer.put(i32(fixed) + i32(WIDTHS[letter]) + bytes([letter in 'bsil']))
+    buffer.put(u32(words[dim]) if isinstance(dim, str) else u32(0))
+    buffer.end(inner)
+    buffer.end(outer)
+
+
+def leaf_item(buffer, leaf, words):
+    kind = 'TLeaf' + leaf[1].upper()
+    words[leaf[0]] = buffer.pointer(kind, lambda: write_leaf(buffer, leaf, words))
+    return words[leaf[0]]
+
+
+def write_branch(buffer, branch, words):
+    if branch.class_name:
+        outer = buffer.begin(110)
+    at = buffer.begin(113)
+    buffer.named(branch.name, branch.title())
+    count = len(branch.baskets)
+    buffer.put(i32(1000 if branch.has_offsets() else 0) + i32(count) + i32(count + 1) + i64(branch.entries))
+    inner = [lambda: buffer.pointer('TBranch', lambda: write_branch(buffer, Branch('inner'), words))]
+    buffer.array(inner if branch.nested else [])
+    buffer.array([lambda x=x: leaf_item(buffer, x, words) for x in branch.leaves])
+    buffer.array([])
+    for k, put, last in ((0, i32, 0), (1, i64, branch.entries), (2, i64, 0)):
+        buffer.put(b'\1' + b''.join(put(b[k]) for b in branch.baskets) + put(last))
+    buffer.end(at)
+    if branch.class_name:
+        buffer.put(text(branch.class_name) + i32(1))
+        buffer.end(outer)
+
+
+def branch_item(buffer, branch, words):
+    kind = 'TBranchElement' if branch.class_name else 'TBranch'
+    return buffer.pointer(kind, lambda: write_branch(buffer, branch, words))
+
+
+def tree_header(start, name, entries, branches):
+    buffer, words = Buffer(start), {}
+    at = buffer.begin(120)
+    buffer.named(name)
+    buffer.put(i64(entries))
+    buffer.array([lambda b=b: branch_item(buffer, b, words) for b in branches])
+    leaves = [x[0] for b in branches for x in b.leaves]
+    buffer.array([lambda n=n: buffer.put(u32(words[n])) for n in leaves])
+    buffer.end(at)
+    return bytes(buffer.data)
+
+
+# ---- the file
+
+class File:
+    def __init__(self, path, name, large=False):
+        self.out, self.name, self.large, self.heads = open(path, 'wb'), name, large, []
+        self.place = 100
+        self.open_directory()
+
+    def wide(self, n):
+        return struct.pack('>Q' if self.large else '>I', n)
+
+    def key(self, kind, name, title, data, cycle=1, more=b'', listed=False, pdir=100):
+        """A record at the next place; gives its length and place."""
+        version = 1004 if self.large else 4
+        tail = text(kind) + text(name) + text(title) + more
+        length = 18 + 2 * len(self.wide(0)) + len(tail)
+        if callable(data):
+            data = data(length)
+        data += bytes(-(length + len(data)) % 4)
+        head = i32(length + len(data)) + u16(version) + u32(len(data)) + u32(1) + u16(length) + u16(cycle)
+        head += self.wide(self.place) + self.wide(pdir) + tail
+        place = self.place
+        self.out.seek(place)
+        self.out.write(head + data)
+        self.place += length + len(data)
+        if listed:
+            self.heads.append(head)
+        return length + len(data), place
+
+    def directory(self, keys, place):
+        fields = u16(1005 if self.large else 5) + u32(1) + u32(1) + i32(keys) + i32(self.name_length)
+        return fields + self.wide(100) + self.wide(0) + self.wide(place) + u16(1) + bytes(16) + bytes(12)
+
+    def open_directory(self):
+        names = text(self.name) + text('')
+        self.name_length = 18 + 2 * len(self.wide(0)) + len(text('TFile') + names) + len(names)
+        self.key('TFile', self.name, '', names + self.directory(0, 0), pdir=0)
+
+    def basket(self, tree, branch, entries, first):
+        """A basket of these entries, which the branch then has."""
+        offsets = branch.has_offsets()
+
+        def data(length):
+            got, ends, at = b''.join(entries), [], length
+            for entry in entries:
+                ends.append(at)
+                at += len(entry)
+            return got + (u32(len(entries) + 1) + b''.join(map(u32, ends + [at])) if offsets else b'')
+        version_to_flag = 19
+        length = 18 + 2 * len(self.wide(0)) + len(text('TBasket') + text(branch.name) + text(tree)) + version_to_flag
+        last = length + sum(map(len, entries))
+        size = len(entries) if offsets else len(entries[0])
+        more = u16(3) + i32(BASKET_BYTES) + i32(size) + i32(len(entries)) + i32(last) + b'\0'
+        got = self.key('TBasket', branch.name, tree, data, cycle=0, more=more)
+        branch.baskets.append((got[0], first, got[1]))
+
+    def close(self, classes):
+        info = self.key('TList', 'StreamerInfo', 'Doubly linked list', lambda n: class_list(n, classes))
+        keys = self.key('TFile', self.name, '', u32(len(self.heads)) + b''.join(self.heads))
+        free = self.key('TFile', self.name, '',
+                        u16(1) + u32(0) + u32(2000000000) if not self.large else u16(1001) + bytes(8) + i64(2 ** 62))
+        end = self.place
+        self.out.write(bytes(4))
+        fields = b'root' + u32(1060000 if self.large else 60000) + u32(100) + self.wide(end) + self.wide(free[1])
+        fields += u32(free[0]) + u32(1) + u32(self.name_length) + bytes([8 if self.large else 4]) + u32(0)
+        fields += self.wide(info[1]) + u32(info[0]) + u16(1) + bytes(16)
+        self.out.seek(0)
+        self.out.write(fields + bytes(100 - len(fields)))
+        names = text(self.name) + text('')
+        self.out.seek(100 + self.name_length)
+        self.out.write(self.directory(keys[0], keys[1]))
+        self.out.close()
+
+
+def wide_file(path, entries, count):
+    file = File(path, 'wide.root')
+    branches = [Branch(f'b{j:02}', [(f'b{j:02}', 'I', None)]) for j in range(count)]
+    each = BASKET_BYTES // 4
+    for first in range(0, entries, each):
+        upto = min(entries, first + each)
+        for j, branch in enumerate(branches):
+            numbers = [i32(e * count + j) for e in range(first, upto)]
+            file.basket('G', branch, numbers, first)
+    for branch in branches:
+        branch.entries = entries
+    file.key('TTree', 'G', '', lambda n: tree_header(n, 'G', entries, branches), listed=True)
+    file.close(tree_classes())
+
+
+def hit(number, bits):
+    """An object of the class Hit, as an entry."""
+    body = u16(1) + i32(number) + u32(bits)
+    return u32(0x40000000 | len(body)) + body
+
+
+def small_tree(file):
+    """The tree `T` with three entries, in baskets of two and of one."""
+    branches = [Branch('x', [('x', 'I', None)]), Branch('name', [('name', 'C', None)]),
+                Branch('v', [('n', 'I', None), ('v', 'F', 'n')]), Branch('w', [('w', 's', 2), ('o', 'O', None)]),
+                Branch('hits', class_name='Hit'), Branch('nested', [('y', 'I', None)], nested=True),
+                Branch('u', [('u', 'B', 'n')])]
+    rows = [
+        [i32(-5), text('a"b'), i32(0), u16(1) + u16(65535) + b'\0', hit(7, 0x3F800000), i32(1), b''],
+        [i32(6), text(''), i32(2) + u32(0x3F800000) + u32(0x40000000), u16(2) + u16(3) + b'\1', hit(8, 0), i32(2), b'\1\xff'],
+        [i32(2147483647), text('z' * 300), i32(1) + u32(0x40400000), u16(0) + u16(0) + b'\1', hit(-9, 1), i32(3), b'\2'],
+    ]
+    for first, upto in ((0, 2), (2, 3)):
+        for j, branch in enumerate(branches):
+            file.basket('T', branch, [row[j] for row in rows[first:upto]], first)
+    for branch in branches:
+        branch.entries = len(rows)
+    file.key('TTree', 'T', '', lambda n: tree_header(n, 'T', len(rows), branches), listed=True)
+
+
+def small_file(path, large=False):
+    file = File(path, 'small.root', large)
+    string = u32(0x4000000F) + u16(1) + u16(1) + u32(0) + u32(0) + text('hi')
+    file.key('TObjString', 's', '', string, listed=True)
+    if large:
+        file.place = 3 * 2 ** 30
+    small_tree(file)
+    file.close(tree_classes() + [hit_class()])
+
+
+if __name__ == '__main__':
+    words = sys.argv[1:]
+    if len(words) == 4 and words[1] == 'wide':
+        wide_file(words[0], int(words[2]), int(words[3]))
+    elif len(words) == 2 and words[1] in ('small', 'large'):
+        small_file(words[0], words[1] == 'large')
+    else:
+        sys.exit(__doc__)

@@ -1,0 +1,122 @@
+//! The next row of a scan.
+ghost use Rattle.std.specs.Prelude.{◌≡◌, ◌<◌, ◌^◌, IfOk, IsTrue, length, map, slice_get, Err, ◌↔◌};
+ghost use Rattle.rio_entry.specs.Faults.{GivesEntry};
+ghost use Rattle.rio_entry.specs.Rows.{row_in};
+ghost use Rattle.rio_index.specs.Scan.{broken_at, entry_among, held_entry, read_branches, read_entries, read_numbers};
+
+use crate::lane::{Held, Lane};
+use rio_entry::{EntryFault, RowPart, broken_branch, read_row};
+use rio_num::NoMemory;
+use rio_tree::Branch;
+use rio_types::Classes;
+use rio_value::Values;
+use std::alloc::Global;
+
+// The bytes of the entry in the basket that is held.
+fn held_entry(entry: u64, held: &Option<Held>) -> &[u8]
+    ensures same { result.now ≡ held_entry entry held.now }
+    ensures short { length result.now < 2 ^ 32 }
+{
+    match held {
+        Some(held) => entry_in(entry, held),
+        None => &[],
+    }
+}
+
+fn entry_in(entry: u64, held: &Held) -> &[u8]
+    ensures same { result.now ≡ entry_among entry held.now }
+    ensures short { length result.now < 2 ^ 32 }
+{
+    match held
+        .entries
+        .entry(entry.saturating_sub(held.first) as usize)
+    {
+        Some(bytes) => bytes,
+        None => &[],
+    }
+}
+
+// The branches that are read, with the entries of a row.
+fn row_parts<'a>(
+    alloc: Global,
+    entry: u64,
+    branches: &'a [Branch],
+    lanes: &'a [Lane],
+) -> Result<Vec<RowPart<'a>>, NoMemory>
+    requires { length branches.now ≡ length lanes.now }
+    ensures branches { IfOk result
+        (λ parts. map (λ part. part.branch.now) parts.items ≡ read_branches branches.now lanes.now) }
+    ensures entries { IfOk result
+        (λ parts. map (λ part. part.entry.now) parts.items ≡ read_entries entry lanes.now) }
+{
+    let mut parts = Vec::new(alloc);
+    for (k, branch) in branches.iter().enumerate() {
+        let lane = &lanes[k];
+        if lane.refused.is_some() {
+            continue;
+        }
+        parts.push(RowPart {
+            branch: &branch.def,
+            entry: held_entry(entry, &lane.held),
+        })?;
+    }
+    Ok(parts)
+}
+
+/// The row with these entries of the branches that are read.
+pub(crate) fn read_next(
+    alloc: Global,
+    classes: &Classes,
+    entry: u64,
+    branches: &[Branch],
+    lanes: &[Lane],
+) -> Result<Values, EntryFault>
+    requires { length branches.now ≡ length lanes.now }
+    ensures { GivesEntry result (row_in classes.now (read_branches branches.now lanes.now)
+        (read_entries entry lanes.now)) }
+{
+    let parts = row_parts(alloc, entry, branches, lanes)?;
+    read_row(alloc, classes, parts.as_slice())
+}
+
+// The number of the branch that is the `i`-th of those that are read.
+fn read_number(lanes: &[Lane], i: usize) -> Option<usize>
+    ensures { result ≡ slice_get (read_numbers 0 lanes.now) i }
+{
+    let mut left = i;
+    for (k, lane) in lanes.iter().enumerate() {
+        if lane.refused.is_some() {
+            continue;
+        }
+        if left == 0 {
+            return Some(k);
+        }
+        left -= 1;
+    }
+    None
+}
+
+/// The number of the first branch whose entry breaks in this row.
+pub(crate) fn check_next(
+    alloc: Global,
+    classes: &Classes,
+    entry: u64,
+    branches: &[Branch],
+    lanes: &[Lane],
+) -> Result<Option<usize>, NoMemory>
+    requires { length branches.now ≡ length lanes.now }
+    ensures { IfOk result (λ found. found ≡ broken_at classes.now entry branches.now lanes.now) }
+{
+    let parts = row_parts(alloc, entry, branches, lanes)?;
+    match broken_branch(alloc, classes, parts.as_slice())? {
+        Some(i) => Ok(read_number(lanes, i)),
+        None => Ok(None),
+    }
+}
+
+/// Memory ran out.
+pub(crate) fn is_memory(row: &Result<Values, EntryFault>) -> bool
+    ensures { IsTrue result ↔ (row.now ≡ Err EntryFault.NoMemory) }
+{
+    matches!(row, Err(EntryFault::NoMemory))
+}

@@ -1,0 +1,51 @@
+use Rattle.std.proofs.Common.{ℕ, List, [], ◌+◌, length, take, drop, get_or, None, length-set, refl, sym, ap, ◌∙◌, arith}
+use Rattle.std.proofs.lemmas.Option.{slice_get-get_or}
+use Rattle.rio_host.proofs.ReadsLaws.{reads_join, reads_none}
+use Rattle.rio_scan.specs.declared.row.Row.{Row}
+use Rattle.rio_scan.specs.Sweeps.{sweep, sweep_behind}
+use Rattle.rio_report.proofs.Left.{any_default}
+use Rattle.rio_report.proofs.Walks.{lanes_set, sweep_last, sweep_more}
+use Rattle.rio_report.proofs.rows.read_row.Goals as goal
+
+pub loop-k-init : goal.loop-k-init
+unfolding sweep
+loop-k-init g c = record {
+  calls = reads_none (g.H.Host.view c.args.host.now);
+  calm = refl;
+  swept = λ file told are. ap (λ (row : Row). sweep_behind file c.args.tree.now.classes.now c.args.entry [] row c.args.tree.now.branches.now c.args.refusals.now) c.new-row.ensures;
+  lanes = λ file told are. are;
+  count = ap (λ (row : Row). length row.refusals) c.new-row.ensures;
+  values = ap (λ (row : Row). length row.values) c.new-row.ensures;
+  width = refl;
+}
+
+pub loop-k-preserved : goal.loop-k-preserved
+loop-k-preserved g c =
+    let bs = c.args.tree.now.branches.now in
+    let rs = c.args.refusals.now in
+    let k = c.loop-k.k in
+    let b = c.index-tree-k.result in
+    let lane = c.index-lanes-k.result in
+    let there = slice_get-get_or bs k b (omega arith) in
+    let held = slice_get-get_or c.loop-k.lanes k lane (omega arith) in
+    record {
+      calls = reads_join (g.met.H.Host.lawful c.loop-k.host) c.loop-k.invariant.calls c.in_ok-sweep_branch.ensures.calls;
+      calm = c.in_ok-sweep_branch.ensures.cause ∙ c.loop-k.invariant.calm;
+      swept = λ file told are.
+          let one = c.in_ok-sweep_branch.ensures.row file (c.loop-k.invariant.calls.holds ∙ told) (c.loop-k.invariant.lanes file told are k _ _ there held) in
+          ap (λ (row : Row). sweep_behind file c.args.tree.now.classes.now c.args.entry (take (k + 1) bs) row (drop (k + 1) bs) (drop (k + 1) rs)) one.0
+          ∙ sym (sweep_more file c.args.tree.now.classes.now bs c.args.entry k (get_or bs k b) (get_or rs k None) rs c.loop-k.row (omega arith) (any_default bs k b (get_or bs k b) (omega arith)) (omega arith) (any_default rs k None (get_or rs k None) (omega arith)))
+          ∙ c.loop-k.invariant.swept file told are;
+      lanes = λ file told are.
+          let one = c.in_ok-sweep_branch.ensures.row file (c.loop-k.invariant.calls.holds ∙ told) (c.loop-k.invariant.lanes file told are k _ _ there held) in
+          lanes_set file c.args.entry bs c.loop-k.lanes k (get_or bs k b) c.sweep_branch.new.lane (c.loop-k.invariant.lanes file told are) there one.1;
+      count = omega (arith, c.in_ok-sweep_branch.ensures.count, c.loop-k.invariant.count);
+      values = omega (arith, c.in_ok-sweep_branch.ensures.width, c.loop-k.invariant.values);
+      width = length-set c.loop-k.lanes k c.sweep_branch.new.lane ∙ c.loop-k.invariant.width;
+    }
+
+pub returns-clause-row : goal.returns-clause-row
+returns-clause-row g c file told are = (
+  sym (sweep_last file c.args.tree.now.classes.now c.args.tree.now.branches.now c.args.entry c.loop-k.k c.args.refusals.now c.loop-k.row (omega arith)) ∙ c.loop-k.invariant.swept file told are,
+  c.loop-k.invariant.lanes file told are,
+)

@@ -1,0 +1,17 @@
+use Rattle.std.proofs.Common.{List, ℕ, Err, sym, ap, ◌∙◌}
+use Rattle.rio_key.specs.declared.head.KeyHead.{KeyHead}
+use Rattle.rio_host.proofs.PiecesLaws.{says_as}
+use Rattle.rio_scan.specs.Scan.{found_tree, key_scan, no_tree_line, scan_lines, scan_text}
+use Rattle.rio_report.proofs.scan.say_described_tree.Goals as goal
+
+pub returns-in-Ok-clause-says : goal.returns-in-Ok-clause-says
+returns-in-Ok-clause-says g c =
+    let classes = c.args.described.now.classes in
+    says_as (g.H.Host.view c.args.host.now) (g.H.Host.view c.say_tree_key.new.host) (λ file. key_scan file classes c.in-Ok.key.now) (λ file. scan_text file c.args.name.now c.args.described.now)
+    (λ file told. sym (ap (λ (keys : List KeyHead). scan_lines file classes (found_tree c.args.name.now keys)) (sym c.as_slice.ensures) ∙ ap (scan_lines file classes) c.in-Ok.ensures)) c.say_tree_key.result c.say_tree_key.ensures.says
+
+pub returns-in-Err-clause-says : goal.returns-in-Err-clause-says
+returns-in-Err-clause-says g c =
+    let classes = c.args.described.now.classes in
+    says_as (g.H.Host.view c.args.host.now) (g.H.Host.view c.say_piece.new.host) (λ file. c.no_tree_text.result.now) (λ file. scan_text file c.args.name.now c.args.described.now)
+    (λ file told. c.no_tree_text.ensures ∙ sym (ap (λ (keys : List KeyHead). scan_lines file classes (found_tree c.args.name.now keys)) (sym c.as_slice.ensures) ∙ ap (scan_lines file classes) c.in-Err.ensures)) c.say_piece.result c.say_piece.ensures.says

@@ -1,0 +1,60 @@
+-- What is held of the branches of a tree, and what is found and printed of them.
+use Rattle.std.specs.Prelude.{◌≡◌, ◌≤◌, ℕ, ℤ, List, [], ◌∷◌, ◌++◌, codes, slice_get, Option, Some, None, Bool, false, if◌then◌else◌}
+use Rattle.std.specs.Str.{bytes_eq}
+use Rattle.rio_leaf.specs.declared.leaf.Leaf.{Leaf}
+use Rattle.rio_format.specs.Bodies.{number_in}
+use Rattle.rio_tree.specs.declared.basket_at.BasketAt.{BasketAt}
+use Rattle.rio_tree.specs.declared.head.Branch.{Branch}
+use Rattle.rio_tree.specs.declared.refusal.BranchRefusal.{BranchRefusal}
+use Rattle.rio_value.specs.declared.value.Value.{Value, out-Value}
+use Rattle.rio_model.specs.ValueText.{text_of_value}
+use Rattle.rio_scan.specs.StoredEntries.{StoredEntries, basket_number, stored_basket}
+use Rattle.rio_report.specs.declared.lane.Lane.{Lane}
+
+-- the number of a leaf of the name, or else what was found before
+abbrev pub number_if_named : List ℕ → Leaf → Value → Option ℤ → Option ℤ
+number_if_named name leaf v found = if bytes_eq name leaf.name then Some (number_in (out-Value v)) else found
+
+-- the same for the first of these values, if there is one
+abbrev pub number_with : List ℕ → Leaf → List Value → Option ℤ → Option ℤ
+number_with name leaf [] found = found
+number_with name leaf (v ∷ vs) found = number_if_named name leaf v found
+
+-- ---- what is held of a branch
+
+-- A basket is held, of this number; of the file it is what stands there.
+abbrev pub IsHeld : List ℕ → Branch → ℕ → Option StoredEntries → Type 0
+IsHeld file b number None = Unit {0}
+IsHeld file b number (Some found) = (at : BasketAt) → slice_get b.baskets number ≡ Some at → found ≡ stored_basket file b.offsets at
+
+-- ---- lanes
+
+-- nothing is held
+abbrev pub empty_handed : Lane
+empty_handed = record { number = 0; basket = None; fault = None }
+
+-- the basket that is held isn't behind the entry's, and is what stands in the file
+abbrev pub IsLane : List ℕ → ℕ → Branch → Lane → Type 0
+IsLane file e b lane = (lane.number ≤ basket_number e b.baskets) × IsHeld file b lane.number lane.basket
+
+-- each of the branches has such a lane
+abbrev pub AreLanes : List ℕ → ℕ → List Branch → List Lane → Type 0
+AreLanes file e branches lanes =
+    (k : ℕ) (b : Branch) (lane : Lane) → slice_get branches k ≡ Some b → slice_get lanes k ≡ Some lane → IsLane file e b lane
+
+-- ---- what is printed
+
+-- the texts of values behind others, or at the front
+abbrev pub values_behind : Bool → List Value → List ℕ
+values_behind first [] = []
+values_behind first (v ∷ vs) = (if first then [] else codes ", ") ++ text_of_value v ++ values_behind false vs
+
+-- whether the values behind these stand at the front
+abbrev pub first_after : Bool → List Value → Bool
+first_after first [] = first
+first_after first (v ∷ vs) = false
+
+-- the values of a branch, if it isn't refused
+abbrev pub values_unrefused : Option BranchRefusal → List Value → List Value
+values_unrefused None vs = vs
+values_unrefused (Some refusal) vs = []

@@ -1,0 +1,180 @@
+//! What earlier branches count for the leaves of a branch.
+ghost use Rattle.std.specs.Prelude.{◌≡◌, ℕ, None, Some, IfOk, drop, map, slice_get};
+ghost use Rattle.std.specs.List.{list_any};
+ghost use Rattle.rio_entry.specs.Leaves.{last_number as last_said};
+ghost use Rattle.rio_format.specs.Bodies.{number_in};
+ghost use Rattle.rio_value.specs.declared.value.Value.{out-Value};
+ghost use Rattle.rio_scan.specs.Counters.{branch_leaves, counters_are_read, entry_counts, is_refused, leaf_count, number_in_branch, number_said, values_there};
+ghost use Rattle.rio_report.specs.Lanes.{number_with, number_if_named};
+
+use rio_leaf::{Dim, Leaf, Shape};
+use rio_num::NoMemory;
+use rio_scan::{BranchRows, Refusals};
+use rio_tree::{Branch, BranchRefusal};
+use rio_value::{Value, Values};
+use std::alloc::Global;
+
+// The branch at `k` is refused.
+fn is_refused(refusals: &[Option<BranchRefusal>], k: usize) -> bool
+    ensures { result ≡ is_refused (slice_get refusals.now k) }
+{
+    match refusals.get(k) {
+        Some(refusal) => refusal.is_some(),
+        None => false,
+    }
+}
+
+fn is_any_refused(refusals: &[Option<BranchRefusal>], numbers: &[usize]) -> bool
+    ensures { result ≡ list_any (λ k. is_refused (slice_get refusals.now k)) numbers.now }
+{
+    numbers.iter().any(|k| is_refused(refusals, *k))
+}
+
+/// None of the branches by whose leaves the branch is counted is refused.
+pub(crate) fn counters_are_read(refusals: &Refusals, branch: &Branch) -> bool
+    ensures { result ≡ counters_are_read refusals.now branch.now }
+{
+    !is_any_refused(refusals.as_slice(), branch.counted_by.as_slice())
+}
+
+fn number_in(value: &Value) -> i128
+    ensures { result ≡ number_in (out-Value value.now) }
+{
+    match value {
+        Value::Int(n) => *n,
+        _ => 0,
+    }
+}
+
+// The number, if the leaf has the name, or else what was found before.
+fn number_if_named(name: &[u8], leaf: &Leaf, value: &Value, found: Option<i128>) -> Option<i128>
+    ensures { result ≡ number_if_named name.now leaf.now value.now found }
+{
+    if name == leaf.name.as_slice() {
+        Some(number_in(value))
+    } else {
+        found
+    }
+}
+
+// The same for the value at `k`, if there is one.
+fn number_with(
+    name: &[u8],
+    leaf: &Leaf,
+    values: &[Value],
+    k: usize,
+    found: Option<i128>,
+) -> Option<i128>
+    ensures { result ≡ number_with name.now leaf.now (drop k values.now) found }
+{
+    match values.get(k) {
+        Some(value) => number_if_named(name, leaf, value, found),
+        None => found,
+    }
+}
+
+// The number of the last leaf of the name, or else what was found before.
+fn last_number(name: &[u8], leaves: &[Leaf], values: &[Value], found: Option<i128>) -> Option<i128>
+    ensures { result ≡ last_said name.now leaves.now values.now found }
+{
+    let mut last = found;
+    for (k, leaf) in leaves.iter().enumerate() {
+        last = number_with(name, leaf, values, k, last);
+    }
+    last
+}
+
+fn branch_leaves(branch: &Branch) -> &[Leaf]
+    ensures { result.now ≡ branch_leaves branch.now }
+{
+    match &branch.def.shape {
+        Shape::Leaves(leaves) => leaves.as_slice(),
+        Shape::Class(_) => &[],
+    }
+}
+
+// The values of the branch at `k`.
+fn values_there(row: &BranchRows, k: usize) -> &[Value]
+    ensures { result.now ≡ values_there (slice_get row.now k) }
+{
+    match row.get(k) {
+        Some(values) => values.as_slice(),
+        None => &[],
+    }
+}
+
+fn number_in_branch(
+    name: &[u8],
+    branches: &[Branch],
+    row: &BranchRows,
+    k: usize,
+    found: Option<i128>,
+) -> Option<i128>
+    ensures { result ≡ number_in_branch name.now (slice_get branches.now k)
+        (values_there (slice_get row.now k)) found }
+{
+    match branches.get(k) {
+        Some(branch) => last_number(name, branch_leaves(branch), values_there(row, k), found),
+        None => found,
+    }
+}
+
+// What the branches of these numbers say of the leaf of the name.
+fn number_said(
+    name: &[u8],
+    branches: &[Branch],
+    row: &BranchRows,
+    counters: &[usize],
+) -> Option<i128>
+    ensures { result ≡ number_said name.now branches.now row.now counters.now None }
+{
+    let mut found: Option<i128> = None;
+    for k in counters {
+        found = number_in_branch(name, branches, row, *k, found);
+    }
+    found
+}
+
+// What is counted for a leaf.
+fn leaf_count(branches: &[Branch], row: &BranchRows, counters: &[usize], leaf: &Leaf) -> Value
+    ensures { result ≡ leaf_count branches.now row.now counters.now leaf.now }
+{
+    match &leaf.dim {
+        Dim::One => Value::Int(0),
+        Dim::Fixed(_) => Value::Int(0),
+        Dim::Counted { counter, .. } => {
+            Value::Int(number_said(counter.as_slice(), branches, row, counters).unwrap_or(0))
+        }
+    }
+}
+
+// The same for each leaf.
+fn count_leaves(
+    alloc: Global,
+    branches: &[Branch],
+    row: &BranchRows,
+    counters: &[usize],
+    leaves: &[Leaf],
+) -> Result<Values, NoMemory>
+    ensures { IfOk result
+        (λ counts. counts ≡ map (leaf_count branches.now row.now counters.now) leaves.now) }
+{
+    let mut counts = Values::new(alloc);
+    for leaf in leaves {
+        counts.push(leaf_count(branches, row, counters, leaf))?;
+    }
+    Ok(counts)
+}
+
+/// What is counted for each leaf of a branch by leaves of the branches before it, which have these values.
+pub(crate) fn entry_counts(
+    alloc: Global,
+    branches: &[Branch],
+    row: &BranchRows,
+    branch: &Branch,
+) -> Result<Values, NoMemory>
+    ensures { IfOk result (λ counts. counts ≡ entry_counts branches.now row.now branch.now) }
+{
+    let counters = branch.counted_by.as_slice();
+    count_leaves(alloc, branches, row, counters, branch_leaves(branch))
+}

@@ -1,0 +1,120 @@
+//! What is held of a branch while its rows are read: one basket.
+ghost use Rattle.std.specs.Prelude.{◌≡◌, ◌+◌, ◌≤◌, ℕ, List, Some, IsTrue, is_some, OnOk, drop, nat_le, slice_get};
+ghost use Rattle.std.specs.List.{prefix_len};
+ghost use Rattle.std.specs.Option.{option_copied};
+ghost use Rattle.rio_host.specs.Host.{IsLength};
+ghost use Rattle.rio_host.specs.OnlyReads.{OnlyReads};
+ghost use Rattle.rio_close.specs.Causes.{IsCallCause};
+ghost use Rattle.rio_scan.specs.StoredEntries.{basket_number, branch_entry};
+ghost use Rattle.rio_report.specs.Lanes.{IsHeld};
+
+use crate::stored::{FoundBasket, read_stored_basket};
+use rio_basket::BasketFault;
+use rio_close::ReportFault;
+use rio_host::Host;
+use rio_tree::{BasketAt, Branch};
+use std::alloc::Global;
+
+/// Why an entry of a branch isn't read: its basket, or the first part of it that breaks.
+#[derive(Clone, Copy, Debug, PartialEq, Eq)]
+pub(crate) enum RowFault {
+    Basket(BasketFault),
+    Entry { place: u64 },
+}
+
+/// What is held of a branch: the number of the basket that was looked at last, and what it is; and why an entry wasn't
+/// read, if one wasn't.
+#[derive(Debug, Drop)]
+pub(crate) struct Lane {
+    pub(crate) number: usize,
+    pub(crate) basket: Option<FoundBasket>,
+    pub(crate) fault: Option<RowFault>,
+}
+
+impl Lane {
+    ghost use Rattle.rio_report.specs.Lanes.{empty_handed};
+
+    /// Nothing is held.
+    pub(crate) fn empty() -> Lane
+        ensures { result ≡ empty_handed }
+    {
+        Lane {
+            number: 0,
+            basket: None,
+            fault: None,
+        }
+    }
+}
+
+// How many baskets at the front begin at the entry or before it.
+fn passed(baskets: &[BasketAt], entry: u64) -> usize
+    ensures { result ≡ prefix_len (λ at. nat_le at.first entry) baskets.now }
+{
+    for (k, at) in baskets.iter().enumerate() {
+        if at.first > entry {
+            return k;
+        }
+    }
+    baskets.len()
+}
+
+// The number of the entry's basket, which is looked for from one on that isn't behind it.
+fn number_from(baskets: &[BasketAt], from: usize, entry: u64) -> usize
+    ensures { from ≤ basket_number entry baskets.now
+        → result ≡ basket_number entry baskets.now }
+{
+    if from < baskets.len() {
+        from + passed(&baskets[from + 1..], entry)
+    } else {
+        from
+    }
+}
+
+/// Holds the basket of the entry.
+pub(crate) fn hold<H: Host>(
+    alloc: Global,
+    host: &mut H,
+    file_length: u64,
+    branch: &Branch,
+    entry: u64,
+    lane: &mut Lane,
+) -> Result<(), ReportFault>
+    requires { IsLength (H.view host.old) file_length }
+    ensures number { OnOk result (lane.old.number ≤ basket_number entry branch.now.baskets
+        → lane.new.number ≡ basket_number entry branch.now.baskets) }
+    ensures held { OnOk result ((file : List ℕ) → (H.view host.old).holds ≡ Some file
+        → IsHeld file branch.now lane.old.number lane.old.basket
+        → IsHeld file branch.now lane.new.number lane.new.basket) }
+    ensures some { OnOk result (IsTrue (is_some lane.new.basket)) }
+    ensures calls { OnlyReads (H.view host.old) (H.view host.new) }
+    ensures cause { IsCallCause (H.view host.old) (H.view host.new) result }
+{
+    let baskets = branch.baskets.as_slice();
+    let number = number_from(baskets, lane.number, entry);
+    if number == lane.number && lane.basket.is_some() {
+        return Ok(());
+    }
+    lane.number = number;
+    lane.basket = None;
+    match baskets.get(number) {
+        Some(at) => {
+            let found = read_stored_basket(alloc, host, file_length, branch.offsets, at)?;
+            lane.basket = Some(found);
+        }
+        None => lane.basket = Some(Err(BasketFault::BadLast { place: 0 })),
+    }
+    Ok(())
+}
+
+/// The entry in the basket that is held, if it is there.
+pub(crate) fn entry_there<'a>(branch: &Branch, lane: &'a Lane, entry: u64) -> Option<&'a [u8]>
+    ensures { (file : List ℕ) → lane.now.number ≡ basket_number entry branch.now.baskets
+        → IsTrue (is_some lane.now.basket)
+        → IsHeld file branch.now lane.now.number lane.now.basket
+        → option_copied result ≡ branch_entry file branch.now entry }
+{
+    match (branch.baskets.get(lane.number), &lane.basket) {
+        (Some(at), Some(Ok(basket))) => basket.entry(entry.saturating_sub(at.first) as usize),
+        _ => None,
+    }
+}

@@ -1,0 +1,144 @@
+//! Which branches of a tree aren't read, by its header and by the file.
+ghost use Rattle.std.specs.Prelude.{◌≡◌, ◌<◌, ℕ, List, Some, IfOk, is_none, length, slice_get, take};
+ghost use Rattle.std.specs.List.{list_any};
+ghost use Rattle.rio_host.specs.Host.{IsLength};
+ghost use Rattle.rio_host.specs.OnlyReads.{OnlyReads};
+ghost use Rattle.rio_close.specs.Causes.{IsCallCause};
+ghost use Rattle.rio_scan.specs.Refusals.{branch_refusal, refusals_of};
+ghost use Rattle.rio_tree.specs.declared.head.Branch.{Branch as Branched};
+ghost use Rattle.rio_report.specs.Lanes.{AreLanes};
+
+use crate::lane::Lane;
+use crate::rows::{Tree, read_row, refusal_before};
+use crate::stored::refusal_of_baskets;
+use rio_close::ReportFault;
+use rio_host::Host;
+use rio_num::NoMemory;
+use rio_scan::Refusals;
+use rio_tree::BranchRefusal;
+use std::alloc::Global;
+
+// Why the branch at `k` isn't read, behind those that are refused so, before any entry is looked at.
+fn first_refusal<H: Host>(
+    alloc: Global,
+    host: &mut H,
+    tree: &Tree,
+    k: usize,
+    refusals: &Refusals,
+) -> Result<Option<BranchRefusal>, ReportFault>
+    requires length { IsLength (H.view host.old) tree.now.file_length }
+    requires within { k < length tree.now.branches.now }
+    ensures refusal { IfOk result (λ refusal. (file : List ℕ)
+        → (H.view host.old).holds ≡ Some file → (b : Branched)
+        → slice_get tree.now.branches.now k ≡ Some b
+        → refusal ≡ branch_refusal file tree.now.classes.now 0
+        (take k tree.now.branches.now) refusals.now b) }
+    ensures calls { OnlyReads (H.view host.old) (H.view host.new) }
+    ensures cause { IsCallCause (H.view host.old) (H.view host.new) result }
+{
+    let branch = &tree.branches[k];
+    let told = refusal_before(refusals, branch, branch.refused);
+    if told.is_some() {
+        return Ok(told);
+    }
+    let baskets = branch.baskets.as_slice();
+    refusal_of_baskets(
+        alloc,
+        host,
+        tree.file_length,
+        branch.offsets,
+        branch.entries,
+        baskets,
+    )
+}
+
+// Why each branch isn't read, before any entry is looked at.
+fn first_refusals<H: Host>(
+    alloc: Global,
+    host: &mut H,
+    tree: &Tree,
+) -> Result<Refusals, ReportFault>
+    requires { IsLength (H.view host.old) tree.now.file_length }
+    ensures refusals { IfOk result (λ refusals. (file : List ℕ)
+        → (H.view host.old).holds ≡ Some file
+        → refusals ≡ refusals_of file tree.now.classes.now 0 tree.now.branches.now) }
+    ensures count { IfOk result (λ refusals. length refusals ≡ length tree.now.branches.now) }
+    ensures calls { OnlyReads (H.view host.old) (H.view host.new) }
+    ensures cause { IsCallCause (H.view host.old) (H.view host.new) result }
+{
+    let mut refusals = Refusals::new(alloc);
+    for k in 0..tree.branches.len() {
+        let refusal = first_refusal(alloc, host, tree, k, &refusals)?;
+        refusals.push(refusal)?;
+    }
+    Ok(refusals)
+}
+
+/// Nothing is held of so many branches.
+pub(crate) fn empty_lanes(alloc: Global, n: usize) -> Result<Vec<Lane>, NoMemory>
+    ensures count { IfOk result (λ lanes. length lanes.items ≡ n) }
+    ensures empty { IfOk result (λ lanes. (file : List ℕ) (e : ℕ) (branches : List Branched)
+        → AreLanes file e branches lanes.items) }
+{
+    let mut lanes = Vec::new(alloc);
+    for _k in 0..n {
+        lanes.push(Lane::empty())?;
+    }
+    Ok(lanes)
+}
+
+fn is_any_read(refusals: &Refusals) -> bool
+    ensures { result ≡ list_any is_none refusals.now }
+{
+    let refusals = refusals.as_slice();
+    refusals.iter().any(|refusal| refusal.is_none())
+}
+
+// Goes through the entries: a branch is no longer read from the first one on that isn't read.
+fn test_entries<H: Host>(
+    alloc: Global,
+    host: &mut H,
+    tree: &Tree,
+    entries: u64,
+    first: Refusals,
+) -> Result<Refusals, ReportFault>
+    requires length { IsLength (H.view host.old) tree.now.file_length }
+    requires count { length first ≡ length tree.now.branches.now }
+    ensures refusals { IfOk result (λ refusals. (file : List ℕ)
+        → (H.view host.old).holds ≡ Some file
+        → first ≡ refusals_of file tree.now.classes.now 0 tree.now.branches.now
+        → refusals ≡ refusals_of file tree.now.classes.now entries tree.now.branches.now) }
+    ensures count { IfOk result (λ refusals. length refusals ≡ length tree.now.branches.now) }
+    ensures calls { OnlyReads (H.view host.old) (H.view host.new) }
+    ensures cause { IsCallCause (H.view host.old) (H.view host.new) result }
+{
+    let mut lanes = empty_lanes(alloc, tree.branches.len())?;
+    let mut refusals = first;
+    for entry in 0..entries {
+        if !is_any_read(&refusals) {
+            return Ok(refusals);
+        }
+        let row = read_row(alloc, host, tree, entry, refusals.as_slice(), &mut lanes)?;
+        refusals = row.refusals;
+    }
+    Ok(refusals)
+}
+
+/// Why each branch of a tree with so many entries isn't read.
+pub(crate) fn find_refusals<H: Host>(
+    alloc: Global,
+    host: &mut H,
+    tree: &Tree,
+    entries: u64,
+) -> Result<Refusals, ReportFault>
+    requires { IsLength (H.view host.old) tree.now.file_length }
+    ensures refusals { IfOk result (λ refusals. (file : List ℕ)
+        → (H.view host.old).holds ≡ Some file
+        → refusals ≡ refusals_of file tree.now.classes.now entries tree.now.branches.now) }
+    ensures count { IfOk result (λ refusals. length refusals ≡ length tree.now.branches.now) }
+    ensures calls { OnlyReads (H.view host.old) (H.view host.new) }
+    ensures cause { IsCallCause (H.view host.old) (H.view host.new) result }
+{
+    let first = first_refusals(alloc, host, tree)?;
+    test_entries(alloc, host, tree, entries, first)
+}

@@ -1,0 +1,252 @@
+//! The rows of a tree, read entry by entry.
+ghost use Rattle.std.specs.Prelude.{◌≡◌, ◌+◌, ℕ, List, Some, None, IfOk, IsTrue, OnOk, is_some, length};
+ghost use Rattle.std.specs.Result.{result_ok};
+ghost use Rattle.rio_host.specs.Host.{IsLength};
+ghost use Rattle.rio_host.specs.OnlyReads.{OnlyReads};
+ghost use Rattle.rio_close.specs.Causes.{IsCallCause};
+ghost use Rattle.rio_scan.specs.Refusals.{refused_first};
+ghost use Rattle.rio_scan.specs.Rows.{values_if_read, values_of_branch};
+ghost use Rattle.rio_scan.specs.StoredEntries.{basket_number};
+ghost use Rattle.rio_scan.specs.Sweeps.{refusal_before, sweep, sweep_one, with_branch};
+ghost use Rattle.rio_report.specs.Lanes.{AreLanes, IsHeld, IsLane};
+
+use crate::counts::{counters_are_read, entry_counts};
+use crate::lane::{Lane, RowFault, entry_there, hold};
+use rio_basket::BasketFault;
+use rio_close::ReportFault;
+use rio_entry::{EntryFault, read_entry};
+use rio_host::Host;
+use rio_leaf::BranchDef;
+use rio_num::NoMemory;
+use rio_scan::{Refusals, Row};
+use rio_tree::{Branch, BranchRefusal};
+use rio_types::Classes;
+use rio_value::Values;
+use std::alloc::Global;
+
+/// A tree in a file: the file's length and classes, and the tree's branches.
+#[derive(Drop)]
+pub(crate) struct Tree<'a> {
+    pub(crate) file_length: u64,
+    pub(crate) classes: &'a Classes,
+    pub(crate) branches: &'a [Branch],
+}
+
+/// An entry of a branch, which stands behind others.
+#[derive(Drop)]
+pub(crate) struct Place<'a> {
+    pub(crate) before: &'a [Branch],
+    pub(crate) branch: &'a Branch,
+    pub(crate) entry: u64,
+}
+
+/// The values of an entry, or why it isn't read.
+pub(crate) type FoundValues = Result<Values, RowFault>;
+
+// The refusals that come no later than NoCounter.
+fn refused_first(refusal: Option<BranchRefusal>) -> Option<BranchRefusal>
+    ensures { result ≡ refused_first refusal }
+{
+    match refusal {
+        Some(BranchRefusal::BranchClass) => refusal,
+        Some(BranchRefusal::SubBranches) => refusal,
+        Some(BranchRefusal::EmbeddedBasket) => refusal,
+        Some(BranchRefusal::LeafClass) => refusal,
+        Some(BranchRefusal::NoCounter) => refusal,
+        _ => None,
+    }
+}
+
+/// The refusal with which a branch comes behind others that are refused so.
+pub(crate) fn refusal_before(
+    refusals: &Refusals,
+    branch: &Branch,
+    refusal: Option<BranchRefusal>,
+) -> Option<BranchRefusal>
+    ensures { result ≡ refusal_before refusals.now branch.now refusal }
+{
+    match refused_first(refusal) {
+        Some(first) => Some(first),
+        None if !counters_are_read(refusals, branch) => Some(BranchRefusal::NoCounter),
+        None => refusal,
+    }
+}
+
+// Why there is no entry in a basket.
+fn fault_of(lane: &Lane) -> RowFault {
+    match &lane.basket {
+        Some(Err(fault)) => RowFault::Basket(*fault),
+        _ => RowFault::Basket(BasketFault::BadLast { place: 0 }),
+    }
+}
+
+// The values of these bytes as an entry. More than 4 GiB aren't read.
+fn read_bytes(
+    alloc: Global,
+    classes: &Classes,
+    branch: &BranchDef,
+    counts: &Values,
+    bytes: &[u8],
+) -> Result<FoundValues, NoMemory>
+    ensures { IfOk result (λ found. result_ok found
+        ≡ values_if_read classes.now branch.now.shape counts.now (Some bytes.now)) }
+{
+    if bytes.len() > u32::MAX as usize {
+        return Err(NoMemory);
+    }
+    match read_entry(alloc, classes, branch, counts, bytes) {
+        Ok(values) => Ok(Ok(values)),
+        Err(EntryFault::BadEntry { place }) => Ok(Err(RowFault::Entry { place })),
+        Err(EntryFault::NoMemory) => Err(NoMemory),
+        Err(_) => Ok(Err(RowFault::Entry { place: 0 })),
+    }
+}
+
+// The values of the entry in the basket that is held. The branches before have the row's values there.
+fn read_held(
+    alloc: Global,
+    classes: &Classes,
+    place: &Place,
+    lane: &Lane,
+    row: &Row,
+) -> Result<FoundValues, NoMemory>
+    ensures { IfOk result (λ found. (file : List ℕ)
+        → lane.now.number ≡ basket_number place.now.entry place.now.branch.now.baskets
+        → IsTrue (is_some lane.now.basket)
+        → IsHeld file place.now.branch.now lane.now.number lane.now.basket
+        → result_ok found ≡ values_of_branch file classes.now place.now.entry
+        place.now.before.now row.now.values place.now.branch.now) }
+{
+    match entry_there(place.branch, lane, place.entry) {
+        Some(bytes) => {
+            let counts = entry_counts(alloc, place.before, &row.values, place.branch)?;
+            read_bytes(alloc, classes, &place.branch.def, &counts, bytes)
+        }
+        None => Ok(Err(fault_of(lane))),
+    }
+}
+
+// The same, behind holding the basket.
+fn read_values<H: Host>(
+    alloc: Global,
+    host: &mut H,
+    tree: &Tree,
+    place: &Place,
+    lane: &mut Lane,
+    row: &Row,
+) -> Result<FoundValues, ReportFault>
+    requires { IsLength (H.view host.old) tree.now.file_length }
+    ensures values { IfOk result (λ found. (file : List ℕ)
+        → (H.view host.old).holds ≡ Some file
+        → IsLane file place.now.entry place.now.branch.now lane.old
+        → (result_ok found ≡ values_of_branch file tree.now.classes.now place.now.entry
+        place.now.before.now row.now.values place.now.branch.now)
+        × IsLane file place.now.entry place.now.branch.now lane.new) }
+    ensures calls { OnlyReads (H.view host.old) (H.view host.new) }
+    ensures cause { IsCallCause (H.view host.old) (H.view host.new) result }
+{
+    hold(
+        alloc,
+        host,
+        tree.file_length,
+        place.branch,
+        place.entry,
+        lane,
+    )?;
+    Ok(read_held(alloc, tree.classes, place, lane, row)?)
+}
+
+// Puts the branch at the end of a row, with the values that were read.
+fn push_found(
+    alloc: Global,
+    found: FoundValues,
+    lane: &mut Lane,
+    row: &mut Row,
+) -> Result<(), NoMemory>
+    ensures row { OnOk result (row.new ≡ with_branch row.old None (result_ok found)) }
+    ensures kept { (lane.new.number ≡ lane.old.number) × (lane.new.basket ≡ lane.old.basket) }
+{
+    match found {
+        Ok(values) => row.push(None, values),
+        Err(fault) => {
+            lane.fault = Some(fault);
+            row.push(Some(BranchRefusal::BadEntry), Values::new(alloc))
+        }
+    }
+}
+
+// Puts the branch at the end of a row, which it comes to with this refusal.
+fn sweep_branch<H: Host>(
+    alloc: Global,
+    host: &mut H,
+    tree: &Tree,
+    place: &Place,
+    refusal: Option<BranchRefusal>,
+    lane: &mut Lane,
+    row: &mut Row,
+) -> Result<(), ReportFault>
+    requires { IsLength (H.view host.old) tree.now.file_length }
+    ensures row { OnOk result ((file : List ℕ)
+        → (H.view host.old).holds ≡ Some file
+        → IsLane file place.now.entry place.now.branch.now lane.old
+        → (row.new ≡ sweep_one file tree.now.classes.now place.now.entry
+        place.now.before.now row.old place.now.branch.now refusal)
+        × IsLane file place.now.entry place.now.branch.now lane.new) }
+    ensures count { OnOk result (length row.new.refusals ≡ length row.old.refusals + 1) }
+    ensures width { OnOk result (length row.new.values ≡ length row.old.values + 1) }
+    ensures calls { OnlyReads (H.view host.old) (H.view host.new) }
+    ensures cause { IsCallCause (H.view host.old) (H.view host.new) result }
+{
+    lane.fault = None;
+    let refusal = refusal_before(&row.refusals, place.branch, refusal);
+    if refusal.is_some() {
+        row.push(refusal, Values::new(alloc))?;
+        return Ok(());
+    }
+    let found = read_values(alloc, host, tree, place, lane, row)?;
+    push_found(alloc, found, lane, row)?;
+    Ok(())
+}
+
+/// The row at an entry, of branches that come to it with these refusals.
+pub(crate) fn read_row<H: Host>(
+    alloc: Global,
+    host: &mut H,
+    tree: &Tree,
+    entry: u64,
+    refusals: &[Option<BranchRefusal>],
+    lanes: &mut [Lane],
+) -> Result<Row, ReportFault>
+    requires length { IsLength (H.view host.old) tree.now.file_length }
+    requires refusals { length refusals.now ≡ length tree.now.branches.now }
+    requires lanes { length lanes.old ≡ length tree.now.branches.now }
+    ensures lanes { length lanes.new ≡ length lanes.old }
+    ensures row { IfOk result (λ row. (file : List ℕ)
+        → (H.view host.old).holds ≡ Some file
+        → AreLanes file entry tree.now.branches.now lanes.old
+        → (row ≡ sweep file tree.now.classes.now entry tree.now.branches.now refusals.now)
+        × AreLanes file entry tree.now.branches.now lanes.new) }
+    ensures count { IfOk result (λ row. length row.refusals ≡ length tree.now.branches.now) }
+    ensures width { IfOk result (λ row. length row.values ≡ length tree.now.branches.now) }
+    ensures calls { OnlyReads (H.view host.old) (H.view host.new) }
+    ensures cause { IsCallCause (H.view host.old) (H.view host.new) result }
+{
+    let mut row = Row::new(alloc);
+    for k in 0..tree.branches.len() {
+        let place = Place {
+            before: &tree.branches[..k],
+            branch: &tree.branches[k],
+            entry,
+        };
+        sweep_branch(
+            alloc,
+            host,
+            tree,
+            &place,
+            refusals[k],
+            &mut lanes[k],
+            &mut row,
+        )?;
+    }
+    Ok(row)
+}

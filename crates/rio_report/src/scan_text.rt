@@ -1,0 +1,205 @@
+//! The lines that are said of a tree.
+ghost use Rattle.std.specs.Prelude.{◌≡◌, ◌++◌, codes, length, IfOk, OnOk};
+ghost use Rattle.rio_scan.specs.Rows.{read_values};
+ghost use Rattle.rio_scan.specs.Scan.{branch_refusal_name, numbered_row, refused_line, refused_lines, scanned_count};
+ghost use Rattle.rio_model.specs.Lists.{separated};
+ghost use Rattle.rio_model.specs.ValueText.{text_of_value};
+ghost use Rattle.rio_report.specs.Lanes.{first_after, values_behind, values_unrefused};
+ghost use Rattle.rio_value.specs.declared.value.Value.{List as Listed};
+
+use crate::lane::{Lane, RowFault};
+use rio_basket::BasketFault;
+use rio_num::{Bytes, NoMemory};
+use rio_tree::{Branch, BranchRefusal};
+use rio_valtext::print_value;
+use rio_value::{Value, Values};
+
+fn refusal_name(refusal: BranchRefusal) -> &'static [u8]
+    ensures { result.now ≡ branch_refusal_name refusal }
+{
+    match refusal {
+        BranchRefusal::BranchClass => b"BranchClass",
+        BranchRefusal::SubBranches => b"SubBranches",
+        BranchRefusal::EmbeddedBasket => b"EmbeddedBasket",
+        BranchRefusal::LeafClass => b"LeafClass",
+        BranchRefusal::NoCounter => b"NoCounter",
+        BranchRefusal::EntryCount => b"EntryCount",
+        BranchRefusal::BadBasketList => b"BadBasketList",
+        BranchRefusal::Compressed => b"Compressed",
+        BranchRefusal::BadBasket => b"BadBasket",
+        BranchRefusal::BadEntry => b"BadEntry",
+    }
+}
+
+// Puts the line of a branch at the end, if it isn't read.
+fn put_refused_line(
+    text: &mut Bytes,
+    branch: &Branch,
+    refusal: Option<BranchRefusal>,
+) -> Result<(), NoMemory>
+    ensures { OnOk result (text.new.bytes ≡ text.old.bytes ++ refused_line branch.now refusal) }
+{
+    if let Some(refusal) = refusal {
+        text.put(b"branch ")?;
+        text.put_name(branch.def.name.as_slice())?;
+        text.put(b" refused ")?;
+        text.put(refusal_name(refusal))?;
+        text.put(b"\n")?;
+    }
+    Ok(())
+}
+
+/// Puts a line at the end for each branch that isn't read.
+pub(crate) fn put_refused_lines(
+    text: &mut Bytes,
+    branches: &[Branch],
+    refusals: &[Option<BranchRefusal>],
+) -> Result<(), NoMemory>
+    requires { length refusals.now ≡ length branches.now }
+    ensures { OnOk result
+        (text.new.bytes ≡ text.old.bytes ++ refused_lines branches.now refusals.now) }
+{
+    for (k, branch) in branches.iter().enumerate() {
+        put_refused_line(text, branch, refusals[k])?;
+    }
+    Ok(())
+}
+
+/// Puts the tree's name and the number of its entries at the end.
+pub(crate) fn put_count(text: &mut Bytes, name: &[u8], entries: u64) -> Result<(), NoMemory>
+    ensures { OnOk result (text.new.bytes ≡ text.old.bytes ++ scanned_count name.now entries) }
+{
+    text.put(b"ok scan ")?;
+    text.put_name(name)?;
+    text.put(b" ")?;
+    text.put_decimal(entries)?;
+    text.put(b"\n")
+}
+
+// Puts values at the end, with a comma and a space before each that isn't the first of the row.
+fn put_values(text: &mut Bytes, values: &[Value], first: bool) -> Result<(), NoMemory>
+    ensures { OnOk result (text.new.bytes ≡ text.old.bytes ++ values_behind first values.now) }
+{
+    let mut first = first;
+    for value in values {
+        if !first {
+            text.put(b", ")?;
+        }
+        print_value(value, text)?;
+        first = false;
+    }
+    Ok(())
+}
+
+// Puts the values of a branch at the end, if it isn't refused, and tells whether those behind them stand at the front.
+fn put_branch_values(
+    text: &mut Bytes,
+    refusal: &Option<BranchRefusal>,
+    values: &Values,
+    first: bool,
+) -> Result<bool, NoMemory>
+    ensures put { OnOk result (text.new.bytes ≡
+        text.old.bytes ++ values_behind first (values_unrefused refusal.now values.now)) }
+    ensures behind { IfOk result
+        (λ behind. behind ≡ first_after first (values_unrefused refusal.now values.now)) }
+{
+    if refusal.is_some() {
+        return Ok(first);
+    }
+    put_values(text, values.as_slice(), first)?;
+    Ok(first && values.is_empty())
+}
+
+// Puts the values of the branches at the end that aren't refused.
+fn put_read_values(
+    text: &mut Bytes,
+    refusals: &[Option<BranchRefusal>],
+    values: &[Values],
+) -> Result<(), NoMemory>
+    requires { length values.now ≡ length refusals.now }
+    ensures { OnOk result (text.new.bytes ≡
+        text.old.bytes ++ separated text_of_value (read_values refusals.now values.now)) }
+{
+    let mut first = true;
+    for k in 0..refusals.len() {
+        first = put_branch_values(text, &refusals[k], &values[k], first)?;
+    }
+    Ok(())
+}
+
+// Puts a row at the end in square brackets.
+fn put_brackets(
+    text: &mut Bytes,
+    refusals: &[Option<BranchRefusal>],
+    values: &[Values],
+) -> Result<(), NoMemory>
+    requires { length values.now ≡ length refusals.now }
+    ensures { let texts = separated text_of_value (read_values refusals.now values.now) in
+        OnOk result (text.new.bytes ≡ text.old.bytes ++ (codes "[" ++ texts ++ codes "]")) }
+{
+    text.put(b"[")?;
+    put_read_values(text, refusals, values)?;
+    text.put(b"]")
+}
+
+// Puts a row at the end as a list is printed.
+fn put_list(
+    text: &mut Bytes,
+    refusals: &[Option<BranchRefusal>],
+    values: &[Values],
+) -> Result<(), NoMemory>
+    requires { length values.now ≡ length refusals.now }
+    ensures { OnOk result (text.new.bytes ≡
+        text.old.bytes ++ text_of_value (Listed (read_values refusals.now values.now))) }
+{
+    put_brackets(text, refusals, values)
+}
+
+/// Puts the line of a row at the end.
+pub(crate) fn put_row(
+    text: &mut Bytes,
+    entry: u64,
+    refusals: &[Option<BranchRefusal>],
+    values: &[Values],
+) -> Result<(), NoMemory>
+    requires { length values.now ≡ length refusals.now }
+    ensures { OnOk result (text.new.bytes ≡
+        text.old.bytes ++ numbered_row entry (read_values refusals.now values.now)) }
+{
+    text.put_decimal(entry)?;
+    text.put(b" ")?;
+    put_list(text, refusals, values)?;
+    text.put(b"\n")
+}
+
+fn put_placed(text: &mut Bytes, kind: &[u8], place: u64) -> Result<(), NoMemory> {
+    text.put(kind)?;
+    text.put(b" ")?;
+    text.put_decimal(place)
+}
+
+fn put_fault(text: &mut Bytes, fault: RowFault) -> Result<(), NoMemory> {
+    match fault {
+        RowFault::Basket(BasketFault::BadLast { place }) => put_placed(text, b"BadLast", place),
+        RowFault::Basket(BasketFault::BadOffsets { place }) => {
+            put_placed(text, b"BadOffsets", place)
+        }
+        RowFault::Basket(BasketFault::Compressed) => text.put(b"Compressed"),
+        RowFault::Basket(BasketFault::NoMemory) => text.put(b"NoMemory"),
+        RowFault::Entry { place } => put_placed(text, b"BadEntry", place),
+    }
+}
+
+// The first fault of the row.
+fn row_fault(lanes: &[Lane]) -> RowFault {
+    let found = lanes.iter().find_map(|lane| lane.fault);
+    found.unwrap_or(RowFault::Basket(BasketFault::BadLast { place: 0 }))
+}
+
+/// Puts the line of a row at the end that isn't read any more: its number and the first fault.
+pub(crate) fn put_row_fault(text: &mut Bytes, entry: u64, lanes: &[Lane]) -> Result<(), NoMemory> {
+    text.put_decimal(entry)?;
+    text.put(b" fault ")?;
+    put_fault(text, row_fault(lanes))?;
+    text.put(b"\n")
+}

@@ -1,0 +1,125 @@
+-- What the verb scan says of a file.
+use Rattle.std.specs.Prelude.{ℕ, ◌++◌, List, [], ◌∷◌, codes, Option, Some, None, Result, Ok, Err, Bool, if◌then◌else◌}
+use Rattle.std.specs.List.{filter, flat_map, list_any, range_with_len}
+use Rattle.std.specs.Fmt.{decimal}
+use Rattle.rio_num.specs.Printed.{name_text}
+use Rattle.rio_num.specs.Reading.{◌>>=◌}
+use Rattle.rio_types.specs.declared.class.ClassDef.{ClassDef}
+use Rattle.rio_value.specs.declared.value.Value.{Value, List as Items}
+use Rattle.rio_key.specs.declared.head.KeyHead.{KeyHead}
+use Rattle.rio_key.specs.Key.{is_compressed}
+use Rattle.rio_head.specs.declared.fault.HeadFault.{HeadFault}
+use Rattle.rio_dir.specs.Listing.{named_cycle}
+use Rattle.rio_model.specs.ValueText.{text_of_value}
+use Rattle.rio_tree.specs.declared.head.Branch.{Branch}
+use Rattle.rio_tree.specs.declared.head.TreeHead.{TreeHead}
+use Rattle.rio_tree.specs.declared.refusal.BranchRefusal.{BranchRefusal}
+use Rattle.rio_tree.specs.declared.refusal.BranchRefusal.TheVariants.{BranchClass, SubBranches, EmbeddedBasket, LeafClass, NoCounter, EntryCount, BadBasketList, Compressed, BadBasket, BadEntry}
+use Rattle.rio_meaning.specs.declared.described.Described.{Described}
+use Rattle.rio_meaning.specs.Described.{described_file}
+use Rattle.rio_meaning.specs.Dump.{is_tree, stored_tree}
+use Rattle.rio_meaning.specs.Item.{has_name, with_greatest_cycle}
+use Rattle.rio_scan.specs.declared.no_tree.NoTree.{NoTree}
+use Rattle.rio_scan.specs.declared.no_tree.NoTree.TheVariants.{NoSuchName, NotATree}
+use Rattle.rio_scan.specs.Refusals.{refusals_of}
+use Rattle.rio_scan.specs.Rows.{read_values, values_at_entry}
+
+-- ---- the key
+
+-- the key of the tree of a name, of the greatest cycle, the first of several
+abbrev pub tree_key : List ℕ → List KeyHead → Option KeyHead
+tree_key name keys = with_greatest_cycle name (filter is_tree keys)
+
+abbrev pub or_no_tree : Bool → Option KeyHead → Result KeyHead NoTree
+or_no_tree named (Some key) = Ok key
+or_no_tree named None = if named then Err NotATree else Err NoSuchName
+
+-- or what is missing: any key of the name, or one of a tree
+abbrev pub found_tree : List ℕ → List KeyHead → Result KeyHead NoTree
+found_tree name keys = or_no_tree (list_any (has_name name) keys) (tree_key name keys)
+
+abbrev pub no_tree_line : NoTree → List ℕ
+no_tree_line NoSuchName = codes "no 3 NoSuchName\n"
+no_tree_line NotATree = codes "no 6 NotATree\n"
+
+-- ---- the branches that aren't read
+
+abbrev pub branch_refusal_name : BranchRefusal → List ℕ
+branch_refusal_name BranchClass = codes "BranchClass"
+branch_refusal_name SubBranches = codes "SubBranches"
+branch_refusal_name EmbeddedBasket = codes "EmbeddedBasket"
+branch_refusal_name LeafClass = codes "LeafClass"
+branch_refusal_name NoCounter = codes "NoCounter"
+branch_refusal_name EntryCount = codes "EntryCount"
+branch_refusal_name BadBasketList = codes "BadBasketList"
+branch_refusal_name Compressed = codes "Compressed"
+branch_refusal_name BadBasket = codes "BadBasket"
+branch_refusal_name BadEntry = codes "BadEntry"
+
+-- nothing is said of a branch that is read
+abbrev pub refused_line : Branch → Option BranchRefusal → List ℕ
+refused_line b None = []
+refused_line b (Some refusal) = codes "branch " ++ name_text b.def.name ++ codes " refused " ++ branch_refusal_name refusal ++ codes "\n"
+
+-- a line for each that isn't read, in order
+abbrev pub refused_lines : List Branch → List (Option BranchRefusal) → List ℕ
+refused_lines [] refused = []
+refused_lines (b ∷ bs) [] = []
+refused_lines (b ∷ bs) (r ∷ rs) = refused_line b r ++ refused_lines bs rs
+
+-- ---- the rows
+
+-- NUMBER ROW
+abbrev pub numbered_row : ℕ → List Value → List ℕ
+numbered_row n row = decimal n ++ codes " " ++ text_of_value (Items row) ++ codes "\n"
+
+-- the values at an entry of the branches that aren't refused
+abbrev pub row_line : List ℕ → List ClassDef → List Branch → List (Option BranchRefusal) → ℕ → List ℕ
+row_line file classes branches refused e = numbered_row e (read_values refused (values_at_entry file classes e branches))
+
+-- a line for each of so many entries
+abbrev pub numbered_rows : List ℕ → List ClassDef → List Branch → List (Option BranchRefusal) → ℕ → List ℕ
+numbered_rows file classes branches refused entries = flat_map (row_line file classes branches refused) (range_with_len 0 entries)
+
+-- ---- the tree
+
+-- ok scan NAME COUNT
+abbrev pub scanned_count : List ℕ → ℕ → List ℕ
+scanned_count name entries = codes "ok scan " ++ name_text name ++ codes " " ++ decimal entries ++ codes "\n"
+
+-- the refused branches, how many entries there are, and each of them
+abbrev pub lines_refusing : List (Option BranchRefusal) → List ℕ → List ClassDef → List ℕ → TreeHead → List ℕ
+lines_refusing refused file classes name head =
+    refused_lines head.branches refused ++ scanned_count name head.entries ++ numbered_rows file classes head.branches refused head.entries
+
+unfoldable pub tree_lines : List ℕ → List ClassDef → List ℕ → TreeHead → List ℕ
+tree_lines file classes name head = lines_refusing (refusals_of file classes head.entries head.branches) file classes name head
+
+-- NAME;CYCLE and what is said in place of a tree that isn't read
+abbrev pub unread_line : KeyHead → List ℕ → List ℕ
+unread_line key text = named_cycle key ++ codes " " ++ text ++ codes "\n"
+
+abbrev pub lines_or_unread : List ℕ → List ClassDef → KeyHead → Result TreeHead (List ℕ) → List ℕ
+lines_or_unread file classes key (Ok head) = tree_lines file classes key.name head
+lines_or_unread file classes key (Err text) = unread_line key text
+
+-- what is said of a key of a tree
+abbrev pub key_scan : List ℕ → List ClassDef → KeyHead → List ℕ
+key_scan file classes key =
+    if is_compressed key then unread_line key (codes "compressed")
+    else lines_or_unread file classes key (stored_tree file classes key)
+
+abbrev pub scan_lines : List ℕ → List ClassDef → Result KeyHead NoTree → List ℕ
+scan_lines file classes (Ok key) = key_scan file classes key
+scan_lines file classes (Err missing) = no_tree_line missing
+
+-- ---- the file
+
+abbrev pub scan_text : List ℕ → List ℕ → Described → List ℕ
+scan_text file name described = scan_lines file described.classes (found_tree name described.closed.keys)
+
+-- what is said of the tree of a name in a file, or the first rule that the file breaks
+unfoldable pub scanned_file : List ℕ → List ℕ → Result (List ℕ) HeadFault
+scanned_file name file = do
+  described ← described_file file
+  Ok (scan_text file name described)

@@ -1,0 +1,272 @@
+-- The header that is written for a tree fits the classes of trees.
+use Rattle.std.proofs.Common.{◌≡◌, ◌∙◌, ◌&&◌, ◌^◌, ◌<◌, ℕ, ◌+◌, ℤ, pos, Bool, true, false, cond, List, [], ◌∷◌, ◌++◌, length, map, codes, Option, Some, None, refl, ap, sym, subst, append-nil, append_assoc, arith, is_some, nat_lt}
+use Rattle.std.proofs.lemmas.Bool.{leb-true, lt-ltb, ltb-true}
+use Rattle.std.proofs.lemmas.List.{length-append, length-map}
+use Rattle.std.specs.List.{list_all}
+use Rattle.std.specs.Prelude.{option_and_then, slice_get, IsTrue, not, ◌==◌, nat_le}
+use Rattle.rio_leaf.specs.Stated.{all_leaves, are_branches_behind, are_stated_leaves, has_branch, is_stated_branch, is_stated_leaf, is_stated_shape, leaves_of}
+use Rattle.rio_num.specs.Word.{is_name_text}
+use Rattle.rio_leaf.specs.declared.branch.Shape.{Shape}
+use Rattle.rio_leaf.specs.declared.branch.Shape.TheVariants.{Leaves, Class}
+use Rattle.rio_leaf.specs.declared.leaf.Leaf.{Leaf}
+use Rattle.rio_leaf.specs.declared.leaf.Dim.{Dim}
+use Rattle.rio_leaf.specs.declared.leaf.Dim.TheVariants.{One, Fixed, Counted}
+use Rattle.rio_leaf.specs.declared.branch.BranchDef.{BranchDef}
+use Rattle.rio_leaf.specs.Leaves.{has_counting_leaf, has_leaf, is_dim, is_leaf_count, is_letter_of}
+use Rattle.rio_types.specs.declared.kind.Kind.TheVariants.{Inline}
+use Rattle.rio_types.specs.declared.kind.Primitive.TheVariants.{I32, I64}
+use Rattle.rio_value.specs.declared.value.Value.{Value, Int, Text, Object, Pointed, Back}
+use Rattle.rio_format.specs.Bodies.{part}
+use Rattle.rio_format.specs.Fits.{Labels, Fitting, all_fit, fits_prim, fits_signed, fitting_step, object_may_stand}
+use Rattle.rio_format.specs.Slots.{Slot, kinded, based, any_pointer}
+use Rattle.rio_format.specs.TreeClasses.{tree_classes, tree_members, branch_members, object_branch_members}
+use Rattle.rio_format.specs.WrittenList.{array_object}
+use Rattle.rio_format.proofs.Tests.{both_true}
+use Rattle.rio_format.proofs.ValueCases.{Each, fold_Int}
+use Rattle.rio_format.proofs.WrittenValues.{fit_object, object_fitting}
+use Rattle.rio_tree.specs.declared.basket_at.BasketAt.{BasketAt}
+use Rattle.rio_tree.specs.declared.head.Branch.{Branch}
+use Rattle.rio_tree.specs.declared.head.TreeHead.{TreeHead}
+use Rattle.rio_tree.specs.WrittenLaws.{FitsTreeHeader, WrittenTreeFits, basket_fits_header, branch_fits_header, stated_defs}
+use Rattle.rio_tree.specs.WrittenTree.{LeafLabels, backs_from, basket_numbers, branch_label_count, branch_object, branch_pointers, labels_behind, leaf_backs, leaf_pointers, leaves_in_branch, plain_branch_object, shaped_object, title_of_branch, titled_object, tree_value_of, written_count}
+use Rattle.rio_tree.proofs.WrittenLeaves.{IsLeafAt, KnowsLeaves, count_fits, get_behind, leaf_back_fits, leaf_label, leaves_fit, knows_longer}
+use Rattle.rio_tree.proofs.WrittenParts.{FitsIn, array_fits, fitting, int_fits, numbers_fit, pointer_to, text_fits, titled_fits}
+
+-- ---- numbers of baskets
+
+pub record BasketsFit (baskets : List BasketAt) : Type 0 where
+  pub bytes : list_all (λ b. fits_prim I32 (pos b.bytes)) baskets ≡ true
+  pub first : list_all (λ b. fits_prim I64 (pos b.first)) baskets ≡ true
+  pub seek : list_all (λ b. fits_prim I64 (pos b.seek)) baskets ≡ true
+
+both : (a b : Bool) → a ≡ true → b ≡ true → (a && b) ≡ true
+both a b e f = rw (e, f) refl
+
+baskets_fit : (baskets : List BasketAt) → list_all basket_fits_header baskets ≡ true → BasketsFit baskets
+baskets_fit [] e = record { bytes = refl; first = refl; seek = refl }
+baskets_fit (b ∷ bs) e =
+    let h = both_true (basket_fits_header b) (list_all basket_fits_header bs) e in
+    let own = both_true (nat_lt b.bytes (2 ^ 31) && nat_lt b.first (2 ^ 63)) (nat_lt b.seek (2 ^ 63)) h.0 in
+    let others = both_true (nat_lt b.bytes (2 ^ 31)) (nat_lt b.first (2 ^ 63)) own.0 in
+    let rest = baskets_fit bs h.1 in
+    record {
+      bytes = both _ _ others.0 rest.bytes;
+      first = both _ _ others.1 rest.first;
+      seek = both _ _ own.1 rest.seek;
+    }
+
+-- ---- one branch
+
+offset_number_fits : (offsets : Bool) → fits_signed 32 (pos (cond offsets 1000 0)) ≡ true
+offset_number_fits true = refl
+offset_number_fits false = refl
+
+-- the labels of a branch: its own, and those of its leaves
+abbrev own_branch_label : Shape → List ℕ × ℤ
+own_branch_label (Leaves leaves) = (codes "TBranch", pos 113)
+own_branch_label (Class class) = (codes "TBranchElement", pos 110)
+
+abbrev branch_labels : Branch → Labels
+branch_labels b = own_branch_label b.def.shape ∷ map leaf_label (leaves_in_branch b)
+
+pub record BranchNumbers (b : Branch) : Type 0 where
+  pub version : fits_signed 32 b.class_version ≡ true
+  pub entries : nat_lt b.entries (2 ^ 63) ≡ true
+  pub count : nat_lt (length b.baskets) (2 ^ 31) ≡ true
+  pub room : nat_lt (length b.baskets + 1) (2 ^ 31) ≡ true
+  pub baskets : BasketsFit b.baskets
+
+record PlainFits (plain : Value) (before after : Labels) : Type 0 where
+  class : (fitting plain).class ≡ Some (codes "TBranch", pos 113)
+  base : FitsIn (based (codes "TBranch") (pos 113)) plain before after
+  own : FitsIn (kinded (Inline (codes "TBranch"))) plain before after
+
+plain_branch_in : (slot : Slot) (known : LeafLabels) (label : ℕ) (b : Branch) (before after : Labels) → object_may_stand (codes "TBranch") (pos 113) slot ≡ true → BranchNumbers b
+    → all_fit any_pointer (map fitting (leaf_pointers known label (leaves_in_branch b))) before ≡ Some after
+    → FitsIn slot (plain_branch_object known label b) before after
+unfolding plain_branch_object tree_classes branch_members
+plain_branch_in slot known label b before after stands fit each =
+    rw (
+      fit_object tree_classes (codes "TBranch") (pos 113) _,
+      stands,
+      titled_fits b.def.name (title_of_branch b.def.shape) before,
+      int_fits (pos (cond b.offsets 1000 0)) I32 before (offset_number_fits b.offsets),
+      int_fits (pos (length b.baskets)) I32 before fit.count,
+      fold_Int (fitting_step tree_classes) (λ p. (p.name, p.value)) (pos (length b.baskets + 1)),
+      fit.room,
+      int_fits (pos b.entries) I64 before fit.entries,
+      array_fits [] before before refl,
+      array_fits (leaf_pointers known label (leaves_in_branch b)) before after each,
+      array_fits [] after after refl,
+      numbers_fit I32 (λ basket. basket.bytes) b.baskets 0 after fit.baskets.bytes refl,
+      numbers_fit I64 (λ basket. basket.first) b.baskets b.entries after fit.baskets.first fit.entries,
+      numbers_fit I64 (λ basket. basket.seek) b.baskets 0 after fit.baskets.seek refl,
+    ) refl
+
+plain_class : (known : LeafLabels) (label : ℕ) (b : Branch) → (fitting (plain_branch_object known label b)).class ≡ Some (codes "TBranch", pos 113)
+unfolding plain_branch_object
+plain_class known label b = rw (fit_object tree_classes (codes "TBranch") (pos 113) _) refl
+
+plain_branch_fits : (known : LeafLabels) (label : ℕ) (b : Branch) (before after : Labels) → BranchNumbers b
+    → all_fit any_pointer (map fitting (leaf_pointers known label (leaves_in_branch b))) before ≡ Some after
+    → PlainFits (plain_branch_object known label b) before after
+plain_branch_fits known label b before after fit each = record {
+  class = plain_class known label b;
+  base = plain_branch_in (based (codes "TBranch") (pos 113)) known label b before after refl fit each;
+  own = plain_branch_in (kinded (Inline (codes "TBranch"))) known label b before after refl fit each;
+}
+
+-- a pointer to the branch fits where its TBranch does
+shaped_fits : (plain : Value) (label : ℕ) (b : Branch) (shape : Shape) (labels after : Labels) → label ≡ length labels → fits_signed 32 b.class_version ≡ true
+    → PlainFits plain (labels ++ own_branch_label shape ∷ []) after → FitsIn any_pointer (Pointed label (shaped_object plain b shape)) labels after
+unfolding tree_classes object_branch_members
+shaped_fits plain label b (Leaves leaves) labels after next version fit =
+    pointer_to label plain (codes "TBranch", pos 113) any_pointer labels after fit.class next refl fit.own
+shaped_fits plain label b (Class class) labels after next version fit =
+    let own : Labels = labels ++ (codes "TBranchElement", pos 110) ∷ [] in
+    let parts = part [] plain ∷ part (codes "fClassName") (Text class) ∷ part (codes "fClassVersion") (Int b.class_version) ∷ [] in
+    let is = ap (λ (f : Fitting). f.class) (fit_object tree_classes (codes "TBranchElement") (pos 110) parts) in
+    let inside : FitsIn (kinded (Inline (codes "TBranchElement"))) (Object (codes "TBranchElement") (pos 110) parts) own after =
+    rw (fit_object tree_classes (codes "TBranchElement") (pos 110) parts, fit.base, text_fits class after, int_fits b.class_version I32 after version) refl in
+    pointer_to label (Object (codes "TBranchElement") (pos 110) parts) (codes "TBranchElement", pos 110) any_pointer labels after is next refl inside
+
+record BranchFits (known : LeafLabels) (label : ℕ) (b : Branch) (labels : Labels) : Type 0 where
+  pointer : FitsIn any_pointer (Pointed label (branch_object known (label + 1) b)) labels (labels ++ branch_labels b)
+  knows : KnowsLeaves (labels_behind known (label + 1) (leaves_in_branch b)) (labels ++ branch_labels b)
+
+branch_fits : (known : LeafLabels) (label : ℕ) (b : Branch) (labels : Labels) → label ≡ length labels → KnowsLeaves known labels → BranchNumbers b → list_all count_fits (leaves_in_branch b) ≡ true → BranchFits known label b labels
+unfolding branch_object
+branch_fits known label b labels next knows fit counts =
+    let first : Labels = own_branch_label b.def.shape ∷ [] in
+    let own : Labels = labels ++ first in
+    let leaves = leaves_fit known (label + 1) (leaves_in_branch b) own (omega (arith, next, length-append labels first)) (knows_longer known labels first knows) counts in
+    let same : own ++ map leaf_label (leaves_in_branch b) ≡ labels ++ branch_labels b = append_assoc labels first (map leaf_label (leaves_in_branch b)) in
+    let plain = plain_branch_fits known (label + 1) b own (labels ++ branch_labels b) fit (leaves.each ∙ ap (λ (l : Labels). Some l) same) in
+    record {
+      pointer = shaped_fits (plain_branch_object known (label + 1) b) label b b.def.shape labels (labels ++ branch_labels b) next fit.version plain;
+      knows = subst (λ (l : Labels). KnowsLeaves (labels_behind known (label + 1) (leaves_in_branch b)) l) same leaves.knows;
+    }
+
+-- ---- all branches
+
+abbrev tree_labels : List Branch → Labels
+tree_labels [] = []
+tree_labels (b ∷ bs) = branch_labels b ++ tree_labels bs
+
+-- what is to be known of a branch
+abbrev IsFitting : Branch → Type 0
+IsFitting b = BranchNumbers b × (list_all count_fits (leaves_in_branch b) ≡ true)
+
+branch_length : (b : Branch) (label : ℕ) (labels : Labels) → label ≡ length labels → label + branch_label_count b ≡ length (labels ++ branch_labels b)
+branch_length b label labels next = omega (arith, next, length-append labels (branch_labels b), length-map (leaves_in_branch b) leaf_label)
+
+branches_fit : (known : LeafLabels) (label : ℕ) (bs : List Branch) (labels : Labels) → label ≡ length labels → KnowsLeaves known labels → Each IsFitting bs
+    → all_fit any_pointer (map fitting (branch_pointers known label bs)) labels ≡ Some (labels ++ tree_labels bs)
+unfolding branch_pointers
+branches_fit known label [] labels next knows each = ap (λ (l : Labels). Some l) (sym (append-nil labels))
+branches_fit known label (b ∷ bs) labels next knows each =
+    let own : Labels = labels ++ branch_labels b in
+    let one = branch_fits known label b labels next knows each.0.0 each.0.1 in
+    let rest = branches_fit (labels_behind known (label + 1) (leaves_in_branch b)) (label + branch_label_count b) bs own (branch_length b label labels next) one.knows each.1 in
+    rw one.pointer (rest ∙ ap (λ (l : Labels). Some l) (append_assoc labels (branch_labels b) (tree_labels bs)))
+
+-- ---- what points to the leaves
+
+abbrev each_fits : List Value → Labels → Option Labels
+each_fits xs labels = all_fit any_pointer (map fitting xs) labels
+
+behind_one : (xs ys : List Value) (o : Option Labels) → ((l : Labels) → each_fits (xs ++ ys) l ≡ option_and_then (each_fits ys) (each_fits xs l)) → option_and_then (each_fits (xs ++ ys)) o ≡ option_and_then (each_fits ys) (option_and_then (each_fits xs) o)
+behind_one xs ys None known = refl
+behind_one xs ys (Some l) known = known l
+
+all_both : (xs ys : List Value) (labels : Labels) → each_fits (xs ++ ys) labels ≡ option_and_then (each_fits ys) (each_fits xs labels)
+all_both [] ys labels = refl
+all_both (x ∷ xs) ys labels = behind_one xs ys ((fitting x).fits any_pointer labels) (all_both xs ys)
+
+all_then : (xs ys : List Value) (labels : Labels) → each_fits xs labels ≡ Some labels → each_fits ys labels ≡ Some labels → each_fits (xs ++ ys) labels ≡ Some labels
+all_then xs ys labels e f = all_both xs ys labels ∙ ap (option_and_then (each_fits ys)) e ∙ f
+
+-- leaves that have their labels behind these
+backs_fit : (front : Labels) (leaves : List Leaf) (rest : Labels) (label : ℕ) (labels : Labels) → label ≡ length front → labels ≡ front ++ (map leaf_label leaves ++ rest)
+    → all_fit any_pointer (map fitting (backs_from label leaves)) labels ≡ Some labels
+unfolding backs_from
+backs_fit front [] rest label labels next is = refl
+backs_fit front (leaf ∷ leaves) rest label labels next is =
+    let here : IsLeafAt labels label = (leaf.letter, rw (is, next) (get_behind front (map leaf_label leaves ++ rest) (leaf_label leaf))) in
+    let others = backs_fit (front ++ leaf_label leaf ∷ []) leaves rest (label + 1) labels (omega (arith, next, length-append front (leaf_label leaf ∷ []))) (is ∙ sym (append_assoc front (leaf_label leaf ∷ []) (map leaf_label leaves ++ rest))) in
+    rw (leaf_back_fits labels label here) others
+
+tree_backs_fit : (front : Labels) (bs : List Branch) (label : ℕ) (labels : Labels) → label ≡ length front → labels ≡ front ++ tree_labels bs → all_fit any_pointer (map fitting (leaf_backs label bs)) labels ≡ Some labels
+unfolding leaf_backs
+tree_backs_fit front [] label labels next is = refl
+tree_backs_fit front (b ∷ bs) label labels next is =
+    let first : Labels = own_branch_label b.def.shape ∷ [] in
+    let leaves = map leaf_label (leaves_in_branch b) in
+    let split : labels ≡ (front ++ first) ++ (leaves ++ tree_labels bs) = is ∙ sym (append_assoc front first (leaves ++ tree_labels bs)) in
+    let own = backs_fit (front ++ first) (leaves_in_branch b) (tree_labels bs) (label + 1) labels (omega (arith, next, length-append front first)) split in
+    let others = tree_backs_fit (front ++ branch_labels b) bs (label + branch_label_count b) labels (branch_length b label front next) (is ∙ sym (append_assoc front (branch_labels b) (tree_labels bs))) in
+    all_then (backs_from (label + 1) (leaves_in_branch b)) (leaf_backs (label + branch_label_count b) bs) labels own others
+
+-- ---- the tree
+
+pub tree_fits : (name : List ℕ) (head : TreeHead) → nat_lt head.entries (2 ^ 63) ≡ true → Each IsFitting head.branches → is_some ((fitting (tree_value_of name head)).fits (kinded (Inline (codes "TTree"))) []) ≡ true
+unfolding tree_value_of tree_classes tree_members
+tree_fits name head entries each =
+    let all : Labels = tree_labels head.branches in
+    let branches = branches_fit [] 0 head.branches [] refl (λ name label e. absurd cc) each in
+    let backs = tree_backs_fit [] head.branches 0 all refl refl in
+    rw (
+      fit_object tree_classes (codes "TTree") (pos 120) _,
+      titled_fits name [] [],
+      int_fits (pos head.entries) I64 [] entries,
+      array_fits (branch_pointers [] 0 head.branches) [] all branches,
+      array_fits (leaf_backs 0 head.branches) all all backs,
+    ) refl
+
+-- ---- branches that can be declared
+
+pub dim_count_fits : (counts : List ℕ → Bool) (dim : Dim) → is_dim counts dim ≡ true → nat_lt (written_count dim) (2 ^ 31) ≡ true
+dim_count_fits counts One e = refl
+dim_count_fits counts (Fixed n) e =
+    let h = both_true (nat_le 2 n) (nat_le n 100000) e in
+    lt-ltb n (2 ^ 31) (omega (arith, leb-true n 100000 h.1))
+dim_count_fits counts (Counted counter times) e = refl
+
+stated_leaves_fit : (before leaves : List Leaf) → are_stated_leaves before leaves ≡ true → list_all count_fits leaves ≡ true
+stated_leaves_fit before [] e = refl
+stated_leaves_fit before (leaf ∷ leaves) e =
+    let h = both_true (is_stated_leaf before leaf) (are_stated_leaves (before ++ leaf ∷ []) leaves) e in
+    let letter = both_true (is_name_text leaf.name && not (has_leaf before leaf.name) && is_dim (has_counting_leaf before) leaf.dim) (is_letter_of leaf.dim leaf.letter) h.0 in
+    let dim = both_true (is_name_text leaf.name && not (has_leaf before leaf.name)) (is_dim (has_counting_leaf before) leaf.dim) letter.0 in
+    both (count_fits leaf) (list_all count_fits leaves) (dim_count_fits (has_counting_leaf before) leaf.dim dim.1) (stated_leaves_fit (before ++ leaf ∷ []) leaves h.1)
+
+stated_shape_fits : (before : List Leaf) (shape : Shape) → is_stated_shape before shape ≡ true → list_all count_fits (leaves_of shape) ≡ true
+stated_shape_fits before (Leaves leaves) e = stated_leaves_fit before leaves (both_true (not (length leaves == 0)) (are_stated_leaves before leaves) e).1
+stated_shape_fits before (Class class) e = refl
+
+pub numbers_of : (b : Branch) → branch_fits_header b ≡ true → BranchNumbers b
+numbers_of b e =
+    let baskets = both_true (fits_signed 32 b.class_version && nat_lt b.entries (2 ^ 63) && nat_lt (length b.baskets + 1) (2 ^ 31)) (list_all basket_fits_header b.baskets) e in
+    let room = both_true (fits_signed 32 b.class_version && nat_lt b.entries (2 ^ 63)) (nat_lt (length b.baskets + 1) (2 ^ 31)) baskets.0 in
+    let version = both_true (fits_signed 32 b.class_version) (nat_lt b.entries (2 ^ 63)) room.0 in
+    let low : length b.baskets + 1 < 2 ^ 31 = ltb-true (length b.baskets + 1) (2 ^ 31) room.1 in
+    record {
+      version = version.0;
+      entries = version.1;
+      count = lt-ltb (length b.baskets) (2 ^ 31) (omega (arith, low));
+      room = room.1;
+      baskets = baskets_fit b.baskets baskets.1;
+    }
+
+stated_fit : (before : List BranchDef) (bs : List Branch) → are_branches_behind before (stated_defs bs) ≡ true → list_all branch_fits_header bs ≡ true → Each IsFitting bs
+stated_fit before [] e f = tt
+stated_fit before (b ∷ bs) e f =
+    let h = both_true (is_stated_branch before b.def) (are_branches_behind (before ++ b.def ∷ []) (stated_defs bs)) e in
+    let n = both_true (branch_fits_header b) (list_all branch_fits_header bs) f in
+    let shape = both_true (is_name_text b.def.name && not (has_branch before b.def.name)) (is_stated_shape (all_leaves before) b.def.shape) h.0 in
+    ((numbers_of b n.0, stated_shape_fits (all_leaves before) b.def.shape shape.1), stated_fit (before ++ b.def ∷ []) bs h.1 n.1)
+
+pub written_tree_fits : WrittenTreeFits
+written_tree_fits name head stated numbers =
+    let behind = both_true (not (length (stated_defs head.branches) == 0)) (are_branches_behind [] (stated_defs head.branches)) stated in
+    tree_fits name head numbers.entries (stated_fit [] head.branches behind.1 numbers.branches)

@@ -1,0 +1,21 @@
+use Rattle.rio_tree.specs.WrittenTree.{tree_value_of}
+use Rattle.rio_tree.proofs.written.tree_value.Goals as goal
+
+pub returns : goal.returns
+unfolding tree_value_of
+returns c =
+    simp (
+      c.in_ok-with-3.ensures,
+      c.in_ok-array_object-2.ensures,
+      c.in_ok-leaves.ensures,
+      c.in_ok-with-2.ensures,
+      c.in_ok-array_object.ensures,
+      c.in_ok-branches.ensures,
+      c.in_ok-with_number.ensures,
+      c.in_ok-with.ensures,
+      c.in_ok-named.ensures,
+      c.in_ok-from_slice.ensures,
+      c.as_slice-branches.ensures,
+      c.new-2.ensures,
+      c.new.ensures,
+    ) at c.object.ensures

@@ -1,0 +1,133 @@
+//! What a leaf in a header says.
+ghost use Rattle.std.specs.Prelude.{◌≡◌, if◌then◌else◌};
+ghost use Rattle.rio_tree.specs.HeaderLeaves.{counter_in, counter_member, is_plain_number, leaf_at_pointer, leaf_said, least_one, letter_of_class, uncounted_dim};
+ghost use Rattle.rio_tree.specs.Tables.{labels_of};
+
+use crate::labels::LabelTable;
+use crate::members::{class_of_object, i32_member, member, name_member, truth_member};
+use rio_leaf::Dim;
+use rio_value::Value;
+use std::marker::Model;
+
+/// What a leaf says that has all members that are needed: its name, its letter, its length, and the label of the leaf
+/// that counts it.
+#[derive(Drop)]
+pub(crate) struct LeafSaid<'a> {
+    pub(crate) name: &'a [u8],
+    pub(crate) letter: u8,
+    pub(crate) len: i32,
+    pub(crate) counter: Option<u32>,
+}
+
+impl<'a> Model for LeafSaid<'a> {
+    ghost use Rattle.rio_tree.specs.HeaderLeaves.{LeafSaid as Said};
+
+    ghost Value = { Said };
+
+    ghost view = { λ leaf. record {
+      name = leaf.name.now;
+      letter = leaf.letter;
+      len = leaf.len;
+      counter = leaf.counter;
+    } };
+}
+
+// One of two letters, of which the second is for integers without a sign.
+fn letter_if(unsigned: bool, letter: u8, without_sign: u8) -> u8
+    ensures { result ≡ (if unsigned then without_sign else letter) }
+{
+    if unsigned { without_sign } else { letter }
+}
+
+// The letter of a class of leaves.
+fn letter_of_class(class: &[u8], unsigned: bool) -> Option<u8>
+    ensures { result ≡ letter_of_class class.now unsigned }
+{
+    if class == b"TLeafB".as_slice() {
+        Some(letter_if(unsigned, b'B', b'b'))
+    } else if class == b"TLeafS".as_slice() {
+        Some(letter_if(unsigned, b'S', b's'))
+    } else if class == b"TLeafI".as_slice() {
+        Some(letter_if(unsigned, b'I', b'i'))
+    } else if class == b"TLeafL".as_slice() {
+        Some(letter_if(unsigned, b'L', b'l'))
+    } else if class == b"TLeafF".as_slice() {
+        Some(b'F')
+    } else if class == b"TLeafD".as_slice() {
+        Some(b'D')
+    } else if class == b"TLeafO".as_slice() {
+        Some(b'O')
+    } else if class == b"TLeafC".as_slice() {
+        Some(b'C')
+    } else {
+        None
+    }
+}
+
+// Null, or the label of an object; None for another value.
+fn counter_in(value: &Value) -> Option<Option<u32>>
+    ensures { result ≡ counter_in value.now }
+{
+    match value {
+        Value::Null => Some(None),
+        Value::Pointed { label, .. } => Some(Some(*label)),
+        Value::Back(label) => Some(Some(*label)),
+        _ => None,
+    }
+}
+
+fn counter_member(name: &[u8], value: &Value) -> Option<Option<u32>>
+    ensures { result ≡ counter_member name.now value.now }
+{
+    counter_in(member(name, value)?)
+}
+
+/// What a leaf says. None where its class isn't one of those of leaves, or a member is lacking.
+#[tactic(auto, unfolding(crate::specs::HeaderLeaves::leaf_said))]
+pub(crate) fn leaf_said(value: &Value) -> Option<LeafSaid<'_>>
+    ensures { result ≡ leaf_said value.now }
+{
+    let name = name_member(b"fName", value)?;
+    let len = i32_member(b"fLen", value)?;
+    let unsigned = truth_member(b"fIsUnsigned", value)?;
+    let counter = counter_member(b"fLeafCount", value)?;
+    let letter = letter_of_class(class_of_object(value), unsigned)?;
+    Some(LeafSaid {
+        name,
+        letter,
+        len,
+        counter,
+    })
+}
+
+/// The same of the object that a pointer leads to.
+pub(crate) fn leaf_at_pointer<'a>(labels: &LabelTable<'a>, item: &'a Value) -> Option<LeafSaid<'a>>
+    ensures { result ≡ leaf_at_pointer (labels_of labels.now) item.now }
+{
+    leaf_said(labels.object_behind(item)?)
+}
+
+/// How many values a leaf of this length has that isn't counted.
+pub(crate) fn uncounted_dim(len: i32) -> Dim
+    ensures { result ≡ uncounted_dim len }
+{
+    if len > 1 {
+        Dim::Fixed(len.unsigned_abs())
+    } else {
+        Dim::One
+    }
+}
+
+/// How many values a leaf of this length has for each that is counted.
+pub(crate) fn least_one(len: i32) -> u32
+    ensures { result ≡ least_one len }
+{
+    if len > 1 { len.unsigned_abs() } else { 1 }
+}
+
+/// Whether a leaf is a signed integer of 4 bytes without a dimension.
+pub(crate) fn is_plain_number(said: &LeafSaid) -> bool
+    ensures { result ≡ is_plain_number said.now }
+{
+    said.letter == b'I' && said.counter.is_none() && said.len <= 1
+}

@@ -1,0 +1,90 @@
+-- A verb that writes has a file's name of at most 200 bytes.
+use Rattle.std.proofs.Common.{if◌then◌else◌, ◌≡◌, ◌⊎◌, inl, inr, ⊎_elim, ℕ, ◌≤◌, ◌&&◌, Bool, true, false, List, [], ◌∷◌, length, Option, Some, None, option_map, sym, refl, ap, subst, rules}
+use Rattle.rio_meaning.specs.declared.item.Item.{Item}
+use Rattle.rio_token.specs.Words.{num_of}
+use Rattle.rio_num.specs.Word.{is_item_text}
+use Rattle.std.specs.Prelude.{codes}
+use Rattle.std.specs.List.{list_all}
+use Rattle.std.specs.Str.{bytes_eq}
+use Rattle.rootio.specs.declared.words.Form.{Form}
+use Rattle.rootio.specs.declared.words.Form.TheVariants.{Reads, Writes}
+use Rattle.rootio.specs.declared.words.Listing.TheVariants.{Dump, Scan}
+use Rattle.rootio.specs.declared.words.Work.{Work}
+use Rattle.rootio.specs.declared.words.Work.TheVariants.{Run}
+use Rattle.rootio.specs.Words.{asked_by, dump_of, form_of, is_file, is_no_flag, item_of, ls_of, run_of, scan_of_tree, scan_of_words, written_at}
+use Rattle.rootio.specs.Writing.{target_of}
+
+-- ---- choices
+
+chosen : (b : Bool) (x y : Option Form) (f : Form) → (if b then x else y) ≡ Some f → (x ≡ Some f) ⊎ (y ≡ Some f)
+chosen true x y f e = inl e
+chosen false x y f e = inr e
+
+guarded : (b : Bool) (x : Option Form) (f : Form) → (if b then x else None) ≡ Some f → (b ≡ true) × (x ≡ Some f)
+guarded true x f e = (refl, e)
+guarded false x f e = absurd cc
+
+first_holds : (a b : Bool) → (a && b) ≡ true → a ≡ true
+first_holds true b e = refl
+first_holds false b e = e
+
+-- ---- verbs that read
+
+module _ (work : Work) where
+  ls_reads : (args : List (List ℕ)) → ls_of args ≡ Some (Writes work) → ⊥
+  ls_reads [] e = cc
+  ls_reads (word ∷ words) e = cc
+
+  item_reads : (o : Option Item) → option_map (λ i. Reads (Dump (Some i))) o ≡ Some (Writes work) → ⊥
+  item_reads None e = cc
+  item_reads (Some i) e = cc
+
+  dump_reads : (args : List (List ℕ)) → dump_of args ≡ Some (Writes work) → ⊥
+  dump_reads [] e = cc
+  dump_reads (item ∷ []) e = item_reads (item_of item) e
+  dump_reads (item ∷ word ∷ words) e = cc
+
+  tree_reads : (b : Bool) (name : List ℕ) → (if b then Some (Reads (Scan name)) else None) ≡ Some (Writes work) → ⊥
+  tree_reads true name e = cc
+  tree_reads false name e = cc
+
+  scan_reads : (args : List (List ℕ)) → scan_of_words args ≡ Some (Writes work) → ⊥
+  scan_reads [] e = cc
+  scan_reads (tree ∷ []) e = tree_reads (is_item_text tree) tree e
+  scan_reads (tree ∷ word ∷ words) e = cc
+
+  -- ---- the one that writes
+
+  written_named : (file : List ℕ) (datime : ℕ) → Some (written_at file datime) ≡ Some (Writes work) → (target_of work).name ≡ file
+  written_named file datime e =
+      let same : work ≡ Run (record { name = file; datime = datime }) = cc in
+      ap (λ (w : Work). (target_of w).name) same
+
+  number_named : (file : List ℕ) (o : Option ℕ) → option_map (written_at file) o ≡ Some (Writes work) → (target_of work).name ≡ file
+  number_named file None e = absurd cc
+  number_named file (Some n) e = written_named file n e
+
+  run_named : (file : List ℕ) (args : List (List ℕ)) → run_of file args ≡ Some (Writes work) → (target_of work).name ≡ file
+  run_named file [] e = written_named file 1 e
+  run_named file (datime ∷ []) e = number_named file (num_of datime) e
+  run_named file (datime ∷ word ∷ words) e = absurd cc
+
+  asked_named : (verb file : List ℕ) (args : List (List ℕ)) → asked_by verb file args ≡ Some (Writes work) → (target_of work).name ≡ file
+  asked_named verb file args e =
+      ⊎_elim (λ is. absurd (ls_reads args is))
+      (λ behind. ⊎_elim (λ is. absurd (dump_reads args is))
+      (λ further. ⊎_elim (λ is. absurd (scan_reads args is))
+      (λ last. run_named file args (guarded (bytes_eq verb (codes "run")) (run_of file args) (Writes work) last).1)
+      (chosen (bytes_eq verb (codes "scan")) (scan_of_words args) _ (Writes work) further))
+      (chosen (bytes_eq verb (codes "dump")) (dump_of args) _ (Writes work) behind))
+      (chosen (bytes_eq verb (codes "ls")) (ls_of args) _ (Writes work) e)
+
+short_name : (word : List ℕ) → is_file word ≡ true → length word ≤ 200
+short_name word e = search rules
+
+pub writes_named : (words : List (List ℕ)) (work : Work) → form_of words ≡ Some (Writes work) → length (target_of work).name ≤ 200
+writes_named [] work e = absurd cc
+writes_named (verb ∷ []) work e = absurd cc
+writes_named (verb ∷ file ∷ args) work e =
+    let both = guarded (is_file file && list_all is_no_flag args) (asked_by verb file args) (Writes work) e in
+    subst (λ (n : List ℕ). length n ≤ 200) (sym (asked_named work verb file args both.1)) (short_name file (first_holds (is_file file) (list_all is_no_flag args) both.0))
