@@ -3,7 +3,6 @@ mod dump;
 mod faults;
 mod hand;
 mod images;
-mod limit;
 mod ls;
 mod run;
 mod runs;
