@@ -1,10 +1,20 @@
 //! Worked rows: what the program answers for files whose bytes and listings come from the format's rules.
+mod classes;
 mod dump;
+mod entries;
+mod far;
 mod faults;
+mod forest;
 mod hand;
+mod header;
 mod images;
+mod limit;
 mod ls;
+mod parts;
+mod pen;
+mod refused;
 mod run;
 mod runs;
+mod scan;
 mod stops;
 mod worked;

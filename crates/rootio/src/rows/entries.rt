@@ -1,0 +1,515 @@
+//! Rows of `scan` with entries of all kinds. Offsets count from the key's first byte: 57 bytes, 0x39, stand before the entries.
+use super::classes::ClassList;
+use super::forest::Forest;
+use super::header::{Basket, Branch, BranchLayout, Leaf, LeafLayout, Tree, TreeLayout};
+use super::parts::{FILE, FIVE, FLOAT, GOOD, INT, NO_LETTER, SHORT, TEXT, TREE};
+use super::scan::Row;
+
+// A tree of nine entries in baskets of three, two and four, and of four and five.
+pub(super) const BASKETS: Tree = Tree {
+    branches: &[
+        Branch {
+            baskets: &[
+                Basket {
+                    entries: 3,
+                    size: 4,
+                    data: b"\0\0\0\x01\0\0\0\x02\0\0\0\x03",
+                    used: 12,
+                    ..FIVE
+                },
+                Basket {
+                    entries: 2,
+                    size: 4,
+                    data: b"\0\0\0\x04\0\0\0\x05",
+                    used: 8,
+                    first: 3,
+                    ..FIVE
+                },
+                Basket {
+                    entries: 4,
+                    size: 4,
+                    data: b"\0\0\0\x06\0\0\0\x07\0\0\0\x08\0\0\0\x09",
+                    used: 16,
+                    first: 5,
+                    ..FIVE
+                },
+            ],
+            entries: 9,
+            ..GOOD
+        },
+        Branch {
+            name: "b",
+            baskets: &[
+                Basket {
+                    entries: 4,
+                    size: 4,
+                    data: b"\0\0\0\x0b\0\0\0\x0c\0\0\0\x0d\0\0\0\x0e",
+                    used: 16,
+                    ..FIVE
+                },
+                Basket {
+                    entries: 5,
+                    size: 4,
+                    data: b"\0\0\0\x0f\0\0\0\x10\0\0\0\x11\0\0\0\x12\0\0\0\x13",
+                    used: 20,
+                    first: 4,
+                    ..FIVE
+                },
+            ],
+            entries: 9,
+            ..GOOD
+        },
+    ],
+    entries: 9,
+    ..TREE
+};
+
+pub(super) static ENTRIES: [Row; 9] = [
+    // Their leaves count one another, and no leaf of another branch.
+    Row {
+        name: "branches of objects",
+        forest: Forest {
+            trees: &[Tree {
+                branches: &[
+                    GOOD,
+                    Branch {
+                        name: "b",
+                        leaves: &[],
+                        baskets: &[Basket {
+                            entries: 1,
+                            size: 1,
+                            data: b"\x40\0\0\x06\0\x01\0\0\0\x07\0\0\0\x02\0\0\0\x39\0\0\0\x43",
+                            used: 10,
+                            ..FIVE
+                        }],
+                        class: "TBranchElement",
+                        layout: BranchLayout::Objects,
+                        objects: "P",
+                        ..GOOD
+                    },
+                    Branch {
+                        name: "c",
+                        leaves: &[
+                            Leaf { name: "r", ..INT },
+                            Leaf {
+                                name: "v",
+                                counter: Some(1),
+                                ..FLOAT
+                            },
+                        ],
+                        baskets: &[Basket {
+                            entries: 1,
+                            size: 1,
+                            data: b"\x40\0\0\x06\0\x01\0\0\0\x07\0\0\0\x02\0\0\0\x39\0\0\0\x43",
+                            used: 10,
+                            ..FIVE
+                        }],
+                        class: "TBranchElement",
+                        layout: BranchLayout::Objects,
+                        objects: "P",
+                        ..GOOD
+                    },
+                    Branch {
+                        name: "d",
+                        leaves: &[Leaf {
+                            name: "v",
+                            counter: Some(1),
+                            ..FLOAT
+                        }],
+                        ..GOOD
+                    },
+                    Branch {
+                        name: "e",
+                        leaves: &[Leaf {
+                            class: "TLeafElement",
+                            name: "x",
+                            ..INT
+                        }],
+                        baskets: &[Basket {
+                            entries: 1,
+                            size: 1,
+                            data: b"\x40\0\0\x06\0\x01\0\0\0\x07\0\0\0\x02\0\0\0\x39\0\0\0\x43",
+                            used: 10,
+                            ..FIVE
+                        }],
+                        class: "TBranchElement",
+                        layout: BranchLayout::Objects,
+                        objects: "P",
+                        ..GOOD
+                    },
+                    Branch {
+                        name: "f",
+                        leaves: &[],
+                        baskets: &[Basket {
+                            entries: 1,
+                            size: 1,
+                            data: b"\x40\0\0\x06\0\x01\0\0\0\x07\0\0\0\0\x02\0\0\0\x39\0\0\0\x44",
+                            used: 11,
+                            ..FIVE
+                        }],
+                        class: "TBranchElement",
+                        layout: BranchLayout::Objects,
+                        objects: "P",
+                        ..GOOD
+                    },
+                    Branch {
+                        name: "g",
+                        leaves: &[],
+                        baskets: &[Basket {
+                            entries: 2,
+                            size: 2,
+                            data: b"\x40\0\0\x06\0\x01\0\0\0\x07\
+                                \x40\0\0\x06\0\x01\0\0\0\x08\
+                                \0\0\0\x03\0\0\0\x39\0\0\0\x43\0\0\0\x4d",
+                            used: 20,
+                            ..FIVE
+                        }],
+                        class: "TBranchElement",
+                        layout: BranchLayout::Objects,
+                        objects: "P",
+                        ..GOOD
+                    },
+                ],
+                ..TREE
+            }],
+            ..FILE
+        },
+        said: "branch d refused NoCounter\n\
+            branch e refused LeafClass\n\
+            branch f refused BadEntry\n\
+            branch g refused BadBasket\n\
+            ok scan T 1\n\
+            0 [5, P#1{a: 7}, P#1{a: 7}]\n",
+    },
+    Row {
+        name: "a leaf of each letter",
+        forest: Forest {
+            trees: &[Tree {
+                branches: &[Branch {
+                    leaves: &[
+                        Leaf {
+                            class: "TLeafB",
+                            name: "a",
+                            ..INT
+                        },
+                        Leaf {
+                            class: "TLeafB",
+                            name: "b",
+                            unsigned: true,
+                            ..INT
+                        },
+                        Leaf { name: "c", ..SHORT },
+                        Leaf {
+                            name: "d",
+                            unsigned: true,
+                            ..SHORT
+                        },
+                        Leaf { name: "e", ..INT },
+                        Leaf {
+                            name: "f",
+                            unsigned: true,
+                            ..INT
+                        },
+                        Leaf {
+                            class: "TLeafL",
+                            name: "g",
+                            ..INT
+                        },
+                        Leaf {
+                            class: "TLeafL",
+                            name: "h",
+                            unsigned: true,
+                            ..INT
+                        },
+                        Leaf {
+                            unsigned: true,
+                            ..FLOAT
+                        },
+                        Leaf {
+                            class: "TLeafD",
+                            name: "j",
+                            ..INT
+                        },
+                        Leaf {
+                            class: "TLeafO",
+                            name: "k",
+                            ..INT
+                        },
+                        Leaf { name: "l", ..TEXT },
+                    ],
+                    baskets: &[Basket {
+                        entries: 1,
+                        size: 1,
+                        data: b"\xff\xff\xff\xfe\xff\xfe\
+                            \xff\xff\xff\xfd\xff\xff\xff\xfd\
+                            \xff\xff\xff\xff\xff\xff\xff\xfc\
+                            \xff\xff\xff\xff\xff\xff\xff\xfc\
+                            \x3f\x80\0\0\x3f\xf0\0\0\0\0\0\0\x02\x02h\x22\
+                            \0\0\0\x02\0\0\0\x39\0\0\0\x67",
+                        used: 46,
+                        ..FIVE
+                    }],
+                    ..GOOD
+                }],
+                ..TREE
+            }],
+            ..FILE
+        },
+        said: "ok scan T 1\n\
+            0 [-1, 255, -2, 65534, -3, 4294967293, -4, 18446744073709551612, 0x3f800000, 0x3ff0000000000000, true, \"h\\\"\"]\n",
+    },
+    // Counted in an earlier branch, of three numbers, and a text that has no dimension whatever its leaf says.
+    Row {
+        name: "lists",
+        forest: Forest {
+            trees: &[Tree {
+                branches: &[
+                    Branch {
+                        name: "n",
+                        leaves: &[Leaf { name: "n", ..INT }],
+                        baskets: &[Basket {
+                            entries: 2,
+                            size: 4,
+                            data: b"\0\0\0\x02\0\0\0\0",
+                            used: 8,
+                            ..FIVE
+                        }],
+                        entries: 2,
+                        ..GOOD
+                    },
+                    Branch {
+                        name: "v",
+                        leaves: &[Leaf {
+                            name: "v",
+                            counter: Some(0),
+                            ..FLOAT
+                        }],
+                        baskets: &[Basket {
+                            entries: 2,
+                            size: 2,
+                            data: b"\x3f\x80\0\0\x40\0\0\0\0\0\0\x03\0\0\0\x39\0\0\0\x41\0\0\0\x41",
+                            used: 8,
+                            ..FIVE
+                        }],
+                        entries: 2,
+                        ..GOOD
+                    },
+                    Branch {
+                        name: "w",
+                        leaves: &[Leaf {
+                            name: "w",
+                            length: 2,
+                            counter: Some(0),
+                            ..SHORT
+                        }],
+                        baskets: &[Basket {
+                            entries: 2,
+                            size: 2,
+                            data: b"\0\x01\0\x02\0\x03\0\x04\0\0\0\x02\0\0\0\x39\0\0\0\x41",
+                            used: 8,
+                            ..FIVE
+                        }],
+                        entries: 2,
+                        ..GOOD
+                    },
+                    Branch {
+                        name: "d",
+                        leaves: &[Leaf {
+                            name: "d",
+                            length: 3,
+                            ..SHORT
+                        }],
+                        baskets: &[Basket {
+                            entries: 2,
+                            size: 6,
+                            data: b"\0\x01\0\x02\xff\xfd\0\0\0\0\0\0",
+                            used: 12,
+                            ..FIVE
+                        }],
+                        entries: 2,
+                        ..GOOD
+                    },
+                    Branch {
+                        name: "t",
+                        leaves: &[Leaf {
+                            name: "t",
+                            length: 5,
+                            counter: Some(0),
+                            ..TEXT
+                        }],
+                        baskets: &[Basket {
+                            entries: 2,
+                            size: 2,
+                            data: b"\x02hi\0\0\0\0\x03\0\0\0\x39\0\0\0\x3c\0\0\0\x3d",
+                            used: 4,
+                            ..FIVE
+                        }],
+                        entries: 2,
+                        ..GOOD
+                    },
+                    Branch {
+                        name: "z",
+                        leaves: &[Leaf {
+                            class: "TLeafB",
+                            name: "z",
+                            length: 0,
+                            counter: Some(0),
+                            ..INT
+                        }],
+                        baskets: &[Basket {
+                            entries: 2,
+                            size: 2,
+                            data: b"\x01\x02\0\0\0\x03\0\0\0\x39\0\0\0\x3b\0\0\0\x3b",
+                            used: 2,
+                            ..FIVE
+                        }],
+                        entries: 2,
+                        ..GOOD
+                    },
+                ],
+                entries: 2,
+                ..TREE
+            }],
+            ..FILE
+        },
+        said: "ok scan T 2\n\
+            0 [2, [0x3f800000, 0x40000000], [1, 2, 3, 4], [1, 2, -3], \"hi\", [1, 2]]\n\
+            1 [0, [], [], [0, 0, 0], \"\", []]\n",
+    },
+    Row {
+        name: "baskets of three, two and four entries",
+        forest: Forest {
+            trees: &[BASKETS],
+            ..FILE
+        },
+        said: "ok scan T 9\n\
+            0 [1, 11]\n\
+            1 [2, 12]\n\
+            2 [3, 13]\n\
+            3 [4, 14]\n\
+            4 [5, 15]\n\
+            5 [6, 16]\n\
+            6 [7, 17]\n\
+            7 [8, 18]\n\
+            8 [9, 19]\n",
+    },
+    Row {
+        name: "no entries",
+        forest: Forest {
+            trees: &[Tree {
+                branches: &[Branch {
+                    baskets: &[],
+                    entries: 0,
+                    ..GOOD
+                }],
+                entries: 0,
+                ..TREE
+            }],
+            ..FILE
+        },
+        said: "ok scan T 0\n",
+    },
+    Row {
+        name: "no branch that is read",
+        forest: Forest {
+            trees: &[Tree {
+                branches: &[Branch {
+                    parent: true,
+                    ..GOOD
+                }],
+                ..TREE
+            }],
+            ..FILE
+        },
+        said: "branch a refused SubBranches\nok scan T 1\n0 []\n",
+    },
+    Row {
+        name: "no branches",
+        forest: Forest {
+            trees: &[Tree {
+                branches: &[],
+                entries: 2,
+                ..TREE
+            }],
+            ..FILE
+        },
+        said: "ok scan T 2\n0 []\n1 []\n",
+    },
+    Row {
+        name: "names that are quoted",
+        forest: Forest {
+            trees: &[Tree {
+                branches: &[
+                    Branch {
+                        name: "a b",
+                        parent: true,
+                        ..GOOD
+                    },
+                    Branch {
+                        name: "a+b",
+                        parent: true,
+                        ..GOOD
+                    },
+                ],
+                ..TREE
+            }],
+            ..FILE
+        },
+        said: "branch \"a b\" refused SubBranches\n\
+            branch a+b refused SubBranches\n\
+            ok scan T 1\n\
+            0 []\n",
+    },
+    Row {
+        name: "another maker's classes",
+        forest: Forest {
+            trees: &[Tree {
+                branches: &[
+                    Branch {
+                        name: "n",
+                        leaves: &[Leaf {
+                            name: "n",
+                            layout: LeafLayout::Theirs,
+                            ..INT
+                        }],
+                        baskets: &[Basket {
+                            entries: 2,
+                            size: 4,
+                            data: b"\0\0\0\x01\0\0\0\x02",
+                            used: 8,
+                            ..FIVE
+                        }],
+                        entries: 2,
+                        layout: BranchLayout::Theirs,
+                        ..GOOD
+                    },
+                    Branch {
+                        name: "v",
+                        leaves: &[Leaf {
+                            name: "v",
+                            counter: Some(0),
+                            layout: LeafLayout::Theirs,
+                            ..FLOAT
+                        }],
+                        baskets: &[Basket {
+                            entries: 2,
+                            size: 2,
+                            data: b"\x3f\x80\0\0\x40\0\0\0\x40\x40\0\0\0\0\0\x03\0\0\0\x39\0\0\0\x3d\0\0\0\x45",
+                            used: 12,
+                            ..FIVE
+                        }],
+                        entries: 2,
+                        layout: BranchLayout::Theirs,
+                        ..GOOD
+                    },
+                ],
+                layout: TreeLayout::Theirs,
+                entries: 2,
+                ..TREE
+            }],
+            classes: ClassList::Theirs,
+            ..FILE
+        },
+        said: "ok scan T 2\n0 [1, [0x3f800000]]\n1 [2, [0x40000000, 0x40400000]]\n",
+    },
+];

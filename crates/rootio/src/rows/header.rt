@@ -1,0 +1,542 @@
+//! Headers of trees, written member by member.
+use super::pen::{Field, OBJECT, Pen, half, word};
+use rio_num::NoMemory;
+
+/// A leaf of a branch.
+#[derive(Clone, Copy)]
+pub(super) struct Leaf {
+    pub(super) name: &'static str,
+    pub(super) class: &'static str,
+    pub(super) layout: LeafLayout,
+    pub(super) length: u32,
+    pub(super) unsigned: bool,
+    /// The leaf that counts it, from 0 over the leaves of all branches.
+    pub(super) counter: Option<usize>,
+}
+
+/// A basket of a branch.
+#[derive(Clone, Copy)]
+pub(super) struct Basket {
+    /// The number of its first entry, as the header says it.
+    pub(super) first: u64,
+    /// How many entries it has, and fNevBufSize.
+    pub(super) entries: u32,
+    pub(super) size: u32,
+    /// All bytes behind the key, and how many of them are of entries.
+    pub(super) data: &'static [u8],
+    pub(super) used: u32,
+    /// How much longer it was before it was compressed.
+    pub(super) shrunk: u32,
+    /// How many bytes fewer the header says.
+    pub(super) fewer: u32,
+}
+
+/// A branch of a tree, or none where it has no class.
+#[derive(Clone, Copy)]
+pub(super) struct Branch {
+    pub(super) name: &'static str,
+    pub(super) class: &'static str,
+    pub(super) layout: BranchLayout,
+    /// The class of its objects.
+    pub(super) objects: &'static str,
+    pub(super) leaves: &'static [Leaf],
+    pub(super) entries: u64,
+    /// Whether it has a branch, which is none, and a basket in the header.
+    pub(super) parent: bool,
+    pub(super) embedded: bool,
+    pub(super) baskets: &'static [Basket],
+    /// How many baskets more than it has the header says.
+    pub(super) more: u32,
+}
+
+/// A tree.
+#[derive(Clone, Copy)]
+pub(super) struct Tree {
+    pub(super) name: &'static str,
+    pub(super) cycle: u16,
+    pub(super) layout: TreeLayout,
+    pub(super) entries: u64,
+    pub(super) branches: &'static [Branch],
+    /// How much longer its header was before it was compressed.
+    pub(super) shrunk: u32,
+}
+
+/// Where a basket stands.
+#[derive(Clone, Copy)]
+pub(super) struct Placed {
+    pub(super) bytes: u32,
+    pub(super) seek: u64,
+}
+
+/// What stands in an object behind what came before.
+#[derive(Clone, Copy)]
+pub(super) enum Step {
+    /// An object of this version, or a base.
+    Begin(u16),
+    End,
+    Named,
+    Entries,
+    Branches,
+    Leaves,
+    /// fEntryOffsetLen, fWriteBasket and fMaxBaskets.
+    OffsetLength,
+    Used,
+    Most,
+    Baskets,
+    Bytes,
+    Firsts,
+    Places,
+    ClassName,
+    ClassVersion,
+    Length,
+    ShortLength,
+    LengthType,
+    Unsigned,
+    Counter,
+    /// A number of eight bytes that isn't looked at.
+    Weight,
+}
+
+use Step::{
+    Baskets, Begin, Branches, Bytes, ClassName, ClassVersion, Counter, End, Entries, Firsts,
+    Leaves, Length, LengthType, Most, Named, OffsetLength, Places, ShortLength, Unsigned, Used,
+    Weight,
+};
+
+/// How a tree is laid out.
+#[derive(Clone, Copy)]
+pub(super) enum TreeLayout {
+    /// As the format's own classes have it.
+    Own,
+    /// Without fEntries.
+    Endless,
+    /// Without fBranches.
+    Bare,
+    /// Without both.
+    Empty,
+    /// As another maker has it.
+    Theirs,
+}
+
+static TREE: [Step; 6] = [Begin(120), Named, Entries, Branches, Leaves, End];
+
+static ENDLESS_TREE: [Step; 5] = [Begin(121), Named, Branches, Leaves, End];
+
+static BARE_TREE: [Step; 5] = [Begin(122), Named, Entries, Leaves, End];
+
+static EMPTY_TREE: [Step; 4] = [Begin(123), Named, Leaves, End];
+
+static THEIR_TREE: [Step; 9] = [
+    Begin(20),
+    Named,
+    Begin(7),
+    Leaves,
+    Branches,
+    End,
+    Weight,
+    Entries,
+    End,
+];
+
+impl TreeLayout {
+    fn steps(self) -> &'static [Step] {
+        match self {
+            TreeLayout::Own => &TREE,
+            TreeLayout::Endless => &ENDLESS_TREE,
+            TreeLayout::Bare => &BARE_TREE,
+            TreeLayout::Empty => &EMPTY_TREE,
+            TreeLayout::Theirs => &THEIR_TREE,
+        }
+    }
+}
+
+/// How a branch is laid out.
+#[derive(Clone, Copy)]
+pub(super) enum BranchLayout {
+    /// As the format's own classes have it.
+    Own,
+    /// Without fBasketSeek.
+    Bare,
+    /// As one of a class whose base is that of branches.
+    Heir,
+    /// As one of objects.
+    Objects,
+    /// As one of objects, in an older version.
+    OldObjects,
+    /// As another maker has it.
+    Theirs,
+}
+
+static BRANCH: [Step; 13] = [
+    Begin(113),
+    Named,
+    OffsetLength,
+    Used,
+    Most,
+    Entries,
+    Branches,
+    Leaves,
+    Baskets,
+    Bytes,
+    Firsts,
+    Places,
+    End,
+];
+
+static BARE_BRANCH: [Step; 12] = [
+    Begin(114),
+    Named,
+    OffsetLength,
+    Used,
+    Most,
+    Entries,
+    Branches,
+    Leaves,
+    Baskets,
+    Bytes,
+    Firsts,
+    End,
+];
+
+static HEIR: [Step; 15] = [
+    Begin(113),
+    Begin(113),
+    Named,
+    OffsetLength,
+    Used,
+    Most,
+    Entries,
+    Branches,
+    Leaves,
+    Baskets,
+    Bytes,
+    Firsts,
+    Places,
+    End,
+    End,
+];
+
+static OBJECTS: [Step; 17] = [
+    Begin(110),
+    Begin(113),
+    Named,
+    OffsetLength,
+    Used,
+    Most,
+    Entries,
+    Branches,
+    Leaves,
+    Baskets,
+    Bytes,
+    Firsts,
+    Places,
+    End,
+    ClassName,
+    ClassVersion,
+    End,
+];
+
+static OLD_OBJECTS: [Step; 17] = [
+    Begin(10),
+    Begin(113),
+    Named,
+    OffsetLength,
+    Used,
+    Most,
+    Entries,
+    Branches,
+    Leaves,
+    Baskets,
+    Bytes,
+    Firsts,
+    Places,
+    End,
+    ClassName,
+    ClassVersion,
+    End,
+];
+
+static THEIR_BRANCH: [Step; 14] = [
+    Begin(13),
+    Named,
+    Begin(2),
+    Most,
+    Places,
+    Firsts,
+    Bytes,
+    End,
+    Baskets,
+    Leaves,
+    Entries,
+    Branches,
+    Used,
+    End,
+];
+
+impl BranchLayout {
+    fn steps(self) -> &'static [Step] {
+        match self {
+            BranchLayout::Own => &BRANCH,
+            BranchLayout::Bare => &BARE_BRANCH,
+            BranchLayout::Heir => &HEIR,
+            BranchLayout::Objects => &OBJECTS,
+            BranchLayout::OldObjects => &OLD_OBJECTS,
+            BranchLayout::Theirs => &THEIR_BRANCH,
+        }
+    }
+}
+
+/// How a leaf is laid out.
+#[derive(Clone, Copy)]
+pub(super) enum LeafLayout {
+    /// As the format's own classes have it.
+    Own,
+    /// Without fLen.
+    Bare,
+    /// As another maker has it.
+    Theirs,
+}
+
+static LEAF: [Step; 9] = [
+    Begin(101),
+    Begin(102),
+    Named,
+    Length,
+    LengthType,
+    Unsigned,
+    Counter,
+    End,
+    End,
+];
+
+static BARE_LEAF: [Step; 8] = [
+    Begin(103),
+    Begin(103),
+    Named,
+    LengthType,
+    Unsigned,
+    Counter,
+    End,
+    End,
+];
+
+static THEIR_LEAF: [Step; 8] = [
+    Begin(1),
+    Begin(3),
+    Named,
+    Unsigned,
+    Counter,
+    ShortLength,
+    End,
+    End,
+];
+
+impl LeafLayout {
+    fn steps(self) -> &'static [Step] {
+        match self {
+            LeafLayout::Own => &LEAF,
+            LeafLayout::Bare => &BARE_LEAF,
+            LeafLayout::Theirs => &THEIR_LEAF,
+        }
+    }
+}
+
+/// An array with nothing in it.
+fn put_nothing(pen: &mut Pen) -> Result<(), NoMemory> {
+    pen.array(0)?;
+    pen.end();
+    Ok(())
+}
+
+/// An array with null in it.
+fn put_null(pen: &mut Pen) -> Result<(), NoMemory> {
+    pen.array(1)?;
+    pen.refer(None)?;
+    pen.end();
+    Ok(())
+}
+
+/// An array with an object in it, a TObject.
+fn put_one(pen: &mut Pen) -> Result<(), NoMemory> {
+    pen.array(1)?;
+    pen.point("TObject")?;
+    pen.put(&[OBJECT])?;
+    pen.end();
+    pen.end();
+    Ok(())
+}
+
+/// What all objects have.
+fn put_frame(pen: &mut Pen, name: &str, step: Step) -> Result<(), NoMemory> {
+    match step {
+        Begin(version) => pen.begin(version),
+        End => {
+            pen.end();
+            Ok(())
+        }
+        Named => pen.named(name),
+        Weight => pen.put(&[Field::Long(0)]),
+        _ => Ok(()),
+    }
+}
+
+impl Leaf {
+    fn put_step(&self, pen: &mut Pen, step: Step) -> Result<(), NoMemory> {
+        match step {
+            Length => pen.put(&[Field::Word(self.length)]),
+            ShortLength => pen.put(&[Field::Short(half(self.length as usize))]),
+            LengthType => pen.put(&[Field::Word(4)]),
+            Unsigned => pen.put(&[Field::Byte(u8::from(self.unsigned))]),
+            Counter => pen.refer(self.counter),
+            step => put_frame(pen, self.name, step),
+        }
+    }
+
+    fn put(&self, pen: &mut Pen) -> Result<(), NoMemory> {
+        pen.point_leaf(self.class)?;
+        for step in self.layout.steps() {
+            self.put_step(pen, *step)?;
+        }
+        pen.end();
+        Ok(())
+    }
+}
+
+fn put_leaves(pen: &mut Pen, leaves: &[Leaf]) -> Result<(), NoMemory> {
+    pen.array(leaves.len())?;
+    for leaf in leaves {
+        leaf.put(pen)?;
+    }
+    pen.end();
+    Ok(())
+}
+
+/// The lengths of the baskets, and 0.
+fn put_bytes(pen: &mut Pen, placed: &[Placed]) -> Result<(), NoMemory> {
+    pen.put(&[Field::Byte(1)])?;
+    for basket in placed {
+        pen.put(&[Field::Word(basket.bytes)])?;
+    }
+    pen.put(&[Field::Word(0)])
+}
+
+/// The places of the baskets, and 0.
+fn put_places(pen: &mut Pen, placed: &[Placed]) -> Result<(), NoMemory> {
+    pen.put(&[Field::Byte(1)])?;
+    for basket in placed {
+        pen.put(&[Field::Long(basket.seek)])?;
+    }
+    pen.put(&[Field::Long(0)])
+}
+
+/// The first entries of the baskets, and the number of all entries.
+fn put_firsts(pen: &mut Pen, baskets: &[Basket], entries: u64) -> Result<(), NoMemory> {
+    pen.put(&[Field::Byte(1)])?;
+    for basket in baskets {
+        pen.put(&[Field::Long(basket.first)])?;
+    }
+    pen.put(&[Field::Long(entries)])
+}
+
+/// Which of both.
+fn put_one_or(pen: &mut Pen, is_one: bool, most: usize) -> Result<(), NoMemory> {
+    if is_one {
+        return put_one(pen);
+    }
+    if most == 0 {
+        put_nothing(pen)
+    } else {
+        put_null(pen)
+    }
+}
+
+impl Branch {
+    /// How many baskets the header says that it has.
+    fn used(&self) -> u32 {
+        word(self.baskets.len()).wrapping_add(self.more)
+    }
+
+    fn put_counts(&self, pen: &mut Pen, step: Step) -> Result<(), NoMemory> {
+        match step {
+            OffsetLength => pen.put(&[Field::Word(0)]),
+            Used => pen.put(&[Field::Word(self.used())]),
+            Most => pen.put(&[Field::Word(word(self.baskets.len().wrapping_add(1)))]),
+            Entries => pen.put(&[Field::Long(self.entries)]),
+            ClassName => pen.put(&[Field::Text(self.objects)]),
+            ClassVersion => pen.put(&[Field::Word(1)]),
+            step => put_frame(pen, self.name, step),
+        }
+    }
+
+    fn put_step(&self, pen: &mut Pen, placed: &[Placed], step: Step) -> Result<(), NoMemory> {
+        match step {
+            Branches => put_one_or(pen, self.parent, 0),
+            Leaves => put_leaves(pen, self.leaves),
+            Baskets => put_one_or(pen, self.embedded, self.baskets.len()),
+            Bytes => put_bytes(pen, placed),
+            Firsts => put_firsts(pen, self.baskets, self.entries),
+            Places => put_places(pen, placed),
+            step => self.put_counts(pen, step),
+        }
+    }
+
+    fn put(&self, pen: &mut Pen, placed: &[Placed]) -> Result<(), NoMemory> {
+        if self.class.is_empty() {
+            return pen.refer(None);
+        }
+        pen.point(self.class)?;
+        for step in self.layout.steps() {
+            self.put_step(pen, placed, *step)?;
+        }
+        pen.end();
+        Ok(())
+    }
+}
+
+/// References to all leaves that there are.
+fn put_references(pen: &mut Pen) -> Result<(), NoMemory> {
+    let count = pen.leaves();
+    pen.array(count)?;
+    for leaf in 0..count {
+        pen.refer(Some(leaf))?;
+    }
+    pen.end();
+    Ok(())
+}
+
+/// The front of the list, and what is behind it.
+fn split(placed: &[Placed], count: usize) -> (&[Placed], &[Placed]) {
+    placed.split_at(count.min(placed.len()))
+}
+
+impl Tree {
+    /// The branches, the baskets of each from the front of what is left of the list.
+    fn put_branches(&self, pen: &mut Pen, placed: &[Placed]) -> Result<(), NoMemory> {
+        pen.array(self.branches.len())?;
+        let mut left = placed;
+        for branch in self.branches {
+            let (own, rest) = split(left, branch.baskets.len());
+            branch.put(pen, own)?;
+            left = rest;
+        }
+        pen.end();
+        Ok(())
+    }
+
+    fn put_step(&self, pen: &mut Pen, placed: &[Placed], step: Step) -> Result<(), NoMemory> {
+        match step {
+            Entries => pen.put(&[Field::Long(self.entries)]),
+            Branches => self.put_branches(pen, placed),
+            Leaves => put_references(pen),
+            step => put_frame(pen, self.name, step),
+        }
+    }
+
+    /// Its header, an object. Its baskets stand there, those of its first branch first.
+    pub(super) fn put(&self, pen: &mut Pen, placed: &[Placed]) -> Result<(), NoMemory> {
+        for step in self.layout.steps() {
+            self.put_step(pen, placed, *step)?;
+        }
+        Ok(())
+    }
+}
