@@ -1,159 +1,170 @@
 //! Entries of branches of leaves, good and bad.
 mod objects;
-mod texts;
 
 use crate::{EntryFault, read_entry, write_entry};
-use rio_leaf::{BranchDef, Dim, Leaf, Leaves, Shape, read_leaves};
-use rio_num::{Bytes, Name};
+use rio_leaf::{BranchDef, LeafFault, Shape, read_leaves};
+use rio_num::{Bytes, Name, NoMemory};
 use rio_types::Classes;
 use rio_value::{Value, Values};
 use std::alloc::Global;
-use std::test::Fail;
-use texts::{hex_bytes, put_row};
+
+// A value that is no list, and a value of a row.
+enum Single {
+    Int(i128),
+    Word(u32),
+    Long(u64),
+    Bool(bool),
+    Text(&'static str),
+}
+
+enum Said {
+    One(Single),
+    List(&'static [Single]),
+}
+
+use Said::{List, One};
+use Single::{Bool, Int, Long, Text, Word};
 
 // The leaves, what counts each of them in an earlier branch, the entry, and the row that it is.
-static ENTRIES: [(&str, &[i128], &str, &str); 20] = [
-    // The entries of tree `T`, branch `x`.
-    ("x/I", &[], "00000001", " 1"),
-    ("x/I", &[], "00000002", " 2"),
-    ("x/I", &[], "00000003", " 3"),
+struct Row {
+    leaves: &'static str,
+    counts: &'static [i128],
+    bytes: &'static [u8],
+    said: &'static [Said],
+}
+
+static ROWS: [Row; 9] = [
+    // The last entry of tree `T`, branch `x`.
+    Row {
+        leaves: "x/I",
+        counts: &[],
+        bytes: b"\0\0\0\x03",
+        said: &[One(Int(3))],
+    },
     // The entries of tree `V`, branch `v`, which the leaf of branch `n` counts.
-    ("v[n]/F", &[0], "", " [ ]"),
-    (
-        "v[n]/F",
-        &[3],
-        "3F800000 40000000 40400000",
-        " [ 0x3f800000 0x40000000 0x40400000 ]",
-    ),
-    // Where no count is given, it is 0.
-    ("v[n]/F", &[], "", " [ ]"),
-    // The least and the greatest number of each letter, and numbers that differ with the sign.
-    (
-        "a/B:b/S:c/I:d/L",
-        &[],
-        "80 8000 80000000 8000000000000000",
-        " -128 -32768 -2147483648 -9223372036854775808",
-    ),
-    (
-        "a/B:b/S:c/I:d/L",
-        &[],
-        "7F 7FFF 7FFFFFFF 7FFFFFFFFFFFFFFF",
-        " 127 32767 2147483647 9223372036854775807",
-    ),
-    (
-        "a/B:b/S:c/I:d/L",
-        &[],
-        "FF FFFE FFFFFFFD FFFFFFFFFFFFFFFC",
-        " -1 -2 -3 -4",
-    ),
-    (
-        "a/b:b/s:c/i:d/l",
-        &[],
-        "FF FFFE FFFFFFFD FFFFFFFFFFFFFFFC",
-        " 255 65534 4294967293 18446744073709551612",
-    ),
-    (
-        "f/F:d/D:o/O:p/O",
-        &[],
-        "BF800000 3FF0000000000000 01 00",
-        " 0xbf800000 0x3ff0000000000000 true false",
-    ),
+    Row {
+        leaves: "v[n]/F",
+        counts: &[0],
+        bytes: b"",
+        said: &[List(&[])],
+    },
+    Row {
+        leaves: "v[n]/F",
+        counts: &[3],
+        bytes: b"\x3f\x80\0\0\x40\0\0\0\x40\x40\0\0",
+        said: &[List(&[Word(0x3f80_0000), Word(0x4000_0000), Word(0x4040_0000)])],
+    },
+    // The least number of each letter with a sign, and the greatest of each without.
+    Row {
+        leaves: "a/B:b/S:c/I:d/L",
+        counts: &[],
+        bytes: b"\x80\x80\0\x80\0\0\0\x80\0\0\0\0\0\0\0",
+        said: &[
+            One(Int(-128)),
+            One(Int(-32_768)),
+            One(Int(-2_147_483_648)),
+            One(Int(-9_223_372_036_854_775_808)),
+        ],
+    },
+    Row {
+        leaves: "a/b:b/s:c/i:d/l",
+        counts: &[],
+        bytes: b"\xff\xff\xff\xff\xff\xff\xff\xff\xff\xff\xff\xff\xff\xff\xff",
+        said: &[
+            One(Int(255)),
+            One(Int(65_535)),
+            One(Int(4_294_967_295)),
+            One(Int(18_446_744_073_709_551_615)),
+        ],
+    },
+    Row {
+        leaves: "d/D:o/O:p/O",
+        counts: &[],
+        bytes: b"\x3f\xf0\0\0\0\0\0\0\x01\0",
+        said: &[
+            One(Long(0x3ff0_0000_0000_0000)),
+            One(Bool(true)),
+            One(Bool(false)),
+        ],
+    },
     // A list of a fixed length, which no count changes.
-    ("x[2]/I", &[7], "00000001 FFFFFFFF", " [ 1 -1 ]"),
+    Row {
+        leaves: "x[2]/I",
+        counts: &[7],
+        bytes: b"\0\0\0\x01\xff\xff\xff\xff",
+        said: &[List(&[Int(1), Int(-1)])],
+    },
     // A leaf before it in the branch counts, whatever count is given.
-    ("n/I:w[n]/b", &[], "00000002 07FF", " 2 [ 7 255 ]"),
-    ("n/I:w[n]/b", &[9, 1], "00000002 07FF", " 2 [ 7 255 ]"),
-    (
-        "n/I:m/I:w[n]/b:v[m]/S",
-        &[],
-        "00000001 00000002 07 FFFE 0003",
-        " 1 2 [ 7 ] [ -2 3 ]",
-    ),
-    // Each count is that of its own leaf.
-    ("w[k]/b:v[j]/b", &[1, 2], "07 0809", " [ 7 ] [ 8 9 ]"),
-    // Texts.
-    ("c/C", &[], "00", " \"\""),
-    ("c/C:d/C", &[], "02 6869 01 61", " \"hi\" \"a\""),
-    ("c/C:x/I", &[5], "02 6869 00000005", " \"hi\" 5"),
-    ("n/I:c/C:w[n]/b", &[], "00000001 01 61 07", " 1 \"a\" [ 7 ]"),
+    Row {
+        leaves: "n/I:w[n]/b",
+        counts: &[9, 1],
+        bytes: b"\0\0\0\x02\x07\xff",
+        said: &[One(Int(2)), List(&[Int(7), Int(255)])],
+    },
+    Row {
+        leaves: "c/C:x/I",
+        counts: &[],
+        bytes: b"\x02hi\0\0\0\x05",
+        said: &[One(Text("hi")), One(Int(5))],
+    },
 ];
 
-// Entries that are read, and which no row is written as: any byte but 0 is true, and a short text may have the five bytes
-// of length of a long one.
-static OTHER_FORMS: [(&str, &[i128], &str, &str); 2] = [
-    ("o/O:p[2]/O", &[], "02 FF00", " true [ true false ]"),
-    ("c/C", &[], "FF 00000002 6869", " \"hi\""),
-];
+impl Single {
+    fn is(&self, value: &Value) -> bool {
+        match (self, value) {
+            (Int(n), Value::Int(m)) => n == m,
+            (Word(n), Value::Bits32(m)) => n == m,
+            (Long(n), Value::Bits64(m)) => n == m,
+            (Bool(b), Value::Bool(c)) => b == c,
+            (Text(text), Value::Text(name)) => text.as_bytes() == name.as_slice(),
+            _ => false,
+        }
+    }
+}
 
-// Bytes that are no entries of the leaves, and the place of the first part that breaks.
-static BROKEN: [(&str, &[i128], &str, u64); 21] = [
-    ("x/I", &[], "", 0),
-    ("x/I", &[], "000000", 0),
-    // Bytes behind the last leaf.
-    ("x/I", &[], "00000001 00", 4),
-    ("x/I", &[], "00000001 000000000000", 4),
-    ("v[n]/F", &[0], "00", 0),
-    ("v[n]/F", &[2], "3F800000 40000000 40400000", 8),
-    // A value of a list that isn't whole.
-    ("v[n]/F", &[3], "3F800000 40000000", 8),
-    ("v[n]/F", &[3], "3F800000 40000000 404000", 8),
-    ("x[2]/I", &[], "00000001", 4),
-    ("n/I:w[n]/b", &[], "00000002 07", 5),
-    ("n/I:w[n]/S", &[], "00000002 0007 FF", 6),
-    ("n/I:w[n]/b", &[9, 1], "00000002 07FF 00", 6),
-    // No list is so long.
-    ("w[n]/b", &[2147483647], "07", 1),
-    // A count below 0 breaks where the values would begin.
-    ("v[n]/F", &[-1], "3F800000", 0),
-    ("n/I:w[n]/b", &[], "FFFFFFFF 07", 4),
-    ("n/I:c/C:w[n]/b", &[], "80000000 01 61 07", 6),
-    // Texts.
-    ("c/C", &[], "", 0),
-    ("c/C", &[], "02 68", 0),
-    ("c/C:d/C", &[], "02 6869", 3),
-    ("c/C:d/C", &[], "02 6869 FF000000", 3),
-    ("c/C:d/C", &[], "02 6869 FF00000001", 3),
-];
+fn are_singles(said: &[Single], values: &[Value]) -> bool {
+    for (k, value) in values.iter().enumerate() {
+        match said.get(k) {
+            Some(single) if single.is(value) => {}
+            _ => return false,
+        }
+    }
+    values.len() == said.len()
+}
 
-// A row, as an entry of other leaves, which doesn't fit the leaves and counts behind it.
-static BAD_ROWS: [(&str, &str, &str, &[i128]); 19] = [
-    // More values than leaves, and fewer.
-    ("x/I:y/I", "00000001 00000002", "x/I", &[]),
-    ("x/I", "00000001", "x/I:y/I", &[]),
-    // Numbers that are too great or too small.
-    ("x/b", "80", "x/B", &[]),
-    ("x/B", "FF", "x/b", &[]),
-    ("x/i", "80000000", "x/I", &[]),
-    ("x/L", "FFFFFFFFFFFFFFFF", "x/l", &[]),
-    ("x/s", "0100", "x/b", &[]),
-    ("x[2]/s", "00010100", "x[2]/b", &[]),
-    // Values of another kind.
-    ("x/F", "3F800000", "x/I", &[]),
-    ("x/I", "00000001", "x/F", &[]),
-    ("x/F", "3F800000", "x/D", &[]),
-    ("x/B", "01", "x/O", &[]),
-    ("x/O", "01", "x/B", &[]),
-    ("c/C", "00", "x/I", &[]),
-    ("x/I", "00000001", "c/C", &[]),
-    // A value for a list, a list for a value, and lists of another length.
-    ("x/b", "01", "x[n]/b", &[1]),
-    ("x[2]/b", "0102", "x/b", &[]),
-    ("x[2]/b", "0102", "x[3]/b", &[]),
-    ("x[2]/b", "0102", "x[n]/b", &[1]),
-];
+impl Said {
+    fn is(&self, value: &Value) -> bool {
+        match self {
+            One(single) => single.is(value),
+            List(said) => match value {
+                Value::List(items) => are_singles(said, items.as_slice()),
+                _ => false,
+            },
+        }
+    }
+}
 
-fn branch(alloc: Global, leaves: &str) -> Result<BranchDef, Fail> {
-    let text = leaves.as_bytes();
-    if text.len() > 1000 {
-        return Err(Fail::new("the list of leaves is too long"));
+fn are(said: &[Said], values: &[Value]) -> bool {
+    for (k, value) in values.iter().enumerate() {
+        match said.get(k) {
+            Some(one) if one.is(value) => {}
+            _ => return false,
+        }
+    }
+    values.len() == said.len()
+}
+
+fn branch(alloc: Global, leaves: &str) -> Result<BranchDef, LeafFault> {
+    if leaves.len() > 1000 {
+        return Err(LeafFault::NoMemory);
     }
     Ok(BranchDef {
-        name: Name::from_slice(alloc, b"branch")?,
-        shape: Shape::Leaves(read_leaves(alloc, text)?),
+        name: Name::new(alloc),
+        shape: Shape::Leaves(read_leaves(alloc, leaves.as_bytes())?),
     })
 }
 
-fn counts_of(alloc: Global, counts: &[i128]) -> Result<Values, Fail> {
+fn counts_of(alloc: Global, counts: &[i128]) -> Result<Values, NoMemory> {
     let mut values = Values::new(alloc);
     for n in counts {
         values.push(Value::Int(*n))?;
@@ -162,196 +173,105 @@ fn counts_of(alloc: Global, counts: &[i128]) -> Result<Values, Fail> {
 }
 
 // The row that the bytes are, of a branch without classes.
-fn row_of(
+fn read(
     alloc: Global,
     branch: &BranchDef,
-    counts: &[i128],
+    counts: &Values,
     bytes: &[u8],
-) -> Result<Result<Values, EntryFault>, Fail> {
+) -> Result<Values, EntryFault> {
     if bytes.len() > 1000 {
-        return Err(Fail::new("the entry is too long"));
+        return Err(EntryFault::NoMemory);
     }
-    let counts = counts_of(alloc, counts)?;
-    let classes = Classes::new(alloc);
-    Ok(read_entry(alloc, &classes, branch, &counts, bytes))
+    read_entry(alloc, &Classes::new(alloc), branch, counts, bytes)
 }
 
-// What is written for the row, of a branch without classes.
-fn entry_of(
+fn is_written(
     alloc: Global,
+    classes: &Classes,
     branch: &BranchDef,
-    counts: &[i128],
+    counts: &Values,
     row: &Values,
-) -> Result<Result<Bytes, EntryFault>, Fail> {
-    let counts = counts_of(alloc, counts)?;
-    let classes = Classes::new(alloc);
-    Ok(write_entry(alloc, &classes, branch, &counts, row))
+    bytes: &[u8],
+) -> bool {
+    match write_entry(alloc, classes, branch, counts, row) {
+        Ok(written) => written.as_slice() == bytes,
+        Err(_) => false,
+    }
 }
 
-// The fault, or none.
-fn refusal<T: Drop>(answer: &Result<T, EntryFault>) -> Option<EntryFault> {
-    match answer {
-        Ok(_) => None,
-        Err(fault) => Some(*fault),
+impl Row {
+    // Whether the bytes are read as the values, and these are written as the bytes.
+    fn is_read(&self, alloc: Global, branch: &BranchDef, counts: &Values) -> bool {
+        match read(alloc, branch, counts, self.bytes) {
+            Ok(row) => {
+                let classes = Classes::new(alloc);
+                are(self.said, row.as_slice())
+                    && is_written(alloc, &classes, branch, counts, &row, self.bytes)
+            }
+            Err(_) => false,
+        }
+    }
+
+    fn holds(&self, alloc: Global) -> bool {
+        match (branch(alloc, self.leaves), counts_of(alloc, self.counts)) {
+            (Ok(branch), Ok(counts)) => self.is_read(alloc, &branch, &counts),
+            _ => false,
+        }
     }
 }
 
 #[test]
-fn entries_are_read_and_written(rt: HostRuntime) -> Result<(), Fail> {
-    for (leaves, counts, hex, text) in &ENTRIES {
-        let branch = branch(rt.alloc(), leaves)?;
-        let bytes = hex_bytes(rt.alloc(), hex)?;
-        let row = row_of(rt.alloc(), &branch, counts, bytes.as_slice())??;
-        let mut printed = Bytes::new(rt.alloc());
-        put_row(&mut printed, row.as_slice())?;
-        assert!(rt; printed.as_slice() == text.as_bytes(), "{leaves} {hex}");
-        let again = entry_of(rt.alloc(), &branch, counts, &row)??;
-        assert!(rt; again.as_slice() == bytes.as_slice(), "{leaves} {hex}");
+fn entries_are_read_and_written(rt: HostRuntime) {
+    for row in &ROWS {
+        assert!(rt; row.holds(rt.alloc()), "{}", row.leaves);
     }
-    Ok(())
 }
 
-#[test]
-fn other_forms_are_read(rt: HostRuntime) -> Result<(), Fail> {
-    for (leaves, counts, hex, text) in &OTHER_FORMS {
-        let branch = branch(rt.alloc(), leaves)?;
-        let bytes = hex_bytes(rt.alloc(), hex)?;
-        let row = row_of(rt.alloc(), &branch, counts, bytes.as_slice())??;
-        let mut printed = Bytes::new(rt.alloc());
-        put_row(&mut printed, row.as_slice())?;
-        assert!(rt; printed.as_slice() == text.as_bytes(), "{leaves} {hex}");
+// The fault of the bytes.
+fn fault_of(alloc: Global, leaves: &str, counts: &[i128], bytes: &[u8]) -> Option<EntryFault> {
+    match (branch(alloc, leaves), counts_of(alloc, counts)) {
+        (Ok(branch), Ok(counts)) => read(alloc, &branch, &counts, bytes).err(),
+        _ => None,
     }
-    Ok(())
 }
 
-#[test]
-fn broken_entries_tell_the_place(rt: HostRuntime) -> Result<(), Fail> {
-    for (leaves, counts, hex, place) in &BROKEN {
-        let branch = branch(rt.alloc(), leaves)?;
-        let bytes = hex_bytes(rt.alloc(), hex)?;
-        let answer = row_of(rt.alloc(), &branch, counts, bytes.as_slice())?;
-        let wanted = EntryFault::BadEntry { place: *place };
-        assert_eq!(rt; refusal(&answer), Some(wanted), "{leaves} {hex}");
-    }
-    Ok(())
-}
+// Bytes that are no entries of the leaves, and the place of the first part that breaks: too few and too many, a list and a
+// text that aren't whole, and a count below 0.
+static BROKEN: [(&str, &[i128], &[u8], u64); 5] = [
+    ("x/I", &[], b"\0\0\0", 0),
+    ("x/I", &[], b"\0\0\0\x01\0", 4),
+    ("v[n]/F", &[3], b"\x3f\x80\0\0\x40\0\0\0\x40", 8),
+    ("n/I:c/C", &[], b"\0\0\0\x01\x02h", 4),
+    ("v[n]/F", &[-1], b"\x3f\x80\0\0", 0),
+];
 
 #[test]
-fn rows_that_do_not_fit(rt: HostRuntime) -> Result<(), Fail> {
-    for (read_as, hex, leaves, counts) in &BAD_ROWS {
-        let bytes = hex_bytes(rt.alloc(), hex)?;
-        let other = branch(rt.alloc(), read_as)?;
-        let row = row_of(rt.alloc(), &other, &[], bytes.as_slice())??;
-        let branch = branch(rt.alloc(), leaves)?;
-        let answer = entry_of(rt.alloc(), &branch, counts, &row)?;
-        assert_eq!(rt;
-            refusal(&answer),
-            Some(EntryFault::BadRow),
-            "{leaves} {hex}"
+fn broken_entries_tell_the_place(rt: HostRuntime) {
+    for (leaves, counts, bytes, place) in &BROKEN {
+        let fault = fault_of(rt.alloc(), leaves, counts, bytes);
+        assert!(rt;
+            fault == Some(EntryFault::BadEntry { place: *place }),
+            "{leaves}"
         );
     }
-    Ok(())
 }
 
-// A branch of one leaf, with so many values for each that leaf `n` of an earlier branch counts.
-fn counted(alloc: Global, letter: u8, times: u32) -> Result<BranchDef, Fail> {
-    let mut leaves = Leaves::new(alloc);
-    leaves.push(Leaf {
-        name: Name::from_slice(alloc, b"x")?,
-        letter,
-        dim: Dim::Counted {
-            counter: Name::from_slice(alloc, b"n")?,
-            times,
-        },
-    })?;
-    Ok(BranchDef {
-        name: Name::from_slice(alloc, b"branch")?,
-        shape: Shape::Leaves(leaves),
-    })
+// The fault of a row of this number.
+fn fault_of_row(alloc: Global, leaves: &str, n: i128) -> Option<EntryFault> {
+    match (branch(alloc, leaves), counts_of(alloc, &[n])) {
+        (Ok(branch), Ok(row)) => {
+            let classes = Classes::new(alloc);
+            write_entry(alloc, &classes, &branch, &Values::new(alloc), &row).err()
+        }
+        _ => None,
+    }
 }
 
 #[test]
-fn three_values_for_each(rt: HostRuntime) -> Result<(), Fail> {
-    let branch = counted(rt.alloc(), b'S', 3)?;
-    let bytes = hex_bytes(rt.alloc(), "0001 0002 0003 0004 0005 0006")?;
-    let row = row_of(rt.alloc(), &branch, &[2], bytes.as_slice())??;
-    let mut printed = Bytes::new(rt.alloc());
-    put_row(&mut printed, row.as_slice())?;
-    assert!(rt; printed.as_slice() == b" [ 1 2 3 4 5 6 ]".as_slice());
-    let again = entry_of(rt.alloc(), &branch, &[2], &row)??;
-    assert!(rt; again.as_slice() == bytes.as_slice());
-    let one = row_of(rt.alloc(), &branch, &[1], bytes.as_slice())?;
-    assert_eq!(rt; refusal(&one), Some(EntryFault::BadEntry { place: 6 }));
-    let three = row_of(rt.alloc(), &branch, &[3], bytes.as_slice())?;
-    assert_eq!(rt; refusal(&three), Some(EntryFault::BadEntry { place: 12 }));
-    let other = entry_of(rt.alloc(), &branch, &[6], &row)?;
-    assert_eq!(rt; refusal(&other), Some(EntryFault::BadRow));
-    Ok(())
-}
-
-// A count below 0 leaves no list that fits, also no empty one.
-#[test]
-fn no_list_fits_below_0(rt: HostRuntime) -> Result<(), Fail> {
-    let branch = counted(rt.alloc(), b'F', 1)?;
-    let row = row_of(rt.alloc(), &branch, &[0], b"")??;
-    let none = entry_of(rt.alloc(), &branch, &[0], &row)??;
-    assert!(rt; none.is_empty());
-    let below = entry_of(rt.alloc(), &branch, &[-1], &row)?;
-    assert_eq!(rt; refusal(&below), Some(EntryFault::BadRow));
-    Ok(())
-}
-
-// A text has no dimension, whatever its leaf says.
-#[test]
-fn a_text_is_not_counted(rt: HostRuntime) -> Result<(), Fail> {
-    let branch = counted(rt.alloc(), b'C', 2)?;
-    let row = row_of(rt.alloc(), &branch, &[-1], b"\x02hi")??;
-    let mut printed = Bytes::new(rt.alloc());
-    put_row(&mut printed, row.as_slice())?;
-    assert!(rt; printed.as_slice() == b" \"hi\"".as_slice());
-    let again = entry_of(rt.alloc(), &branch, &[7], &row)??;
-    assert!(rt; again.as_slice() == b"\x02hi".as_slice());
-    Ok(())
-}
-
-fn text(alloc: Global, len: usize) -> Result<Values, Fail> {
-    let bytes = vec![in alloc; 97u8; len]?;
-    let mut row = Values::new(alloc);
-    row.push(Value::Text(Name::from_slice(alloc, bytes.as_slice())?))?;
-    Ok(row)
-}
-
-// A text of 254 bytes has one byte of length, one of 255 has five.
-#[test]
-fn long_texts(rt: HostRuntime) -> Result<(), Fail> {
-    let branch = branch(rt.alloc(), "c/C")?;
-    let short = entry_of(rt.alloc(), &branch, &[], &text(rt.alloc(), 254)?)??;
-    assert_eq!(rt; short.len(), 255);
-    assert!(rt; short.as_slice().starts_with(b"\xfea"));
-    let long = entry_of(rt.alloc(), &branch, &[], &text(rt.alloc(), 255)?)??;
-    assert_eq!(rt; long.len(), 260);
-    assert!(rt; long.as_slice().starts_with(b"\xff\0\0\0\xffa"));
-    let row = row_of(rt.alloc(), &branch, &[], long.as_slice())??;
-    let again = entry_of(rt.alloc(), &branch, &[], &row)??;
-    assert!(rt; again.as_slice() == long.as_slice());
-    Ok(())
-}
-
-#[test]
-fn too_large(rt: HostRuntime) -> Result<(), Fail> {
-    let branch = branch(rt.alloc(), "c/C")?;
-    let most = entry_of(rt.alloc(), &branch, &[], &text(rt.alloc(), 16_777_211)?)??;
-    assert_eq!(rt; most.len(), 16_777_216);
-    let more = entry_of(rt.alloc(), &branch, &[], &text(rt.alloc(), 16_777_212)?)?;
-    assert_eq!(rt; refusal(&more), Some(EntryFault::TooLarge));
-    Ok(())
-}
-
-// A row that doesn't fit and is too long: the row is told.
-#[test]
-fn a_bad_row_first(rt: HostRuntime) -> Result<(), Fail> {
-    let branch = branch(rt.alloc(), "c/C:x/I")?;
-    let answer = entry_of(rt.alloc(), &branch, &[], &text(rt.alloc(), 16_777_212)?)?;
-    assert_eq!(rt; refusal(&answer), Some(EntryFault::BadRow));
-    Ok(())
+fn rows_that_do_not_fit(rt: HostRuntime) {
+    assert!(rt; fault_of_row(rt.alloc(), "x/B", 127).is_none());
+    for leaves in ["x/I:y/I", "x/B", "x/F", "x/O", "x[2]/s", "c/C"] {
+        let fault = fault_of_row(rt.alloc(), leaves, 128);
+        assert!(rt; fault == Some(EntryFault::BadRow), "{leaves}");
+    }
 }

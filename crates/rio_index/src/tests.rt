@@ -1,13 +1,13 @@
-//! Baskets of entries, and scans of small trees.
-ghost use Rattle.std.specs.Prelude.{◌≡◌, IfOk, None};
-ghost use Rattle.std.specs.Option.{ForSome};
+//! Baskets of entries, and scans of a small tree.
+ghost use Rattle.std.specs.Prelude.{◌≡◌, IfOk};
 ghost use Rattle.rio_index.specs.Scan.{CanHold, CanScan};
 ghost use Rattle.rio_tree.specs.Index.{IsIndex};
 
 use crate::{Scanner, basket_of, entry_count};
 use rio_basket::StoredBasket;
-use rio_leaf::{BranchDef, Dim, Leaf, Leaves, Shape};
-use rio_num::{Bytes, Name};
+use rio_entry::EntryFault;
+use rio_leaf::{BranchDef, LeafFault, Leaves, Shape, read_leaves};
+use rio_num::{Bytes, Name, NoMemory};
 use rio_tree::{BasketAt, Baskets, Branch, BranchNumbers, BranchRefusal, Branches, TreeHead};
 use rio_types::Classes;
 use rio_value::{Value, Values};
@@ -24,8 +24,29 @@ fn at(first: u64) -> BasketAt
     }
 }
 
-// Baskets of 3, 2 and 4 entries.
-fn three_baskets(alloc: Global) -> Result<Baskets, Fail>
+// A branch of so many entries in these baskets.
+fn branch(alloc: Global, leaves: Leaves, entries: u64, baskets: Baskets) -> Branch
+    requires { IsIndex baskets entries }
+    ensures holds { CanHold entries result result.refused }
+    ensures index { IsIndex result.baskets result.entries }
+{
+    Branch {
+        def: BranchDef {
+            name: Name::new(alloc),
+            shape: Shape::Leaves(leaves),
+        },
+        class_version: 0,
+        entries,
+        offsets: false,
+        baskets,
+        counted_by: BranchNumbers::new(alloc),
+        refused: None,
+    }
+}
+
+// ---- baskets of 3, 2 and 4 entries
+
+fn three_baskets(alloc: Global) -> Result<Baskets, NoMemory>
     ensures { IfOk result (λ baskets. IsIndex baskets 9) }
 {
     let mut baskets = Baskets::new(alloc);
@@ -35,112 +56,131 @@ fn three_baskets(alloc: Global) -> Result<Baskets, Fail>
     Ok(baskets)
 }
 
-// A basket of 8,000 entries, and one of one.
-fn two_baskets(alloc: Global) -> Result<Baskets, Fail>
-    ensures { IfOk result (λ baskets. IsIndex baskets 8001) }
+fn is_in(branch: &Branch, entry: u64, basket: Option<usize>) -> bool
+    requires { IsIndex branch.now.baskets branch.now.entries }
 {
-    let mut baskets = Baskets::new(alloc);
-    baskets.push(at(0))?;
-    baskets.push(at(8000))?;
-    Ok(baskets)
+    basket_of(branch, entry) == basket
 }
 
-// A branch of one leaf.
-fn branch(
-    alloc: Global,
-    name: &[u8],
-    dim: Dim,
-    entries: u64,
-    baskets: Baskets,
-) -> Result<Branch, Fail>
-    ensures entries { IfOk result (λ b. b.entries ≡ entries) }
-    ensures baskets { IfOk result (λ b. b.baskets ≡ baskets) }
-    ensures whole { IfOk result (λ b. b.refused ≡ None) }
+// The first entry of each basket, and the last one.
+fn are_in_order(branch: &Branch) -> bool
+    requires { IsIndex branch.now.baskets branch.now.entries }
 {
-    let mut leaves = Leaves::new(alloc);
-    leaves.push(Leaf {
-        name: Name::from_slice(alloc, name)?,
-        letter: b'I',
-        dim,
-    })?;
-    Ok(Branch {
-        def: BranchDef {
-            name: Name::from_slice(alloc, name)?,
-            shape: Shape::Leaves(leaves),
-        },
-        class_version: 13,
-        entries,
-        offsets: false,
-        baskets,
-        counted_by: BranchNumbers::new(alloc),
-        refused: None,
-    })
+    is_in(branch, 0, Some(0))
+        && is_in(branch, 2, Some(0))
+        && is_in(branch, 3, Some(1))
+        && is_in(branch, 4, Some(1))
+        && is_in(branch, 5, Some(2))
+        && is_in(branch, 8, Some(2))
+        && is_in(branch, 9, None)
+}
+
+fn have_counts(branch: &Branch) -> bool {
+    for (basket, count) in [Some(3), Some(2), Some(4), None].iter().enumerate() {
+        if entry_count(branch, basket) != *count {
+            return false;
+        }
+    }
+    true
 }
 
 #[test]
 fn baskets_by_entry(rt: HostRuntime) -> Result<(), Fail> {
-    let alloc = rt.alloc();
-    let baskets = three_baskets(alloc)?;
-    let branch = branch(alloc, b"x", Dim::One, 9, baskets)?;
-    assert_eq!(rt; basket_of(&branch, 0), Some(0));
-    assert_eq!(rt; basket_of(&branch, 2), Some(0));
-    assert_eq!(rt; basket_of(&branch, 3), Some(1));
-    assert_eq!(rt; basket_of(&branch, 4), Some(1));
-    assert_eq!(rt; basket_of(&branch, 5), Some(2));
-    assert_eq!(rt; basket_of(&branch, 8), Some(2));
-    assert_eq!(rt; basket_of(&branch, 9), None);
-    assert_eq!(rt; entry_count(&branch, 0), Some(3));
-    assert_eq!(rt; entry_count(&branch, 1), Some(2));
-    assert_eq!(rt; entry_count(&branch, 2), Some(4));
-    assert_eq!(rt; entry_count(&branch, 3), None);
+    let baskets = three_baskets(rt.alloc())?;
+    let branch = branch(rt.alloc(), Leaves::new(rt.alloc()), 9, baskets);
+    assert!(rt; are_in_order(&branch));
+    assert!(rt; have_counts(&branch));
     Ok(())
 }
 
-// A basket of integers, as it is stored.
-fn stored(alloc: Global, numbers: &[i32]) -> Result<StoredBasket, Fail> {
-    let n = numbers.len().min(100_000) as u32;
-    let mut bytes = Bytes::new(alloc);
-    bytes.put(&(57 + 4 * n).to_be_bytes())?;
-    bytes.put(b"\0\x04")?;
-    bytes.put(&(4 * n).to_be_bytes())?;
-    bytes.put(b"\0\0\0\x01\0\x39\0\0\0\0\0\xd0\0\0\0\x64\x07TBasket\x01x\x01T")?;
-    bytes.put(b"\0\x03\0\0\x7d\0\0\0\0\x04")?;
-    bytes.put(&n.to_be_bytes())?;
-    bytes.put(&(57 + 4 * n).to_be_bytes())?;
-    bytes.put(b"\0")?;
-    for number in numbers {
-        bytes.put(&number.to_be_bytes())?;
-    }
-    Ok(StoredBasket::read(alloc, bytes, false)?)
+// ---- scans
+
+fn one_basket(alloc: Global) -> Result<Baskets, NoMemory>
+    ensures { IfOk result (λ baskets. IsIndex baskets 3) }
+{
+    let mut baskets = Baskets::new(alloc);
+    baskets.push(at(0))?;
+    Ok(baskets)
 }
 
-// The basket of branch `v` of tree `V`: no number, three and none.
+fn leaf_branch(alloc: Global, leaves: &[u8]) -> Result<Branch, LeafFault>
+    ensures { IfOk result (λ b. CanHold 3 b b.refused) }
+{
+    if leaves.len() > 1000 {
+        return Err(LeafFault::NoMemory);
+    }
+    let leaves = read_leaves(alloc, leaves)?;
+    let baskets = one_basket(alloc)?;
+    Ok(branch(alloc, leaves, 3, baskets))
+}
+
+// Tree `V` of three entries: branch `n`, and branch `v`, whose leaf the leaf of `n` counts.
+fn tree_v(alloc: Global) -> Result<TreeHead, LeafFault>
+    ensures { IfOk result (λ head. CanScan head.entries head.branches) }
+{
+    let mut branches = Branches::new(alloc);
+    branches.push(leaf_branch(alloc, b"n/I")?)?;
+    branches.push(leaf_branch(alloc, b"v[n]/F")?)?;
+    Ok(TreeHead {
+        entries: 3,
+        branches,
+    })
+}
+
+fn scan_of_v(alloc: Global) -> Result<Scanner, LeafFault> {
+    let head = tree_v(alloc)?;
+    Ok(Scanner::new(alloc, head)?)
+}
+
+// The basket of branch `n`: 0, 3 and 0; and one with 0, 2 and 0.
+const COUNTS: &[u8] =
+    b"\0\0\0\x48\0\x04\0\0\0\x0f\0\0\0\x01\0\x39\0\0\0\0\0\xd0\0\0\0\x64\x07TBasket\x01n\x01V\
+    \0\x03\0\0\x7d\0\0\0\0\x04\0\0\0\x03\0\0\0\x45\0\
+    \0\0\0\0\0\0\0\x03\0\0\0\0\0\0\0";
+
+const BAD_COUNTS: &[u8] =
+    b"\0\0\0\x48\0\x04\0\0\0\x0f\0\0\0\x01\0\x39\0\0\0\0\0\xd0\0\0\0\x64\x07TBasket\x01n\x01V\
+    \0\x03\0\0\x7d\0\0\0\0\x04\0\0\0\x03\0\0\0\x45\0\
+    \0\0\0\0\0\0\0\x02\0\0\0\0\0\0\0";
+
+// The basket of branch `v`: no number, three and none.
 const COUNTED: &[u8] =
     b"\0\0\0\x5c\0\x04\0\0\0\x23\0\0\0\x01\0\x39\0\0\0\0\0\xd0\0\0\0\x64\x07TBasket\x01v\x01V\
     \0\x03\0\0\x7d\0\0\0\0\x03\0\0\0\x03\0\0\0\x45\0\
     \x3f\x80\0\0\x40\0\0\0\x40\x40\0\0\0\0\0\x04\0\0\0\x39\0\0\0\x39\0\0\0\x45\0\0\0\x45\0\0\0";
 
-// The numbers of a row, those of a list one behind the other.
-fn numbers_of(alloc: Global, row: &Values) -> Result<Vec<i128>, Fail> {
-    let mut numbers = Vec::new(alloc);
-    for value in row.as_slice() {
-        match value {
-            Value::Int(n) => numbers.push(*n)?,
-            Value::List(items) => put_items(items, &mut numbers)?,
-            _ => numbers.push(-1)?,
-        }
-    }
-    Ok(numbers)
+// What a scan is asked, or told, and what it answers.
+enum Step {
+    /// The first basket of this branch is wanted, or none.
+    Wants(Option<usize>),
+    /// The basket that is wanted, and whether it has offsets.
+    Give(&'static [u8], bool),
+    /// The branch whose entry breaks in the next row, or none.
+    Check(Option<usize>),
+    /// A row: the number of branch `n`, and the list of branch `v`, if that is read.
+    Row(i128, Option<&'static [u32]>),
+    /// A row with a fault.
+    Broken,
+    Skip,
+    Rewind,
+    /// A branch that isn't read from now on.
+    Refuse(usize),
+    /// No row, behind so many.
+    End(u64),
 }
 
-fn put_items(items: &Values, numbers: &mut Vec<i128>) -> Result<(), Fail> {
-    for item in items.as_slice() {
-        match item {
-            Value::Int(n) => numbers.push(*n)?,
-            _ => numbers.push(-1)?,
-        }
+use Step::{Broken, Check, End, Give, Refuse, Rewind, Row, Skip, Wants};
+
+fn wants(scanner: &Scanner, wanted: Option<usize>) -> bool {
+    match scanner.wants() {
+        Some((branch, basket)) => wanted == Some(branch) && basket == 0,
+        None => wanted.is_none(),
     }
-    Ok(())
+}
+
+fn stored(alloc: Global, bytes: &[u8], offsets: bool) -> Option<StoredBasket> {
+    let bytes = Bytes::from_slice(alloc, bytes).ok()?;
+    StoredBasket::read(alloc, bytes, offsets).ok()
 }
 
 // The scan is given the basket that it wants, if it has as many entries as the header says.
@@ -155,152 +195,155 @@ fn give(scanner: &mut Scanner, entries: StoredBasket) -> bool {
     given
 }
 
-// The numbers of the next row; of a row that isn't read, or where a basket is wanted, -2.
-fn next_numbers(
-    alloc: Global,
-    classes: &Classes,
-    scanner: &mut Scanner,
-) -> Result<Option<Vec<i128>>, Fail> {
+fn takes(scanner: &mut Scanner, alloc: Global, bytes: &[u8], offsets: bool) -> bool {
+    match stored(alloc, bytes, offsets) {
+        Some(entries) => give(scanner, entries),
+        None => false,
+    }
+}
+
+fn breaks(scanner: &Scanner, classes: &Classes, branch: Option<usize>) -> bool {
     if scanner.wants().is_some() {
-        return Ok(Some(vec![in alloc; -2]?));
+        return false;
     }
-    match scanner.row(classes) {
-        Ok(Some(row)) => Ok(Some(numbers_of(alloc, &row)?)),
-        Ok(None) => Ok(None),
-        Err(_) => Ok(Some(vec![in alloc; -2]?)),
+    match scanner.check(classes) {
+        Ok(found) => found == branch,
+        Err(_) => false,
     }
 }
 
-// A tree of these branches.
-fn tree(
-    alloc: Global,
-    entries: u64,
-    first: Branch,
-    second: Option<Branch>,
-) -> Result<TreeHead, Fail>
-    requires first { CanHold entries first first.refused }
-    requires second { ForSome second (λ b. CanHold entries b b.refused) }
-    ensures { IfOk result (λ head. CanScan head.entries head.branches) }
-{
-    let mut branches = Branches::new(alloc);
-    branches.push(first)?;
-    if let Some(second) = second {
-        branches.push(second)?;
-    }
-    Ok(TreeHead { entries, branches })
-}
-
-#[test]
-fn rows_of_three_baskets(rt: HostRuntime) -> Result<(), Fail> {
-    let alloc = rt.alloc();
-    let classes = Classes::new(alloc);
-    let baskets = three_baskets(alloc)?;
-    let first = branch(alloc, b"x", Dim::One, 9, baskets)?;
-    let mut scanner = Scanner::new(alloc, tree(alloc, 9, first, None)?)?;
-    let parts: [&[i32]; 3] = [&[10, 11, 12], &[13, 14], &[15, 16, 17, 18]];
-    for (k, numbers) in parts.iter().enumerate() {
-        assert_eq!(rt; scanner.wants(), Some((0, k)));
-        assert!(rt; give(&mut scanner, stored(alloc, numbers)?));
-        for number in *numbers {
-            let row = next_numbers(alloc, &classes, &mut scanner)?;
-            assert!(rt; row == Some(vec![in alloc; i128::from(*number)]?));
+fn are_bits(items: &[Value], bits: &[u32]) -> bool {
+    for (k, item) in items.iter().enumerate() {
+        match item {
+            Value::Bits32(n) if bits.get(k) == Some(n) => {}
+            _ => return false,
         }
     }
-    assert_eq!(rt; scanner.wants(), None);
-    assert!(rt; next_numbers(alloc, &classes, &mut scanner)?.is_none());
-    assert_eq!(rt; scanner.next(), 9);
-    scanner.rewind();
-    assert_eq!(rt; scanner.wants(), Some((0, 0)));
-    Ok(())
+    items.len() == bits.len()
 }
 
-#[test]
-fn row_behind_eight_thousand(rt: HostRuntime) -> Result<(), Fail> {
-    let alloc = rt.alloc();
-    let classes = Classes::new(alloc);
-    let baskets = two_baskets(alloc)?;
-    let first = branch(alloc, b"x", Dim::One, 8001, baskets)?;
-    let mut scanner = Scanner::new(alloc, tree(alloc, 8001, first, None)?)?;
-    let mut numbers = Vec::new(alloc);
-    for n in 0..8000 {
-        numbers.push(n)?;
+fn is_row(row: &Values, count: i128, bits: Option<&[u32]>) -> bool {
+    match row.as_slice() {
+        [Value::Int(n), Value::List(items)] => match bits {
+            Some(bits) => *n == count && are_bits(items.as_slice(), bits),
+            None => false,
+        },
+        [Value::Int(n)] => *n == count && bits.is_none(),
+        _ => false,
     }
-    assert!(rt; give(&mut scanner, stored(alloc, numbers.as_slice())?));
-    for _row in 0..7999 {
-        if scanner.next() < scanner.head().entries {
-            scanner.skip();
+}
+
+// The next row; a fault where a basket is wanted.
+fn next(scanner: &mut Scanner, classes: &Classes) -> Result<Option<Values>, EntryFault> {
+    if scanner.wants().is_some() {
+        return Err(EntryFault::NoMemory);
+    }
+    scanner.row(classes)
+}
+
+fn has_row(scanner: &mut Scanner, classes: &Classes, count: i128, bits: Option<&[u32]>) -> bool {
+    match next(scanner, classes) {
+        Ok(Some(row)) => is_row(&row, count, bits),
+        _ => false,
+    }
+}
+
+fn is_broken(scanner: &mut Scanner, classes: &Classes) -> bool {
+    matches!(next(scanner, classes), Err(EntryFault::BadEntry { .. }))
+}
+
+fn ends(scanner: &mut Scanner, classes: &Classes, rows: u64) -> bool {
+    scanner.next() == rows && matches!(next(scanner, classes), Ok(None))
+}
+
+fn skip(scanner: &mut Scanner) -> bool {
+    let has_next = scanner.next() < scanner.head().entries;
+    if has_next {
+        scanner.skip();
+    }
+    has_next
+}
+
+fn refuse(scanner: &mut Scanner, branch: usize) -> bool {
+    let is_there = branch < scanner.head().branches.len();
+    if is_there {
+        scanner.refuse(branch, BranchRefusal::BadEntry);
+    }
+    match scanner.lanes().get(branch) {
+        Some(lane) => lane.refused == Some(BranchRefusal::BadEntry) && lane.held.is_none(),
+        None => false,
+    }
+}
+
+fn rewind(scanner: &mut Scanner) -> bool {
+    scanner.rewind();
+    scanner.next() == 0
+}
+
+fn does(scanner: &mut Scanner, alloc: Global, classes: &Classes, step: &Step) -> bool {
+    match step {
+        Wants(branch) => wants(scanner, *branch),
+        Give(bytes, offsets) => takes(scanner, alloc, bytes, *offsets),
+        Check(branch) => breaks(scanner, classes, *branch),
+        Row(count, bits) => has_row(scanner, classes, *count, *bits),
+        Broken => is_broken(scanner, classes),
+        Skip => skip(scanner),
+        Rewind => rewind(scanner),
+        Refuse(branch) => refuse(scanner, *branch),
+        End(rows) => ends(scanner, classes, *rows),
+    }
+}
+
+// The number of the first step of a scan of tree `V` that is otherwise.
+fn first_otherwise(alloc: Global, steps: &[Step]) -> Result<Option<usize>, LeafFault> {
+    let classes = Classes::new(alloc);
+    let mut scanner = scan_of_v(alloc)?;
+    for (k, step) in steps.iter().enumerate() {
+        if !does(&mut scanner, alloc, &classes, step) {
+            return Ok(Some(k));
         }
     }
-    let row = next_numbers(alloc, &classes, &mut scanner)?;
-    assert!(rt; row == Some(vec![in alloc; 7999]?));
-    assert_eq!(rt; scanner.wants(), Some((0, 1)));
-    assert!(rt; give(&mut scanner, stored(alloc, &[-5])?));
-    let row = next_numbers(alloc, &classes, &mut scanner)?;
-    assert!(rt; row == Some(vec![in alloc; -5]?));
-    assert!(rt; next_numbers(alloc, &classes, &mut scanner)?.is_none());
+    Ok(None)
+}
+
+static WALK: [Step; 15] = [
+    Wants(Some(0)),
+    Give(COUNTS, false),
+    Wants(Some(1)),
+    Give(COUNTED, true),
+    Check(None),
+    Row(0, Some(&[])),
+    Row(3, Some(&[0x3f80_0000, 0x4000_0000, 0x4040_0000])),
+    Row(0, Some(&[])),
+    End(3),
+    Rewind,
+    Refuse(1),
+    Wants(None),
+    Skip,
+    Row(3, None),
+    Row(0, None),
+];
+
+#[test]
+fn rows_of_a_tree(rt: HostRuntime) -> Result<(), Fail> {
+    assert_eq!(rt; first_otherwise(rt.alloc(), &WALK)?, None);
     Ok(())
 }
 
-// One basket of three entries.
-fn one_basket(alloc: Global) -> Result<Baskets, Fail>
-    ensures { IfOk result (λ baskets. IsIndex baskets 3) }
-{
-    let mut baskets = Baskets::new(alloc);
-    baskets.push(at(0))?;
-    Ok(baskets)
-}
-
-// A scan of branch `n` with these numbers, and branch `v`, whose leaf the leaf of `n` counts.
-fn counted_scan(alloc: Global, counts: &[i32]) -> Result<Scanner, Fail> {
-    let first = branch(alloc, b"n", Dim::One, 3, one_basket(alloc)?)?;
-    let counter = Name::from_slice(alloc, b"n")?;
-    let dim = Dim::Counted { counter, times: 1 };
-    let second = branch(alloc, b"v", dim, 3, one_basket(alloc)?)?;
-    let mut scanner = Scanner::new(alloc, tree(alloc, 3, first, Some(second))?)?;
-    let _first = give(&mut scanner, stored(alloc, counts)?);
-    let bytes = Bytes::from_slice(alloc, COUNTED)?;
-    let _second = give(&mut scanner, StoredBasket::read(alloc, bytes, true)?);
-    Ok(scanner)
-}
+// The second entry of branch `v` is one number too long.
+static BROKEN_WALK: [Step; 8] = [
+    Give(BAD_COUNTS, false),
+    Give(COUNTED, true),
+    Row(0, Some(&[])),
+    Check(Some(1)),
+    Broken,
+    Check(None),
+    Row(0, Some(&[])),
+    End(3),
+];
 
 #[test]
-fn counter_in_an_earlier_branch(rt: HostRuntime) -> Result<(), Fail> {
-    let alloc = rt.alloc();
-    let classes = Classes::new(alloc);
-    let mut scanner = counted_scan(alloc, &[0, 3, 0])?;
-    let row = next_numbers(alloc, &classes, &mut scanner)?;
-    assert!(rt; row == Some(vec![in alloc; 0]?));
-    let row = next_numbers(alloc, &classes, &mut scanner)?;
-    assert!(rt; row == Some(vec![in alloc; 3, 0x3f80_0000, 0x4000_0000, 0x4040_0000]?));
-    let row = next_numbers(alloc, &classes, &mut scanner)?;
-    assert!(rt; row == Some(vec![in alloc; 0]?));
-    assert!(rt; next_numbers(alloc, &classes, &mut scanner)?.is_none());
-    Ok(())
-}
-
-#[test]
-fn bad_entry_skipped(rt: HostRuntime) -> Result<(), Fail> {
-    let alloc = rt.alloc();
-    let classes = Classes::new(alloc);
-    let mut scanner = counted_scan(alloc, &[0, 2, 0])?;
-    let row = next_numbers(alloc, &classes, &mut scanner)?;
-    assert!(rt; row == Some(vec![in alloc; 0]?));
-    if scanner.wants().is_none() {
-        assert_eq!(rt; scanner.check(&classes)?, Some(1));
-    }
-    let row = next_numbers(alloc, &classes, &mut scanner)?;
-    assert!(rt; row == Some(vec![in alloc; -2]?));
-    let row = next_numbers(alloc, &classes, &mut scanner)?;
-    assert!(rt; row == Some(vec![in alloc; 0]?));
-    assert!(rt; next_numbers(alloc, &classes, &mut scanner)?.is_none());
-    scanner.rewind();
-    if scanner.head().branches.len() == 2 {
-        scanner.refuse(1, BranchRefusal::BadEntry);
-    }
-    assert_eq!(rt; scanner.lanes().len(), 2);
-    for count in [0, 2, 0] {
-        let row = next_numbers(alloc, &classes, &mut scanner)?;
-        assert!(rt; row == Some(vec![in alloc; count]?));
-    }
+fn rows_behind_a_bad_entry(rt: HostRuntime) -> Result<(), Fail> {
+    assert_eq!(rt; first_otherwise(rt.alloc(), &BROKEN_WALK)?, None);
     Ok(())
 }
