@@ -1,9 +1,9 @@
-//! Entries of branches of leaves, good and bad.
+//! Entries of branches of leaves.
 mod objects;
 
-use crate::{EntryFault, read_entry, write_entry};
+use crate::{read_entry, write_entry};
 use rio_leaf::{BranchDef, LeafFault, Shape, read_leaves};
-use rio_num::{Bytes, Name, NoMemory};
+use rio_num::{Name, NoMemory};
 use rio_types::Classes;
 use rio_value::{Value, Values};
 use std::alloc::Global;
@@ -172,19 +172,6 @@ fn counts_of(alloc: Global, counts: &[i128]) -> Result<Values, NoMemory> {
     Ok(values)
 }
 
-// The row that the bytes are, of a branch without classes.
-fn read(
-    alloc: Global,
-    branch: &BranchDef,
-    counts: &Values,
-    bytes: &[u8],
-) -> Result<Values, EntryFault> {
-    if bytes.len() > 1000 {
-        return Err(EntryFault::NoMemory);
-    }
-    read_entry(alloc, &Classes::new(alloc), branch, counts, bytes)
-}
-
 fn is_written(
     alloc: Global,
     classes: &Classes,
@@ -199,16 +186,30 @@ fn is_written(
     }
 }
 
+// The row that the bytes are read as, if it is written as them.
+fn row_of(
+    alloc: Global,
+    classes: &Classes,
+    branch: &BranchDef,
+    counts: &Values,
+    bytes: &[u8],
+) -> Option<Values> {
+    if bytes.len() > 1000 {
+        return None;
+    }
+    let row = read_entry(alloc, classes, branch, counts, bytes).ok()?;
+    if is_written(alloc, classes, branch, counts, &row, bytes) {
+        Some(row)
+    } else {
+        None
+    }
+}
+
 impl Row {
-    // Whether the bytes are read as the values, and these are written as the bytes.
     fn is_read(&self, alloc: Global, branch: &BranchDef, counts: &Values) -> bool {
-        match read(alloc, branch, counts, self.bytes) {
-            Ok(row) => {
-                let classes = Classes::new(alloc);
-                are(self.said, row.as_slice())
-                    && is_written(alloc, &classes, branch, counts, &row, self.bytes)
-            }
-            Err(_) => false,
+        match row_of(alloc, &Classes::new(alloc), branch, counts, self.bytes) {
+            Some(row) => are(self.said, row.as_slice()),
+            None => false,
         }
     }
 
@@ -224,54 +225,5 @@ impl Row {
 fn entries_are_read_and_written(rt: HostRuntime) {
     for row in &ROWS {
         assert!(rt; row.holds(rt.alloc()), "{}", row.leaves);
-    }
-}
-
-// The fault of the bytes.
-fn fault_of(alloc: Global, leaves: &str, counts: &[i128], bytes: &[u8]) -> Option<EntryFault> {
-    match (branch(alloc, leaves), counts_of(alloc, counts)) {
-        (Ok(branch), Ok(counts)) => read(alloc, &branch, &counts, bytes).err(),
-        _ => None,
-    }
-}
-
-// Bytes that are no entries of the leaves, and the place of the first part that breaks: too few and too many, a list and a
-// text that aren't whole, and a count below 0.
-static BROKEN: [(&str, &[i128], &[u8], u64); 5] = [
-    ("x/I", &[], b"\0\0\0", 0),
-    ("x/I", &[], b"\0\0\0\x01\0", 4),
-    ("v[n]/F", &[3], b"\x3f\x80\0\0\x40\0\0\0\x40", 8),
-    ("n/I:c/C", &[], b"\0\0\0\x01\x02h", 4),
-    ("v[n]/F", &[-1], b"\x3f\x80\0\0", 0),
-];
-
-#[test]
-fn broken_entries_tell_the_place(rt: HostRuntime) {
-    for (leaves, counts, bytes, place) in &BROKEN {
-        let fault = fault_of(rt.alloc(), leaves, counts, bytes);
-        assert!(rt;
-            fault == Some(EntryFault::BadEntry { place: *place }),
-            "{leaves}"
-        );
-    }
-}
-
-// The fault of a row of this number.
-fn fault_of_row(alloc: Global, leaves: &str, n: i128) -> Option<EntryFault> {
-    match (branch(alloc, leaves), counts_of(alloc, &[n])) {
-        (Ok(branch), Ok(row)) => {
-            let classes = Classes::new(alloc);
-            write_entry(alloc, &classes, &branch, &Values::new(alloc), &row).err()
-        }
-        _ => None,
-    }
-}
-
-#[test]
-fn rows_that_do_not_fit(rt: HostRuntime) {
-    assert!(rt; fault_of_row(rt.alloc(), "x/B", 127).is_none());
-    for leaves in ["x/I:y/I", "x/B", "x/F", "x/O", "x[2]/s", "c/C"] {
-        let fault = fault_of_row(rt.alloc(), leaves, 128);
-        assert!(rt; fault == Some(EntryFault::BadRow), "{leaves}");
     }
 }

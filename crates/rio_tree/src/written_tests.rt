@@ -2,7 +2,7 @@
 use crate::tests::value_of_v;
 use rio_num::{Bytes, NoMemory};
 use rio_value::{Part, Value};
-use std::test::Fail;
+use std::alloc::Global;
 
 // Tree V with the branches n=n/I, v=v[n]/F:t[3]/s:c/C and e=class:Node: three entries, of which each branch has a basket or
 // two. An object has its class, its version and its parts, of which a base has no name; what is pointed to has its label.
@@ -108,11 +108,15 @@ fn put_parts(parts: &[Part], into: &mut Bytes) -> Result<(), NoMemory> {
     into.push(b'}')
 }
 
+fn is_written(alloc: Global, value: &Value) -> bool {
+    let mut text = Bytes::new(alloc);
+    put_value(value, &mut text).is_ok() && text.as_slice() == WRITTEN.as_bytes()
+}
+
 #[test]
-fn writes_each_member(rt: HostRuntime) -> Result<(), Fail> {
-    let value = value_of_v(rt.alloc())?;
-    let mut text = Bytes::new(rt.alloc());
-    put_value(&value, &mut text)?;
-    assert!(rt; text.as_slice() == WRITTEN.as_bytes());
-    Ok(())
+fn writes_each_member(rt: HostRuntime) {
+    match value_of_v(rt.alloc()) {
+        Ok(value) => assert!(rt; is_written(rt.alloc(), &value)),
+        Err(_) => assert!(rt; false),
+    }
 }

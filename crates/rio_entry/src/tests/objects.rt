@@ -1,12 +1,10 @@
 //! Entries of branches of a class.
-use super::is_written;
-use crate::read_entry;
+use super::row_of;
 use rio_leaf::{BranchDef, Shape};
 use rio_num::{Name, NoMemory};
 use rio_types::{Bases, ClassDef, Classes, Kind, Member, Members, Prim};
 use rio_value::{Value, Values};
 use std::alloc::Global;
-use std::test::Fail;
 
 fn member(alloc: Global, name: &str, kind: Kind) -> Result<Member, NoMemory> {
     Ok(Member {
@@ -88,22 +86,17 @@ fn are_nodes(row: &Values) -> bool {
     }
 }
 
-// Whether the bytes are read as the three nodes, and these are written as the bytes.
-fn are_read(alloc: Global, classes: &Classes, branch: &BranchDef, bytes: &[u8]) -> bool {
-    if bytes.len() > 1000 {
-        return false;
-    }
-    let none = Values::new(alloc);
-    match read_entry(alloc, classes, branch, &none, bytes) {
-        Ok(row) => are_nodes(&row) && is_written(alloc, classes, branch, &none, &row, bytes),
-        Err(_) => false,
+fn are_read(alloc: Global, classes: &Classes, branch: &BranchDef) -> bool {
+    match row_of(alloc, classes, branch, &Values::new(alloc), NODES) {
+        Some(row) => are_nodes(&row),
+        None => false,
     }
 }
 
 #[test]
-fn objects_are_read_and_written(rt: HostRuntime) -> Result<(), Fail> {
-    let classes = node_class(rt.alloc())?;
-    let branch = node_branch(rt.alloc())?;
-    assert!(rt; are_read(rt.alloc(), &classes, &branch, NODES));
-    Ok(())
+fn objects_are_read_and_written(rt: HostRuntime) {
+    match (node_class(rt.alloc()), node_branch(rt.alloc())) {
+        (Ok(classes), Ok(branch)) => assert!(rt; are_read(rt.alloc(), &classes, &branch)),
+        _ => assert!(rt; false),
+    }
 }
