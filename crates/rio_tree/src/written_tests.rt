@@ -113,10 +113,14 @@ fn is_written(alloc: Global, value: &Value) -> bool {
     put_value(value, &mut text).is_ok() && text.as_slice() == WRITTEN.as_bytes()
 }
 
+fn v_is_written(alloc: Global) -> bool {
+    match value_of_v(alloc) {
+        Ok(value) => is_written(alloc, &value),
+        Err(_) => false,
+    }
+}
+
 #[test]
 fn writes_each_member(rt: HostRuntime) {
-    match value_of_v(rt.alloc()) {
-        Ok(value) => assert!(rt; is_written(rt.alloc(), &value)),
-        Err(_) => assert!(rt; false),
-    }
+    assert!(rt; v_is_written(rt.alloc()));
 }
