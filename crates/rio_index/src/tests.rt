@@ -98,6 +98,38 @@ fn baskets_by_entry(rt: HostRuntime) {
     assert!(rt; are_found(rt.alloc()));
 }
 
+// A branch of 8,001 entries, the last of them in a basket of its own.
+fn two_baskets(alloc: Global) -> Result<Baskets, NoMemory>
+    ensures { IfOk result (λ baskets. IsIndex baskets 8001) }
+{
+    let mut baskets = Baskets::new(alloc);
+    baskets.push(at(0))?;
+    baskets.push(at(8000))?;
+    Ok(baskets)
+}
+
+fn is_last_alone(branch: &Branch) -> bool
+    requires { IsIndex branch.now.baskets branch.now.entries }
+{
+    is_in(branch, 7999, Some(0))
+        && is_in(branch, 8000, Some(1))
+        && is_in(branch, 8001, None)
+        && entry_count(branch, 0) == Some(8000)
+        && entry_count(branch, 1) == Some(1)
+}
+
+fn last_is_alone(alloc: Global) -> bool {
+    match two_baskets(alloc) {
+        Ok(baskets) => is_last_alone(&branch(alloc, Leaves::new(alloc), 8001, baskets)),
+        Err(_) => false,
+    }
+}
+
+#[test]
+fn last_entry_in_a_basket_of_its_own(rt: HostRuntime) {
+    assert!(rt; last_is_alone(rt.alloc()));
+}
+
 // ---- scans
 
 fn one_basket(alloc: Global) -> Result<Baskets, NoMemory>
@@ -108,13 +140,17 @@ fn one_basket(alloc: Global) -> Result<Baskets, NoMemory>
     Ok(baskets)
 }
 
-fn leaf_branch(alloc: Global, leaves: &[u8]) -> Result<Branch, LeafFault>
-    ensures { IfOk result (λ b. CanHold 3 b b.refused) }
-{
-    if leaves.len() > 1000 {
+fn leaves_of(alloc: Global, text: &[u8]) -> Result<Leaves, LeafFault> {
+    if text.len() > 1000 {
         return Err(LeafFault::NoMemory);
     }
-    let leaves = read_leaves(alloc, leaves)?;
+    read_leaves(alloc, text)
+}
+
+fn leaf_branch(alloc: Global, text: &[u8]) -> Result<Branch, LeafFault>
+    ensures { IfOk result (λ b. CanHold 3 b b.refused) }
+{
+    let leaves = leaves_of(alloc, text)?;
     let baskets = one_basket(alloc)?;
     Ok(branch(alloc, leaves, 3, baskets))
 }
@@ -156,8 +192,8 @@ const COUNTED: &[u8] =
 
 // What a scan is asked, or told, and what it answers.
 enum Step {
-    /// The first basket of this branch is wanted, or none.
-    Wants(Option<usize>),
+    /// This branch wants this basket, or none wants any.
+    Wants(Option<(usize, usize)>),
     /// The basket that is wanted, and whether it has offsets.
     Give(&'static [u8], bool),
     /// The branch whose entry breaks in the next row, or none.
@@ -176,9 +212,12 @@ enum Step {
 
 use Step::{Broken, Check, End, Give, Refuse, Rewind, Row, Skip, Wants};
 
-fn wants(scanner: &Scanner, wanted: Option<usize>) -> bool {
+fn wants(scanner: &Scanner, wanted: Option<(usize, usize)>) -> bool {
     match scanner.wants() {
-        Some((branch, basket)) => wanted == Some(branch) && basket == 0,
+        Some((branch, basket)) => match wanted {
+            Some((b, k)) => branch == b && basket == k,
+            None => false,
+        },
         None => wanted.is_none(),
     }
 }
@@ -287,7 +326,7 @@ fn rewind(scanner: &mut Scanner) -> bool {
 
 fn does(scanner: &mut Scanner, alloc: Global, classes: &Classes, step: &Step) -> bool {
     match step {
-        Wants(branch) => wants(scanner, *branch),
+        Wants(wanted) => wants(scanner, *wanted),
         Give(bytes, offsets) => takes(scanner, alloc, bytes, *offsets),
         Check(branch) => breaks(scanner, classes, *branch),
         Row(count, bits) => has_row(scanner, classes, *count, *bits),
@@ -299,12 +338,8 @@ fn does(scanner: &mut Scanner, alloc: Global, classes: &Classes, step: &Step) ->
     }
 }
 
-// Whether each step of a scan of tree `V` is as it says.
-fn is_walked(alloc: Global, steps: &[Step]) -> bool {
+fn does_all(mut scanner: Scanner, alloc: Global, steps: &[Step]) -> bool {
     let classes = Classes::new(alloc);
-    let Ok(mut scanner) = scan_of_v(alloc) else {
-        return false;
-    };
     for step in steps {
         if !does(&mut scanner, alloc, &classes, step) {
             return false;
@@ -313,10 +348,18 @@ fn is_walked(alloc: Global, steps: &[Step]) -> bool {
     true
 }
 
+// Whether each step of a scan of tree `V` is as it says.
+fn is_walked(alloc: Global, steps: &[Step]) -> bool {
+    match scan_of_v(alloc) {
+        Ok(scanner) => does_all(scanner, alloc, steps),
+        Err(_) => false,
+    }
+}
+
 static WALK: [Step; 15] = [
-    Wants(Some(0)),
+    Wants(Some((0, 0))),
     Give(COUNTS, false),
-    Wants(Some(1)),
+    Wants(Some((1, 0))),
     Give(COUNTED, true),
     Check(None),
     Row(0, Some(&[])),
@@ -351,4 +394,75 @@ static BROKEN_WALK: [Step; 8] = [
 #[test]
 fn rows_behind_a_bad_entry(rt: HostRuntime) {
     assert!(rt; is_walked(rt.alloc(), &BROKEN_WALK));
+}
+
+// ---- from basket to basket
+
+fn baskets_of_two_and_one(alloc: Global) -> Result<Baskets, NoMemory>
+    ensures { IfOk result (λ baskets. IsIndex baskets 3) }
+{
+    let mut baskets = Baskets::new(alloc);
+    baskets.push(at(0))?;
+    baskets.push(at(2))?;
+    Ok(baskets)
+}
+
+fn branch_n(alloc: Global) -> Result<Branch, LeafFault>
+    ensures { IfOk result (λ b. CanHold 3 b b.refused) }
+{
+    let leaves = leaves_of(alloc, b"n/I")?;
+    let baskets = baskets_of_two_and_one(alloc)?;
+    Ok(branch(alloc, leaves, 3, baskets))
+}
+
+// Branch `n` alone, in two baskets.
+fn tree_n(alloc: Global) -> Result<TreeHead, LeafFault>
+    ensures { IfOk result (λ head. CanScan head.entries head.branches) }
+{
+    let mut branches = Branches::new(alloc);
+    branches.push(branch_n(alloc)?)?;
+    Ok(TreeHead {
+        entries: 3,
+        branches,
+    })
+}
+
+fn scan_of_n(alloc: Global) -> Result<Scanner, LeafFault> {
+    let head = tree_n(alloc)?;
+    Ok(Scanner::new(alloc, head)?)
+}
+
+// 5 and 6, and 7.
+const FRONT: &[u8] =
+    b"\0\0\0\x44\0\x04\0\0\0\x0b\0\0\0\x01\0\x39\0\0\0\0\0\xd0\0\0\0\x64\x07TBasket\x01n\x01V\
+    \0\x03\0\0\x7d\0\0\0\0\x04\0\0\0\x02\0\0\0\x41\0\
+    \0\0\0\x05\0\0\0\x06\0\0\0";
+
+const REST: &[u8] =
+    b"\0\0\0\x40\0\x04\0\0\0\x07\0\0\0\x01\0\x39\0\0\0\0\0\xd0\0\0\0\x64\x07TBasket\x01n\x01V\
+    \0\x03\0\0\x7d\0\0\0\0\x04\0\0\0\x01\0\0\0\x3d\0\
+    \0\0\0\x07\0\0\0";
+
+static BASKETS: [Step; 9] = [
+    Wants(Some((0, 0))),
+    Give(FRONT, false),
+    Row(5, None),
+    Row(6, None),
+    Wants(Some((0, 1))),
+    Give(REST, false),
+    Row(7, None),
+    Wants(None),
+    End(3),
+];
+
+fn baskets_are_walked(alloc: Global) -> bool {
+    match scan_of_n(alloc) {
+        Ok(scanner) => does_all(scanner, alloc, &BASKETS),
+        Err(_) => false,
+    }
+}
+
+#[test]
+fn rows_of_two_baskets(rt: HostRuntime) {
+    assert!(rt; baskets_are_walked(rt.alloc()));
 }

@@ -1,16 +1,15 @@
 //! The header of a tree, made and read.
 use crate::{BasketAt, Baskets, Branch, BranchNumbers, Branches, TreeHead, read_tree, tree_value};
-use rio_leaf::{BranchDef, Leaf, LeafFault, Shape, read_leaves};
-use rio_num::Name;
+use rio_leaf::{BranchDef, LeafFault, Leaves, Shape, print_leaves, read_leaves};
+use rio_num::{Bytes, Name};
 use rio_value::Value;
 use std::alloc::Global;
 
-// A branch of three entries: its leaves and their letters, or the class of its objects and its version; whether its baskets
-// have offsets; and the branches that count it.
+// A branch of three entries: its leaves, or the class of its objects and its version; whether its baskets have offsets; and the
+// branches that count it.
 struct Row {
     name: &'static str,
     leaves: &'static str,
-    letters: &'static [u8],
     class: &'static str,
     version: i32,
     offsets: bool,
@@ -23,7 +22,6 @@ static ROWS: [Row; 3] = [
     Row {
         name: "n",
         leaves: "n/I",
-        letters: b"I",
         class: "",
         version: 0,
         offsets: false,
@@ -37,7 +35,6 @@ static ROWS: [Row; 3] = [
     Row {
         name: "v",
         leaves: "v[n]/F:t[3]/s:c/C",
-        letters: b"FsC",
         class: "",
         version: 0,
         offsets: true,
@@ -58,7 +55,6 @@ static ROWS: [Row; 3] = [
     Row {
         name: "e",
         leaves: "",
-        letters: b"",
         class: "Node",
         version: 2,
         offsets: true,
@@ -71,13 +67,10 @@ static ROWS: [Row; 3] = [
     },
 ];
 
-fn have_letters(leaves: &[Leaf], letters: &[u8]) -> bool {
-    for (k, leaf) in leaves.iter().enumerate() {
-        if letters.get(k) != Some(&leaf.letter) {
-            return false;
-        }
-    }
-    leaves.len() == letters.len()
+// Whether the leaves are those that the text lists.
+fn are_listed(leaves: &Leaves, text: &str) -> bool {
+    let mut listed = Bytes::new(leaves.allocator());
+    print_leaves(leaves, &mut listed).is_ok() && listed.as_slice() == text.as_bytes()
 }
 
 impl Row {
@@ -112,10 +105,10 @@ impl Row {
         })
     }
 
-    // Whether the shape is of leaves of these letters, or of this class.
+    // Whether the shape is of these leaves, or of this class.
     fn has_shape(&self, shape: &Shape) -> bool {
         match shape {
-            Shape::Leaves(leaves) => have_letters(leaves.as_slice(), self.letters),
+            Shape::Leaves(leaves) => are_listed(leaves, self.leaves),
             Shape::Class(class) => class.as_slice() == self.class.as_bytes(),
         }
     }
