@@ -140,7 +140,7 @@ module _ (target : TargetFile) (v0 v1 : View) where
 
   open_cause : (fault : OpenFault) → IsOpenCause {X = SessionState} v0 v1 (Err fault) → IsFileCause v0 v1 (status_of_open fault)
   open_cause (FileBad p k) cause = (cause.0, cause.1.0, cause.1.1)
-  open_cause (FileReadOnly p r) cause = cause
+  open_cause (FileReadOnly p r) cause = (cause.0, cause.1, cause.2.0, cause.2.1)
   open_cause NotRoomy cause = cause
   open_cause NotOpened cause = cause
 

@@ -1,6 +1,7 @@
 -- A script on a file: how a run of it ends.
 use Rattle.std.specs.Prelude.{◌≡◌, ◌⊎◌, ℕ, List, ◌++◌, Some, Result, Ok, Err}
 use Rattle.rio_head.specs.Head.{IsHeaderKind}
+use Rattle.rio_head.specs.declared.reason.Reason.TheVariants.{NotYet}
 use Rattle.rio_host.specs.Host.{Becomes, Elapses, Leaves, Rose, View}
 use Rattle.rio_host.specs.Source.{Input}
 use Rattle.rio_chain.specs.Stops.{Any}
@@ -80,7 +81,7 @@ IsFileCause old new DiskFault = Rose old.disk_faults new.disk_faults × NoSayFau
 IsFileCause old new InputFault = ⊥
 IsFileCause old new NoMemory = NoDiskFault old new × NoSayFault old new
 IsFileCause old new InputTooLong = ⊥
-IsFileCause old new (ReadOnly place reason) = NoDiskFault old new × NoSayFault old new
+IsFileCause old new (ReadOnly place reason) = (place ≡ 0) × (reason ≡ NotYet) × NoDiskFault old new × NoSayFault old new
 IsFileCause old new SayFault = NoDiskFault old new × Rose old.say_faults new.say_faults
 
 -- How a run of a script ends: at any stop it leaves a prefix, and at its end all; a refused file is told and spared.
