@@ -25,7 +25,7 @@ use Rattle.rootio.specs.Input.{RefusesTooLong, TellsTooLong}
 use Rattle.rootio.specs.Headline.{AllFindRoom, IsDone, IsStopOf, SaidFindRoom, ScriptRun, all_replies, end_state, opening_length}
 use Rattle.rootio.specs.Reading.{RefusesBroken, TellsFirstFault}
 use Rattle.rootio.specs.Target.{TargetFile}
-use Rattle.rootio.specs.Writing.{Begins, EndsUnclosed, EndsWriting, LeavesOpen, RefusesReadOnly, SparesRefused, TellsFirstReason, run_of_work}
+use Rattle.rootio.specs.Writing.{Begins, EndsUnclosed, EndsWriting, LeavesOpen, RefusesReadOnly, SparesRefused, StandsUnsaid, TellsFirstReason, run_of_work}
 use Rattle.rootio.specs.declared.status.Status.{Status}
 use Rattle.rootio.specs.declared.status.Status.TheVariants.{Done, Usage, BadFile, DiskFault, InputFault, NoMemory, InputTooLong, ReadOnly, SayFault}
 use Rattle.rootio.specs.declared.words.Form.TheVariants.{Writes}
@@ -51,11 +51,12 @@ pub record HasClosed (r : ScriptRun) (first : SessionState) (before : List ℕ) 
   pub room : first.costs ≡ 0 → HasFileRoom first.opened r.start r.commands r.marks → AllFindRoom r
 
 -- A session that ended without a close, as it does where it finds no memory, can't say a reply or its disk fails, leaves a file
--- marked as open; unless it is the close whose disk fails, behind all replies.
+-- marked as open, and behind a reply that it can't say what the command did; unless it is the close whose disk fails, behind all
+-- replies.
 abbrev pub StaysOpenBy : ScriptRun → List ℕ → View → Result (Unit {0}) SessionFault → Type 0
 StaysOpenBy r before new (Ok x) = Unit {0}
 StaysOpenBy r before new (Err HostFault) = LeavesOpen new ⊎ (new.said ≡ Some (before ++ all_replies r))
-StaysOpenBy r before new (Err NotSaid) = LeavesOpen new
+StaysOpenBy r before new (Err NotSaid) = StandsUnsaid r before new
 StaysOpenBy r before new (Err OutOfMemory) = LeavesOpen new
 
 -- how a run ended that opened the file
