@@ -271,7 +271,7 @@ cause_of_close start v new (Err HostFault) none cause = (rw (← none.0) cause.0
 cause_of_close start v new (Err SayFault) none cause = absurd cause
 cause_of_close start v new (Err NoMemory) none cause = (cause.0 ∙ none.0, cause.1 ∙ none.1)
 
--- what follows from two clauses where a call succeeds
-pub on_ok_both : {X E P Q R : Type 0} (r : Result X E) → (P → Q → R) → OnOk r P → OnOk r Q → OnOk r R
-on_ok_both (Ok x) f p q = f p q
-on_ok_both (Err e) f p q = tt
+-- what follows from three clauses where a call succeeds
+pub on_ok_all : {X E P Q R S : Type 0} (r : Result X E) → (P → Q → R → S) → OnOk r P → OnOk r Q → OnOk r R → OnOk r S
+on_ok_all (Ok x) f p q s = f p q s
+on_ok_all (Err e) f p q s = tt

@@ -47,7 +47,7 @@ pub record HasDone (r : ScriptRun) (first s : SessionState) (before : List ℕ) 
 pub record HasClosed (r : ScriptRun) (first : SessionState) (before : List ℕ) (new : View) : Type 0 where
   pub said : new.said ≡ Some (before ++ all_replies r)
   pub left : (image said : List ℕ) → Leaves new image said → ReadsAsState image (end_state r) × ReadsClosed image (end_state r)
-  pub written : (file : List ℕ) → new.holds ≡ Some file → IsWellClosed first.name first.datime file
+  pub written : (image said : List ℕ) → Leaves new image said → IsWellClosed first.name first.datime image
   pub room : first.costs ≡ 0 → HasFileRoom first.opened r.start r.commands r.marks → AllFindRoom r
 
 -- A session that ended without a close, as it does where it finds no memory, can't say a reply or its disk fails, leaves a file
@@ -96,7 +96,7 @@ pub record RunsScript (target : TargetFile) (script : List ℕ) (old new : View)
   pub done : (file text : List ℕ) (m : State) → Begins old file text m
       → status ≡ Done → IsDone (run_of_work (Run target) script m) file text new
   pub written : (file text : List ℕ) (m : State) → Begins old file text m
-      → status ≡ Done → (last : List ℕ) → new.holds ≡ Some last → IsWellClosed target.name target.datime last
+      → status ≡ Done → (image said : List ℕ) → Leaves new image said → IsWellClosed target.name target.datime image
   pub unclosed : (file text : List ℕ) (m : State) → Begins old file text m
       → EndsUnclosed (run_of_work (Run target) script m) text old new status
   pub told : Becomes Any old.holds new.holds

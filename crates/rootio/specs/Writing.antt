@@ -152,9 +152,9 @@ pub record Begins (old : View) (file text : List ℕ) (m : State) : Type 0 where
   pub reads : ReadsAsState file m
 
 -- Wherever it is stopped, whatever it answers, it leaves a prefix of the run. What it said is a front of all replies, and where file
--- and commands leave room for them, none of these is want of room. Where it says that it is done it is, and the file was closed under
--- its name and time, without garbage; where it ends early it doesn't close the file. Where not all of the input was read, nothing was
--- written and no call looked at the file, and no answer tells of the file, its disk or its text.
+-- and commands leave room for them, none of these is want of room. Where it says that it is done it is, and each file that a stop
+-- leaves then was closed under its name and time, without garbage; where it ends early it doesn't close the file. Where not all of
+-- the input was read, nothing was written and no call looked at the file, and no answer tells of the file, its disk or its text.
 pub record KeepsHeadline (work : Work) (old new : View) (before after : Input) (status : Status) : Type 0 where
   pub stops : (file text input : List ℕ) (m : State) → Begins old file text m → before.remaining ≡ Some input
       → Elapses old new (IsStopOf (run_of_work work input m) file text)
@@ -165,7 +165,7 @@ pub record KeepsHeadline (work : Work) (old new : View) (before after : Input) (
   pub done : (file text input : List ℕ) (m : State) → Begins old file text m → before.remaining ≡ Some input
       → status ≡ Done → IsDone (run_of_work work input m) file text new
   pub written : (file text : List ℕ) (m : State) → Begins old file text m
-      → status ≡ Done → (last : List ℕ) → new.holds ≡ Some last → IsWellClosed (target_of work).name (target_of work).datime last
+      → status ≡ Done → (image said : List ℕ) → Leaves new image said → IsWellClosed (target_of work).name (target_of work).datime image
   pub unclosed : (file text input : List ℕ) (m : State) → Begins old file text m → before.remaining ≡ Some input
       → EndsUnclosed (run_of_work work input m) text old new status
   pub input : (input : List ℕ) → before.remaining ≡ Some input → IsPastInput status → after.remaining ≡ Some []
