@@ -2,7 +2,7 @@
 use Rattle.std.specs.Prelude.{◌≡◌, ◌⊎◌, ◌<◌, ◌≤◌, ℕ, ◌+◌, ◌-◌, ◌*◌, ◌^◌, min, Bool, false, List, [], ◌++◌, take, slice_get, Option, Some, None}
 use Rattle.rio_types.specs.declared.class.ClassDef.{ClassDef}
 use Rattle.rio_key.specs.declared.head.KeyHead.{KeyHead}
-use Rattle.rio_host.specs.Host.{Elapses, IsQuiet, View}
+use Rattle.rio_host.specs.Host.{Elapses, IsQuiet, Leaves, View}
 use Rattle.rio_chain.specs.Chains.{HasChain, HoldsChain}
 use Rattle.rio_chain.specs.Placing.{record_count}
 use Rattle.rio_chain.specs.Segments.{Link}
@@ -89,6 +89,10 @@ pub record IsReady (v : View) (s : SessionState) : Type 0 where
 pub record IsOpenAs (m : State) (image : List ℕ) : Type 0 where
   pub left : IsLeftAs (saved_of m) image
   pub marked : IsMarkedOpen image
+
+-- each file that a stop leaves now is marked as open and reads so
+abbrev pub LeavesOpenAs : View → State → Type 0
+LeavesOpenAs v m = (image said : List ℕ) → Leaves v image said → IsOpenAs m image
 
 -- While a command is done: the state of before with the text of before, or the state of after with a front of the reply.
 abbrev pub Steps : State → Stepped → List ℕ → List ℕ → List ℕ → Type 0

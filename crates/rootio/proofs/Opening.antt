@@ -140,7 +140,7 @@ module _ (target : TargetFile) (v0 v1 : View) where
 
   open_cause : (fault : OpenFault) → IsOpenCause {X = SessionState} v0 v1 (Err fault) → IsFileCause v0 v1 (status_of_open fault)
   open_cause (FileBad p k) cause = (cause.0, cause.1.0, cause.1.1)
-  open_cause (FileReadOnly p r) cause = cause
+  open_cause (FileReadOnly p r) cause = (cause.0, cause.1, cause.2.0, cause.2.1)
   open_cause NotRoomy cause = cause
   open_cause NotOpened cause = cause
 
@@ -274,9 +274,9 @@ module _ (target : TargetFile) (script : List ℕ) (v0 v1 v2 : View) (s : Sessio
           left = closed.left;
           room = λ room. closed.room new.costs (subst (λ n. HasFileRoom n m commands (session_run s m commands).marks) (sym empty) room);
         });
-    written = λ file text m begins is last held.
+    written = λ file text m begins is image told left.
         let closed = ended_well r _ done is m text (stands file text m begins.holds begins.said begins.reads) in
-        subst (λ (x : List ℕ × ℕ). IsWellClosed x.0 x.1 last) (λ i. (new.name_is i, new.datime_is i)) (closed.written last held);
+        subst (λ (x : List ℕ × ℕ). IsWellClosed x.0 x.1 image) (λ i. (new.name_is i, new.datime_is i)) (closed.written image told left);
     unclosed = λ file text m begins.
         subst (λ (run : ScriptRun). EndsUnclosed run text v0 v2 (status_of_session r)) (run_same target script s commands m new are)
         (ends_unclosed (session_run s m commands) text v0 v2 r (unclosed m text (stands file text m begins.holds begins.said begins.reads)));

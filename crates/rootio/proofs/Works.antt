@@ -93,7 +93,7 @@ whole_cause target old new before after DiskFault none cause = (cause.0, cause.1
 whole_cause target old new before after InputFault none cause = absurd cause
 whole_cause target old new before after NoMemory none cause = (cause.0, cause.1, none)
 whole_cause target old new before after InputTooLong none cause = absurd cause
-whole_cause target old new before after (ReadOnly place reason) none cause = (refl, (cause.0, cause.1, none))
+whole_cause target old new before after (ReadOnly place reason) none cause = (refl, cause.0, cause.1, (cause.2, cause.3, none))
 whole_cause target old new before after SayFault none cause = (cause.0, cause.1, none)
 
 pub with_input : (target : TargetFile) (old new : View) (before after : Input) (text : Room) (status : Status) → ReadsAll before after (Ok text)
