@@ -1,13 +1,16 @@
 -- What the writer of objects takes stands at its end.
-use Rattle.std.proofs.Common.{◌≡◌, ◌<◌, ◌^◌, length, ℕ, ◌+◌, ◌-◌, List, Bool, true, Some, Option, Result, Ok, Err, refl, sym, ap, subst, ◌∙◌}
-use Rattle.std.specs.Prelude.{slice_index}
+use Rattle.std.proofs.Common.{◌≡◌, suc, false, IsTrue, arith, ◌<◌, ◌^◌, length, ℕ, ◌+◌, ◌-◌, List, [], Bool, true, Some, Option, Result, Ok, Err, refl, sym, ap, subst, ◌∙◌}
+use Rattle.std.specs.Prelude.{◌↔◌, slice_index}
+use Rattle.std.proofs.Math.Nat.{lt_of_not-le}
+use Rattle.std.proofs.lemmas.List.{get_or_past}
 use Rattle.byteorder.specs.Endian.{big_bytes}
 use Rattle.rio_num.specs.declared.no_memory.NoMemory.{NoMemory}
-use Rattle.rio_buffer.specs.Writer.{Begins, Puts, Writer, WriterState, counted_from, ended, innermost, next_place}
+use Rattle.rio_buffer.specs.ReaderState.{no_words}
+use Rattle.rio_buffer.specs.Writer.{Begins, Puts, Writer, WriterState, counted_from, ended, innermost, nothing_written}
 use Rattle.rio_format.specs.Written.{back_bytes, just}
 use Rattle.rio_write.specs.Sinks.{Accepted, Accepts, CanClose, CanPoint, Closes, Opened, OpensIn, StandsWithin}
 use Rattle.rio_write.specs.Writing.{Writes, with_written}
-use Rattle.rio_write.proofs.WriteLaws.{just_writes}
+use Rattle.rio_write.proofs.WriteLaws.{first_written, just_writes}
 
 abbrev pub is_state : WriterState × List (List ℕ) → WriterState → Type 0
 is_state x s = x.0 ≡ s
@@ -44,3 +47,15 @@ module _ (P : WriterState → Type 0) (w : WriterState) (names : List (List ℕ)
   pub held : StandsWithin is_state true P (w, names) → P w
   unfolding StandsWithin
   held h = let a = h refl in subst P (sym a.1) a.2
+
+-- the whole, from its beginning
+pub whole_written : (f : Writer) (start : ℕ) (old new : WriterState) (names names' : List (List ℕ)) → old ≡ nothing_written start → Accepted is_state f (old, names) (new, names') → (new.bytes ≡ (f start no_words).0) × (new.opened ≡ [])
+unfolding Accepted
+whole_written f start old new names names' e taken = first_written f start new (taken (nothing_written start) e)
+
+-- a label that no object has
+pub no_label : (b : Bool) (labels : List ℕ) (label : ℕ) → b ≡ false → IsTrue b ↔ (label < length labels) → slice_index labels label ≡ 0
+no_label true labels label e has = absurd cc
+no_label false labels label e has =
+    let past : length labels < suc label = lt_of_not-le (λ lt. let never : IsTrue false = has.1 lt in absurd cc) in
+    get_or_past labels label 0 (omega (arith, past))

@@ -5,9 +5,13 @@ use Rattle.rio_buffer.specs.ReaderState.{no_words}
 use Rattle.rio_format.specs.Slots.{kinded}
 use Rattle.rio_format.specs.Written.{writing_of}
 use Rattle.rio_write.specs.Measuring.{too_long}
-use Rattle.rio_write.specs.Sinks.{Accepted}
+use Rattle.rio_write.specs.Sinks.{Accepted, StandsWithin}
 use Rattle.rio_write.proofs.Counting.{whole_counted}
 use Rattle.rio_write.proofs.write.written_length.Goals as goal
+
+pub write_value-requires : goal.write_value-requires
+unfolding StandsWithin
+write_value-requires c = λ never. absurd cc
 
 pub returns : goal.returns
 unfolding Accepted
