@@ -1,13 +1,13 @@
 -- What a measure counts is what is written.
-use Rattle.std.proofs.Common.{◌≡◌, ◌<◌, ◌≤◌, ◌^◌, ◌+◌, ◌-◌, ℕ, List, [], ◌∷◌, ◌++◌, length, take, drop, min, Some, Bool, false, Result, Ok, Err, refl, sym, ap, subst, ◌∙◌, arith}
+use Rattle.std.proofs.Common.{◌≡◌, ◌^◌, ◌+◌, ℕ, List, [], ◌++◌, length, take, drop, min, false, Result, Ok, Err, refl, sym, ap, subst, ◌∙◌, arith}
 use Rattle.std.proofs.lemmas.List.{length-append, length-drop, length-take}
 use Rattle.byteorder.specs.Endian.{big_bytes}
 use Rattle.rio_num.specs.declared.no_memory.NoMemory.{NoMemory}
-use Rattle.rio_buffer.specs.ReaderState.{WordsMet, no_words, with_label}
+use Rattle.rio_buffer.specs.ReaderState.{no_words, with_label}
 use Rattle.rio_buffer.specs.Writer.{Writer, WriterState, begun, begun_pointer, class_bytes, counted_from, ended, next_place, nothing_written, with_count}
 use Rattle.rio_format.specs.Written.{back_bytes, just}
-use Rattle.rio_write.specs.Measuring.{AreBelow, CountsFor, Follows, Grows, Measured, Measures, longer, nothing_measured, too_long}
-use Rattle.rio_write.specs.Sinks.{Accepted, Accepts, Closes, Opened, OpensIn}
+use Rattle.rio_write.specs.Measuring.{CountsFor, Follows, Grows, Measured, Measures, longer, nothing_measured, too_long}
+use Rattle.rio_write.specs.Sinks.{Accepted, Closes, Opened, OpensIn}
 use Rattle.rio_write.specs.Writing.{with_written}
 use Rattle.rio_write.proofs.MeasureLaws.{back_grows, below_more, follows_on, just_grows}
 use Rattle.rio_write.proofs.WriteLaws.{first_written}

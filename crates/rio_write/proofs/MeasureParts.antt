@@ -1,18 +1,10 @@
 -- How long what is written of lists and parts is.
-use Rattle.std.proofs.Common.{◌≡◌, ◌<◌, ◌≤◌, ◌⊎◌, inl, inr, ℕ, ◌+◌, List, [], ◌∷◌, length, map, drop, slice_index_or, Result, sym, ap, ◌∙◌, arith}
-use Rattle.std.specs.Prelude.{pos, codes}
+use Rattle.std.proofs.Common.{◌≡◌, ◌<◌, ◌≤◌, ℕ, ◌+◌, List, [], ◌∷◌, length, map, drop, slice_index_or, sym, ap, ◌∙◌}
 use Rattle.std.proofs.lemmas.List.{drop_more, drop_all}
-use Rattle.byteorder.specs.Endian.{big_bytes}
-use Rattle.rio_num.specs.declared.no_memory.NoMemory.{NoMemory}
-use Rattle.rio_types.specs.declared.kind.Kind.TheVariants.{Plain, Text as Texted}
-use Rattle.rio_types.specs.declared.kind.Primitive.{Primitive}
-use Rattle.rio_types.specs.declared.kind.Primitive.TheVariants.{I32, U16, U32}
-use Rattle.rio_format.specs.Slots.{Field, Slot, any_pointer, based, flags, kinded, link, many}
-use Rattle.rio_buffer.specs.Writer.{Writer}
-use Rattle.rio_format.specs.Written.{Writing, all, array_bytes, arrayed_bytes, bare_bytes, both, counted_bytes, fields_bytes, just, link_bytes, listed_bytes}
-use Rattle.rio_write.specs.Measuring.{Grows, Measured, Measures, longer}
-use Rattle.rio_write.proofs.MeasureLaws.{both_grow, both_measured, just_grows, nothing_grows}
-use Rattle.rio_write.proofs.Few.{one_is, two_are, three_are, four_are}
+use Rattle.rio_format.specs.Slots.{Slot}
+use Rattle.rio_format.specs.Written.{Writing, all}
+use Rattle.rio_write.specs.Measuring.{Grows, Measured}
+use Rattle.rio_write.proofs.MeasureLaws.{both_grow, nothing_grows}
 
 -- ---- a list
 

@@ -1,18 +1,17 @@
 -- What a sink took, one thing behind the other.
-use Rattle.std.proofs.Common.{◌≡◌, ◌<◌, ◌≤◌, ◌^◌, ℕ, ◌+◌, ◌-◌, List, [], ◌∷◌, ◌++◌, Bool, IsTrue, length, map, drop, slice_index_or, Some, Option, Result, Ok, Err, refl, sym, ap, subst, ◌∙◌, arith}
-use Rattle.std.proofs.lemmas.List.{length-append}
+use Rattle.std.proofs.Common.{◌≡◌, ◌<◌, ◌≤◌, ◌^◌, ℕ, ◌+◌, ◌-◌, List, [], Bool, IsTrue, length, map, drop, slice_index_or, Some, Option, Result, Ok, Err, refl, sym, ap, subst, ◌∙◌}
 use Rattle.std.specs.Prelude.{ℤ}
 use Rattle.std.specs.Int.{w16, cast_unsigned}
 use Rattle.byteorder.specs.Endian.{big_bytes}
 use Rattle.rio_num.specs.Text.{text_bytes}
 use Rattle.rio_num.specs.declared.no_memory.NoMemory.{NoMemory}
 use Rattle.rio_buffer.specs.ReaderState.{WordsMet, with_label}
-use Rattle.rio_buffer.specs.Writer.{Writer, WriterState, begun, begun_pointer, class_bytes, counted_from, innermost, next_place}
+use Rattle.rio_buffer.specs.Writer.{Writer, WriterState, begun, begun_pointer, class_bytes, next_place}
 use Rattle.rio_format.specs.Slots.{Field, Slot}
 use Rattle.rio_format.specs.Written.{Writing, all, both, fields_bytes, headed_bytes, just}
 use Rattle.rio_write.specs.Sinks.{Accepted, Accepts, CanClose, CanPoint, Closes, Opened, RoomFor, StandsWithin}
 use Rattle.rio_write.specs.Writing.{HasRoom, pointer_to, with_written}
-use Rattle.rio_write.proofs.WriteLaws.{both_after, closed_at, closed_is, count_room, count_stands, header, header_room, inside, inside_room, item_room, items_done, items_go_on, items_room, nothing, opened_at, part_room, parts_done, parts_go_on, parts_missing, parts_room, place_room, pointer_room, room_first, room_then, still_innermost, text_room, word}
+use Rattle.rio_write.proofs.WriteLaws.{both_after, closed_at, closed_is, count_room, count_stands, header_room, inside, inside_room, item_room, items_done, items_go_on, items_room, nothing, opened_at, part_room, parts_done, parts_go_on, parts_missing, parts_room, place_room, pointer_room, room_first, room_then, still_innermost, text_room}
 
 module _ {X : Type 0} (stands : X → WriterState → Type 0) (x : X) where
   -- nothing is taken
@@ -136,11 +135,14 @@ module _ {X : Type 0} (stands : X → WriterState → Type 0) (bounded : Bool) (
           let opened = opens a.0 a.1 in
           let s1 = front a.0 in
           let s2 = with_written body s1 in
-          let told : place ≡ length a.0.bytes = opened.1 b in
-          (s2, one s1 opened.0, (
-            still_innermost a.0 (head a.0).0 (head a.0).1 body s1 s2 refl refl ∙ ap (λ (n : ℕ). let o : Option ℕ = Some n in o) (sym told),
-            rw told (count_room a.0 (head a.0).0 (head a.0).1 body s1 s2 refl refl (low a.0 a.2)),
-          ))
+          let told : place ≡ length a.0.bytes = opened.1 b in (
+            s2,
+            one s1 opened.0,
+            (
+              still_innermost a.0 (head a.0).0 (head a.0).1 body s1 s2 refl refl ∙ ap (λ (n : ℕ). let o : Option ℕ = Some n in o) (sym told),
+              rw told (count_room a.0 (head a.0).0 (head a.0).1 body s1 s2 refl refl (low a.0 a.2)),
+            ),
+          )
 
       pub enclosed : ((s : WriterState) → closed_at s (head s).0 (within s) ≡ with_written whole s) → (x3 : X) → Closes stands x2 x3 → Accepted stands whole x x3
       unfolding Accepted Closes Opened

@@ -1,14 +1,14 @@
 -- What the writer of objects takes stands at its end.
-use Rattle.std.proofs.Common.{◌≡◌, suc, false, IsTrue, arith, ◌<◌, ◌^◌, length, ℕ, ◌+◌, ◌-◌, List, [], Bool, true, Some, Option, Result, Ok, Err, refl, sym, ap, subst, ◌∙◌}
+use Rattle.std.proofs.Common.{◌≡◌, suc, false, IsTrue, arith, ◌<◌, length, ℕ, ◌+◌, List, [], Bool, true, Some, Result, Ok, Err, refl, sym, ap, subst, ◌∙◌}
 use Rattle.std.specs.Prelude.{◌↔◌, slice_index}
 use Rattle.std.proofs.Math.Nat.{lt_of_not-le}
 use Rattle.std.proofs.lemmas.List.{get_or_past}
 use Rattle.byteorder.specs.Endian.{big_bytes}
 use Rattle.rio_num.specs.declared.no_memory.NoMemory.{NoMemory}
 use Rattle.rio_buffer.specs.ReaderState.{no_words}
-use Rattle.rio_buffer.specs.Writer.{Begins, Puts, Writer, WriterState, counted_from, ended, innermost, nothing_written}
+use Rattle.rio_buffer.specs.Writer.{Begins, Puts, Writer, WriterState, ended, innermost, nothing_written}
 use Rattle.rio_format.specs.Written.{back_bytes, just}
-use Rattle.rio_write.specs.Sinks.{Accepted, Accepts, CanClose, CanPoint, Closes, Opened, OpensIn, StandsWithin}
+use Rattle.rio_write.specs.Sinks.{Accepted, Accepts, Closes, Opened, OpensIn, StandsWithin}
 use Rattle.rio_write.specs.Writing.{Writes, with_written}
 use Rattle.rio_write.proofs.WriteLaws.{first_written, just_writes}
 

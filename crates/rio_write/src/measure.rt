@@ -142,11 +142,7 @@ impl Sink for Total {
         Ok(self.add(HEADER))
     }
 
-    fn take_pointer<'a>(
-        &mut self,
-        names: &mut Names<'a>,
-        class: &'a [u8],
-    ) -> Result<(), NoMemory> {
+    fn take_pointer<'a>(&mut self, names: &mut Names<'a>, class: &'a [u8]) -> Result<(), NoMemory> {
         self.add(COUNT_WORD);
         self.add_class(names, class)
     }

@@ -64,11 +64,7 @@ fn write_prim<S: Sink>(sink: &mut S, n: i128, of: Prim) -> Result<(), NoMemory>
 
 /// A number, as it stands in the slot.
 #[tactic(auto, using(crate::proofs::SinkLaws::nothing_accepted))]
-pub(crate) fn write_int<S: Sink>(
-    sink: &mut S,
-    n: i128,
-    slot: &Slot,
-) -> Result<(), NoMemory>
+pub(crate) fn write_int<S: Sink>(sink: &mut S, n: i128, slot: &Slot) -> Result<(), NoMemory>
     ensures { (names : List (List ℕ)) → Accepts S.stands (just (int_bytes n slot.now))
         result (sink.old, names) (sink.new, names) }
 {

@@ -77,7 +77,14 @@ fn write_counted<'a, S: Sink>(
         return write_bool(sink, false);
     }
     write_bool(sink, true)?;
-    write_all(alloc, classes, sink, names, items, &Slot(SlotKind::Plain(of)))
+    write_all(
+        alloc,
+        classes,
+        sink,
+        names,
+        items,
+        &Slot(SlotKind::Plain(of)),
+    )
 }
 
 // A pointer and a text.
@@ -96,7 +103,14 @@ fn write_link<'a, S: Sink>(
 {
     match items {
         [pointer, text] => {
-            write_value(alloc, classes, sink, names, pointer, &Slot(SlotKind::AnyPointer))?;
+            write_value(
+                alloc,
+                classes,
+                sink,
+                names,
+                pointer,
+                &Slot(SlotKind::AnyPointer),
+            )?;
             write_value(alloc, classes, sink, names, text, &Slot(SlotKind::Text))
         }
         _ => Ok(()),
@@ -137,7 +151,14 @@ fn write_list<'a, S: Sink>(
             items,
             &Slot(SlotKind::Plain(of)),
         ),
-        SlotKind::Pointers => write_all(alloc, classes, sink, names, items, &Slot(SlotKind::AnyPointer)),
+        SlotKind::Pointers => write_all(
+            alloc,
+            classes,
+            sink,
+            names,
+            items,
+            &Slot(SlotKind::AnyPointer),
+        ),
         SlotKind::Links => write_all(alloc, classes, sink, names, items, &Slot(SlotKind::Link)),
         _ => Ok(()),
     }
@@ -220,7 +241,14 @@ fn write_bare<'a, S: Sink>(
                 &id.value,
                 &Slot(SlotKind::Plain(Prim::U32)),
             )?;
-            write_value(alloc, classes, sink, names, &bits.value, &Slot(SlotKind::Flags))
+            write_value(
+                alloc,
+                classes,
+                sink,
+                names,
+                &bits.value,
+                &Slot(SlotKind::Flags),
+            )
         }
         [id, bits, pid] => {
             sink.take_u16(1)?;
@@ -232,7 +260,14 @@ fn write_bare<'a, S: Sink>(
                 &id.value,
                 &Slot(SlotKind::Plain(Prim::U32)),
             )?;
-            write_value(alloc, classes, sink, names, &bits.value, &Slot(SlotKind::Flags))?;
+            write_value(
+                alloc,
+                classes,
+                sink,
+                names,
+                &bits.value,
+                &Slot(SlotKind::Flags),
+            )?;
             write_value(
                 alloc,
                 classes,
@@ -301,9 +336,23 @@ fn write_listed<'a, S: Sink>(
                 &base.value,
                 &Slot(SlotKind::Based(b"TObject", 1)),
             )?;
-            write_value(alloc, classes, sink, names, &name.value, &Slot(SlotKind::Text))?;
+            write_value(
+                alloc,
+                classes,
+                sink,
+                names,
+                &name.value,
+                &Slot(SlotKind::Text),
+            )?;
             write_count(sink, count_of(&items.value))?;
-            write_value(alloc, classes, sink, names, &items.value, &Slot(SlotKind::Links))
+            write_value(
+                alloc,
+                classes,
+                sink,
+                names,
+                &items.value,
+                &Slot(SlotKind::Links),
+            )
         }
         _ => Ok(()),
     }
@@ -333,7 +382,14 @@ fn write_arrayed<'a, S: Sink>(
                 &base.value,
                 &Slot(SlotKind::Based(b"TObject", 1)),
             )?;
-            write_value(alloc, classes, sink, names, &name.value, &Slot(SlotKind::Text))?;
+            write_value(
+                alloc,
+                classes,
+                sink,
+                names,
+                &name.value,
+                &Slot(SlotKind::Text),
+            )?;
             write_count(sink, count_of(&items.value))?;
             write_value(
                 alloc,

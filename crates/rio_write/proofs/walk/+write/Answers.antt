@@ -1,4 +1,4 @@
-use Rattle.std.proofs.Common.{rules, ◌≡◌, ◌<◌, ℕ, List, [], Option, None, SFits, w32, map, refl, sym, ap, ◌∙◌, subst, inl, inr, length}
+use Rattle.std.proofs.Common.{rules, ◌≡◌, ◌<◌, None, SFits, w32, map, refl, sym, ap, ◌∙◌, inl, inr, length}
 use Rattle.std.proofs.lemmas.Int.{to_z-of_z}
 use Rattle.std.specs.Int.{w16, w128, cast_unsigned}
 use Rattle.byteorder.specs.Endian.{big_bytes}
@@ -234,7 +234,7 @@ write_value-write_parts-requires g t c κs lives =
     let classes = c.args.classes.now in
     let class = c.as_slice-class.result.now in
     let room : RoomFor g.S.Sink.stands g.S.Sink.bounded (form_bytes classes class c.in-Object.version (form_of class) (map (part_writing classes) c.as_slice-parts.result.now)) (c.args.sink.now, c.args.names.now) =
-        simp (c.as_slice-class.ensures, c.as_slice-parts.ensures) (rw (c.in-Object.is, object_is) at c.requires) in
+    simp (c.as_slice-class.ensures, c.as_slice-parts.ensures) (rw (c.in-Object.is, object_is) at c.requires) in
     search (rules, the_lemmas, to_z-of_z)
 
 pub write_value-returns-in-Int : goal.write_value-returns-in-Int

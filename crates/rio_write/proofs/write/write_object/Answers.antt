@@ -40,7 +40,7 @@ returns-clause-spelled c = λ class fits depth versions.
     let f = known.bytes (kinded (Inline c.class_of-class.result.now)) in
     let written = whole_written f c.args.start c.new-writer.result c.write_value.new.sink c.new-names.result c.write_value.new.names c.new-writer.ensures c.in_ok-write_value.ensures in
     let are : c.into_bytes.result ≡ room_of (written_form c.args.classes.now c.args.start c.args.value.now) =
-        c.into_bytes.ensures ∙ ap room_of written.0 ∙ ap (λ (k : List ℕ). room_of (known.bytes (kinded (Inline k)) c.args.start no_words).0) (c.class_of-class.ensures c.args.classes.now) in
+    c.into_bytes.ensures ∙ ap room_of written.0 ∙ ap (λ (k : List ℕ). room_of (known.bytes (kinded (Inline k)) c.args.start no_words).0) (c.class_of-class.ensures c.args.classes.now) in
     let room : c.args.start + length (written_form c.args.classes.now c.args.start c.args.value.now) ≤ 2 ^ 30 - 2 = omega (arith, c.requires) in
     let spells = written_is_spelled c.args.classes.now class c.args.start c.args.value.now fits depth versions room in
     subst (λ (b : Room). SpellsObject c.args.classes.now c.args.start class c.args.value.now b.bytes) (sym are) spells

@@ -1,6 +1,4 @@
-use Rattle.std.proofs.Common.{rules, ◌≡◌, ◌+◌, slice_index}
-use Rattle.byteorder.specs.Endian.{big_bytes}
-use Rattle.rio_buffer.specs.Writer.{Puts}
+use Rattle.std.proofs.Common.{rules, ◌≡◌, slice_index}
 use Rattle.rio_write.proofs.Taking.{back_accepted, no_label}
 use Rattle.rio_write.proofs.sink.ObjWriterSink.take_back.Goals as goal
 
