@@ -2,7 +2,6 @@ pub mod BuiltinBodies
 pub mod Counting
 pub mod Few
 pub mod MeasureLaws
-pub mod MeasureParts
 pub mod Putting
 pub mod SinkLaws
 pub mod SinkParts

@@ -1,5 +1,5 @@
 -- What a sink took, one thing behind the other.
-use Rattle.std.proofs.Common.{◌≡◌, ◌<◌, ◌≤◌, ◌^◌, ℕ, ◌+◌, ◌-◌, List, [], Bool, IsTrue, length, map, drop, slice_index_or, Some, Option, Result, Ok, Err, refl, sym, ap, subst, ◌∙◌}
+use Rattle.std.proofs.Common.{◌≡◌, ◌<◌, ◌≤◌, ◌^◌, ℕ, ◌+◌, ◌-◌, ◌++◌, List, [], Bool, IsTrue, length, map, drop, slice_index_or, Some, Option, Result, Ok, Err, refl, sym, ap, subst, ◌∙◌}
 use Rattle.std.specs.Prelude.{ℤ}
 use Rattle.std.specs.Int.{w16, cast_unsigned}
 use Rattle.byteorder.specs.Endian.{big_bytes}
@@ -9,7 +9,7 @@ use Rattle.rio_buffer.specs.ReaderState.{WordsMet, with_label}
 use Rattle.rio_buffer.specs.Writer.{Writer, WriterState, begun, begun_pointer, class_bytes, next_place}
 use Rattle.rio_format.specs.Slots.{Field, Slot}
 use Rattle.rio_format.specs.Written.{Writing, all, both, fields_bytes, headed_bytes, just}
-use Rattle.rio_write.specs.Sinks.{Accepted, Accepts, CanClose, CanPoint, Closes, Opened, RoomFor, StandsWithin}
+use Rattle.rio_write.specs.Sinks.{Accepted, Accepts, CanClose, CanPoint, Closes, Opened, RoomFor, RoomForBytes, StandsWithin, Takes}
 use Rattle.rio_write.specs.Writing.{HasRoom, pointer_to, with_written}
 use Rattle.rio_write.proofs.WriteLaws.{both_after, closed_at, closed_is, count_room, count_stands, header_room, inside, inside_room, item_room, items_done, items_go_on, items_room, nothing, opened_at, part_room, parts_done, parts_go_on, parts_missing, parts_room, place_room, pointer_room, room_first, room_then, still_innermost, text_room}
 
@@ -200,3 +200,40 @@ module _ {X : Type 0} (stands : X → WriterState → Type 0) (bounded : Bool) (
       pointer_accepted x3 closes =
           let taken = enclosed stands bounded class_word (object class) (pointing class) x x1 place (pointer_room class (object class)) opens x2 one (λ s. refl) x3 closes in
           subst (λ (k : List ℕ). Accepted stands (pointing k) x x3) same taken
+
+-- ---- bytes, whatever names of classes are spelled out
+
+-- these bytes were taken
+abbrev pub Taken : {S : Type 0} → (S × List (List ℕ) → WriterState → Type 0) → List ℕ → S → S → Type 0
+Taken stands bytes x y = (names : List (List ℕ)) → Accepted stands (just bytes) (x, names) (y, names)
+
+module _ {S : Type 0} (stands : S × List (List ℕ) → WriterState → Type 0) (x y : S) where
+  pub short_text : (bounded : Bool) (text : List ℕ) → RoomForBytes stands bounded (text_bytes text) x → IsTrue bounded → length text < 2 ^ 32
+  short_text bounded text room = text_is_short stands bounded text (x, room.0) room.1
+
+  -- bytes, and more behind them
+  module _ (a b : List ℕ) where
+    pub bytes_then : (z : S) (r : Result (Unit {0}) NoMemory) → Taken stands a x y → Takes stands b r y z → Takes stands (a ++ b) r x z
+    bytes_then z r one two = λ names. both_accept stands (just a) (just b) (x, names) (y, names) (z, names) r (one names) (two names)
+
+    pub bytes_first_room : (bounded : Bool) → RoomForBytes stands bounded (a ++ b) x → RoomForBytes stands bounded a x
+    bytes_first_room bounded room = (room.0, front_room stands bounded (just a) (just b) (x, room.0) room.1)
+
+    pub bytes_then_room : (bounded : Bool) → Taken stands a x y → RoomForBytes stands bounded (a ++ b) x → RoomForBytes stands bounded b y
+    bytes_then_room bounded one room = (room.0, behind_room stands bounded (just a) (just b) (x, room.0) (y, room.0) (one room.0) room.1)
+
+-- behind each state that the first stood for, the bytes that are left give all of them
+abbrev pub BytesLead : {S : Type 0} → (S × List (List ℕ) → WriterState → Type 0) → List ℕ → List ℕ → S → S → Type 0
+BytesLead stands whole rest first here = (names : List (List ℕ)) → Leads stands (just whole) (just rest) (first, names) (here, names)
+
+module _ {S : Type 0} (stands : S × List (List ℕ) → WriterState → Type 0) (whole : List ℕ) (first : S) where
+  pub bytes_lead : BytesLead stands whole whole first first
+  bytes_lead = λ names. leads_first stands (just whole) (first, names)
+
+  pub bytes_lead_on : (rest a b : List ℕ) (x y : S) → rest ≡ a ++ b → Taken stands a x y → BytesLead stands whole rest first x → BytesLead stands whole b first y
+  bytes_lead_on rest a b x y e one so_far = λ names.
+      leads_on stands (just whole) (just rest) (just a) (just b) (first, names) (x, names) (y, names) (λ s total so. sym (both_after (just a) (just b) s) ∙ ap (λ (l : List ℕ). with_written (just l) s) (sym e) ∙ so) (one names) (so_far names)
+
+  pub bytes_lead_end : (rest : List ℕ) (x : S) → rest ≡ [] → BytesLead stands whole rest first x → Taken stands whole first x
+  bytes_lead_end rest x none so_far = λ names.
+      leads_end stands (just whole) (just rest) (first, names) (x, names) (λ s total so. nothing s ∙ ap (λ (l : List ℕ). with_written (just l) s) (sym none) ∙ so) (so_far names)

@@ -1,7 +1,8 @@
 -- What a sink does. It stands for states of writing, and goes on as what is written grows.
-use Rattle.std.specs.Prelude.{◌≡◌, ◌<◌, ◌≤◌, ℕ, ◌+◌, ◌-◌, ◌^◌, Bool, IsTrue, length, Some, Result, Ok, Err}
+use Rattle.std.specs.Prelude.{◌≡◌, ◌<◌, ◌≤◌, ℕ, ◌+◌, ◌-◌, ◌^◌, List, Bool, IsTrue, length, Some, Result, Ok, Err}
 use Rattle.rio_num.specs.declared.no_memory.NoMemory.{NoMemory}
 use Rattle.rio_buffer.specs.Writer.{Writer, WriterState, counted_from, ended, innermost, next_place}
+use Rattle.rio_format.specs.Written.{just}
 use Rattle.rio_write.specs.Writing.{HasRoom, with_written}
 
 -- this is written behind each state that it stood for
@@ -20,6 +21,16 @@ StandsWithin stands bounded holds x = IsTrue bounded → (s : WriterState) × st
 -- where its places are bounded, all places of what is written can be referred to
 abbrev pub RoomFor : {X : Type 0} → (X → WriterState → Type 0) → Bool → Writer → X → Type 0
 RoomFor stands bounded write x = StandsWithin stands bounded (HasRoom write) x
+
+-- ---- bytes, whatever names of classes are spelled out
+
+-- These bytes were taken, or memory ran out.
+abbrev pub Takes : {S : Type 0} → (S × List (List ℕ) → WriterState → Type 0) → List ℕ → Result (Unit {0}) NoMemory → S → S → Type 0
+Takes stands bytes result old new = (names : List (List ℕ)) → Accepts stands (just bytes) result (old, names) (new, names)
+
+-- where its places are bounded, all places of these bytes can be referred to
+abbrev pub RoomForBytes : {S : Type 0} → (S × List (List ℕ) → WriterState → Type 0) → Bool → List ℕ → S → Type 0
+RoomForBytes stands bounded bytes x = (names : List (List ℕ)) × RoomFor stands bounded (just bytes) (x, names)
 
 -- ---- objects
 

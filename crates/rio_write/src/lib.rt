@@ -1,4 +1,9 @@
 //! Objects are written, by the classes that a file describes.
+//!
+//! A value is walked once, by code that is generic over a [`Sink`]: the writer of objects takes the bytes, and [`Total`]
+//! counts them. [`write_object`] and [`written_length`] are that walk into the one and the other, and what else is
+//! written as objects are goes into a sink too. `specs/Sinks.antt` has what a sink does, `specs/Measuring.antt` what it
+//! is to count.
 #![tactic(auto)]
 
 mod builtin;
@@ -11,5 +16,7 @@ mod write;
 
 pub use builtin::write_builtin;
 pub use laws::small_builtins_are_alike;
-pub use measure::{COUNT_WORD, HEADER, Measure, text_length, text_length_of};
+pub use measure::{Total, text_length};
+pub use numbers::{write_bool, write_count, write_prim};
+pub use sink::Sink;
 pub use write::{write_object, written_length};

@@ -4,22 +4,21 @@ ghost use Rattle.rio_num.specs.Text.{text_bytes};
 
 use crate::sink::Sink;
 use rio_num::{Names, NoMemory};
-use std::alloc::Global;
-use std::marker::Model;
 
 /// The greatest length that is told.
 const LIMIT: u64 = 16_777_216;
 
 /// The length of a word that counts the bytes behind it.
-pub const COUNT_WORD: u64 = 4;
+const COUNT_WORD: u64 = 4;
 
 /// The length of a header: a count word and a version.
-pub const HEADER: u64 = COUNT_WORD + 2;
+const HEADER: u64 = COUNT_WORD + 2;
 
-/// How many bytes are written so far, or one more than the limit.
+/// A sink that counts: how many bytes are written so far, or 16,777,217 where they are more than 16,777,216.
 #[derive(Drop)]
-pub(crate) struct Total {
-    pub(crate) bytes: u64,
+pub struct Total {
+    /// How many bytes there are.
+    pub bytes: u64,
 }
 
 impl Total {
@@ -50,59 +49,6 @@ impl Total {
     }
 }
 
-/// How many bytes are written so far, or one more than the limit, and the classes that they spell out.
-#[derive(Drop)]
-pub struct Measure<'a> {
-    total: Total,
-    names: Names<'a>,
-}
-
-impl<'a> Model for Measure<'a> {
-    ghost use Rattle.rio_write.specs.Measuring.{Measured};
-
-    ghost Value = { Measured };
-
-    ghost view = { λ m. record { total = m.total.bytes; names = m.names } };
-}
-
-impl<'a> Measure<'a> {
-    ghost use Rattle.std.specs.Prelude.{◌≡◌};
-    ghost use Rattle.rio_buffer.specs.Writer.{class_bytes};
-    ghost use Rattle.rio_write.specs.Measuring.{Measures, longer, nothing_measured};
-
-    /// No bytes yet.
-    pub fn new(alloc: Global) -> Measure<'a>
-        ensures { result ≡ nothing_measured }
-    {
-        Measure {
-            total: Total { bytes: 0 },
-            names: Names::new(alloc),
-        }
-    }
-
-    /// So many more bytes.
-    pub fn add(&mut self, n: u64)
-        ensures { self.new ≡ longer n self.old }
-    {
-        self.total.add(n);
-    }
-
-    /// How many bytes there are, or 16,777,217 where they are more than 16,777,216.
-    pub fn total(&self) -> u64
-        ensures { result ≡ self.now.total }
-    {
-        self.total.bytes
-    }
-
-    /// The word that names a class: it spells out the class where that is named for the first time, and refers
-    /// to the earlier word else.
-    pub fn add_class(&mut self, class: &'a [u8]) -> Result<(), NoMemory>
-        ensures { Measures (class_bytes class.now) result self.old self.new }
-    {
-        self.total.add_class(&mut self.names, class)
-    }
-}
-
 impl Sink for Total {
     type Begun = ();
 
@@ -130,6 +76,10 @@ impl Sink for Total {
         Ok(self.add(8))
     }
 
+    fn take_bytes(&mut self, bytes: &[u8]) -> Result<(), NoMemory> {
+        Ok(self.add(bytes.len() as u64))
+    }
+
     fn take_text(&mut self, text: &[u8]) -> Result<(), NoMemory> {
         Ok(self.add(text_length(text)))
     }
@@ -154,13 +104,6 @@ impl Sink for Total {
 pub fn text_length(text: &[u8]) -> u64
     ensures { result ≡ length (text_bytes text.now) }
 {
-    text_length_of(text.len() as u64)
-}
-
-/// How many bytes a text of so many characters has in a file.
-pub fn text_length_of(len: u64) -> u64
-    requires { len + 5 < 2 ^ 64 }
-    ensures { (text : List ℕ) → length text ≡ len → result ≡ length (text_bytes text) }
-{
+    let len = text.len() as u64;
     if len < 255 { len + 1 } else { len + 5 }
 }

@@ -1,11 +1,11 @@
 //! Numbers, and what each takes in a slot.
-ghost use Rattle.std.specs.Prelude.{◌≡◌, ◌<◌, ℕ, List, [], ◌∷◌};
+ghost use Rattle.std.specs.Prelude.{◌≡◌, ◌<◌, [], ◌∷◌};
 ghost use Rattle.std.specs.Int.{w8, w16, w32, w64, cast_unsigned};
 ghost use Rattle.byteorder.specs.Endian.{big_bytes};
 ghost use Rattle.rio_format.specs.Slots.{kinded};
-ghost use Rattle.rio_format.specs.Written.{int_bytes, just, truth_byte};
+ghost use Rattle.rio_format.specs.Written.{int_bytes, truth_byte};
 ghost use Rattle.rio_types.specs.declared.kind.Kind.TheVariants.{Plain};
-ghost use Rattle.rio_write.specs.Sinks.{Accepts};
+ghost use Rattle.rio_write.specs.Sinks.{Takes};
 ghost use Rattle.rio_write.specs.Writing.{bits_within};
 
 use crate::sink::Sink;
@@ -50,9 +50,9 @@ fn bits_64(n: i128) -> u64
     bits_within(n, 0x1_0000_0000_0000_0000) as u64
 }
 
-fn write_prim<S: Sink>(sink: &mut S, n: i128, of: Prim) -> Result<(), NoMemory>
-    ensures { (names : List (List ℕ)) → Accepts S.stands (just (int_bytes n (kinded (Plain of))))
-        result (sink.old, names) (sink.new, names) }
+/// A number of this kind, by its lowest bits.
+pub fn write_prim<S: Sink>(sink: &mut S, n: i128, of: Prim) -> Result<(), NoMemory>
+    ensures { Takes S.stands (int_bytes n (kinded (Plain of))) result sink.old sink.new }
 {
     match of {
         Prim::I8 | Prim::U8 | Prim::Bool => sink.take_u8(bits_8(n)),
@@ -65,8 +65,7 @@ fn write_prim<S: Sink>(sink: &mut S, n: i128, of: Prim) -> Result<(), NoMemory>
 /// A number, as it stands in the slot.
 #[tactic(auto, using(crate::proofs::SinkLaws::nothing_accepted))]
 pub(crate) fn write_int<S: Sink>(sink: &mut S, n: i128, slot: &Slot) -> Result<(), NoMemory>
-    ensures { (names : List (List ℕ)) → Accepts S.stands (just (int_bytes n slot.now))
-        result (sink.old, names) (sink.new, names) }
+    ensures { Takes S.stands (int_bytes n slot.now) result sink.old sink.new }
 {
     match slot.0 {
         SlotKind::Plain(of) => write_prim(sink, n, of),
@@ -77,17 +76,15 @@ pub(crate) fn write_int<S: Sink>(sink: &mut S, n: i128, slot: &Slot) -> Result<(
 }
 
 /// A byte that is 1 or 0.
-pub(crate) fn write_bool<S: Sink>(sink: &mut S, b: bool) -> Result<(), NoMemory>
-    ensures { (names : List (List ℕ)) → Accepts S.stands (just (truth_byte b ∷ []))
-        result (sink.old, names) (sink.new, names) }
+pub fn write_bool<S: Sink>(sink: &mut S, b: bool) -> Result<(), NoMemory>
+    ensures { Takes S.stands (truth_byte b ∷ []) result sink.old sink.new }
 {
     sink.take_u8(u8::from(b))
 }
 
-/// A count of items.
-pub(crate) fn write_count<S: Sink>(sink: &mut S, count: usize) -> Result<(), NoMemory>
-    ensures { (names : List (List ℕ)) → Accepts S.stands (just (big_bytes 4 count))
-        result (sink.old, names) (sink.new, names) }
+/// A count of items, by its lowest 32 bits.
+pub fn write_count<S: Sink>(sink: &mut S, count: usize) -> Result<(), NoMemory>
+    ensures { Takes S.stands (big_bytes 4 count) result sink.old sink.new }
 {
     sink.take_u32(bits_32(count as i128))
 }

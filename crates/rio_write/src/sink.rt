@@ -2,16 +2,16 @@
 ghost use Rattle.std.specs.Prelude.{◌<◌, ◌^◌, ℕ, List, [], ◌∷◌, length, Bool, IsTrue, true};
 ghost use Rattle.byteorder.specs.Endian.{big_bytes};
 ghost use Rattle.rio_buffer.specs.Writer.{WriterState, begun, begun_pointer};
-ghost use Rattle.rio_format.specs.Written.{back_bytes, just};
+ghost use Rattle.rio_format.specs.Written.{back_bytes};
 ghost use Rattle.rio_num.specs.Text.{text_bytes};
-ghost use Rattle.rio_write.specs.Sinks.{Accepts, CanClose, CanPoint, Closes, OpensIn, StandsWithin};
+ghost use Rattle.rio_write.specs.Sinks.{Accepts, CanClose, CanPoint, Closes, OpensIn, StandsWithin, Takes};
 
 use rio_buffer::{ObjWriter, Open};
 use rio_num::{Names, NoMemory};
 
 /// What takes what is written. With the names of classes that are spelled out so far, it stands for states
 /// of writing.
-pub(crate) trait Sink {
+pub trait Sink {
     /// An object that was begun and not ended.
     type Begun: Drop;
 
@@ -26,29 +26,28 @@ pub(crate) trait Sink {
 
     /// Takes a byte.
     fn take_u8(&mut self, n: u8) -> Result<(), NoMemory>
-        ensures { (names : List (List ℕ)) → Accepts stands (just (big_bytes 1 n)) result
-            (self.old, names) (self.new, names) };
+        ensures { Takes stands (big_bytes 1 n) result self.old self.new };
 
     /// Takes a number, in big-endian order.
     fn take_u16(&mut self, n: u16) -> Result<(), NoMemory>
-        ensures { (names : List (List ℕ)) → Accepts stands (just (big_bytes 2 n)) result
-            (self.old, names) (self.new, names) };
+        ensures { Takes stands (big_bytes 2 n) result self.old self.new };
 
     /// Takes a number, in big-endian order.
     fn take_u32(&mut self, n: u32) -> Result<(), NoMemory>
-        ensures { (names : List (List ℕ)) → Accepts stands (just (big_bytes 4 n)) result
-            (self.old, names) (self.new, names) };
+        ensures { Takes stands (big_bytes 4 n) result self.old self.new };
 
     /// Takes a number, in big-endian order.
     fn take_u64(&mut self, n: u64) -> Result<(), NoMemory>
-        ensures { (names : List (List ℕ)) → Accepts stands (just (big_bytes 8 n)) result
-            (self.old, names) (self.new, names) };
+        ensures { Takes stands (big_bytes 8 n) result self.old self.new };
+
+    /// Takes these bytes.
+    fn take_bytes(&mut self, bytes: &[u8]) -> Result<(), NoMemory>
+        ensures { Takes stands bytes.now result self.old self.new };
 
     /// Takes a text: its length, and its bytes.
     fn take_text(&mut self, text: &[u8]) -> Result<(), NoMemory>
         requires { IsTrue bounded → length text.now < 2 ^ 32 }
-        ensures { (names : List (List ℕ)) → Accepts stands (just (text_bytes text.now)) result
-            (self.old, names) (self.new, names) };
+        ensures { Takes stands (text_bytes text.now) result self.old self.new };
 
     /// Takes a reference to the earlier object of the label.
     fn take_back(&mut self, label: u32) -> Result<(), NoMemory>
@@ -103,6 +102,10 @@ impl Sink for ObjWriter {
 
     fn take_u64(&mut self, n: u64) -> Result<(), NoMemory> {
         self.put_u64(n)
+    }
+
+    fn take_bytes(&mut self, bytes: &[u8]) -> Result<(), NoMemory> {
+        self.put_bytes(bytes)
     }
 
     fn take_text(&mut self, text: &[u8]) -> Result<(), NoMemory> {
