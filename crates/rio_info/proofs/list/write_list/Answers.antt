@@ -2,7 +2,7 @@ use Rattle.std.proofs.Common.{ℕ, List, length, ap, refl, subst, ◌∙◌}
 use Rattle.std.specs.Prelude.{pos}
 use Rattle.byteorder.specs.Endian.{big_bytes}
 use Rattle.rio_format.specs.Written.{both, just}
-use Rattle.rio_format.specs.Lists.{Lists, listed}
+use Rattle.rio_format.specs.Lists.{listed}
 use Rattle.rio_write.proofs.SinkLaws.{Taken, behind_room, both_accepted, header_body_room, header_closes, headed_accepted}
 use Rattle.rio_info.specs.WrittenParts.{classes_items, list_front}
 use Rattle.rio_info.proofs.list.write_list.Goals as goal

@@ -1,4 +1,4 @@
-use Rattle.std.proofs.Common.{◌≡◌, ◌++◌, [], refl}
+use Rattle.std.proofs.Common.{◌≡◌, ◌++◌, [], Ok, refl}
 use Rattle.std.specs.Prelude.{pos}
 use Rattle.byteorder.specs.Endian.{big_bytes}
 use Rattle.rio_num.specs.Text.{text_bytes}
@@ -18,12 +18,14 @@ pub close-requires : goal.close-requires
 close-requires g c =
     let text = text_bytes c.args.name.now in
     let body = plain_bytes ++ (text ++ text_bytes []) in
-    let taken = bytes_then g.S.Sink.stands _ _ plain_bytes (text ++ text_bytes []) _ _ c.in_ok-write_plain.ensures (bytes_then g.S.Sink.stands _ _ text (text_bytes []) _ _ c.in_ok-take_text.ensures c.in_ok-take_text-2.ensures) in
+    let texts : Taken g.S.Sink.stands (text ++ text_bytes []) c.write_plain.new.sink c.take_text-2.new.self = bytes_then g.S.Sink.stands _ _ text (text_bytes []) _ (Ok tt) c.in_ok-take_text.ensures c.in_ok-take_text-2.ensures in
+    let taken : Taken g.S.Sink.stands body c.take_header.new.self c.take_text-2.new.self = bytes_then g.S.Sink.stands _ _ plain_bytes (text ++ text_bytes []) _ (Ok tt) c.in_ok-write_plain.ensures texts in
     object_closes g.S.Sink.stands g.S.Sink.bounded (pos 1) body (big_bytes 2 1) refl _ _ _ c.in_ok-begun.ensures _ taken c.requires
 
 pub returns : goal.returns
 returns g c =
     let text = text_bytes c.args.name.now in
     let body = plain_bytes ++ (text ++ text_bytes []) in
-    let taken = bytes_then g.S.Sink.stands _ _ plain_bytes (text ++ text_bytes []) _ _ c.in_ok-write_plain.ensures (bytes_then g.S.Sink.stands _ _ text (text_bytes []) _ _ c.in_ok-take_text.ensures c.in_ok-take_text-2.ensures) in
+    let texts : Taken g.S.Sink.stands (text ++ text_bytes []) c.write_plain.new.sink c.take_text-2.new.self = bytes_then g.S.Sink.stands _ _ text (text_bytes []) _ (Ok tt) c.in_ok-take_text.ensures c.in_ok-take_text-2.ensures in
+    let taken : Taken g.S.Sink.stands body c.take_header.new.self c.take_text-2.new.self = bytes_then g.S.Sink.stands _ _ plain_bytes (text ++ text_bytes []) _ (Ok tt) c.in_ok-write_plain.ensures texts in
     object_taken g.S.Sink.stands g.S.Sink.bounded (pos 1) body (big_bytes 2 1) refl _ _ _ c.in_ok-begun.ensures _ taken _ c.close.ensures
