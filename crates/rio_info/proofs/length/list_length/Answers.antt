@@ -1,8 +1,8 @@
 use Rattle.std.proofs.Common.{ℕ, List, length, min, sym, ap, ◌∙◌}
 use Rattle.rio_format.specs.Lists.{listed}
-use Rattle.rio_write.specs.Measuring.{CountsFor, too_long}
+use Rattle.rio_write.specs.Measuring.{too_long}
 use Rattle.rio_write.specs.Sinks.{Accepted, StandsWithin}
-use Rattle.rio_write.proofs.Counting.{measured, whole_counted}
+use Rattle.rio_write.proofs.Counting.{whole_counted}
 use Rattle.rio_info.specs.WrittenParts.{list_writer}
 use Rattle.rio_info.proofs.ListForms.{list_written}
 use Rattle.rio_info.proofs.length.list_length.Goals as goal

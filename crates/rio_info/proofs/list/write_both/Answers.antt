@@ -1,4 +1,4 @@
-use Rattle.std.proofs.Common.{◌++◌, sym, subst}
+use Rattle.std.proofs.Common.{sym, subst}
 use Rattle.rio_buffer.specs.Writer.{Writer}
 use Rattle.rio_format.specs.Lists.{listed}
 use Rattle.rio_format.specs.Slots.{link}

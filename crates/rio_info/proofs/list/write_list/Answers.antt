@@ -1,4 +1,4 @@
-use Rattle.std.proofs.Common.{ℕ, List, length, ap, refl, subst, ◌∙◌}
+use Rattle.std.proofs.Common.{length, refl}
 use Rattle.std.specs.Prelude.{pos}
 use Rattle.byteorder.specs.Endian.{big_bytes}
 use Rattle.rio_format.specs.Written.{both, just}

@@ -1,4 +1,4 @@
-use Rattle.std.proofs.Common.{rules, ◌≡◌, ◌<◌, ◌^◌, ◌++◌, ℕ, List, IsTrue, SFits, w32, length, sym, subst}
+use Rattle.std.proofs.Common.{rules, ◌<◌, ◌^◌, ◌++◌, ℕ, List, IsTrue, SFits, w32, length, sym, subst}
 use Rattle.std.proofs.lemmas.Int.{to_z-of_z}
 use Rattle.rio_num.specs.Text.{text_bytes}
 use Rattle.rio_write.proofs.SinkLaws.{Taken, bytes_first_room, bytes_then, bytes_then_room, short_text}

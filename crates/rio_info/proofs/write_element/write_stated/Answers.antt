@@ -1,4 +1,4 @@
-use Rattle.std.proofs.Common.{◌≡◌, ◌++◌, ℕ, List, Ok, ap, refl}
+use Rattle.std.proofs.Common.{◌++◌, ℕ, List, Ok, ap, refl}
 use Rattle.std.specs.Prelude.{pos}
 use Rattle.byteorder.specs.Endian.{big_bytes}
 use Rattle.rio_num.specs.Text.{text_bytes}
