@@ -21,6 +21,6 @@ loop-value-preserved g c =
 pub returns : goal.returns
 returns g c =
     let vs = c.args.values.now in
-    let past : drop c.loop-value.value-index vs ≡ [] = drop_all vs c.loop-value.value-index c.loop-value-test.false in
+    let past : drop c.loop-value.value-index vs ≡ [] = drop_all c.loop-value.value-index vs c.loop-value-test.false in
     let none : flat_map (single_bytes c.args.of) (drop c.loop-value.value-index vs) ≡ [] = rw past refl in
     bytes_lead_end g.S.Sink.stands (flat_map (single_bytes c.args.of) vs) c.args.sink.now _ c.loop-value.sink none c.loop-value.invariant
