@@ -4,7 +4,7 @@ use Rattle.std.specs.List.{find, list_any}
 use Rattle.std.specs.Str.{bytes_eq}
 use Rattle.rio_num.specs.declared.no_memory.NoMemory.{NoMemory}
 use Rattle.rio_buffer.specs.ReaderState.{WordsMet}
-use Rattle.rio_buffer.specs.Writer.{Writer}
+use Rattle.rio_buffer.specs.Writer.{Writer, WriterState, next_place}
 
 pub record Measured : Type 0 where
   -- how many bytes are written so far, and one above the limit where they are more
@@ -39,3 +39,8 @@ Measures write (Err e) old new = Unit {0}
 
 abbrev pub nothing_measured : Measured
 nothing_measured = record { total = 0; names = [] }
+
+-- it counts the bytes of the state, and its names are those that stand there
+pub record CountsFor (m : Measured) (s : WriterState) : Type 0 where
+  pub total : m.total ≡ min (length s.bytes) too_long
+  pub follows : Follows m (next_place s) s.words
