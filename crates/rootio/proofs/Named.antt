@@ -11,7 +11,7 @@ use Rattle.rootio.specs.declared.words.Form.TheVariants.{Reads, Writes}
 use Rattle.rootio.specs.declared.words.Listing.TheVariants.{Dump, Scan}
 use Rattle.rootio.specs.declared.words.Work.{Work}
 use Rattle.rootio.specs.declared.words.Work.TheVariants.{Run}
-use Rattle.rootio.specs.Words.{asked_by, dump_of, form_of, is_file, is_no_flag, item_of, ls_of, run_of, scan_of_tree, scan_of_words, written_at}
+use Rattle.rootio.specs.Words.{asked_by, dump_of, form_of, is_file, is_no_flag, item_of, ls_of, run_of, scan_of_words, written_at}
 use Rattle.rootio.specs.Writing.{target_of}
 
 -- ---- choices

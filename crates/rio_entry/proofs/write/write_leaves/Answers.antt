@@ -1,4 +1,4 @@
-use Rattle.std.proofs.Common.{◌≡◌, ℕ, List, [], ◌++◌, true, Result, Ok, ◌∙◌, sym, ap, arith}
+use Rattle.std.proofs.Common.{◌≡◌, ℕ, List, [], true, Result, Ok, ◌∙◌, sym, ap, arith}
 use Rattle.rio_num.specs.Room.{Room}
 use Rattle.rio_leaf.specs.declared.branch.Shape.TheVariants.{Leaves}
 use Rattle.rio_entry.specs.Leaves.{leaves_bytes, leaves_fit}
