@@ -33,7 +33,8 @@ impl Total {
         self.bytes = self.bytes.saturating_add(n).min(LIMIT + 1);
     }
 
-    // The word that names a class, where these names are spelled out before.
+    // The word that names a class: it spells the class out where that is named for the first time, and refers to the earlier word
+    // else.
     fn add_class<'a>(&mut self, names: &mut Names<'a>, class: &'a [u8]) -> Result<(), NoMemory>
         ensures { Measures (class_bytes class.now) result
             (record { total = self.old.bytes; names = names.old })

@@ -10,7 +10,7 @@ use rio_buffer::{ObjWriter, Open};
 use rio_num::{Names, NoMemory};
 
 /// What takes what is written. With the names of classes that are spelled out so far, it stands for states
-/// of writing.
+/// of writing. What a sink promises is what its `stands` says.
 pub trait Sink {
     /// An object that was begun and not ended.
     type Begun: Drop;

@@ -21,7 +21,7 @@ fn host<'a, R: Files + Print>(
     Ok(FileHost::new(system, Name::from_slice(alloc, path)?, writes))
 }
 
-// How many calls a host makes before its own first call.
+// How many calls a host makes on its system before it is called itself.
 fn asked_by_a_new_host(alloc: Global) -> Result<usize, NoMemory> {
     let came = Cell::new(0);
     let system = ToldSystem::new(There::File, &[], &came);
