@@ -3,7 +3,7 @@ ghost use Rattle.std.specs.Prelude.{◌≡◌, ◌<◌, ◌^◌, length, min, If
 ghost use Rattle.std.specs.List.{flat_map};
 ghost use Rattle.rio_num.specs.Room.{room_of};
 ghost use Rattle.rio_write.specs.Measuring.{too_long};
-ghost use Rattle.rio_write.specs.Sinks.{Takes};
+ghost use Rattle.rio_write.specs.Sinks.{SinkTakes};
 ghost use Rattle.rio_entry.specs.Leaves.{leaves_bytes, single_bytes, value_bytes};
 
 use crate::leaf::letter_kind;
@@ -16,7 +16,7 @@ use rio_write::{Sink, Total, write_bool, write_prim};
 use std::alloc::Global;
 
 fn put_single<S: Sink>(sink: &mut S, of: Prim, value: &Value) -> Result<(), NoMemory>
-    ensures { Takes S.stands (single_bytes of value.now) result sink.old sink.new }
+    ensures { SinkTakes S.stands (single_bytes of value.now) result sink.old sink.new }
 {
     match value {
         Value::Int(n) => write_prim(sink, *n, of),
@@ -28,7 +28,7 @@ fn put_single<S: Sink>(sink: &mut S, of: Prim, value: &Value) -> Result<(), NoMe
 }
 
 fn put_list<S: Sink>(sink: &mut S, of: Prim, values: &[Value]) -> Result<(), NoMemory>
-    ensures { Takes S.stands (flat_map (single_bytes of) values.now) result sink.old sink.new }
+    ensures { SinkTakes S.stands (flat_map (single_bytes of) values.now) result sink.old sink.new }
 {
     for value in values {
         put_single(sink, of, value)?;
@@ -39,7 +39,7 @@ fn put_list<S: Sink>(sink: &mut S, of: Prim, values: &[Value]) -> Result<(), NoM
 // A value of a leaf, by the kind of its single values; without one it is a text.
 fn put_value<S: Sink>(sink: &mut S, of: Option<Prim>, value: &Value) -> Result<(), NoMemory>
     requires { IsTrue S.bounded → length (value_bytes of value.now) < 2 ^ 32 }
-    ensures { Takes S.stands (value_bytes of value.now) result sink.old sink.new }
+    ensures { SinkTakes S.stands (value_bytes of value.now) result sink.old sink.new }
 {
     match of {
         Some(of) => match value {
@@ -57,7 +57,7 @@ fn put_value<S: Sink>(sink: &mut S, of: Option<Prim>, value: &Value) -> Result<(
 fn put_leaves<S: Sink>(sink: &mut S, leaves: &[Leaf], row: &[Value]) -> Result<(), NoMemory>
     requires one_each { length leaves.now ≡ length row.now }
     requires short { IsTrue S.bounded → length (leaves_bytes leaves.now row.now) < 2 ^ 32 }
-    ensures { Takes S.stands (leaves_bytes leaves.now row.now) result sink.old sink.new }
+    ensures { SinkTakes S.stands (leaves_bytes leaves.now row.now) result sink.old sink.new }
 {
     for (k, leaf) in leaves.iter().enumerate() {
         put_value(sink, letter_kind(leaf.letter), &row[k])?;

@@ -1,7 +1,7 @@
 //! Class lists, as they go into a sink.
 ghost use Rattle.std.specs.Prelude.{◌++◌};
 ghost use Rattle.rio_format.specs.Lists.{listed};
-ghost use Rattle.rio_write.specs.Sinks.{Accepts, RoomFor, Takes};
+ghost use Rattle.rio_write.specs.Sinks.{Accepts, RoomFor, SinkTakes};
 ghost use Rattle.rio_info.specs.WrittenParts.{classes_items, list_front, list_writer};
 
 use crate::write_class::{write_class, write_classes};
@@ -14,7 +14,7 @@ use rio_write::{Sink, write_count};
 
 // What stands before the items in the TList.
 fn write_list_head<S: Sink>(sink: &mut S, count: usize) -> Result<(), NoMemory>
-    ensures { Takes S.stands (list_front count) result sink.old sink.new }
+    ensures { SinkTakes S.stands (list_front count) result sink.old sink.new }
 {
     write_plain(sink)?;
     sink.take_text(b"")?;

@@ -2,7 +2,7 @@
 ghost use Rattle.std.specs.Prelude.{◌+◌, length};
 ghost use Rattle.rio_format.specs.Slots.{link};
 ghost use Rattle.rio_format.specs.Lists.{listed};
-ghost use Rattle.rio_write.specs.Sinks.{Accepts, RoomFor, RoomForBytes, Takes};
+ghost use Rattle.rio_write.specs.Sinks.{Accepts, RoomFor, RoomForBytes, SinkTakes};
 ghost use Rattle.rio_info.specs.WrittenParts.{array_front, array_writer, bases_items, class_front, class_writing, classes_items, elements_items, elements_writer, info_writer, members_items};
 
 use crate::write_element::{write_element, write_named, write_number, write_plain};
@@ -61,7 +61,7 @@ fn write_elements<'a, 'c, S: Sink>(
 
 // What stands before the elements in their TObjArray.
 fn write_array_head<S: Sink>(sink: &mut S, class: &ClassDef) -> Result<(), NoMemory>
-    ensures { Takes S.stands (array_front (length class.now.bases + length class.now.members))
+    ensures { SinkTakes S.stands (array_front (length class.now.bases + length class.now.members))
         result sink.old sink.new }
 {
     let count = class.bases.as_slice().len() + class.members.as_slice().len();
@@ -111,7 +111,7 @@ fn write_array_pointer<'a, 'c, S: Sink>(
 // The name, the checksum and the version of the class.
 fn write_info_head<S: Sink>(sink: &mut S, class: &ClassDef) -> Result<(), NoMemory>
     requires { RoomForBytes S.stands S.bounded (class_front class.now) sink.old }
-    ensures { Takes S.stands (class_front class.now) result sink.old sink.new }
+    ensures { SinkTakes S.stands (class_front class.now) result sink.old sink.new }
 {
     write_named(sink, class.name.as_slice())?;
     sink.take_u32(class.sum)?;

@@ -2,7 +2,7 @@
 ghost use Rattle.std.specs.Prelude.{◌<◌, ◌^◌, ◌++◌, length, IsTrue};
 ghost use Rattle.rio_num.specs.Text.{text_bytes};
 ghost use Rattle.rio_format.specs.Slots.{any_pointer};
-ghost use Rattle.rio_write.specs.Sinks.{Accepts, RoomFor, RoomForBytes, Takes};
+ghost use Rattle.rio_write.specs.Sinks.{Accepts, RoomFor, RoomForBytes, SinkTakes};
 ghost use Rattle.rio_info.specs.WrittenParts.{counted_added, element_numbers, element_writing, four_bytes, index_bytes, length_bytes, named_bytes, own_bytes, plain_bytes, stated_bytes};
 
 use rio_describe::{Element, ElementClass, TypeName};
@@ -12,7 +12,7 @@ use rio_write::{Sink, write_count};
 
 /// A TObject without flags.
 pub(crate) fn write_plain<S: Sink>(sink: &mut S) -> Result<(), NoMemory>
-    ensures { Takes S.stands plain_bytes result sink.old sink.new }
+    ensures { SinkTakes S.stands plain_bytes result sink.old sink.new }
 {
     sink.take_u16(1)?;
     sink.take_u32(0)?;
@@ -22,7 +22,7 @@ pub(crate) fn write_plain<S: Sink>(sink: &mut S) -> Result<(), NoMemory>
 /// A TNamed without a title.
 pub(crate) fn write_named<S: Sink>(sink: &mut S, name: &[u8]) -> Result<(), NoMemory>
     requires { RoomForBytes S.stands S.bounded (named_bytes name.now) sink.old }
-    ensures { Takes S.stands (named_bytes name.now) result sink.old sink.new }
+    ensures { SinkTakes S.stands (named_bytes name.now) result sink.old sink.new }
 {
     let begun = sink.take_header(1)?;
     write_plain(sink)?;
@@ -34,14 +34,14 @@ pub(crate) fn write_named<S: Sink>(sink: &mut S, name: &[u8]) -> Result<(), NoMe
 
 /// An i32.
 pub(crate) fn write_number<S: Sink>(sink: &mut S, number: i32) -> Result<(), NoMemory>
-    ensures { Takes S.stands (four_bytes number) result sink.old sink.new }
+    ensures { SinkTakes S.stands (four_bytes number) result sink.old sink.new }
 {
     sink.take_u32(number.cast_unsigned())
 }
 
 // The greatest index in each of five dimensions, of which there is one at most.
 fn write_indices<S: Sink>(sink: &mut S, count: u32) -> Result<(), NoMemory>
-    ensures { Takes S.stands (index_bytes count) result sink.old sink.new }
+    ensures { SinkTakes S.stands (index_bytes count) result sink.old sink.new }
 {
     sink.take_u32(count)?;
     sink.take_u32(0)?;
@@ -52,7 +52,7 @@ fn write_indices<S: Sink>(sink: &mut S, count: u32) -> Result<(), NoMemory>
 
 // The code, the size, and how many values there are in which dimensions.
 fn write_numbers<S: Sink>(sink: &mut S, element: &Element) -> Result<(), NoMemory>
-    ensures { Takes S.stands (element_numbers element.now) result sink.old sink.new }
+    ensures { SinkTakes S.stands (element_numbers element.now) result sink.old sink.new }
 {
     let count = element.array.unwrap_or(0);
     write_number(sink, element.code)?;
@@ -64,7 +64,7 @@ fn write_numbers<S: Sink>(sink: &mut S, element: &Element) -> Result<(), NoMemor
 
 // The length of a text, in one byte or in five.
 fn write_text_length<S: Sink>(sink: &mut S, len: usize) -> Result<(), NoMemory>
-    ensures { Takes S.stands (length_bytes len) result sink.old sink.new }
+    ensures { SinkTakes S.stands (length_bytes len) result sink.old sink.new }
 {
     if len < 255 {
         return sink.take_u8(len as u8);
@@ -75,7 +75,7 @@ fn write_text_length<S: Sink>(sink: &mut S, len: usize) -> Result<(), NoMemory>
 
 // A text of two parts.
 fn write_joined<S: Sink>(sink: &mut S, front: &[u8], back: &[u8]) -> Result<(), NoMemory>
-    ensures { Takes S.stands (text_bytes (front.now ++ back.now)) result sink.old sink.new }
+    ensures { SinkTakes S.stands (text_bytes (front.now ++ back.now)) result sink.old sink.new }
 {
     write_text_length(sink, front.len() + back.len())?;
     sink.take_bytes(front)?;
@@ -85,7 +85,7 @@ fn write_joined<S: Sink>(sink: &mut S, front: &[u8], back: &[u8]) -> Result<(), 
 // The name of the element's type.
 fn write_type<S: Sink>(sink: &mut S, type_name: &TypeName) -> Result<(), NoMemory>
     requires { IsTrue S.bounded → length type_name.now < 2 ^ 32 }
-    ensures { Takes S.stands (text_bytes type_name.now) result sink.old sink.new }
+    ensures { SinkTakes S.stands (text_bytes type_name.now) result sink.old sink.new }
 {
     if type_name.is_pointer {
         return write_joined(sink, type_name.name, b"*");
@@ -96,7 +96,7 @@ fn write_type<S: Sink>(sink: &mut S, type_name: &TypeName) -> Result<(), NoMemor
 // What the element says as a TStreamerElement.
 fn write_stated<S: Sink>(sink: &mut S, element: &Element) -> Result<(), NoMemory>
     requires { RoomForBytes S.stands S.bounded (stated_bytes element.now) sink.old }
-    ensures { Takes S.stands (stated_bytes element.now) result sink.old sink.new }
+    ensures { SinkTakes S.stands (stated_bytes element.now) result sink.old sink.new }
 {
     let begun = sink.take_header(4)?;
     write_named(sink, element.name)?;
@@ -109,7 +109,7 @@ fn write_stated<S: Sink>(sink: &mut S, element: &Element) -> Result<(), NoMemory
 // What the class of a counted array adds.
 fn write_counted<S: Sink>(sink: &mut S, owner: &ClassDef, counter: &[u8]) -> Result<(), NoMemory>
     requires { RoomForBytes S.stands S.bounded (counted_added owner.now counter.now) sink.old }
-    ensures { Takes S.stands (counted_added owner.now counter.now) result sink.old sink.new }
+    ensures { SinkTakes S.stands (counted_added owner.now counter.now) result sink.old sink.new }
 {
     write_number(sink, owner.version)?;
     sink.take_text(counter)?;
@@ -119,7 +119,7 @@ fn write_counted<S: Sink>(sink: &mut S, owner: &ClassDef, counter: &[u8]) -> Res
 // What the class of an element adds.
 fn write_own<S: Sink>(sink: &mut S, class: ElementClass) -> Result<(), NoMemory>
     requires { RoomForBytes S.stands S.bounded (own_bytes class) sink.old }
-    ensures { Takes S.stands (own_bytes class.entry) result sink.old sink.new }
+    ensures { SinkTakes S.stands (own_bytes class.entry) result sink.old sink.new }
 {
     match class {
         ElementClass::Base { version } => write_number(sink, version),

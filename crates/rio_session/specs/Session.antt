@@ -22,7 +22,7 @@ use Rattle.rio_state.specs.DirectoryKeys.{AreKeysOf}
 use Rattle.rio_state.specs.KeyedRecords.{info_key, keyed_records}
 use Rattle.rio_state.specs.Left.{HasOpenHead, IsLeftAs, IsMarkedOpen, info_head}
 use Rattle.rio_state.specs.Reads.{AreRecordsOf}
-use Rattle.rio_session.specs.Marks.{mark_of, segments_behind}
+use Rattle.rio_session.specs.Marks.{mark_of_command, segments_behind}
 
 -- ---- what a session keeps
 
@@ -101,7 +101,7 @@ Steps m next text image said =
 
 -- the command's step, with its mark
 abbrev pub next_of : SessionState → State → Command → Stepped
-next_of s m c = step m c (mark_of s.name s.segments m c)
+next_of s m c = step m c (mark_of_command s.name s.segments m c)
 
 -- What a session keeps follows a command: the command's records stand where the rule places them, and its cost was counted, as far
 -- as 64 bits hold the costs.

@@ -5,8 +5,8 @@ use Rattle.byteorder.specs.Endian.{big_bytes}
 use Rattle.rio_num.specs.declared.no_memory.NoMemory.{NoMemory}
 use Rattle.rio_buffer.specs.ReaderState.{no_words, with_label}
 use Rattle.rio_buffer.specs.Writer.{Writer, WriterState, begun, begun_pointer, class_bytes, counted_from, ended, next_place, nothing_written, with_count}
-use Rattle.rio_format.specs.Written.{back_bytes, just}
-use Rattle.rio_write.specs.Measuring.{CountsFor, Follows, Grows, Measured, Measures, longer, nothing_measured, too_long}
+use Rattle.rio_format.specs.Written.{just, reference_bytes}
+use Rattle.rio_write.specs.Measuring.{CountsFor, FollowsWords, Grows, Measured, Measures, longer, nothing_measured, too_long}
 use Rattle.rio_write.specs.Sinks.{Accepted, Closes, Opened, OpensIn}
 use Rattle.rio_write.specs.Writing.{with_written}
 use Rattle.rio_write.proofs.MeasureLaws.{back_grows, below_more, follows_on, just_grows}
@@ -32,8 +32,8 @@ module _ (names : List (List ℕ)) (t t' : ℕ) where
   pub bytes_counted : (bytes : List ℕ) → t' ≡ min (t + length bytes) too_long → Accepted CountsFor (just bytes) (measured names t) (measured names t')
   bytes_counted bytes more = grown_counts (just bytes) (measured names t) (measured names t') (just_grows bytes (measured names t) (measured names t') (ap (measured names) more))
 
-  pub back_counted : (label : ℕ) → t' ≡ min (t + 4) too_long → Accepted CountsFor (back_bytes label) (measured names t) (measured names t')
-  back_counted label more = grown_counts (back_bytes label) (measured names t) (measured names t') (back_grows label (measured names t) (measured names t') (ap (measured names) more))
+  pub back_counted : (label : ℕ) → t' ≡ min (t + 4) too_long → Accepted CountsFor (reference_bytes label) (measured names t) (measured names t')
+  back_counted label more = grown_counts (reference_bytes label) (measured names t) (measured names t') (back_grows label (measured names t) (measured names t') (ap (measured names) more))
 
   pub header_counted : (version : ℕ) → t' ≡ min (t + 6) too_long → Opened CountsFor false (begun (big_bytes 2 version)) 0 (measured names t) (measured names t')
   unfolding Accepted Opened with_written
@@ -55,12 +55,12 @@ module _ (class : List ℕ) (m0 m1 m2 : Measured) (e : m1 ≡ longer 4 m0) where
   unfolding Grows Opened
   pointer_counted w = λ s counts.
       let p = next_place s in
-      let first : Follows (longer 4 m0) (p + 4) s.words = record { names = counts.follows.names; below = below_more p (p + 4) s.words.names (omega arith) counts.follows.below; small = omega arith } in
+      let first : FollowsWords (longer 4 m0) (p + 4) s.words = record { names = counts.follows.names; below = below_more p (p + 4) s.words.names (omega arith) counts.follows.below; small = omega arith } in
       let a = class_bytes class (p + 4) s.words in
-      let two = w (p + 4) s.words (subst (λ (m : Measured). Follows m (p + 4) s.words) (sym e) first) in
+      let two = w (p + 4) s.words (subst (λ (m : Measured). FollowsWords m (p + 4) s.words) (sym e) first) in
       let total = ap (λ (m : Measured). m.total) e in
       let len = length-append s.bytes (big_bytes 4 0 ++ a.0) in
-      let labelled : Follows m2 (p + 4 + length a.0) (with_label a.1 p) = record { names = two.1.names; below = two.1.below; small = two.1.small } in (
+      let labelled : FollowsWords m2 (p + 4 + length a.0) (with_label a.1 p) = record { names = two.1.names; below = two.1.below; small = two.1.small } in (
         record { total = omega (arith, two.0, counts.total, total, len); follows = follows_on m2 (p + 4 + length a.0) (next_place (begun_pointer class s)) (with_label a.1 p) (omega (arith, len)) labelled },
         λ never. absurd cc,
       )

@@ -8,8 +8,8 @@ use Rattle.byteorder.specs.Endian.{big_bytes}
 use Rattle.indexmap.specs.IndexMap.{insert_entry}
 use Rattle.rio_buffer.specs.ReaderState.{WordsMet}
 use Rattle.rio_buffer.specs.Writer.{class_by, class_bytes}
-use Rattle.rio_format.specs.Written.{back_bytes, just}
-use Rattle.rio_write.specs.Measuring.{AreBelow, Follows, Grows, Measured, longer, too_long}
+use Rattle.rio_format.specs.Written.{just, reference_bytes}
+use Rattle.rio_write.specs.Measuring.{AreBelow, FollowsWords, Grows, Measured, longer, too_long}
 
 -- ---- places
 
@@ -23,7 +23,7 @@ below_push p q name (e ∷ es) lt h =
     let ne : eqb p e.0 ≡ false = ne_eqb _ _ (omega (arith, h.0)) in
     rw ne (omega (arith, lt, h.0), below_push p q name es lt h.1)
 
-pub follows_on : (m : Measured) (p q : ℕ) (t : WordsMet) → p ≤ q → Follows m p t → Follows m q t
+pub follows_on : (m : Measured) (p q : ℕ) (t : WordsMet) → p ≤ q → FollowsWords m p t → FollowsWords m q t
 follows_on m p q t le f = record { names = f.names; below = below_more p q t.names le f.below; small = f.small }
 
 -- ---- single things
@@ -38,12 +38,12 @@ module _ (bytes : List ℕ) (old : Measured) where
 
 -- a reference has four bytes, whatever it refers to
 module _ (label : ℕ) (old : Measured) where
-  referred : Grows (back_bytes label) old (longer 4 old)
+  referred : Grows (reference_bytes label) old (longer 4 old)
   unfolding Grows
   referred = λ p t f. (refl, record { names = f.names; below = below_more p (p + 4) t.names (omega arith) f.below; small = omega arith })
 
-  pub back_grows : (new : Measured) → new ≡ longer 4 old → Grows (back_bytes label) old new
-  back_grows new e = subst (Grows (back_bytes label) old) (sym e) referred
+  pub back_grows : (new : Measured) → new ≡ longer 4 old → Grows (reference_bytes label) old new
+  back_grows new e = subst (Grows (reference_bytes label) old) (sym e) referred
 
 -- ---- class words
 
@@ -69,10 +69,10 @@ module _ (class : List ℕ) where
       by false ih = ih
 
   GrowsAt : Measured → Measured → ℕ → WordsMet → List ℕ × WordsMet → Type 0
-  GrowsAt old new p t a = (new.total ≡ min (old.total + length a.0) too_long) × Follows new (p + length a.0) a.1
+  GrowsAt old new p t a = (new.total ≡ min (old.total + length a.0) too_long) × FollowsWords new (p + length a.0) a.1
 
   module _ (old : Measured) where
-    known_at : (p : ℕ) (t : WordsMet) (o : Option (ℕ × List ℕ)) → true ≡ is_some o → Follows old p t → GrowsAt old (longer 4 old) p t (class_by class o p t)
+    known_at : (p : ℕ) (t : WordsMet) (o : Option (ℕ × List ℕ)) → true ≡ is_some o → FollowsWords old p t → GrowsAt old (longer 4 old) p t (class_by class o p t)
     unfolding GrowsAt
     known_at p t None e f = absurd cc
     known_at p t (Some x) e f = (refl, record { names = f.names; below = below_more p (p + 4) t.names (omega arith) f.below; small = omega arith })
@@ -82,7 +82,7 @@ module _ (class : List ℕ) where
     known_grows new known e = subst (Grows (class_bytes class) old) (sym e) (λ p t f. known_at p t (find (λ e. bytes_eq e.1 class) t.names) (sym known ∙ f.names class) f)
 
     module _ (new : Measured) (total : new.total ≡ min (old.total + (length class + 5)) too_long) (more : (other : List ℕ) → list_any (bytes_eq other) new.names ≡ (bytes_eq class other || list_any (bytes_eq other) old.names)) where
-      new_at : (p : ℕ) (t : WordsMet) (o : Option (ℕ × List ℕ)) → false ≡ is_some o → Follows old p t → GrowsAt old new p t (class_by class o p t)
+      new_at : (p : ℕ) (t : WordsMet) (o : Option (ℕ × List ℕ)) → false ≡ is_some o → FollowsWords old p t → GrowsAt old new p t (class_by class o p t)
       unfolding GrowsAt
       new_at p t None e f =
           let len = length-append class (0 ∷ []) in (

@@ -7,7 +7,7 @@ use Rattle.byteorder.specs.Endian.{big_bytes}
 use Rattle.rio_num.specs.declared.no_memory.NoMemory.{NoMemory}
 use Rattle.rio_buffer.specs.ReaderState.{no_words}
 use Rattle.rio_buffer.specs.Writer.{Begins, Puts, Writer, WriterState, ended, innermost, nothing_written}
-use Rattle.rio_format.specs.Written.{back_bytes, just}
+use Rattle.rio_format.specs.Written.{just, reference_bytes}
 use Rattle.rio_write.specs.Sinks.{Accepted, Accepts, Closes, Opened, OpensIn, StandsWithin}
 use Rattle.rio_write.specs.Writing.{Writes, with_written}
 use Rattle.rio_write.proofs.WriteLaws.{first_written, just_writes}
@@ -25,9 +25,9 @@ module _ (old new : WriterState) (names names' : List (List ℕ)) where
   put_accepted bytes r put = written_accepted (just bytes) r (just_writes bytes old new r put)
 
   -- a reference to the place of the label
-  pub back_accepted : (label : ℕ) (r : Result (Unit {0}) NoMemory) → Puts (big_bytes 4 (slice_index old.words.labels label + 2)) r old new → Accepts is_state (back_bytes label) r (old, names) (new, names')
+  pub back_accepted : (label : ℕ) (r : Result (Unit {0}) NoMemory) → Puts (big_bytes 4 (slice_index old.words.labels label + 2)) r old new → Accepts is_state (reference_bytes label) r (old, names) (new, names')
   unfolding with_written
-  back_accepted label (Ok x) put = written_accepted (back_bytes label) (Ok x) put
+  back_accepted label (Ok x) put = written_accepted (reference_bytes label) (Ok x) put
   back_accepted label (Err x) put = tt
 
   pub begun_opens : (begin : WriterState → WriterState) (r : Result ℕ NoMemory) → Begins begin r old new → OpensIn is_state true (λ (n : ℕ). n) begin r (old, names) (new, names')

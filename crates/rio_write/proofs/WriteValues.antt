@@ -8,7 +8,7 @@ use Rattle.rio_value.specs.declared.value.Value.TheFolds.{fold-Part, fold_out-Pa
 use Rattle.rio_value.specs.declared.value.Part.{Part}
 use Rattle.rio_format.specs.Bodies.{form_of}
 use Rattle.rio_format.specs.Slots.{Slot}
-use Rattle.rio_format.specs.Written.{Writing, back_bytes, form_bytes, int_bytes, just, truth_byte, writing_of, writing_step}
+use Rattle.rio_format.specs.Written.{Writing, form_bytes, int_bytes, just, reference_bytes, truth_byte, writing_of, writing_step}
 use Rattle.rio_format.proofs.ValueCases.{fold_Int, fold_Bits32, fold_Bits64, fold_Bool, fold_Text, fold_Null, fold_Back, fold_Object, fold_Opaque}
 use Rattle.rio_write.specs.Writing.{part_writing}
 
@@ -31,7 +31,7 @@ module _ (classes : List ClassDef) (slot : Slot) where
   pub null_is : (writing_of classes Null).bytes slot ≡ just (big_bytes 4 0)
   null_is = ap (λ (w : Writing). w.bytes slot) (fold_Null (writing_step classes) (λ p. p.value))
 
-  pub back_is : (label : ℕ) → (writing_of classes (Back label)).bytes slot ≡ back_bytes label
+  pub back_is : (label : ℕ) → (writing_of classes (Back label)).bytes slot ≡ reference_bytes label
   back_is label = ap (λ (w : Writing). w.bytes slot) (fold_Back (writing_step classes) (λ p. p.value) label)
 
   pub opaque_is : (class : List ℕ) (len : ℕ) → (writing_of classes (Opaque class len)).bytes slot ≡ just []

@@ -5,7 +5,7 @@ ghost use Rattle.byteorder.specs.Endian.{big_bytes};
 ghost use Rattle.rio_format.specs.Slots.{kinded};
 ghost use Rattle.rio_format.specs.Written.{int_bytes, truth_byte};
 ghost use Rattle.rio_types.specs.declared.kind.Kind.TheVariants.{Plain};
-ghost use Rattle.rio_write.specs.Sinks.{Takes};
+ghost use Rattle.rio_write.specs.Sinks.{SinkTakes};
 ghost use Rattle.rio_write.specs.Writing.{bits_within};
 
 use crate::sink::Sink;
@@ -52,7 +52,7 @@ fn bits_64(n: i128) -> u64
 
 /// A number of this kind, by its lowest bits.
 pub fn write_prim<S: Sink>(sink: &mut S, n: i128, of: Prim) -> Result<(), NoMemory>
-    ensures { Takes S.stands (int_bytes n (kinded (Plain of))) result sink.old sink.new }
+    ensures { SinkTakes S.stands (int_bytes n (kinded (Plain of))) result sink.old sink.new }
 {
     match of {
         Prim::I8 | Prim::U8 | Prim::Bool => sink.take_u8(bits_8(n)),
@@ -65,7 +65,7 @@ pub fn write_prim<S: Sink>(sink: &mut S, n: i128, of: Prim) -> Result<(), NoMemo
 /// A number, as it stands in the slot.
 #[tactic(auto, using(crate::proofs::SinkLaws::nothing_accepted))]
 pub(crate) fn write_int<S: Sink>(sink: &mut S, n: i128, slot: &Slot) -> Result<(), NoMemory>
-    ensures { Takes S.stands (int_bytes n slot.now) result sink.old sink.new }
+    ensures { SinkTakes S.stands (int_bytes n slot.now) result sink.old sink.new }
 {
     match slot.0 {
         SlotKind::Plain(of) => write_prim(sink, n, of),
@@ -77,14 +77,14 @@ pub(crate) fn write_int<S: Sink>(sink: &mut S, n: i128, slot: &Slot) -> Result<(
 
 /// A byte that is 1 or 0.
 pub fn write_bool<S: Sink>(sink: &mut S, b: bool) -> Result<(), NoMemory>
-    ensures { Takes S.stands (truth_byte b ∷ []) result sink.old sink.new }
+    ensures { SinkTakes S.stands (truth_byte b ∷ []) result sink.old sink.new }
 {
     sink.take_u8(u8::from(b))
 }
 
 /// A count of items, by its lowest 32 bits.
 pub fn write_count<S: Sink>(sink: &mut S, count: usize) -> Result<(), NoMemory>
-    ensures { Takes S.stands (big_bytes 4 count) result sink.old sink.new }
+    ensures { SinkTakes S.stands (big_bytes 4 count) result sink.old sink.new }
 {
     sink.take_u32(bits_32(count as i128))
 }

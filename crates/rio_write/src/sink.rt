@@ -2,9 +2,9 @@
 ghost use Rattle.std.specs.Prelude.{◌<◌, ◌^◌, ℕ, List, [], ◌∷◌, length, Bool, IsTrue, true};
 ghost use Rattle.byteorder.specs.Endian.{big_bytes};
 ghost use Rattle.rio_buffer.specs.Writer.{WriterState, begun, begun_pointer};
-ghost use Rattle.rio_format.specs.Written.{back_bytes};
+ghost use Rattle.rio_format.specs.Written.{reference_bytes};
 ghost use Rattle.rio_num.specs.Text.{text_bytes};
-ghost use Rattle.rio_write.specs.Sinks.{Accepts, CanClose, CanPoint, Closes, OpensIn, StandsWithin, Takes};
+ghost use Rattle.rio_write.specs.Sinks.{Accepts, CanClose, CanPoint, Closes, OpensIn, SinkTakes, StandsWithin};
 
 use rio_buffer::{ObjWriter, Open};
 use rio_num::{Names, NoMemory};
@@ -26,32 +26,32 @@ pub trait Sink {
 
     /// Takes a byte.
     fn take_u8(&mut self, n: u8) -> Result<(), NoMemory>
-        ensures { Takes stands (big_bytes 1 n) result self.old self.new };
+        ensures { SinkTakes stands (big_bytes 1 n) result self.old self.new };
 
     /// Takes a number, in big-endian order.
     fn take_u16(&mut self, n: u16) -> Result<(), NoMemory>
-        ensures { Takes stands (big_bytes 2 n) result self.old self.new };
+        ensures { SinkTakes stands (big_bytes 2 n) result self.old self.new };
 
     /// Takes a number, in big-endian order.
     fn take_u32(&mut self, n: u32) -> Result<(), NoMemory>
-        ensures { Takes stands (big_bytes 4 n) result self.old self.new };
+        ensures { SinkTakes stands (big_bytes 4 n) result self.old self.new };
 
     /// Takes a number, in big-endian order.
     fn take_u64(&mut self, n: u64) -> Result<(), NoMemory>
-        ensures { Takes stands (big_bytes 8 n) result self.old self.new };
+        ensures { SinkTakes stands (big_bytes 8 n) result self.old self.new };
 
     /// Takes these bytes.
     fn take_bytes(&mut self, bytes: &[u8]) -> Result<(), NoMemory>
-        ensures { Takes stands bytes.now result self.old self.new };
+        ensures { SinkTakes stands bytes.now result self.old self.new };
 
     /// Takes a text: its length, and its bytes.
     fn take_text(&mut self, text: &[u8]) -> Result<(), NoMemory>
         requires { IsTrue bounded → length text.now < 2 ^ 32 }
-        ensures { Takes stands (text_bytes text.now) result self.old self.new };
+        ensures { SinkTakes stands (text_bytes text.now) result self.old self.new };
 
     /// Takes a reference to the earlier object of the label.
     fn take_back(&mut self, label: u32) -> Result<(), NoMemory>
-        ensures { (names : List (List ℕ)) → Accepts stands (back_bytes label) result
+        ensures { (names : List (List ℕ)) → Accepts stands (reference_bytes label) result
             (self.old, names) (self.new, names) };
 
     /// Takes the header of an object of a class in this version, whose count is open.

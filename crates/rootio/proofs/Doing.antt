@@ -21,7 +21,7 @@ use Rattle.rio_state.specs.Left.{IsLeftAs}
 use Rattle.rio_step.specs.Costs.{HasFileRoom, cost_of}
 use Rattle.rio_session.specs.Behind.{SaysPart}
 use Rattle.rio_session.specs.Causes.{IsCloseCause, IsSaid, IsSessionCause, NoCountRose, SaysNothing}
-use Rattle.rio_session.specs.Marks.{mark_of, marks_of_run, segments_behind}
+use Rattle.rio_session.specs.Marks.{mark_of_command, marks_of_run, segments_behind}
 use Rattle.rio_session.specs.Session.{IsOpenAs, IsReady, LacksRoomIfFull, LeavesOpenAs, SessionState, StandsFor, Steps, Went, next_of, with_cost}
 use Rattle.rio_session.specs.declared.fault.SessionFault.{SessionFault}
 use Rattle.rio_session.specs.declared.fault.SessionFault.TheVariants.{HostFault, SayFault, NoMemory}
@@ -47,12 +47,12 @@ commands_left r k c next =
     drop-cons r.commands k Ls next.within ∙ ap (λ x. x ∷ drop (suc k) r.commands) next.is ∙ ap (λ n. c ∷ drop n r.commands) e
 
 first_marked : (name : List ℕ) (segments : List Segment) (m : State) (c : Command) (cs : List Command)
-    → first_mark (marks_of_run name segments m (c ∷ cs)) ≡ mark_of name segments m c
+    → first_mark (marks_of_run name segments m (c ∷ cs)) ≡ mark_of_command name segments m c
 unfolding marks_of_run
 first_marked name segments m c cs = refl
 
 later_marked : (name : List ℕ) (segments : List Segment) (m : State) (c : Command) (cs : List Command)
-    → drop 1 (marks_of_run name segments m (c ∷ cs)) ≡ marks_of_run name (segments_behind name segments m c) (step m c (mark_of name segments m c)).state cs
+    → drop 1 (marks_of_run name segments m (c ∷ cs)) ≡ marks_of_run name (segments_behind name segments m c) (step m c (mark_of_command name segments m c)).state cs
 unfolding marks_of_run
 later_marked name segments m c cs = refl
 
@@ -60,11 +60,11 @@ module _ (name : List ℕ) (segments : List Segment) (r : ScriptRun) (k : ℕ) (
   marks_are : drop k r.marks ≡ marks_of_run name segments (behind r k) (c ∷ drop (k + 1) r.commands)
   marks_are = left.are ∙ ap (λ cs. marks_of_run name segments (behind r k) cs) (commands_left r k c next)
 
-  mark_is : first_mark (drop k r.marks) ≡ mark_of name segments (behind r k) c
+  mark_is : first_mark (drop k r.marks) ≡ mark_of_command name segments (behind r k) c
   mark_is = ap first_mark marks_are ∙ first_marked name segments (behind r k) c (drop (k + 1) r.commands)
 
   -- the next step is that of the rule of marks
-  pub step_is : step_at r k c ≡ step (behind r k) c (mark_of name segments (behind r k) c)
+  pub step_is : step_at r k c ≡ step (behind r k) c (mark_of_command name segments (behind r k) c)
   step_is = ap (λ mark. step (behind r k) c mark) mark_is
 
   pub marks_next : MarksLeft name (segments_behind name segments (behind r k) c) r (k + 1)

@@ -22,10 +22,10 @@ use Rattle.rio_session.specs.declared.fault.SessionFault.{SessionFault}
 use Rattle.rio_session.specs.declared.fault.SessionFault.TheVariants.{HostFault, SayFault as NotSaid, NoMemory as OutOfMemory}
 use Rattle.rootio.specs.Causes.{IsCause}
 use Rattle.rootio.specs.Input.{RefusesTooLong, TellsTooLong}
-use Rattle.rootio.specs.Headline.{AllFindRoom, IsDone, IsStopOf, SaidFindRoom, ScriptRun, all_replies, end_state, opening_length}
+use Rattle.rootio.specs.Headline.{AllFindRoom, IsRunDone, IsStopOf, SaidFindRoom, ScriptRun, all_replies, end_state, opening_length}
 use Rattle.rootio.specs.Reading.{RefusesBroken, TellsFirstFault}
 use Rattle.rootio.specs.Target.{TargetFile}
-use Rattle.rootio.specs.Writing.{Begins, EndsUnclosed, EndsWriting, LeavesOpen, RefusesReadOnly, SparesRefused, StandsUnsaid, TellsFirstReason, run_of_work}
+use Rattle.rootio.specs.Writing.{BeginsRun, EndsUnclosed, EndsWriting, LeavesOpen, RefusesReadOnly, SparesRefused, StandsUnsaid, TellsFirstReason, run_of_work}
 use Rattle.rootio.specs.declared.status.Status.{Status}
 use Rattle.rootio.specs.declared.status.Status.TheVariants.{Done, Usage, BadFile, DiskFault, InputFault, NoMemory, InputTooLong, ReadOnly, SayFault}
 use Rattle.rootio.specs.declared.words.Form.TheVariants.{Writes}
@@ -87,17 +87,17 @@ IsFileCause old new SayFault = NoDiskFault old new × Rose old.say_faults new.sa
 
 -- How a run of a script ends: at any stop it leaves a prefix, and at its end all; a refused file is told and spared.
 pub record RunsScript (target : TargetFile) (script : List ℕ) (old new : View) (status : Status) : Type 0 where
-  pub stops : (file text : List ℕ) (m : State) → Begins old file text m
+  pub stops : (file text : List ℕ) (m : State) → BeginsRun old file text m
       → Elapses old new (IsStopOf (run_of_work (Run target) script m) file text)
-  pub said : (file text : List ℕ) (m : State) → Begins old file text m
+  pub said : (file text : List ℕ) (m : State) → BeginsRun old file text m
       → SaysPart new text (all_replies (run_of_work (Run target) script m))
-  pub room : (file text : List ℕ) (m : State) → Begins old file text m
+  pub room : (file text : List ℕ) (m : State) → BeginsRun old file text m
       → let r = run_of_work (Run target) script m in HasFileRoom (opening_length file) m r.commands r.marks → SaidFindRoom r text new
-  pub done : (file text : List ℕ) (m : State) → Begins old file text m
-      → status ≡ Done → IsDone (run_of_work (Run target) script m) file text new
-  pub written : (file text : List ℕ) (m : State) → Begins old file text m
+  pub done : (file text : List ℕ) (m : State) → BeginsRun old file text m
+      → status ≡ Done → IsRunDone (run_of_work (Run target) script m) file text new
+  pub written : (file text : List ℕ) (m : State) → BeginsRun old file text m
       → status ≡ Done → (image said : List ℕ) → Leaves new image said → IsWellClosed target.name target.datime image
-  pub unclosed : (file text : List ℕ) (m : State) → Begins old file text m
+  pub unclosed : (file text : List ℕ) (m : State) → BeginsRun old file text m
       → EndsUnclosed (run_of_work (Run target) script m) text old new status
   pub told : Becomes Any old.holds new.holds
   pub faults : TellsFirstFault HeaderAlone old status

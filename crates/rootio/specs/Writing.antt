@@ -22,7 +22,7 @@ use Rattle.rio_create.specs.NewFile.{first_segments}
 use Rattle.rio_session.specs.Behind.{SaysPart}
 use Rattle.rio_session.specs.Closes.{IsWellClosed}
 use Rattle.rio_session.specs.Marks.{marks_of_run}
-use Rattle.rootio.specs.Headline.{IsDone, IsStopOf, SaidFindRoom, ScriptRun, all_replies, opening_length, replies, reply_at, states}
+use Rattle.rootio.specs.Headline.{IsRunDone, IsStopOf, SaidFindRoom, ScriptRun, all_replies, opening_length, replies, reply_at, states}
 use Rattle.rootio.specs.Input.{IsPastInput}
 use Rattle.rootio.specs.Target.{TargetFile}
 use Rattle.rootio.specs.declared.status.Status.{Status}
@@ -145,7 +145,7 @@ IsUntouched old new = OnlyReads old new × (new.reads ≡ old.reads)
 
 -- What is taken for granted at the start: the host is quiet and tells its file and what it said, and the file isn't made yet or
 -- reads as a state.
-pub record Begins (old : View) (file text : List ℕ) (m : State) : Type 0 where
+pub record BeginsRun (old : View) (file text : List ℕ) (m : State) : Type 0 where
   pub quiet : IsQuiet old
   pub holds : old.holds ≡ Some file
   pub said : old.said ≡ Some text
@@ -156,17 +156,17 @@ pub record Begins (old : View) (file text : List ℕ) (m : State) : Type 0 where
 -- leaves then was closed under its name and time, without garbage; where it ends early it doesn't close the file. Where not all of
 -- the input was read, nothing was written and no call looked at the file, and no answer tells of the file, its disk or its text.
 pub record KeepsHeadline (work : Work) (old new : View) (before after : Input) (status : Status) : Type 0 where
-  pub stops : (file text input : List ℕ) (m : State) → Begins old file text m → before.remaining ≡ Some input
+  pub stops : (file text input : List ℕ) (m : State) → BeginsRun old file text m → before.remaining ≡ Some input
       → Elapses old new (IsStopOf (run_of_work work input m) file text)
-  pub said : (file text input : List ℕ) (m : State) → Begins old file text m → before.remaining ≡ Some input
+  pub said : (file text input : List ℕ) (m : State) → BeginsRun old file text m → before.remaining ≡ Some input
       → SaysPart new text (all_replies (run_of_work work input m))
-  pub room : (file text input : List ℕ) (m : State) → Begins old file text m → before.remaining ≡ Some input
+  pub room : (file text input : List ℕ) (m : State) → BeginsRun old file text m → before.remaining ≡ Some input
       → let r = run_of_work work input m in HasFileRoom (opening_length file) m r.commands r.marks → SaidFindRoom r text new
-  pub done : (file text input : List ℕ) (m : State) → Begins old file text m → before.remaining ≡ Some input
-      → status ≡ Done → IsDone (run_of_work work input m) file text new
-  pub written : (file text : List ℕ) (m : State) → Begins old file text m
+  pub done : (file text input : List ℕ) (m : State) → BeginsRun old file text m → before.remaining ≡ Some input
+      → status ≡ Done → IsRunDone (run_of_work work input m) file text new
+  pub written : (file text : List ℕ) (m : State) → BeginsRun old file text m
       → status ≡ Done → (image said : List ℕ) → Leaves new image said → IsWellClosed (target_of work).name (target_of work).datime image
-  pub unclosed : (file text input : List ℕ) (m : State) → Begins old file text m → before.remaining ≡ Some input
+  pub unclosed : (file text input : List ℕ) (m : State) → BeginsRun old file text m → before.remaining ≡ Some input
       → EndsUnclosed (run_of_work work input m) text old new status
   pub input : (input : List ℕ) → before.remaining ≡ Some input → IsPastInput status → after.remaining ≡ Some []
   pub order : (input : List ℕ) → before.remaining ≡ Some input → (after.remaining ≡ Some []) ⊎ IsUntouched old new
