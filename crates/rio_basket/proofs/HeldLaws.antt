@@ -5,7 +5,7 @@ use Rattle.std.proofs.lemmas.List.{append-nil}
 use Rattle.std.proofs.lemmas.List.Folds.{flat_map-map}
 use Rattle.byteorder.specs.Endian.{big_bytes}
 use Rattle.byteorder.specs.Numbers.{length-bytes_high_first}
-use Rattle.rio_basket.specs.Open.{OpenBasket, cut_from, data_length, is_cut}
+use Rattle.rio_basket.specs.Open.{OpenBasket, cut_from, entries_length, is_cut}
 use Rattle.rio_basket.specs.Record.{basket_data, entry_size, first_entry_length, offset_table, offsets_of}
 use Rattle.rio_basket.proofs.CutLaws.{concat-cut, first_within, offsets_of-cut}
 use Rattle.rio_basket.proofs.OpenLaws.{length-cut}
@@ -14,7 +14,7 @@ module _ (ends bytes : List ℕ) (cut : is_cut 0 ends (length bytes) ≡ true) w
   pub held_bytes : concat (cut_from 0 ends bytes) ≡ bytes
   held_bytes = concat-cut 0 ends bytes cut
 
-  pub held_length : data_length (cut_from 0 ends bytes) ≡ length bytes
+  pub held_length : entries_length (cut_from 0 ends bytes) ≡ length bytes
   held_length = ap length held_bytes
 
   -- the offsets, by the ends
@@ -48,20 +48,20 @@ data_parts k basket e = ap (λ (t : Bool). concat basket.entries ++ cond t (offs
 pub data_alone : (k : ℕ) (basket : OpenBasket) → basket.offsets ≡ false → basket_data k basket ≡ concat basket.entries
 data_alone k basket e = ap (λ (t : Bool). concat basket.entries ++ cond t (offset_table k basket.entries) []) e ∙ append-nil (concat basket.entries)
 
-pub data_with_offsets : (k : ℕ) (basket : OpenBasket) → basket.offsets ≡ true → length (basket_data k basket) ≡ data_length basket.entries + 4 * length basket.entries + 8
+pub data_with_offsets : (k : ℕ) (basket : OpenBasket) → basket.offsets ≡ true → length (basket_data k basket) ≡ entries_length basket.entries + 4 * length basket.entries + 8
 data_with_offsets k basket e =
     ap (λ (t : Bool). length (concat basket.entries ++ cond t (offset_table k basket.entries) [])) e
     ∙ length-append (concat basket.entries) (offset_table k basket.entries)
     ∙ omega (arith, table_long k basket.entries)
 
-pub data_without_offsets : (k : ℕ) (basket : OpenBasket) → basket.offsets ≡ false → length (basket_data k basket) ≡ data_length basket.entries
+pub data_without_offsets : (k : ℕ) (basket : OpenBasket) → basket.offsets ≡ false → length (basket_data k basket) ≡ entries_length basket.entries
 data_without_offsets k basket e =
     ap (λ (t : Bool). length (concat basket.entries ++ cond t (offset_table k basket.entries) [])) e
     ∙ length-append (concat basket.entries) []
     ∙ omega arith
 
 -- the entries are no longer than all data
-pub data_within : (k : ℕ) (basket : OpenBasket) → data_length basket.entries ≤ length (basket_data k basket)
+pub data_within : (k : ℕ) (basket : OpenBasket) → entries_length basket.entries ≤ length (basket_data k basket)
 data_within k basket = omega (arith, length-append (concat basket.entries) (cond basket.offsets (offset_table k basket.entries) []))
 
 -- how long they are doesn't hang on the key
@@ -83,7 +83,7 @@ first_none [] e = refl
 first_none (x ∷ xs) e = absurd cc
 
 -- what the head says of the length of an entry, or of their number
-pub size_small : (basket : OpenBasket) → length basket.entries < 2 ^ 31 → data_length basket.entries < 2 ^ 31 → entry_size basket < 2 ^ 31
+pub size_small : (basket : OpenBasket) → length basket.entries < 2 ^ 31 → entries_length basket.entries < 2 ^ 31 → entry_size basket < 2 ^ 31
 size_small basket count long = by basket.offsets
   where
     by : (t : Bool) → cond t (length basket.entries) (first_entry_length basket.entries) < 2 ^ 31

@@ -13,7 +13,7 @@ use Rattle.rio_basket.specs.declared.fault.BasketFault.{BasketFault}
 use Rattle.rio_basket.specs.declared.fault.BasketFault.TheVariants.{BadLast, BadOffsets, Compressed}
 use Rattle.rio_basket.specs.declared.layout.Layout.{Layout}
 use Rattle.rio_basket.specs.Entries.{has_count, is_offset, is_whole_at, number_there, offset_at, offset_before, offset_place, offsets_from, offsets_in, spare_offset}
-use Rattle.rio_basket.specs.Laid.{AreOffsets, IsLaid, IsWithin}
+use Rattle.rio_basket.specs.Laid.{AreOffsets, IsLaid, IsLayoutWithin}
 use Rattle.rio_basket.specs.Stored.{ends_within, from_first, has_negative, has_one_length, is_sound, last_place, layout_by, layout_in, layout_of}
 use Rattle.rio_basket.proofs.OffsetLaws.{before_next}
 
@@ -47,16 +47,16 @@ sound_bounds front h =
     last : (k : ℕ) (z y : ℤ) → int_le (pos k) z ≡ true → int_le z y ≡ true → unsigned_abs z ≤ unsigned_abs y
     last k z y e f = grind (arith, ints)
 
-within_by : (offsets : Bool) (bytes : List ℕ) (layout : Layout) (r : Result BasketFront KeyFault) → layout_by offsets (length bytes) r ≡ Ok layout → IsWithin layout bytes
+within_by : (offsets : Bool) (bytes : List ℕ) (layout : Layout) (r : Result BasketFront KeyFault) → layout_by offsets (length bytes) r ≡ Ok layout → IsLayoutWithin layout bytes
 within_by offsets bytes layout (Err e) h = absurd cc
 within_by offsets bytes layout (Ok front) h =
     let b = layout_bounds offsets (length bytes) front _ _ _ refl refl refl layout h in
     let sound = and_parts (not (has_negative front.head) && ends_within front) (offsets || has_one_length front) b.1 in
     let ends = sound_bounds front (and_parts (not (has_negative front.head)) (ends_within front) sound.0).1 in
-    let made : IsWithin (layout_of front) bytes = record { first_within = ends.0; last_within = ends.1; end_within = b.2 } in
-    subst (λ (l : Layout). IsWithin l bytes) (sym b.0) made
+    let made : IsLayoutWithin (layout_of front) bytes = record { first_within = ends.0; last_within = ends.1; end_within = b.2 } in
+    subst (λ (l : Layout). IsLayoutWithin l bytes) (sym b.0) made
 
-pub layout_within : (offsets : Bool) (bytes : List ℕ) (layout : Layout) → layout_in offsets bytes ≡ Ok layout → IsWithin layout bytes
+pub layout_within : (offsets : Bool) (bytes : List ℕ) (layout : Layout) → layout_in offsets bytes ≡ Ok layout → IsLayoutWithin layout bytes
 layout_within offsets bytes layout e = within_by offsets bytes layout (basket_front_at (from_first bytes)) e
 
 -- ---- offsets

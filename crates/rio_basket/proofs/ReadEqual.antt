@@ -5,7 +5,7 @@ use Rattle.std.proofs.Math.Nat.{mul-div_cancel_left, mul-mod_right, suc-mul}
 use Rattle.std.proofs.lemmas.Bool.{eq-eqb, ne_eqb}
 use Rattle.std.proofs.lemmas.List.FromFn.{fill_by_all}
 use Rattle.rio_basket.specs.declared.layout.Layout.{Layout}
-use Rattle.rio_basket.specs.Entries.{entries_of, entry_length, entry_of, equal_place}
+use Rattle.rio_basket.specs.Entries.{entry_length, equal_place, laid_entries, laid_entry}
 use Rattle.rio_basket.specs.Open.{have_one_length}
 use Rattle.rio_basket.specs.Record.{first_entry_length}
 use Rattle.rio_basket.specs.Stored.{is_multiple}
@@ -43,7 +43,7 @@ module _ (front : List ℕ) (entries : List (List ℕ)) (tail : List ℕ) (end :
       let all : length front + length (concat entries) - length front ≡ length entries * first_entry_length entries = omega (arith, all_is entries even) in
       ap (λ (n : ℕ). n / length entries) all ∙ mul-div_cancel_left (first_entry_length entries) lt
 
-  entry_read : (k : ℕ) → k < length entries → entry_at entries k ≡ entry_of false layout bytes k
+  entry_read : (k : ℕ) → k < length entries → entry_at entries k ≡ laid_entry false layout bytes k
   entry_read k lt =
       let each = first_entry_length entries in
       let own : entry_length layout ≡ each = each_is (omega arith) in
@@ -58,10 +58,10 @@ module _ (front : List ℕ) (entries : List (List ℕ)) (tail : List ℕ) (end :
       ∙ entry_there entries front tail k lt
       )
 
-  pub entries_read : entries_of false layout bytes ≡ entries
-  entries_read = sym (fill_by_all (entry_of false layout bytes) entries (length entries) [] refl entry_read)
+  pub entries_read : laid_entries false layout bytes ≡ entries
+  entries_read = sym (fill_by_all (laid_entry false layout bytes) entries (length entries) [] refl entry_read)
 
 -- behind a front of this length
-pub read_without_offsets : (front : List ℕ) (k : ℕ) → k ≡ length front → (entries : List (List ℕ)) (tail : List ℕ) (end : ℕ) → have_one_length entries ≡ true → let layout : Layout = record { first = k; last = k + length (concat entries); end = end; count = length entries } in entries_of false layout (front ++ (concat entries ++ tail)) ≡ entries
+pub read_without_offsets : (front : List ℕ) (k : ℕ) → k ≡ length front → (entries : List (List ℕ)) (tail : List ℕ) (end : ℕ) → have_one_length entries ≡ true → let layout : Layout = record { first = k; last = k + length (concat entries); end = end; count = length entries } in laid_entries false layout (front ++ (concat entries ++ tail)) ≡ entries
 read_without_offsets front k e entries tail end even =
-    subst (λ (n : ℕ). entries_of false (record { first = n; last = n + length (concat entries); end = end; count = length entries }) (front ++ (concat entries ++ tail)) ≡ entries) (sym e) (entries_read front entries tail end even)
+    subst (λ (n : ℕ). laid_entries false (record { first = n; last = n + length (concat entries); end = end; count = length entries }) (front ++ (concat entries ++ tail)) ≡ entries) (sym e) (entries_read front entries tail end even)

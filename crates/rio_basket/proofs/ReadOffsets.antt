@@ -8,7 +8,7 @@ use Rattle.byteorder.specs.Endian.{big_bytes, big_number}
 use Rattle.byteorder.specs.Numbers.{big_number-reads_back, length-bytes_high_first}
 use Rattle.rio_basket.specs.declared.fault.BasketFault.TheVariants.{BadOffsets}
 use Rattle.rio_basket.specs.declared.layout.Layout.{Layout}
-use Rattle.rio_basket.specs.Entries.{entries_of, entry_of, has_count, is_offset, is_whole_at, number_there, offset_at, offset_before, offset_behind, offset_place, offsets_from, offsets_in, spare_offset}
+use Rattle.rio_basket.specs.Entries.{has_count, is_offset, is_whole_at, laid_entries, laid_entry, number_there, offset_at, offset_before, offset_behind, offset_place, offsets_from, offsets_in, spare_offset}
 use Rattle.rio_basket.specs.Record.{offset_table, offsets_of}
 use Rattle.rio_basket.proofs.JoinedLaws.{before, before_all, before_next, before_within, entry_at, entry_there, length-offsets_of, number_in_table, offset_is}
 
@@ -115,7 +115,7 @@ module _ (front : List ℕ) (entries : List (List ℕ)) (tail : List ℕ) (end :
             ap (λ (t : Bool). cond t last (offset_at layout bytes (k + 1))) test ∙ offset_there (k + 1) (omega arith)
       ]
 
-  entry_read : (k : ℕ) → k < length entries → entry_at entries k ≡ entry_of true layout bytes k
+  entry_read : (k : ℕ) → k < length entries → entry_at entries k ≡ laid_entry true layout bytes k
   entry_read k lt =
       let from = offset_there k (omega arith) in
       let to = ends_there k lt in
@@ -126,11 +126,11 @@ module _ (front : List ℕ) (entries : List (List ℕ)) (tail : List ℕ) (end :
       ∙ entry_there entries front (offset_table (length front) entries ++ tail) k lt
       )
 
-  pub entries_read : entries_of true layout bytes ≡ entries
-  entries_read = sym (fill_by_all (entry_of true layout bytes) entries (length entries) [] refl entry_read)
+  pub entries_read : laid_entries true layout bytes ≡ entries
+  entries_read = sym (fill_by_all (laid_entry true layout bytes) entries (length entries) [] refl entry_read)
 
 -- behind a front of this length
-pub read_with_offsets : (front : List ℕ) (k : ℕ) → k ≡ length front → (entries : List (List ℕ)) (tail : List ℕ) (end : ℕ) → k + length (concat entries) + 4 * length entries + 8 ≤ end → end < 2 ^ 31 → let layout : Layout = record { first = k; last = k + length (concat entries); end = end; count = length entries } in let bytes = front ++ (concat entries ++ (offset_table k entries ++ tail)) in (offsets_in layout bytes ≡ Ok tt) × (entries_of true layout bytes ≡ entries)
+pub read_with_offsets : (front : List ℕ) (k : ℕ) → k ≡ length front → (entries : List (List ℕ)) (tail : List ℕ) (end : ℕ) → k + length (concat entries) + 4 * length entries + 8 ≤ end → end < 2 ^ 31 → let layout : Layout = record { first = k; last = k + length (concat entries); end = end; count = length entries } in let bytes = front ++ (concat entries ++ (offset_table k entries ++ tail)) in (offsets_in layout bytes ≡ Ok tt) × (laid_entries true layout bytes ≡ entries)
 read_with_offsets front k e entries tail end =
-    subst (λ (n : ℕ). n + length (concat entries) + 4 * length entries + 8 ≤ end → end < 2 ^ 31 → (offsets_in (record { first = n; last = n + length (concat entries); end = end; count = length entries }) (front ++ (concat entries ++ (offset_table n entries ++ tail))) ≡ Ok tt) × (entries_of true (record { first = n; last = n + length (concat entries); end = end; count = length entries }) (front ++ (concat entries ++ (offset_table n entries ++ tail))) ≡ entries)) (sym e)
+    subst (λ (n : ℕ). n + length (concat entries) + 4 * length entries + 8 ≤ end → end < 2 ^ 31 → (offsets_in (record { first = n; last = n + length (concat entries); end = end; count = length entries }) (front ++ (concat entries ++ (offset_table n entries ++ tail))) ≡ Ok tt) × (laid_entries true (record { first = n; last = n + length (concat entries); end = end; count = length entries }) (front ++ (concat entries ++ (offset_table n entries ++ tail))) ≡ entries)) (sym e)
     (λ whole small. (offsets_read front entries tail end whole small, entries_read front entries tail end whole small))

@@ -22,9 +22,9 @@ use Rattle.rio_key.proofs.KeyWritten.{key_spelled}
 use Rattle.rio_basket.specs.declared.fault.BasketFault.{BasketFault}
 use Rattle.rio_basket.specs.declared.fault.BasketFault.TheVariants.{BadLast, Compressed}
 use Rattle.rio_basket.specs.declared.layout.Layout.{Layout}
-use Rattle.rio_basket.specs.Entries.{entries_in, entries_of, offsets_in, sound_layout_in}
+use Rattle.rio_basket.specs.Entries.{entries_in, laid_entries, offsets_in, sound_layout_in}
 use Rattle.rio_basket.specs.Laws.{AreBasketRecords, IsBasketRecord}
-use Rattle.rio_basket.specs.Open.{OpenBasket, data_length, have_one_length}
+use Rattle.rio_basket.specs.Open.{OpenBasket, entries_length, have_one_length}
 use Rattle.rio_basket.specs.Record.{FitsBasketRecord, basket_data, basket_head, basket_key, basket_key_length, basket_record, basket_record_length, entry_size, offset_table, padded_data_length, unpadded_basket}
 use Rattle.rio_basket.specs.Stored.{ends_within, from_first, has_negative, has_one_length, is_multiple, is_sound, last_place, layout_by, layout_in}
 use Rattle.rio_basket.proofs.HeldLaws.{data_alone, data_parts, data_with_offsets, data_within, size_small}
@@ -69,13 +69,13 @@ none_fails : {A : Type 0} (a b c : Bool) (x y z w : A) → a ≡ false → b ≡
 none_fails a b c x y z w p q r = rw (p, q, r) refl
 
 -- where the layout, the offsets and the entries are read, all is
-read_by : (offsets : Bool) (bytes : List ℕ) (layout : Layout) (entries : List (List ℕ)) → layout_in offsets bytes ≡ Ok layout → cond offsets (offsets_in layout bytes) (Ok tt) ≡ Ok tt → entries_of offsets layout bytes ≡ entries → entries_in offsets bytes ≡ Ok entries
+read_by : (offsets : Bool) (bytes : List ℕ) (layout : Layout) (entries : List (List ℕ)) → layout_in offsets bytes ≡ Ok layout → cond offsets (offsets_in layout bytes) (Ok tt) ≡ Ok tt → laid_entries offsets layout bytes ≡ entries → entries_in offsets bytes ≡ Ok entries
 unfolding entries_in sound_layout_in
 read_by offsets bytes layout entries is stand are =
     let sound : sound_layout_in offsets bytes ≡ Ok layout =
     bind_is (layout_in offsets bytes) layout (λ (l : Layout). cond offsets (offsets_in l bytes) (Ok tt) >>= λ (u : Unit {0}). let r : Result Layout BasketFault = Ok l in r) is
     ∙ bind_is (cond offsets (offsets_in layout bytes) (Ok tt)) tt (λ (u : Unit {0}). let r : Result Layout BasketFault = Ok layout in r) stand in
-    bind_is (sound_layout_in offsets bytes) layout (λ (l : Layout). let r : Result (List (List ℕ)) BasketFault = Ok (entries_of offsets l bytes) in r) sound
+    bind_is (sound_layout_in offsets bytes) layout (λ (l : Layout). let r : Result (List (List ℕ)) BasketFault = Ok (laid_entries offsets l bytes) in r) sound
     ∙ ap (λ (l : List (List ℕ)). let r : Result (List (List ℕ)) BasketFault = Ok l in r) are
 
 module _ (place : ℕ) (tree branch : List ℕ) (datime : ℕ) (basket : OpenBasket) (fits : FitsBasketRecord place tree branch datime basket) where
@@ -193,7 +193,7 @@ module _ (place : ℕ) (tree branch : List ℕ) (datime : ℕ) (basket : OpenBas
   stored_front = record { key = key; head = head; place = length (written_key key) }
 
   abbrev stored_layout : Layout
-  stored_layout = record { first = keylen; last = keylen + data_length basket.entries; end = keylen + objlen; count = length basket.entries }
+  stored_layout = record { first = keylen; last = keylen + entries_length basket.entries; end = keylen + objlen; count = length basket.entries }
 
   abbrev behind : List ℕ → List ℕ
   behind rest = padding unpadded ++ rest
@@ -205,7 +205,7 @@ module _ (place : ℕ) (tree branch : List ℕ) (datime : ℕ) (basket : OpenBas
   sound even =
       all_hold (has_negative head) (ends_within stored_front) (basket.offsets || has_one_length stored_front)
       (none_negative 32000 (entry_size basket) (length basket.entries))
-      (are_within keylen (keylen + data_length basket.entries) (keylen + objlen) (omega arith) (omega (arith, data_within keylen basket)))
+      (are_within keylen (keylen + entries_length basket.entries) (keylen + objlen) (omega arith) (omega (arith, data_within keylen basket)))
       (even_length basket.offsets keylen basket.entries even)
 
   layout_read : (rest : List ℕ) → basket.offsets || have_one_length basket.entries ≡ true → layout_in basket.offsets (basket_record place tree branch datime basket ++ rest) ≡ Ok stored_layout
@@ -243,7 +243,7 @@ module _ (place : ℕ) (tree branch : List ℕ) (datime : ℕ) (basket : OpenBas
           let read = read_with_offsets front keylen front_long entries (behind rest) (keylen + objlen) room fits.record_fits in
           read_by basket.offsets bytes stored_layout entries (layout_read rest even)
           (ap (λ (t : Bool). cond t (offsets_in stored_layout bytes) (Ok tt)) e ∙ ap (offsets_in stored_layout) bytes_are ∙ read.0)
-          (ap (λ (t : Bool). entries_of t stored_layout bytes) e ∙ ap (entries_of true stored_layout) bytes_are ∙ read.1)
+          (ap (λ (t : Bool). laid_entries t stored_layout bytes) e ∙ ap (laid_entries true stored_layout) bytes_are ∙ read.1)
       by false e =
           let entries = basket.entries in
           let front = written_key key ++ basket_head_bytes head in
@@ -253,8 +253,8 @@ module _ (place : ℕ) (tree branch : List ℕ) (datime : ℕ) (basket : OpenBas
           let one_length : have_one_length entries ≡ true = sym (ap (λ (t : Bool). t || have_one_length entries) e) ∙ even in
           read_by basket.offsets bytes stored_layout entries (layout_read rest even)
           (ap (λ (t : Bool). cond t (offsets_in stored_layout bytes) (Ok tt)) e)
-          (ap (λ (t : Bool). entries_of t stored_layout bytes) e
-          ∙ ap (entries_of false stored_layout) bytes_are
+          (ap (λ (t : Bool). laid_entries t stored_layout bytes) e
+          ∙ ap (laid_entries false stored_layout) bytes_are
           ∙ read_without_offsets front keylen front_long entries (behind rest) (keylen + objlen) one_length)
 
   pub is_basket_record : basket.offsets || have_one_length basket.entries ≡ true → IsBasketRecord place tree branch datime basket

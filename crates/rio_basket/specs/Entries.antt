@@ -81,13 +81,13 @@ abbrev pub offset_behind : Layout → List ℕ → ℕ → ℕ
 offset_behind layout bytes k = if k + 1 == layout.count then layout.last else offset_at layout bytes (k + 1)
 
 -- the bytes of the k-th entry
-abbrev pub entry_of : Bool → Layout → List ℕ → ℕ → List ℕ
-entry_of offsets layout bytes k =
+abbrev pub laid_entry : Bool → Layout → List ℕ → ℕ → List ℕ
+laid_entry offsets layout bytes k =
     if offsets then slice_range bytes (offset_at layout bytes k) (offset_behind layout bytes k)
     else slice_range bytes (equal_place layout k) (equal_place layout k + entry_length layout)
 
-abbrev pub entries_of : Bool → Layout → List ℕ → List (List ℕ)
-entries_of offsets layout bytes = map (entry_of offsets layout bytes) (range_with_len 0 layout.count)
+abbrev pub laid_entries : Bool → Layout → List ℕ → List (List ℕ)
+laid_entries offsets layout bytes = map (laid_entry offsets layout bytes) (range_with_len 0 layout.count)
 
 -- how the entries are laid out, where their offsets can stand too
 unfoldable pub sound_layout_in : Bool → List ℕ → Result Layout BasketFault
@@ -100,4 +100,4 @@ sound_layout_in offsets bytes = do
 unfoldable pub entries_in : Bool → List ℕ → Result (List (List ℕ)) BasketFault
 entries_in offsets bytes = do
   layout ← sound_layout_in offsets bytes
-  Ok (entries_of offsets layout bytes)
+  Ok (laid_entries offsets layout bytes)

@@ -4,7 +4,7 @@ use Rattle.rio_basket.specs.declared.layout.Layout.{Layout}
 use Rattle.rio_basket.specs.Entries.{offset_at, offset_place}
 
 -- the data are within the bytes
-pub record IsWithin (layout : Layout) (bytes : List ℕ) : Type 0 where
+pub record IsLayoutWithin (layout : Layout) (bytes : List ℕ) : Type 0 where
   pub first_within : layout.first ≤ layout.last
   pub last_within : layout.last ≤ layout.end
   pub end_within : layout.end ≤ length bytes
@@ -16,5 +16,5 @@ pub record AreOffsets (layout : Layout) (bytes : List ℕ) : Type 0 where
   pub end_within : (k : ℕ) → k < layout.count → offset_at layout bytes k ≤ layout.last
 
 pub record IsLaid (offsets : Bool) (layout : Layout) (bytes : List ℕ) : Type 0 where
-  pub within : IsWithin layout bytes
+  pub within : IsLayoutWithin layout bytes
   pub with_offsets : offsets ≡ true → AreOffsets layout bytes

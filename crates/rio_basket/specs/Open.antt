@@ -11,12 +11,12 @@ pub record OpenBasket : Type 0 where
   pub spare : ℕ
 
 -- how many bytes they have together
-abbrev pub data_length : List (List ℕ) → ℕ
-data_length entries = length (concat entries)
+abbrev pub entries_length : List (List ℕ) → ℕ
+entries_length entries = length (concat entries)
 
 -- One more entry of so many bytes is taken: the first, or one with which there are at most 32,000 bytes and 8,192 entries.
 abbrev pub takes_entry : List (List ℕ) → ℕ → Bool
-takes_entry entries n = (length entries == 0) || (nat_le (data_length entries + n) 32000 && nat_lt (length entries) 8192)
+takes_entry entries n = (length entries == 0) || (nat_le (entries_length entries + n) 32000 && nat_lt (length entries) 8192)
 
 -- without offsets, all entries have the length of the first
 abbrev pub fits_entry : OpenBasket → List ℕ → Bool

@@ -9,7 +9,7 @@ use Rattle.rio_key.specs.BasketHead.{basket_head_bytes}
 use Rattle.rio_key.specs.Written.{written_key}
 use Rattle.rio_key.specs.declared.basket_head.BasketHead.{BasketHead}
 use Rattle.rio_key.specs.declared.head.KeyHead.{KeyHead}
-use Rattle.rio_basket.specs.Open.{OpenBasket, data_length}
+use Rattle.rio_basket.specs.Open.{OpenBasket, entries_length}
 
 -- ---- data
 
@@ -71,7 +71,7 @@ basket_head keylen basket = record {
   buffer_size = pos 32000;
   nev_size = pos (entry_size basket);
   nev = pos (length basket.entries);
-  last = pos (keylen + data_length basket.entries);
+  last = pos (keylen + entries_length basket.entries);
   flag = 0;
 }
 

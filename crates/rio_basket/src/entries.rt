@@ -1,7 +1,7 @@
 //! The entries of a basket that is read.
 ghost use Rattle.std.specs.Prelude.{◌≡◌, ◌+◌, ◌<◌, ◌≤◌, ◌^◌, length, true, false, slice_range};
-ghost use Rattle.rio_basket.specs.Entries.{entry_length, entry_of, entries_in, entries_of, offset_at, offset_behind, offset_place};
-ghost use Rattle.rio_basket.specs.Laid.{AreOffsets, IsLaid, IsWithin};
+ghost use Rattle.rio_basket.specs.Entries.{entry_length, laid_entry, entries_in, laid_entries, offset_at, offset_behind, offset_place};
+ghost use Rattle.rio_basket.specs.Laid.{AreOffsets, IsLaid, IsLayoutWithin};
 ghost use Rattle.rio_basket.specs.Stored.{GivesBasket};
 
 use crate::BasketFault;
@@ -47,9 +47,9 @@ fn bytes_between(bytes: &[u8], from: usize, to: usize) -> &[u8]
 // The k-th entry of a basket with offsets.
 fn entry_between<'a>(layout: &Layout, bytes: &'a [u8], k: u32) -> &'a [u8]
     requires inside { k < layout.now.count }
-    requires within { IsWithin layout.now bytes.now }
+    requires within { IsLayoutWithin layout.now bytes.now }
     requires laid { AreOffsets layout.now bytes.now }
-    ensures same { result.now ≡ entry_of true layout.now bytes.now k }
+    ensures same { result.now ≡ laid_entry true layout.now bytes.now k }
     ensures short { length result.now < 2 ^ 32 }
 {
     let from = offset_at(layout, bytes, k);
@@ -60,8 +60,8 @@ fn entry_between<'a>(layout: &Layout, bytes: &'a [u8], k: u32) -> &'a [u8]
 // The k-th of entries of one length.
 fn equal_entry<'a>(layout: &Layout, bytes: &'a [u8], k: u32) -> &'a [u8]
     requires inside { k < layout.now.count }
-    requires within { IsWithin layout.now bytes.now }
-    ensures same { result.now ≡ entry_of false layout.now bytes.now k }
+    requires within { IsLayoutWithin layout.now bytes.now }
+    ensures same { result.now ≡ laid_entry false layout.now bytes.now k }
     ensures short { length result.now < 2 ^ 32 }
 {
     let each = (layout.last - layout.first) as usize / layout.count as usize;
@@ -73,7 +73,7 @@ fn equal_entry<'a>(layout: &Layout, bytes: &'a [u8], k: u32) -> &'a [u8]
 pub(crate) fn entry_of<'a>(offsets: bool, layout: &Layout, bytes: &'a [u8], k: u32) -> &'a [u8]
     requires inside { k < layout.now.count }
     requires laid { IsLaid offsets layout.now bytes.now }
-    ensures same { result.now ≡ entry_of offsets layout.now bytes.now k }
+    ensures same { result.now ≡ laid_entry offsets layout.now bytes.now k }
     ensures short { length result.now < 2 ^ 32 }
 {
     if offsets {

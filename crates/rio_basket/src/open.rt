@@ -52,7 +52,7 @@ impl Basket {
     ghost use Rattle.std.specs.Option.{option_copied};
     ghost use Rattle.rio_num.specs.Room.{with_more};
     ghost use Rattle.rio_basket.specs.Entries.{entries_in};
-    ghost use Rattle.rio_basket.specs.Open.{AddsEntry, MakesRoom, data_length, fits_entry, takes_entry};
+    ghost use Rattle.rio_basket.specs.Open.{AddsEntry, MakesRoom, entries_length, fits_entry, takes_entry};
     ghost use Rattle.rio_basket.specs.Record.{FitsBasketRecord, basket_data, basket_head, basket_record, first_entry_length, offset_table};
 
     /// No entries.
@@ -139,7 +139,7 @@ impl Basket {
     // The head behind a key of this length.
     fn head(&self, keylen: u16) -> BasketHead
         requires count { length self.now.entries < 2 ^ 31 }
-        requires last { keylen + data_length self.now.entries < 2 ^ 31 }
+        requires last { keylen + entries_length self.now.entries < 2 ^ 31 }
         ensures { result ≡ basket_head keylen self.now }
     {
         let count = self.count();
@@ -161,7 +161,7 @@ impl Basket {
     // How many offsets there are, and each of them.
     fn put_table(&self, keylen: u16, into: &mut Bytes) -> Result<(), NoMemory>
         requires count { length self.now.entries < 2 ^ 31 }
-        requires last { keylen + data_length self.now.entries < 2 ^ 31 }
+        requires last { keylen + entries_length self.now.entries < 2 ^ 31 }
         ensures { OnOk result (into.new
             ≡ with_more into.old (offset_table keylen self.now.entries)) }
     {
@@ -173,7 +173,7 @@ impl Basket {
     // The entries, and their offsets where they have some.
     fn put_data(&self, keylen: u16, into: &mut Bytes) -> Result<(), NoMemory>
         requires count { length self.now.entries < 2 ^ 31 }
-        requires last { keylen + data_length self.now.entries < 2 ^ 31 }
+        requires last { keylen + entries_length self.now.entries < 2 ^ 31 }
         ensures { OnOk result (into.new ≡ with_more into.old (basket_data keylen self.now)) }
     {
         into.put(self.bytes.as_slice())?;

@@ -18,12 +18,12 @@ pub struct StoredBasket {
 
 impl Model for StoredBasket {
     ghost use Rattle.std.specs.Prelude.{ℕ, List};
-    ghost use Rattle.rio_basket.specs.Entries.{entries_of};
+    ghost use Rattle.rio_basket.specs.Entries.{laid_entries};
     ghost use Rattle.rio_basket.specs.Laid.{IsLaid};
 
     ghost Value = { List (List ℕ) };
 
-    ghost view = { λ basket. entries_of basket.offsets basket.layout basket.bytes.bytes };
+    ghost view = { λ basket. laid_entries basket.offsets basket.layout basket.bytes.bytes };
 
     ghost invariant = { λ basket. IsLaid basket.offsets basket.layout basket.bytes.bytes };
 }

@@ -9,9 +9,9 @@ use Rattle.rio_buffer.specs.declared.reader.ClassWord.{ClassWord}
 use Rattle.rio_buffer.specs.declared.reader.ClassWord.TheVariants.{Spelled, Earlier}
 
 -- It took what reading gives, or the reading fails so and nothing changed.
-abbrev pub Takes : {X Y : Type 0} → (X → Y) → Result X ObjFault → Step Y → ReaderState → ReaderState → Type 0
-Takes view (Ok x) read old new = read ≡ Ok (view x, new)
-Takes view (Err e) read old new = (read ≡ Err e) × (new ≡ old)
+abbrev pub TakesStep : {X Y : Type 0} → (X → Y) → Result X ObjFault → Step Y → ReaderState → ReaderState → Type 0
+TakesStep view (Ok x) read old new = read ≡ Ok (view x, new)
+TakesStep view (Err e) read old new = (read ≡ Err e) × (new ≡ old)
 
 -- The same, and memory may have run out: nothing changed then either.
 abbrev pub MayTake : {X Y : Type 0} → (X → Y) → Result X ObjFault → Step Y → ReaderState → ReaderState → Type 0

@@ -70,10 +70,10 @@ Begins begin (Err e) old new = new ≡ old
 
 -- A count word, which is open, and these bytes were put at the end, or memory ran out and nothing changed. Nothing is spare
 -- behind them where nothing was.
-abbrev pub Opens : List ℕ → Result ℕ NoMemory → Room → Room → List ℕ → List ℕ → Type 0
-Opens more (Ok place) old new opened opened' =
+abbrev pub OpensCount : List ℕ → Result ℕ NoMemory → Room → Room → List ℕ → List ℕ → Type 0
+OpensCount more (Ok place) old new opened opened' =
     (place ≡ length old.bytes) × (new.bytes ≡ old.bytes ++ (big_bytes 4 0 ++ more)) × (opened' ≡ length old.bytes ∷ opened) × (old.spare ≡ 0 → new.spare ≡ 0)
-Opens more (Err e) old new opened opened' = (new ≡ old) × (opened' ≡ opened)
+OpensCount more (Err e) old new opened opened' = (new ≡ old) × (opened' ≡ opened)
 
 abbrev pub innermost : List ℕ → Option ℕ
 innermost [] = None

@@ -43,7 +43,7 @@ impl<'a> ObjReader<'a> {
     ghost use Rattle.rio_num.specs.Meanings.{read};
     ghost use Rattle.rio_buffer.specs.ReaderState.{standing, no_words, with_label, with_name};
     ghost use Rattle.rio_buffer.specs.Frames.{ReadsAs, Fails, is_count, data_end, end_of, finish, header_end, header, class_word, known_class, new_word, reference, pointer_word};
-    ghost use Rattle.rio_buffer.specs.Reader.{Takes, MayTake, IsCounted, IsPointerWithin, name_of, noted};
+    ghost use Rattle.rio_buffer.specs.Reader.{TakesStep, MayTake, IsCounted, IsPointerWithin, name_of, noted};
 
     /// Reads data whose first byte has the place `start`.
     pub fn new(alloc: Global, bytes: &'a [u8], start: u64) -> ObjReader<'a>
@@ -79,7 +79,7 @@ impl<'a> ObjReader<'a> {
 
     /// The next byte.
     pub fn take_u8(&mut self) -> Result<u8, ObjFault>
-        ensures exact { Takes (λ x. x) result
+        ensures exact { TakesStep (λ x. x) result
             (read (number ObjFault.Short 1) self.old) self.old self.new }
         ensures goes { GoesOn self.old.at self.new.at }
     {
@@ -88,7 +88,7 @@ impl<'a> ObjReader<'a> {
 
     /// The number in the next two bytes, in big-endian order.
     pub fn take_u16(&mut self) -> Result<u16, ObjFault>
-        ensures exact { Takes (λ x. x) result
+        ensures exact { TakesStep (λ x. x) result
             (read (number ObjFault.Short 2) self.old) self.old self.new }
         ensures goes { GoesOn self.old.at self.new.at }
     {
@@ -97,7 +97,7 @@ impl<'a> ObjReader<'a> {
 
     /// The number in the next four bytes, in big-endian order.
     pub fn take_u32(&mut self) -> Result<u32, ObjFault>
-        ensures exact { Takes (λ x. x) result
+        ensures exact { TakesStep (λ x. x) result
             (read (number ObjFault.Short 4) self.old) self.old self.new }
         ensures goes { GoesOn self.old.at self.new.at }
     {
@@ -106,7 +106,7 @@ impl<'a> ObjReader<'a> {
 
     /// The number in the next eight bytes, in big-endian order.
     pub fn take_u64(&mut self) -> Result<u64, ObjFault>
-        ensures exact { Takes (λ x. x) result
+        ensures exact { TakesStep (λ x. x) result
             (read (number ObjFault.Short 8) self.old) self.old self.new }
         ensures goes { GoesOn self.old.at self.new.at }
     {
@@ -115,7 +115,7 @@ impl<'a> ObjReader<'a> {
 
     /// The next text, which lives as long as the data.
     pub fn take_text(&mut self) -> Result<&'a [u8], ObjFault>
-        ensures exact { Takes (λ t. t.now) result
+        ensures exact { TakesStep (λ t. t.now) result
             (read (text ObjFault.Short) self.old) self.old self.new }
         ensures goes { GoesOn self.old.at self.new.at }
     {
@@ -124,7 +124,7 @@ impl<'a> ObjReader<'a> {
 
     /// Passes over the next `n` bytes.
     pub fn skip(&mut self, n: u64) -> Result<(), ObjFault>
-        ensures exact { Takes (λ _. tt) result
+        ensures exact { TakesStep (λ _. tt) result
             (read (any ObjFault.Short n) self.old) self.old self.new }
         ensures goes { GoesOn self.old.at self.new.at }
     {
@@ -134,7 +134,7 @@ impl<'a> ObjReader<'a> {
     /// Compares the bytes used since the count word at `place` with its count, by which they end at `end`.
     pub fn finish(&mut self, place: u64, end: u64) -> Result<(), ObjFault>
         requires { IsCounted place end self.old }
-        ensures exact { Takes (λ _. tt) result
+        ensures exact { TakesStep (λ _. tt) result
             (read (finish place end) self.old) self.old self.new }
         ensures goes { GoesOn self.old.at self.new.at }
     {
@@ -163,7 +163,7 @@ impl<'a> ObjReader<'a> {
         requires count { IsTrue (is_count word) }
         requires behind { place + 4 ≤ self.now.at.place }
         requires near { data_end self.now < place + 2 ^ 32 }
-        ensures exact { Takes (λ x. x) result
+        ensures exact { TakesStep (λ x. x) result
             (read (end_of place word) self.now) self.now self.now }
         ensures within { IfOk result (λ end. IsCounted place end self.now) }
     {
@@ -181,7 +181,7 @@ impl<'a> ObjReader<'a> {
     fn header_end(&self, place: u64, word: u32) -> Result<u64, ObjFault>
         requires behind { place + 4 ≤ self.now.at.place }
         requires near { data_end self.now < place + 2 ^ 32 }
-        ensures exact { Takes (λ x. x) result
+        ensures exact { TakesStep (λ x. x) result
             (read (header_end place word) self.now) self.now self.now }
         ensures within { IfOk result (λ end. IsCounted place end self.now) }
     {
@@ -222,7 +222,7 @@ impl<'a> ObjReader<'a> {
 
     /// The header of an object, whose count is within the data.
     pub fn header(&mut self) -> Result<Header, ObjFault>
-        ensures exact { Takes (λ x. x) result (read header self.old) self.old self.new }
+        ensures exact { TakesStep (λ x. x) result (read header self.old) self.old self.new }
         ensures within { IfOk result (λ h. IsCounted h.place h.end self.new) }
         ensures goes { GoesOn self.old.at self.new.at }
     {
@@ -351,7 +351,8 @@ impl<'a> ObjReader<'a> {
 
     // The earlier object that the word refers to.
     fn reference(&self, place: u64, word: u32) -> Result<PointerWord, ObjFault>
-        ensures { Takes (λ x. x) result (read (reference place word) self.now) self.now self.now }
+        ensures { TakesStep (λ x. x) result
+            (read (reference place word) self.now) self.now self.now }
     {
         if word < 2 {
             return Err(ObjFault::UnknownRef { place, word });

@@ -7,7 +7,7 @@ ghost use Rattle.std.specs.Option.{option_map};
 ghost use Rattle.std.specs.Str.{bytes_eq};
 ghost use Rattle.std.specs.VecDeque.{deque_capacity, deque_len};
 ghost use Rattle.rio_num.specs.Room.{with_more};
-ghost use Rattle.rio_buffer.specs.Writer.{Opens, spelled};
+ghost use Rattle.rio_buffer.specs.Writer.{OpensCount, spelled};
 ghost use Rattle.byteorder.specs.Endian.{big_bytes};
 
 use indexmap::{IndexMap, IndexSet};
@@ -240,7 +240,7 @@ fn open_count(
     opened: &mut VecDeque<usize>,
     more: &[u8],
 ) -> Result<Open, NoMemory>
-    ensures { Opens more.now result bytes.old bytes.new opened.old.items opened.new.items }
+    ensures { OpensCount more.now result bytes.old bytes.new opened.old.items opened.new.items }
 {
     reserve_count(bytes, opened, more.len() as u64)?;
     let begun = put_count(bytes, opened);
@@ -254,8 +254,8 @@ fn open_spelled(
     opened: &mut VecDeque<usize>,
     class: &[u8],
 ) -> Result<Open, NoMemory>
-    ensures { Opens (big_bytes 4 (2 ^ 32 - 1) ++ (class.now ++ 0 ∷ [])) result bytes.old bytes.new
-        opened.old.items opened.new.items }
+    ensures { OpensCount (big_bytes 4 (2 ^ 32 - 1) ++ (class.now ++ 0 ∷ [])) result
+        bytes.old bytes.new opened.old.items opened.new.items }
 {
     reserve_count(bytes, opened, class.len() as u64 + 5)?;
     let begun = put_count(bytes, opened);

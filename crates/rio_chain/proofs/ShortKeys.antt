@@ -5,7 +5,7 @@ use Rattle.std.specs.Int.{w32, cast_unsigned}
 use Rattle.byteorder.specs.Endian.{big_bytes}
 use Rattle.byteorder.specs.Numbers.{length-bytes_high_first}
 use Rattle.rio_num.specs.Text.{SpellsText, long_form, short_form, text_bytes}
-use Rattle.rio_key.specs.Key.{place_len}
+use Rattle.rio_key.specs.Key.{key_place_len}
 use Rattle.rio_key.specs.Spelling.{IsSpelledIn, SpellsKey, number_bytes}
 use Rattle.rio_key.specs.declared.head.KeyHead.{KeyHead}
 use Rattle.rio_chain.specs.Found.{IsShortKey}
@@ -26,7 +26,7 @@ text_short text bytes s = ⊎_elim
     s
 
 -- its numbers are as long whatever length they say
-numbers_long : (h : KeyHead) (n : ℕ) → length (number_bytes h n) ≡ 18 + (place_len h.version + place_len h.version)
+numbers_long : (h : KeyHead) (n : ℕ) → length (number_bytes h n) ≡ 18 + (key_place_len h.version + key_place_len h.version)
 numbers_long h n =
     let a1 = big_bytes 4 n in
     let a2 = big_bytes 2 h.version in
@@ -34,8 +34,8 @@ numbers_long h n =
     let a4 = big_bytes 4 h.datime in
     let a5 = big_bytes 2 h.keylen in
     let a6 = big_bytes 2 h.cycle in
-    let a7 = big_bytes (place_len h.version) h.seek in
-    let a8 = big_bytes (place_len h.version) h.pdir in
+    let a7 = big_bytes (key_place_len h.version) h.seek in
+    let a8 = big_bytes (key_place_len h.version) h.pdir in
     omega (
       arith,
       length-append a1 (a2 ++ (a3 ++ (a4 ++ (a5 ++ (a6 ++ (a7 ++ a8)))))),
@@ -51,8 +51,8 @@ numbers_long h n =
       length-bytes_high_first 4 h.datime,
       length-bytes_high_first 2 h.keylen,
       length-bytes_high_first 2 h.cycle,
-      length-bytes_high_first (place_len h.version) h.seek,
-      length-bytes_high_first (place_len h.version) h.pdir,
+      length-bytes_high_first (key_place_len h.version) h.seek,
+      length-bytes_high_first (key_place_len h.version) h.pdir,
     )
 
 three_long : (a b c d : List ℕ) → length (a ++ (b ++ (c ++ d))) ≡ length a + (length b + (length c + length d))

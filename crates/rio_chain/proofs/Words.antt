@@ -8,7 +8,7 @@ use Rattle.byteorder.specs.Numbers.{big_number-reads_back, length-bytes_high_fir
 use Rattle.rio_host.specs.Image.{Has}
 use Rattle.rio_host.specs.ImageLaws.{slice_get-take, slice_get-drop}
 use Rattle.rio_host.proofs.Images.{has_keeps, has_length, has_front}
-use Rattle.rio_key.specs.Key.{place_len}
+use Rattle.rio_key.specs.Key.{key_place_len}
 use Rattle.rio_chain.specs.Segments.{HasWord, HoldsRecord, IsPositive, IsRecord}
 
 -- as many bytes at one place are the same bytes
@@ -70,7 +70,7 @@ record_word place bytes r =
     let same : spells.nbytes ≡ length bytes = pos_same spells.nbytes (length bytes) (sym spells.length_is ∙ r.nbytes) in
     let h = r.head in
     let rest = spells.class_bytes ++ (spells.name_bytes ++ spells.title_bytes) in
-    let numbers = big_bytes 2 h.version ++ (big_bytes 4 h.objlen ++ (big_bytes 4 h.datime ++ (big_bytes 2 h.keylen ++ (big_bytes 2 h.cycle ++ (big_bytes (place_len h.version) h.seek ++ big_bytes (place_len h.version) h.pdir))))) in
+    let numbers = big_bytes 2 h.version ++ (big_bytes 4 h.objlen ++ (big_bytes 4 h.datime ++ (big_bytes 2 h.keylen ++ (big_bytes 2 h.cycle ++ (big_bytes (key_place_len h.version) h.seek ++ big_bytes (key_place_len h.version) h.pdir))))) in
     record {
       others = (numbers ++ rest) ++ r.key.1;
       spelled = r.key.2 ∙ ap (λ (b : List ℕ). b ++ r.key.1) spells.spelled

@@ -7,7 +7,7 @@ use Rattle.rio_num.specs.Reading.{◌>>=◌, bytes_at, number_at, skip}
 use Rattle.rio_num.specs.declared.cursor.Short.{Short}
 use Rattle.rio_num.proofs.ReadLaws.{bind_is, bind_ok, ok_is}
 use Rattle.rio_head.specs.Form.{is_large_head, place_len}
-use Rattle.rio_head.specs.Head.{behind_at, check, fault_at, head_at, header_at, root_number, units_place_of, whole}
+use Rattle.rio_head.specs.Head.{behind_at, check, fault_at, head_at, head_field, header_at, root_number, units_place_of}
 use Rattle.rio_head.specs.declared.head.FileHead.{FileHead}
 use Rattle.rio_head.specs.declared.fault.HeadFault.{HeadFault}
 use Rattle.rio_head.specs.declared.fault.FileFault.TheVariants.{BadBegin, BadUnits, NotRoot}
@@ -43,15 +43,15 @@ module _ (b : List ℕ) (h : FileHead) (s : SmallHead b h) where
   four : n ≡ 4
   four = ap place_len s.small
 
-  next : (m m' k k' w : ℕ) (f : Number → Read) → m ≡ m' → k' ≡ k + m' → HasNumber m' b k w → (whole (number_at m (standing k (drop k b))) >>= f) ≡ f (w, standing k' (drop k' b))
-  next m m' k k' w f is later a = bind_is (whole (number_at m (standing k (drop k b)))) (w, standing k' (drop k' b)) f (ap whole (number_read m m' k k' k k' w b is later later a))
+  next : (m m' k k' w : ℕ) (f : Number → Read) → m ≡ m' → k' ≡ k + m' → HasNumber m' b k w → (head_field (number_at m (standing k (drop k b))) >>= f) ≡ f (w, standing k' (drop k' b))
+  next m m' k k' w f is later a = bind_is (head_field (number_at m (standing k (drop k b)))) (w, standing k' (drop k' b)) f (ap head_field (number_read m m' k k' k k' w b is later later a))
 
   tested : (t : Bool) (fault : HeadFault) (f : Read) → t ≡ true → (check t fault >>= λ done. f) ≡ f
   tested t fault f is = ap (λ (c : Bool). check c fault >>= λ done. f) is
 
   uuid_read : to_uuid h.version h.end h.seek_free h.nbytes_free h.nfree h.nbytes_name 4 h.compress h.seek_info (h.nbytes_info, standing 45 (drop 45 b)) ≡ Ok h
   uuid_read =
-      bind_is (whole (bytes_at 18 (standing 45 (drop 45 b)))) (take 18 (drop 45 b), skip 18 (standing 45 (drop 45 b))) (to_header h.version h.end h.seek_free h.nbytes_free h.nfree h.nbytes_name 4 h.compress h.seek_info h.nbytes_info) (ap whole (bytes_read 18 45 45 b s.long))
+      bind_is (head_field (bytes_at 18 (standing 45 (drop 45 b)))) (take 18 (drop 45 b), skip 18 (standing 45 (drop 45 b))) (to_header h.version h.end h.seek_free h.nbytes_free h.nfree h.nbytes_name 4 h.compress h.seek_info h.nbytes_info) (ap head_field (bytes_read 18 45 45 b s.long))
       ∙ ap (λ (u : List ℕ). to_header h.version h.end h.seek_free h.nbytes_free h.nfree h.nbytes_name 4 h.compress h.seek_info h.nbytes_info (u, skip 18 (standing 45 (drop 45 b)))) s.uuid
       ∙ ap (λ (q : ℕ × ℕ). let r : Read = Ok (record h { begin = q.0; units = q.1 }) in r) (λ i. (sym s.begin_is i, sym s.units_is i))
 
@@ -81,7 +81,7 @@ module _ (b : List ℕ) (h : FileHead) (s : SmallHead b h) where
 
 -- ---- the header gives its numbers
 
-whole_ok : {A : Type 0} (r : Result A Short) (x : A) → whole r ≡ Ok x → r ≡ Ok x
+whole_ok : {A : Type 0} (r : Result A Short) (x : A) → head_field r ≡ Ok x → r ≡ Ok x
 whole_ok (Ok y) x e = ap (λ (z : _). let r : Result _ Short = Ok z in r) (ok_is {E = HeadFault} y x e)
 whole_ok (Err d) x e = absurd cc
 
@@ -91,9 +91,9 @@ record Took (m k : ℕ) (b : List ℕ) (f : Number → Read) (h : FileHead) : Ty
   there : HasNumber (suc m) b k x
   on : f (x, standing (k + suc m) (drop (k + suc m) b)) ≡ Ok h
 
-took : (m k : ℕ) (b : List ℕ) (f : Number → Read) (h : FileHead) → (whole (number_at (suc m) (standing k (drop k b))) >>= f) ≡ Ok h → Took m k b f h
+took : (m k : ℕ) (b : List ℕ) (f : Number → Read) (h : FileHead) → (head_field (number_at (suc m) (standing k (drop k b))) >>= f) ≡ Ok h → Took m k b f h
 took m k b f h e =
-    let r = bind_ok (whole (number_at (suc m) (standing k (drop k b)))) f h e in
+    let r = bind_ok (head_field (number_at (suc m) (standing k (drop k b)))) f h e in
     let n = number_was_read m k k b r.0.0 r.0.1 (whole_ok (number_at (suc m) (standing k (drop k b))) r.0 r.1) in
     record { x = r.0.0; there = n.there; on = subst (λ (t : At). f (r.0.0, t) ≡ Ok h) n.goes_on r.2 }
 
@@ -110,17 +110,17 @@ version_is : (v : ℕ) (s : At) (h : FileHead) → behind_at v s ≡ Ok h → h.
 unfolding behind_at
 version_is v s head e =
     let n = place_len (is_large_head v) in
-    version_step v head (whole (number_at n s)) (to_seek_free v) e (λ a e1.
-    version_step v head (whole (number_at n a.1)) (to_nbytes_free v a.0) e1 (λ b e2.
-    version_step v head (whole (number_at 4 b.1)) (to_nfree v a.0 b.0) e2 (λ c e3.
-    version_step v head (whole (number_at 4 c.1)) (to_nbytes_name v a.0 b.0 c.0) e3 (λ d e4.
-    version_step v head (whole (number_at 4 d.1)) (to_units v a.0 b.0 c.0 d.0) e4 (λ f e5.
-    version_step v head (whole (number_at 1 f.1)) (test_units v a.0 b.0 c.0 d.0 f.0) e5 (λ g e6.
+    version_step v head (head_field (number_at n s)) (to_seek_free v) e (λ a e1.
+    version_step v head (head_field (number_at n a.1)) (to_nbytes_free v a.0) e1 (λ b e2.
+    version_step v head (head_field (number_at 4 b.1)) (to_nfree v a.0 b.0) e2 (λ c e3.
+    version_step v head (head_field (number_at 4 c.1)) (to_nbytes_name v a.0 b.0 c.0) e3 (λ d e4.
+    version_step v head (head_field (number_at 4 d.1)) (to_units v a.0 b.0 c.0 d.0) e4 (λ f e5.
+    version_step v head (head_field (number_at 1 f.1)) (test_units v a.0 b.0 c.0 d.0 f.0) e5 (λ g e6.
     version_step v head (check (g.0 == n) (fault_at (units_place_of (is_large_head v)) BadUnits)) (λ done. to_compress v a.0 b.0 c.0 d.0 f.0 g) e6 (λ done e7.
-    version_step v head (whole (number_at 4 g.1)) (to_seek_info v a.0 b.0 c.0 d.0 f.0 g.0) e7 (λ i e8.
-    version_step v head (whole (number_at n i.1)) (to_nbytes_info v a.0 b.0 c.0 d.0 f.0 g.0 i.0) e8 (λ j e9.
-    version_step v head (whole (number_at 4 j.1)) (to_uuid v a.0 b.0 c.0 d.0 f.0 g.0 i.0 j.0) e9 (λ k e10.
-    version_step v head (whole (bytes_at 18 k.1)) (to_header v a.0 b.0 c.0 d.0 f.0 g.0 i.0 j.0 k.0) e10 (λ u e11.
+    version_step v head (head_field (number_at 4 g.1)) (to_seek_info v a.0 b.0 c.0 d.0 f.0 g.0) e7 (λ i e8.
+    version_step v head (head_field (number_at n i.1)) (to_nbytes_info v a.0 b.0 c.0 d.0 f.0 g.0 i.0) e8 (λ j e9.
+    version_step v head (head_field (number_at 4 j.1)) (to_uuid v a.0 b.0 c.0 d.0 f.0 g.0 i.0 j.0) e9 (λ k e10.
+    version_step v head (head_field (bytes_at 18 k.1)) (to_header v a.0 b.0 c.0 d.0 f.0 g.0 i.0 j.0 k.0) e10 (λ u e11.
     ap (λ (x : FileHead). x.version) (sym (ok_is {E = HeadFault} (header_of v a.0 b.0 c.0 d.0 f.0 g.0 i.0 j.0 k.0 u.0) head e11)))))))))))))
 
 module _ (b : List ℕ) (h : FileHead) (long : 63 ≤ length b) (root : HasNumber 4 b 0 root_number) (v : ℕ) (version : HasNumber 4 b 4 v) (begin : HasNumber 4 b 8 100) where
@@ -128,17 +128,17 @@ module _ (b : List ℕ) (h : FileHead) (long : 63 ≤ length b) (root : HasNumbe
   behind_numbers : is_large_head v ≡ false → behind_at v (standing 12 (drop 12 b)) ≡ Ok h → SmallHead b h
   unfolding behind_at
   behind_numbers small e =
-      let P : Bool → Type 0 = λ large. (whole (number_at (place_len large) (standing 12 (drop 12 b))) >>= λ end.
-      whole (number_at (place_len large) end.1) >>= λ seek_free.
-      whole (number_at 4 seek_free.1) >>= λ nbytes_free.
-      whole (number_at 4 nbytes_free.1) >>= λ nfree.
-      whole (number_at 4 nfree.1) >>= λ nbytes_name.
-      whole (number_at 1 nbytes_name.1) >>= λ units.
+      let P : Bool → Type 0 = λ large. (head_field (number_at (place_len large) (standing 12 (drop 12 b))) >>= λ end.
+      head_field (number_at (place_len large) end.1) >>= λ seek_free.
+      head_field (number_at 4 seek_free.1) >>= λ nbytes_free.
+      head_field (number_at 4 nbytes_free.1) >>= λ nfree.
+      head_field (number_at 4 nfree.1) >>= λ nbytes_name.
+      head_field (number_at 1 nbytes_name.1) >>= λ units.
       check (units.0 == place_len large) (fault_at (units_place_of large) BadUnits) >>= λ done.
-      whole (number_at 4 units.1) >>= λ compress.
-      whole (number_at (place_len large) compress.1) >>= λ seek_info.
-      whole (number_at 4 seek_info.1) >>= λ nbytes_info.
-      whole (bytes_at 18 nbytes_info.1) >>= λ uuid.
+      head_field (number_at 4 units.1) >>= λ compress.
+      head_field (number_at (place_len large) compress.1) >>= λ seek_info.
+      head_field (number_at 4 seek_info.1) >>= λ nbytes_info.
+      head_field (bytes_at 18 nbytes_info.1) >>= λ uuid.
       Ok (header_of v end.0 seek_free.0 nbytes_free.0 nfree.0 nbytes_name.0 units.0 compress.0 seek_info.0 nbytes_info.0 uuid.0)) ≡ Ok h in
       let e4 = subst P small e in
       let t1 = took 3 12 b _ h e4 in
@@ -153,7 +153,7 @@ module _ (b : List ℕ) (h : FileHead) (long : 63 ≤ length b) (root : HasNumbe
       let t9 = took 3 41 b _ h t8.on in
       let units : t6.x ≡ 4 = eqb-true t6.x 4 c.0 in
       let is : Ok (header_of v t1.x t2.x t3.x t4.x t5.x t6.x t7.x t8.x t9.x (take 18 (drop 45 b))) ≡ Ok h =
-      sym (bind_is (whole (bytes_at 18 (standing 45 (drop 45 b)))) (take 18 (drop 45 b), skip 18 (standing 45 (drop 45 b))) (to_header v t1.x t2.x t3.x t4.x t5.x t6.x t7.x t8.x t9.x) (ap whole (bytes_read 18 45 45 b long))) ∙ t9.on in
+      sym (bind_is (head_field (bytes_at 18 (standing 45 (drop 45 b)))) (take 18 (drop 45 b), skip 18 (standing 45 (drop 45 b))) (to_header v t1.x t2.x t3.x t4.x t5.x t6.x t7.x t8.x t9.x) (ap head_field (bytes_read 18 45 45 b long))) ∙ t9.on in
       let made : SmallHead b (header_of v t1.x t2.x t3.x t4.x t5.x t6.x t7.x t8.x t9.x (take 18 (drop 45 b))) = record {
         root = root;
         version = version;
@@ -179,7 +179,7 @@ pub small_head : (b : List ℕ) (h : FileHead) → 63 ≤ length b → head_at b
 unfolding header_at
 small_head b h long e small =
     let t1 = took 3 0 b test_root h e in
-    let root = passed (t1.x == root_number) (fault_at 0 NotRoot) (whole (number_at 4 (standing 4 (drop 4 b))) >>= to_begin) h t1.on in
+    let root = passed (t1.x == root_number) (fault_at 0 NotRoot) (head_field (number_at 4 (standing 4 (drop 4 b))) >>= to_begin) h t1.on in
     let t2 = took 3 4 b to_begin h root.1 in
     let t3 = took 3 8 b (test_begin t2.x) h t2.on in
     let begin = passed (t3.x == 100) (fault_at 8 BadBegin) (behind_at t2.x (standing 12 (drop 12 b))) h t3.on in

@@ -15,7 +15,7 @@ use Rattle.rio_token.specs.Marks.{semicolon}
 use Rattle.rio_token.specs.Reading.{Read, bad_at, end_at, is_end, is_word, item_at, mark_at, next_word, num_at, some_if, taken_at, version_at}
 use Rattle.rio_token.specs.Tokens.{behind, next_at, standing_in}
 use Rattle.rio_model.specs.ClassGrammar.{class_at}
-use Rattle.rio_model.specs.ValueGrammar.{bracket_limit, enclosed_at, row_at, value_at}
+use Rattle.rio_model.specs.ValueGrammar.{bracket_limit, enclosed_at, row_at, value_in_text}
 use Rattle.rio_machine.specs.declared.command.Command.{Command}
 use Rattle.rio_machine.specs.declared.command.Command.TheVariants.{Bad, Class, Put, Delete, Tree as MakeTree, Fill, Save, Get, Scan, Ls}
 use Rattle.rio_step.proofs.GivenLaws.{Given, one_given, then_any, then_given}
@@ -250,8 +250,8 @@ HasVerb c = is_built c ≡ true
 put_has : (s : At) → Given HasVerb (put_command_at s)
 unfolding put_command_at
 put_has s =
-    then_any HasVerb (item_at s) (λ name. value_at (enclosed_at bracket_limit) name.1 >>= λ value. Ok (Put name.0 value.0, value.1))
-    (λ name. then_any HasVerb (value_at (enclosed_at bracket_limit) name.1) (λ value. Ok (Put name.0 value.0, value.1)) (λ value. refl))
+    then_any HasVerb (item_at s) (λ name. value_in_text (enclosed_at bracket_limit) name.1 >>= λ value. Ok (Put name.0 value.0, value.1))
+    (λ name. then_any HasVerb (value_in_text (enclosed_at bracket_limit) name.1) (λ value. Ok (Put name.0 value.0, value.1)) (λ value. refl))
 
 get_has : (s : At) → Given HasVerb (built_get_at s)
 unfolding built_get_at

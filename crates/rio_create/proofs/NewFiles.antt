@@ -11,7 +11,7 @@ use Rattle.rio_record.proofs.Records.{are_new_records}
 use Rattle.rio_machine.specs.State.{empty_state, item_order, name_order}
 use Rattle.rio_state.specs.Closing.{KeptRecords, closing_lengths, free_length, held_of, item_heads, kept_count, kept_in, list_length, name_in}
 use Rattle.rio_state.specs.DirectoryKeys.{AreKeysOf}
-use Rattle.rio_state.specs.KeyedRecords.{KeyedRecord, info_key, keyed_records, top_keys, with_head}
+use Rattle.rio_state.specs.KeyedRecords.{KeyedRecord, info_key, keyed_records, record_with_head, top_keys}
 use Rattle.rio_state.specs.Reads.{AreRecordsOf}
 use Rattle.rio_create.specs.NewFile.{first_data, first_length, first_record, first_words}
 use Rattle.rio_create.proofs.Lengths.{first_low, key_long, size_is, words_fit}
@@ -73,7 +73,7 @@ module _ (name uuid : List ℕ) (datime : ℕ) (short : length name ≤ 200) (lo
   links = RecordAt 100 (first_record name uuid datime) ∷ []
 
   keyed : keyed_records links ≡ first_only head_of_first first
-  keyed = ap (λ (r : Result KeyHead KeyFault). cons_option (with_head first r) []) (made.key_read 100)
+  keyed = ap (λ (r : Result KeyHead KeyFault). cons_option (record_with_head first r) []) (made.key_read 100)
 
   pub new_records : AreRecordsOf (keyed_records links) empty_state
   new_records = subst (λ (rs : List KeyedRecord). AreRecordsOf rs empty_state) (sym keyed) (only_stands name datime count first)

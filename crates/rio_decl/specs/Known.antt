@@ -7,7 +7,7 @@ use Rattle.rio_types.specs.declared.class.Base.{Base}
 use Rattle.rio_types.specs.declared.class.Member.{Member}
 use Rattle.rio_types.specs.declared.kind.Kind.{Kind}
 use Rattle.rio_types.specs.declared.kind.Kind.TheVariants.{Plain, Counter, Fixed, Counted, Text, Inline, Pointer, Other}
-use Rattle.rio_model.specs.ClassGrammar.{has_base, has_i32, has_member, is_counted_by, is_i32_of}
+use Rattle.rio_model.specs.ClassGrammar.{has_base_named, has_i32, has_member, is_counted_by, is_i32_of}
 use Rattle.rio_model.specs.Stated.{has_counter, is_class_word}
 
 -- whether the name is among these
@@ -21,7 +21,7 @@ pub record KnowsMembers (members : List Member) (names integers : List (List ℕ
 
 -- the names of the bases
 abbrev pub KnowsBases : List Base → List (List ℕ) → Type 0
-KnowsBases bases names = (name : List ℕ) → has_name names name ≡ has_base bases name
+KnowsBases bases names = (name : List ℕ) → has_name names name ≡ has_base_named bases name
 
 -- the names of the members, and of the counters among them
 pub record KnowsPassed (members : List Member) (names counters : List (List ℕ)) : Type 0 where

@@ -62,7 +62,8 @@ impl<'a> Model for KnownMembers<'a> {
 
 impl<'a> KnownMembers<'a> {
     ghost use Rattle.std.specs.Prelude.{◌≡◌, [], ◌∷◌, ◌++◌, IfOk};
-    ghost use Rattle.rio_model.specs.ClassGrammar.{has_i32, has_member, member};
+    ghost use Rattle.rio_format.specs.Bodies.{member};
+    ghost use Rattle.rio_model.specs.ClassGrammar.{has_i32, has_member};
 
     /// No members.
     pub(crate) fn new(alloc: Global) -> KnownMembers<'a>
@@ -150,7 +151,7 @@ impl<'a> Model for KnownBases<'a> {
 
 impl<'a> KnownBases<'a> {
     ghost use Rattle.std.specs.Prelude.{◌≡◌, [], ◌∷◌, ◌++◌, IfOk};
-    ghost use Rattle.rio_model.specs.ClassGrammar.{base, has_base};
+    ghost use Rattle.rio_model.specs.ClassGrammar.{base, has_base_named};
 
     /// No bases.
     pub(crate) fn new(alloc: Global) -> KnownBases<'a>
@@ -164,7 +165,7 @@ impl<'a> KnownBases<'a> {
 
     /// Whether one of the bases has the name.
     pub(crate) fn has_base(&self, name: &[u8]) -> bool
-        ensures { result ≡ has_base self.now name.now }
+        ensures { result ≡ has_base_named self.now name.now }
     {
         self.names.has(name)
     }

@@ -1,8 +1,10 @@
 //! Classes read from the text of their declarations, from left to right.
 ghost use Rattle.std.specs.Prelude.{◌≡◌, ◌<◌, ◌^◌, List, length, IfOk};
-ghost use Rattle.rio_token.specs.Reading.{Answers, Reads, Takes, TakesInMemory, list_at, more_at, some_at, word_that_at};
+ghost use Rattle.rio_num.specs.Reading.{Takes};
+ghost use Rattle.rio_token.specs.Reading.{AnswersText, Reads, TakesInMemory, list_at, more_at, some_at, word_that_at};
 ghost use Rattle.rio_token.specs.Marks.{closing_brace, opening_brace};
-ghost use Rattle.rio_model.specs.ClassGrammar.{base, base_at, bases_at, class_at, class_in, counting_kind, is_new_base, is_new_member, member, member_at, with_counters, with_sum};
+ghost use Rattle.rio_format.specs.Bodies.{member};
+ghost use Rattle.rio_model.specs.ClassGrammar.{base, base_at, bases_at, class_at, class_in, counting_kind, is_new_base, is_new_member, member_at, with_counters, with_sum};
 ghost use Rattle.rio_types.specs.declared.class.Member.{Member};
 ghost use Rattle.rio_decl.specs.Known.{KnowsCounters};
 
@@ -19,7 +21,7 @@ use std::alloc::Global;
 /// the first token that can't stand in a declaration.
 pub fn read_class(alloc: Global, text: &[u8], place: u32) -> Result<ClassDef, TextFault>
     requires { length text.now < 2 ^ 32 }
-    ensures { Answers result (class_in text.now place) }
+    ensures { AnswersText result (class_in text.now place) }
 {
     let mut tokens = Tokens::new(text, place);
     take_class(alloc, &mut tokens)

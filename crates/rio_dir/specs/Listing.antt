@@ -32,6 +32,6 @@ listed_file file = do
   Ok (key_lines closed.keys)
 
 -- what is said, and nothing of a file that breaks a rule
-abbrev pub said_of : Result (List ℕ) HeadFault → List ℕ
-said_of (Ok text) = text
-said_of (Err e) = []
+abbrev pub said_listing : Result (List ℕ) HeadFault → List ℕ
+said_listing (Ok text) = text
+said_listing (Err e) = []

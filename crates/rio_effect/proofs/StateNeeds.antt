@@ -12,7 +12,7 @@ use Rattle.byteorder.specs.Endian.{big_bytes}
 use Rattle.byteorder.specs.Numbers.{length-bytes_high_first}
 use Rattle.rio_num.specs.Text.{text_bytes}
 use Rattle.rio_value.specs.declared.value.Value.{Value}
-use Rattle.rio_key.specs.Key.{place_len}
+use Rattle.rio_key.specs.Key.{key_place_len}
 use Rattle.rio_key.specs.Spelling.{number_bytes}
 use Rattle.rio_key.specs.Written.{written_key}
 use Rattle.rio_key.specs.declared.head.KeyHead.{KeyHead}
@@ -40,7 +40,7 @@ Told = NameAndCycle × Listed
 number_length : (n x : ℕ) → length (big_bytes n x) ≡ n
 number_length n x = length-bytes_high_first n x
 
-numbers_length : (h : KeyHead) (nbytes : ℕ) → length (number_bytes h nbytes) ≡ 18 + 2 * place_len h.version
+numbers_length : (h : KeyHead) (nbytes : ℕ) → length (number_bytes h nbytes) ≡ 18 + 2 * key_place_len h.version
 numbers_length h nbytes = simp (length-append, number_length) (omega arith)
 
 -- a small key without a title
@@ -48,7 +48,7 @@ head_long : (h : KeyHead) → h.version ≤ 1000 → h.title ≡ [] → length (
 head_long h small none =
     let nbytes = cast_unsigned w32 h.nbytes in
     let large : ltb 1000 h.version ≡ false = le-ltb 1000 h.version small in
-    let place : place_len h.version ≡ 4 = ap (λ (b : Bool). if b then 8 else 4) large in
+    let place : key_place_len h.version ≡ 4 = ap (λ (b : Bool). if b then 8 else 4) large in
     let numbers = numbers_length h nbytes in
     let title : length (text_bytes h.title) ≡ length (text_bytes []) = ap (λ (t : List ℕ). length (text_bytes t)) none in
     let whole = length-append (number_bytes h nbytes) (text_bytes h.class ++ (text_bytes h.name ++ text_bytes h.title)) in

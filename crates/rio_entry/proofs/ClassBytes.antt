@@ -1,7 +1,7 @@
 -- Entries of a branch of a class.
-use Rattle.std.proofs.Common.{◌≡◌, ◌&&◌, ℕ, ◌+◌, List, [], ◌∷◌, ◌++◌, Bool, true, false, Option, Some, None, length, slice_index_or, refl, sym, ap, ◌∙◌, arith}
+use Rattle.std.proofs.Common.{◌≡◌, ◌&&◌, ℕ, List, [], ◌∷◌, Bool, true, false, Option, Some, None, length, slice_index_or, refl, sym, ap, ◌∙◌, arith}
 use Rattle.std.proofs.lemmas.List.{append-nil}
-use Rattle.std.specs.Prelude.{IsTrue, is_some}
+use Rattle.std.specs.Prelude.{is_some}
 use Rattle.rio_leaf.specs.declared.branch.Shape.TheVariants.{Class}
 use Rattle.rio_buffer.specs.ReaderState.{no_words}
 use Rattle.rio_format.specs.Fits.{Labels, fits, fitting_of}

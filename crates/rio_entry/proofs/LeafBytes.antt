@@ -1,6 +1,6 @@
 -- Entries of leaves: what fits, and the bytes, by the leaves alone; and the loops that go over them.
-use Rattle.std.proofs.Common.{◌≡◌, ◌&&◌, ℕ, zero, suc, ◌+◌, ◌<◌, ◌≤◌, List, [], ◌∷◌, ◌++◌, length, map, take, drop, Bool, true, false, refl, sym, ap, ◌∙◌, slice_index_or, append_assoc, arith}
-use Rattle.std.proofs.lemmas.List.{append-nil, drop-drop, drop_all, drop_more, length-append, length-take, take_more}
+use Rattle.std.proofs.Common.{◌≡◌, ◌&&◌, ℕ, zero, suc, ◌+◌, ◌<◌, ◌≤◌, List, [], ◌∷◌, ◌++◌, length, map, take, drop, Bool, true, false, refl, sym, ap, ◌∙◌, slice_index_or, arith}
+use Rattle.std.proofs.lemmas.List.{drop-drop, drop_all, drop_more, length-append, length-take, take_more}
 use Rattle.rio_leaf.specs.declared.leaf.Leaf.{Leaf}
 use Rattle.rio_buffer.specs.ReaderState.{WordsMet, no_words}
 use Rattle.rio_format.specs.Bodies.{Counters}
@@ -93,21 +93,11 @@ module _ (ls : List Leaf) (row : List Value) (k : ℕ) (l : Leaf) (v : Value) (l
       let value : drop k row ≡ v ∷ drop (k + 1) row = drop_more row k v low ∙ ap (λ (z : Value). z ∷ drop (k + 1) row) (sym f) in
       rw (leaf, value) refl
 
-  pub bytes_go_on : (before new total : List ℕ) → new ≡ before ++ value_bytes (letter_kind l.letter) v → before ++ leaves_bytes (drop k ls) (drop k row) ≡ total → new ++ leaves_bytes (drop (k + 1) ls) (drop (k + 1) row) ≡ total
-  bytes_go_on before new total put so_far =
-      ap (λ (b : List ℕ). b ++ leaves_bytes (drop (k + 1) ls) (drop (k + 1) row)) put
-      ∙ append_assoc before (value_bytes (letter_kind l.letter) v) (leaves_bytes (drop (k + 1) ls) (drop (k + 1) row))
-      ∙ ap (λ (b : List ℕ). before ++ b) (sym bytes_step)
-      ∙ so_far
-
   pub length_step : length (leaves_bytes (drop k ls) (drop k row)) ≡ length (value_bytes (letter_kind l.letter) v) + length (leaves_bytes (drop (k + 1) ls) (drop (k + 1) row))
   length_step = ap length bytes_step ∙ length-append (value_bytes (letter_kind l.letter) v) (leaves_bytes (drop (k + 1) ls) (drop (k + 1) row))
 
 pub past_leaves : (ls : List Leaf) (row : List Value) (k : ℕ) → length ls ≤ k → leaves_bytes (drop k ls) (drop k row) ≡ []
 past_leaves ls row k le = let leaf : drop k ls ≡ [] = drop_all k ls le in rw leaf refl
-
-pub bytes_done : (ls : List Leaf) (row : List Value) (k : ℕ) (before total : List ℕ) → length ls ≤ k → before ++ leaves_bytes (drop k ls) (drop k row) ≡ total → before ≡ total
-bytes_done ls row k before total le so_far = sym (append-nil before) ∙ ap (λ (b : List ℕ). before ++ b) (sym (past_leaves ls row k le)) ∙ so_far
 
 -- values for other than all leaves don't fit
 pub too_few : (ls : List Leaf) (counts row : List Value) (own : Counters) → (length ls ≡ length row → ⊥) → leaves_fit ls counts row own ≡ false

@@ -1,15 +1,15 @@
 -- The kinds of leaves.
-use Rattle.std.proofs.Common.{◌≡◌, ◌==◌, ◌&&◌, ℕ, ◌*◌, ◌<◌, ◌≤◌, List, [], ◌∷◌, length, map, Bool, true, false, cond, Option, Some, None, refl, sym, ap, ◌∙◌, subst, arith}
-use Rattle.std.specs.Prelude.{ℤ, pos, negsuc, codes, is_some}
+use Rattle.std.proofs.Common.{◌≡◌, ℕ, List, [], ◌∷◌, Bool, true, false, cond, Option, Some, None, refl, sym, ap, subst}
+use Rattle.std.specs.Prelude.{ℤ, pos, negsuc, codes}
 use Rattle.std.specs.Map.{lookup}
 use Rattle.std.specs.Str.{bytes_eq}
 use Rattle.rio_leaf.specs.declared.leaf.Dim.{Dim}
 use Rattle.rio_leaf.specs.declared.leaf.Dim.TheVariants.{One, Fixed as Several, Counted}
 use Rattle.rio_leaf.specs.declared.leaf.Leaf.{Leaf}
 use Rattle.rio_format.specs.Bodies.{Counters}
-use Rattle.rio_machine.specs.Rows.{counted_leaf_kind, leaf_kind, letter_kind, sized_kind, unread}
+use Rattle.rio_machine.specs.Rows.{counted_leaf_kind, kind_of_nothing, leaf_kind, letter_kind, sized_kind}
 use Rattle.rio_types.specs.declared.kind.Kind.{Kind}
-use Rattle.rio_types.specs.declared.kind.Kind.TheVariants.{Plain, Counter, Fixed, Counted as CountedBy, Text as Texted, Inline, Pointer, Other}
+use Rattle.rio_types.specs.declared.kind.Kind.TheVariants.{Plain, Fixed, Text as Texted, Other}
 use Rattle.rio_types.specs.declared.kind.Primitive.{Primitive}
 use Rattle.rio_entry.specs.Entries.{counter_saying}
 use Rattle.rio_entry.specs.Leaves.{without_number}
@@ -40,7 +40,7 @@ sized_leafy counters of One = tt
 sized_leafy counters of (Several n) = tt
 sized_leafy counters of (Counted counter times) = counted_leafy of times (lookup (bytes_eq counter) counters)
 
-without_leafy : (b : Bool) → IsLeafy (cond b Texted unread)
+without_leafy : (b : Bool) → IsLeafy (cond b Texted kind_of_nothing)
 without_leafy true = tt
 without_leafy false = tt
 

@@ -1,15 +1,14 @@
 -- Reading the values of leaves one after the other, as a loop does.
-use Rattle.std.proofs.Common.{◌≡◌, ℕ, ◌+◌, ◌<◌, ◌≤◌, List, [], ◌∷◌, ◌++◌, length, map, take, drop, slice_index_or, Result, Ok, Err, refl, sym, ap, ◌∙◌, arith}
+use Rattle.std.proofs.Common.{◌≡◌, ℕ, ◌+◌, ◌<◌, ◌≤◌, List, [], ◌∷◌, ◌++◌, length, map, take, drop, slice_index_or, Ok, Err, refl, sym, ap, ◌∙◌, arith}
 use Rattle.std.proofs.lemmas.List.{append-nil, drop_all, drop_more, length-take}
 use Rattle.rio_leaf.specs.declared.leaf.Leaf.{Leaf}
 use Rattle.rio_num.specs.Meanings.{read}
-use Rattle.rio_num.specs.Reading.{◌>>=◌}
-use Rattle.rio_buffer.specs.Frames.{ObjLayout, Step}
+use Rattle.rio_buffer.specs.Frames.{Step}
 use Rattle.rio_buffer.specs.ReaderState.{ReaderState}
 use Rattle.rio_buffer.specs.declared.fault.ObjFault.{ObjFault}
 use Rattle.rio_format.specs.Bodies.{Counters}
 use Rattle.rio_format.specs.Objects.{Objects, depth_limit, kind_value, object_of}
-use Rattle.rio_machine.specs.Rows.{leaf_column, leaf_kind}
+use Rattle.rio_machine.specs.Rows.{leaf_column}
 use Rattle.rio_types.specs.declared.class.ClassDef.{ClassDef}
 use Rattle.rio_types.specs.declared.kind.Kind.{Kind}
 use Rattle.rio_types.specs.declared.kind.Kind.TheVariants.{Plain, Fixed, Text as Texted, Other}

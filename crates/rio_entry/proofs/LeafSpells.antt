@@ -1,5 +1,5 @@
 -- What is written for the values of leaves that fit spells them.
-use Rattle.std.proofs.Common.{◌≡◌, ◌==◌, ◌&&◌, inl, inr, ℕ, ◌+◌, ◌*◌, ◌^◌, ◌<◌, ◌≤◌, ℤ, Bool, true, false, cond, ltb, Option, Some, None, List, [], ◌∷◌, ◌++◌, length, map, drop, refl, sym, ap, subst, ◌∙◌, arith}
+use Rattle.std.proofs.Common.{◌≡◌, ◌==◌, inl, inr, ℕ, ◌+◌, ◌*◌, ◌^◌, ◌<◌, ℤ, Bool, true, false, cond, ltb, Option, Some, None, List, [], ◌∷◌, ◌++◌, length, map, drop, refl, sym, ap, subst, ◌∙◌, arith}
 use Rattle.std.proofs.lemmas.Bool.{eqb-true, ltb-true}
 use Rattle.std.proofs.lemmas.List.{append-nil, length-append}
 use Rattle.std.specs.Prelude.{codes, negsuc, pos}
@@ -22,7 +22,7 @@ use Rattle.rio_format.proofs.Composed.{IsNumber}
 use Rattle.rio_format.proofs.Tests.{both_true}
 use Rattle.rio_format.proofs.ValueCases.{Each, Steps, by_cases}
 use Rattle.rio_format.proofs.WrittenNumbers.{bits32_number, bits64_number, int_number, truth_number}
-use Rattle.rio_machine.specs.Rows.{counted_leaf_kind, leaf_column, leaf_kind, letter_kind, sized_kind, unread}
+use Rattle.rio_machine.specs.Rows.{counted_leaf_kind, kind_of_nothing, leaf_column, leaf_kind, letter_kind, sized_kind}
 use Rattle.rio_types.specs.declared.class.ClassDef.{ClassDef}
 use Rattle.rio_types.specs.declared.kind.Kind.{Kind}
 use Rattle.rio_types.specs.declared.kind.Kind.TheVariants.{Plain, Fixed, Text as Texted}
@@ -183,7 +183,7 @@ sized_same counters of One x fit = plain_same of x fit
 sized_same counters of (Several n) x fit = fixed_same of n x fit
 sized_same counters of (Counted counter times) x fit = counted_same of times (lookup (bytes_eq counter) counters) x fit
 
-text_same : (b : Bool) → SameBytes None (cond b Texted unread)
+text_same : (b : Bool) → SameBytes None (cond b Texted kind_of_nothing)
 text_same true (layer.Text own) fit = refl
 text_same true other fit = absurd cc
 text_same false x fit = absurd cc

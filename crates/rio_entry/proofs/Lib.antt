@@ -6,6 +6,7 @@ pub mod LeafBytes
 pub mod LeafKinds
 pub mod LeafReads
 pub mod LeafSpells
+pub mod PutValues
 pub mod RowLaws
 pub mod Singles
 pub mod Totals

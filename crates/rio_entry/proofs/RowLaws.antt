@@ -12,7 +12,6 @@ use Rattle.rio_format.specs.Slots.{Slot, kinded}
 use Rattle.rio_format.specs.Written.{writing_of}
 use Rattle.rio_machine.specs.Rows.{Column, leaf_column, object_column, column_slot, columns_bytes, columns_fit, counted_leaf_kind, leaf_kind, leaf_numbers_behind, letter_kind, sized_kind, stands_in}
 use Rattle.rio_types.specs.declared.class.ClassDef.{ClassDef}
-use Rattle.rio_types.specs.declared.kind.Kind.{Kind}
 use Rattle.rio_types.specs.declared.kind.Primitive.{Primitive}
 use Rattle.rio_value.specs.declared.value.Value.{Value}
 use Rattle.rio_entry.specs.Entries.{counter_saying, entry_slot, given_count, said_count, values_bytes, values_fit}

@@ -12,9 +12,9 @@ use Rattle.rio_buffer.specs.ReaderState.{WordsMet}
 use Rattle.rio_format.specs.Bodies.{Counters}
 use Rattle.rio_format.specs.Fits.{Fitting, Labels, all_fit, back_fits, fitting_of, fitting_step, may_point, pass, pointed_fits}
 use Rattle.rio_format.specs.Slots.{Slot, kinded}
-use Rattle.rio_format.specs.Written.{Writing, all, joined, writing_of, writing_step}
+use Rattle.rio_format.specs.Written.{Writing, all, joined_output, writing_of, writing_step}
 use Rattle.rio_format.proofs.Tests.{both_true}
-use Rattle.rio_machine.specs.Rows.{counted_leaf_kind, leaf_kind, letter_kind, sized_kind, stands_in, unread}
+use Rattle.rio_machine.specs.Rows.{counted_leaf_kind, kind_of_nothing, leaf_kind, letter_kind, sized_kind, stands_in}
 use Rattle.rio_types.specs.declared.class.ClassDef.{ClassDef}
 use Rattle.rio_types.specs.declared.kind.Kind.{Kind}
 use Rattle.rio_types.specs.declared.kind.Kind.TheVariants.{Plain, Fixed, Text as Texted, Inline, Other}
@@ -166,8 +166,8 @@ module _ (classes : List ClassDef) where
   all_written of [] p t fit = refl
   all_written of (v ∷ vs) p t fit =
       let parts = both_true (single_fits of v) (list_all (single_fits of) vs) fit in
-      ap (λ (a : List ℕ × WordsMet). joined a (all (kinded (Plain of)) (map (writing_of classes) vs) (p + length a.0) a.1)) (single_written of v p t parts.0)
-      ∙ ap (λ (b : List ℕ × WordsMet). joined (single_bytes of v, t) b) (all_written of vs (p + length (single_bytes of v)) t parts.1)
+      ap (λ (a : List ℕ × WordsMet). joined_output a (all (kinded (Plain of)) (map (writing_of classes) vs) (p + length a.0) a.1)) (single_written of v p t parts.0)
+      ∙ ap (λ (b : List ℕ × WordsMet). joined_output (single_bytes of v, t) b) (all_written of vs (p + length (single_bytes of v)) t parts.1)
 
   -- the kind of a leaf's single values says how a value that fits is written
   abbrev IsWrittenAs : Option Primitive → Kind → Type 0
@@ -194,7 +194,7 @@ module _ (classes : List ClassDef) where
   sized_written counters of (Several n) x p t fit = fixed_written of n x p t fit
   sized_written counters of (Counted counter times) x p t fit = counted_written of times (lookup (bytes_eq counter) counters) x p t fit
 
-  text_written : (b : Bool) → IsWrittenAs None (cond b Texted unread)
+  text_written : (b : Bool) → IsWrittenAs None (cond b Texted kind_of_nothing)
   text_written true (layer.Text text) p t fit = refl
   text_written true other p t fit = absurd cc
   text_written false x p t fit = absurd cc

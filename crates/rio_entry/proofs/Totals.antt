@@ -1,14 +1,13 @@
 -- Lists of numbers: as many are read as the bytes have.
-use Rattle.std.proofs.Common.{◌≡◌, ◌==◌, ◌⊎◌, inl, inr, ℕ, zero, suc, ◌+◌, ◌<◌, ◌≤◌, min, List, [], ◌∷◌, length, replicate, drop, Bool, true, false, cond, ltb, Result, Ok, Err, refl, sym, ap, ◌∙◌, arith}
-use Rattle.std.proofs.lemmas.Bool.{cases_lt, ltb-false, ne_eqb}
+use Rattle.std.proofs.Common.{◌≡◌, ◌⊎◌, inl, inr, ℕ, zero, suc, ◌+◌, ◌<◌, ◌≤◌, min, List, length, drop, Bool, true, false, ltb, Ok, Err, refl, sym, ap, ◌∙◌, arith}
+use Rattle.std.proofs.lemmas.Bool.{cases_lt, ltb-false}
 use Rattle.std.proofs.lemmas.List.{length-drop}
 use Rattle.byteorder.specs.Endian.{big_number}
-use Rattle.rio_num.specs.At.{At}
 use Rattle.rio_num.specs.Layout.{each, number, times}
-use Rattle.rio_num.specs.Meanings.{Standing, read}
-use Rattle.rio_num.specs.Reading.{◌>>=◌, skip}
+use Rattle.rio_num.specs.Meanings.{read}
+use Rattle.rio_num.specs.Reading.{skip}
 use Rattle.rio_num.proofs.ReadLaws.{bind_ok, ok_is}
-use Rattle.rio_buffer.specs.Frames.{ObjLayout, Step}
+use Rattle.rio_buffer.specs.Frames.{Step}
 use Rattle.rio_buffer.specs.ReaderState.{ReaderState}
 use Rattle.rio_buffer.specs.declared.fault.ObjFault.{ObjFault}
 use Rattle.rio_buffer.specs.declared.fault.ObjFault.TheVariants.{Short}

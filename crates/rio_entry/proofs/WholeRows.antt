@@ -1,5 +1,5 @@
 -- What is written for a row is read as the row, and a row is read where no branch breaks.
-use Rattle.std.proofs.Common.{◌≡◌, ◌==◌, ◌&&◌, ◌||◌, ℕ, ◌+◌, ◌≤◌, ltb, ℤ, Bool, true, false, cond, List, [], ◌∷◌, ◌++◌, length, map, take, drop, Option, Some, None, Result, Ok, Err, refl, sym, ap, subst, ◌∙◌, arith}
+use Rattle.std.proofs.Common.{◌≡◌, ◌&&◌, ◌||◌, ℕ, ◌+◌, ◌≤◌, ltb, ℤ, Bool, true, false, cond, List, [], ◌∷◌, ◌++◌, length, take, drop, Option, Some, None, Result, Ok, Err, refl, sym, ap, subst, ◌∙◌, arith}
 use Rattle.std.proofs.lemmas.Bool.{ltb-false, not-true}
 use Rattle.std.proofs.lemmas.List.{take-append-drop}
 use Rattle.std.proofs.lemmas.List.Folds.{list_all-append}
@@ -18,7 +18,7 @@ use Rattle.rio_format.specs.Slots.{kinded}
 use Rattle.rio_format.specs.WrittenBytes.{length_limit}
 use Rattle.rio_format.proofs.Tests.{both_true}
 use Rattle.rio_machine.specs.Limits.{is_too_long}
-use Rattle.rio_machine.specs.Rows.{Column, leaf_column, object_column, column_slot, columns_bytes, columns_fit, columns_of, counted_leaf_kind, entries_from, leaf_kind, leaf_numbers_after, leaf_numbers_behind, letter_kind, shape_columns, sized_kind, stands_in, unread}
+use Rattle.rio_machine.specs.Rows.{Column, leaf_column, object_column, column_slot, columns_bytes, columns_fit, columns_of, counted_leaf_kind, entries_from, leaf_kind, leaf_numbers_after, leaf_numbers_behind, letter_kind, shape_columns, sized_kind, stands_in, kind_of_nothing}
 use Rattle.rio_types.specs.declared.class.ClassDef.{ClassDef}
 use Rattle.rio_types.specs.declared.kind.Kind.{Kind}
 use Rattle.rio_types.specs.declared.kind.Primitive.{Primitive}
@@ -70,7 +70,7 @@ number_is n vs = ap number_in (ap out-Value (sym (rolls-Int n)) ∙ out-roll-Val
 module _ (classes : List ClassDef) (before : Counters) where
   -- where a counter is lacking nothing fits
   none_fits : (v : Value) (of : Primitive) (times : ℕ) → stands_in classes (kinded (counted_leaf_kind of times None)) v ≡ false
-  none_fits v of times = stands_is classes unread v tt
+  none_fits v of times = stands_is classes kind_of_nothing v tt
 
   counted_is : (counter : List ℕ) (times : ℕ) (of : Primitive) (v : Value) (own : Counters) → stands_in classes (kinded (counted_leaf_kind of times (lookup (bytes_eq counter) (own ++ before)))) v ≡ true → lookup (bytes_eq counter) own ≡ None → lookup (bytes_eq counter) before ≡ Some (unwrap_or (lookup (bytes_eq counter) before) (pos 0))
   counted_is counter times of v own fit lacks =

@@ -4,7 +4,3 @@ use Rattle.std.specs.Prelude.{ℕ}
 -- no list has more values
 abbrev pub most_values : ℕ
 most_values = 340282366920938463463374607431768211455
-
--- no bytes are longer
-abbrev pub most_bytes : ℕ
-most_bytes = 18446744073709551615

@@ -13,7 +13,7 @@ use Rattle.rio_format.specs.Fits.{bits32_fits, bits64_fits, int_fits, truth_fits
 use Rattle.rio_format.specs.Objects.{number_value, numbers, text_value}
 use Rattle.rio_format.specs.Slots.{kinded}
 use Rattle.rio_format.specs.Written.{int_bytes, truth_byte}
-use Rattle.rio_machine.specs.Rows.{leaf_kind, letter_kind, unread}
+use Rattle.rio_machine.specs.Rows.{kind_of_nothing, leaf_kind, letter_kind}
 use Rattle.rio_types.specs.declared.kind.Kind.{Kind}
 use Rattle.rio_types.specs.declared.kind.Kind.TheVariants.{Plain, Fixed, Text as Texted}
 use Rattle.rio_types.specs.declared.kind.Primitive.{Primitive}
@@ -65,7 +65,7 @@ kind_layout other = do place ← here; broken (NoCount place)
 
 -- the kind of a leaf whose letter stands for no single values
 abbrev pub without_number : ℕ → Kind
-without_number letter = if bytes_eq (letter ∷ []) (codes "C") then Texted else unread
+without_number letter = if bytes_eq (letter ∷ []) (codes "C") then Texted else kind_of_nothing
 
 -- ---- leaves
 

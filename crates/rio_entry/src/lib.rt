@@ -14,7 +14,6 @@ mod fault;
 mod fit;
 mod laws;
 mod leaf;
-mod length;
 mod numbers;
 mod part;
 mod put;

@@ -1,115 +1,91 @@
-//! The values of leaves are written.
-ghost use Rattle.std.specs.Prelude.{◌≡◌, ◌<◌, ◌^◌, ◌++◌, length, OnOk};
-ghost use Rattle.std.specs.Int.{w8, w16, w32, w64, cast_unsigned};
+//! The values of leaves go into a sink: one walk writes them, and tells how long they are.
+ghost use Rattle.std.specs.Prelude.{◌≡◌, ◌<◌, ◌^◌, length, min, IfOk, IsTrue};
 ghost use Rattle.std.specs.List.{flat_map};
-ghost use Rattle.byteorder.specs.Endian.{big_bytes};
-ghost use Rattle.rio_types.specs.declared.kind.Kind.TheVariants.{Plain};
-ghost use Rattle.rio_format.specs.Slots.{kinded};
-ghost use Rattle.rio_format.specs.Written.{int_bytes};
-ghost use Rattle.rio_write.specs.Writing.{bits_within};
+ghost use Rattle.rio_num.specs.Room.{room_of};
+ghost use Rattle.rio_write.specs.Measuring.{too_long};
+ghost use Rattle.rio_write.specs.Sinks.{SinkTakes};
 ghost use Rattle.rio_entry.specs.Leaves.{leaves_bytes, single_bytes, value_bytes};
 
 use crate::leaf::letter_kind;
+use rio_buffer::ObjWriter;
 use rio_leaf::Leaf;
 use rio_num::{Bytes, NoMemory};
 use rio_types::Prim;
 use rio_value::Value;
+use rio_write::{Sink, Total, write_bool, write_prim};
+use std::alloc::Global;
 
-// The bits of a number in an unsigned type that has `size` numbers.
-fn bits_within(n: i128, size: u128) -> u128
-    requires { 0 < size }
-    ensures value { result ≡ bits_within size n }
-    ensures low { result < size }
-{
-    if n >= 0 {
-        n.cast_unsigned() % size
-    } else {
-        size.saturating_sub(n.unsigned_abs()) % size
-    }
-}
-
-fn bits_8(n: i128) -> u8
-    ensures { big_bytes 1 result ≡ big_bytes 1 (cast_unsigned w8 n) }
-{
-    bits_within(n, 0x100) as u8
-}
-
-fn bits_16(n: i128) -> u16
-    ensures { big_bytes 2 result ≡ big_bytes 2 (cast_unsigned w16 n) }
-{
-    bits_within(n, 0x1_0000) as u16
-}
-
-fn bits_32(n: i128) -> u32
-    ensures { big_bytes 4 result ≡ big_bytes 4 (cast_unsigned w32 n) }
-{
-    bits_within(n, 0x1_0000_0000) as u32
-}
-
-fn bits_64(n: i128) -> u64
-    ensures { big_bytes 8 result ≡ big_bytes 8 (cast_unsigned w64 n) }
-{
-    bits_within(n, 0x1_0000_0000_0000_0000) as u64
-}
-
-fn put_int(into: &mut Bytes, of: Prim, n: i128) -> Result<(), NoMemory>
-    ensures { OnOk result (into.new.bytes ≡ into.old.bytes ++ int_bytes n (kinded (Plain of))) }
-{
-    match of {
-        Prim::I8 | Prim::U8 | Prim::Bool => into.put_u8(bits_8(n)),
-        Prim::I16 | Prim::U16 => into.put_u16(bits_16(n)),
-        Prim::I32 | Prim::U32 | Prim::F32 => into.put_u32(bits_32(n)),
-        Prim::I64 | Prim::U64 | Prim::F64 => into.put_u64(bits_64(n)),
-    }
-}
-
-fn put_single(into: &mut Bytes, of: Prim, value: &Value) -> Result<(), NoMemory>
-    ensures { OnOk result (into.new.bytes ≡ into.old.bytes ++ single_bytes of value.now) }
+fn put_single<S: Sink>(sink: &mut S, of: Prim, value: &Value) -> Result<(), NoMemory>
+    ensures { SinkTakes S.stands (single_bytes of value.now) result sink.old sink.new }
 {
     match value {
-        Value::Int(n) => put_int(into, of, *n),
-        Value::Bits32(bits) => into.put_u32(*bits),
-        Value::Bits64(bits) => into.put_u64(*bits),
-        Value::Bool(b) => into.push(u8::from(*b)),
+        Value::Int(n) => write_prim(sink, *n, of),
+        Value::Bits32(bits) => sink.take_u32(*bits),
+        Value::Bits64(bits) => sink.take_u64(*bits),
+        Value::Bool(b) => write_bool(sink, *b),
         _ => Ok(()),
     }
 }
 
-fn put_list(into: &mut Bytes, of: Prim, values: &[Value]) -> Result<(), NoMemory>
-    ensures { OnOk result (into.new.bytes
-        ≡ into.old.bytes ++ flat_map (single_bytes of) values.now) }
+fn put_list<S: Sink>(sink: &mut S, of: Prim, values: &[Value]) -> Result<(), NoMemory>
+    ensures { SinkTakes S.stands (flat_map (single_bytes of) values.now) result sink.old sink.new }
 {
     for value in values {
-        put_single(into, of, value)?;
+        put_single(sink, of, value)?;
     }
     Ok(())
 }
 
 // A value of a leaf, by the kind of its single values; without one it is a text.
-fn put_value(into: &mut Bytes, of: Option<Prim>, value: &Value) -> Result<(), NoMemory>
-    requires { length (value_bytes of value.now) < 2 ^ 32 }
-    ensures { OnOk result (into.new.bytes ≡ into.old.bytes ++ value_bytes of value.now) }
+fn put_value<S: Sink>(sink: &mut S, of: Option<Prim>, value: &Value) -> Result<(), NoMemory>
+    requires { IsTrue S.bounded → length (value_bytes of value.now) < 2 ^ 32 }
+    ensures { SinkTakes S.stands (value_bytes of value.now) result sink.old sink.new }
 {
     match of {
         Some(of) => match value {
-            Value::List(items) => put_list(into, of, items.as_slice()),
-            _ => put_single(into, of, value),
+            Value::List(items) => put_list(sink, of, items.as_slice()),
+            _ => put_single(sink, of, value),
         },
         None => match value {
-            Value::Text(text) => into.put_text(text.as_slice()),
+            Value::Text(text) => sink.take_text(text.as_slice()),
             _ => Ok(()),
         },
     }
 }
 
-/// Puts the values of leaves at the end.
-pub(crate) fn put_leaves(into: &mut Bytes, leaves: &[Leaf], row: &[Value]) -> Result<(), NoMemory>
+// The values of leaves, one behind the other.
+fn put_leaves<S: Sink>(sink: &mut S, leaves: &[Leaf], row: &[Value]) -> Result<(), NoMemory>
     requires one_each { length leaves.now ≡ length row.now }
-    requires short { length (leaves_bytes leaves.now row.now) < 2 ^ 32 }
-    ensures { OnOk result (into.new.bytes ≡ into.old.bytes ++ leaves_bytes leaves.now row.now) }
+    requires short { IsTrue S.bounded → length (leaves_bytes leaves.now row.now) < 2 ^ 32 }
+    ensures { SinkTakes S.stands (leaves_bytes leaves.now row.now) result sink.old sink.new }
 {
     for (k, leaf) in leaves.iter().enumerate() {
-        put_value(into, letter_kind(leaf.letter), &row[k])?;
+        put_value(sink, letter_kind(leaf.letter), &row[k])?;
     }
     Ok(())
+}
+
+/// How many bytes the values of leaves have, or 16,777,217 where they have more than 16,777,216.
+pub(crate) fn leaves_length(leaves: &[Leaf], row: &[Value]) -> Result<u64, NoMemory>
+    requires { length leaves.now ≡ length row.now }
+    ensures { IfOk result (λ n. n ≡ min (length (leaves_bytes leaves.now row.now)) too_long) }
+{
+    let mut total = Total { bytes: 0 };
+    put_leaves(&mut total, leaves, row)?;
+    Ok(total.bytes)
+}
+
+/// The bytes of the values of leaves.
+pub(crate) fn leaves_written(
+    alloc: Global,
+    leaves: &[Leaf],
+    row: &[Value],
+) -> Result<Bytes, NoMemory>
+    requires one_each { length leaves.now ≡ length row.now }
+    requires short { length (leaves_bytes leaves.now row.now) < 2 ^ 32 }
+    ensures { IfOk result (λ b. b ≡ room_of (leaves_bytes leaves.now row.now)) }
+{
+    let mut writer = ObjWriter::new(alloc, 0);
+    put_leaves(&mut writer, leaves, row)?;
+    Ok(writer.into_bytes())
 }

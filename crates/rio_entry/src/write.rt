@@ -8,8 +8,7 @@ ghost use Rattle.rio_value.specs.declared.value.Value.{Value as Given};
 
 use crate::EntryFault;
 use crate::fit::leaves_fit;
-use crate::length::leaves_length;
-use crate::put::put_leaves;
+use crate::put::{leaves_length, leaves_written};
 use rio_fit::fits;
 use rio_leaf::{BranchDef, Leaf, Shape};
 use rio_num::Bytes;
@@ -33,12 +32,10 @@ fn write_leaves(
     if !leaves_fit(leaves, counts, row) {
         return Err(EntryFault::BadRow);
     }
-    if leaves_length(leaves, row) > LIMIT {
+    if leaves_length(leaves, row)? > LIMIT {
         return Err(EntryFault::TooLarge);
     }
-    let mut bytes = Bytes::new(alloc);
-    put_leaves(&mut bytes, leaves, row)?;
-    Ok(bytes)
+    Ok(leaves_written(alloc, leaves, row)?)
 }
 
 fn write_value(

@@ -9,7 +9,7 @@ use Rattle.rio_value.specs.declared.value.Value.{Value}
 use Rattle.rio_format.specs.Descriptions.{description_classes}
 use Rattle.rio_format.specs.Elements.{Element, element_of, bases_of, members_of}
 use Rattle.rio_format.specs.Objects.{value_at}
-use Rattle.rio_format.specs.ValueParts.{items_in, list_of, text_of, signed_of, unsigned_of, part_of, parts_of, parts_behind, base_parts}
+use Rattle.rio_format.specs.ValueParts.{items_in, list_of, text_in_part, signed_of, unsigned_of, part_of, parts_of, parts_behind, base_parts}
 use Rattle.rio_buffer.specs.declared.fault.ObjFault.{ObjFault}
 
 -- The items behind the pointer to a class's elements. There are none where it isn't a pointer to a TObjArray that begins there.
@@ -22,7 +22,7 @@ elements_of info = map element_of (element_items info)
 -- a class, by the parts of its TStreamerInfo and those of its TNamed
 abbrev pub class_with : List Part → List Part → ClassDef
 class_with info named = record {
-  name = text_of (codes "fName") named;
+  name = text_in_part (codes "fName") named;
   version = signed_of (codes "fClassVersion") info;
   sum = unsigned_of (codes "fCheckSum") info;
   bases = bases_of (elements_of info);

@@ -15,7 +15,7 @@ use Rattle.rio_value.specs.declared.value.Part.{Part}
 use Rattle.rio_value.specs.declared.value.Value.{Value, out-Value}
 use Rattle.rio_value.specs.declared.value.Value.TheOpen.{Value-F, Object}
 use Rattle.rio_format.specs.Descriptions.{is_element}
-use Rattle.rio_format.specs.ValueParts.{layer_object, base_parts, part_of, text_in, signed_in, text_of, signed_of}
+use Rattle.rio_format.specs.ValueParts.{layer_object, base_parts, part_of, text_in, signed_in, text_in_part, signed_of}
 
 -- ---- what an element says
 
@@ -34,11 +34,11 @@ pub record Element : Type 0 where
 -- by what its own class adds, by the parts of its TStreamerElement and by those of its TNamed
 abbrev pub element_with : List Part → List Part → List Part → Element
 element_with own stated named = record {
-  name = text_of (codes "fName") named;
-  title = text_of (codes "fTitle") named;
+  name = text_in_part (codes "fName") named;
+  title = text_in_part (codes "fTitle") named;
   code = signed_of (codes "fType") stated;
   count = signed_of (codes "fArrayLength") stated;
-  type_name = text_of (codes "fTypeName") stated;
+  type_name = text_in_part (codes "fTypeName") stated;
   base_version = option_map signed_in (part_of (codes "fBaseVersion") own);
   counter = option_map text_in (part_of (codes "fCountName") own);
 }

@@ -66,8 +66,8 @@ part_of name parts = option_map (λ p. p.value) (find (λ p. bytes_eq p.name nam
 abbrev pub list_of : List ℕ → List Part → List Value
 list_of name parts = option_map_or items_in (part_of name parts) []
 
-abbrev pub text_of : List ℕ → List Part → List ℕ
-text_of name parts = option_map_or text_in (part_of name parts) []
+abbrev pub text_in_part : List ℕ → List Part → List ℕ
+text_in_part name parts = option_map_or text_in (part_of name parts) []
 
 abbrev pub signed_of : List ℕ → List Part → ℤ
 signed_of name parts = option_map_or signed_in (part_of name parts) (pos 0)

@@ -28,11 +28,11 @@ abbrev pub just : List ℕ → Writer
 just bytes p t = (bytes, t)
 
 -- one behind the other
-abbrev pub joined : List ℕ × WordsMet → List ℕ × WordsMet → List ℕ × WordsMet
-joined a b = (a.0 ++ b.0, b.1)
+abbrev pub joined_output : List ℕ × WordsMet → List ℕ × WordsMet → List ℕ × WordsMet
+joined_output a b = (a.0 ++ b.0, b.1)
 
 abbrev pub both : Writer → Writer → Writer
-both f g p t = let a = f p t in joined a (g (p + length a.0) a.1)
+both f g p t = let a = f p t in joined_output a (g (p + length a.0) a.1)
 
 abbrev pub all : Slot → List Writing → Writer
 all slot [] = just []
@@ -88,8 +88,8 @@ abbrev pub pointed_bytes : Writing → Writer
 pointed_bytes object p t = counted (both (class_bytes object.class) (labelled p (object.bytes (kinded (Inline object.class)))) (p + 4) t)
 
 -- a reference to the place of the label's count word
-abbrev pub back_bytes : ℕ → Writer
-back_bytes label p t = (big_bytes 4 (slice_index t.labels label + 2), t)
+abbrev pub reference_bytes : ℕ → Writer
+reference_bytes label p t = (big_bytes 4 (slice_index t.labels label + 2), t)
 
 -- ---- objects
 
@@ -161,7 +161,7 @@ writing_step classes (Items items) = record { class = []; count = length items; 
 writing_step classes (Object class version parts) = record { class = class; count = 0; bytes = λ slot. form_bytes classes class version (form_of class) parts }
 writing_step classes (Pointed label object) = record { class = []; count = 0; bytes = λ slot. pointed_bytes object }
 writing_step classes Null = plainly (λ slot. big_bytes 4 0)
-writing_step classes (Back label) = record { class = []; count = 0; bytes = λ slot. back_bytes label }
+writing_step classes (Back label) = record { class = []; count = 0; bytes = λ slot. reference_bytes label }
 writing_step classes (Opaque class len) = plainly (λ slot. [])
 
 abbrev pub writing_of : List ClassDef → Value → Writing

@@ -4,22 +4,22 @@ use Rattle.rio_num.specs.At.{At}
 use Rattle.rio_num.specs.Reading.{◌>>=◌, number_at, bytes_at}
 use Rattle.rio_num.specs.declared.cursor.Short.{Short as Shortage}
 use Rattle.rio_head.specs.Form.{place_len, is_large_head}
-use Rattle.rio_head.specs.Head.{whole, check, header_at, behind_at}
+use Rattle.rio_head.specs.Head.{head_field, check, header_at, behind_at}
 use Rattle.rio_head.specs.Laws.{HeadInFront}
 use Rattle.rio_head.specs.declared.fault.HeadFault.{HeadFault}
 use Rattle.rio_head.proofs.Cut.{cut, cut_behind, IsCut, number_cut, bytes_cut, then_cut, place_len-le}
 use Rattle.rio_head.proofs.HeadSteps.{Read, Number, test_root, to_begin, test_begin, to_seek_free, to_nbytes_free, to_nfree, to_nbytes_name, to_units, test_units, to_compress, to_seek_info, to_nbytes_info, to_uuid, to_header}
 use Rattle.rio_head.proofs.Parts.{standing}
 
-whole_cut : {A : Type 0} (m : ℕ) (r : Result (A × At) Shortage) → whole (cut_behind m r) ≡ cut_behind m (whole r)
+whole_cut : {A : Type 0} (m : ℕ) (r : Result (A × At) Shortage) → head_field (cut_behind m r) ≡ cut_behind m (head_field r)
 whole_cut m (Ok x) = refl
 whole_cut m (Err e) = refl
 
-number_then : (n m k : ℕ) (next : Number → Read) → k ≡ n + m → ((x : ℕ) → IsCut m (λ t. next (x, t))) → IsCut k (λ s. whole (number_at n s) >>= next)
-number_then n m k next is same s = then_cut m (whole (number_at n s)) (whole (number_at n (cut k s))) next (ap whole (number_cut n m k s is) ∙ whole_cut m (number_at n s)) same
+number_then : (n m k : ℕ) (next : Number → Read) → k ≡ n + m → ((x : ℕ) → IsCut m (λ t. next (x, t))) → IsCut k (λ s. head_field (number_at n s) >>= next)
+number_then n m k next is same s = then_cut m (head_field (number_at n s)) (head_field (number_at n (cut k s))) next (ap head_field (number_cut n m k s is) ∙ whole_cut m (number_at n s)) same
 
-uuid_then : (m k : ℕ) (next : List ℕ × At → Read) → k ≡ 18 + m → ((x : List ℕ) → IsCut m (λ t. next (x, t))) → IsCut k (λ s. whole (bytes_at 18 s) >>= next)
-uuid_then m k next is same s = then_cut m (whole (bytes_at 18 s)) (whole (bytes_at 18 (cut k s))) next (ap whole (bytes_cut 18 m k s is) ∙ whole_cut m (bytes_at 18 s)) same
+uuid_then : (m k : ℕ) (next : List ℕ × At → Read) → k ≡ 18 + m → ((x : List ℕ) → IsCut m (λ t. next (x, t))) → IsCut k (λ s. head_field (bytes_at 18 s) >>= next)
+uuid_then m k next is same s = then_cut m (head_field (bytes_at 18 s)) (head_field (bytes_at 18 (cut k s))) next (ap head_field (bytes_cut 18 m k s is) ∙ whole_cut m (bytes_at 18 s)) same
 
 check_then : (b : Bool) (fault : HeadFault) (k : ℕ) (next : At → Read) → IsCut k next → IsCut k (λ s. check b fault >>= λ done. next s)
 check_then b fault k next same s = ap (λ (r : Read). check b fault >>= λ done. r) (same s)
@@ -43,7 +43,7 @@ behind_cut version =
 
 header_cut : IsCut 100 header_at
 unfolding header_at
-header_cut = number_then 4 96 100 test_root refl (λ root. check_then _ _ 96 (λ s. whole (number_at 4 s) >>= to_begin) (number_then 4 92 96 to_begin refl (λ version. number_then 4 88 92 (test_begin version) refl (λ begin. check_then _ _ 88 (behind_at version) (behind_cut version)))))
+header_cut = number_then 4 96 100 test_root refl (λ root. check_then _ _ 96 (λ s. head_field (number_at 4 s) >>= to_begin) (number_then 4 92 96 to_begin refl (λ version. number_then 4 88 92 (test_begin version) refl (λ begin. check_then _ _ 88 (behind_at version) (behind_cut version)))))
 
 pub head_in_front : HeadInFront
 head_in_front bytes = header_cut (standing 0 bytes)

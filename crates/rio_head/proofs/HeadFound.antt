@@ -7,7 +7,7 @@ use Rattle.rio_num.specs.Reading.{◌>>=◌, number_at, bytes_at}
 use Rattle.rio_num.specs.declared.cursor.Short.{Short as Shortage}
 use Rattle.rio_num.proofs.ReadLaws.{IsBytes, Took, Took-then, ReadsBack, back_1, back_4, back_8, IsNumber, number_found, ok_is}
 use Rattle.rio_head.specs.Form.{place_len, is_large_head}
-use Rattle.rio_head.specs.Head.{whole, check, header_at, behind_at, root_number, IsHead, BeginsAsHead}
+use Rattle.rio_head.specs.Head.{head_field, check, header_at, behind_at, root_number, IsHead, BeginsAsHead}
 use Rattle.rio_head.specs.declared.head.FileHead.{FileHead}
 use Rattle.rio_head.specs.declared.fault.HeadFault.{HeadFault}
 use Rattle.rio_head.proofs.HeadSteps.{Read, Number, header_of, test_root, to_begin, test_begin, to_seek_free, to_nbytes_free, to_nfree, to_nbytes_name, to_units, test_units, to_compress, to_seek_info, to_nbytes_info, to_uuid, to_header}
@@ -19,17 +19,17 @@ back_place false = back_4
 
 -- one step: what was read, and what follows from it and the next steps
 module _ (P : Type 0) (y : FileHead) where
-  number_step : (n : ℕ) → ReadsBack n → (s : At) (f : Number → Read) → IsBytes s.rest → (whole (number_at n s) >>= f) ≡ Ok y → ((x : ℕ) (t : At) → IsNumber n x s t → f (x, t) ≡ Ok y → P) → P
+  number_step : (n : ℕ) → ReadsBack n → (s : At) (f : Number → Read) → IsBytes s.rest → (head_field (number_at n s) >>= f) ≡ Ok y → ((x : ℕ) (t : At) → IsNumber n x s t → f (x, t) ≡ Ok y → P) → P
   number_step n back s f fits e next = by (number_at n s) refl e
     where
-      by : (r : Result Number Shortage) → number_at n s ≡ r → (whole r >>= f) ≡ Ok y → P
+      by : (r : Result Number Shortage) → number_at n s ≡ r → (head_field r >>= f) ≡ Ok y → P
       by (Ok x) is e = next x.0 x.1 (number_found n back s x.0 x.1 fits is) e
       by (Err d) is e = absurd cc
 
-  uuid_step : (s : At) (f : List ℕ × At → Read) → IsBytes s.rest → (whole (bytes_at 18 s) >>= f) ≡ Ok y → ((x : List ℕ) (t : At) → IsPart 18 x s t → f (x, t) ≡ Ok y → P) → P
+  uuid_step : (s : At) (f : List ℕ × At → Read) → IsBytes s.rest → (head_field (bytes_at 18 s) >>= f) ≡ Ok y → ((x : List ℕ) (t : At) → IsPart 18 x s t → f (x, t) ≡ Ok y → P) → P
   uuid_step s f fits e next = by (bytes_at 18 s) refl e
     where
-      by : (r : Result (List ℕ × At) Shortage) → bytes_at 18 s ≡ r → (whole r >>= f) ≡ Ok y → P
+      by : (r : Result (List ℕ × At) Shortage) → bytes_at 18 s ≡ r → (head_field r >>= f) ≡ Ok y → P
       by (Ok x) is e = next x.0 x.1 (bytes_found 18 s x.0 x.1 fits is) e
       by (Err d) is e = absurd cc
 
@@ -108,7 +108,7 @@ unfolding header_at
 header_found s y fits read =
     let P = BeginsAsHead y s.rest in
     number_step P y 4 back_4 s test_root fits read (λ root s1 r er.
-    check_step P y (root == root_number) _ (whole (number_at 4 s1) >>= to_begin) er (λ root_is et.
+    check_step P y (root == root_number) _ (head_field (number_at 4 s1) >>= to_begin) er (λ root_is et.
     number_step P y 4 back_4 s1 to_begin r.took.fits et (λ version s2 v ev.
     number_step P y 4 back_4 s2 (test_begin version) v.took.fits ev (λ begin s3 b eb.
     check_step P y (begin == 100) _ (behind_at version s3) eb (λ begin_is ei.

@@ -3,13 +3,13 @@ use Rattle.std.specs.Prelude.{ℕ, List, codes}
 use Rattle.rio_head.specs.declared.fault.FileFault.{FileFault}
 use Rattle.rio_head.specs.declared.fault.FileFault.TheVariants.{NotRoot, Short, BadBegin, BadUnits, NotClosed, BadDir, BadKeyList, Compressed, BadInfo}
 
-abbrev pub name_of : FileFault → List ℕ
-name_of NotRoot = codes "NotRoot"
-name_of Short = codes "Short"
-name_of BadBegin = codes "BadBegin"
-name_of BadUnits = codes "BadUnits"
-name_of NotClosed = codes "NotClosed"
-name_of BadDir = codes "BadDir"
-name_of BadKeyList = codes "BadKeyList"
-name_of Compressed = codes "Compressed"
-name_of BadInfo = codes "BadInfo"
+abbrev pub fault_name : FileFault → List ℕ
+fault_name NotRoot = codes "NotRoot"
+fault_name Short = codes "Short"
+fault_name BadBegin = codes "BadBegin"
+fault_name BadUnits = codes "BadUnits"
+fault_name NotClosed = codes "NotClosed"
+fault_name BadDir = codes "BadDir"
+fault_name BadKeyList = codes "BadKeyList"
+fault_name Compressed = codes "Compressed"
+fault_name BadInfo = codes "BadInfo"

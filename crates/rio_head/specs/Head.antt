@@ -26,9 +26,9 @@ IsHeaderKind Compressed = ⊥
 IsHeaderKind BadInfo = ⊥
 
 -- a field that isn't whole is a fault of the header
-abbrev pub whole : {A : Type 0} → Result A Shortage → Result A HeadFault
-whole (Ok x) = Ok x
-whole (Err s) = Err (fault_at s.place Short)
+abbrev pub head_field : {A : Type 0} → Result A Shortage → Result A HeadFault
+head_field (Ok x) = Ok x
+head_field (Err s) = Err (fault_at s.place Short)
 
 -- a test, and the fault where it fails
 abbrev pub check : Bool → HeadFault → Result (Unit {0}) HeadFault
@@ -46,26 +46,26 @@ units_place_of is_large = if is_large then 40 else 32
 -- the fields behind the place of the first record: the header of this version
 unfoldable pub behind_at : ℕ → At → Result FileHead HeadFault
 behind_at version s = do
-  end ← whole (number_at (place_len (is_large_head version)) s)
-  seek_free ← whole (number_at (place_len (is_large_head version)) end.1)
-  nbytes_free ← whole (number_at 4 seek_free.1)
-  nfree ← whole (number_at 4 nbytes_free.1)
-  nbytes_name ← whole (number_at 4 nfree.1)
-  units ← whole (number_at 1 nbytes_name.1)
+  end ← head_field (number_at (place_len (is_large_head version)) s)
+  seek_free ← head_field (number_at (place_len (is_large_head version)) end.1)
+  nbytes_free ← head_field (number_at 4 seek_free.1)
+  nfree ← head_field (number_at 4 nbytes_free.1)
+  nbytes_name ← head_field (number_at 4 nfree.1)
+  units ← head_field (number_at 1 nbytes_name.1)
   is_units ← check (units.0 == place_len (is_large_head version)) (fault_at (units_place_of (is_large_head version)) BadUnits)
-  compress ← whole (number_at 4 units.1)
-  seek_info ← whole (number_at (place_len (is_large_head version)) compress.1)
-  nbytes_info ← whole (number_at 4 seek_info.1)
-  uuid ← whole (bytes_at 18 nbytes_info.1)
+  compress ← head_field (number_at 4 units.1)
+  seek_info ← head_field (number_at (place_len (is_large_head version)) compress.1)
+  nbytes_info ← head_field (number_at 4 seek_info.1)
+  uuid ← head_field (bytes_at 18 nbytes_info.1)
   Ok (record { version = version; begin = 100; end = end.0; seek_free = seek_free.0; nbytes_free = nbytes_free.0; nfree = nfree.0; nbytes_name = nbytes_name.0; units = units.0; compress = compress.0; seek_info = seek_info.0; nbytes_info = nbytes_info.0; uuid = uuid.0 })
 
 -- the header there
 unfoldable pub header_at : At → Result FileHead HeadFault
 header_at s = do
-  root ← whole (number_at 4 s)
+  root ← head_field (number_at 4 s)
   is_root ← check (root.0 == root_number) (fault_at 0 NotRoot)
-  version ← whole (number_at 4 root.1)
-  begin ← whole (number_at 4 version.1)
+  version ← head_field (number_at 4 root.1)
+  begin ← head_field (number_at 4 version.1)
   is_begin ← check (begin.0 == 100) (fault_at 8 BadBegin)
   behind_at version.0 begin.1
 

@@ -36,11 +36,11 @@ pub enum FileFault {
 
 impl FileFault {
     ghost use Rattle.std.specs.Prelude.{◌≡◌};
-    ghost use Rattle.rio_head.specs.FaultName.{name_of};
+    ghost use Rattle.rio_head.specs.FaultName.{fault_name};
 
     /// The variant's name.
     pub fn name(&self) -> &'static str
-        ensures { result.now ≡ name_of self.now }
+        ensures { result.now ≡ fault_name self.now }
     {
         match self {
             FileFault::NotRoot => "NotRoot",

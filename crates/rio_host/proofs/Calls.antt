@@ -10,14 +10,14 @@ use Rattle.rio_host.specs.declared.call.Call.{Call}
 use Rattle.rio_host.specs.declared.call.Call.TheVariants.{Sync, Saying, Said}
 use Rattle.rio_host.specs.declared.change.Change.{Change}
 use Rattle.rio_host.specs.declared.disk.Disk.{Disk}
-use Rattle.rio_host.specs.Replay.{Makes, Flown, at_first, step, replay, MayLeave, Memory, and_then, disk_of, IsStill}
+use Rattle.rio_host.specs.Replay.{Makes, Flown, at_first, disk_behind, replay, MayLeave, Memory, and_then, disk_of, IsStill}
 use Rattle.rio_host.specs.ReplayLaws.{flown_push, flown_back, sound, left_now, now_left}
 use Rattle.rio_host.specs.Memory.{mem_view, text_now}
 use Rattle.rio_host.proofs.Kept.{disk_of-and_then}
 use Rattle.rio_host.proofs.Moments.{elapses_join}
 
 -- time goes on by one call
-pub elapses_call : (m : Memory) (call : Call) (m' : Memory) (d s r d' s' r' : ℕ) (R : List ℕ → List ℕ → Type 0) → m' ≡ and_then m call → ((image said : List ℕ) → MayLeave (step (disk_of m) call) image said → R image said)
+pub elapses_call : (m : Memory) (call : Call) (m' : Memory) (d s r d' s' r' : ℕ) (R : List ℕ → List ℕ → Type 0) → m' ≡ and_then m call → ((image said : List ℕ) → MayLeave (disk_behind (disk_of m) call) image said → R image said)
     → Elapses (mem_view m d s r) (mem_view m' d' s' r') R
 elapses_call m call m' d s r d' s' r' R is has = subst (λ (x : Memory). Elapses (mem_view m d s r) (mem_view x d' s' r') R) (sym is) (record {
   later = omega (arith, long);
@@ -36,7 +36,7 @@ elapses_call m call m' d s r d' s' r' R is has = subst (λ (x : Memory). Elapses
 -- ---- a call that sets a change in flight
 
 module _ (m : Memory) (call : Call) (change : Change) (contents : List ℕ)
-    (adds : step (disk_of m) call ≡ record (disk_of m) { flight = (disk_of m).flight ++ change ∷ []; contents = contents })
+    (adds : disk_behind (disk_of m) call ≡ record (disk_of m) { flight = (disk_of m).flight ++ change ∷ []; contents = contents })
     (m' : Memory) (is : m' ≡ and_then m call) where
   now : disk_of m' ≡ record (disk_of m) { flight = (disk_of m).flight ++ change ∷ []; contents = contents }
   now = ap (λ (x : Memory). disk_of x) is ∙ disk_of-and_then m call ∙ adds
@@ -70,7 +70,7 @@ module _ (m : Memory) (call : Call) (change : Change) (contents : List ℕ)
 -- ---- a sync that succeeded
 
 module _ (m m' : Memory) (is : m' ≡ and_then m Sync) where
-  synced : disk_of m' ≡ step (disk_of m) Sync
+  synced : disk_of m' ≡ disk_behind (disk_of m) Sync
   synced = ap (λ (x : Memory). disk_of x) is ∙ disk_of-and_then m Sync
 
   pub sync_still : IsStill m → IsStill m'
@@ -95,7 +95,7 @@ module _ (m m' : Memory) (is : m' ≡ and_then m Sync) where
   pub sync_quiet : (d s r : ℕ) → IsQuiet (mem_view m' d s r)
   sync_quiet d s r image said file left told =
       let now = left_now m' image said left in
-      let flown : MayLeave (step (disk_of m) Sync) image said = subst (λ (x : Disk). MayLeave x image said) synced now in
+      let flown : MayLeave (disk_behind (disk_of m) Sync) image said = subst (λ (x : Disk). MayLeave x image said) synced now in
       flown.0 ∙ sym sync_holds ∙ same_Some (disk_of m').contents file told
 
 -- ---- a say
@@ -104,11 +104,11 @@ module _ (m m' : Memory) (bytes : List ℕ) (is : m' ≡ and_then (and_then m (S
   abbrev saying : Memory
   saying = and_then m (Saying bytes)
 
-  begun : disk_of saying ≡ step (disk_of m) (Saying bytes)
+  begun : disk_of saying ≡ disk_behind (disk_of m) (Saying bytes)
   begun = disk_of-and_then m (Saying bytes)
 
-  ended : disk_of m' ≡ step (step (disk_of m) (Saying bytes)) Said
-  ended = ap (λ (x : Memory). disk_of x) is ∙ disk_of-and_then saying Said ∙ ap (λ (d : Disk). step d Said) begun
+  ended : disk_of m' ≡ disk_behind (disk_behind (disk_of m) (Saying bytes)) Said
+  ended = ap (λ (x : Memory). disk_of x) is ∙ disk_of-and_then saying Said ∙ ap (λ (d : Disk). disk_behind d Said) begun
 
   pub say_still : IsStill m'
   say_still = ap (λ (d : Disk). d.speaking) ended
@@ -124,7 +124,7 @@ module _ (m m' : Memory) (bytes : List ℕ) (is : m' ≡ and_then (and_then m (S
       (elapses_call m (Saying bytes) saying d s r d s r (Speaking bytes (mem_view m d s r)) refl (λ image said left.
       ((disk_of m).text, now_left m image (disk_of m).text (left.0, (0, sym (append-nil (disk_of m).text))), left.1)))
       (elapses_call saying Said m' d s r d' s' r' (Speaking bytes (mem_view m d s r)) is (λ image said left.
-      let left' : MayLeave (step (step (disk_of m) (Saying bytes)) Said) image said = subst (λ (x : Disk). MayLeave (step x Said) image said) begun left in
+      let left' : MayLeave (disk_behind (disk_behind (disk_of m) (Saying bytes)) Said) image said = subst (λ (x : Disk). MayLeave (disk_behind x Said) image said) begun left in
       let none : take left'.1.0 [] ≡ [] = take_all left'.1.0 [] (omega arith) in (
         (disk_of m).text,
         now_left m image (disk_of m).text (left'.0, (0, sym (append-nil (disk_of m).text))),

@@ -4,11 +4,11 @@ use Rattle.byteorder.specs.Endian.{big_bytes}
 use Rattle.rio_host.specs.declared.call.Call.{Call}
 use Rattle.rio_host.specs.declared.call.Call.TheVariants.{Write, Word, FailedWrite, FailedWord, Sync, Saying, Said}
 use Rattle.rio_host.specs.declared.disk.Disk.{Disk}
-use Rattle.rio_host.specs.Replay.{put_at, at_first, step, replay, Memory, and_then, disk_of}
+use Rattle.rio_host.specs.Replay.{put_at, at_first, disk_behind, replay, Memory, and_then, disk_of}
 use Rattle.rio_host.specs.ReplayLaws.{replay_push}
 use Rattle.rio_host.specs.Memory.{IsKept}
 
-pub disk_of-and_then : (m : Memory) (call : Call) → disk_of (and_then m call) ≡ step (disk_of m) call
+pub disk_of-and_then : (m : Memory) (call : Call) → disk_of (and_then m call) ≡ disk_behind (disk_of m) call
 disk_of-and_then m call = replay_push (at_first m.first) m.calls call
 
 module _ (first : List ℕ) (calls : List Call) (held text : List ℕ) (kept : IsKept (record { first = first; calls = calls }) held text) (calls' : List Call) where
@@ -18,9 +18,9 @@ module _ (first : List ℕ) (calls : List Call) (held text : List ℕ) (kept : I
   abbrev pub after : Memory
   after = record { first = first; calls = calls' }
 
-  kept_call : (call : Call) (held' text' : List ℕ) → calls' ≡ calls ++ call ∷ [] → held' ≡ (step (disk_of before) call).contents → text' ≡ (step (disk_of before) call).text → IsKept after held' text'
+  kept_call : (call : Call) (held' text' : List ℕ) → calls' ≡ calls ++ call ∷ [] → held' ≡ (disk_behind (disk_of before) call).contents → text' ≡ (disk_behind (disk_of before) call).text → IsKept after held' text'
   kept_call call held' text' is contents said =
-      let now : disk_of after ≡ step (disk_of before) call = ap (λ (l : List Call). replay (at_first first) l) is ∙ disk_of-and_then before call in
+      let now : disk_of after ≡ disk_behind (disk_of before) call = ap (λ (l : List Call). replay (at_first first) l) is ∙ disk_of-and_then before call in
       record { contents = contents ∙ ap (λ (d : Disk). d.contents) (sym now); said = said ∙ ap (λ (d : Disk). d.text) (sym now) }
 
   pub kept_write : (place : ℕ) (bytes held' : List ℕ) → calls' ≡ calls ++ Write place bytes ∷ [] → held' ≡ put_at (disk_of before).contents place bytes → IsKept after held' text
@@ -41,9 +41,9 @@ module _ (first : List ℕ) (calls : List Call) (held text : List ℕ) (kept : I
   pub kept_say : (bytes text' : List ℕ) → calls' ≡ (calls ++ Saying bytes ∷ []) ++ Said ∷ [] → text' ≡ text ++ bytes → IsKept after held text'
   kept_say bytes text' is more =
       let saying : Memory = and_then before (Saying bytes) in
-      let first_step : disk_of saying ≡ step (disk_of before) (Saying bytes) = disk_of-and_then before (Saying bytes) in
-      let now : disk_of after ≡ step (step (disk_of before) (Saying bytes)) Said =
-      ap (λ (l : List Call). replay (at_first first) l) is ∙ disk_of-and_then saying Said ∙ ap (λ (d : Disk). step d Said) first_step in
+      let first_step : disk_of saying ≡ disk_behind (disk_of before) (Saying bytes) = disk_of-and_then before (Saying bytes) in
+      let now : disk_of after ≡ disk_behind (disk_behind (disk_of before) (Saying bytes)) Said =
+      ap (λ (l : List Call). replay (at_first first) l) is ∙ disk_of-and_then saying Said ∙ ap (λ (d : Disk). disk_behind d Said) first_step in
       record {
         contents = kept.contents ∙ ap (λ (d : Disk). d.contents) (sym now);
         said = more ∙ ap (λ (l : List ℕ). l ++ bytes) kept.said ∙ ap (λ (d : Disk). d.text) (sym now);

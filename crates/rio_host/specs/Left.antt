@@ -10,16 +10,16 @@ abbrev pub zeros_after : List Call → View
 zeros_after calls = mem_view (record { first = 0 ∷ 0 ∷ 0 ∷ 0 ∷ []; calls = calls }) 0 0 0
 
 -- a write of 1, 2, 3 at place 3
-abbrev pub written : List Call
-written = Write 3 (1 ∷ 2 ∷ 3 ∷ []) ∷ []
+abbrev pub three_written : List Call
+three_written = Write 3 (1 ∷ 2 ∷ 3 ∷ []) ∷ []
 
 -- the same, but it failed
 abbrev pub failed : List Call
 failed = FailedWrite 3 (1 ∷ 2 ∷ 3 ∷ []) ∷ []
 
 -- the word 01020304 at place 0
-abbrev pub worded : List Call
-worded = Word 0 16909060 ∷ []
+abbrev pub word_written : List Call
+word_written = Word 0 16909060 ∷ []
 
 -- the text 7, 8
 abbrev pub said : List Call

@@ -25,24 +25,24 @@ put_at file place bytes = if nat_le place (length file) then take place file ++ 
 abbrev pub at_first : List ℕ → Disk
 at_first first = record { base = first; flight = []; contents = first; text = []; speaking = [] }
 
-abbrev pub step : Disk → Call → Disk
-step d (Write place bytes) = record d {
+abbrev pub disk_behind : Disk → Call → Disk
+disk_behind d (Write place bytes) = record d {
   flight = d.flight ++ Range place bytes ∷ [];
   contents = put_at d.contents place bytes;
 }
-step d (Word place word) = record d {
+disk_behind d (Word place word) = record d {
   flight = d.flight ++ Whole place (big_bytes 4 word) ∷ [];
   contents = put_at d.contents place (big_bytes 4 word);
 }
-step d (FailedWrite place bytes) = record d { flight = d.flight ++ Range place bytes ∷ [] }
-step d (FailedWord place word) = record d { flight = d.flight ++ Whole place (big_bytes 4 word) ∷ [] }
-step d Sync = record d { base = d.contents; flight = [] }
-step d (Saying bytes) = record d { speaking = bytes }
-step d Said = record d { text = d.text ++ d.speaking; speaking = [] }
+disk_behind d (FailedWrite place bytes) = record d { flight = d.flight ++ Range place bytes ∷ [] }
+disk_behind d (FailedWord place word) = record d { flight = d.flight ++ Whole place (big_bytes 4 word) ∷ [] }
+disk_behind d Sync = record d { base = d.contents; flight = [] }
+disk_behind d (Saying bytes) = record d { speaking = bytes }
+disk_behind d Said = record d { text = d.text ++ d.speaking; speaking = [] }
 
 abbrev pub replay : Disk → List Call → Disk
 replay d [] = d
-replay d (call ∷ calls) = replay (step d call) calls
+replay d (call ∷ calls) = replay (disk_behind d call) calls
 
 -- what a stop leaves of a disk: its writes in flight done anyhow, and a front of what is being said
 abbrev pub MayLeave : Disk → List ℕ → List ℕ → Type 0

@@ -12,7 +12,7 @@ use Rattle.rio_host.specs.declared.call.Call.TheVariants.{Write, Word, FailedWri
 use Rattle.rio_host.specs.declared.change.Change.{Change}
 use Rattle.rio_host.specs.declared.change.Change.TheVariants.{Range, Whole}
 use Rattle.rio_host.specs.declared.disk.Disk.{Disk}
-use Rattle.rio_host.specs.Replay.{Makes, Flown, put_at, at_first, step, replay, MayLeave, Memory, disk_of, LeftSince}
+use Rattle.rio_host.specs.Replay.{Makes, Flown, put_at, at_first, disk_behind, replay, MayLeave, Memory, disk_of, LeftSince}
 
 -- one change more
 pub flown_push : (base : List ℕ) (changes : List Change) (change : Change) (next image : List ℕ) → Flown base changes next → Makes change next image → Flown base (changes ++ change ∷ []) image
@@ -24,9 +24,9 @@ flown_back base [] change image flown = (base, refl, subst (λ (l : List ℕ). M
 flown_back base (c ∷ changes) change image flown =
     let rest = flown_back flown.0 changes change image flown.2 in (rest.0, (flown.0, flown.1, rest.1), rest.2)
 
-pub replay_push : (d : Disk) (calls : List Call) (call : Call) → replay d (calls ++ call ∷ []) ≡ step (replay d calls) call
+pub replay_push : (d : Disk) (calls : List Call) (call : Call) → replay d (calls ++ call ∷ []) ≡ disk_behind (replay d calls) call
 replay_push d [] call = refl
-replay_push d (c ∷ calls) call = replay_push (step d c) calls call
+replay_push d (c ∷ calls) call = replay_push (disk_behind d c) calls call
 
 put_at_is : (file : List ℕ) (place : ℕ) (bytes : List ℕ) → place ≤ length file → put_at file place bytes ≡ spliced file place bytes
 put_at_is file place bytes le = grind (arith, nat_tests)
@@ -56,7 +56,7 @@ put_at_whole file place bytes = elim (cases_lt (length file) place) [
 ]
 
 -- what reads give is one of the images
-sound_step : (d : Disk) (call : Call) → Flown d.base d.flight d.contents → Flown (step d call).base (step d call).flight (step d call).contents
+sound_step : (d : Disk) (call : Call) → Flown d.base d.flight d.contents → Flown (disk_behind d call).base (disk_behind d call).flight (disk_behind d call).contents
 sound_step d (Write place bytes) sound = flown_push d.base d.flight (Range place bytes) d.contents (put_at d.contents place bytes) sound (put_at_torn d.contents place bytes)
 sound_step d (Word place word) sound = flown_push d.base d.flight (Whole place (big_bytes 4 word)) d.contents (put_at d.contents place (big_bytes 4 word)) sound (put_at_whole d.contents place (big_bytes 4 word))
 sound_step d (FailedWrite place bytes) sound = flown_push d.base d.flight (Range place bytes) d.contents d.contents sound (makes_same (Range place bytes) d.contents)
@@ -67,7 +67,7 @@ sound_step d Said sound = sound
 
 pub sound : (d : Disk) (calls : List Call) → Flown d.base d.flight d.contents → Flown (replay d calls).base (replay d calls).flight (replay d calls).contents
 sound d [] is = is
-sound d (call ∷ calls) is = sound (step d call) calls (sound_step d call is)
+sound d (call ∷ calls) is = sound (disk_behind d call) calls (sound_step d call is)
 
 -- now, all calls are done
 pub left_now : (m : Memory) (image said : List ℕ) → LeftSince m (length m.calls) image said → MayLeave (disk_of m) image said

@@ -8,6 +8,6 @@ pub record Input : Type 0 where
   pub faults : ℕ
 
 -- The first n bytes of the buffer are the front of what remained. None are given to a buffer only where it has no room or nothing remained.
-pub record Gives (n : ℕ) (buffer old new : List ℕ) : Type 0 where
+pub record Fills (n : ℕ) (buffer old new : List ℕ) : Type 0 where
   pub front : old ≡ take n buffer ++ new
   pub end : n ≡ 0 → 0 < length buffer → old ≡ []

@@ -8,8 +8,8 @@ use Rattle.rio_host.specs.declared.sources.SureSource.{SureSource}
 abbrev pub input_of : MemSource → Input
 input_of s = told_input s.rest s.faults
 
-abbrev pub tally_of : MemSource → Tally
-tally_of s = record { made = s.made; failing = s.failing; shortages = 0 }
+abbrev pub read_tally : MemSource → Tally
+read_tally s = record { made = s.made; failing = s.failing; shortages = 0 }
 
 abbrev pub sure_input_of : SureSource → Input
 sure_input_of s = told_input s.rest 0

@@ -23,7 +23,7 @@ pub struct Disk {
 impl Disk {
     ghost use Rattle.std.specs.Prelude.{◌≡◌, ◌++◌, ◌∷◌, [], IfOk, OnOk};
     ghost use Rattle.rio_host.specs.declared.change.Change.TheVariants.{Range, Whole};
-    ghost use Rattle.rio_host.specs.Replay.{at_first, step, replay};
+    ghost use Rattle.rio_host.specs.Replay.{at_first, disk_behind, replay};
     ghost use Rattle.rio_host.specs.Stops.{left_image, left_text};
 
     /// A disk with this file, and no text.
@@ -89,7 +89,7 @@ impl Disk {
 
     // One call more.
     fn step(&mut self, alloc: Global, call: &Call) -> Result<(), NoMemory>
-        ensures { OnOk result (self.new ≡ step self.old call.now) }
+        ensures { OnOk result (self.new ≡ disk_behind self.old call.now) }
     {
         match call {
             Call::Write { place, bytes } => {

@@ -1,13 +1,13 @@
 //! What a stop leaves of a small file, in three examples.
 ghost use Rattle.std.specs.Prelude.{[], ◌∷◌, ◌≡◌, ℕ, List};
 ghost use Rattle.rio_host.specs.Host.{Leaves};
-ghost use Rattle.rio_host.specs.Left.{zeros_after, written, failed, synced, worded, said};
+ghost use Rattle.rio_host.specs.Left.{zeros_after, three_written, failed, synced, word_written, said};
 
 /// A stop before the sync may leave a part of a write, with other bytes in its range and a length
 /// on the way. It is so too where the write failed. After the sync it leaves the write whole.
 pub fn leaves_torn_writes()
-    ensures part { Leaves (zeros_after written) (0 ∷ 0 ∷ 0 ∷ 9 ∷ 2 ∷ []) [] }
-    ensures outside { (bytes : List ℕ) → ¬ Leaves (zeros_after written) (0 ∷ 5 ∷ bytes) [] }
+    ensures part { Leaves (zeros_after three_written) (0 ∷ 0 ∷ 0 ∷ 9 ∷ 2 ∷ []) [] }
+    ensures outside { (bytes : List ℕ) → ¬ Leaves (zeros_after three_written) (0 ∷ 5 ∷ bytes) [] }
     ensures failed { Leaves (zeros_after failed) (0 ∷ 0 ∷ 0 ∷ 9 ∷ 2 ∷ []) [] }
     ensures synced { (image : List ℕ)
         → Leaves (zeros_after synced) image [] → image ≡ 0 ∷ 0 ∷ 0 ∷ 1 ∷ 2 ∷ 3 ∷ [] }
@@ -15,9 +15,9 @@ pub fn leaves_torn_writes()
 
 /// A stop leaves all of a word or nothing.
 pub fn leaves_words_whole()
-    ensures all { Leaves (zeros_after worded) (1 ∷ 2 ∷ 3 ∷ 4 ∷ []) [] }
-    ensures nothing { Leaves (zeros_after worded) (0 ∷ 0 ∷ 0 ∷ 0 ∷ []) [] }
-    ensures no_part { ¬ Leaves (zeros_after worded) (1 ∷ 2 ∷ 0 ∷ 0 ∷ []) [] }
+    ensures all { Leaves (zeros_after word_written) (1 ∷ 2 ∷ 3 ∷ 4 ∷ []) [] }
+    ensures nothing { Leaves (zeros_after word_written) (0 ∷ 0 ∷ 0 ∷ 0 ∷ []) [] }
+    ensures no_part { ¬ Leaves (zeros_after word_written) (1 ∷ 2 ∷ 0 ∷ 0 ∷ []) [] }
 {}
 
 /// A stop during a say leaves a front of its bytes, and one after it all of them.

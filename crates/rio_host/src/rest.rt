@@ -1,6 +1,6 @@
 //! What remains of some bytes.
 ghost use Rattle.std.specs.Prelude.{◌≡◌, min, length};
-ghost use Rattle.rio_host.specs.Source.{Gives};
+ghost use Rattle.rio_host.specs.Source.{Fills};
 
 use rio_num::Bytes;
 use std::marker::Model;
@@ -33,7 +33,7 @@ impl Rest {
     /// Puts as many of the bytes at the front of `into` as it has room for.
     pub fn give(&mut self, into: &mut [u8]) -> usize
         ensures count { result ≡ min (length self.old) (length into.old) }
-        ensures gives { Gives result into.new self.old self.new }
+        ensures gives { Fills result into.new self.old self.new }
     {
         let rest = &self.bytes.as_slice()[self.given..];
         let n = rest.len().min(into.len());

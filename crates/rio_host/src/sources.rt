@@ -2,7 +2,7 @@
 ghost use Rattle.std.specs.Prelude.{◌≡◌, ◌≤◌, ◌<◌, min, Some, length, IfOk, IsOk, OnErr, IsErr};
 ghost use Rattle.rio_host.specs.Failing.{FailsByNumber};
 ghost use Rattle.rio_host.specs.Host.{Becomes, Rose};
-ghost use Rattle.rio_host.specs.Source.{Gives};
+ghost use Rattle.rio_host.specs.Source.{Fills};
 ghost use Rattle.rio_host.specs.SourceTold.{told_input};
 
 use crate::count::{is_next_failing, raised};
@@ -20,12 +20,12 @@ pub struct MemSource {
 }
 
 impl MemSource {
-    ghost use Rattle.rio_host.specs.Sources.{input_of, tally_of};
+    ghost use Rattle.rio_host.specs.Sources.{input_of, read_tally};
 
     /// An input of these bytes. The numbers are those of the reads that fail, counted from 0.
     pub fn new(bytes: Bytes, failing: Numbers) -> MemSource
         ensures input { input_of result ≡ record { remaining = Some bytes.bytes; faults = 0 } }
-        ensures counts { tally_of result ≡ record { made = 0; failing = failing; shortages = 0 } }
+        ensures counts { read_tally result ≡ record { made = 0; failing = failing; shortages = 0 } }
     {
         MemSource {
             rest: Rest::new(bytes),
@@ -37,14 +37,14 @@ impl MemSource {
 }
 
 impl Source for MemSource {
-    ghost use Rattle.rio_host.specs.Sources.{input_of, tally_of};
+    ghost use Rattle.rio_host.specs.Sources.{input_of, read_tally};
 
     ghost view = { λ s. told_input s.rest s.faults };
 
     fn read(&mut self, into: &mut [u8]) -> Result<usize, Failed>
         ensures length { IfOk result (λ n. n ≤ length into.old) }
         ensures gives { IfOk result
-            (λ n. Becomes (Gives n into.new)
+            (λ n. Becomes (Fills n into.new)
             (input_of self.old).remaining (input_of self.new).remaining) }
         ensures failed { OnErr result
             ((input_of self.new).remaining ≡ (input_of self.old).remaining) }
@@ -52,7 +52,7 @@ impl Source for MemSource {
         ensures counted { IsOk result → (input_of self.new).faults ≡ (input_of self.old).faults }
         ensures cause { IsErr result → Rose (input_of self.old).faults (input_of self.new).faults }
 
-        ensures fails { FailsByNumber (tally_of self.old) (tally_of self.new) result }
+        ensures fails { FailsByNumber (read_tally self.old) (read_tally self.new) result }
     {
         if is_next_failing(&mut self.made, self.failing.as_slice()) {
             self.faults = raised(self.faults);
@@ -89,7 +89,7 @@ impl Source for SureSource {
     fn read(&mut self, into: &mut [u8]) -> Result<usize, Failed>
         ensures length { IfOk result (λ n. n ≤ length into.old) }
         ensures gives { IfOk result
-            (λ n. Becomes (Gives n into.new)
+            (λ n. Becomes (Fills n into.new)
             (sure_input_of self.old).remaining (sure_input_of self.new).remaining) }
         ensures counted { (sure_input_of self.new).faults ≡ (sure_input_of self.old).faults }
         ensures sure { IsOk result }

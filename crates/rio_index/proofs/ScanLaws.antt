@@ -1,13 +1,11 @@
 -- What a scan holds and wants, branch by branch.
-use Rattle.std.proofs.Common.{◌≡◌, ◌==◌, ◌&&◌, ℕ, zero, suc, ◌+◌, ◌-◌, ◌<◌, ◌≤◌, ltb, leb, Bool, true, false, cond, List, [], ◌∷◌, ◌++◌, length, map, drop, Option, Some, None, refl, sym, ap, subst, ◌∙◌, slice_index_or, arith}
+use Rattle.std.proofs.Common.{◌≡◌, ℕ, zero, suc, ◌+◌, ◌<◌, ◌≤◌, List, [], ◌∷◌, length, map, drop, Option, Some, None, refl, sym, ap, subst, ◌∙◌, slice_index_or, arith}
 use Rattle.std.proofs.lemmas.List.{drop_all, drop_more}
-use Rattle.std.specs.Prelude.{is_none, slice_get, slice_set, not, nat_le, nat_lt, unwrap_or, option_and_then}
+use Rattle.std.specs.Prelude.{slice_set}
 use Rattle.rio_tree.specs.Index.{IsIndex}
 use Rattle.rio_tree.specs.declared.head.Branch.{Branch}
 use Rattle.rio_tree.specs.declared.refusal.BranchRefusal.{BranchRefusal}
-use Rattle.rio_index.specs.Index.{basket_holding}
-use Rattle.rio_index.specs.Scan.{CanGoOn, CanHold, CanScan, empty_lane, first_wanted, holds_entry, one_wanted, wanted_by, wanted_from, wanting_from}
-use Rattle.rio_index.specs.declared.lane.Held.{Held}
+use Rattle.rio_index.specs.Scan.{CanGoOn, CanHold, CanScan, empty_lane, first_wanted, wanted_by, wanted_from}
 use Rattle.rio_index.specs.declared.lane.Lane.{Lane}
 
 -- ---- where a scan can go on

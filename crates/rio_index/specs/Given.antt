@@ -1,9 +1,9 @@
 -- What the calls of a scan return.
-use Rattle.std.specs.Prelude.{◌≡◌, ◌≢◌, ◌≤◌, ℕ, List, Option, Some, None, Result, Ok, Err}
+use Rattle.std.specs.Prelude.{◌≡◌, ◌≤◌, List, Option, Some, None, Result, Ok, Err}
 use Rattle.rio_types.specs.declared.class.ClassDef.{ClassDef}
 use Rattle.rio_value.specs.declared.value.Value.{Value}
 use Rattle.rio_entry.specs.declared.fault.EntryFault.{EntryFault}
-use Rattle.rio_entry.specs.declared.fault.EntryFault.TheVariants.{BadRow, TooLarge, BadEntry, NoMemory}
+use Rattle.rio_entry.specs.declared.fault.EntryFault.TheVariants.{NoMemory}
 use Rattle.rio_index.specs.Scan.{HasNext, RowScan, behind_next, next_row}
 
 -- The next row or its fault was returned, and the scan stands behind it; past the last row nothing was returned. Where

@@ -1,5 +1,5 @@
 -- A scan of a tree: what is held of each branch, which basket is wanted, and the next row.
-use Rattle.std.specs.Prelude.{◌≡◌, ℕ, zero, suc, ◌+◌, ◌-◌, ◌<◌, List, [], ◌∷◌, length, map, slice_get, slice_set, Option, Some, None, is_none, unwrap_or, option_and_then, Result, Bool, false, ◌&&◌, not, nat_le, nat_lt, if◌then◌else◌}
+use Rattle.std.specs.Prelude.{◌≡◌, ℕ, ◌+◌, ◌-◌, ◌<◌, List, [], ◌∷◌, length, map, slice_get, slice_set, Option, Some, None, is_none, unwrap_or, option_and_then, Result, Bool, false, ◌&&◌, not, nat_le, nat_lt, if◌then◌else◌}
 use Rattle.std.specs.Option.{option_map}
 use Rattle.rio_leaf.specs.declared.branch.BranchDef.{BranchDef}
 use Rattle.rio_types.specs.declared.class.ClassDef.{ClassDef}

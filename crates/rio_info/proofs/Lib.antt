@@ -3,7 +3,6 @@ pub mod ClassForms
 pub mod ElementForms
 pub mod ListForms
 pub mod ListGrowth
-pub mod MeasuredParts
 pub mod MemberLaws
 pub mod NamedAmounts
 pub mod WritingLaws

@@ -1,8 +1,8 @@
 //! Class lists in bytes, read and written: the classes that a file describes. `read_info` tells the classes of a list or
 //! its first fault, `write_info` writes the list for declared classes, `info_length` and `info_length_with` tell its
-//! length beforehand. The definitions stand in `rio_format`: `ClassList` and `Elements` of what is read, `TreeClasses`,
-//! `WrittenElements`, `WrittenList` and `WrittenBytes` of what is written; `WrittenParts` here says the same bytes part
-//! by part.
+//! length beforehand: the same walk, into a sink that counts. The definitions stand in `rio_format`: `ClassList` and
+//! `Elements` of what is read, `TreeClasses`, `WrittenElements`, `WrittenList` and `WrittenBytes` of what is written;
+//! `WrittenParts` here says the same bytes part by part.
 #![tactic(auto)]
 
 mod classes;
@@ -10,6 +10,7 @@ mod element;
 mod kind;
 mod laws;
 mod length;
+mod list;
 mod members;
 mod parts;
 mod read;

@@ -1,7 +1,7 @@
 //! What stands in a value that was read.
 ghost use Rattle.std.specs.Prelude.{◌≡◌, slice_get};
 ghost use Rattle.std.specs.Option.{option_copied, option_map};
-ghost use Rattle.rio_format.specs.ValueParts.{base_parts, items_in, layer_object, list_of, part_of, parts_behind, parts_of, signed_in, signed_of, text_in, text_of, unsigned_in, unsigned_of};
+ghost use Rattle.rio_format.specs.ValueParts.{base_parts, items_in, layer_object, list_of, part_of, parts_behind, parts_of, signed_in, signed_of, text_in, text_in_part, unsigned_in, unsigned_of};
 ghost use Rattle.rio_value.specs.declared.value.Value.{out-Value};
 
 use rio_value::{Part, Value};
@@ -106,7 +106,7 @@ pub(crate) fn list_of<'a>(name: &[u8], parts: &'a [Part]) -> &'a [Value]
 }
 
 pub(crate) fn text_of<'a>(name: &[u8], parts: &'a [Part]) -> &'a [u8]
-    ensures { result.now ≡ text_of name.now parts.now }
+    ensures { result.now ≡ text_in_part name.now parts.now }
 {
     match part_of(name, parts) {
         Some(value) => text_in(value),

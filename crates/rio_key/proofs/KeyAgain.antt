@@ -7,7 +7,7 @@ use Rattle.byteorder.specs.Endian.{big_bytes}
 use Rattle.byteorder.specs.Numbers.{length-bytes_high_first}
 use Rattle.rio_num.specs.At.{At}
 use Rattle.rio_num.proofs.ReadLaws.{number_again, text_again}
-use Rattle.rio_key.specs.Key.{fields_at, key_head_at, place_len}
+use Rattle.rio_key.specs.Key.{fields_at, key_head_at, key_place_len}
 use Rattle.rio_key.specs.Spelling.{SpellsKey, number_bytes}
 use Rattle.rio_key.specs.declared.head.KeyHead.{KeyHead}
 use Rattle.rio_key.proofs.Signed.{signed_is, not_below}
@@ -19,13 +19,13 @@ number_length : (n x : ℕ) → length (big_bytes n x) ≡ n
 number_length n x = length-bytes_high_first n x
 
 -- how long the numbers are
-numbers_length : (h : KeyHead) (nbytes : ℕ) → length (number_bytes h nbytes) ≡ 18 + 2 * place_len h.version
+numbers_length : (h : KeyHead) (nbytes : ℕ) → length (number_bytes h nbytes) ≡ 18 + 2 * key_place_len h.version
 numbers_length h nbytes = simp (length-append, number_length) (omega arith)
 
 fields_again : (h : KeyHead) (bytes : List ℕ) (p : ℕ) (rest : List ℕ) → SpellsKey h bytes → fields_at (standing p (bytes ++ rest)) ≡ Ok (h, standing (p + length bytes) rest)
 unfolding fields_at
 fields_again h bytes p rest c =
-    let n = place_len h.version in
+    let n = key_place_len h.version in
     let r11 = c.title_bytes ++ rest in
     let r10 = c.name_bytes ++ r11 in
     let r9 = c.class_bytes ++ r10 in

@@ -8,7 +8,7 @@ use Rattle.rio_num.specs.Reading.{◌>>=◌, number_at, text_at}
 use Rattle.rio_num.specs.declared.cursor.Short.{Short as Shortage}
 use Rattle.rio_num.proofs.ReadLaws.{IsBytes, Took, Took-then, ReadsBack, back_2, back_4, back_8, IsNumber, number_found, IsTextAt, text_found, bind_ok, ok_is}
 use Rattle.rio_num.specs.Text.{SpellsText}
-use Rattle.rio_key.specs.Key.{fields_at, key_head_at, place_len, whole}
+use Rattle.rio_key.specs.Key.{fields_at, key_head_at, key_place_len, whole}
 use Rattle.rio_key.specs.Spelling.{SpellsKey, AreWithinFields, number_bytes}
 use Rattle.rio_key.specs.declared.head.KeyHead.{KeyHead}
 use Rattle.rio_key.specs.declared.fault.KeyFault.{KeyFault}
@@ -37,7 +37,7 @@ back_place_by : (b : Bool) → ReadsBack (cond b 8 4)
 back_place_by true = back_8
 back_place_by false = back_4
 
-back_place : (version : ℕ) → ReadsBack (place_len version)
+back_place : (version : ℕ) → ReadsBack (key_place_len version)
 back_place version = back_place_by (nat_lt 1000 version)
 
 -- the fields, and what spells them
@@ -56,21 +56,21 @@ record AreFields (h : KeyHead) (s s' : At) : Type 0 where
 
 -- the numbers, one behind the other
 numbers_took : (h : KeyHead) (nbytes : ℕ) (s s1 s2 s3 s4 s5 s6 s7 s8 : At)
-    → IsNumber 4 nbytes s s1 → IsNumber 2 h.version s1 s2 → IsNumber 4 h.objlen s2 s3 → IsNumber 4 h.datime s3 s4 → IsNumber 2 h.keylen s4 s5 → IsNumber 2 h.cycle s5 s6 → IsNumber (place_len h.version) h.seek s6 s7 → IsNumber (place_len h.version) h.pdir s7 s8
+    → IsNumber 4 nbytes s s1 → IsNumber 2 h.version s1 s2 → IsNumber 4 h.objlen s2 s3 → IsNumber 4 h.datime s3 s4 → IsNumber 2 h.keylen s4 s5 → IsNumber 2 h.cycle s5 s6 → IsNumber (key_place_len h.version) h.seek s6 s7 → IsNumber (key_place_len h.version) h.pdir s7 s8
     → Took s (number_bytes h nbytes) s8
 numbers_took h nbytes s s1 s2 s3 s4 s5 s6 s7 s8 a b c d e f g i =
-    let n6 = Took-then s6 (big_bytes (place_len h.version) h.seek) s7 (big_bytes (place_len h.version) h.pdir) s8 g.took i.took in
-    let n5 = Took-then s5 (big_bytes 2 h.cycle) s6 (big_bytes (place_len h.version) h.seek ++ (big_bytes (place_len h.version) h.pdir)) s8 f.took n6 in
-    let n4 = Took-then s4 (big_bytes 2 h.keylen) s5 (big_bytes 2 h.cycle ++ (big_bytes (place_len h.version) h.seek ++ (big_bytes (place_len h.version) h.pdir))) s8 e.took n5 in
-    let n3 = Took-then s3 (big_bytes 4 h.datime) s4 (big_bytes 2 h.keylen ++ (big_bytes 2 h.cycle ++ (big_bytes (place_len h.version) h.seek ++ (big_bytes (place_len h.version) h.pdir)))) s8 d.took n4 in
-    let n2 = Took-then s2 (big_bytes 4 h.objlen) s3 (big_bytes 4 h.datime ++ (big_bytes 2 h.keylen ++ (big_bytes 2 h.cycle ++ (big_bytes (place_len h.version) h.seek ++ (big_bytes (place_len h.version) h.pdir))))) s8 c.took n3 in
-    let n1 = Took-then s1 (big_bytes 2 h.version) s2 (big_bytes 4 h.objlen ++ (big_bytes 4 h.datime ++ (big_bytes 2 h.keylen ++ (big_bytes 2 h.cycle ++ (big_bytes (place_len h.version) h.seek ++ (big_bytes (place_len h.version) h.pdir)))))) s8 b.took n2 in
-    let n0 = Took-then s (big_bytes 4 nbytes) s1 (big_bytes 2 h.version ++ (big_bytes 4 h.objlen ++ (big_bytes 4 h.datime ++ (big_bytes 2 h.keylen ++ (big_bytes 2 h.cycle ++ (big_bytes (place_len h.version) h.seek ++ (big_bytes (place_len h.version) h.pdir))))))) s8 a.took n1 in
+    let n6 = Took-then s6 (big_bytes (key_place_len h.version) h.seek) s7 (big_bytes (key_place_len h.version) h.pdir) s8 g.took i.took in
+    let n5 = Took-then s5 (big_bytes 2 h.cycle) s6 (big_bytes (key_place_len h.version) h.seek ++ (big_bytes (key_place_len h.version) h.pdir)) s8 f.took n6 in
+    let n4 = Took-then s4 (big_bytes 2 h.keylen) s5 (big_bytes 2 h.cycle ++ (big_bytes (key_place_len h.version) h.seek ++ (big_bytes (key_place_len h.version) h.pdir))) s8 e.took n5 in
+    let n3 = Took-then s3 (big_bytes 4 h.datime) s4 (big_bytes 2 h.keylen ++ (big_bytes 2 h.cycle ++ (big_bytes (key_place_len h.version) h.seek ++ (big_bytes (key_place_len h.version) h.pdir)))) s8 d.took n4 in
+    let n2 = Took-then s2 (big_bytes 4 h.objlen) s3 (big_bytes 4 h.datime ++ (big_bytes 2 h.keylen ++ (big_bytes 2 h.cycle ++ (big_bytes (key_place_len h.version) h.seek ++ (big_bytes (key_place_len h.version) h.pdir))))) s8 c.took n3 in
+    let n1 = Took-then s1 (big_bytes 2 h.version) s2 (big_bytes 4 h.objlen ++ (big_bytes 4 h.datime ++ (big_bytes 2 h.keylen ++ (big_bytes 2 h.cycle ++ (big_bytes (key_place_len h.version) h.seek ++ (big_bytes (key_place_len h.version) h.pdir)))))) s8 b.took n2 in
+    let n0 = Took-then s (big_bytes 4 nbytes) s1 (big_bytes 2 h.version ++ (big_bytes 4 h.objlen ++ (big_bytes 4 h.datime ++ (big_bytes 2 h.keylen ++ (big_bytes 2 h.cycle ++ (big_bytes (key_place_len h.version) h.seek ++ (big_bytes (key_place_len h.version) h.pdir))))))) s8 a.took n1 in
     n0
 
 -- the fields, one behind the other
 fields_made : (h : KeyHead) (nbytes : ℕ) (s s1 s2 s3 s4 s5 s6 s7 s8 s9 s10 s11 : At) → h.nbytes ≡ cast_signed w32 nbytes
-    → IsNumber 4 nbytes s s1 → IsNumber 2 h.version s1 s2 → IsNumber 4 h.objlen s2 s3 → IsNumber 4 h.datime s3 s4 → IsNumber 2 h.keylen s4 s5 → IsNumber 2 h.cycle s5 s6 → IsNumber (place_len h.version) h.seek s6 s7 → IsNumber (place_len h.version) h.pdir s7 s8
+    → IsNumber 4 nbytes s s1 → IsNumber 2 h.version s1 s2 → IsNumber 4 h.objlen s2 s3 → IsNumber 4 h.datime s3 s4 → IsNumber 2 h.keylen s4 s5 → IsNumber 2 h.cycle s5 s6 → IsNumber (key_place_len h.version) h.seek s6 s7 → IsNumber (key_place_len h.version) h.pdir s7 s8
     → IsTextAt h.class s8 s9 → IsTextAt h.name s9 s10 → IsTextAt h.title s10 s11
     → AreFields h s s11
 fields_made h nbytes s s1 s2 s3 s4 s5 s6 s7 s8 s9 s10 s11 is a b c d e f g i class name title = record {
@@ -100,8 +100,8 @@ fields_found s head s' fits read =
     number_step P y 4 back_4 s3 (to_keylen a b c) c1.took.fits c2 (λ d s4 d1 d2.
     number_step P y 2 back_2 s4 (to_cycle a b c d) d1.took.fits d2 (λ e s5 e1 e2.
     number_step P y 2 back_2 s5 (to_seek a b c d e) e1.took.fits e2 (λ f s6 f1 f2.
-    number_step P y (place_len b) (back_place b) s6 (to_pdir a b c d e f) f1.took.fits f2 (λ g s7 g1 g2.
-    number_step P y (place_len b) (back_place b) s7 (to_class a b c d e f g) g1.took.fits g2 (λ h s8 h1 h2.
+    number_step P y (key_place_len b) (back_place b) s6 (to_pdir a b c d e f) f1.took.fits f2 (λ g s7 g1 g2.
+    number_step P y (key_place_len b) (back_place b) s7 (to_class a b c d e f g) g1.took.fits g2 (λ h s8 h1 h2.
     text_step P y s8 (to_name a b c d e f g h) h1.took.fits h2 (λ i s9 i1 i2.
     text_step P y s9 (to_title a b c d e f g h i) i1.took.fits i2 (λ j s10 j1 j2.
     text_step P y s10 (to_end a b c d e f g h i j) j1.took.fits j2 (λ k s11 k1 k2.

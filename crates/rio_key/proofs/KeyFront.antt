@@ -7,7 +7,7 @@ use Rattle.rio_num.specs.At.{At}
 use Rattle.rio_num.specs.Reading.{◌>>=◌, number_at, text_at}
 use Rattle.rio_num.specs.declared.cursor.Short.{Short as Shortage}
 use Rattle.rio_num.proofs.ReadLaws.{bind_ok, ok_is}
-use Rattle.rio_key.specs.Key.{fields_at, key_head_at, key_at, value_of, place_len, whole}
+use Rattle.rio_key.specs.Key.{fields_at, key_head_at, key_at, value_of, key_place_len, whole}
 use Rattle.rio_key.specs.Laws.{KeyInFront, KeyFromFront}
 use Rattle.rio_key.specs.declared.head.KeyHead.{KeyHead}
 use Rattle.rio_key.specs.declared.fault.KeyFault.{KeyFault}
@@ -39,8 +39,8 @@ fields_front s head s' read =
     step_front y (number_at 4) (number_front 4) s3 (to_keylen a b c) c2 (λ d s4 d2.
     step_front y (number_at 2) (number_front 2) s4 (to_cycle a b c d) d2 (λ e s5 e2.
     step_front y (number_at 2) (number_front 2) s5 (to_seek a b c d e) e2 (λ f s6 f2.
-    step_front y (number_at (place_len b)) (number_front (place_len b)) s6 (to_pdir a b c d e f) f2 (λ g s7 g2.
-    step_front y (number_at (place_len b)) (number_front (place_len b)) s7 (to_class a b c d e f g) g2 (λ h s8 h2.
+    step_front y (number_at (key_place_len b)) (number_front (key_place_len b)) s6 (to_pdir a b c d e f) f2 (λ g s7 g2.
+    step_front y (number_at (key_place_len b)) (number_front (key_place_len b)) s7 (to_class a b c d e f g) g2 (λ h s8 h2.
     step_front y text_at text_front s8 (to_name a b c d e f g h) h2 (λ i s9 i2.
     step_front y text_at text_front s9 (to_title a b c d e f g h i) i2 (λ j s10 j2.
     step_front y text_at text_front s10 (to_end a b c d e f g h i j) j2 (λ k s11 k2.

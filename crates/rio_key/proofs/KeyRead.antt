@@ -3,7 +3,7 @@ use Rattle.std.proofs.Common.{◌≡◌, ◌≢◌, ℕ, ◌+◌, ◌-◌, Bool,
 use Rattle.std.specs.Prelude.{IfOk}
 use Rattle.rio_num.specs.At.{At, standing_at}
 use Rattle.rio_num.proofs.ReadLaws.{IsBytes, IsBytes-drop, ok_is}
-use Rattle.rio_key.specs.Key.{key_head_at, GivesAt, Fails, IsReadAs}
+use Rattle.rio_key.specs.Key.{key_head_at, GivesAt, FailsKey, IsReadAs}
 use Rattle.rio_key.specs.Spelling.{SpellsKey, IsSpelledIn}
 use Rattle.rio_key.specs.declared.head.KeyHead.{KeyHead}
 use Rattle.rio_key.specs.declared.fault.KeyFault.{KeyFault}
@@ -22,7 +22,7 @@ abbrev read_so : {X : Type 0} → X → Result X KeyFault
 read_so x = Ok x
 
 -- a fault where reading gives a value is want of memory
-pub no_memory : {X : Type 0} (e : KeyFault) (x : X) → Fails e (read_so x) → e ≡ NoMemory
+pub no_memory : {X : Type 0} (e : KeyFault) (x : X) → FailsKey e (read_so x) → e ≡ NoMemory
 no_memory NoMemory x h = refl
 no_memory (Short place wanted) x h = absurd (let no : Short place wanted ≢ NoMemory = λ q. cc in let same = h no in cc)
 no_memory (BadLength place) x h = absurd (let no : BadLength place ≢ NoMemory = λ q. cc in let same = h no in cc)

@@ -3,7 +3,7 @@ use Rattle.std.proofs.Common.{ℕ, List, Result, Ok}
 use Rattle.std.specs.Int.{w32, cast_signed}
 use Rattle.rio_num.specs.At.{At}
 use Rattle.rio_num.specs.Reading.{◌>>=◌, number_at, text_at}
-use Rattle.rio_key.specs.Key.{place_len, whole}
+use Rattle.rio_key.specs.Key.{key_place_len, whole}
 use Rattle.rio_key.specs.declared.head.KeyHead.{KeyHead}
 use Rattle.rio_key.specs.declared.fault.KeyFault.{KeyFault}
 
@@ -33,10 +33,10 @@ abbrev pub to_class : ℕ → ℕ → ℕ → ℕ → ℕ → ℕ → ℕ → Nu
 to_class nbytes version objlen datime keylen cycle seek pdir = whole (text_at pdir.1) >>= to_name nbytes version objlen datime keylen cycle seek pdir.0
 
 abbrev pub to_pdir : ℕ → ℕ → ℕ → ℕ → ℕ → ℕ → Number → Read
-to_pdir nbytes version objlen datime keylen cycle seek = whole (number_at (place_len version) seek.1) >>= to_class nbytes version objlen datime keylen cycle seek.0
+to_pdir nbytes version objlen datime keylen cycle seek = whole (number_at (key_place_len version) seek.1) >>= to_class nbytes version objlen datime keylen cycle seek.0
 
 abbrev pub to_seek : ℕ → ℕ → ℕ → ℕ → ℕ → Number → Read
-to_seek nbytes version objlen datime keylen cycle = whole (number_at (place_len version) cycle.1) >>= to_pdir nbytes version objlen datime keylen cycle.0
+to_seek nbytes version objlen datime keylen cycle = whole (number_at (key_place_len version) cycle.1) >>= to_pdir nbytes version objlen datime keylen cycle.0
 
 abbrev pub to_cycle : ℕ → ℕ → ℕ → ℕ → Number → Read
 to_cycle nbytes version objlen datime keylen = whole (number_at 2 keylen.1) >>= to_seek nbytes version objlen datime keylen.0

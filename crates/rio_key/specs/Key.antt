@@ -14,8 +14,8 @@ whole (Ok x) = Ok x
 whole (Err s) = Err (Short s.place s.wanted)
 
 -- how many bytes a place in the file takes: 8 in keys of the large form
-abbrev pub place_len : ℕ → ℕ
-place_len version = if nat_lt 1000 version then 8 else 4
+abbrev pub key_place_len : ℕ → ℕ
+key_place_len version = if nat_lt 1000 version then 8 else 4
 
 -- the fields, each of them whole, and where the title ends
 unfoldable pub fields_at : At → Result (KeyHead × At) KeyFault
@@ -26,8 +26,8 @@ fields_at s = do
   datime ← whole (number_at 4 objlen.1)
   keylen ← whole (number_at 2 datime.1)
   cycle ← whole (number_at 2 keylen.1)
-  seek ← whole (number_at (place_len version.0) cycle.1)
-  pdir ← whole (number_at (place_len version.0) seek.1)
+  seek ← whole (number_at (key_place_len version.0) cycle.1)
+  pdir ← whole (number_at (key_place_len version.0) seek.1)
   class ← whole (text_at pdir.1)
   name ← whole (text_at class.1)
   title ← whole (text_at name.1)
@@ -50,18 +50,18 @@ abbrev pub key_at : At → Result KeyHead KeyFault
 key_at s = value_of (key_head_at s)
 
 -- a fault is the one that reading gives, unless memory ran out
-abbrev pub Fails : {X : Type 0} → KeyFault → Result X KeyFault → Type 0
-Fails e read = e ≢ NoMemory → read ≡ Err e
+abbrev pub FailsKey : {X : Type 0} → KeyFault → Result X KeyFault → Type 0
+FailsKey e read = e ≢ NoMemory → read ≡ Err e
 
 -- what a function returned is what reading gives
 abbrev pub Gives : {X : Type 0} → Result X KeyFault → Result X KeyFault → Type 0
 Gives (Ok x) read = read ≡ Ok x
-Gives (Err e) read = Fails e read
+Gives (Err e) read = FailsKey e read
 
 -- the same of a reader, which stands at new then
 abbrev pub GivesAt : {X : Type 0} → Result X KeyFault → Result (X × At) KeyFault → At → Type 0
 GivesAt (Ok x) read new = read ≡ Ok (x, new)
-GivesAt (Err e) read new = Fails e read
+GivesAt (Err e) read new = FailsKey e read
 
 -- a function returned this, unless memory ran out
 abbrev pub IsReadAs : {X : Type 0} → Result X KeyFault → X → Type 0

@@ -2,7 +2,7 @@
 use Rattle.std.specs.Prelude.{◌≡◌, ℕ, ◌^◌, ◌<◌, ◌≤◌, pos, List, ◌++◌, length}
 use Rattle.std.specs.Int.{w32, cast_unsigned}
 use Rattle.rio_num.specs.Text.{text_bytes}
-use Rattle.rio_key.specs.Key.{place_len}
+use Rattle.rio_key.specs.Key.{key_place_len}
 use Rattle.rio_key.specs.Spelling.{AreWithinFields, SpellsKey, number_bytes}
 use Rattle.rio_key.specs.declared.head.KeyHead.{KeyHead}
 
@@ -12,8 +12,8 @@ written_key h = number_bytes h (cast_unsigned w32 h.nbytes) ++ (text_bytes h.cla
 
 -- each text's length fits, and the places fit the form of the key's version
 pub record FitsKey (h : KeyHead) : Type 0 where
-  pub seek : h.seek < 256 ^ place_len h.version
-  pub pdir : h.pdir < 256 ^ place_len h.version
+  pub seek : h.seek < 256 ^ key_place_len h.version
+  pub pdir : h.pdir < 256 ^ key_place_len h.version
   pub class : length h.class < 2 ^ 32
   pub name : length h.name < 2 ^ 32
   pub title : length h.title < 2 ^ 32

@@ -2,7 +2,7 @@
 ghost use Rattle.std.specs.Prelude.{◌≡◌, ◌+◌, ◌<◌, ◌^◌, ◌++◌, ℕ, List, length, IfOk};
 ghost use Rattle.rio_num.specs.At.{GoesOn, standing_at};
 ghost use Rattle.rio_num.specs.Reading.{Takes, number_at};
-ghost use Rattle.rio_key.specs.Key.{Gives, GivesAt, IsReadAs, fields_at, key_at, key_head_at, place_len};
+ghost use Rattle.rio_key.specs.Key.{Gives, GivesAt, IsReadAs, fields_at, key_at, key_head_at, key_place_len};
 ghost use Rattle.rio_key.specs.Spelling.{IsSpelledIn, SpellsKey};
 
 use crate::{KeyFault, KeyHead};
@@ -11,7 +11,7 @@ use std::alloc::Global;
 
 // A place in the file, as long as keys of this version have it.
 fn take_place(cursor: &mut Cursor, version: u16) -> Result<u64, Short>
-    ensures exact { Takes (λ x. x) result (number_at (place_len version) cursor.old) cursor.old
+    ensures exact { Takes (λ x. x) result (number_at (key_place_len version) cursor.old) cursor.old
         cursor.new }
     ensures goes { GoesOn cursor.old cursor.new }
 {

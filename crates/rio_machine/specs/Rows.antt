@@ -41,13 +41,13 @@ letter_kind letter =
     else None
 
 -- what nothing fits
-abbrev pub unread : Kind
-unread = Other (pos 0)
+abbrev pub kind_of_nothing : Kind
+kind_of_nothing = Other (pos 0)
 
 -- a list of so many values for each that was counted; a count below 0 leaves nothing that fits
 abbrev pub counted_leaf_kind : Primitive → ℕ → Option ℤ → Kind
 counted_leaf_kind of times (Some (pos count)) = Fixed of (count * times)
-counted_leaf_kind of times other = unread
+counted_leaf_kind of times other = kind_of_nothing
 
 -- one value, or a list
 abbrev pub sized_kind : Counters → Primitive → Dim → Kind
@@ -61,7 +61,7 @@ leaf_kind counters leaf = by (letter_kind leaf.letter)
   where
     by : Option Primitive → Kind
     by (Some of) = sized_kind counters of leaf.dim
-    by None = if bytes_eq (leaf.letter ∷ []) (codes "C") then Text else unread
+    by None = if bytes_eq (leaf.letter ∷ []) (codes "C") then Text else kind_of_nothing
 
 -- ---- columns
 

@@ -1,14 +1,11 @@
 -- Looking a key up by name and cycle.
 use Rattle.std.specs.Prelude.{ℕ, List, [], ◌∷◌, Option, Some, None, Result, Ok, Err, Bool, ◌==◌, ◌&&◌, nat_le, find, if◌then◌else◌}
 use Rattle.std.specs.List.{list_any}
-use Rattle.std.specs.Str.{bytes_eq}
 use Rattle.rio_key.specs.declared.head.KeyHead.{KeyHead}
+use Rattle.rio_dir.specs.Table.{is_of_name}
 use Rattle.rio_meaning.specs.declared.item.Item.{Item}
 use Rattle.rio_meaning.specs.declared.item.Missing.{Missing}
 use Rattle.rio_meaning.specs.declared.item.Missing.TheVariants.{NoSuchName, NoSuchCycle}
-
-abbrev pub has_name : List ℕ → KeyHead → Bool
-has_name name key = bytes_eq key.name name
 
 -- the first key, or one of the rest that has a greater cycle
 abbrev pub greater_cycle_of : KeyHead → Option KeyHead → KeyHead
@@ -18,11 +15,11 @@ greater_cycle_of k (Some other) = if nat_le other.cycle k.cycle then k else othe
 -- the key of the name with the greatest cycle, the first of several
 abbrev pub with_greatest_cycle : List ℕ → List KeyHead → Option KeyHead
 with_greatest_cycle name [] = None
-with_greatest_cycle name (k ∷ ks) = if has_name name k then Some (greater_cycle_of k (with_greatest_cycle name ks)) else with_greatest_cycle name ks
+with_greatest_cycle name (k ∷ ks) = if is_of_name name k then Some (greater_cycle_of k (with_greatest_cycle name ks)) else with_greatest_cycle name ks
 
 -- the first key of the name and cycle
 abbrev pub with_cycle : List ℕ → ℕ → List KeyHead → Option KeyHead
-with_cycle name cycle keys = find (λ k. has_name name k && (k.cycle == cycle)) keys
+with_cycle name cycle keys = find (λ k. is_of_name name k && (k.cycle == cycle)) keys
 
 -- the key of an item: of the greatest cycle, where none is said
 abbrev pub key_of_item : Item → List KeyHead → Option KeyHead
@@ -38,4 +35,4 @@ or_missing named (Some key) = Ok key
 or_missing named None = if named then Err NoSuchCycle else Err NoSuchName
 
 abbrev pub found_item : Item → List KeyHead → Result KeyHead Missing
-found_item item keys = or_missing (list_any (has_name item.name) keys) (key_of_item item keys)
+found_item item keys = or_missing (list_any (is_of_name item.name) keys) (key_of_item item keys)

@@ -10,9 +10,10 @@ use Rattle.rio_token.specs.Tokens.{scan_of}
 use Rattle.rio_token.specs.Words.{decimal, number_of, written}
 use Rattle.rio_num.specs.Printed.{name_text}
 use Rattle.std.specs.Fmt.{digits}
-use Rattle.rio_model.specs.ClassGrammar.{bases_at, class_at, class_in, dimension_of, kind_at, member, member_at, primitive_of, sized_at}
+use Rattle.rio_format.specs.Bodies.{member}
+use Rattle.rio_model.specs.ClassGrammar.{bases_at, class_at, class_in, dimension_of, kind_at, member_at, primitive_of, sized_at}
 use Rattle.rio_model.specs.ClassText.{text_of_class}
-use Rattle.rio_model.specs.ValueGrammar.{class_version_at, enclosed_at, enclosed_by, object_at, part_at, text_value_at, value_and_end, value_at, value_in, values_at, word_value, word_value_at}
+use Rattle.rio_model.specs.ValueGrammar.{class_version_at, enclosed_at, enclosed_by, object_at, part_at, text_value_at, value_and_end, value_in, value_in_text, values_at, word_value, word_value_at}
 
 node_class : ClassDef
 node_class = record { name = codes "Node"; version = pos 1; sum = 0; bases = []; members = member (codes "val") (Plain I32) ∷ member (codes "next") (Pointer (codes "Node")) ∷ [] }
@@ -34,14 +35,14 @@ no_string = refl
 
 -- an object that ends too early is bad at the text's length
 cut_object : value_and_end (value_in (codes "put s TObjString{") 6) ≡ Err (BadText 17)
-unfolding scan_of value_at word_value_at object_at class_version_at enclosed_at enclosed_by list_at some_at part_at mark_at word_at word_that_at
+unfolding scan_of value_in_text word_value_at object_at class_version_at enclosed_at enclosed_by list_at some_at part_at mark_at word_at word_that_at
 cut_object = refl
 
 -- a string that isn't ended is bad at the text's length where a string may stand, and at its quote where none may
 cut_string : value_and_end (value_in (codes "[\"x") 0) ≡ Err (BadText 3)
-unfolding scan_of value_at enclosed_at enclosed_by values_at list_at some_at mark_at text_value_at string_at
+unfolding scan_of value_in_text enclosed_at enclosed_by values_at list_at some_at mark_at text_value_at string_at
 cut_string = refl
 
 no_string_behind : value_and_end (value_in (codes "[1 \"x") 0) ≡ Err (BadText 3)
-unfolding scan_of value_at enclosed_at enclosed_by values_at list_at some_at more_at mark_at word_value_at word_at word_value number_of decimal written
+unfolding scan_of value_in_text enclosed_at enclosed_by values_at list_at some_at more_at mark_at word_value_at word_at word_value number_of decimal written
 no_string_behind = refl

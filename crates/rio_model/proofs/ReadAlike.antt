@@ -9,7 +9,7 @@ use Rattle.rio_token.specs.declared.token.Token.TheVariants.{Word, Text, Mark, C
 use Rattle.rio_token.specs.Tokens.{behind, next_at}
 use Rattle.rio_token.specs.Reading.{Read, bad_at, list_at, mark_at, num_between_at, some_at, string_at, string_by, taken_at, word_at, word_that_at}
 use Rattle.rio_token.proofs.StandLaws.{Alike, at, blank_alike}
-use Rattle.rio_model.specs.ValueGrammar.{Enclosed, Reader, enclosed_at, enclosed_by, listed, object_at, object_of, opens_object, part_at, pointer_at, text_value_at, value_at, value_by, values_at, word_value, word_value_at, worded}
+use Rattle.rio_model.specs.ValueGrammar.{Enclosed, Reader, enclosed_at, enclosed_by, listed, object_at, object_of, opens_object, part_at, pointer_at, text_value_at, value_by, value_in_text, values_at, word_value, word_value_at, worded}
 
 module _ (s t : At) (alike : Alike s t) where
   bad_alike : {A : Type 0} → bad_at {A = A} s ≡ bad_at t
@@ -87,8 +87,8 @@ module _ (s t : At) (alike : Alike s t) where
     by_alike (Mark mark) = marked_by mark (mark == 91) (mark == 64)
     by_alike other = text_value_alike
 
-    pub value_alike : value_at E s ≡ value_at E t
-    unfolding value_at
+    pub value_alike : value_in_text E s ≡ value_in_text E t
+    unfolding value_in_text
     value_alike = rw alike.token (by_alike (next_at t).token)
 
     pub part_alike : part_at E s ≡ part_at E t
@@ -106,7 +106,7 @@ module _ (s t : At) (alike : Alike s t) where
   enclosed_alike (suc levels) what = by_alike_in (enclosed_at levels) what
 
 -- a value and a part behind a blank
-pub value_behind_blank : (levels p : ℕ) (xs : List ℕ) → value_at (enclosed_at levels) (at p (32 ∷ xs)) ≡ value_at (enclosed_at levels) (at (p + 1) xs)
+pub value_behind_blank : (levels p : ℕ) (xs : List ℕ) → value_in_text (enclosed_at levels) (at p (32 ∷ xs)) ≡ value_in_text (enclosed_at levels) (at (p + 1) xs)
 value_behind_blank levels p xs = let alike = blank_alike p xs in value_alike (at p (32 ∷ xs)) (at (p + 1) xs) alike (enclosed_at levels) (enclosed_alike (at p (32 ∷ xs)) (at (p + 1) xs) alike levels)
 
 pub part_behind_blank : (levels p : ℕ) (xs : List ℕ) → part_at (enclosed_at levels) (at p (32 ∷ xs)) ≡ part_at (enclosed_at levels) (at (p + 1) xs)

@@ -14,7 +14,8 @@ use Rattle.rio_types.specs.declared.kind.Kind.TheVariants.{Plain, Counter, Fixed
 use Rattle.rio_types.specs.declared.kind.Primitive.TheVariants.{I32}
 use Rattle.rio_types.specs.Members.{is_counter}
 use Rattle.rio_token.proofs.SeparatedLaws.{AllBack}
-use Rattle.rio_model.specs.ClassGrammar.{base, base_at, counting, counts_by, has_base, has_i32, has_member, is_counted_by, is_i32, is_i32_of, member, member_at, with_counters}
+use Rattle.rio_format.specs.Bodies.{member}
+use Rattle.rio_model.specs.ClassGrammar.{base, base_at, counting, counts_by, has_base_named, has_i32, has_member, is_counted_by, is_i32, is_i32_of, member_at, with_counters}
 use Rattle.rio_model.specs.ClassText.{base_text, kind_text, member_text}
 use Rattle.rio_model.specs.Stated.{are_stated_bases, are_stated_members, has_counter, is_stated_base, is_stated_kind, is_stated_member}
 use Rattle.rio_model.proofs.ReadKinds.{IsEnd, is_read_kind, not_true}
@@ -49,7 +50,7 @@ same_members : (before : List Member) (name : List ℕ) → has_member (map as_r
 same_members [] name = refl
 same_members (m ∷ ms) name = rw (same_members ms name) refl
 
-same_bases : (before : List Base) (name : List ℕ) → has_base (map (λ b. base b.name) before) name ≡ has_base before name
+same_bases : (before : List Base) (name : List ℕ) → has_base_named (map (λ b. base b.name) before) name ≡ has_base_named before name
 same_bases [] name = refl
 same_bases (b ∷ bs) name = rw (same_bases bs name) refl
 
@@ -243,8 +244,8 @@ bases_back before [] h = tt
 bases_back before (b ∷ bs) h =
     let plain : Base → Base = λ c. base c.name in
     let parts = and_parts (is_stated_base before b) (are_stated_bases (before ++ b ∷ []) bs) h in
-    let inner = and_parts (is_name_text b.name) (not (has_base before b.name)) parts.0 in
+    let inner = and_parts (is_name_text b.name) (not (has_base_named before b.name)) parts.0 in
     let more = bases_back (before ++ b ∷ []) bs parts.1 in
     let split : map plain (before ++ b ∷ []) ≡ map plain before ++ base b.name ∷ [] = map-append plain before (b ∷ []) in
     let P : List Base → Type 0 = λ front. AllBack 123 base_at base_text IsEnd front (map plain bs) in
-    (base_back (map plain before) b.name inner.0 (same_bases before b.name ∙ not_true (has_base before b.name) inner.1), subst P split more)
+    (base_back (map plain before) b.name inner.0 (same_bases before b.name ∙ not_true (has_base_named before b.name) inner.1), subst P split more)

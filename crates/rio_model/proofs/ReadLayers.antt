@@ -12,11 +12,12 @@ use Rattle.rio_value.specs.declared.value.Value.TheOpen as layer
 use Rattle.rio_value.specs.declared.value.Value.TheVariants.{rolls-Int, rolls-Bits32, rolls-Bits64, rolls-Bool, rolls-Text, rolls-List, rolls-Object, rolls-Pointed, rolls-Null, rolls-Back, rolls-Opaque}
 use Rattle.rio_value.specs.declared.value.Value.TheFolds.{fold-roll-Value, ind-Value}
 use Rattle.rio_value.specs.declared.value.Part.{Part, Part-F}
-use Rattle.rio_token.specs.Laws.{AreBytes, IsNumber}
+use Rattle.rio_num.specs.At.{AreBytes}
+use Rattle.rio_token.specs.Laws.{IsNumber}
 use Rattle.rio_token.proofs.StandLaws.{at, drop_front}
 use Rattle.rio_model.specs.Readable.{Follows, PartReadability, Readability, ValuesAreRead, are_bases_first, are_parts_within, is_number, part_readable, part_within, readability_of, readable_step, single}
 use Rattle.rio_model.specs.Stated.{is_class_version}
-use Rattle.rio_model.specs.ValueGrammar.{Reader, bracket_limit, enclosed_at, value_at}
+use Rattle.rio_model.specs.ValueGrammar.{Reader, bracket_limit, enclosed_at, value_in_text}
 use Rattle.rio_model.specs.ValueText.{PrintedPart, PrintedValue, printed_value, text_of_value, text_step}
 use Rattle.rio_model.proofs.ReadWords.{bits_is_word, bits_word, eight_value, four_value, integer_value, integer_word, plain_word_back}
 use Rattle.rio_model.proofs.ValueTextLaws.{part_folded as printed_folded, printed_rolled}
@@ -40,7 +41,7 @@ readable_rolled y v e = ap readability_of (sym e) ∙ fold-roll-Value Readabilit
 
 -- a value whose text is read in any brackets
 leaf : (y : Value-F Value Part) (v : Value) (text : List ℕ) (b : Bool) → roll-Value y ≡ v → text_layer y ≡ text → readable_layer y ≡ single b
-    → (b ≡ true → (E : Reader) (p q : ℕ) (rest : List ℕ) → Follows rest → q ≡ p + length text → value_at E (at p (text ++ rest)) ≡ Ok (v, at q rest)) → IsBackValue v
+    → (b ≡ true → (E : Reader) (p q : ℕ) (rest : List ℕ) → Follows rest → q ≡ p + length text → value_in_text E (at p (text ++ rest)) ≡ Ok (v, at q rest)) → IsBackValue v
 leaf y v text b rolls t r back levels h =
     let texts : text_of_value v ≡ text = text_rolled y v rolls ∙ t in
     let reads : readability_of v ≡ single b = readable_rolled y v rolls ∙ r in
@@ -58,8 +59,9 @@ number_is (pos n) h = below n (2 ^ 64) h
 number_is (negsuc n) h = below n (2 ^ 63) h
 
 bytes_are : (text : List ℕ) → list_all (λ b. nat_lt b 256) text ≡ true → AreBytes text
-bytes_are [] h = tt
-bytes_are (b ∷ bs) h = let parts = and_parts (nat_lt b 256) (list_all (λ b. nat_lt b 256) bs) h in (below b 256 parts.0, bytes_are bs parts.1)
+bytes_are [] h i = omega arith
+bytes_are (b ∷ bs) h zero = below b 256 (and_parts (nat_lt b 256) (list_all (λ b. nat_lt b 256) bs) h).0
+bytes_are (b ∷ bs) h (suc i) = bytes_are bs (and_parts (nat_lt b 256) (list_all (λ b. nat_lt b 256) bs) h).1 i
 
 int_back : (z : ℤ) → IsBackValue (Int z)
 int_back z = leaf (layer.Int z) (Int z) (signed_decimal z) (is_number z) (rolls-Int z) refl refl (λ h E p q rest f e.

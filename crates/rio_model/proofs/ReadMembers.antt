@@ -11,7 +11,8 @@ use Rattle.rio_token.specs.Tokens.{next_at, scan_of}
 use Rattle.rio_token.specs.Reading.{is_mark, is_word, mark_at, marked, word_that_at}
 use Rattle.rio_token.proofs.SeparatedLaws.{Ends, IsBack}
 use Rattle.rio_token.proofs.StandLaws.{at, blank_alike, name_is_word, word_that_back}
-use Rattle.rio_model.specs.ClassGrammar.{base, base_at, has_base, has_member, kind_at, member, member_at}
+use Rattle.rio_format.specs.Bodies.{member}
+use Rattle.rio_model.specs.ClassGrammar.{base, base_at, has_base_named, has_member, kind_at, member_at}
 use Rattle.rio_model.specs.ClassText.{base_text, kind_text, member_text}
 use Rattle.rio_model.proofs.ReadAlike.{word_that_alike}
 use Rattle.rio_model.proofs.ReadKinds.{IsEnd, is_read_kind, kind_back}
@@ -29,7 +30,7 @@ member_behind_blank before p xs = rw (word_that_alike (at p (32 ∷ xs)) (at (p 
 
 pub base_behind_blank : (before : List Base) (p : ℕ) (xs : List ℕ) → base_at before (at p (32 ∷ xs)) ≡ base_at before (at (p + 1) xs)
 unfolding base_at
-base_behind_blank before p xs = rw (word_that_alike (at p (32 ∷ xs)) (at (p + 1) xs) (blank_alike p xs) (λ word. is_name_text word && not (has_base before word))) refl
+base_behind_blank before p xs = rw (word_that_alike (at p (32 ∷ xs)) (at (p + 1) xs) (blank_alike p xs) (λ word. is_name_text word && not (has_base_named before word))) refl
 
 colon_back : (p : ℕ) (xs : List ℕ) → mark_at 58 (at p (58 ∷ xs)) ≡ Ok (tt, at (p + 1) xs)
 unfolding mark_at scan_of
@@ -49,13 +50,13 @@ member_back before name kind named new readable p q rest f e =
     let kinds : kind_at before (at (name_end + 1) (32 ∷ (k ++ rest))) ≡ Ok (kind, at q rest) = kind_behind_blank before (name_end + 1) (k ++ rest) ∙ kind_back before kind readable (name_end + 1 + 1) q rest f place in
     rw (text, word, colon_back name_end (32 ∷ (k ++ rest)), kinds) refl
 
-pub base_back : (before : List Base) (name : List ℕ) → is_name_text name ≡ true → has_base before name ≡ false → IsBack 123 base_at base_text IsEnd before (base name)
+pub base_back : (before : List Base) (name : List ℕ) → is_name_text name ≡ true → has_base_named before name ≡ false → IsBack 123 base_at base_text IsEnd before (base name)
 unfolding base_at
 base_back before name named new p q rest f e =
     let plain = name_as_it_is name named in
     let place : q ≡ p + length name = e ∙ ap (λ (t : List ℕ). p + length t) plain in
-    let test : (is_name_text name && not (has_base before name)) ≡ true = rw (named, new) refl in
-    let word = word_that_back p q name rest (name_is_word name named) f.stops place (λ word. is_name_text word && not (has_base before word)) test in
+    let test : (is_name_text name && not (has_base_named before name)) ≡ true = rw (named, new) refl in
+    let word = word_that_back p q name rest (name_is_word name named) f.stops place (λ word. is_name_text word && not (has_base_named before word)) test in
     rw (plain, word) refl
 
 -- ---- what ends their lists

@@ -4,7 +4,7 @@ use Rattle.std.specs.Fmt.{decimal}
 use Rattle.std.specs.List.{list_all}
 use Rattle.std.proofs.lemmas.Bool.{and_parts, eqb-true}
 use Rattle.std.proofs.lemmas.Bool.Decides.{nat_tests}
-use Rattle.rio_num.specs.At.{At}
+use Rattle.rio_num.specs.At.{AreBytes, At}
 use Rattle.rio_num.specs.Reading.{◌>>=◌}
 use Rattle.rio_num.specs.Printed.{name_text, string_text}
 use Rattle.rio_num.specs.Word.{is_name_text}
@@ -13,7 +13,6 @@ use Rattle.rio_value.specs.declared.value.Value.TheFolds.{fold-Part, fold_out-Pa
 use Rattle.rio_value.specs.declared.value.Part.{Part}
 use Rattle.rio_token.specs.declared.token.Token.{Token}
 use Rattle.rio_token.specs.declared.token.Token.TheVariants.{Mark}
-use Rattle.rio_token.specs.Laws.{AreBytes}
 use Rattle.rio_token.specs.Tokens.{behind, next_at, scan_of}
 use Rattle.rio_token.specs.Reading.{is_mark, is_word, list_at, mark_at, marked, word_that_at}
 use Rattle.rio_token.proofs.DecimalLaws.{nums_are_read}
@@ -21,7 +20,8 @@ use Rattle.rio_token.proofs.SeparatedLaws.{AllBack, Ends, list_back}
 use Rattle.rio_token.proofs.StandLaws.{at, name_is_word, next_is_text, next_is_word, num_back, num_between_back, string_back, word_back, word_that_back}
 use Rattle.rio_model.specs.Lists.{separated}
 use Rattle.rio_model.specs.Readable.{Follows, PartReadability, Readability, are_bases_first, part_readable, part_within, readability_of, readable_step}
-use Rattle.rio_model.specs.ValueGrammar.{Reader, class_version_at, enclosed_at, enclosed_by, named_object_at, object_at, object_of, opens_object, part, part_at, pointer_at, text_value_at, value_at, value_by, values_at, word_value, word_value_at}
+use Rattle.rio_format.specs.Bodies.{part}
+use Rattle.rio_model.specs.ValueGrammar.{Reader, class_version_at, enclosed_at, enclosed_by, named_object_at, object_at, object_of, opens_object, part_at, pointer_at, text_value_at, value_by, value_in_text, values_at, word_value, word_value_at}
 use Rattle.rio_model.specs.ValueText.{PrintedValue, between_braces, label_text, part_texts, printed_part, printed_value, text_of_value}
 use Rattle.rio_model.proofs.ReadAlike.{part_behind_blank, value_behind_blank}
 use Rattle.rio_model.proofs.ReadWords.{decimal_word, is_behind, name_as_it_is, plain_word_back}
@@ -29,30 +29,30 @@ use Rattle.rio_model.proofs.ValueTextLaws.{printed-Object, separated-map, text_o
 
 -- ---- values of one token
 
-pub true_back : (E : Reader) (p q : ℕ) (rest : List ℕ) → Follows rest → q ≡ p + 4 → value_at E (at p (codes "true" ++ rest)) ≡ Ok (Truth true, at q rest)
+pub true_back : (E : Reader) (p q : ℕ) (rest : List ℕ) → Follows rest → q ≡ p + 4 → value_in_text E (at p (codes "true" ++ rest)) ≡ Ok (Truth true, at q rest)
 unfolding word_value
 true_back E p q rest f e = plain_word_back E p q (codes "true") rest (record { first = 116; others = codes "rue"; parts = refl; all = refl }) f e (Truth true) refl
 
-pub false_back : (E : Reader) (p q : ℕ) (rest : List ℕ) → Follows rest → q ≡ p + 5 → value_at E (at p (codes "false" ++ rest)) ≡ Ok (Truth false, at q rest)
+pub false_back : (E : Reader) (p q : ℕ) (rest : List ℕ) → Follows rest → q ≡ p + 5 → value_in_text E (at p (codes "false" ++ rest)) ≡ Ok (Truth false, at q rest)
 unfolding word_value
 false_back E p q rest f e = plain_word_back E p q (codes "false") rest (record { first = 102; others = codes "alse"; parts = refl; all = refl }) f e (Truth false) refl
 
-pub null_back : (E : Reader) (p q : ℕ) (rest : List ℕ) → Follows rest → q ≡ p + 4 → value_at E (at p (codes "null" ++ rest)) ≡ Ok (Null, at q rest)
+pub null_back : (E : Reader) (p q : ℕ) (rest : List ℕ) → Follows rest → q ≡ p + 4 → value_in_text E (at p (codes "null" ++ rest)) ≡ Ok (Null, at q rest)
 unfolding word_value
 null_back E p q rest f e = plain_word_back E p q (codes "null") rest (record { first = 110; others = codes "ull"; parts = refl; all = refl }) f e Null refl
 
-pub text_back : (E : Reader) (p q : ℕ) (text rest : List ℕ) → AreBytes text → q ≡ p + length (string_text text) → value_at E (at p (string_text text ++ rest)) ≡ Ok (Chars text, at q rest)
-unfolding value_at text_value_at
+pub text_back : (E : Reader) (p q : ℕ) (text rest : List ℕ) → AreBytes text → q ≡ p + length (string_text text) → value_in_text E (at p (string_text text ++ rest)) ≡ Ok (Chars text, at q rest)
+unfolding value_in_text text_value_at
 text_back E p q text rest bytes e = rw (next_is_text p q text rest bytes e, string_back p q text rest bytes e) refl
 
 -- ---- references
 
-mark_of_pointer : (E : Reader) (p : ℕ) (xs : List ℕ) → value_at E (at p (64 ∷ xs)) ≡ pointer_at E (at (p + 1) xs)
-unfolding value_at scan_of
+mark_of_pointer : (E : Reader) (p : ℕ) (xs : List ℕ) → value_in_text E (at p (64 ∷ xs)) ≡ pointer_at E (at (p + 1) xs)
+unfolding value_in_text scan_of
 mark_of_pointer E p xs = refl
 
 module _ (E : Reader) (p q label : ℕ) (rest : List ℕ) (small : label < 2 ^ 32) where
-  pub back_back : Follows rest → q ≡ p + 1 + length (decimal label) → value_at E (at p (64 ∷ (decimal label ++ rest))) ≡ Ok (Back label, at q rest)
+  pub back_back : Follows rest → q ≡ p + 1 + length (decimal label) → value_in_text E (at p (64 ∷ (decimal label ++ rest))) ≡ Ok (Back label, at q rest)
   unfolding pointer_at
   back_back f e =
       let b = is_behind rest f in
@@ -94,8 +94,8 @@ module _ (levels : ℕ) (v : Value) (o : ObjectBack levels v) (p q : ℕ) (rest 
       let size : length (text_of_value v) ≡ length o.class + suc (length o.tail) = ap length o.parts ∙ length-append o.class (35 ∷ o.tail) in
       omega (arith, size, e)
 
-  pub object_value_back : value_at (enclosed_at levels) (at p (text_of_value v ++ rest)) ≡ Ok (v, at q rest)
-  unfolding value_at word_value_at
+  pub object_value_back : value_in_text (enclosed_at levels) (at p (text_of_value v ++ rest)) ≡ Ok (v, at q rest)
+  unfolding value_in_text word_value_at
   object_value_back =
       let is = name_is_word o.class o.named in
       let next = next_is_word p (p + length o.class) o.class (35 ∷ (o.tail ++ rest)) is refl refl in
@@ -126,7 +126,7 @@ module _ (levels : ℕ) (v : Value) (o : ObjectBack levels v) (p q label : ℕ) 
   pointed_text : text_of_value (Pointed label v) ++ rest ≡ 64 ∷ (decimal label ++ (61 ∷ (text_of_value v ++ rest)))
   pointed_text = ap (λ (t : List ℕ). t ++ rest) (text_of-Pointed label v) ∙ simp append_assoc
 
-  pub pointed_back : q ≡ p + length (text_of_value (Pointed label v)) → value_at (enclosed_at levels) (at p (text_of_value (Pointed label v) ++ rest)) ≡ Ok (Pointed label v, at q rest)
+  pub pointed_back : q ≡ p + length (text_of_value (Pointed label v)) → value_in_text (enclosed_at levels) (at p (text_of_value (Pointed label v) ++ rest)) ≡ Ok (Pointed label v, at q rest)
   unfolding pointer_at
   pointed_back e =
       let number_end = p + 1 + length (decimal label) in
@@ -150,7 +150,7 @@ text_of_part p = part_alone p.name (text_of_value p.value)
 -- ---- what every value keeps to
 
 pub record ValueBack (levels : ℕ) (v : Value) : Type 0 where
-  pub value : (p q : ℕ) (rest : List ℕ) → Follows rest → q ≡ p + length (text_of_value v) → value_at (enclosed_at levels) (at p (text_of_value v ++ rest)) ≡ Ok (v, at q rest)
+  pub value : (p q : ℕ) (rest : List ℕ) → Follows rest → q ≡ p + length (text_of_value v) → value_in_text (enclosed_at levels) (at p (text_of_value v ++ rest)) ≡ Ok (v, at q rest)
   pub object : (readability_of v).object ≡ true → ObjectBack levels v
 
 abbrev pub IsBackValue : Value → Type 0
@@ -172,11 +172,11 @@ no_bracket E s x (Mark b) h = by_test (b == 93) refl
     by_test false t = t
 no_bracket E s x other h = refl
 
-value_begins : (E : Reader) (s : At) (x : Value × At) → value_at E s ≡ Ok x → marked 93 s ≡ false
-unfolding value_at
+value_begins : (E : Reader) (s : At) (x : Value × At) → value_in_text E s ≡ Ok x → marked 93 s ≡ false
+unfolding value_in_text
 value_begins E s x h = no_bracket E s x (next_at s).token h
 
-value_ends : (levels : ℕ) (rest : List ℕ) → Ends 93 (λ before. value_at (enclosed_at levels)) text_of_value Follows (93 ∷ rest) 1 rest
+value_ends : (levels : ℕ) (rest : List ℕ) → Ends 93 (λ before. value_in_text (enclosed_at levels)) text_of_value Follows (93 ∷ rest) 1 rest
 unfolding scan_of
 value_ends levels rest = record {
   comma = λ xs. inl refl;
@@ -189,18 +189,18 @@ value_ends levels rest = record {
   begins = λ front s x h. value_begins (enclosed_at levels) s x h;
 }
 
-values_back : (levels : ℕ) (es : List Known) (front : List Value) → list_all (λ r. r.within levels) (map readability_of (map (λ e. e.0) es)) ≡ true → AllBack 93 (λ before. value_at (enclosed_at levels)) text_of_value Follows front (map (λ e. e.0) es)
+values_back : (levels : ℕ) (es : List Known) (front : List Value) → list_all (λ r. r.within levels) (map readability_of (map (λ e. e.0) es)) ≡ true → AllBack 93 (λ before. value_in_text (enclosed_at levels)) text_of_value Follows front (map (λ e. e.0) es)
 values_back levels [] front h = tt
 values_back levels (e ∷ es) front h =
     let parts = and_parts ((readability_of e.0).within levels) (list_all (λ (r : Readability). r.within levels) (map readability_of (map (λ (e : Known). e.0) es))) h in
     ((e.1 levels parts.0).value, values_back levels es (front ++ e.0 ∷ []) parts.1)
 
-opened_list : (levels p : ℕ) (xs : List ℕ) → value_at (enclosed_at (suc levels)) (at p (91 ∷ xs)) ≡ (list_at 93 (λ before. value_at (enclosed_at levels)) (at (p + 1) xs) >>= λ items. Ok (Items items.0, items.1))
-unfolding value_at scan_of enclosed_at enclosed_by values_at mark_at
+opened_list : (levels p : ℕ) (xs : List ℕ) → value_in_text (enclosed_at (suc levels)) (at p (91 ∷ xs)) ≡ (list_at 93 (λ before. value_in_text (enclosed_at levels)) (at (p + 1) xs) >>= λ items. Ok (Items items.0, items.1))
+unfolding value_in_text scan_of enclosed_at enclosed_by values_at mark_at
 opened_list levels p xs = refl
 
 pub list_value_back : (levels : ℕ) (es : List Known) → list_all (λ r. r.within levels) (map readability_of (map (λ e. e.0) es)) ≡ true → (p q : ℕ) (rest : List ℕ) →
-    (let vs = map (λ (e : Known). e.0) es in q ≡ p + length (text_of_value (Items vs)) → value_at (enclosed_at (suc levels)) (at p (text_of_value (Items vs) ++ rest)) ≡ Ok (Items vs, at q rest))
+    (let vs = map (λ (e : Known). e.0) es in q ≡ p + length (text_of_value (Items vs)) → value_in_text (enclosed_at (suc levels)) (at p (text_of_value (Items vs) ++ rest)) ≡ Ok (Items vs, at q rest))
 list_value_back levels es h p q rest e =
     let vs = map (λ (e : Known). e.0) es in
     let texts = separated text_of_value vs in
@@ -208,7 +208,7 @@ list_value_back levels es h p q rest e =
     let size : length (text_of_value (Items vs)) ≡ length ((codes "[" ++ texts) ++ codes "]") = ap length (text_of-List vs) in
     let sizes = length-append (codes "[" ++ texts) (codes "]") in
     let place : q ≡ p + 1 + length texts + 1 = omega (arith, e, size, sizes) in
-    let back = list_back 93 (λ (before : List Value). value_at (enclosed_at levels)) text_of_value Follows (93 ∷ rest) 1 rest (value_ends levels rest) vs (p + 1) q (values_back levels es [] h) place in
+    let back = list_back 93 (λ (before : List Value). value_in_text (enclosed_at levels)) text_of_value Follows (93 ∷ rest) 1 rest (value_ends levels rest) vs (p + 1) q (values_back levels es [] h) place in
     rw (text, opened_list levels p (texts ++ 93 ∷ rest), back) refl
 
 -- ---- parts
@@ -257,7 +257,7 @@ member_back levels name v named b p q rest f e =
     let sizes2 = length-append name (codes ": ") in
     let place : q ≡ name_end + 1 + 1 + length t = omega (arith, e, sizes, sizes2) in
     let word = word_that_back p name_end name (58 ∷ 32 ∷ (t ++ rest)) (name_is_word name named) refl refl is_name_text named in
-    let value : value_at (enclosed_at levels) (at (name_end + 1) (32 ∷ (t ++ rest))) ≡ Ok (v, at q rest) = value_behind_blank levels (name_end + 1) (t ++ rest) ∙ b.value (name_end + 1 + 1) q rest f place in
+    let value : value_in_text (enclosed_at levels) (at (name_end + 1) (32 ∷ (t ++ rest))) ≡ Ok (v, at q rest) = value_behind_blank levels (name_end + 1) (t ++ rest) ∙ b.value (name_end + 1 + 1) q rest f place in
     rw (text, word, colon_marked name_end (32 ∷ (t ++ rest)), behind_colon name_end (32 ∷ (t ++ rest)), value) refl
 
 some_length : (b : ℕ) (bs : List ℕ) → (length (b ∷ bs) == 0) ≡ false

@@ -23,7 +23,7 @@ use Rattle.rio_token.specs.Words.{bits_of, decimal as decimal_of, digit_in, has_
 use Rattle.rio_token.proofs.DecimalLaws.{decimal_after, decimal_plain, integers_are_read}
 use Rattle.rio_token.proofs.StandLaws.{IsWord, Stops, at, digits_are_items, next_is_word, word_back}
 use Rattle.rio_model.specs.Readable.{Follows}
-use Rattle.rio_model.specs.ValueGrammar.{Reader, value_at, value_of_bits, word_value, word_value_at}
+use Rattle.rio_model.specs.ValueGrammar.{Reader, value_in_text, value_of_bits, word_value, word_value_at}
 
 -- ---- what follows a value
 
@@ -50,8 +50,8 @@ and_not true = refl
 and_not false = refl
 
 module _ (E : Reader) (p q : ℕ) (w rest : List ℕ) (is : IsWord w) (follows : Follows rest) (count : q ≡ p + length w) where
-  pub plain_word_back : (v : Value) → word_value w ≡ Some v → value_at E (at p (w ++ rest)) ≡ Ok (v, at q rest)
-  unfolding value_at word_value_at
+  pub plain_word_back : (v : Value) → word_value w ≡ Some v → value_in_text E (at p (w ++ rest)) ≡ Ok (v, at q rest)
+  unfolding value_in_text word_value_at
   plain_word_back v h =
       let b = is_behind rest follows in
       let next = next_is_word p q w rest is b.stops count in

@@ -11,7 +11,7 @@ use Rattle.rio_types.specs.declared.class.Member.{Member}
 use Rattle.rio_types.specs.declared.kind.Kind.{Kind}
 use Rattle.rio_types.specs.declared.kind.Kind.TheVariants.{Plain, Counter, Fixed, Counted, Text, Inline, Pointer, Other}
 use Rattle.rio_types.specs.declared.kind.Primitive.{Primitive}
-use Rattle.rio_model.specs.ClassGrammar.{base, counting, counts_by, has_base, has_i32, has_member, is_counted_by, is_i32, is_i32_of, with_counters}
+use Rattle.rio_model.specs.ClassGrammar.{base, counting, counts_by, has_base_named, has_i32, has_member, is_counted_by, is_i32, is_i32_of, with_counters}
 use Rattle.rio_model.specs.Stated.{are_stated_bases, are_stated_members, has_counter, is_stated_base, is_stated_kind, is_stated_member}
 use Rattle.rio_model.proofs.StatedKinds.{is_raw_kind}
 use Rattle.rio_model.proofs.StatedParts.{AllKeep, RawBase, RawMember}
@@ -164,7 +164,7 @@ members_stated ms raw = all_stated ms [] ms (λ name h. absurd (cc)) raw refl
 pub bases_stated : (before bs : List Base) → AllKeep RawBase before bs → are_stated_bases before bs ≡ true
 bases_stated before [] raw = refl
 bases_stated before (b ∷ bs) raw =
-    both (is_stated_base before b) (are_stated_bases (before ++ b ∷ []) bs) (both (is_name_text b.name) (not (has_base before b.name)) raw.0.named (ap not raw.0.new)) (bases_stated (before ++ b ∷ []) bs raw.1)
+    both (is_stated_base before b) (are_stated_bases (before ++ b ∷ []) bs) (both (is_name_text b.name) (not (has_base_named before b.name)) raw.0.named (ap not raw.0.new)) (bases_stated (before ++ b ∷ []) bs raw.1)
 
 pub bases_plain : (before bs : List Base) → AllKeep RawBase before bs → map (λ b. base b.name) bs ≡ bs
 bases_plain before [] raw = refl

@@ -10,7 +10,8 @@ use Rattle.rio_types.specs.declared.class.Base.{Base}
 use Rattle.rio_types.specs.declared.class.Member.{Member}
 use Rattle.rio_token.specs.Tokens.{behind}
 use Rattle.rio_token.specs.Reading.{Read, list_at, mark_at, marked, more_at, some_at, word_that_at}
-use Rattle.rio_model.specs.ClassGrammar.{base, base_at, bases_at, has_base, has_member, kind_at, member, member_at}
+use Rattle.rio_format.specs.Bodies.{member}
+use Rattle.rio_model.specs.ClassGrammar.{base, base_at, bases_at, has_base_named, has_member, kind_at, member_at}
 use Rattle.rio_model.proofs.ReadKinds.{not_true}
 use Rattle.rio_model.proofs.StatedKinds.{is_raw_kind, kind_ok, word_that_ok}
 
@@ -81,16 +82,16 @@ members_ok s y h = list_keeps 125 member_at RawMember member_ok s y h
 -- a base as it is read
 pub record RawBase (before : List Base) (b : Base) : Type 0 where
   pub named : is_name_text b.name ≡ true
-  pub new : has_base before b.name ≡ false
+  pub new : has_base_named before b.name ≡ false
   pub plain : base b.name ≡ b
 
 base_ok : (before : List Base) (s : At) (y : Base × At) → base_at before s ≡ Ok y → RawBase before y.0
 unfolding base_at
 base_ok before s y h =
-    let a = bind_ok (word_that_at (λ word. is_name_text word && not (has_base before word)) s) (λ name. Ok (base name.0, name.1)) y h in
-    let parts = and_parts (is_name_text a.0.0) (not (has_base before a.0.0)) (word_that_ok (λ word. is_name_text word && not (has_base before word)) s a.0 a.1) in
+    let a = bind_ok (word_that_at (λ word. is_name_text word && not (has_base_named before word)) s) (λ name. Ok (base name.0, name.1)) y h in
+    let parts = and_parts (is_name_text a.0.0) (not (has_base_named before a.0.0)) (word_that_ok (λ word. is_name_text word && not (has_base_named before word)) s a.0 a.1) in
     let same : base a.0.0 ≡ y.0 = ap (λ (q : Base × At). q.0) (ok_is (base a.0.0, a.0.1) y a.2) in
-    let raw : RawBase before (base a.0.0) = record { named = parts.0; new = not_true (has_base before a.0.0) parts.1; plain = refl } in
+    let raw : RawBase before (base a.0.0) = record { named = parts.0; new = not_true (has_base_named before a.0.0) parts.1; plain = refl } in
     subst (λ (b : Base). RawBase before b) same raw
 
 pub bases_ok : (s : At) (y : List Base × At) → bases_at s ≡ Ok y → AllKeep RawBase [] y.0

@@ -10,7 +10,7 @@ use Rattle.rio_token.specs.Marks.{at_sign, closing_brace, closing_bracket, colon
 use Rattle.rio_token.specs.Reading.{list_at, mark_at, marked, name_at, num_at, string_at, version_at, word_at}
 use Rattle.rio_token.specs.Tokens.{behind, next_at}
 use Rattle.rio_token.proofs.FurtherLaws.{behind_further, bind_further, from_further, further_here, if_further, list_further, takes_end_further}
-use Rattle.rio_model.specs.ValueGrammar.{Enclosed, Reader, ValuesEndFurther, bracket_limit, class_version_at, enclosed_at, enclosed_by, listed, marked_value_at, named_object_at, object_at, object_of, opens_object, part_at, pointer_at, text_value_at, value_at, value_by, values_at, word_value, word_value_at, worded}
+use Rattle.rio_model.specs.ValueGrammar.{Enclosed, Reader, ValuesEndFurther, bracket_limit, class_version_at, enclosed_at, enclosed_by, listed, marked_value_at, named_object_at, object_at, object_of, opens_object, part_at, pointer_at, text_value_at, value_by, value_in_text, values_at, word_value, word_value_at, worded}
 
 class_version_further : (s : At) → EndsFurther s (class_version_at s)
 unfolding class_version_at
@@ -67,8 +67,8 @@ module _ (inner : Reader) (each : (what : Enclosed) (s : At) → EndsFurther s (
   value_by_further (Mark mark) s = marked_further mark s
   value_by_further other s = text_further s
 
-  value_further : (s : At) → EndsFurther s (value_at inner s)
-  unfolding value_at
+  value_further : (s : At) → EndsFurther s (value_in_text inner s)
+  unfolding value_in_text
   value_further s = value_by_further (next_at s).token s
 
   part_further : (s : At) → EndsFurther s (part_at inner s)
@@ -77,14 +77,14 @@ module _ (inner : Reader) (each : (what : Enclosed) (s : At) → EndsFurther s (
       bind_further s (name_at s) _ (takes_end_further.tested_word is_name_text s) (λ name.
       if_further name.1 (marked colon name.1) _ _
       (from_further name.1 (behind name.1) _ (behind_further name.1)
-      (bind_further (behind name.1) (value_at inner (behind name.1)) _ (value_further (behind name.1)) (λ value. further_here value.1)))
+      (bind_further (behind name.1) (value_in_text inner (behind name.1)) _ (value_further (behind name.1)) (λ value. further_here value.1)))
       (bind_further name.1 (object_at inner name.0 name.1) _ (object_further name.0 name.1) (λ object. further_here object.1)))
 
   values_further : (s : At) → EndsFurther s (values_at inner s)
   unfolding values_at
   values_further s =
       bind_further s (mark_at opening_bracket s) _ (takes_end_further.mark opening_bracket s) (λ opening.
-      list_further closing_bracket (λ before. value_at inner) (λ before. value_further) opening.1)
+      list_further closing_bracket (λ before. value_in_text inner) (λ before. value_further) opening.1)
 
   enclosed_further : (what : Enclosed) (s : At) → EndsFurther s (enclosed_by inner what s)
   unfolding enclosed_by

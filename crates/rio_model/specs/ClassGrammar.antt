@@ -22,6 +22,7 @@ use Rattle.rio_token.specs.Marks.{asterisk, closing_brace, closing_bracket, colo
 use Rattle.rio_token.specs.Tokens.{behind, standing_in}
 use Rattle.rio_token.specs.Words.{num_between_of}
 use Rattle.rio_token.specs.Reading.{Read, taken_at, some_if, next_word, marked, mark_at, name_at, word_that_at, keyword_at, version_at, end_at, list_at, some_at}
+use Rattle.rio_format.specs.Bodies.{member}
 use Rattle.rio_model.specs.ClassText.{text_of_class}
 
 -- ---- kinds
@@ -96,9 +97,6 @@ kind_at before s = do
 
 -- ---- members and bases
 
-abbrev pub member : List ℕ → Kind → Member
-member name kind = record { name = name; kind = kind; title = [] }
-
 abbrev pub has_member : List Member → List ℕ → Bool
 has_member members name = list_any (λ m. bytes_eq m.name name) members
 
@@ -114,15 +112,15 @@ member_at before s = do
   kind ← kind_at before passed.1
   Ok (member name.0 kind.0, kind.1)
 
-abbrev pub has_base : List Base → List ℕ → Bool
-has_base bases name = list_any (λ b. bytes_eq b.name name) bases
+abbrev pub has_base_named : List Base → List ℕ → Bool
+has_base_named bases name = list_any (λ b. bytes_eq b.name name) bases
 
 abbrev pub base : List ℕ → Base
 base name = record { name = name; version = pos 0 }
 
 -- the name of a base, which none before has
 abbrev pub is_new_base : List Base → List ℕ → Bool
-is_new_base before word = is_name_text word && not (has_base before word)
+is_new_base before word = is_name_text word && not (has_base_named before word)
 
 -- a base, in no version yet
 unfoldable pub base_at : List Base → At → Read Base

@@ -74,8 +74,8 @@ readability_of = fold-Value Readability PartReadability readable_step (λ p. par
 
 -- numbers are in range, names are names, versions are versions, bases are objects and stand before the members,
 -- nothing is opaque, and brackets go no deeper than they may
-abbrev pub is_readable : Value → Bool
-is_readable v = (readability_of v).within bracket_limit
+abbrev pub is_readable_value : Value → Bool
+is_readable_value v = (readability_of v).within bracket_limit
 
 -- what may stand behind a value: nothing, a comma or a closing bracket
 abbrev pub Follows : List ℕ → Type 0
@@ -84,6 +84,6 @@ Follows (b ∷ bs) = (b ≡ comma) ⊎ ((b ≡ closing_bracket) ⊎ (b ≡ closi
 
 -- the text of a value is read as the value, wherever it stands
 abbrev pub ValuesAreRead : Type 0
-ValuesAreRead = (front rest : List ℕ) (v : Value) → is_readable v ≡ true → Follows rest
+ValuesAreRead = (front rest : List ℕ) (v : Value) → is_readable_value v ≡ true → Follows rest
     → value_in (front ++ (text_of_value v ++ rest)) (length front)
     ≡ Ok (v, record { place = length front + length (text_of_value v); rest = rest })

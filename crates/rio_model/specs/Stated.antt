@@ -11,7 +11,7 @@ use Rattle.rio_types.specs.declared.kind.Kind.TheVariants.{Plain, Counter, Fixed
 use Rattle.rio_types.specs.declared.kind.Primitive.{Primitive}
 use Rattle.rio_types.specs.Members.{is_counter}
 use Rattle.rio_model.specs.ClassText.{text_of_class}
-use Rattle.rio_model.specs.ClassGrammar.{base, checksum_of, class_in, has_base, has_member, is_counted_by, is_i32_of, primitive_of}
+use Rattle.rio_model.specs.ClassGrammar.{base, checksum_of, class_in, has_base_named, has_member, is_counted_by, is_i32_of, primitive_of}
 
 -- whether one of the members is a counter of the name
 abbrev pub has_counter : List Member → List ℕ → Bool
@@ -47,7 +47,7 @@ are_stated_members before (m ∷ after) = is_stated_member before m after && are
 
 -- a base that none before has the name of
 abbrev pub is_stated_base : List Base → Base → Bool
-is_stated_base before b = is_name_text b.name && not (has_base before b.name)
+is_stated_base before b = is_name_text b.name && not (has_base_named before b.name)
 
 abbrev pub are_stated_bases : List Base → List Base → Bool
 are_stated_bases before [] = true

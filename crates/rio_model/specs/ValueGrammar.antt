@@ -20,6 +20,7 @@ use Rattle.rio_token.specs.Further.{EndsFurther}
 use Rattle.rio_token.specs.Marks.{at_sign, closing_brace, closing_bracket, colon, equals_sign, number_sign, opening_brace, opening_bracket}
 use Rattle.rio_token.specs.Tokens.{next_at, behind, standing_in}
 use Rattle.rio_token.specs.Words.{number_of, bits_of}
+use Rattle.rio_format.specs.Bodies.{part}
 use Rattle.rio_token.specs.Reading.{Read, bad_at, marked, mark_at, word_at, name_at, num_at, version_at, string_at, list_at}
 
 -- ---- words
@@ -118,18 +119,15 @@ value_by enclosed (Mark mark) s = marked_value_at enclosed mark s
 value_by enclosed other s = text_value_at s
 
 -- a value
-unfoldable pub value_at : Reader → At → Read Value
-value_at enclosed s = value_by enclosed (next_at s).token s
-
-abbrev pub part : List ℕ → Value → Part
-part name value = record { name = name; value = value }
+unfoldable pub value_in_text : Reader → At → Read Value
+value_in_text enclosed s = value_by enclosed (next_at s).token s
 
 -- A part: a member, or a base without a name. Both begin with a name.
 unfoldable pub part_at : Reader → At → Read Part
 part_at enclosed s = do
   name ← name_at s
   if marked colon name.1
-      then (value_at enclosed (behind name.1) >>= λ value. Ok (part name.0 value.0, value.1))
+      then (value_in_text enclosed (behind name.1) >>= λ value. Ok (part name.0 value.0, value.1))
       else (object_at enclosed name.0 name.1 >>= λ object. Ok (part [] object.0, object.1))
 
 -- ---- brackets
@@ -138,7 +136,7 @@ part_at enclosed s = do
 unfoldable pub values_at : Reader → At → Read (List Value)
 values_at inner s = do
   opening ← mark_at opening_bracket s
-  list_at closing_bracket (λ before. value_at inner) opening.1
+  list_at closing_bracket (λ before. value_in_text inner) opening.1
 
 -- what stands in brackets, by what stands in those inside
 unfoldable pub enclosed_by : Reader → Reader
@@ -166,7 +164,7 @@ row_at = values_at (enclosed_at (bracket_limit - 1))
 
 -- the value that a text spells from the place on, and where it ends; behind it anything may stand
 abbrev pub value_in : List ℕ → ℕ → Read Value
-value_in text place = value_at (enclosed_at bracket_limit) (standing_in place text)
+value_in text place = value_in_text (enclosed_at bracket_limit) (standing_in place text)
 
 -- a value and the place behind it
 abbrev pub value_and_end : Read Value → Result (Value × ℕ) TextFault
@@ -175,5 +173,5 @@ value_and_end (Err e) = Err e
 
 -- where a value or a row was read, reading stands further on in the same text
 pub record ValuesEndFurther : Type 0 where
-  pub value : (s : At) → EndsFurther s (value_at (enclosed_at bracket_limit) s)
+  pub value : (s : At) → EndsFurther s (value_in_text (enclosed_at bracket_limit) s)
   pub row : (s : At) → EndsFurther s (row_at s)

@@ -16,7 +16,7 @@ use Rattle.rio_chain.specs.Adjoining.{AreAdjacent, segment_length, segment_place
 use Rattle.rio_chain.specs.Segments.{Link, RecordAt, GapAt, HoldsLink, HoldsLinks, HoldsRecord, IsRecord, link_length, segment_of}
 use Rattle.rio_chain.proofs.Placed.{end-le}
 use Rattle.rio_chain.proofs.Words.{has_same, held_long, held_positive}
-use Rattle.rio_state.specs.KeyedRecords.{KeyedRecord, keyed_records, record_in_link, with_head}
+use Rattle.rio_state.specs.KeyedRecords.{KeyedRecord, keyed_records, record_in_link, record_with_head}
 use Rattle.rio_recover.specs.Keys.{StandsIn, record_end, record_heads}
 
 -- ---- one record
@@ -26,7 +26,7 @@ key_of : (place : ℕ) (bytes : List ℕ) (r : IsRecord place bytes) → key_at 
 key_of place bytes r = ap (λ (b : List ℕ). key_at (standing place b)) r.key.2 ∙ ap value_of (key_again r.head r.key.0 place r.key.1 r.key.3)
 
 pub link_record : (place : ℕ) (bytes : List ℕ) (r : IsRecord place bytes) → record_in_link (RecordAt place bytes) ≡ Some (record { head = r.head; bytes = bytes })
-link_record place bytes r = ap (with_head bytes) (key_of place bytes r)
+link_record place bytes r = ap (record_with_head bytes) (key_of place bytes r)
 
 pub stands_here : (file : List ℕ) (place : ℕ) (bytes : List ℕ) (h : HoldsRecord file place bytes) → StandsIn file (record { head = h.whole.head; bytes = bytes })
 stands_here file place bytes h =

@@ -6,7 +6,7 @@ use Rattle.rio_head.specs.declared.fault.HeadFault.{HeadFault}
 use Rattle.rio_host.specs.Host.{View}
 use Rattle.rio_host.specs.OnlyReads.{OnlySaysPieces, Says}
 use Rattle.rio_host.proofs.PiecesLaws.{part_as, pieces_part}
-use Rattle.rio_dir.specs.Listing.{said_of}
+use Rattle.rio_dir.specs.Listing.{said_listing}
 use Rattle.rio_meaning.specs.declared.described.Described.{Described}
 use Rattle.rio_meaning.specs.declared.item.Item.{Item}
 use Rattle.rio_meaning.specs.Described.{described_file}
@@ -47,12 +47,12 @@ read_answers old new listed text is (Err HostFault) cause = tt
 read_answers old new listed text is (Err SayFault) cause = rw is refl
 
 module _ (listing : ListingOf) (text_of : List ℕ → List ℕ) (a d : View) (is : (file : List ℕ) → a.holds ≡ Some file → listing file ≡ Ok (text_of file)) where
-  listing_is : (file : List ℕ) → a.holds ≡ Some file → text_of file ≡ said_of (listing file)
-  listing_is file told = sym (ap said_of (is file told))
+  listing_is : (file : List ℕ) → a.holds ≡ Some file → text_of file ≡ said_listing (listing file)
+  listing_is file told = sym (ap said_listing (is file told))
 
-  pub told_calls : (r : ListingAnswer) → Says text_of a d r → OnlySaysPieces (λ file. said_of (listing file)) a d
-  told_calls (Ok x) says = part_as text_of (λ file. said_of (listing file)) listing_is (pieces_part text_of says)
-  told_calls (Err e) says = part_as text_of (λ file. said_of (listing file)) listing_is says
+  pub told_calls : (r : ListingAnswer) → Says text_of a d r → OnlySaysPieces (λ file. said_listing (listing file)) a d
+  told_calls (Ok x) says = part_as text_of (λ file. said_listing (listing file)) listing_is (pieces_part text_of says)
+  told_calls (Err e) says = part_as text_of (λ file. said_listing (listing file)) listing_is says
 
   pub told_done : (r : ListingAnswer) → Says text_of a d r → IsDone listing a d r
   told_done (Ok x) says = λ file told. rw (is file told) (says.whole file told)

@@ -5,7 +5,7 @@ use Rattle.rio_num.specs.Reading.{◌>>=◌}
 use Rattle.rio_head.specs.declared.fault.HeadFault.{HeadFault}
 use Rattle.rio_dir.specs.declared.closed.Closed.{Closed}
 use Rattle.rio_dir.specs.Closed.{closed_file}
-use Rattle.rio_dir.specs.Listing.{key_lines, listed_file, said_of}
+use Rattle.rio_dir.specs.Listing.{key_lines, listed_file, said_listing}
 
 abbrev listed_by : Result Closed HeadFault → Result (List ℕ) HeadFault
 listed_by read = read >>= λ closed. Ok (key_lines closed.keys)
@@ -18,8 +18,8 @@ pub listed_bad : (file : List ℕ) (fault : HeadFault) → closed_file file ≡ 
 unfolding listed_file
 listed_bad file fault is = ap listed_by is
 
-pub listed_text : (file : List ℕ) (closed : Closed) → closed_file file ≡ Ok closed → key_lines closed.keys ≡ said_of (listed_file file)
-listed_text file closed is = sym (ap said_of (listed_is file closed is))
+pub listed_text : (file : List ℕ) (closed : Closed) → closed_file file ≡ Ok closed → key_lines closed.keys ≡ said_listing (listed_file file)
+listed_text file closed is = sym (ap said_listing (listed_is file closed is))
 
 pub listed_ok : (file : List ℕ) (closed : Closed) → closed_file file ≡ Ok closed → IsOk (listed_file file)
 listed_ok file closed is = rw (listed_is file closed is) refl

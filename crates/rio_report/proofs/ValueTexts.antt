@@ -1,7 +1,7 @@
 -- The texts of a row's values, branch after branch.
 use Rattle.std.proofs.Common.{◌≡◌, ◌++◌, ◌+◌, ◌<◌, ◌≤◌, ℕ, List, [], ◌∷◌, codes, Bool, true, false, cond, Option, Some, None, length, drop, get_or, refl, sym, ap, ◌∙◌, append_assoc}
 use Rattle.std.specs.List.{flat_map}
-use Rattle.std.proofs.lemmas.List.{append-nil, drop_all}
+use Rattle.std.proofs.lemmas.List.{drop_all}
 use Rattle.rio_model.specs.Lists.{separated}
 use Rattle.rio_model.specs.ValueText.{text_of_value}
 use Rattle.rio_tree.specs.declared.head.Branch.{Branch}

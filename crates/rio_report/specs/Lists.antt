@@ -5,7 +5,7 @@ use Rattle.rio_head.specs.declared.fault.HeadFault.{HeadFault}
 use Rattle.rio_head.specs.Head.{fault_at}
 use Rattle.rio_host.specs.Host.{View, Becomes, Longer}
 use Rattle.rio_host.specs.OnlyReads.{OnlySays, OnlySaysPieces}
-use Rattle.rio_dir.specs.Listing.{said_of}
+use Rattle.rio_dir.specs.Listing.{said_listing}
 use Rattle.rio_close.specs.Causes.{IsSayCauseOf}
 use Rattle.rio_close.specs.declared.fault.ReportFault.{ReportFault}
 use Rattle.rio_close.specs.declared.fault.ReportFault.TheVariants.{BadFile, NoMemory, HostFault, SayFault}
@@ -24,8 +24,8 @@ pub data Manner : Type 0 where
 
 -- The file is as before, and at most a front of its listing was said.
 abbrev pub SaysFront : Manner → ListingOf → View → View → Type 0
-SaysFront AtOnce listing old new = OnlySays (λ file. said_of (listing file)) old new
-SaysFront InPieces listing old new = OnlySaysPieces (λ file. said_of (listing file)) old new
+SaysFront AtOnce listing old new = OnlySays (λ file. said_listing (listing file)) old new
+SaysFront InPieces listing old new = OnlySaysPieces (λ file. said_listing (listing file)) old new
 
 -- all of it was said
 abbrev pub SaysAll : ListingOf → View → View → Type 0

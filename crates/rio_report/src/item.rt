@@ -2,7 +2,8 @@
 ghost use Rattle.std.specs.Prelude.{◌≡◌, Some, Ok, Err, MatchResult};
 ghost use Rattle.std.specs.List.{list_any};
 ghost use Rattle.std.specs.Option.{option_copied};
-ghost use Rattle.rio_meaning.specs.Item.{found_item, has_name, key_of_item, with_greatest_cycle, with_cycle};
+ghost use Rattle.rio_dir.specs.Table.{is_of_name};
+ghost use Rattle.rio_meaning.specs.Item.{found_item, key_of_item, with_greatest_cycle, with_cycle};
 ghost use Rattle.rio_report.specs.GreatestCycle.{greatest_cycle_of};
 
 use rio_key::KeyHead;
@@ -10,7 +11,7 @@ use rio_meaning::{Item, Missing};
 
 /// Whether the key has the name.
 pub(crate) fn has_name(key: &KeyHead, name: &[u8]) -> bool
-    ensures { result ≡ has_name name.now key.now }
+    ensures { result ≡ is_of_name name.now key.now }
 {
     key.name.as_slice() == name
 }
@@ -48,7 +49,7 @@ fn with_cycle<'a>(keys: &'a [KeyHead], name: &[u8], cycle: u32) -> Option<&'a Ke
 
 /// Whether one of the keys has the name.
 pub(crate) fn has_any(keys: &[KeyHead], name: &[u8]) -> bool
-    ensures { result ≡ list_any (has_name name.now) keys.now }
+    ensures { result ≡ list_any (is_of_name name.now) keys.now }
 {
     keys.iter().any(|key| has_name(key, name))
 }

@@ -5,7 +5,7 @@ ghost use Rattle.std.specs.Option.{option_copied};
 ghost use Rattle.rio_close.specs.Causes.{AnyKind, IsSayCauseOf, NoKind};
 ghost use Rattle.rio_host.specs.Host.{IsLength};
 ghost use Rattle.rio_host.specs.OnlyReads.{Says};
-ghost use Rattle.rio_meaning.specs.Item.{has_name};
+ghost use Rattle.rio_dir.specs.Table.{is_of_name};
 ghost use Rattle.rio_scan.specs.Scan.{found_tree, key_scan, no_tree_line, scan_lines, scan_text, scanned_file, tree_key, tree_lines, unread_line};
 ghost use Rattle.rio_report.specs.Lists.{InPieces, IsDone, Lists, Refuses, SaysFront, StaysSilent};
 

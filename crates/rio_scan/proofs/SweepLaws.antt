@@ -1,23 +1,21 @@
 -- A walk over the rows finds the branches that aren't read: what is known of the refusals behind some entries, and the row behind
 -- them, tell the refusals behind one entry more; and behind all entries they stay.
-use Rattle.std.proofs.Common.{◌≡◌, true≢false, ℕ, zero, suc, ◌+◌, ◌<◌, ◌≤◌, List, [], ◌∷◌, ◌++◌, map, length, drop, slice_get, Bool, true, false, ◌&&◌, ◌||◌, not, cond, is_none, is_some, Option, Some, None, option_map, ℤ, refl, sym, ap, subst, ◌∙◌, append_assoc, arith}
+use Rattle.std.proofs.Common.{◌≡◌, true≢false, ℕ, zero, suc, ◌+◌, ◌<◌, ◌≤◌, List, [], ◌∷◌, ◌++◌, map, slice_get, Bool, true, false, ◌&&◌, ◌||◌, not, cond, is_none, is_some, Option, Some, None, ℤ, refl, sym, ap, subst, ◌∙◌, append_assoc, arith}
 use Rattle.std.specs.List.{list_all, list_any, range_with_len}
 use Rattle.std.specs.Option.{option_or}
 use Rattle.std.proofs.lemmas.List.{map-append, append-nil}
-use Rattle.std.proofs.lemmas.Option.{slice_get-map}
 use Rattle.rio_types.specs.declared.class.ClassDef.{ClassDef}
 use Rattle.rio_leaf.specs.declared.leaf.Dim.{Dim}
 use Rattle.rio_leaf.specs.declared.leaf.Dim.TheVariants.{One, Fixed, Counted}
 use Rattle.rio_leaf.specs.declared.leaf.Leaf.{Leaf}
 use Rattle.rio_tree.specs.declared.head.Branch.{Branch}
-use Rattle.rio_tree.specs.declared.refusal.BranchRefusal.{BranchRefusal}
 use Rattle.rio_tree.specs.declared.refusal.BranchRefusal.TheVariants.{Compressed, BadBasket, BadEntry, NoCounter}
 use Rattle.rio_value.specs.declared.value.Value.{Value}
-use Rattle.rio_scan.specs.Counters.{branch_leaves, counters_are_read, entry_counts, is_refused, leaf_count, number_in_branch, number_said, values_there}
+use Rattle.rio_scan.specs.Counters.{branch_leaves, counters_are_read, is_refused, leaf_count, number_in_branch, number_said, values_there}
 use Rattle.rio_scan.specs.Refusals.{branch_refusal, entries_are_read, is_entry_read, refusals_behind, refusals_of, refused_first, refused_unless}
 use Rattle.rio_scan.specs.Rows.{read_values, row_behind, values_at_entry, values_if_read, values_of_branch, values_or_none}
 use Rattle.rio_scan.specs.StoredEntries.{are_filled, baskets_refusal, branch_entry, is_compressed_basket, stored_basket}
-use Rattle.rio_scan.specs.Sweeps.{empty_row, sweep, sweep_behind, sweep_one, values_kept, with_branch}
+use Rattle.rio_scan.specs.Sweeps.{empty_row, sweep, sweep_behind, values_kept}
 use Rattle.rio_scan.specs.declared.row.Row.{Row}
 use Rattle.rio_scan.proofs.SweepSteps.{Refusal, refused_by, goes_on, passes, stays}
 

@@ -18,7 +18,8 @@ use Rattle.rio_tree.specs.declared.refusal.BranchRefusal.TheVariants.{BranchClas
 use Rattle.rio_meaning.specs.declared.described.Described.{Described}
 use Rattle.rio_meaning.specs.Described.{described_file}
 use Rattle.rio_meaning.specs.Dump.{is_tree, stored_tree}
-use Rattle.rio_meaning.specs.Item.{has_name, with_greatest_cycle}
+use Rattle.rio_dir.specs.Table.{is_of_name}
+use Rattle.rio_meaning.specs.Item.{with_greatest_cycle}
 use Rattle.rio_scan.specs.declared.no_tree.NoTree.{NoTree}
 use Rattle.rio_scan.specs.declared.no_tree.NoTree.TheVariants.{NoSuchName, NotATree}
 use Rattle.rio_scan.specs.Refusals.{refusals_of}
@@ -36,7 +37,7 @@ or_no_tree named None = if named then Err NotATree else Err NoSuchName
 
 -- or what is missing: any key of the name, or one of a tree
 abbrev pub found_tree : List ℕ → List KeyHead → Result KeyHead NoTree
-found_tree name keys = or_no_tree (list_any (has_name name) keys) (tree_key name keys)
+found_tree name keys = or_no_tree (list_any (is_of_name name) keys) (tree_key name keys)
 
 abbrev pub no_tree_line : NoTree → List ℕ
 no_tree_line NoSuchName = codes "no 3 NoSuchName\n"

@@ -5,7 +5,7 @@ use Rattle.std.specs.List.{All, list_all, sum_by}
 use Rattle.std.proofs.lemmas.Bool.{and_parts, eqb-true, leb-true, ltb-true}
 use Rattle.std.proofs.lemmas.List.Folds.{list_all_at}
 use Rattle.std.proofs.lemmas.List.Sums.{sum_by-cons}
-use Rattle.rio_key.specs.Key.{place_len}
+use Rattle.rio_key.specs.Key.{key_place_len}
 use Rattle.rio_key.specs.Written.{FitsKey}
 use Rattle.rio_key.specs.declared.head.KeyHead.{KeyHead}
 use Rattle.rio_dir.specs.Table.{heads_size}
@@ -24,10 +24,10 @@ fits_one h e =
     let title = and_parts _ (length h.title == 0) e in
     let name = and_parts _ (leb (length h.name) 65535) title.0 in
     let class = and_parts _ (leb (length h.class) 65535) name.0 in
-    let places = and_parts (ltb h.seek (256 ^ place_len h.version)) (ltb h.pdir (256 ^ place_len h.version)) class.0 in
+    let places = and_parts (ltb h.seek (256 ^ key_place_len h.version)) (ltb h.pdir (256 ^ key_place_len h.version)) class.0 in
     record {
-      seek = ltb-true h.seek (256 ^ place_len h.version) places.0;
-      pdir = ltb-true h.pdir (256 ^ place_len h.version) places.1;
+      seek = ltb-true h.seek (256 ^ key_place_len h.version) places.0;
+      pdir = ltb-true h.pdir (256 ^ key_place_len h.version) places.1;
       class = omega (arith, leb-true (length h.class) 65535 class.1);
       name = omega (arith, leb-true (length h.name) 65535 name.1);
       title = omega (arith, eqb-true (length h.title) 0 title.1);

@@ -23,7 +23,7 @@ use Rattle.rio_session.specs.Kept.{IsClosable, is_sized, kept_with}
 use Rattle.rio_session.proofs.Keeps.{size_with}
 use Rattle.rio_session.specs.Puts.{CanBePut}
 use Rattle.rio_session.specs.Session.{SessionState}
-use Rattle.rio_session.specs.Marks.{class_name, key_of_object, kept_of, list_count, state_need}
+use Rattle.rio_session.specs.Marks.{object_class_name, key_of_object, kept_of, list_count, state_need}
 
 abbrev written_size : KeyHead → ℕ
 written_size h = length (written_key h)
@@ -36,7 +36,7 @@ class_listed (tree_listed saved pending) = []
 one_size : (h : KeyHead) (e : NameAndCycle × Value) → told_by_key h ≡ listed_object e → is_sized h ≡ true → written_size (key_of_object e) ≡ written_size h
 unfolding class_listed
 one_size h e same sized =
-    key_long (record { place = 0; directory = 100; datime = 0; cycle = e.0.1; class = class_name e.1; name = e.0.0; title = [] }) 0
+    key_long (record { place = 0; directory = 100; datime = 0; cycle = e.0.1; class = object_class_name e.1; name = e.0.0; title = [] }) 0
     ∙ ap (λ (x : List ℕ × List ℕ). head_length x.0 x.1) (λ i. (class_listed (sym same i).1, (sym same i).0.0))
     ∙ sym (eqb-true (written_size h) (head_length h.class h.name) sized)
 

@@ -37,7 +37,7 @@ use Rattle.rio_state.proofs.Members.{Found, In, all_at, contains_in, found, in_c
 use Rattle.rio_session.specs.Behind.{IsOfKeys}
 use Rattle.rio_session.specs.Gets.{record_text}
 use Rattle.rio_session.specs.Kept.{IsClosable, begins_at, is_placed, kept_with}
-use Rattle.rio_session.specs.Marks.{command_lengths, mark_of, segments_behind, state_need, with_placed}
+use Rattle.rio_session.specs.Marks.{command_lengths, mark_of_command, segments_behind, state_need, with_placed}
 use Rattle.rio_session.specs.Session.{HoldsState, LacksRoomIfFull, SessionState, next_of}
 use Rattle.rio_session.proofs.Needs.{need_by_keys}
 use Rattle.rio_session.proofs.Refused.{cost_accepted, cost_refused, refused_anyway, step_accepted, step_refused}
@@ -89,11 +89,11 @@ lacks_none s m c (Full end wanted) told = absurd cc
 lacks_none s m c other told = tt
 
 module _ (s : SessionState) (m : State) (c : Command) (refusal : Refusal) (is : refusal_of m c None ≡ Some refusal) where
-  marked : refusal_of m c (mark_of s.name s.segments m c) ≡ Some refusal
-  marked = refused_anyway m c (mark_of s.name s.segments m c) refusal is
+  marked : refusal_of m c (mark_of_command s.name s.segments m c) ≡ Some refusal
+  marked = refused_anyway m c (mark_of_command s.name s.segments m c) refusal is
 
   refused_next : next_of s m c ≡ record { state = m; reply = refused refusal }
-  refused_next = step_refused m c (mark_of s.name s.segments m c) refusal marked
+  refused_next = step_refused m c (mark_of_command s.name s.segments m c) refusal marked
 
   refused_segments : segments_behind s.name s.segments m c ≡ s.segments
   unfolding segments_behind
@@ -132,17 +132,17 @@ module _ (s : SessionState) (m : State) (keys : IsOfKeys s m) (none : length s.c
   unfolding is_full lay_all
   not_full = le-ltb end_limit (end_after [] (space_of s.segments) + close_need (kept_with s.name s.heads (record_count s.segments))) kept.room
 
-  mark_none : mark_of s.name s.segments m c ≡ None
-  unfolding mark_of
+  mark_none : mark_of_command s.name s.segments m c ≡ None
+  unfolding mark_of_command
   mark_none =
       (λ i. mark_by (lengthless i) (need_is i))
       ∙ ap (λ (b : Bool). let o : Option FullMark = if b then Some (record { end = file_end s.segments; wanted = sum [] }) else None in o) not_full
 
-  unrefused : refusal_of m c (mark_of s.name s.segments m c) ≡ None
+  unrefused : refusal_of m c (mark_of_command s.name s.segments m c) ≡ None
   unrefused = ap (refusal_of m c) mark_none ∙ free
 
   next_is : next_of s m c ≡ record { state = state_behind m c; reply = reply_to m c }
-  next_is = step_accepted m c (mark_of s.name s.segments m c) unrefused
+  next_is = step_accepted m c (mark_of_command s.name s.segments m c) unrefused
 
   same_segments : segments_behind s.name s.segments m c ≡ s.segments
   unfolding segments_behind

@@ -32,8 +32,8 @@ use Rattle.rio_session.specs.Behind.{FollowsStep, HasPut, IsOfKeys, PutsNothing}
 use Rattle.rio_session.specs.Causes.{StaysIfRefused}
 use Rattle.rio_session.specs.Does.{Does}
 use Rattle.rio_session.specs.Marks.{segments_behind}
-use Rattle.rio_session.specs.Puts.{IsPutOrNot, PutAndSaid, PutsRecord, Putting, PutsInTime, with_put}
-use Rattle.rio_session.specs.Session.{FollowsCommand, HoldsState, IsReady, LacksRoomIfFull, SessionState, StandsFor, Steps, Went, next_of, with_cost}
+use Rattle.rio_session.specs.Puts.{IsPutOrNot, PutAndSaid, PutNotSaid, PutsRecord, Putting, PutsInTime, with_put}
+use Rattle.rio_session.specs.Session.{FollowsCommand, HoldsState, IsOpenAs, IsReady, LacksRoomIfFull, LeavesOpenAs, SessionState, StandsFor, Steps, Went, next_of, with_cost}
 use Rattle.rio_session.specs.declared.fault.SessionFault.{SessionFault}
 use Rattle.rio_session.specs.declared.fault.SessionFault.TheVariants.{HostFault, SayFault, NoMemory}
 use Rattle.rio_session.proofs.Opened.{open_image}
@@ -121,6 +121,15 @@ module _ (p : Putting) (old new : View) (before after : SessionState) (lawful : 
         state = subst (λ (a : SessionState). HoldsState a (next_of before m c).state f.0) (sym is.kept) (put_state p before m c s.file f.0 s.state putting chain f.3);
       }
 
+  -- what it leaves, where its text could not be said
+  put_unsaid : (m : State) (c : Command) (said : List ℕ) (s : StandsFor old before m said) → PutNotSaid p old new before after → IsPutting p before m c s.state.links
+      → LeavesOpenAs new (next_of before m c).state
+  put_unsaid m c said s is putting image spoken left =
+      let f = is.holds s.file s.state.links s.holds s.state.chain in
+      let same : image ≡ f.0 = is.quiet image spoken f.0 left f.1 in
+      subst (λ (i : List ℕ). IsOpenAs (next_of before m c).state i) (sym same)
+      (open_image s.file f.0 before.nbytes_name s.state.links (with_record p.place p.bytes s.state.links) (next_of before m c).state s.state.head s.state.chain.chain f.3 f.2 putting.records).reads
+
   put_follows : (m : State) (c : Command) → PutAndSaid p old new before after → segments_behind before.name before.segments m c ≡ with_segment p.place (length p.bytes) before.segments → p.cost ≡ cost_of m c
       → FollowsCommand before after m c
   put_follows m c is segments costs = record {
@@ -192,6 +201,7 @@ module _ (p : Putting) (old new : View) (before after : SessionState) (lawful : 
     ready = put_ready is;
     refused = subst (λ (o : Outcome). StaysIfRefused old new o) (sym same) tt;
     no_memory = λ e. absurd cc;
+    unsaid = λ e. absurd cc;
     failed = ap (λ (a : SessionState). a.failed) is.kept ∙ fresh;
     told = is.told;
     cause = is.faults;
@@ -209,6 +219,7 @@ module _ (p : Putting) (old new : View) (before after : SessionState) (lawful : 
     ready = tt;
     refused = tt;
     no_memory = λ e. absurd cc;
+    unsaid = λ e. absurd cc;
     failed = is.failed;
     told = is.told;
     cause = is.faults;
@@ -226,6 +237,7 @@ module _ (p : Putting) (old new : View) (before after : SessionState) (lawful : 
     ready = tt;
     refused = tt;
     no_memory = λ e. absurd cc;
+    unsaid = λ e m said s. put_unsaid m (Put name v) said s is (putting m said s);
     failed = is.failed;
     told = is.told;
     cause = is.faults;
@@ -243,6 +255,7 @@ module _ (p : Putting) (old new : View) (before after : SessionState) (lawful : 
     ready = tt;
     refused = tt;
     no_memory = λ e. (is.kept, is.calls);
+    unsaid = λ e. absurd cc;
     failed = ap (λ (a : SessionState). a.failed) is.kept ∙ fresh;
     told = told_same old.holds new.holds is.calls.holds;
     cause = is.faults;

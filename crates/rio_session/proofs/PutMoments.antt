@@ -73,9 +73,11 @@ module _ (p : Putting) (old mid : View) (before : SessionState)
     }
 
     -- or a front of its text
-    pub put_not_said : (new : View) (after : SessionState) → NotSaid p.text mid new after → Becomes Any old.holds mid.holds → NoCountRose old mid → PutNotSaid p old new before after
-    put_not_said new after is told faults = record {
+    pub put_not_said : (new : View) (after : SessionState) → IsLawful new → NotSaid p.text mid new after → Becomes Any old.holds mid.holds → NoCountRose old mid → PutNotSaid p old new before after
+    put_not_said new after lawful is told faults = record {
       time = said_in_time new is.time;
+      holds = λ file links holds chain. let f = put file links holds chain in (f.0, is.holds ∙ f.1, f.2.chain, f.3);
+      quiet = says_quiet p.text lawful quiet is.time is.holds;
       told = subst (λ (o : Option (List ℕ)). Becomes Any old.holds o) (sym is.holds) told;
       says = subst (λ (o : Option (List ℕ)). Becomes (LongerByPart p.text) o new.said) same is.says;
       faults = (is.faults.0 ∙ faults.0, subst (λ (n : ℕ). Rose n new.say_faults) faults.1 is.faults.1);

@@ -47,7 +47,7 @@ use Rattle.rio_effect.proofs.PutKeys.{put_key_follows}
 use Rattle.rio_judge.specs.Judging.{IsStep}
 use Rattle.rio_session.specs.Behind.{IsOfKeys}
 use Rattle.rio_session.specs.Kept.{is_sized, kept_with}
-use Rattle.rio_session.specs.Marks.{command_lengths, mark_of, segments_behind, state_need, with_placed}
+use Rattle.rio_session.specs.Marks.{command_lengths, mark_of_command, segments_behind, state_need, with_placed}
 use Rattle.rio_session.specs.Puts.{Putting}
 use Rattle.rio_session.specs.Session.{HoldsState, SessionState, next_of}
 use Rattle.rio_session.proofs.Keeps.{all_with, count_with, length_with, size_with}
@@ -133,27 +133,27 @@ module _ (s : SessionState) (m : State) (keys : IsOfKeys s m) (none : length s.c
   abbrev mark_by : List ℕ → ℕ → Option FullMark
   mark_by lengths k = if is_full s.segments lengths k then Some (record { end = file_end s.segments; wanted = sum lengths }) else None
 
-  mark_is : mark_of s.name s.segments m (Put name v) ≡ mark_by (n ∷ []) need
-  unfolding mark_of
+  mark_is : mark_of_command s.name s.segments m (Put name v) ≡ mark_by (n ∷ []) need
+  unfolding mark_of_command
   mark_is = λ i. mark_by (lengths_are i) (need_is i)
 
   abbrev told_by : Bool → Option FullMark
   told_by b = if b then Some (record { end = file_end s.segments; wanted = sum (n ∷ []) }) else None
 
-  pub mark_none : is_full s.segments (n ∷ []) need ≡ false → mark_of s.name s.segments m (Put name v) ≡ None
+  pub mark_none : is_full s.segments (n ∷ []) need ≡ false → mark_of_command s.name s.segments m (Put name v) ≡ None
   mark_none e = mark_is ∙ ap told_by e
 
-  pub mark_full : is_full s.segments (n ∷ []) need ≡ true → mark_of s.name s.segments m (Put name v) ≡ Some (record { end = file_end s.segments; wanted = n })
+  pub mark_full : is_full s.segments (n ∷ []) need ≡ true → mark_of_command s.name s.segments m (Put name v) ≡ Some (record { end = file_end s.segments; wanted = n })
   mark_full e = mark_is ∙ ap told_by e ∙ ap (λ (k : ℕ). let o : Option FullMark = Some (record { end = file_end s.segments; wanted = k }) in o) (sum_one n)
 
   -- ---- where there is room
 
   module _ (p : Putting) (is : IsPutOf m name v place s.datime p) (room : is_full s.segments (n ∷ []) need ≡ false) (at : place ≡ place_of s.segments n) (long : length p.bytes ≡ n) where
-    unrefused : refusal_of m (Put name v) (mark_of s.name s.segments m (Put name v)) ≡ None
+    unrefused : refusal_of m (Put name v) (mark_of_command s.name s.segments m (Put name v)) ≡ None
     unrefused = ap (refusal_of m (Put name v)) (mark_none room) ∙ free
 
     pub next_is : next_of s m (Put name v) ≡ record { state = state_behind m (Put name v); reply = object_put name (next_cycle m name) }
-    next_is = step_accepted m (Put name v) (mark_of s.name s.segments m (Put name v)) unrefused
+    next_is = step_accepted m (Put name v) (mark_of_command s.name s.segments m (Put name v)) unrefused
 
     pub segments_are : segments_behind s.name s.segments m (Put name v) ≡ with_segment p.place (length p.bytes) s.segments
     unfolding segments_behind
@@ -176,11 +176,11 @@ module _ (s : SessionState) (m : State) (keys : IsOfKeys s m) (none : length s.c
   -- ---- where there is none
 
   module _ (full : is_full s.segments (n ∷ []) need ≡ true) where
-    refused_is : refusal_of m (Put name v) (mark_of s.name s.segments m (Put name v)) ≡ Some (Full (file_end s.segments) n)
+    refused_is : refusal_of m (Put name v) (mark_of_command s.name s.segments m (Put name v)) ≡ Some (Full (file_end s.segments) n)
     refused_is = ap (refusal_of m (Put name v)) (mark_full full) ∙ refused_full m (Put name v) (record { end = file_end s.segments; wanted = n }) free
 
     full_next : next_of s m (Put name v) ≡ record { state = m; reply = refused (Full (file_end s.segments) n) }
-    full_next = step_refused m (Put name v) (mark_of s.name s.segments m (Put name v)) (Full (file_end s.segments) n) refused_is
+    full_next = step_refused m (Put name v) (mark_of_command s.name s.segments m (Put name v)) (Full (file_end s.segments) n) refused_is
 
     same_segments : segments_behind s.name s.segments m (Put name v) ≡ s.segments
     unfolding segments_behind

@@ -23,7 +23,7 @@ use Rattle.rio_session.specs.Causes.{IsSaid, StaysIfRefused}
 use Rattle.rio_session.specs.Does.{Does}
 use Rattle.rio_session.specs.Marks.{segments_behind}
 use Rattle.rio_session.specs.Says.{NotSaid, Said, SaysReply}
-use Rattle.rio_session.specs.Session.{FollowsCommand, HoldsState, IsOpenAs, IsReady, LacksRoomIfFull, SessionState, StandsFor, Steps, Went, next_of, with_cost}
+use Rattle.rio_session.specs.Session.{FollowsCommand, HoldsState, IsOpenAs, IsReady, LacksRoomIfFull, LeavesOpenAs, SessionState, StandsFor, Steps, Went, next_of, with_cost}
 use Rattle.rio_session.specs.declared.fault.SessionFault.{SessionFault}
 use Rattle.rio_session.specs.declared.fault.SessionFault.TheVariants.{HostFault, SayFault, NoMemory}
 use Rattle.rio_session.proofs.Opened.{reads_open}
@@ -134,6 +134,13 @@ module _ (old new : View) (before after : SessionState) (text : List ℕ) (cost 
     full = full;
   }
 
+  -- what it leaves, where it could not be said
+  unsaid_open : (m : State) (c : Command) (said : List ℕ) → NotSaid text old new after → IsStill before m c cost → StandsFor old before m said → LeavesOpenAs new (next_of before m c).state
+  unsaid_open m c said is still s image spoken left =
+      let same : image ≡ s.file = says_quiet text lawful' ready.quiet is.time is.holds image spoken s.file left (is.holds ∙ s.holds) in
+      subst (λ (n : State). IsOpenAs n image) (sym still.stays)
+      (subst (λ (f : List ℕ). IsOpenAs m f) (sym same) (reads_open s.file before.nbytes_name s.state.links m s.state.head s.state.chain.chain s.state.records))
+
   pub said_ready : Said text cost old new before after → IsReady new after
   said_ready is = record {
     quiet = says_quiet text lawful' ready.quiet is.time is.holds;
@@ -179,6 +186,7 @@ module _ (old new : View) (before after : SessionState) (text : List ℕ) (cost 
     ready = said_ready is;
     refused = said_stays outcome is;
     no_memory = λ e. absurd cc;
+    unsaid = λ e. absurd cc;
     failed = ap (λ (a : SessionState). a.failed) is.kept ∙ fresh;
     told = told_same old.holds new.holds is.holds;
     cause = is.faults;
@@ -196,6 +204,7 @@ module _ (old new : View) (before after : SessionState) (text : List ℕ) (cost 
     ready = tt;
     refused = tt;
     no_memory = λ e. absurd cc;
+    unsaid = λ e. absurd cc;
     failed = is.failed;
     told = told_same old.holds new.holds is.calls.holds;
     cause = is.faults;
@@ -213,6 +222,7 @@ module _ (old new : View) (before after : SessionState) (text : List ℕ) (cost 
     ready = tt;
     refused = tt;
     no_memory = λ e. absurd cc;
+    unsaid = λ e m said s. unsaid_open m c said is (still tt m (of_keys before m s.file s.state)) s;
     failed = is.failed;
     told = told_same old.holds new.holds is.holds;
     cause = is.faults;
@@ -230,6 +240,7 @@ module _ (old new : View) (before after : SessionState) (text : List ℕ) (cost 
     ready = tt;
     refused = tt;
     no_memory = λ e. (is.kept, is.calls);
+    unsaid = λ e. absurd cc;
     failed = ap (λ (a : SessionState). a.failed) is.kept ∙ fresh;
     told = told_same old.holds new.holds is.calls.holds;
     cause = is.faults;

@@ -39,10 +39,11 @@ IsCloseCause old new (Err HostFault) = DiskRose old new
 IsCloseCause old new (Err SayFault) = ⊥
 IsCloseCause old new (Err NoMemory) = NoCountRose old new
 
+-- Why a file isn't opened. (As yet the only reason against writing to one is that it is made.)
 abbrev pub IsOpenCause : {X : Type 0} → View → View → Result X OpenFault → Type 0
 IsOpenCause old new (Ok x) = NoCountRose old new
 IsOpenCause old new (Err (BadFile place kind)) = IsHeaderKind kind × NoCountRose old new
-IsOpenCause old new (Err (ReadOnly place reason)) = NoCountRose old new
+IsOpenCause old new (Err (ReadOnly place reason)) = (place ≡ 0) × (reason ≡ NotYet) × NoCountRose old new
 IsOpenCause old new (Err NotRoomy) = NoCountRose old new
 IsOpenCause old new (Err NotOpened) = DiskRose old new
 

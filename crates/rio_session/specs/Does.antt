@@ -14,9 +14,9 @@ use Rattle.rio_step.specs.ReplyText.{text_of}
 use Rattle.rio_step.specs.Step.{outcome_of}
 use Rattle.rio_session.specs.Behind.{FollowsStep, HasPut, IsOfKeys, PutsNothing, SaysPart, Stays}
 use Rattle.rio_session.specs.Causes.{IsSaid, IsSessionCause, SaysNothing, StaysIfRefused, fails_by}
-use Rattle.rio_session.specs.Session.{IsReady, LacksRoomIfFull, SessionState, StandsFor, Steps, Went, next_of, with_cost}
+use Rattle.rio_session.specs.Session.{IsReady, LacksRoomIfFull, LeavesOpenAs, SessionState, StandsFor, Steps, Went, next_of, with_cost}
 use Rattle.rio_session.specs.declared.fault.SessionFault.{SessionFault}
-use Rattle.rio_session.specs.declared.fault.SessionFault.TheVariants.{NoMemory}
+use Rattle.rio_session.specs.declared.fault.SessionFault.TheVariants.{SayFault, NoMemory}
 
 pub record Does (old new : View) (before after : SessionState) (c : Command) (answer : Result Outcome SessionFault) : Type 0 where
   pub done : IfOk answer (λ outcome. (m : State) (text : List ℕ) → StandsFor old before m text → Went old new before after m c text outcome)
@@ -24,6 +24,7 @@ pub record Does (old new : View) (before after : SessionState) (c : Command) (an
   pub ready : OnOk answer (IsReady new after)
   pub refused : IfOk answer (StaysIfRefused old new)
   pub no_memory : IsErrOf answer NoMemory → (after ≡ before) × OnlyReads old new
+  pub unsaid : IsErrOf answer SayFault → (m : State) (text : List ℕ) → StandsFor old before m text → LeavesOpenAs new (next_of before m c).state
   pub failed : after.failed ≡ fails_by answer
   pub told : Becomes Any old.holds new.holds
   pub cause : IsSessionCause old new answer

@@ -1,7 +1,7 @@
 -- What holds of all that a session keeps, whatever its host tells.
 use Rattle.std.specs.Prelude.{◌≡◌, ◌≤◌, ℕ, ◌+◌, ◌^◌, Bool, true, false, ◌==◌, ◌&&◌, ◌||◌, List, length, is_some, nat_lt, nat_le}
 use Rattle.std.specs.List.{list_all, list_any}
-use Rattle.rio_key.specs.Key.{place_len}
+use Rattle.rio_key.specs.Key.{key_place_len}
 use Rattle.rio_key.specs.Written.{written_key}
 use Rattle.rio_key.specs.declared.head.KeyHead.{KeyHead}
 use Rattle.rio_chain.specs.Placing.{file_end, record_count}
@@ -18,7 +18,7 @@ is_sized h = length (written_key h) == head_length h.class h.name
 -- its numbers fit what is written of it
 abbrev pub is_fit_key : KeyHead → Bool
 is_fit_key h =
-    nat_lt h.seek (256 ^ place_len h.version) && nat_lt h.pdir (256 ^ place_len h.version)
+    nat_lt h.seek (256 ^ key_place_len h.version) && nat_lt h.pdir (256 ^ key_place_len h.version)
     && nat_le (length h.class) 65535 && nat_le (length h.name) 65535 && (length h.title == 0)
 
 -- a record begins at the place

@@ -20,12 +20,12 @@ use Rattle.rio_state.specs.Closing.{KeptRecords, close_need, is_full, padded_len
 -- ---- what a file of a state keeps
 
 -- the class of an object, and no name for another value
-abbrev pub class_name : Value → List ℕ
-class_name v = unwrap_or (object_class v) []
+abbrev pub object_class_name : Value → List ℕ
+object_class_name v = unwrap_or (object_class v) []
 
 -- a key as long as that of the object
 abbrev pub key_of_object : NameAndCycle × Value → KeyHead
-key_of_object e = new_key (record { place = 0; directory = 100; datime = 0; cycle = e.0.1; class = class_name e.1; name = e.0.0; title = [] }) 0
+key_of_object e = new_key (record { place = 0; directory = 100; datime = 0; cycle = e.0.1; class = object_class_name e.1; name = e.0.0; title = [] }) 0
 
 -- the class list, if there are classes
 abbrev pub list_count : State → ℕ
@@ -46,7 +46,7 @@ state_need name m = close_need (kept_of name m)
 -- with their bodies.)
 unfoldable pub command_lengths : State → Command → List ℕ
 command_lengths m (Put name v) =
-    let stored = put_value m v in padded_length (head_length (class_name stored) name + value_size m.classes stored) ∷ []
+    let stored = put_value m v in padded_length (head_length (object_class_name stored) name + value_size m.classes stored) ∷ []
 command_lengths m other = []
 
 -- the segments with one record more, at the place of the rule
@@ -54,8 +54,8 @@ abbrev pub with_placed : List Segment → ℕ → List Segment
 with_placed segments n = with_segment (place_of segments n) n segments
 
 -- A command's mark: there is no room for its records with what a close needs behind it.
-unfoldable pub mark_of : List ℕ → List Segment → State → Command → Option FullMark
-mark_of name segments m c =
+unfoldable pub mark_of_command : List ℕ → List Segment → State → Command → Option FullMark
+mark_of_command name segments m c =
     let lengths = command_lengths m c in
     if is_full segments lengths (state_need name (state_behind m c))
     then Some (record { end = file_end segments; wanted = sum lengths })
@@ -64,7 +64,7 @@ mark_of name segments m c =
 -- the segments behind a command: a refused one changes none
 unfoldable pub segments_behind : List ℕ → List Segment → State → Command → List Segment
 segments_behind name segments m c =
-    if is_some (refusal_of m c (mark_of name segments m c)) then segments else fold with_placed segments (command_lengths m c)
+    if is_some (refusal_of m c (mark_of_command name segments m c)) then segments else fold with_placed segments (command_lengths m c)
 
 -- ---- runs
 
@@ -72,5 +72,5 @@ segments_behind name segments m c =
 unfoldable pub marks_of_run : List ℕ → List Segment → State → List Command → Marks
 marks_of_run name segments m [] = []
 marks_of_run name segments m (c ∷ cs) =
-    let mark = mark_of name segments m c in
+    let mark = mark_of_command name segments m c in
     mark ∷ marks_of_run name (segments_behind name segments m c) (step m c mark).state cs

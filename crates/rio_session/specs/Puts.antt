@@ -77,6 +77,9 @@ pub record NotPut (p : Putting) (old new : View) (before after : SessionState) :
 -- the record is put, and the text could not be said
 pub record PutNotSaid (p : Putting) (old new : View) (before after : SessionState) : Type 0 where
   pub time : PutsInTime p old new before
+  pub holds : (file : List ℕ) (links : List Link) → old.holds ≡ Some file → HasChain links before.segments file
+      → (now : List ℕ) × (new.holds ≡ Some now) × IsChain (with_record p.place p.bytes links) now × KeepsFront file now
+  pub quiet : IsQuiet new
   pub told : Becomes Any old.holds new.holds
   pub says : Becomes (LongerByPart p.text) old.said new.said
   pub faults : SayRose old new

@@ -2,7 +2,7 @@
 use Rattle.std.specs.Prelude.{◌≡◌, ◌⊎◌, ◌<◌, ◌≤◌, ℕ, ◌+◌, ◌-◌, ◌*◌, ◌^◌, min, Bool, false, List, [], ◌++◌, take, slice_get, Option, Some, None}
 use Rattle.rio_types.specs.declared.class.ClassDef.{ClassDef}
 use Rattle.rio_key.specs.declared.head.KeyHead.{KeyHead}
-use Rattle.rio_host.specs.Host.{Elapses, IsQuiet, View}
+use Rattle.rio_host.specs.Host.{Elapses, IsQuiet, Leaves, View}
 use Rattle.rio_chain.specs.Chains.{HasChain, HoldsChain}
 use Rattle.rio_chain.specs.Placing.{record_count}
 use Rattle.rio_chain.specs.Segments.{Link}
@@ -22,7 +22,7 @@ use Rattle.rio_state.specs.DirectoryKeys.{AreKeysOf}
 use Rattle.rio_state.specs.KeyedRecords.{info_key, keyed_records}
 use Rattle.rio_state.specs.Left.{HasOpenHead, IsLeftAs, IsMarkedOpen, info_head}
 use Rattle.rio_state.specs.Reads.{AreRecordsOf}
-use Rattle.rio_session.specs.Marks.{mark_of, segments_behind}
+use Rattle.rio_session.specs.Marks.{mark_of_command, segments_behind}
 
 -- ---- what a session keeps
 
@@ -90,6 +90,10 @@ pub record IsOpenAs (m : State) (image : List ℕ) : Type 0 where
   pub left : IsLeftAs (saved_of m) image
   pub marked : IsMarkedOpen image
 
+-- each file that a stop leaves now is marked as open and reads so
+abbrev pub LeavesOpenAs : View → State → Type 0
+LeavesOpenAs v m = (image said : List ℕ) → Leaves v image said → IsOpenAs m image
+
 -- While a command is done: the state of before with the text of before, or the state of after with a front of the reply.
 abbrev pub Steps : State → Stepped → List ℕ → List ℕ → List ℕ → Type 0
 Steps m next text image said =
@@ -97,7 +101,7 @@ Steps m next text image said =
 
 -- the command's step, with its mark
 abbrev pub next_of : SessionState → State → Command → Stepped
-next_of s m c = step m c (mark_of s.name s.segments m c)
+next_of s m c = step m c (mark_of_command s.name s.segments m c)
 
 -- What a session keeps follows a command: the command's records stand where the rule places them, and its cost was counted, as far
 -- as 64 bits hold the costs.

@@ -77,7 +77,7 @@ impl Session {
     ghost use Rattle.rio_value.specs.declared.value.Value.{Value};
     ghost use Rattle.rio_session.specs.Behind.{FollowsStep, HasPut, IsOfKeys, PutsNothing, SaysPart, Stays};
     ghost use Rattle.rio_session.specs.Causes.{IsSaid, IsSessionCause, SaysNothing, NeverReads, StaysIfRefused, fails_by};
-    ghost use Rattle.rio_session.specs.Session.{IsReady, LacksRoomIfFull, StandsFor, Steps, Went, next_of, with_cost};
+    ghost use Rattle.rio_session.specs.Session.{IsReady, LacksRoomIfFull, LeavesOpenAs, StandsFor, Steps, Went, next_of, with_cost};
     ghost use Rattle.rio_session.specs.declared.fault.SessionFault.{SessionFault as Fault};
 
     /// Whether a call of the host failed, after which nothing more can be done.
@@ -109,6 +109,10 @@ impl Session {
         ensures refused { IfOk result (StaysIfRefused (H.view host.old) (H.view host.new)) }
         ensures no_memory { IsErrOf result Fault.NoMemory
             → (self.new ≡ self.old) × OnlyReads (H.view host.old) (H.view host.new) }
+        // What was done stands where its reply can't be said.
+        ensures unsaid { IsErrOf result Fault.SayFault → (m : State) (text : List ℕ)
+            → StandsFor (H.view host.old) self.old m text
+            → LeavesOpenAs (H.view host.new) (next_of self.old m command.now).state }
         ensures failed { self.new.failed ≡ fails_by result }
         ensures reads { NeverReads command.now
             → (H.view host.new).reads ≡ (H.view host.old).reads }

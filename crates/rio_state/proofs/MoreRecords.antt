@@ -10,14 +10,14 @@ use Rattle.rio_chain.specs.Changes.{with_record, with_rest}
 use Rattle.rio_chain.specs.Placing.{record_count}
 use Rattle.rio_chain.specs.Segments.{GapAt, IsRecord, Link, RecordAt, segment_of}
 use Rattle.rio_state.specs.Closing.{name_in}
-use Rattle.rio_state.specs.KeyedRecords.{KeyedRecord, keyed_records, record_in_link, with_head}
+use Rattle.rio_state.specs.KeyedRecords.{KeyedRecord, keyed_records, record_in_link, record_with_head}
 use Rattle.rio_state.specs.OneMore.{CountGrows, FirstStays, KeyIsRead, RecordMore, keyed_bytes}
 use Rattle.rio_state.specs.OneMore.{HasOneMoreIn}
 use Rattle.rio_state.proofs.Insertion.{behind}
 
 -- the record of a segment has the key that is read there
 pub keyed_link : (place : ℕ) (bytes : List ℕ) (head : KeyHead) → KeyIsRead place bytes head → record_in_link (RecordAt place bytes) ≡ Some (keyed_bytes head bytes)
-keyed_link place bytes head e = ap (with_head bytes) e
+keyed_link place bytes head e = ap (record_with_head bytes) e
 
 -- where a key is spelled it is read
 pub key_is_read : (place : ℕ) (bytes : List ℕ) (head : KeyHead) → IsSpelledIn (SpellsKey head) bytes → KeyIsRead place bytes head

@@ -17,13 +17,13 @@ pub record KeyedRecord : Type 0 where
 abbrev pub record_data : KeyedRecord → List ℕ
 record_data r = drop r.head.keylen r.bytes
 
-abbrev pub with_head : List ℕ → Result KeyHead KeyFault → Option KeyedRecord
-with_head bytes (Ok head) = Some (record { head = head; bytes = bytes })
-with_head bytes (Err e) = None
+abbrev pub record_with_head : List ℕ → Result KeyHead KeyFault → Option KeyedRecord
+record_with_head bytes (Ok head) = Some (record { head = head; bytes = bytes })
+record_with_head bytes (Err e) = None
 
 -- the record of a segment; a gap has none
 abbrev pub record_in_link : Link → Option KeyedRecord
-record_in_link (RecordAt place bytes) = with_head bytes (key_at (record { place = place; rest = bytes }))
+record_in_link (RecordAt place bytes) = record_with_head bytes (key_at (record { place = place; rest = bytes }))
 record_in_link (GapAt place n) = None
 
 -- the records of a file by its segments, in order of place

@@ -11,7 +11,7 @@ use Rattle.rio_leaf.specs.declared.branch.Shape.TheVariants.{Leaves, Class as Ob
 use Rattle.rio_leaf.specs.declared.leaf.Dim.{Dim}
 use Rattle.rio_leaf.specs.declared.leaf.Dim.TheVariants.{One, Fixed, Counted}
 use Rattle.rio_leaf.specs.declared.leaf.Leaf.{Leaf}
-use Rattle.rio_model.specs.ValueGrammar.{class_version_at, enclosed_at, enclosed_by, object_at, part_at, value_at, word_value_at}
+use Rattle.rio_model.specs.ValueGrammar.{class_version_at, enclosed_at, enclosed_by, object_at, part_at, value_in_text, word_value_at}
 use Rattle.rio_machine.specs.RefusalText.{refusal_text}
 use Rattle.rio_machine.specs.declared.command.Command.TheVariants.{Bad, Delete, Tree as MakeTree, Save, Get, Scan, Ls}
 use Rattle.rio_machine.specs.declared.refusal.Refusal.TheVariants.{BadLine, KindChanged, Full}
@@ -24,7 +24,7 @@ use Rattle.rio_step.specs.TreeGrammar.{branch_at, branch_class_at, branch_leaves
 
 -- an object that ends too early is bad at the line's length; an empty line is counted
 bad_lines : script_of (codes "put s TObjString{\n\nfrob x\n") ≡ Bad 1 17 ∷ Bad 3 0 ∷ []
-unfolding scan_of commands_from line_command command_at put_command_at word_that_at value_at word_value_at object_at class_version_at enclosed_at enclosed_by list_at some_at part_at mark_at word_at
+unfolding scan_of commands_from line_command command_at put_command_at word_that_at value_in_text word_value_at object_at class_version_at enclosed_at enclosed_by list_at some_at part_at mark_at word_at
 bad_lines = refl
 
 -- comments are counted; a carriage return before a line feed is dropped, and one at the end can't stand

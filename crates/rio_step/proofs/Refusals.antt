@@ -8,7 +8,7 @@ use Rattle.rio_leaf.specs.declared.leaf.Dim.TheVariants.{One}
 use Rattle.rio_types.specs.declared.class.ClassDef.{ClassDef}
 use Rattle.rio_types.specs.declared.kind.Kind.TheVariants.{Pointer, Inline}
 use Rattle.rio_value.specs.declared.value.Value.{Value, Null}
-use Rattle.rio_model.specs.ClassGrammar.{member}
+use Rattle.rio_format.specs.Bodies.{member}
 use Rattle.rio_model.specs.Declaring.{reaches}
 use Rattle.rio_machine.specs.State.{NameAndCycle, State, Tree, item_order, name_order, next_cycle}
 use Rattle.rio_machine.specs.declared.command.Command.TheVariants.{Class, Put, Delete, Tree as MakeTree, Fill, Save}

@@ -15,7 +15,7 @@ use Rattle.rio_types.specs.declared.class.ClassDef.{ClassDef}
 use Rattle.rio_model.proofs.StatedClasses.{read_classes_are_stated}
 use Rattle.rio_model.specs.ClassGrammar.{class_at, class_in, only_class}
 use Rattle.rio_model.specs.Stated.{is_stated_class}
-use Rattle.rio_model.specs.ValueGrammar.{bracket_limit, enclosed_at, row_at, value_at}
+use Rattle.rio_model.specs.ValueGrammar.{bracket_limit, enclosed_at, row_at, value_in_text}
 use Rattle.rio_machine.specs.declared.command.Command.{Command}
 use Rattle.rio_machine.specs.declared.command.Command.TheVariants.{Class, Put, Delete, Tree as MakeTree, Fill, Save, Get, Scan, Ls}
 use Rattle.rio_step.proofs.GivenLaws.{Given, item_given, one_given, then_any, then_given}
@@ -37,8 +37,8 @@ both false b h k = absurd cc
 put_given : (s : At) → Given Stated (put_command_at s)
 unfolding put_command_at
 put_given s =
-    then_given IsItem Stated (item_at s) (λ name. value_at (enclosed_at bracket_limit) name.1 >>= λ value. Ok (Put name.0 value.0, value.1)) (item_given s)
-    (λ name named. then_any Stated (value_at (enclosed_at bracket_limit) name.1) (λ value. Ok (Put name.0 value.0, value.1)) (λ value. named))
+    then_given IsItem Stated (item_at s) (λ name. value_in_text (enclosed_at bracket_limit) name.1 >>= λ value. Ok (Put name.0 value.0, value.1)) (item_given s)
+    (λ name named. then_any Stated (value_in_text (enclosed_at bracket_limit) name.1) (λ value. Ok (Put name.0 value.0, value.1)) (λ value. named))
 
 delete_given : (s : At) → Given Stated (delete_command_at s)
 unfolding delete_command_at

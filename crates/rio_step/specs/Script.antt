@@ -22,7 +22,7 @@ use Rattle.rio_token.specs.Reading.{Read, bad_at, end_at, item_at, mark_at, mark
 use Rattle.rio_token.specs.Tokens.{behind, standing_in}
 use Rattle.rio_types.specs.declared.class.Base.{Base}
 use Rattle.rio_model.specs.ClassGrammar.{class_at}
-use Rattle.rio_model.specs.ValueGrammar.{bracket_limit, enclosed_at, row_at, value_at}
+use Rattle.rio_model.specs.ValueGrammar.{bracket_limit, enclosed_at, row_at, value_in_text}
 use Rattle.rio_machine.specs.declared.command.Command.{Command}
 use Rattle.rio_machine.specs.declared.command.Command.TheVariants.{Bad, Class, Put, Delete, Tree as MakeTree, Fill, Save, Get, Scan, Ls}
 use Rattle.rio_step.specs.TreeGrammar.{branches_at}
@@ -39,7 +39,7 @@ ended_at read = do
 unfoldable pub put_command_at : At → Read Command
 put_command_at s = do
   name ← item_at s
-  value ← value_at (enclosed_at bracket_limit) name.1
+  value ← value_in_text (enclosed_at bracket_limit) name.1
   Ok (Put name.0 value.0, value.1)
 
 unfoldable pub delete_command_at : At → Read Command

@@ -3,14 +3,13 @@ use Rattle.std.proofs.Common.{◌≡◌, ℕ, suc, ◌+◌, ◌*◌, ◌≤◌, 
 use Rattle.std.specs.List.{list_all, prefix_len}
 use Rattle.std.proofs.lemmas.Bool.{and_parts, eqb-true}
 use Rattle.std.proofs.lemmas.Bool.Decides.{nat_tests}
-use Rattle.rio_num.specs.At.{At, end_place}
+use Rattle.rio_num.specs.At.{AreBytes, At, end_place}
 use Rattle.rio_num.specs.Word.{is_item_byte, is_name_text, begins_name, goes_on_name}
 use Rattle.rio_token.specs.declared.token.Token.TheVariants.{Word, Text, Mark}
 use Rattle.rio_num.specs.Printed.{string_text}
 use Rattle.rio_token.specs.declared.quoted.Ending.{Ending}
 use Rattle.rio_token.specs.declared.quoted.Ending.TheVariants.{Closed, Broken, Unended}
 use Rattle.rio_token.specs.declared.quoted.Within.TheVariants.{Between}
-use Rattle.rio_token.specs.Laws.{AreBytes}
 use Rattle.rio_token.specs.Quoted.{hex_value, quoted}
 use Rattle.rio_token.specs.Reading.{num_at, num_between_at, string_at, word_at, word_that_at}
 use Rattle.rio_token.proofs.StringLaws.{strings_are_read}

@@ -7,7 +7,8 @@ use Rattle.rio_num.specs.Printed.{escaped, hex_digit, string_text}
 use Rattle.rio_token.specs.declared.quoted.Ending.{Ending}
 use Rattle.rio_token.specs.declared.quoted.Ending.TheVariants.{Closed, Broken, Unended}
 use Rattle.rio_token.specs.declared.quoted.Within.TheVariants.{Between}
-use Rattle.rio_token.specs.Laws.{AreBytes, StringsAreRead}
+use Rattle.rio_num.specs.At.{AreBytes}
+use Rattle.rio_token.specs.Laws.{StringsAreRead}
 use Rattle.rio_token.specs.Quoted.{Quoted, hex_value, later, quoted}
 use Rattle.rio_token.specs.Tokens.{scan_of}
 
@@ -71,8 +72,8 @@ module _ (b : ℕ) (rest : List ℕ) (h : b < 256) where
 closed_text : (text rest : List ℕ) → AreBytes text → quoted Between (flat_map escaped text ++ 34 ∷ rest) ≡ record { text = text; ending = Closed (length (flat_map escaped text) + 1) }
 closed_text [] rest h = refl
 closed_text (b ∷ bs) rest h =
-    let one = escaped_is b (flat_map escaped bs ++ 34 ∷ rest) h.0 in
-    let more = closed_text bs rest h.1 in
+    let one = escaped_is b (flat_map escaped bs ++ 34 ∷ rest) (h 0) in
+    let more = closed_text bs rest (λ i. h (suc i)) in
     let split : (escaped b ++ flat_map escaped bs) ++ 34 ∷ rest ≡ escaped b ++ (flat_map escaped bs ++ 34 ∷ rest) = append_assoc (escaped b) (flat_map escaped bs) (34 ∷ rest) in
     let count : length (escaped b) + (length (flat_map escaped bs) + 1) ≡ length (escaped b ++ flat_map escaped bs) + 1 = omega (arith, length-append {A = ℕ}) in
     let joined : longer b (length (escaped b)) (quoted Between (flat_map escaped bs ++ 34 ∷ rest)) ≡ record { text = b ∷ bs; ending = Closed (length (escaped b ++ flat_map escaped bs) + 1) } = rw (more, count) refl in

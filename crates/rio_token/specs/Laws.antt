@@ -1,15 +1,11 @@
 -- What is printed is read again.
 use Rattle.std.specs.Prelude.{◌≡◌, ℕ, ◌^◌, ◌<◌, ℤ, pos, negsuc, List, ◌++◌, length, Some}
 use Rattle.std.specs.Fmt.{decimal, signed_decimal}
-use Rattle.std.specs.List.{AllByRecursion}
 use Rattle.rio_num.specs.Printed.{string_text}
+use Rattle.rio_num.specs.At.{AreBytes}
 use Rattle.rio_token.specs.declared.token.Token.TheVariants.{Text}
 use Rattle.rio_token.specs.Tokens.{scan_of}
 use Rattle.rio_token.specs.Words.{num_of, number_of}
-
--- numbers from 0 to 255
-abbrev pub AreBytes : List ℕ → Type 0
-AreBytes = AllByRecursion (λ b. b < 256)
 
 -- a text that is printed as a string is one token that spells it, whatever follows
 abbrev pub StringsAreRead : Type 0

@@ -122,25 +122,20 @@ list_at close item s = if marked close s then Ok ([], behind s) else some_at clo
 -- ---- what a reader does
 
 -- the fault is the one that reading gives, unless memory ran out
-abbrev pub Fails : {Y : Type 0} → TextFault → Result Y TextFault → Type 0
-Fails e read = e ≢ NoMemory → read ≡ Err e
+abbrev pub FailsText : {Y : Type 0} → TextFault → Result Y TextFault → Type 0
+FailsText e read = e ≢ NoMemory → read ≡ Err e
 
 -- what was returned is what reading gives, and reading stands at new then
 abbrev pub Reads : {X Y : Type 0} → (X → Y) → Result X TextFault → Read Y → At → Type 0
 Reads view (Ok x) read new = read ≡ Ok (view x, new)
-Reads view (Err e) read new = Fails e read
+Reads view (Err e) read new = FailsText e read
 
 -- the same, of a reader that stays where it was when it refuses
-abbrev pub Takes : {X Y : Type 0} → (X → Y) → Result X TextFault → Read Y → At → At → Type 0
-Takes view (Ok x) read old new = read ≡ Ok (view x, new)
-Takes view (Err e) read old new = (read ≡ Err e) × (new ≡ old)
-
--- the same, where memory may run out
 abbrev pub TakesInMemory : {X Y : Type 0} → (X → Y) → Result X TextFault → Read Y → At → At → Type 0
 TakesInMemory view (Ok x) read old new = read ≡ Ok (view x, new)
-TakesInMemory view (Err e) read old new = Fails e read × (new ≡ old)
+TakesInMemory view (Err e) read old new = FailsText e read × (new ≡ old)
 
 -- The answer is this one, unless memory ran out.
-abbrev pub Answers : {Y : Type 0} → Result Y TextFault → Result Y TextFault → Type 0
-Answers (Ok v) read = read ≡ Ok v
-Answers (Err e) read = Fails e read
+abbrev pub AnswersText : {Y : Type 0} → Result Y TextFault → Result Y TextFault → Type 0
+AnswersText (Ok v) read = read ≡ Ok v
+AnswersText (Err e) read = FailsText e read

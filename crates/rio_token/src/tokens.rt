@@ -77,7 +77,8 @@ impl<'a> Tokens<'a> {
     ghost use Rattle.std.specs.Prelude.{◌≡◌, ◌+◌, ◌<◌, ◌≤◌, ◌^◌, length, IfOk, if◌then◌else◌};
     ghost use Rattle.std.specs.Option.{option_copied};
     ghost use Rattle.rio_token.specs.Tokens.{behind, is_glued, next_at, standing_in, token_place};
-    ghost use Rattle.rio_token.specs.Reading.{Takes, TakesInMemory, end_at, item_at, keyword_at, mark_at, marked, name_at, next_word, num_at, num_between_at, string_at, word_at};
+    ghost use Rattle.rio_num.specs.Reading.{Takes};
+    ghost use Rattle.rio_token.specs.Reading.{TakesInMemory, end_at, item_at, keyword_at, mark_at, marked, name_at, next_word, num_at, num_between_at, string_at, word_at};
 
     /// Reads from the byte at `place` on, or from the text's end where that is before.
     pub fn new(text: &'a [u8], place: u32) -> Tokens<'a>

@@ -2,7 +2,6 @@
 use Rattle.std.proofs.Common.{◌≡◌, ℕ, pos, List, [], ◌∷◌, Bool, true, false, None, refl}
 use Rattle.std.specs.Prelude.{codes}
 use Rattle.rio_format.specs.WrittenList.{array_object, plain_object}
-use Rattle.rio_leaf.specs.declared.branch.BranchDef.{BranchDef}
 use Rattle.rio_leaf.specs.declared.branch.Shape.TheVariants.{Leaves}
 use Rattle.rio_leaf.specs.declared.leaf.Dim.{Dim}
 use Rattle.rio_leaf.specs.declared.leaf.Dim.TheVariants.{One, Counted}

@@ -9,7 +9,7 @@ use Rattle.rio_value.specs.declared.value.Value.{Value, List as Items, Object, P
 use Rattle.rio_value.specs.declared.value.Value.TheVariants.{rolls-List, rolls-Object, rolls-Pointed}
 use Rattle.rio_value.specs.declared.value.Value.TheOpen.{Value-F}
 use Rattle.rio_value.specs.declared.value.Value.TheOpen as layer
-use Rattle.rio_value.specs.declared.value.Value.TheFolds.{para-Value, para-Part, para-roll-Value, para-roll-Part}
+use Rattle.rio_value.specs.declared.value.Value.TheFolds.{para-Part, para-roll-Value, para-roll-Part}
 use Rattle.rio_value.specs.declared.value.Value.TheViews.{out-Part, roll-out-Part}
 use Rattle.rio_tree.specs.Labels.{ObjectLabels, labelled_in, labelled_step, or_labelled}
 

@@ -1,5 +1,5 @@
 -- The parts of an object and of its bases, one layer at a time.
-use Rattle.std.proofs.Common.{◌≡◌, ℕ, ◌+◌, ◌<◌, drop, get_or, length, ℤ, Bool, true, false, cond, List, [], ◌∷◌, ◌++◌, map, Option, Some, None, refl, sym, ap, ◌∙◌}
+use Rattle.std.proofs.Common.{◌≡◌, ℕ, ◌+◌, ◌<◌, drop, get_or, length, ℤ, Bool, true, false, cond, List, [], ◌∷◌, ◌++◌, map, Option, Some, refl, sym, ap, ◌∙◌}
 use Rattle.std.proofs.lemmas.List.{at_drop_more}
 use Rattle.std.specs.Prelude.{find}
 use Rattle.std.specs.Option.{option_map, option_or}
@@ -11,7 +11,7 @@ use Rattle.rio_value.specs.declared.value.Value.{Value, Object, out-Value, roll-
 use Rattle.rio_value.specs.declared.value.Value.TheVariants.{rolls-Object}
 use Rattle.rio_value.specs.declared.value.Value.TheOpen.{Value-F}
 use Rattle.rio_value.specs.declared.value.Value.TheOpen as layer
-use Rattle.rio_value.specs.declared.value.Value.TheFolds.{para-Value, para-Part, para-roll-Value, para-roll-Part}
+use Rattle.rio_value.specs.declared.value.Value.TheFolds.{para-Part, para-roll-Value, para-roll-Part}
 use Rattle.rio_value.specs.declared.value.Value.TheViews.{out-Part, roll-out-Part}
 use Rattle.rio_tree.specs.Members.{kept_parts, member_in, parts_of_base, parts_step, parts_with_bases}
 

@@ -1,8 +1,7 @@
 -- What the tables of leaves say with one leaf more.
-use Rattle.std.proofs.Common.{◌≡◌, ℕ, Bool, true, false, cond, List, Option, Some, None, refl, ap, ◌∙◌, nat_eq}
+use Rattle.std.proofs.Common.{◌≡◌, Bool, true, false, cond, Option, Some, refl, ap, ◌∙◌}
 use Rattle.std.specs.Option.{option_map}
 use Rattle.rio_tree.specs.declared.met.MetLeaf.{MetLeaf}
-use Rattle.rio_tree.specs.HeaderLeaves.{LeafMet}
 use Rattle.rio_tree.specs.Tables.{leaf_of}
 
 map_cond : (b : Bool) (x : MetLeaf) (o : Option MetLeaf) → option_map leaf_of (cond b (Some x) o) ≡ cond b (Some (leaf_of x)) (option_map leaf_of o)

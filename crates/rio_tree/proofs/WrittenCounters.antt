@@ -1,31 +1,29 @@
 -- The leaf that counts another one is found again by its label.
-use Rattle.std.proofs.Common.{◌≡◌, ◌∙◌, ◌&&◌, ◌||◌, ◌^◌, ◌<◌, ◌⊎◌, inl, inr, ℕ, ◌+◌, ℤ, pos, Bool, true, false, cond, List, [], ◌∷◌, ◌++◌, length, map, codes, Option, Some, None, refl, ap, sym, subst, arith, nat_lt, rules}
-use Rattle.std.proofs.lemmas.Bool.{eq-eqb, eqb-true, ne_eqb, lt-ltb, ltb-true}
+use Rattle.std.proofs.Common.{◌≡◌, ◌∙◌, ◌&&◌, ◌||◌, ◌<◌, ◌⊎◌, inl, inr, ℕ, ◌+◌, pos, Bool, true, false, List, [], ◌∷◌, ◌++◌, length, Option, Some, None, refl, ap, sym, subst, arith, nat_lt}
+use Rattle.std.proofs.lemmas.Bool.{eq-eqb, eqb-true, ne_eqb}
 use Rattle.std.proofs.lemmas.Bool.Decides.{nat_tests}
 use Rattle.std.proofs.lemmas.List.Folds.{list_any-append}
 use Rattle.std.proofs.lemmas.Slice.Eq.{bytes_eq-Decides}
-use Rattle.std.specs.List.{list_any, position, position_from}
+use Rattle.std.specs.List.{list_any}
 use Rattle.std.specs.Map.{lookup}
-use Rattle.std.specs.Option.{option_map_or}
-use Rattle.std.specs.Prelude.{◌==◌, find, not, is_none, slice_get, nat_le, Result, Ok}
+use Rattle.std.specs.Prelude.{◌==◌, not, slice_get, nat_le, Result, Ok}
 use Rattle.std.specs.Str.{bytes_eq}
 use Rattle.rio_num.proofs.BytesEq.{bytes_eq-sym}
 use Rattle.rio_num.specs.Word.{is_name_text}
 use Rattle.rio_leaf.specs.Leaves.{can_count, has_counting_leaf, has_leaf, is_dim, is_leaf_count, is_letter_of, is_one}
-use Rattle.rio_leaf.specs.Marks.{is_leaf_letter, letter_of_counters, letter_of_texts}
-use Rattle.rio_leaf.specs.Stated.{all_leaves, is_stated_leaf, leaves_of}
-use Rattle.rio_leaf.specs.declared.branch.BranchDef.{BranchDef}
+use Rattle.rio_leaf.specs.Marks.{is_leaf_letter, letter_of_texts}
+use Rattle.rio_leaf.specs.Stated.{is_stated_leaf}
 use Rattle.rio_leaf.specs.declared.leaf.Dim.{Dim}
 use Rattle.rio_leaf.specs.declared.leaf.Dim.TheVariants.{One, Fixed, Counted}
 use Rattle.rio_leaf.specs.declared.leaf.Leaf.{Leaf}
 use Rattle.rio_format.proofs.Tests.{both_true}
 use Rattle.rio_tree.specs.declared.head.Branch.{Branch}
 use Rattle.rio_tree.specs.declared.refusal.BranchRefusal.{BranchRefusal}
-use Rattle.rio_tree.specs.HeaderLeaves.{LeafMet, LeafSaid, LeavesMet, counter_met, counter_of_label, is_label, is_plain_number, leaf_by, says_values, uncounted_dim, with_branch_number, with_counter, with_leaf_met}
+use Rattle.rio_tree.specs.HeaderLeaves.{LeafMet, LeavesMet, counter_met, counter_of_label, is_plain_number, leaf_by, says_values, uncounted_dim, with_counter, with_leaf_met}
 use Rattle.rio_tree.specs.WrittenLaws.{branch_of_leaf, stated_defs, with_counting_branch}
 use Rattle.rio_tree.specs.WrittenTree.{LeafLabels}
-use Rattle.rio_tree.proofs.WrittenLeaves.{either_way, get_front}
-use Rattle.rio_tree.proofs.WrittenSaid.{counter_label, said_of_leaf}
+use Rattle.rio_tree.proofs.WrittenLeaves.{either_way}
+use Rattle.rio_tree.proofs.WrittenSaid.{said_of_leaf}
 
 -- ---- where a counter stands
 

@@ -3,7 +3,7 @@ use Rattle.std.proofs.Common.{◌≡◌, ◌∙◌, ◌&&◌, ◌^◌, ◌<◌, 
 use Rattle.std.proofs.lemmas.Bool.{leb-true, lt-ltb, ltb-true}
 use Rattle.std.proofs.lemmas.List.{length-append, length-map}
 use Rattle.std.specs.List.{list_all}
-use Rattle.std.specs.Prelude.{option_and_then, slice_get, IsTrue, not, ◌==◌, nat_le}
+use Rattle.std.specs.Prelude.{option_and_then, not, ◌==◌, nat_le}
 use Rattle.rio_leaf.specs.Stated.{all_leaves, are_branches_behind, are_stated_leaves, has_branch, is_stated_branch, is_stated_leaf, is_stated_shape, leaves_of}
 use Rattle.rio_num.specs.Word.{is_name_text}
 use Rattle.rio_leaf.specs.declared.branch.Shape.{Shape}
@@ -12,23 +12,22 @@ use Rattle.rio_leaf.specs.declared.leaf.Leaf.{Leaf}
 use Rattle.rio_leaf.specs.declared.leaf.Dim.{Dim}
 use Rattle.rio_leaf.specs.declared.leaf.Dim.TheVariants.{One, Fixed, Counted}
 use Rattle.rio_leaf.specs.declared.branch.BranchDef.{BranchDef}
-use Rattle.rio_leaf.specs.Leaves.{has_counting_leaf, has_leaf, is_dim, is_leaf_count, is_letter_of}
+use Rattle.rio_leaf.specs.Leaves.{has_counting_leaf, has_leaf, is_dim, is_letter_of}
 use Rattle.rio_types.specs.declared.kind.Kind.TheVariants.{Inline}
 use Rattle.rio_types.specs.declared.kind.Primitive.TheVariants.{I32, I64}
-use Rattle.rio_value.specs.declared.value.Value.{Value, Int, Text, Object, Pointed, Back}
+use Rattle.rio_value.specs.declared.value.Value.{Value, Int, Text, Object, Pointed}
 use Rattle.rio_format.specs.Bodies.{part}
 use Rattle.rio_format.specs.Fits.{Labels, Fitting, all_fit, fits_prim, fits_signed, fitting_step, object_may_stand}
 use Rattle.rio_format.specs.Slots.{Slot, kinded, based, any_pointer}
 use Rattle.rio_format.specs.TreeClasses.{tree_classes, tree_members, branch_members, object_branch_members}
-use Rattle.rio_format.specs.WrittenList.{array_object}
 use Rattle.rio_format.proofs.Tests.{both_true}
 use Rattle.rio_format.proofs.ValueCases.{Each, fold_Int}
-use Rattle.rio_format.proofs.WrittenValues.{fit_object, object_fitting}
+use Rattle.rio_format.proofs.WrittenValues.{fit_object}
 use Rattle.rio_tree.specs.declared.basket_at.BasketAt.{BasketAt}
 use Rattle.rio_tree.specs.declared.head.Branch.{Branch}
 use Rattle.rio_tree.specs.declared.head.TreeHead.{TreeHead}
-use Rattle.rio_tree.specs.WrittenLaws.{FitsTreeHeader, WrittenTreeFits, basket_fits_header, branch_fits_header, stated_defs}
-use Rattle.rio_tree.specs.WrittenTree.{LeafLabels, backs_from, basket_numbers, branch_label_count, branch_object, branch_pointers, labels_behind, leaf_backs, leaf_pointers, leaves_in_branch, plain_branch_object, shaped_object, title_of_branch, titled_object, tree_value_of, written_count}
+use Rattle.rio_tree.specs.WrittenLaws.{WrittenTreeFits, basket_fits_header, branch_fits_header, stated_defs}
+use Rattle.rio_tree.specs.WrittenTree.{LeafLabels, backs_from, branch_label_count, branch_object, branch_pointers, labels_behind, leaf_backs, leaf_pointers, leaves_in_branch, plain_branch_object, shaped_object, title_of_branch, tree_value_of, written_count}
 use Rattle.rio_tree.proofs.WrittenLeaves.{IsLeafAt, KnowsLeaves, count_fits, get_behind, leaf_back_fits, leaf_label, leaves_fit, knows_longer}
 use Rattle.rio_tree.proofs.WrittenParts.{FitsIn, array_fits, fitting, int_fits, numbers_fit, pointer_to, text_fits, titled_fits}
 

@@ -1,5 +1,5 @@
 -- The leaves of a header fit the classes of trees, and what points to counters points to leaves.
-use Rattle.std.proofs.Common.{◌≡◌, ◌∙◌, ◌&&◌, ◌^◌, ℕ, zero, suc, ◌+◌, ℤ, pos, Bool, true, false, cond, List, [], ◌∷◌, ◌++◌, length, map, codes, Option, Some, None, refl, ap, sym, append-nil, append_assoc, arith, nat_lt}
+use Rattle.std.proofs.Common.{◌≡◌, ◌∙◌, ◌^◌, ℕ, zero, suc, ◌+◌, ℤ, pos, Bool, true, false, cond, List, [], ◌∷◌, ◌++◌, length, map, codes, Option, Some, None, refl, ap, sym, append-nil, append_assoc, arith, nat_lt}
 use Rattle.std.proofs.lemmas.List.{length-append}
 use Rattle.std.specs.List.{list_all}
 use Rattle.std.specs.Map.{lookup}
@@ -11,16 +11,15 @@ use Rattle.rio_leaf.specs.declared.leaf.Dim.TheVariants.{One, Fixed, Counted}
 use Rattle.rio_leaf.specs.declared.leaf.Leaf.{Leaf}
 use Rattle.rio_types.specs.declared.kind.Kind.TheVariants.{Inline, Pointer}
 use Rattle.rio_types.specs.declared.kind.Primitive.TheVariants.{I32}
-use Rattle.rio_value.specs.declared.value.Part.{Part}
-use Rattle.rio_value.specs.declared.value.Value.{Value, Object, Pointed, Null, Back}
+use Rattle.rio_value.specs.declared.value.Value.{Value, Pointed, Null, Back}
 use Rattle.rio_format.specs.Bodies.{part}
-use Rattle.rio_format.specs.Fits.{Labels, all_fit, back_fits, fits_signed, fitting_step, may_point}
+use Rattle.rio_format.specs.Fits.{Labels, all_fit, fits_signed, fitting_step, may_point}
 use Rattle.rio_format.specs.Slots.{Slot, kinded, based, any_pointer, has_base}
 use Rattle.rio_format.specs.TreeClasses.{tree_classes, leaf_members}
 use Rattle.rio_format.proofs.Tests.{both_true}
 use Rattle.rio_format.proofs.ValueCases.{fold_Back, fold_Null}
 use Rattle.rio_format.proofs.WrittenValues.{fit_object, object_fitting}
-use Rattle.rio_tree.proofs.WrittenParts.{FitsIn, fitting, int_fits, pointer_fits, text_fits, titled_fits, truth_fits}
+use Rattle.rio_tree.proofs.WrittenParts.{FitsIn, fitting, int_fits, pointer_fits, titled_fits, truth_fits}
 use Rattle.rio_tree.specs.WrittenTree.{LeafLabels, back_or_null, class_of_letter, counter_pointer, is_letter_among, is_unsigned_letter, labels_behind, leaf_object, leaf_pointers, plain_leaf_object, width_of_letter, written_count}
 
 -- ---- by the class of a leaf

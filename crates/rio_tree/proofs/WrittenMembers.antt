@@ -1,17 +1,14 @@
 -- What the objects of a header that is written say, member by member.
-use Rattle.std.proofs.Common.{◌≡◌, ◌∙◌, ◌&&◌, ◌^◌, ℕ, ◌+◌, ℤ, pos, Bool, true, false, cond, List, [], ◌∷◌, ◌++◌, length, map, codes, Option, Some, None, refl, ap, sym, append-nil, append_assoc, arith, is_some}
-use Rattle.std.specs.List.{flat_map, list_all}
-use Rattle.std.specs.Str.{bytes_eq}
-use Rattle.std.specs.Prelude.{◌==◌, if◌then◌else◌}
-use Rattle.rio_value.specs.declared.value.Part.{Part, Part-F, out-Part, roll-Part, roll-out-Part}
-use Rattle.rio_value.specs.declared.value.Value.{Value, Int, Bool as Truth, Text, List as Items, Object, Pointed, Null, Back}
+use Rattle.std.proofs.Common.{◌≡◌, ◌∙◌, ℕ, ◌+◌, ℤ, pos, List, [], ◌∷◌, ◌++◌, map, codes, Some, refl, ap, sym, append-nil}
+use Rattle.std.specs.List.{flat_map}
+use Rattle.rio_value.specs.declared.value.Part.{Part, out-Part, roll-Part, roll-out-Part}
+use Rattle.rio_value.specs.declared.value.Value.{Value, Text, Object}
 use Rattle.rio_value.specs.declared.value.Value.TheOpen as layer
-use Rattle.rio_value.specs.declared.value.Value.TheVariants.{rolls-Object, outs-Bool, outs-Int, outs-List, outs-Object, outs-Text}
-use Rattle.rio_value.specs.declared.value.Value.TheFolds.{para-Part, para-Value, para-roll-Part, para-roll-Value}
+use Rattle.rio_value.specs.declared.value.Value.TheVariants.{rolls-Object, outs-List, outs-Object}
+use Rattle.rio_value.specs.declared.value.Value.TheFolds.{para-Part, para-roll-Part, para-roll-Value}
 use Rattle.rio_format.specs.Bodies.{part}
-use Rattle.rio_format.specs.ValueParts.{part_of}
 use Rattle.rio_format.specs.WrittenList.{array_object, plain_object}
-use Rattle.rio_tree.specs.Members.{kept_parts, member_in, parts_of_base, parts_step, parts_with_bases, pointers_in}
+use Rattle.rio_tree.specs.Members.{kept_parts, parts_of_base, parts_step, parts_with_bases, pointers_in}
 use Rattle.rio_tree.specs.WrittenTree.{titled_object}
 
 -- ---- parts, and those of bases

@@ -1,15 +1,14 @@
 -- Numbers, texts, arrays and the bases of all objects of a header fit the classes of trees.
-use Rattle.std.proofs.Common.{◌≡◌, ◌&&◌, ℕ, ◌+◌, ◌^◌, ℤ, pos, Bool, true, List, [], ◌∷◌, ◌++◌, length, map, codes, Some, refl, ap, sym, ◌∙◌, arith, nat_lt}
-use Rattle.std.proofs.lemmas.Bool.{eq-eqb, le-leb}
-use Rattle.std.proofs.lemmas.List.{length-append, length-map, map-append}
+use Rattle.std.proofs.Common.{◌≡◌, ℕ, ◌+◌, ℤ, pos, Bool, true, List, [], ◌∷◌, ◌++◌, length, map, codes, Some, refl, arith}
+use Rattle.std.proofs.lemmas.Bool.{eq-eqb}
+use Rattle.std.proofs.lemmas.List.{length-append, length-map}
 use Rattle.std.specs.List.{list_all}
-use Rattle.std.specs.Prelude.{◌==◌}
-use Rattle.rio_types.specs.declared.kind.Kind.TheVariants.{Plain, Counter, Fixed, Text as Texted, Inline}
+use Rattle.rio_types.specs.declared.kind.Kind.TheVariants.{Plain, Fixed, Text as Texted, Inline}
 use Rattle.rio_types.specs.declared.kind.Primitive.{Primitive}
 use Rattle.rio_types.specs.declared.kind.Primitive.TheVariants.{I32, U32, Bool as Boolean}
 use Rattle.rio_value.specs.declared.value.Part.{Part}
-use Rattle.rio_value.specs.declared.value.Value.{Value, Int, Bool as Truth, Text, List as Items, Object, Pointed}
-use Rattle.rio_format.specs.Fits.{Labels, Fitting, all_fit, fits_prim, fits_signed, fitting_of, fitting_step, may_point}
+use Rattle.rio_value.specs.declared.value.Value.{Value, Int, Bool as Truth, Text, Object, Pointed}
+use Rattle.rio_format.specs.Fits.{Labels, Fitting, all_fit, fits_prim, fitting_of, fitting_step, may_point}
 use Rattle.rio_format.specs.Slots.{Slot, kinded, based, any_pointer}
 use Rattle.rio_format.specs.TreeClasses.{tree_classes}
 use Rattle.rio_format.specs.WrittenList.{array_object, plain_object}

@@ -1,13 +1,12 @@
 -- The header that is written for a tree is read as it.
-use Rattle.std.proofs.Common.{◌≡◌, ◌∙◌, ◌&&◌, ◌||◌, ◌^◌, ◌<◌, ◌⊎◌, inl, inr, ℕ, ◌+◌, ℤ, pos, Bool, true, false, cond, List, [], ◌∷◌, ◌++◌, length, map, codes, Option, Some, None, refl, ap, sym, subst, append-nil, append_assoc, arith, is_some, nat_lt}
-use Rattle.std.proofs.lemmas.Bool.{eq-eqb}
+use Rattle.std.proofs.Common.{◌≡◌, ◌∙◌, ◌&&◌, ◌||◌, ◌^◌, ◌⊎◌, inl, inr, ℕ, ◌+◌, pos, Bool, true, false, cond, List, [], ◌∷◌, ◌++◌, length, map, codes, Option, Some, None, refl, ap, sym, subst, append-nil, append_assoc, arith, nat_lt}
 use Rattle.std.proofs.lemmas.List.{length-append, length-map, map-append}
 use Rattle.std.proofs.lemmas.List.Folds.{list_any-append}
 use Rattle.std.proofs.lemmas.Bool.Decides.{Decides-int_eq}
 use Rattle.std.proofs.lemmas.Iterator.Adapters.{position_from-zero}
-use Rattle.std.specs.List.{list_all, list_any, position, position_from}
+use Rattle.std.specs.List.{list_all, list_any, position_from}
 use Rattle.std.specs.Ordering.{int_eq}
-use Rattle.std.specs.Prelude.{◌==◌, not, slice_get, unwrap_or, option_and_then, IsTrue, Result, Ok}
+use Rattle.std.specs.Prelude.{◌==◌, not, slice_get, Result, Ok}
 use Rattle.std.specs.Str.{bytes_eq}
 use Rattle.rio_num.specs.Reading.{◌>>=◌}
 use Rattle.rio_num.specs.Word.{is_name_text}
@@ -18,7 +17,7 @@ use Rattle.rio_leaf.specs.declared.branch.BranchDef.{BranchDef}
 use Rattle.rio_leaf.specs.declared.branch.Shape.{Shape}
 use Rattle.rio_leaf.specs.declared.branch.Shape.TheVariants.{Leaves, Class}
 use Rattle.rio_leaf.specs.declared.leaf.Leaf.{Leaf}
-use Rattle.rio_value.specs.declared.value.Value.{Value, Int, Text, Pointed}
+use Rattle.rio_value.specs.declared.value.Value.{Int, Pointed}
 use Rattle.rio_value.specs.declared.value.Value.TheVariants.{outs-Int, outs-Pointed}
 use Rattle.rio_format.specs.Fits.{fits_signed}
 use Rattle.rio_format.specs.Bodies.{part}
@@ -29,15 +28,14 @@ use Rattle.rio_tree.specs.declared.basket_at.BasketAt.{BasketAt}
 use Rattle.rio_tree.specs.declared.head.Branch.{Branch}
 use Rattle.rio_tree.specs.declared.head.TreeHead.{TreeHead}
 use Rattle.rio_tree.specs.declared.refusal.BranchRefusal.{BranchRefusal}
-use Rattle.rio_tree.specs.BranchMembers.{class_version_said, leaf_items}
 use Rattle.rio_tree.specs.Header.{branch_in, branches_from, entries_member, has_offsets, known_branch, met_behind, shape_said, tree_head_in}
 use Rattle.rio_tree.specs.Labels.{ObjectLabels, labels_in}
 use Rattle.rio_tree.specs.Members.{parts_with_bases, pointers_member}
-use Rattle.rio_tree.specs.HeaderLeaves.{LeafMet, LeavesMet, LeavesSaid, is_leafy, is_plain_number, leaf_by, leaf_met, leaves_met, name_said, no_leaves_met, says_values, with_counter, with_leaf_met}
+use Rattle.rio_tree.specs.HeaderLeaves.{LeafMet, LeavesMet, LeavesSaid, is_leafy, is_plain_number, leaf_by, leaf_met, leaves_met, no_leaves_met, says_values, with_counter, with_leaf_met}
 use Rattle.rio_tree.specs.Refusals.{are_in_order, basket_numbered, basket_said, baskets_from, has_leaf_class, leaf_behind, leaves_from, listed_baskets, natural_in, no_leaves, readable_branch}
-use Rattle.rio_tree.specs.WrittenLaws.{AreReadableBranches, IsReadableBranch, IsVersionFor, WrittenTreeIsRead, branch_fits_header, branch_of_leaf, counting_branches_behind, stated_defs, with_counting_branch}
+use Rattle.rio_tree.specs.WrittenLaws.{AreReadableBranches, IsReadableBranch, WrittenTreeIsRead, branch_fits_header, branch_of_leaf, counting_branches_behind, stated_defs}
 use Rattle.rio_tree.specs.WrittenTree.{LeafLabels, branch_label_count, branch_object, branch_pointers, labels_behind, leaf_backs, leaf_object, leaf_pointers, leaves_in_branch, titled_object, tree_value_of, written_count}
-use Rattle.rio_tree.proofs.WrittenCounters.{AllLead, LeafReads, Leads, IsStated, OwnPlace, EarlierPlace, all_lead_more, leaf_reads, stated_leaf, written_met}
+use Rattle.rio_tree.proofs.WrittenCounters.{AllLead, Leads, OwnPlace, EarlierPlace, all_lead_more, leaf_reads, stated_leaf, written_met}
 use Rattle.rio_tree.proofs.WrittenFits.{dim_count_fits, numbers_of}
 use Rattle.rio_tree.proofs.WrittenLeaves.{get_behind, get_front}
 use Rattle.rio_tree.proofs.WrittenMembers.{object_parts, pointers_written}

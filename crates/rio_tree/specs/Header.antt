@@ -4,7 +4,6 @@ use Rattle.std.specs.List.{list_any}
 use Rattle.std.specs.Option.{ok_or}
 use Rattle.std.specs.Result.{result_err, result_unwrap_or}
 use Rattle.rio_num.specs.Reading.{◌>>=◌}
-use Rattle.rio_leaf.specs.declared.branch.BranchDef.{BranchDef}
 use Rattle.rio_leaf.specs.declared.branch.Shape.{Shape}
 use Rattle.rio_leaf.specs.declared.branch.Shape.TheVariants.{Leaves, Class}
 use Rattle.rio_leaf.specs.declared.leaf.Dim.{Dim}

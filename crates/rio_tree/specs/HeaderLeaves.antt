@@ -1,5 +1,5 @@
 -- The leaves in a header, and the leaves that count others.
-use Rattle.std.specs.Prelude.{ℕ, ℤ, pos, negsuc, max, List, [], ◌∷◌, ◌++◌, length, codes, Bool, true, false, ◌==◌, ◌&&◌, ◌||◌, nat_lt, Option, Some, None, is_none, slice_get, unwrap_or, option_map, option_and_then, Result, Ok, Err, if◌then◌else◌}
+use Rattle.std.specs.Prelude.{ℕ, ℤ, pos, negsuc, max, List, [], ◌∷◌, ◌++◌, length, codes, Bool, true, false, ◌==◌, ◌&&◌, ◌||◌, nat_lt, Option, Some, None, is_none, slice_get, unwrap_or, option_map, option_and_then, Result, Ok, if◌then◌else◌}
 use Rattle.std.specs.Option.{ok_or, option_map_or}
 use Rattle.std.specs.Str.{bytes_eq}
 use Rattle.rio_value.specs.declared.value.Part.{Part}
@@ -14,7 +14,7 @@ use Rattle.rio_leaf.specs.Leaves.{is_one}
 use Rattle.rio_leaf.specs.Marks.{letter_of_counters, letter_of_texts}
 use Rattle.rio_tree.specs.declared.head.Branch.{Branch}
 use Rattle.rio_tree.specs.declared.refusal.BranchRefusal.{BranchRefusal}
-use Rattle.rio_tree.specs.declared.refusal.BranchRefusal.TheVariants.{LeafClass, NoCounter}
+use Rattle.rio_tree.specs.declared.refusal.BranchRefusal.TheVariants.{NoCounter}
 use Rattle.rio_tree.specs.Labels.{ObjectLabels, label_in, object_behind}
 use Rattle.rio_tree.specs.Members.{◌>>=◌, class_of_object, integer_member, member_in, name_member, kept_if, truth_member}
 

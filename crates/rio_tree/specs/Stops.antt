@@ -1,5 +1,5 @@
 -- What the reader answers where a branch is refused or memory runs out.
-use Rattle.std.specs.Prelude.{◌≡◌, ℕ, Result, Ok, Err}
+use Rattle.std.specs.Prelude.{◌≡◌, Result, Ok, Err}
 use Rattle.rio_tree.specs.declared.refusal.BranchRefusal.{BranchRefusal}
 use Rattle.rio_tree.specs.declared.stop.Stop.{Stop}
 use Rattle.rio_tree.specs.declared.stop.Stop.TheVariants.{Refused, NoMemory}

@@ -1,9 +1,8 @@
 -- What the tables of the reader say.
-use Rattle.std.specs.Prelude.{ℕ, List, nat_eq, Option, option_map}
+use Rattle.std.specs.Prelude.{nat_eq, option_map}
 use Rattle.std.specs.Map.{lookup}
 use Rattle.std.specs.Option.{option_copied}
 use Rattle.std.specs.Str.{bytes_eq}
-use Rattle.rio_value.specs.declared.value.Value.{Value}
 use Rattle.rio_tree.specs.declared.branch_members.BranchSaid.{BranchSaid as Read}
 use Rattle.rio_tree.specs.declared.labels.LabelTable.{LabelTable}
 use Rattle.rio_tree.specs.declared.leaves.BranchLeaves.{BranchLeaves}

@@ -1,5 +1,5 @@
 -- What holds of the header that is written for a tree.
-use Rattle.std.specs.Prelude.{◌≡◌, ℕ, ◌+◌, ◌^◌, ℤ, pos, List, [], ◌∷◌, ◌++◌, length, map, codes, Bool, ◌&&◌, nat_lt, Option, None, IsTrue, Result, Ok}
+use Rattle.std.specs.Prelude.{◌≡◌, ℕ, ◌+◌, ◌^◌, ℤ, pos, List, [], ◌∷◌, ◌++◌, length, map, codes, Bool, ◌&&◌, nat_lt, Option, None, IsTrue, Ok}
 use Rattle.std.specs.List.{list_all, position}
 use Rattle.std.specs.Option.{option_map_or}
 use Rattle.rio_leaf.specs.Leaves.{has_leaf}

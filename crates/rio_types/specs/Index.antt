@@ -29,11 +29,11 @@ has_number number name n c = bytes_eq c.name name && int_eq (number c) n
 
 -- ---- what the maps give
 
-abbrev pub name_at : {A : Type 0} → BTreeMap (Vec ℕ A) ℕ → List ℕ → Option ℕ
-name_at names name = get_by (λ k. slice_cmp nat_cmp name k.items) names
+abbrev pub name_place : {A : Type 0} → BTreeMap (Vec ℕ A) ℕ → List ℕ → Option ℕ
+name_place names name = get_by (λ k. slice_cmp nat_cmp name k.items) names
 
-abbrev pub number_at : BTreeMap (ℕ × ℤ) ℕ → ℕ → ℤ → Option ℕ
-number_at numbers first n = get (λ x y. ordering_then (nat_cmp x.0 y.0) (int_cmp x.1 y.1)) numbers (first, n)
+abbrev pub number_place : BTreeMap (ℕ × ℤ) ℕ → ℕ → ℤ → Option ℕ
+number_place numbers first n = get (λ x y. ordering_then (nat_cmp x.0 y.0) (int_cmp x.1 y.1)) numbers (first, n)
 
 -- the name of each class leads to the first class of that name
 abbrev pub NamesLead : List ClassDef → (List ℕ → Option ℕ) → Type 0
@@ -54,9 +54,9 @@ abbrev pub newest_place : List ClassDef → ClassDef → ℕ → ℕ
 newest_place classes c best = if option_map_or (λ d. int_le c.version d.version) (slice_get classes best) true then best else length classes
 
 pub record IsIndexOf (classes : List ClassDef) (index : Index) : Type 0 where
-  pub names_lead : NamesLead classes (name_at index.names)
-  pub versions_lead : NumbersLead version_of classes (number_at index.versions)
-  pub sums_lead : NumbersLead sum_of classes (number_at index.sums)
+  pub names_lead : NamesLead classes (name_place index.names)
+  pub versions_lead : NumbersLead version_of classes (number_place index.versions)
+  pub sums_lead : NumbersLead sum_of classes (number_place index.sums)
   pub newest_lead : NewestLead classes index.newest.items
   pub one_each : length index.newest.items ≡ length classes
   pub chained : IsChainOf classes index.chain

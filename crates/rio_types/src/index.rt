@@ -5,7 +5,7 @@ ghost use Rattle.std.specs.Ordering.{int_eq};
 ghost use Rattle.std.specs.Str.{bytes_eq};
 ghost use Rattle.rio_types.specs.Chain.{last_before};
 ghost use Rattle.rio_types.specs.Classes.{find_in, find_sum_in, newest_in};
-ghost use Rattle.rio_types.specs.Index.{IsIndexOf, NamesLead, NewestLead, NumbersLead, has_number, name_at, newest_place, number_at, passing, sum_of, version_of};
+ghost use Rattle.rio_types.specs.Index.{IsIndexOf, NamesLead, NewestLead, NumbersLead, has_number, name_place, newest_place, number_place, passing, sum_of, version_of};
 ghost use Rattle.rio_types.specs.Places.{is_named, place};
 ghost use Rattle.rio_types.specs.declared.class.ClassDef.{ClassDef as Class};
 
@@ -187,9 +187,9 @@ fn sum_passing(classes: &[ClassDef], place: Option<usize>, name: &[u8], sum: u32
 
 // The name leads to the place from now on.
 fn put_name(names: &mut Names, alloc: Global, name: &[u8], place: usize) -> Result<(), NoMemory>
-    ensures ok { OnOk result ((q : List ℕ) → name_at names.new q
-        ≡ (if bytes_eq q name.now then Some place else name_at names.old q)) }
-    ensures err { OnErr result ((q : List ℕ) → name_at names.new q ≡ name_at names.old q) }
+    ensures ok { OnOk result ((q : List ℕ) → name_place names.new q
+        ≡ (if bytes_eq q name.now then Some place else name_place names.old q)) }
+    ensures err { OnErr result ((q : List ℕ) → name_place names.new q ≡ name_place names.old q) }
 {
     names.insert(Vec::from_slice(alloc, name)?, place)?;
     Ok(())
@@ -202,10 +202,10 @@ fn put_number(
     number: i64,
     place: usize,
 ) -> Result<(), NoMemory>
-    ensures ok { OnOk result ((a : ℕ) (z : ℤ) → number_at numbers.new a z
-        ≡ (if (a == first) && int_eq z number then Some place else number_at numbers.old a z)) }
-    ensures err { OnErr result ((a : ℕ) (z : ℤ) → number_at numbers.new a z
-        ≡ number_at numbers.old a z) }
+    ensures ok { OnOk result ((a : ℕ) (z : ℤ) → number_place numbers.new a z
+        ≡ (if (a == first) && int_eq z number then Some place else number_place numbers.old a z)) }
+    ensures err { OnErr result ((a : ℕ) (z : ℤ) → number_place numbers.new a z
+        ≡ number_place numbers.old a z) }
 {
     numbers.insert((first, number), place)?;
     Ok(())
@@ -218,9 +218,9 @@ fn put_first(
     classes: &[ClassDef],
     class: &ClassDef,
 ) -> Result<usize, NoMemory>
-    requires { NamesLead classes.now (name_at names.old) }
-    ensures stays { NamesLead classes.now (name_at names.new) }
-    ensures leads { OnOk result (NamesLead (classes.now ++ class.now ∷ []) (name_at names.new)) }
+    requires { NamesLead classes.now (name_place names.old) }
+    ensures stays { NamesLead classes.now (name_place names.new) }
+    ensures leads { OnOk result (NamesLead (classes.now ++ class.now ∷ []) (name_place names.new)) }
     ensures first { IfOk result (λ first.
         place (is_named class.now.name) (classes.now ++ class.now ∷ []) ≡ Some first) }
 {
@@ -241,11 +241,11 @@ fn put_version(
     class: &ClassDef,
     first: usize,
 ) -> Result<(), NoMemory>
-    requires lead { NumbersLead version_of classes.now (number_at versions.old) }
+    requires lead { NumbersLead version_of classes.now (number_place versions.old) }
     requires first { place (is_named class.now.name) (classes.now ++ class.now ∷ []) ≡ Some first }
-    ensures stays { NumbersLead version_of classes.now (number_at versions.new) }
+    ensures stays { NumbersLead version_of classes.now (number_place versions.new) }
     ensures leads { OnOk result (NumbersLead version_of (classes.now ++ class.now ∷ [])
-        (number_at versions.new)) }
+        (number_place versions.new)) }
 {
     let (name, version) = (class.name.as_slice(), class.version);
     let key = (first, i64::from(version));
@@ -265,11 +265,11 @@ fn put_sum(
     class: &ClassDef,
     first: usize,
 ) -> Result<(), NoMemory>
-    requires lead { NumbersLead sum_of classes.now (number_at sums.old) }
+    requires lead { NumbersLead sum_of classes.now (number_place sums.old) }
     requires first { place (is_named class.now.name) (classes.now ++ class.now ∷ []) ≡ Some first }
-    ensures stays { NumbersLead sum_of classes.now (number_at sums.new) }
+    ensures stays { NumbersLead sum_of classes.now (number_place sums.new) }
     ensures leads { OnOk result (NumbersLead sum_of (classes.now ++ class.now ∷ [])
-        (number_at sums.new)) }
+        (number_place sums.new)) }
 {
     let (name, sum) = (class.name.as_slice(), class.sum);
     let key = (first, i64::from(sum));

@@ -9,7 +9,7 @@ use Rattle.rio_value.specs.declared.value.Value.TheOpen.{Value-F, Int, Bits32, B
 use Rattle.rio_value.specs.declared.value.Value.TheFolds.{fold-Value}
 use Rattle.rio_format.specs.Fits.{Fits}
 use Rattle.rio_format.specs.Objects.{depth_limit}
-use Rattle.rio_model.specs.Readable.{Follows, is_readable}
+use Rattle.rio_model.specs.Readable.{Follows, is_readable_value}
 use Rattle.rio_model.specs.Stated.{has_stated_parts, is_class_version}
 use Rattle.rio_model.specs.ValueGrammar.{value_in}
 use Rattle.rio_model.specs.ValueText.{text_of_value}
@@ -40,7 +40,7 @@ is_held = fold-Value Bool Bool held_step (λ p. p.value)
 abbrev pub StoredIsReadable : Type 0
 StoredIsReadable = (classes : List ClassDef) (class : List ℕ) (v : Value) → IsTrue (list_all has_names classes)
     → Fits classes class v → depth_of v ≤ depth_limit → IsTrue (is_held v)
-    → is_readable v ≡ true
+    → is_readable_value v ≡ true
 
 -- and so it is read as the value, wherever it stands
 abbrev pub StoredIsRead : Type 0

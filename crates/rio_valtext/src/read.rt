@@ -2,10 +2,10 @@
 //! another.
 ghost use Rattle.std.specs.Prelude.{◌≡◌, ◌<◌, ◌^◌, length, pos};
 ghost use Rattle.rio_num.specs.Word.{is_name_text};
-ghost use Rattle.rio_token.specs.Reading.{Answers, Reads, TakesInMemory, list_at, more_at};
+ghost use Rattle.rio_token.specs.Reading.{AnswersText, Reads, TakesInMemory, list_at, more_at};
 ghost use Rattle.rio_token.specs.Words.{bits_of, number_of};
 ghost use Rattle.rio_token.specs.Marks.{closing_brace, closing_bracket};
-ghost use Rattle.rio_model.specs.ValueGrammar.{bracket_limit, class_version_at, enclosed_at, listed, marked_value_at, named_object_at, number_or, bits_value, object_at, object_of, opens_object, part_at, pointer_at, row_at, text_value_at, value_and_end, value_at, value_in, values_at, word_value, word_value_at};
+ghost use Rattle.rio_model.specs.ValueGrammar.{bracket_limit, class_version_at, enclosed_at, listed, marked_value_at, named_object_at, number_or, bits_value, object_at, object_of, opens_object, part_at, pointer_at, row_at, text_value_at, value_and_end, value_in_text, value_in, values_at, word_value, word_value_at};
 
 use rio_num::{Boxed, Name, is_name};
 use rio_token::{Bits, TextFault, Token, Tokens, parse_bits, parse_number};
@@ -19,7 +19,7 @@ const BRACKET_LIMIT: u32 = 1024;
 /// may stand. `BadText` names the first token that can't stand in a value.
 pub fn read_value(alloc: Global, text: &[u8], place: u32) -> Result<(Value, u32), TextFault>
     requires { length text.now < 2 ^ 32 }
-    ensures { Answers result (value_and_end (value_in text.now place)) }
+    ensures { AnswersText result (value_and_end (value_in text.now place)) }
 {
     let mut tokens = Tokens::new(text, place);
     let value = take_value(alloc, &mut tokens)?;
@@ -30,7 +30,7 @@ pub fn read_value(alloc: Global, text: &[u8], place: u32) -> Result<(Value, u32)
 /// refused call leaves the tokens as they were.
 pub fn take_value(alloc: Global, tokens: &mut Tokens) -> Result<Value, TextFault>
     ensures { TakesInMemory (λ v. v) result
-        (value_at (enclosed_at bracket_limit) tokens.old) tokens.old tokens.new }
+        (value_in_text (enclosed_at bracket_limit) tokens.old) tokens.old tokens.new }
 {
     let mut ahead = tokens.copy();
     let value = read_next(alloc, &mut ahead, BRACKET_LIMIT)?;
@@ -51,9 +51,9 @@ pub fn take_values(alloc: Global, tokens: &mut Tokens) -> Result<Values, TextFau
 }
 
 #[cycle(value)]
-#[tactic(auto, unfolding(rio_model::specs::ValueGrammar::value_at))]
+#[tactic(auto, unfolding(rio_model::specs::ValueGrammar::value_in_text))]
 fn read_next(alloc: Global, tokens: &mut Tokens, levels: u32) -> Result<Value, TextFault>
-    ensures { Reads (λ v. v) result (value_at (enclosed_at levels) tokens.old) tokens.new }
+    ensures { Reads (λ v. v) result (value_in_text (enclosed_at levels) tokens.old) tokens.new }
 {
     match tokens.peek() {
         Token::Word => read_word(alloc, tokens, levels),
@@ -218,7 +218,7 @@ fn read_values(alloc: Global, tokens: &mut Tokens, levels: u32) -> Result<Values
 #[tactic(auto, unfolding(rio_token::specs::Reading::list_at, rio_token::specs::Reading::some_at))]
 fn read_items(alloc: Global, tokens: &mut Tokens, levels: u32) -> Result<Values, TextFault>
     ensures { Reads (λ vs. vs) result
-        (list_at closing_bracket (λ before. value_at (enclosed_at levels)) tokens.old)
+        (list_at closing_bracket (λ before. value_in_text (enclosed_at levels)) tokens.old)
         tokens.new }
 {
     let mut items = Values::new(alloc);
@@ -238,8 +238,8 @@ fn read_more_items(
 ) -> Result<Values, TextFault>
     ensures { let left = length tokens.old.rest in
         Reads (λ vs. vs) result
-        (more_at left closing_bracket (λ before. value_at (enclosed_at levels)) items tokens.old)
-        tokens.new }
+        (more_at left closing_bracket (λ before. value_in_text (enclosed_at levels))
+        items tokens.old) tokens.new }
 {
     for _done in 0..tokens.left() {
         if tokens.take_mark(b']') {

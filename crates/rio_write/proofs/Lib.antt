@@ -1,12 +1,14 @@
 pub mod BuiltinBodies
+pub mod Counting
+pub mod Few
 pub mod MeasureLaws
-pub mod MeasureParts
-pub mod MeasureValues
 pub mod Putting
+pub mod SinkLaws
+pub mod SinkParts
 pub mod SmallLaws
 pub mod SmallObjects
 pub mod SmallValues
+pub mod Taking
 pub mod WithPid
 pub mod WriteLaws
-pub mod WriteParts
 pub mod WriteValues

@@ -1,17 +1,15 @@
--- How long what is written is, one thing behind the other.
-use Rattle.std.proofs.Common.{◌≡◌, ◌<◌, ◌≤◌, ◌^◌, ◌+◌, ◌-◌, ℕ, ℤ, Bool, true, false, cond, ◌||◌, eqb, is_some, List, [], ◌∷◌, ◌++◌, length, min, nat_eq, Option, Some, None, Result, Ok, Err, refl, sym, ap, subst, ◌∙◌, arith}
+-- How long single things are that are written.
+use Rattle.std.proofs.Common.{◌≡◌, ◌<◌, ◌≤◌, ◌^◌, ◌+◌, ◌-◌, ℕ, Bool, true, false, cond, ◌||◌, eqb, is_some, List, [], ◌∷◌, ◌++◌, length, min, nat_eq, Option, Some, None, refl, sym, ap, subst, ◌∙◌, arith}
 use Rattle.std.proofs.lemmas.Bool.{ne_eqb}
 use Rattle.std.proofs.lemmas.List.{length-append}
 use Rattle.std.specs.List.{find, list_any}
 use Rattle.std.specs.Str.{bytes_eq}
 use Rattle.byteorder.specs.Endian.{big_bytes}
 use Rattle.indexmap.specs.IndexMap.{insert_entry}
-use Rattle.rio_num.specs.declared.no_memory.NoMemory.{NoMemory}
-use Rattle.rio_buffer.specs.ReaderState.{WordsMet, no_words, with_label}
-use Rattle.rio_buffer.specs.Writer.{Writer, class_by, class_bytes}
-use Rattle.rio_format.specs.Written.{back_bytes, both, headed_bytes, just}
-use Rattle.rio_write.specs.Measuring.{AreBelow, Follows, Grows, Measured, Measures, longer, nothing_measured, too_long}
-use Rattle.rio_write.specs.Writing.{pointer_to}
+use Rattle.rio_buffer.specs.ReaderState.{WordsMet}
+use Rattle.rio_buffer.specs.Writer.{class_by, class_bytes}
+use Rattle.rio_format.specs.Written.{just, reference_bytes}
+use Rattle.rio_write.specs.Measuring.{AreBelow, FollowsWords, Grows, Measured, longer, too_long}
 
 -- ---- places
 
@@ -25,7 +23,7 @@ below_push p q name (e ∷ es) lt h =
     let ne : eqb p e.0 ≡ false = ne_eqb _ _ (omega (arith, h.0)) in
     rw ne (omega (arith, lt, h.0), below_push p q name es lt h.1)
 
-pub follows_on : (m : Measured) (p q : ℕ) (t : WordsMet) → p ≤ q → Follows m p t → Follows m q t
+pub follows_on : (m : Measured) (p q : ℕ) (t : WordsMet) → p ≤ q → FollowsWords m p t → FollowsWords m q t
 follows_on m p q t le f = record { names = f.names; below = below_more p q t.names le f.below; small = f.small }
 
 -- ---- single things
@@ -38,39 +36,14 @@ module _ (bytes : List ℕ) (old : Measured) where
   pub just_grows : (new : Measured) → new ≡ longer (length bytes) old → Grows (just bytes) old new
   just_grows new e = subst (Grows (just bytes) old) (sym e) grown
 
-  -- the same by their number, as that of a text's bytes
-  pub number_grows : (n : ℕ) (new : Measured) → n ≡ length bytes → new ≡ longer n old → Grows (just bytes) old new
-  number_grows n new len e = just_grows new (e ∙ ap (λ (n : ℕ). longer n old) len)
-
-pub nothing_grows : (m : Measured) → Grows (just []) m m
-unfolding Grows
-nothing_grows m = λ p t f. (omega (arith, f.small), follows_on m p (p + 0) t (omega arith) f)
-
 -- a reference has four bytes, whatever it refers to
 module _ (label : ℕ) (old : Measured) where
-  referred : Grows (back_bytes label) old (longer 4 old)
+  referred : Grows (reference_bytes label) old (longer 4 old)
   unfolding Grows
   referred = λ p t f. (refl, record { names = f.names; below = below_more p (p + 4) t.names (omega arith) f.below; small = omega arith })
 
-  pub back_grows : (new : Measured) → new ≡ longer 4 old → Grows (back_bytes label) old new
-  back_grows new e = subst (Grows (back_bytes label) old) (sym e) referred
-
--- ---- one behind the other
-
-module _ (f g : Writer) (m0 m1 m2 : Measured) where
-  pub both_grow : Grows f m0 m1 → Grows g m1 m2 → Grows (both f g) m0 m2
-  unfolding Grows
-  both_grow h k = λ p t follows.
-      let a = f p t in
-      let b = g (p + length a.0) a.1 in
-      let one = h p t follows in
-      let two = k (p + length a.0) a.1 one.1 in
-      let len = length-append a.0 b.0 in
-      (omega (arith, one.0, two.0, len), follows_on m2 (p + length a.0 + length b.0) (p + length (a.0 ++ b.0)) b.1 (omega (arith, len)) two.1)
-
-  pub both_measured : (r : Result (Unit {0}) NoMemory) → Grows f m0 m1 → Measures g r m1 m2 → Measures (both f g) r m0 m2
-  both_measured (Ok x) h k = both_grow h k
-  both_measured (Err e) h k = tt
+  pub back_grows : (new : Measured) → new ≡ longer 4 old → Grows (reference_bytes label) old new
+  back_grows new e = subst (Grows (reference_bytes label) old) (sym e) referred
 
 -- ---- class words
 
@@ -96,10 +69,10 @@ module _ (class : List ℕ) where
       by false ih = ih
 
   GrowsAt : Measured → Measured → ℕ → WordsMet → List ℕ × WordsMet → Type 0
-  GrowsAt old new p t a = (new.total ≡ min (old.total + length a.0) too_long) × Follows new (p + length a.0) a.1
+  GrowsAt old new p t a = (new.total ≡ min (old.total + length a.0) too_long) × FollowsWords new (p + length a.0) a.1
 
   module _ (old : Measured) where
-    known_at : (p : ℕ) (t : WordsMet) (o : Option (ℕ × List ℕ)) → true ≡ is_some o → Follows old p t → GrowsAt old (longer 4 old) p t (class_by class o p t)
+    known_at : (p : ℕ) (t : WordsMet) (o : Option (ℕ × List ℕ)) → true ≡ is_some o → FollowsWords old p t → GrowsAt old (longer 4 old) p t (class_by class o p t)
     unfolding GrowsAt
     known_at p t None e f = absurd cc
     known_at p t (Some x) e f = (refl, record { names = f.names; below = below_more p (p + 4) t.names (omega arith) f.below; small = omega arith })
@@ -109,7 +82,7 @@ module _ (class : List ℕ) where
     known_grows new known e = subst (Grows (class_bytes class) old) (sym e) (λ p t f. known_at p t (find (λ e. bytes_eq e.1 class) t.names) (sym known ∙ f.names class) f)
 
     module _ (new : Measured) (total : new.total ≡ min (old.total + (length class + 5)) too_long) (more : (other : List ℕ) → list_any (bytes_eq other) new.names ≡ (bytes_eq class other || list_any (bytes_eq other) old.names)) where
-      new_at : (p : ℕ) (t : WordsMet) (o : Option (ℕ × List ℕ)) → false ≡ is_some o → Follows old p t → GrowsAt old new p t (class_by class o p t)
+      new_at : (p : ℕ) (t : WordsMet) (o : Option (ℕ × List ℕ)) → false ≡ is_some o → FollowsWords old p t → GrowsAt old new p t (class_by class o p t)
       unfolding GrowsAt
       new_at p t None e f =
           let len = length-append class (0 ∷ []) in (
@@ -125,48 +98,3 @@ module _ (class : List ℕ) where
       pub new_grows : list_any (bytes_eq class) old.names ≡ false → Grows (class_bytes class) old new
       unfolding Grows GrowsAt
       new_grows unknown = λ p t f. new_at p t (find (λ e. bytes_eq e.1 class) t.names) (sym unknown ∙ f.names class) f
-
--- ---- count words
-
-module _ (version : ℤ) (body : Writer) (m0 m1 m2 : Measured) (e : m1 ≡ longer 6 m0) where
-  pub headed_grows : Grows body m1 m2 → Grows (headed_bytes version body) m0 m2
-  unfolding Grows
-  headed_grows h = λ p t f.
-      let first : Follows (longer 6 m0) (p + 4 + 2) t = record { names = f.names; below = below_more p (p + 4 + 2) t.names (omega arith) f.below; small = omega arith } in
-      let two = h (p + 4 + 2) t (subst (λ (m : Measured). Follows m (p + 4 + 2) t) (sym e) first) in
-      let b = body (p + 4 + 2) t in
-      let total = ap (λ (m : Measured). m.total) e in
-      (omega (arith, two.0, total), follows_on m2 (p + 4 + 2 + length b.0) _ b.1 (omega arith) two.1)
-
-  pub headed_measured : (r : Result (Unit {0}) NoMemory) → Measures body r m1 m2 → Measures (headed_bytes version body) r m0 m2
-  headed_measured (Ok x) h = headed_grows h
-  headed_measured (Err x) h = tt
-
-module _ (class : List ℕ) (object : Writer) (m0 m1 m2 m3 : Measured) (e : m1 ≡ longer 4 m0) (w : Grows (class_bytes class) m1 m2) where
-  pub pointed_grows : Grows object m2 m3 → Grows (pointer_to class object) m0 m3
-  unfolding Grows
-  pointed_grows h = λ p t f.
-      let first : Follows (longer 4 m0) (p + 4) t = record { names = f.names; below = below_more p (p + 4) t.names (omega arith) f.below; small = omega arith } in
-      let a = class_bytes class (p + 4) t in
-      let two = w (p + 4) t (subst (λ (m : Measured). Follows m (p + 4) t) (sym e) first) in
-      let labelled : Follows m2 (p + 4 + length a.0) (with_label a.1 p) = record { names = two.1.names; below = two.1.below; small = two.1.small } in
-      let three = h (p + 4 + length a.0) (with_label a.1 p) labelled in
-      let b = object (p + 4 + length a.0) (with_label a.1 p) in
-      let total = ap (λ (m : Measured). m.total) e in
-      let len = length-append a.0 b.0 in
-      (omega (arith, two.0, three.0, total, len), follows_on m3 (p + 4 + length a.0 + length b.0) _ b.1 (omega (arith, len)) three.1)
-
-  pub pointed_measured : (r : Result (Unit {0}) NoMemory) → Measures object r m2 m3 → Measures (pointer_to class object) r m0 m3
-  pointed_measured (Ok x) h = pointed_grows h
-  pointed_measured (Err x) h = tt
-
--- ---- the whole
-
-module _ (f : Writer) (old new : Measured) where
-  pub whole_grows : old ≡ nothing_measured → Grows f old new → (start : ℕ) → new.total ≡ min (length (f start no_words).0) too_long
-  unfolding Grows
-  whole_grows e g start =
-      let none : Follows nothing_measured start no_words = record { names = λ class. refl; below = tt; small = omega arith } in
-      let grown = g start no_words (subst (λ (m : Measured). Follows m start no_words) (sym e) none) in
-      let total = ap (λ (m : Measured). m.total) e in
-      omega (arith, grown.0, total)

@@ -13,6 +13,10 @@ use Rattle.rio_buffer.specs.Writer.{Writer, class_bytes, Puts, WriterState, next
 use Rattle.rio_format.specs.Written.{Writing, just, both, all, counted, fields_bytes, headed_bytes}
 use Rattle.rio_write.specs.Writing.{HasRoom, Writes, pointer_to, with_written}
 
+pub nothing : (s : WriterState) → s ≡ with_written (just []) s
+unfolding with_written
+nothing s = rw append-nil refl
+
 -- ---- single values
 
 text_length : (text : List ℕ) (b : Bool) → length text ≤ length (cond b (short_form text) (long_form text))
@@ -167,6 +171,9 @@ module _ (s : WriterState) (head : List ℕ) (t : WordsMet) (f : Writer) where
 
     pub count_room : next_place s + 4 + length head + length inside.0 < 2 ^ 30 - 2 → counted_from (length s.bytes) s2.bytes < 2 ^ 30
     count_room room = rw (ap (λ (z : WriterState). counted_from (length s.bytes) z.bytes) s2_is) (omega (arith, room, count_is s.bytes (head ++ inside.0), length-append head inside.0))
+
+    pub count_stands : length s.bytes + 4 ≤ length s2.bytes
+    count_stands = rw (ap (λ (z : WriterState). z.bytes) s2_is) (omega (arith, length-append s.bytes (big_bytes 4 0 ++ (head ++ inside.0))))
 
     pub closed_is : ended (length s.bytes) s2 ≡ closed_at s head inside
     closed_is = ap (ended (length s.bytes)) s2_is ∙ ap (λ (l : List ℕ). let z : WriterState = record { start = s.start; bytes = l; opened = s.opened; words = inside.1 } in z) (with_count_is s.bytes (head ++ inside.0))

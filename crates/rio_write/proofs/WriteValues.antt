@@ -1,18 +1,38 @@
 -- What is written for a value, by its layer.
-use Rattle.std.proofs.Common.{◌≡◌, ℕ, ℤ, List, [], map, ap, ◌∙◌}
+use Rattle.std.proofs.Common.{◌≡◌, ℕ, ℤ, Bool, List, [], ◌∷◌, map, ap, ◌∙◌}
+use Rattle.byteorder.specs.Endian.{big_bytes}
+use Rattle.rio_num.specs.Text.{text_bytes}
 use Rattle.rio_types.specs.declared.class.ClassDef.{ClassDef}
-use Rattle.rio_value.specs.declared.value.Value.{Int, Object, Opaque}
+use Rattle.rio_value.specs.declared.value.Value.{Int, Bits32, Bits64, Bool as Truth, Text, Object, Null, Back, Opaque}
 use Rattle.rio_value.specs.declared.value.Value.TheFolds.{fold-Part, fold_out-Part}
 use Rattle.rio_value.specs.declared.value.Part.{Part}
 use Rattle.rio_format.specs.Bodies.{form_of}
 use Rattle.rio_format.specs.Slots.{Slot}
-use Rattle.rio_format.specs.Written.{Writing, form_bytes, int_bytes, just, writing_of, writing_step}
-use Rattle.rio_format.proofs.ValueCases.{fold_Int, fold_Object, fold_Opaque}
+use Rattle.rio_format.specs.Written.{Writing, form_bytes, int_bytes, just, reference_bytes, truth_byte, writing_of, writing_step}
+use Rattle.rio_format.proofs.ValueCases.{fold_Int, fold_Bits32, fold_Bits64, fold_Bool, fold_Text, fold_Null, fold_Back, fold_Object, fold_Opaque}
 use Rattle.rio_write.specs.Writing.{part_writing}
 
 module _ (classes : List ClassDef) (slot : Slot) where
   pub int_is : (n : ℤ) → (writing_of classes (Int n)).bytes slot ≡ just (int_bytes n slot)
   int_is n = ap (λ (w : Writing). w.bytes slot) (fold_Int (writing_step classes) (λ p. p.value) n)
+
+  pub bits32_is : (n : ℕ) → (writing_of classes (Bits32 n)).bytes slot ≡ just (big_bytes 4 n)
+  bits32_is n = ap (λ (w : Writing). w.bytes slot) (fold_Bits32 (writing_step classes) (λ p. p.value) n)
+
+  pub bits64_is : (n : ℕ) → (writing_of classes (Bits64 n)).bytes slot ≡ just (big_bytes 8 n)
+  bits64_is n = ap (λ (w : Writing). w.bytes slot) (fold_Bits64 (writing_step classes) (λ p. p.value) n)
+
+  pub bool_is : (b : Bool) → (writing_of classes (Truth b)).bytes slot ≡ just (truth_byte b ∷ [])
+  bool_is b = ap (λ (w : Writing). w.bytes slot) (fold_Bool (writing_step classes) (λ p. p.value) b)
+
+  pub text_is : (text : List ℕ) → (writing_of classes (Text text)).bytes slot ≡ just (text_bytes text)
+  text_is text = ap (λ (w : Writing). w.bytes slot) (fold_Text (writing_step classes) (λ p. p.value) text)
+
+  pub null_is : (writing_of classes Null).bytes slot ≡ just (big_bytes 4 0)
+  null_is = ap (λ (w : Writing). w.bytes slot) (fold_Null (writing_step classes) (λ p. p.value))
+
+  pub back_is : (label : ℕ) → (writing_of classes (Back label)).bytes slot ≡ reference_bytes label
+  back_is label = ap (λ (w : Writing). w.bytes slot) (fold_Back (writing_step classes) (λ p. p.value) label)
 
   pub opaque_is : (class : List ℕ) (len : ℕ) → (writing_of classes (Opaque class len)).bytes slot ≡ just []
   opaque_is class len = ap (λ (w : Writing). w.bytes slot) (fold_Opaque (writing_step classes) (λ p. p.value) class len)

@@ -1,3 +1,4 @@
 pub mod Measuring
+pub mod Sinks
 pub mod Small
 pub mod Writing

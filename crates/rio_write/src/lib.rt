@@ -1,15 +1,22 @@
 //! Objects are written, by the classes that a file describes.
+//!
+//! A value is walked once, by code that is generic over a [`Sink`]: the writer of objects takes the bytes, and [`Total`]
+//! counts them. [`write_object`] and [`written_length`] are that walk into the one and the other, and what else is
+//! written as objects are goes into a sink too. `specs/Sinks.antt` has what a sink does, `specs/Measuring.antt` what it
+//! is to count.
 #![tactic(auto)]
 
 mod builtin;
 mod laws;
 mod measure;
+mod numbers;
+mod sink;
+mod walk;
 mod write;
-mod write_length;
-mod write_numbers;
 
 pub use builtin::write_builtin;
 pub use laws::small_builtins_are_alike;
-pub use measure::{COUNT_WORD, HEADER, Measure, text_length, text_length_of};
-pub use write::write_object;
-pub use write_length::written_length;
+pub use measure::{Total, text_length};
+pub use numbers::{write_bool, write_count, write_prim};
+pub use sink::Sink;
+pub use write::{write_object, written_length};

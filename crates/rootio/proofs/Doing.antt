@@ -1,6 +1,7 @@
 -- A run's commands, one after the other.
-use Rattle.std.proofs.Common.{◌≡◌, inl, inr, ℕ, suc, ◌+◌, ◌<◌, ◌≤◌, false, List, ◌∷◌, ◌++◌, length, take, drop, get_or, Result, Ok, Err, subst, sym, refl, ap, ◌∙◌, arith, append_assoc}
+use Rattle.std.proofs.Common.{◌≡◌, inl, inr, ℕ, suc, ◌+◌, ◌<◌, ◌≤◌, false, List, ◌∷◌, ◌++◌, length, take, drop, get_or, Some, Result, Ok, Err, subst, sym, refl, ap, ◌∙◌, arith, append_assoc}
 use Rattle.std.proofs.lemmas.List.{append-nil, drop-drop, get_or_default, take_all}
+use Rattle.std.proofs.lemmas.Option.{slice_get-get_or}
 use Rattle.std.proofs.Math.Seq.{drop-cons}
 use Rattle.std.specs.Result.{OnOk}
 use Rattle.rio_host.specs.Host.{Becomes, Elapses, IsLawful, View}
@@ -12,6 +13,7 @@ use Rattle.rio_machine.specs.State.{State}
 use Rattle.rio_machine.specs.declared.command.Command.{Command}
 use Rattle.rio_machine.specs.declared.command.Command.TheVariants.{Ls}
 use Rattle.rio_machine.specs.declared.command.Outcome.{Outcome}
+use Rattle.rio_step.proofs.RunLaws.{runs_begin_alike}
 use Rattle.rio_step.specs.ReplyText.{text_of}
 use Rattle.rio_step.specs.Runs.{first_mark, said_of, saved_of, state_after}
 use Rattle.rio_step.specs.Step.{Stepped, outcome_of, step}
@@ -19,14 +21,14 @@ use Rattle.rio_state.specs.Left.{IsLeftAs}
 use Rattle.rio_step.specs.Costs.{HasFileRoom, cost_of}
 use Rattle.rio_session.specs.Behind.{SaysPart}
 use Rattle.rio_session.specs.Causes.{IsCloseCause, IsSaid, IsSessionCause, NoCountRose, SaysNothing}
-use Rattle.rio_session.specs.Marks.{mark_of, marks_of_run, segments_behind}
-use Rattle.rio_session.specs.Session.{IsReady, LacksRoomIfFull, SessionState, StandsFor, Steps, Went, next_of, with_cost}
+use Rattle.rio_session.specs.Marks.{mark_of_command, marks_of_run, segments_behind}
+use Rattle.rio_session.specs.Session.{IsOpenAs, IsReady, LacksRoomIfFull, LeavesOpenAs, SessionState, StandsFor, Steps, Went, next_of, with_cost}
 use Rattle.rio_session.specs.declared.fault.SessionFault.{SessionFault}
 use Rattle.rio_session.specs.declared.fault.SessionFault.TheVariants.{HostFault, SayFault, NoMemory}
 use Rattle.rio_session.proofs.Spoken.{grows_none}
 use Rattle.rootio.specs.Headline.{IsStopOf, SaidFindRoom, ScriptRun, replies}
 use Rattle.rootio.specs.Script.{HasDone, session_run}
-use Rattle.rootio.specs.Writing.{LeavesOpen}
+use Rattle.rootio.specs.Writing.{LeavesOpen, StandsUnsaid}
 use Rattle.rootio.proofs.SaidFronts.{grows_join}
 use Rattle.rootio.proofs.Unclosed.{steps_open}
 use Rattle.rootio.proofs.Untouched.{any_join, becomes_same, elapses_none}
@@ -45,12 +47,12 @@ commands_left r k c next =
     drop-cons r.commands k Ls next.within ∙ ap (λ x. x ∷ drop (suc k) r.commands) next.is ∙ ap (λ n. c ∷ drop n r.commands) e
 
 first_marked : (name : List ℕ) (segments : List Segment) (m : State) (c : Command) (cs : List Command)
-    → first_mark (marks_of_run name segments m (c ∷ cs)) ≡ mark_of name segments m c
+    → first_mark (marks_of_run name segments m (c ∷ cs)) ≡ mark_of_command name segments m c
 unfolding marks_of_run
 first_marked name segments m c cs = refl
 
 later_marked : (name : List ℕ) (segments : List Segment) (m : State) (c : Command) (cs : List Command)
-    → drop 1 (marks_of_run name segments m (c ∷ cs)) ≡ marks_of_run name (segments_behind name segments m c) (step m c (mark_of name segments m c)).state cs
+    → drop 1 (marks_of_run name segments m (c ∷ cs)) ≡ marks_of_run name (segments_behind name segments m c) (step m c (mark_of_command name segments m c)).state cs
 unfolding marks_of_run
 later_marked name segments m c cs = refl
 
@@ -58,11 +60,11 @@ module _ (name : List ℕ) (segments : List Segment) (r : ScriptRun) (k : ℕ) (
   marks_are : drop k r.marks ≡ marks_of_run name segments (behind r k) (c ∷ drop (k + 1) r.commands)
   marks_are = left.are ∙ ap (λ cs. marks_of_run name segments (behind r k) cs) (commands_left r k c next)
 
-  mark_is : first_mark (drop k r.marks) ≡ mark_of name segments (behind r k) c
+  mark_is : first_mark (drop k r.marks) ≡ mark_of_command name segments (behind r k) c
   mark_is = ap first_mark marks_are ∙ first_marked name segments (behind r k) c (drop (k + 1) r.commands)
 
   -- the next step is that of the rule of marks
-  pub step_is : step_at r k c ≡ step (behind r k) c (mark_of name segments (behind r k) c)
+  pub step_is : step_at r k c ≡ step (behind r k) c (mark_of_command name segments (behind r k) c)
   step_is = ap (λ mark. step (behind r k) c mark) mark_is
 
   pub marks_next : MarksLeft name (segments_behind name segments (behind r k) c) r (k + 1)
@@ -124,6 +126,23 @@ module _ (r : ScriptRun) (before : List ℕ) (k : ℕ) (c : Command) (next : IsN
         time = λ file. elapses_join (Steps (behind r k) done (before ++ replies r k)) (time file) went.time (λ i t steps. stops_within file i t steps);
         costs = costs_more first s s1 r k c next costs outcome went.follows.opened went.follows.costs
             (went.outcome_is ∙ ap (λ (t : Stepped). outcome_of t.reply) (sym done_is)) went.full;
+      }
+
+  -- what the command did, where its reply could not be said
+  pub stands_unsaid : (new : View) → LeavesOpenAs new done.state → SaysPart new (before ++ replies r k) (text_of done.reply) → StandsUnsaid r before new
+  stands_unsaid new unsaid part =
+      let within : k + 1 ≤ length r.commands = omega (arith, next.within) in
+      let state : done.state ≡ behind r (k + 1) = ap (λ (t : Stepped). t.state) (sym done_is) ∙ sym (behind_next r k c next) in
+      record {
+        j = k;
+        command = c;
+        command_is = slice_get-get_or r.commands k Ls next.within ∙ ap Some next.is;
+        text = subst (λ (t : Stepped). SaysPart new (before ++ replies r k) (text_of t.reply)) (sym done_is) part;
+        state = behind r (k + 1);
+        state_is = runs_begin_alike r.start r.commands r.marks (k + 1) within;
+        left = λ image said leaves.
+            let open_as : IsOpenAs (behind r (k + 1)) image = subst (λ (m : State). IsOpenAs m image) state (unsaid image said leaves) in
+            (open_as.left.reads, open_as.marked);
       }
 
 -- ---- all of them
@@ -207,6 +226,19 @@ module _ (start v new : View) (first s s1 : SessionState) (commands : List Comma
       (λ spoken. subst (λ (t : Stepped). LacksRoomIfFull (with_cost (cost_of (behind r k) c) s) (outcome_of t.reply)) (sym same) (lacks spoken (behind r k) (text ++ replies r k) so.stands))
       (subst (λ (t : Stepped). SaysPart new (text ++ replies r k) (text_of t.reply)) (sym same) (part (behind r k) (text ++ replies r k) so.stands))
 
+  -- and what the command did stands, where its reply could not be said
+  pub unsaid_there : (e : SessionFault)
+      → (◌≡◌ {A = Result Outcome SessionFault} (Err e) (Err SayFault) → (m : State) (text : List ℕ) → StandsFor v s m text → LeavesOpenAs new (next_of s m c).state)
+      → ((m : State) (text : List ℕ) → StandsFor v s m text → SaysPart new text (text_of (next_of s m c).reply))
+      → ◌≡◌ {A = Result (Unit {0}) SessionFault} (Err e) (Err SayFault)
+      → (m : State) (text : List ℕ) → StandsFor start first m text → StandsUnsaid (session_run first m commands) text new
+  unsaid_there HostFault unsaid part e m text stands = absurd cc
+  unsaid_there SayFault unsaid part e m text stands =
+      let r = session_run first m commands in
+      let so = doing.sofar m text stands in
+      stands_unsaid r text k c (next_at r k c within is) s so.marks new (unsaid refl (behind r k) (text ++ replies r k) so.stands) (part (behind r k) (text ++ replies r k) so.stands)
+  unsaid_there NoMemory unsaid part e m text stands = absurd cc
+
 -- a command that fails leaves the file marked as open
 pub leaves_open : (start v new : View) (first s : SessionState) (commands : List Command) (k : ℕ) (c : Command) → Doing start v first s commands k → IsLawful new
     → ((m : State) (text : List ℕ) → StandsFor v s m text → Elapses v new (Steps m (next_of s m c) text))
@@ -239,7 +271,7 @@ cause_of_close start v new (Err HostFault) none cause = (rw (← none.0) cause.0
 cause_of_close start v new (Err SayFault) none cause = absurd cause
 cause_of_close start v new (Err NoMemory) none cause = (cause.0 ∙ none.0, cause.1 ∙ none.1)
 
--- what follows from two clauses where a call succeeds
-pub on_ok_both : {X E P Q R : Type 0} (r : Result X E) → (P → Q → R) → OnOk r P → OnOk r Q → OnOk r R
-on_ok_both (Ok x) f p q = f p q
-on_ok_both (Err e) f p q = tt
+-- what follows from three clauses where a call succeeds
+pub on_ok_all : {X E P Q R S : Type 0} (r : Result X E) → (P → Q → R → S) → OnOk r P → OnOk r Q → OnOk r R → OnOk r S
+on_ok_all (Ok x) f p q s = f p q s
+on_ok_all (Err e) f p q s = tt

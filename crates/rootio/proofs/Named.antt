@@ -11,7 +11,7 @@ use Rattle.rootio.specs.declared.words.Form.TheVariants.{Reads, Writes}
 use Rattle.rootio.specs.declared.words.Listing.TheVariants.{Dump, Scan}
 use Rattle.rootio.specs.declared.words.Work.{Work}
 use Rattle.rootio.specs.declared.words.Work.TheVariants.{Run}
-use Rattle.rootio.specs.Words.{asked_by, dump_of, form_of, is_file, is_no_flag, item_of, ls_of, run_of, scan_of_tree, scan_of_words, written_at}
+use Rattle.rootio.specs.Words.{asked_by, dump_of, form_of_words, is_file, is_no_flag, item_of, ls_of, run_of, scan_of_words, written_at}
 use Rattle.rootio.specs.Writing.{target_of}
 
 -- ---- choices
@@ -82,7 +82,7 @@ module _ (work : Work) where
 short_name : (word : List ℕ) → is_file word ≡ true → length word ≤ 200
 short_name word e = search rules
 
-pub writes_named : (words : List (List ℕ)) (work : Work) → form_of words ≡ Some (Writes work) → length (target_of work).name ≤ 200
+pub writes_named : (words : List (List ℕ)) (work : Work) → form_of_words words ≡ Some (Writes work) → length (target_of work).name ≤ 200
 writes_named [] work e = absurd cc
 writes_named (verb ∷ []) work e = absurd cc
 writes_named (verb ∷ file ∷ args) work e =

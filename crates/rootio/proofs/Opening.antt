@@ -30,11 +30,11 @@ use Rattle.rio_session.specs.declared.fault.OpenFault.TheVariants.{BadFile as Fi
 use Rattle.rio_session.specs.declared.fault.SessionFault.{SessionFault}
 use Rattle.rio_session.specs.declared.fault.SessionFault.TheVariants.{HostFault, SayFault as NotSaid, NoMemory as OutOfMemory}
 use Rattle.rio_session.proofs.Spoken.{front_none, grows_none}
-use Rattle.rootio.specs.Headline.{IsDone, IsStopOf, SaidFindRoom, ScriptRun, all_replies, opening_length}
+use Rattle.rootio.specs.Headline.{IsRunDone, IsStopOf, SaidFindRoom, ScriptRun, all_replies, opening_length}
 use Rattle.rootio.specs.Reading.{RefusesBroken, TellsFirstFault}
 use Rattle.rootio.specs.Script.{HasClosed, IsFileCause, RunsScript, StaysOpenBy, session_run, status_of_open, status_of_session}
 use Rattle.rootio.specs.Target.{TargetFile}
-use Rattle.rootio.specs.Writing.{Begins, EndsUnclosed, RefusesFile, RefusesReadOnly, TellsFirstReason, made_reason, run_of_work}
+use Rattle.rootio.specs.Writing.{BeginsRun, EndsUnclosed, RefusesFile, RefusesReadOnly, TellsFirstReason, made_reason, run_of_work}
 use Rattle.rootio.specs.declared.status.Status.TheVariants.{Done, BadFile, NoMemory, ReadOnly}
 use Rattle.rootio.specs.declared.words.Form.TheVariants.{Writes}
 use Rattle.rootio.specs.declared.words.Work.TheVariants.{Run}
@@ -140,7 +140,7 @@ module _ (target : TargetFile) (v0 v1 : View) where
 
   open_cause : (fault : OpenFault) → IsOpenCause {X = SessionState} v0 v1 (Err fault) → IsFileCause v0 v1 (status_of_open fault)
   open_cause (FileBad p k) cause = (cause.0, cause.1.0, cause.1.1)
-  open_cause (FileReadOnly p r) cause = cause
+  open_cause (FileReadOnly p r) cause = (cause.0, cause.1, cause.2.0, cause.2.1)
   open_cause NotRoomy cause = cause
   open_cause NotOpened cause = cause
 
@@ -179,7 +179,7 @@ not_opened target script v0 v1 fault opens unclosed why unwritten untouched told
   cause = open_cause target v0 v1 fault cause;
 }
   where
-    stops : (file text : List ℕ) (m : State) → Begins v0 file text m → Elapses v0 v1 (IsStopOf (run_of_work (Run target) script m) file text)
+    stops : (file text : List ℕ) (m : State) → BeginsRun v0 file text m → Elapses v0 v1 (IsStopOf (run_of_work (Run target) script m) file text)
     stops file text m begins =
         elapses_as (IsStopOf (run_of_work (Run target) script m) file text) (OpensAs file text m) (opens file text m begins.quiet begins.holds begins.said begins.reads)
         (λ image said left. stop_opening (run_of_work (Run target) script m) file text image said begins.reads left)
@@ -241,7 +241,7 @@ module _ (target : TargetFile) (script : List ℕ) (v0 v1 v2 : View) (s : Sessio
     (told12 : Becomes Any v1.holds v2.holds) (said12 : Becomes Grown v1.said v2.said)
     (room12 : (m : State) (text : List ℕ) → StandsFor v1 s m text → s.costs ≡ 0 → HasFileRoom s.opened m commands (session_run s m commands).marks → SaidFindRoom (session_run s m commands) text v2)
     (cause : IsSessionCause v1 v2 r) (law : IsLawful v0) (law' : IsLawful v2) where
-  does_all : (file text : List ℕ) (m : State) → Begins v0 file text m → Elapses v0 v2 (IsStopOf (run_of_work (Run target) script m) file text)
+  does_all : (file text : List ℕ) (m : State) → BeginsRun v0 file text m → Elapses v0 v2 (IsStopOf (run_of_work (Run target) script m) file text)
   does_all file text m begins =
       let P = IsStopOf (run_of_work (Run target) script m) file text in
       let same = run_same target script s commands m new are in
@@ -251,7 +251,7 @@ module _ (target : TargetFile) (script : List ℕ) (v0 v1 v2 : View) (s : Sessio
       elapses_join (IsStopOf (session_run s m commands) file text) first later
       (λ image said stop. subst (λ (run : ScriptRun). IsStopOf run file text image said) same stop)
 
-  opened_empty : (file text : List ℕ) (m : State) → Begins v0 file text m → s.opened ≡ opening_length file
+  opened_empty : (file text : List ℕ) (m : State) → BeginsRun v0 file text m → s.opened ≡ opening_length file
   opened_empty file text m begins = new.opened ∙ sym (new_is_empty (is_unborn file) (length file) (why file begins.holds))
 
   pub opened : RunsScript target script v0 v2 (status_of_session r)
@@ -268,15 +268,15 @@ module _ (target : TargetFile) (script : List ℕ) (v0 v1 v2 : View) (s : Sessio
     done = λ file text m begins is.
         let closed = ended_well r _ done is m text (stands file text m begins.holds begins.said begins.reads) in
         let empty : s.opened ≡ opening_length file = opened_empty file text m begins in
-        subst (λ (run : ScriptRun). IsDone run file text v2) (run_same target script s commands m new are)
+        subst (λ (run : ScriptRun). IsRunDone run file text v2) (run_same target script s commands m new are)
         (record {
           said = closed.said;
           left = closed.left;
           room = λ room. closed.room new.costs (subst (λ n. HasFileRoom n m commands (session_run s m commands).marks) (sym empty) room);
         });
-    written = λ file text m begins is last held.
+    written = λ file text m begins is image told left.
         let closed = ended_well r _ done is m text (stands file text m begins.holds begins.said begins.reads) in
-        subst (λ (x : List ℕ × ℕ). IsWellClosed x.0 x.1 last) (λ i. (new.name_is i, new.datime_is i)) (closed.written last held);
+        subst (λ (x : List ℕ × ℕ). IsWellClosed x.0 x.1 image) (λ i. (new.name_is i, new.datime_is i)) (closed.written image told left);
     unclosed = λ file text m begins.
         subst (λ (run : ScriptRun). EndsUnclosed run text v0 v2 (status_of_session r)) (run_same target script s commands m new are)
         (ends_unclosed (session_run s m commands) text v0 v2 r (unclosed m text (stands file text m begins.holds begins.said begins.reads)));

@@ -2,7 +2,7 @@
 use Rattle.std.proofs.Common.{◌≡◌, ℕ, ◌+◌, ◌-◌, ◌<◌, ◌≤◌, List, [], ◌++◌, length, length-append, length-take, take, append_assoc, Option, Some, None, Err, refl, sym, ap, ◌∙◌, arith}
 use Rattle.std.proofs.lemmas.List.{append-nil}
 use Rattle.rio_host.specs.Host.{Becomes}
-use Rattle.rio_host.specs.Source.{Gives, Input}
+use Rattle.rio_host.specs.Source.{Fills, Input}
 use Rattle.rio_host.proofs.Images.{becomes_join, becomes_some}
 use Rattle.rootio.specs.Causes.{NoInputFault}
 use Rattle.rootio.specs.Input.{IsTooLong, ReadsAll, Taken, TakenAll, TakesMore, TakesPiece, input_limit}
@@ -15,19 +15,19 @@ becomes_as R S (Some x) b has becomes = (becomes.0, becomes.1, has x becomes.0 b
 
 -- ---- one piece
 
-module _ (before after : Input) (n : ℕ) (buffer : List ℕ) (gives : Becomes (Gives n buffer) before.remaining after.remaining) where
+module _ (before after : Input) (n : ℕ) (buffer : List ℕ) (gives : Becomes (Fills n buffer) before.remaining after.remaining) where
   pub nothing_left : n ≡ 0 → 0 < length buffer → Becomes (TakenAll []) before.remaining after.remaining
-  nothing_left none some = becomes_as (Gives n buffer) (TakenAll []) before.remaining after.remaining (λ old new given.
+  nothing_left none some = becomes_as (Fills n buffer) (TakenAll []) before.remaining after.remaining (λ old new given.
       let all : old ≡ [] = given.end none some in
       let same : old ≡ new = given.front ∙ ap (λ k. take k buffer ++ new) none in
       (all, sym same ∙ all)) gives
 
   pub piece_taken : Becomes (Taken (take n buffer)) before.remaining after.remaining
-  piece_taken = becomes_as (Gives n buffer) (Taken (take n buffer)) before.remaining after.remaining (λ old new given. given.front) gives
+  piece_taken = becomes_as (Fills n buffer) (Taken (take n buffer)) before.remaining after.remaining (λ old new given. given.front) gives
 
   pub many_left : n ≤ length buffer → (rest : List ℕ) → before.remaining ≡ Some rest → n ≤ length rest
   many_left within rest told =
-      let given = becomes_some (Gives n buffer) before.remaining after.remaining rest told gives in
+      let given = becomes_some (Fills n buffer) before.remaining after.remaining rest told gives in
       omega (arith, within, ap length given.2.front, length-append (take n buffer) given.0, length-take n buffer)
 
 -- ---- all of them

@@ -9,7 +9,7 @@ use Rattle.rio_chain.specs.Stops.{Any}
 use Rattle.rio_machine.specs.State.{State}
 use Rattle.rio_session.specs.Behind.{SaysPart}
 use Rattle.rootio.specs.Headline.{IsStopOf, ScriptRun, all_replies}
-use Rattle.rootio.specs.Writing.{Begins}
+use Rattle.rootio.specs.Writing.{BeginsRun}
 
 pub grows_join : (a b c : Option (List ℕ)) → Becomes Grown a b → Becomes Grown b c → Becomes Grown a c
 grows_join a b c one two =
@@ -19,7 +19,7 @@ abbrev some_said : List ℕ → Option (List ℕ)
 some_said l = Some l
 
 -- what was said is what a stop leaves of it
-pub said_front : (old new : View) (file text : List ℕ) (m : State) (r : ScriptRun) → IsLawful old → IsLawful new → Begins old file text m → Elapses old new (IsStopOf r file text)
+pub said_front : (old new : View) (file text : List ℕ) (m : State) (r : ScriptRun) → IsLawful old → IsLawful new → BeginsRun old file text m → Elapses old new (IsStopOf r file text)
     → Becomes Any old.holds new.holds → Becomes Grown old.said new.said → SaysPart new text (all_replies r)
 said_front old new file text m r law law' begins time told said =
     let image = becomes_some Any old.holds new.holds file begins.holds told in

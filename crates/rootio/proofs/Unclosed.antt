@@ -14,7 +14,7 @@ use Rattle.rio_session.specs.declared.fault.SessionFault.TheVariants.{HostFault,
 use Rattle.rio_session.proofs.Opened.{reads_open}
 use Rattle.rootio.specs.Headline.{ScriptRun, all_replies}
 use Rattle.rootio.specs.Script.{StaysOpenBy, status_of_session}
-use Rattle.rootio.specs.Writing.{EndsUnclosed, LeavesOpen}
+use Rattle.rootio.specs.Writing.{EndsUnclosed, LeavesOpen, StandsUnsaid}
 
 pub steps_are_open : (m : State) (next : Stepped) (text image said : List ℕ) → Steps m next text image said → IsMarkedOpen image
 steps_are_open m next text image said (inl was) = was.0.marked
@@ -41,14 +41,15 @@ module _ (v new : View) (s : SessionState) (m : State) (text : List ℕ) (ready 
   close_open law run before (Err SayFault) said only cause = absurd cause
   close_open law run before (Err NoMemory) said only cause = λ image told left. stands_open image told (left_before law (only refl) image told left)
 
-pub stays_open : (run : ScriptRun) (before : List ℕ) (new : View) (e : SessionFault) → LeavesOpen new → StaysOpenBy run before new (Err e)
-stays_open run before new HostFault marked = inl marked
-stays_open run before new SayFault marked = marked
-stays_open run before new NoMemory marked = marked
+pub stays_open : (run : ScriptRun) (before : List ℕ) (new : View) (e : SessionFault) → LeavesOpen new
+    → (◌≡◌ {A = Result (Unit {0}) SessionFault} (Err e) (Err SayFault) → StandsUnsaid run before new) → StaysOpenBy run before new (Err e)
+stays_open run before new HostFault marked unsaid = inl marked
+stays_open run before new SayFault marked unsaid = unsaid refl
+stays_open run before new NoMemory marked unsaid = marked
 
 pub ends_unclosed : (run : ScriptRun) (before : List ℕ) (old new : View) (r : Result (Unit {0}) SessionFault) → StaysOpenBy run before new r
     → EndsUnclosed run before old new (status_of_session r)
 ends_unclosed run before old new (Ok x) stays = tt
 ends_unclosed run before old new (Err HostFault) stays = inr (⊎_elim (λ marked. inl (λ image said left. inr (marked image said left))) (λ said. inr said) stays)
-ends_unclosed run before old new (Err SayFault) marked = inr marked
+ends_unclosed run before old new (Err SayFault) unsaid = unsaid
 ends_unclosed run before old new (Err NoMemory) marked = inr marked

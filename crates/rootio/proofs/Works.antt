@@ -13,7 +13,7 @@ use Rattle.rootio.specs.Causes.{IsCause, NoInputFault}
 use Rattle.rio_step.specs.Costs.{HasFileRoom}
 use Rattle.rio_session.specs.Behind.{SaysPart}
 use Rattle.rio_session.proofs.Spoken.{front_none}
-use Rattle.rootio.specs.Headline.{IsDone, IsStopOf, SaidFindRoom, ScriptRun, all_replies, opening_length}
+use Rattle.rootio.specs.Headline.{IsRunDone, IsStopOf, SaidFindRoom, ScriptRun, all_replies, opening_length}
 use Rattle.rootio.specs.Input.{IsPastInput, ReadsAll, RefusesTooLong, TakenAll, TellsTooLong, status_of_input}
 use Rattle.rootio.specs.Reading.{TellsUnlessCut}
 use Rattle.rootio.specs.Script.{IsFileCause, RunsScript, WorksOn}
@@ -93,7 +93,7 @@ whole_cause target old new before after DiskFault none cause = (cause.0, cause.1
 whole_cause target old new before after InputFault none cause = absurd cause
 whole_cause target old new before after NoMemory none cause = (cause.0, cause.1, none)
 whole_cause target old new before after InputTooLong none cause = absurd cause
-whole_cause target old new before after (ReadOnly place reason) none cause = (refl, (cause.0, cause.1, none))
+whole_cause target old new before after (ReadOnly place reason) none cause = (refl, cause.0, cause.1, (cause.2, cause.3, none))
 whole_cause target old new before after SayFault none cause = (cause.0, cause.1, none)
 
 pub with_input : (target : TargetFile) (old new : View) (before after : Input) (text : Room) (status : Status) → ReadsAll before after (Ok text)
@@ -115,7 +115,7 @@ with_input target old new before after text status read ran =
               subst (λ (l : List ℕ). let r = run_of_work (Run target) l m in HasFileRoom (opening_length file) m r.commands r.marks → SaidFindRoom r said new) (sym all) (ran.room file said m begins);
           done = λ file said input m begins here ended.
               let all : input ≡ text.bytes = (told input here).2.0 in
-              subst (λ (l : List ℕ). IsDone (run_of_work (Run target) l m) file said new) (sym all) (ran.done file said m begins ended);
+              subst (λ (l : List ℕ). IsRunDone (run_of_work (Run target) l m) file said new) (sym all) (ran.done file said m begins ended);
           written = ran.written;
           unclosed = λ file said input m begins here.
               let all : input ≡ text.bytes = (told input here).2.0 in

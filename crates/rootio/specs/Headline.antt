@@ -90,7 +90,7 @@ opening_length file = if is_unborn file then 0 else length file
 
 -- All replies were said, and a stop leaves what reads as the last state, by the walk and by the key list. Where the file's length
 -- and the costs of the commands leave room for them, no reply was want of room.
-pub record IsDone (r : ScriptRun) (file before : List ℕ) (new : View) : Type 0 where
+pub record IsRunDone (r : ScriptRun) (file before : List ℕ) (new : View) : Type 0 where
   pub said : new.said ≡ Some (before ++ all_replies r)
   pub left : (image said : List ℕ) → Leaves new image said → ReadsAsState image (end_state r) × ReadsClosed image (end_state r)
   pub room : HasFileRoom (opening_length file) r.start r.commands r.marks → AllFindRoom r

@@ -35,10 +35,10 @@ writes_of (Some (Reads list)) = false
 writes_of (Some (Writes work)) = true
 
 -- what is done to a file, where the verb is one that writes
-abbrev pub writing_of : Option Form → Option Work
-writing_of None = None
-writing_of (Some (Reads list)) = None
-writing_of (Some (Writes work)) = Some work
+abbrev pub work_of_form : Option Form → Option Work
+work_of_form None = None
+work_of_form (Some (Reads list)) = None
+work_of_form (Some (Writes work)) = Some work
 
 -- the verbs that write and read the input
 abbrev pub takes_script : Work → Bool

@@ -1,6 +1,7 @@
 -- A script on a file: how a run of it ends.
 use Rattle.std.specs.Prelude.{◌≡◌, ◌⊎◌, ℕ, List, ◌++◌, Some, Result, Ok, Err}
 use Rattle.rio_head.specs.Head.{IsHeaderKind}
+use Rattle.rio_head.specs.declared.reason.Reason.TheVariants.{NotYet}
 use Rattle.rio_host.specs.Host.{Becomes, Elapses, Leaves, Rose, View}
 use Rattle.rio_host.specs.Source.{Input}
 use Rattle.rio_chain.specs.Stops.{Any}
@@ -21,10 +22,10 @@ use Rattle.rio_session.specs.declared.fault.SessionFault.{SessionFault}
 use Rattle.rio_session.specs.declared.fault.SessionFault.TheVariants.{HostFault, SayFault as NotSaid, NoMemory as OutOfMemory}
 use Rattle.rootio.specs.Causes.{IsCause}
 use Rattle.rootio.specs.Input.{RefusesTooLong, TellsTooLong}
-use Rattle.rootio.specs.Headline.{AllFindRoom, IsDone, IsStopOf, SaidFindRoom, ScriptRun, all_replies, end_state, opening_length}
+use Rattle.rootio.specs.Headline.{AllFindRoom, IsRunDone, IsStopOf, SaidFindRoom, ScriptRun, all_replies, end_state, opening_length}
 use Rattle.rootio.specs.Reading.{RefusesBroken, TellsFirstFault}
 use Rattle.rootio.specs.Target.{TargetFile}
-use Rattle.rootio.specs.Writing.{Begins, EndsUnclosed, EndsWriting, LeavesOpen, RefusesReadOnly, SparesRefused, TellsFirstReason, run_of_work}
+use Rattle.rootio.specs.Writing.{BeginsRun, EndsUnclosed, EndsWriting, LeavesOpen, RefusesReadOnly, SparesRefused, StandsUnsaid, TellsFirstReason, run_of_work}
 use Rattle.rootio.specs.declared.status.Status.{Status}
 use Rattle.rootio.specs.declared.status.Status.TheVariants.{Done, Usage, BadFile, DiskFault, InputFault, NoMemory, InputTooLong, ReadOnly, SayFault}
 use Rattle.rootio.specs.declared.words.Form.TheVariants.{Writes}
@@ -46,15 +47,16 @@ pub record HasDone (r : ScriptRun) (first s : SessionState) (before : List ℕ) 
 pub record HasClosed (r : ScriptRun) (first : SessionState) (before : List ℕ) (new : View) : Type 0 where
   pub said : new.said ≡ Some (before ++ all_replies r)
   pub left : (image said : List ℕ) → Leaves new image said → ReadsAsState image (end_state r) × ReadsClosed image (end_state r)
-  pub written : (file : List ℕ) → new.holds ≡ Some file → IsWellClosed first.name first.datime file
+  pub written : (image said : List ℕ) → Leaves new image said → IsWellClosed first.name first.datime image
   pub room : first.costs ≡ 0 → HasFileRoom first.opened r.start r.commands r.marks → AllFindRoom r
 
 -- A session that ended without a close, as it does where it finds no memory, can't say a reply or its disk fails, leaves a file
--- marked as open; unless it is the close whose disk fails, behind all replies.
+-- marked as open, and behind a reply that it can't say what the command did; unless it is the close whose disk fails, behind all
+-- replies.
 abbrev pub StaysOpenBy : ScriptRun → List ℕ → View → Result (Unit {0}) SessionFault → Type 0
 StaysOpenBy r before new (Ok x) = Unit {0}
 StaysOpenBy r before new (Err HostFault) = LeavesOpen new ⊎ (new.said ≡ Some (before ++ all_replies r))
-StaysOpenBy r before new (Err NotSaid) = LeavesOpen new
+StaysOpenBy r before new (Err NotSaid) = StandsUnsaid r before new
 StaysOpenBy r before new (Err OutOfMemory) = LeavesOpen new
 
 -- how a run ended that opened the file
@@ -80,22 +82,22 @@ IsFileCause old new DiskFault = Rose old.disk_faults new.disk_faults × NoSayFau
 IsFileCause old new InputFault = ⊥
 IsFileCause old new NoMemory = NoDiskFault old new × NoSayFault old new
 IsFileCause old new InputTooLong = ⊥
-IsFileCause old new (ReadOnly place reason) = NoDiskFault old new × NoSayFault old new
+IsFileCause old new (ReadOnly place reason) = (place ≡ 0) × (reason ≡ NotYet) × NoDiskFault old new × NoSayFault old new
 IsFileCause old new SayFault = NoDiskFault old new × Rose old.say_faults new.say_faults
 
 -- How a run of a script ends: at any stop it leaves a prefix, and at its end all; a refused file is told and spared.
 pub record RunsScript (target : TargetFile) (script : List ℕ) (old new : View) (status : Status) : Type 0 where
-  pub stops : (file text : List ℕ) (m : State) → Begins old file text m
+  pub stops : (file text : List ℕ) (m : State) → BeginsRun old file text m
       → Elapses old new (IsStopOf (run_of_work (Run target) script m) file text)
-  pub said : (file text : List ℕ) (m : State) → Begins old file text m
+  pub said : (file text : List ℕ) (m : State) → BeginsRun old file text m
       → SaysPart new text (all_replies (run_of_work (Run target) script m))
-  pub room : (file text : List ℕ) (m : State) → Begins old file text m
+  pub room : (file text : List ℕ) (m : State) → BeginsRun old file text m
       → let r = run_of_work (Run target) script m in HasFileRoom (opening_length file) m r.commands r.marks → SaidFindRoom r text new
-  pub done : (file text : List ℕ) (m : State) → Begins old file text m
-      → status ≡ Done → IsDone (run_of_work (Run target) script m) file text new
-  pub written : (file text : List ℕ) (m : State) → Begins old file text m
-      → status ≡ Done → (last : List ℕ) → new.holds ≡ Some last → IsWellClosed target.name target.datime last
-  pub unclosed : (file text : List ℕ) (m : State) → Begins old file text m
+  pub done : (file text : List ℕ) (m : State) → BeginsRun old file text m
+      → status ≡ Done → IsRunDone (run_of_work (Run target) script m) file text new
+  pub written : (file text : List ℕ) (m : State) → BeginsRun old file text m
+      → status ≡ Done → (image said : List ℕ) → Leaves new image said → IsWellClosed target.name target.datime image
+  pub unclosed : (file text : List ℕ) (m : State) → BeginsRun old file text m
       → EndsUnclosed (run_of_work (Run target) script m) text old new status
   pub told : Becomes Any old.holds new.holds
   pub faults : TellsFirstFault HeaderAlone old status

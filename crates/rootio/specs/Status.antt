@@ -1,7 +1,7 @@
 -- The ways in which a run ends: exit status and text.
 use Rattle.std.specs.Prelude.{ℕ, List, [], ◌++◌, codes, Result, Ok, Err}
 use Rattle.std.specs.Fmt.{decimal}
-use Rattle.rio_head.specs.FaultName.{name_of}
+use Rattle.rio_head.specs.FaultName.{fault_name}
 use Rattle.rio_head.specs.ReasonName.{name_of_reason}
 use Rattle.rio_num.specs.declared.no_memory.NoMemory.{NoMemory as NoMemoryFault}
 use Rattle.rio_close.specs.declared.fault.ReportFault.{ReportFault}
@@ -23,7 +23,7 @@ status_code SayFault = 8
 abbrev pub status_text : Status → List ℕ
 status_text Done = []
 status_text Usage = codes "rootio: usage: rootio VERB FILE ARG..."
-status_text (BadFile place kind) = codes "rootio: bad file at " ++ decimal place ++ codes ": " ++ name_of kind
+status_text (BadFile place kind) = codes "rootio: bad file at " ++ decimal place ++ codes ": " ++ fault_name kind
 status_text DiskFault = codes "rootio: disk fault"
 status_text InputFault = codes "rootio: input fault"
 status_text NoMemory = codes "rootio: no memory"

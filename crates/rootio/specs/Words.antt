@@ -76,6 +76,6 @@ asked_by verb file args =
     else None
 
 -- VERB FILE ARG..., where neither FILE nor an ARG begins with -
-abbrev pub form_of : List (List ℕ) → Option Form
-form_of (verb ∷ file ∷ args) = if is_file file && list_all is_no_flag args then asked_by verb file args else None
-form_of _ = None
+abbrev pub form_of_words : List (List ℕ) → Option Form
+form_of_words (verb ∷ file ∷ args) = if is_file file && list_all is_no_flag args then asked_by verb file args else None
+form_of_words _ = None

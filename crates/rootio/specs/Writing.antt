@@ -1,5 +1,5 @@
 -- What the verbs that write do: their commands, and what they leave of the file.
-use Rattle.std.specs.Prelude.{◌≡◌, ◌⊎◌, ℕ, List, [], ◌++◌, Bool, true, false, Option, Some, None}
+use Rattle.std.specs.Prelude.{◌≡◌, ◌⊎◌, ℕ, ◌+◌, List, [], ◌++◌, slice_get, Bool, true, false, Option, Some, None}
 use Rattle.rio_head.specs.declared.fault.HeadFault.{HeadFault}
 use Rattle.rio_head.specs.declared.reason.Reason.{Reason}
 use Rattle.rio_head.specs.declared.reason.Reason.TheVariants.{NotYet}
@@ -13,6 +13,8 @@ use Rattle.rio_machine.specs.declared.command.Command.{Command}
 use Rattle.rio_cmd.specs.Built.{built_script}
 use Rattle.rio_state.specs.Left.{IsMarkedOpen}
 use Rattle.rio_step.specs.Costs.{HasFileRoom}
+use Rattle.rio_step.specs.ReplyText.{text_of}
+use Rattle.rio_step.specs.Runs.{saved_of}
 use Rattle.rio_state.specs.Reads.{ReadsAsState}
 use Rattle.rio_state.specs.Reasons.{ReasonAt, reason_at}
 use Rattle.rio_create.specs.Creation.{LeavesUnclosed}
@@ -20,7 +22,7 @@ use Rattle.rio_create.specs.NewFile.{first_segments}
 use Rattle.rio_session.specs.Behind.{SaysPart}
 use Rattle.rio_session.specs.Closes.{IsWellClosed}
 use Rattle.rio_session.specs.Marks.{marks_of_run}
-use Rattle.rootio.specs.Headline.{IsDone, IsStopOf, SaidFindRoom, ScriptRun, all_replies, opening_length}
+use Rattle.rootio.specs.Headline.{IsRunDone, IsStopOf, SaidFindRoom, ScriptRun, all_replies, opening_length, replies, reply_at, states}
 use Rattle.rootio.specs.Input.{IsPastInput}
 use Rattle.rootio.specs.Target.{TargetFile}
 use Rattle.rootio.specs.declared.status.Status.{Status}
@@ -94,8 +96,20 @@ pub record SparesRefused (old new : View) (status : Status) : Type 0 where
 abbrev pub LeavesOpen : View → Type 0
 LeavesOpen v = (image said : List ℕ) → Leaves v image said → IsMarkedOpen image
 
--- A run that finds no memory, or can't say a reply, ends without a close: nothing was written, or the file is marked as open. So
--- does one whose disk fails, where the file may also not be made yet; unless it is the close that fails, behind all replies.
+-- A reply could not be said, but for a front of it, behind those of all commands before. What its command does is done: each file
+-- that a stop leaves now is marked as open and reads as the state behind it.
+pub record StandsUnsaid (r : ScriptRun) (before : List ℕ) (new : View) : Type 0 where
+  pub j : ℕ
+  pub command : Command
+  pub command_is : slice_get r.commands j ≡ Some command
+  pub text : SaysPart new (before ++ replies r j) (text_of (reply_at r j command))
+  pub state : State
+  pub state_is : slice_get (states r) (j + 1) ≡ Some state
+  pub left : (image said : List ℕ) → Leaves new image said → ReadsAsState image (saved_of state) × IsMarkedOpen image
+
+-- A run that can't say a reply ends behind what its command did, without a close. So does one that finds no memory: nothing was
+-- written, or the file is marked as open. Of one whose disk fails the file may also not be made yet; or it is the close that fails,
+-- behind all replies.
 abbrev pub EndsUnclosed : ScriptRun → List ℕ → View → View → Status → Type 0
 EndsUnclosed r before old new Done = Unit {0}
 EndsUnclosed r before old new Usage = Unit {0}
@@ -105,7 +119,7 @@ EndsUnclosed r before old new InputFault = Unit {0}
 EndsUnclosed r before old new NoMemory = OnlyReads old new ⊎ LeavesOpen new
 EndsUnclosed r before old new InputTooLong = Unit {0}
 EndsUnclosed r before old new (ReadOnly place reason) = Unit {0}
-EndsUnclosed r before old new SayFault = OnlyReads old new ⊎ LeavesOpen new
+EndsUnclosed r before old new SayFault = StandsUnsaid r before new
 
 -- ---- the run
 
@@ -131,28 +145,28 @@ IsUntouched old new = OnlyReads old new × (new.reads ≡ old.reads)
 
 -- What is taken for granted at the start: the host is quiet and tells its file and what it said, and the file isn't made yet or
 -- reads as a state.
-pub record Begins (old : View) (file text : List ℕ) (m : State) : Type 0 where
+pub record BeginsRun (old : View) (file text : List ℕ) (m : State) : Type 0 where
   pub quiet : IsQuiet old
   pub holds : old.holds ≡ Some file
   pub said : old.said ≡ Some text
   pub reads : ReadsAsState file m
 
 -- Wherever it is stopped, whatever it answers, it leaves a prefix of the run. What it said is a front of all replies, and where file
--- and commands leave room for them, none of these is want of room. Where it says that it is done it is, and the file was closed under
--- its name and time, without garbage; where it ends early it doesn't close the file. Where not all of the input was read, nothing was
--- written and no call looked at the file, and no answer tells of the file, its disk or its text.
+-- and commands leave room for them, none of these is want of room. Where it says that it is done it is, and each file that a stop
+-- leaves then was closed under its name and time, without garbage; where it ends early it doesn't close the file. Where not all of
+-- the input was read, nothing was written and no call looked at the file, and no answer tells of the file, its disk or its text.
 pub record KeepsHeadline (work : Work) (old new : View) (before after : Input) (status : Status) : Type 0 where
-  pub stops : (file text input : List ℕ) (m : State) → Begins old file text m → before.remaining ≡ Some input
+  pub stops : (file text input : List ℕ) (m : State) → BeginsRun old file text m → before.remaining ≡ Some input
       → Elapses old new (IsStopOf (run_of_work work input m) file text)
-  pub said : (file text input : List ℕ) (m : State) → Begins old file text m → before.remaining ≡ Some input
+  pub said : (file text input : List ℕ) (m : State) → BeginsRun old file text m → before.remaining ≡ Some input
       → SaysPart new text (all_replies (run_of_work work input m))
-  pub room : (file text input : List ℕ) (m : State) → Begins old file text m → before.remaining ≡ Some input
+  pub room : (file text input : List ℕ) (m : State) → BeginsRun old file text m → before.remaining ≡ Some input
       → let r = run_of_work work input m in HasFileRoom (opening_length file) m r.commands r.marks → SaidFindRoom r text new
-  pub done : (file text input : List ℕ) (m : State) → Begins old file text m → before.remaining ≡ Some input
-      → status ≡ Done → IsDone (run_of_work work input m) file text new
-  pub written : (file text : List ℕ) (m : State) → Begins old file text m
-      → status ≡ Done → (last : List ℕ) → new.holds ≡ Some last → IsWellClosed (target_of work).name (target_of work).datime last
-  pub unclosed : (file text input : List ℕ) (m : State) → Begins old file text m → before.remaining ≡ Some input
+  pub done : (file text input : List ℕ) (m : State) → BeginsRun old file text m → before.remaining ≡ Some input
+      → status ≡ Done → IsRunDone (run_of_work work input m) file text new
+  pub written : (file text : List ℕ) (m : State) → BeginsRun old file text m
+      → status ≡ Done → (image said : List ℕ) → Leaves new image said → IsWellClosed (target_of work).name (target_of work).datime image
+  pub unclosed : (file text input : List ℕ) (m : State) → BeginsRun old file text m → before.remaining ≡ Some input
       → EndsUnclosed (run_of_work work input m) text old new status
   pub input : (input : List ℕ) → before.remaining ≡ Some input → IsPastInput status → after.remaining ≡ Some []
   pub order : (input : List ℕ) → before.remaining ≡ Some input → (after.remaining ≡ Some []) ⊎ IsUntouched old new

@@ -1,5 +1,5 @@
 //! A script, from opening the file to closing it.
-ghost use Rattle.std.specs.Prelude.{◌≡◌, ◌≤◌, ◌<◌, ◌^◌, ℕ, List, length, true, false, OnOk, OnErr};
+ghost use Rattle.std.specs.Prelude.{◌≡◌, ◌≤◌, ◌<◌, ◌^◌, ℕ, List, length, true, false, OnOk, OnErr, IsErrOf};
 ghost use Rattle.std.specs.List.{list_all};
 ghost use Rattle.rio_host.specs.Host.{Becomes, Elapses};
 ghost use Rattle.rio_host.specs.OnlyReads.{Grown};
@@ -10,9 +10,10 @@ ghost use Rattle.rio_step.specs.Statable.{is_statable};
 ghost use Rattle.rio_cmd.specs.Laws.{is_built};
 ghost use Rattle.rio_session.specs.Causes.{IsSessionCause};
 ghost use Rattle.rio_session.specs.Session.{IsReady, StandsFor};
+ghost use Rattle.rio_session.specs.declared.fault.SessionFault.{SessionFault as Fault};
 ghost use Rattle.rootio.specs.Headline.{IsStopOf, SaidFindRoom};
 ghost use Rattle.rootio.specs.Script.{HasClosed, HasDone, RunsScript, StaysOpenBy, session_run, status_of_open, status_of_session};
-ghost use Rattle.rootio.specs.Writing.{LeavesOpen};
+ghost use Rattle.rootio.specs.Writing.{LeavesOpen, StandsUnsaid};
 
 use crate::status::Status;
 use crate::target::Target;
@@ -43,6 +44,9 @@ fn do_commands<H: Host>(
         (H.view host.new)) }
     ensures unclosed { OnErr result ((m : State) (text : List ℕ)
         → StandsFor (H.view host.old) session.old m text → LeavesOpen (H.view host.new)) }
+    ensures unsaid { IsErrOf result Fault.SayFault → (m : State) (text : List ℕ)
+        → StandsFor (H.view host.old) session.old m text
+        → StandsUnsaid (session_run session.old m commands.now) text (H.view host.new) }
     ensures ready { OnOk result (IsReady (H.view host.new) session.new) }
     ensures fresh { OnOk result (session.new.failed ≡ false) }
     ensures told { Becomes Any (H.view host.old).holds (H.view host.new).holds }

@@ -5,10 +5,10 @@ ghost use Rattle.rootio.specs.Causes.{IsCause};
 ghost use Rattle.rootio.specs.Complete.{IsComplete};
 ghost use Rattle.rootio.specs.Input.{EndsWithInput, RefusesTooLong, TellsTooLong, status_of_input};
 ghost use Rattle.rootio.specs.Reading.{EndsListing, RefusesBroken, TellsFirstFault};
-ghost use Rattle.rootio.specs.Reading.{reading_of, reads_input, rules_of, writing_of};
+ghost use Rattle.rootio.specs.Reading.{reading_of, reads_input, rules_of, work_of_form};
 ghost use Rattle.rootio.specs.Script.{WorksOn};
 ghost use Rattle.rootio.specs.Status.{status_of};
-ghost use Rattle.rootio.specs.Words.{form_of};
+ghost use Rattle.rootio.specs.Words.{form_of_words};
 ghost use Rattle.rootio.specs.Writing.{EndsWriting, RefusesReadOnly, TellsFirstReason, target_of};
 
 use crate::input::{InputError, read_input};
@@ -36,34 +36,34 @@ use std::alloc::Global;
 ///
 /// The order is words, input, file, then command by command, and the close. Whatever ends a run ends it where it comes.
 pub fn run<H: Host, S: Source>(alloc: Global, words: &Words, host: &mut H, input: &mut S) -> Status
-    ensures usage { (result ≡ Status.Usage) ↔ (form_of words.now ≡ None) }
+    ensures usage { (result ≡ Status.Usage) ↔ (form_of_words words.now ≡ None) }
     ensures usage_alone { result ≡ Status.Usage → host.new ≡ host.old }
-    ensures input { reads_input (form_of words.now) ≡ false → input.new ≡ input.old }
+    ensures input { reads_input (form_of_words words.now) ≡ false → input.new ≡ input.old }
     // An input that is told to be too long is so, and one that is too long is told; then the file isn't looked at.
     ensures too_long { TellsTooLong (S.view input.old) result }
-    ensures limited { RefusesTooLong (form_of words.now) (S.view input.old) result }
+    ensures limited { RefusesTooLong (form_of_words words.now) (S.view input.old) result }
     ensures input_alone { EndsWithInput result → host.new ≡ host.old }
     // A fault that is told is the file's first, and a file with one is told so.
-    ensures bad_file { (form : _) → form_of words.now ≡ Some form
+    ensures bad_file { (form : _) → form_of_words words.now ≡ Some form
         → TellsFirstFault (rules_of form) (H.view host.old) result }
-    ensures refused { (form : _) → form_of words.now ≡ Some form
+    ensures refused { (form : _) → form_of_words words.now ≡ Some form
         → RefusesBroken (rules_of form) (H.view host.old) result }
     // A reason against writing that is told is the file's first, and a file with one is told so.
-    ensures read_only { (form : _) → form_of words.now ≡ Some form
+    ensures read_only { (form : _) → form_of_words words.now ≡ Some form
         → TellsFirstReason form (H.view host.old) result }
-    ensures kept { (form : _) → form_of words.now ≡ Some form
+    ensures kept { (form : _) → form_of_words words.now ≡ Some form
         → RefusesReadOnly form (H.view host.old) result }
     // What a verb answers, says and leaves that reads.
-    ensures lists { (list : _) → reading_of (form_of words.now) ≡ Some list
+    ensures lists { (list : _) → reading_of (form_of_words words.now) ≡ Some list
         → EndsListing list (H.view host.old) (H.view host.new) result }
     // And one that writes: the headline.
-    ensures writes { (work : _) → writing_of (form_of words.now) ≡ Some work
+    ensures writes { (work : _) → work_of_form (form_of_words words.now) ≡ Some work
         → EndsWriting work (H.view host.old) (H.view host.new)
         (S.view input.old) (S.view input.new) result }
-    ensures cause { IsCause (form_of words.now) (H.view host.old) (H.view host.new)
+    ensures cause { IsCause (form_of_words words.now) (H.view host.old) (H.view host.new)
         (S.view input.old) (S.view input.new) result }
     // Where nothing fails all is done, unless memory runs out.
-    ensures complete { (form : _) → form_of words.now ≡ Some form
+    ensures complete { (form : _) → form_of_words words.now ≡ Some form
         → IsComplete form (H.view host.old) (H.view host.new)
         (S.view input.old) (S.view input.new) result }
 {

@@ -3,7 +3,7 @@ ghost use Rattle.std.specs.Prelude.{◌≡◌, ◌==◌, nat_le, position};
 ghost use Rattle.std.specs.Str.{bytes_eq};
 ghost use Rattle.std.specs.List.{list_all};
 ghost use Rattle.rootio.specs.Reading.{writes_of};
-ghost use Rattle.rootio.specs.Words.{asked_by, cycle_item, dump_of, form_of, is_file, is_no_flag, item_of, ls_of, newest_item, run_of, scan_of_words, scan_of_tree, written_at};
+ghost use Rattle.rootio.specs.Words.{asked_by, cycle_item, dump_of, form_of_words, is_file, is_no_flag, item_of, ls_of, newest_item, run_of, scan_of_words, scan_of_tree, written_at};
 
 use crate::item_word::ItemWord;
 use crate::target::Target;
@@ -191,7 +191,7 @@ fn are_plain(words: &[Name]) -> bool
 
 /// The form that the words have: None where they are of no form.
 pub fn form_of_words(words: &Words) -> Option<Form<'_>>
-    ensures { result ≡ form_of words.now }
+    ensures { result ≡ form_of_words words.now }
 {
     match words.as_slice() {
         [verb, file, args @ ..] => {
@@ -207,7 +207,7 @@ pub fn form_of_words(words: &Words) -> Option<Form<'_>>
 
 /// Whether the file may be written: only by a verb that writes.
 pub fn may_write(words: &Words) -> bool
-    ensures { result ≡ writes_of (form_of words.now) }
+    ensures { result ≡ writes_of (form_of_words words.now) }
 {
     match form_of_words(words) {
         Some(Form::Writes(_)) => true,

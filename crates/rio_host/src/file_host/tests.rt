@@ -1,132 +1,231 @@
 //! What a host of a real file asks its system for, and what it answers.
 use super::*;
-use noting::{NotingSystem, There};
+use rio_num::NoMemory;
 use std::alloc::Global;
+use std::cell::Cell;
 use std::fs;
-use std::test::Fail;
+use told::{Call, There, ToldSystem, What};
 
-mod noting;
+mod told;
 
-const PATH: &str = "file_host_test.root";
+// What is done with a host is done in functions that borrow it: a check takes long for each step
+// of a function that holds one.
 
-fn name(alloc: Global, path: &str) -> Result<Name, Fail> {
-    Ok(Name::from_slice(alloc, path.as_bytes())?)
+// The host of a file of this system.
+fn host<'a, R: Files + Print>(
+    alloc: Global,
+    system: &'a R,
+    path: &[u8],
+    writes: bool,
+) -> Result<FileHost<'a, R>, NoMemory> {
+    Ok(FileHost::new(system, Name::from_slice(alloc, path)?, writes))
+}
+
+// How many calls a host makes on its system before it is called itself.
+fn asked_by_a_new_host(alloc: Global) -> Result<usize, NoMemory> {
+    let came = Cell::new(0);
+    let system = ToldSystem::new(There::File, &[], &came);
+    let _host = host(alloc, &system, b"a.root", true)?;
+    Ok(came.get())
+}
+
+// Whether the file has a length, and how many of these calls a host makes to find it.
+fn asked_for_length(
+    alloc: Global,
+    there: There,
+    writes: bool,
+    calls: &'static [Call],
+) -> Result<(bool, usize), NoMemory> {
+    let came = Cell::new(0);
+    let system = ToldSystem::new(there, calls, &came);
+    let length = host(alloc, &system, b"a.root", writes)?.length();
+    Ok((length.is_ok(), came.get()))
 }
 
 #[test]
-fn a_reading_host_makes_nothing(rt: HostRuntime) -> Result<(), Fail> {
-    let system = NotingSystem::new(rt, 1, There::Nothing);
-    let mut host = FileHost::new(&system, name(rt.alloc(), "a.root")?, false);
-    assert_eq!(rt; system.take()?.as_str(), "", "it opens late");
-    assert!(rt; host.length().is_err());
-    assert_eq!(rt; system.take()?.as_str(), "look a.root\n");
-    Ok(())
+fn a_host_opens_late(rt: HostRuntime) {
+    assert!(rt; asked_by_a_new_host(rt.alloc()) == Ok(0));
+}
+
+static LOOKED: [Call; 1] = [(What::Look, 0, b"a.root")];
+
+#[test]
+fn a_reading_host_makes_nothing(rt: HostRuntime) {
+    let asked = asked_for_length(rt.alloc(), There::Nothing, false, &LOOKED);
+    assert!(rt; asked == Ok((false, 1)));
 }
 
 #[test]
-fn a_reading_host_opens_to_read(rt: HostRuntime) -> Result<(), Fail> {
-    let system = NotingSystem::new(rt, 2, There::File);
-    let mut host = FileHost::new(&system, name(rt.alloc(), "a.root")?, false);
-    assert!(rt; host.length() == Ok(8));
-    assert!(rt; host.read(5, &mut [0; 3]).is_ok());
-    assert!(rt; host.sync().is_ok());
-    assert_eq!(rt;
-        system.take()?.as_str(),
-        "look a.root\nopen a.root: read\nend\nplace 5\nread 3\nsync file\n"
-    );
-    assert_eq!(rt; host.disk_faults, 0);
-    assert_eq!(rt; host.reads, 2);
-    Ok(())
+fn a_pipe_is_not_opened(rt: HostRuntime) {
+    let asked = asked_for_length(rt.alloc(), There::Pipe, true, &LOOKED);
+    assert!(rt; asked == Ok((false, 1)));
 }
 
-// What a host that writes asks for when its file's length is wanted.
-fn asked_for_length(rt: HostRuntime, number: u32, there: There) -> Result<String, Fail> {
-    let system = NotingSystem::new(rt, number, there);
-    let mut host = FileHost::new(&system, name(rt.alloc(), "a.root")?, true);
-    let _length = host.length()?;
-    Ok(system.take()?)
+static MADE: [Call; 3] = [
+    (What::Look, 0, b"a.root"),
+    (What::Make, 0, b"a.root"),
+    (What::End, 0, b""),
+];
+
+static OPENED: [Call; 3] = [
+    (What::Look, 0, b"a.root"),
+    (What::OpenToWrite, 0, b"a.root"),
+    (What::End, 0, b""),
+];
+
+#[test]
+fn a_writing_host_makes_a_file_only_where_none_is(rt: HostRuntime) {
+    let asked = asked_for_length(rt.alloc(), There::Nothing, true, &MADE);
+    assert!(rt; asked == Ok((true, 3)));
+    let asked = asked_for_length(rt.alloc(), There::File, true, &OPENED);
+    assert!(rt; asked == Ok((true, 3)));
+}
+
+static READ: [Call; 6] = [
+    (What::Look, 0, b"a.root"),
+    (What::OpenToRead, 0, b"a.root"),
+    (What::End, 0, b""),
+    (What::Place, 5, b""),
+    (What::Read, 3, b""),
+    (What::SyncFile, 0, b""),
+];
+
+fn does_read<R: Files + Print>(host: &mut FileHost<'_, R>) -> bool {
+    host.length() == Ok(8)
+        && host.read(5, &mut [0; 3]).is_ok()
+        && host.sync().is_ok()
+        && host.disk_faults == 0
+        && host.reads == 2
+}
+
+fn asked_by_reading(alloc: Global) -> Result<(bool, usize), NoMemory> {
+    let came = Cell::new(0);
+    let system = ToldSystem::new(There::File, &READ, &came);
+    let mut host = host(alloc, &system, b"a.root", false)?;
+    Ok((does_read(&mut host), came.get()))
 }
 
 #[test]
-fn a_writing_host_makes_a_file_only_where_none_is(rt: HostRuntime) -> Result<(), Fail> {
-    assert_eq!(rt;
-        asked_for_length(rt, 3, There::Nothing)?.as_str(),
-        "look a.root\nopen a.root: read and write, create\nend\n"
-    );
-    assert_eq!(rt;
-        asked_for_length(rt, 4, There::File)?.as_str(),
-        "look a.root\nopen a.root: read and write\nend\n"
-    );
-    Ok(())
+fn a_reading_host_opens_to_read(rt: HostRuntime) {
+    assert!(rt; asked_by_reading(rt.alloc()) == Ok((true, 6)));
+}
+
+static WRITTEN: [Call; 11] = [
+    (What::Look, 0, b"a.root"),
+    (What::OpenToWrite, 0, b"a.root"),
+    (What::Place, 7, b""),
+    (What::Write, 0, b"\x01\x02"),
+    (What::Place, 4, b""),
+    (What::Write, 0, b"\x01\x02\x03\x04"),
+    (What::SyncFile, 0, b""),
+    (What::OpenToRead, 0, b"."),
+    (What::SyncFolder, 0, b""),
+    (What::Say, 0, b"\x05"),
+    (What::SyncFile, 0, b""),
+];
+
+fn does_write<R: Files + Print>(host: &mut FileHost<'_, R>) -> bool {
+    host.write(7, &[1, 2]).is_ok()
+        && host.write_word(4, 0x0102_0304).is_ok()
+        && host.sync().is_ok()
+        && host.say(&[5]).is_ok()
+        && host.sync().is_ok()
+        && host.disk_faults == 0
+}
+
+fn asked_by_writing(alloc: Global) -> Result<(bool, usize), NoMemory> {
+    let came = Cell::new(0);
+    let system = ToldSystem::new(There::File, &WRITTEN, &came);
+    let mut host = host(alloc, &system, b"a.root", true)?;
+    Ok((does_write(&mut host), came.get()))
 }
 
 #[test]
-fn writes_go_to_their_places_and_syncs_to_the_disk(rt: HostRuntime) -> Result<(), Fail> {
-    let system = NotingSystem::new(rt, 5, There::File);
-    let mut host = FileHost::new(&system, name(rt.alloc(), "a.root")?, true);
-    host.write(7, &[1, 2])?;
-    host.write_word(4, 0x0102_0304)?;
-    host.sync()?;
-    host.say(&[5])?;
-    host.sync()?;
-    assert_eq!(rt;
-        system.take()?.as_str(),
-        "look a.root\nopen a.root: read and write\nplace 7\nwrite [1, 2]\n\
-        place 4\nwrite [1, 2, 3, 4]\nsync file\nopen .: read\nsync folder\n\
-        say [5]\nsync file\n"
-    );
-    assert_eq!(rt; host.disk_faults, 0);
-    Ok(())
+fn writes_go_to_their_places_and_syncs_to_the_disk(rt: HostRuntime) {
+    assert!(rt; asked_by_writing(rt.alloc()) == Ok((true, 11)));
+}
+
+static SYNCED_BELOW: [Call; 5] = [
+    (What::Look, 0, b"run/day 1/a.root"),
+    (What::OpenToWrite, 0, b"run/day 1/a.root"),
+    (What::SyncFile, 0, b""),
+    (What::OpenToRead, 0, b"run/day 1"),
+    (What::SyncFolder, 0, b""),
+];
+
+static SYNCED_AT_ROOT: [Call; 5] = [
+    (What::Look, 0, b"/a.root"),
+    (What::OpenToWrite, 0, b"/a.root"),
+    (What::SyncFile, 0, b""),
+    (What::OpenToRead, 0, b"/"),
+    (What::SyncFolder, 0, b""),
+];
+
+// Whether the first sync of a host of this path succeeds, and how many of these calls it makes.
+fn asked_for_sync(
+    alloc: Global,
+    path: &[u8],
+    calls: &'static [Call],
+) -> Result<(bool, usize), NoMemory> {
+    let came = Cell::new(0);
+    let system = ToldSystem::new(There::File, calls, &came);
+    let answer = host(alloc, &system, path, true)?.sync();
+    Ok((answer.is_ok(), came.get()))
 }
 
 #[test]
-fn the_first_sync_finds_the_folder_of_the_path(rt: HostRuntime) -> Result<(), Fail> {
-    let system = NotingSystem::new(rt, 6, There::File);
-    FileHost::new(&system, name(rt.alloc(), "run/day 1/a.root")?, true).sync()?;
-    assert_eq!(rt;
-        system.take()?.as_str(),
-        "look run/day 1/a.root\nopen run/day 1/a.root: read and write\nsync file\n\
-        open run/day 1: read\nsync folder\n"
-    );
-    FileHost::new(&system, name(rt.alloc(), "/a.root")?, true).sync()?;
-    assert_eq!(rt;
-        system.take()?.as_str(),
-        "look /a.root\nopen /a.root: read and write\nsync file\nopen /: read\nsync folder\n"
-    );
-    Ok(())
+fn the_first_sync_finds_the_folder_of_the_path(rt: HostRuntime) {
+    let asked = asked_for_sync(rt.alloc(), b"run/day 1/a.root", &SYNCED_BELOW);
+    assert!(rt; asked == Ok((true, 5)));
+    let asked = asked_for_sync(rt.alloc(), b"/a.root", &SYNCED_AT_ROOT);
+    assert!(rt; asked == Ok((true, 5)));
+}
+
+static GIVEN_UP: [Call; 6] = [
+    (What::Look, 0, b"a.root"),
+    (What::OpenToWrite, 0, b"a.root"),
+    (What::Place, 0, b""),
+    (What::Write, 0, b"\x01"),
+    (What::SyncFile, 0, b""),
+    (What::Say, 0, b"\x05"),
+];
+
+fn fails_to_sync<R: Files + Print>(host: &mut FileHost<'_, R>) -> bool {
+    host.write(0, &[1]).is_ok() && host.sync().is_err()
+}
+
+// Whether each call on the file fails.
+fn is_given_up<R: Files + Print>(host: &mut FileHost<'_, R>) -> bool {
+    host.sync().is_err()
+        && host.length().is_err()
+        && host.read(0, &mut [0]).is_err()
+        && host.write(0, &[1]).is_err()
+        && host.write_word(0, 1).is_err()
+        && host.disk_faults == 6
+}
+
+fn does_say<R: Files + Print>(host: &mut FileHost<'_, R>, bytes: &[u8]) -> bool {
+    host.say(bytes).is_ok() && host.say_faults == 0
+}
+
+// Whether a host gives its file up, and how many calls it makes before and in all.
+fn asked_after_a_failed_sync(alloc: Global) -> Result<(bool, usize, usize), NoMemory> {
+    let came = Cell::new(0);
+    let system = ToldSystem::with_failing_syncs(&GIVEN_UP, &came);
+    let mut host = host(alloc, &system, b"a.root", true)?;
+    let fails = fails_to_sync(&mut host);
+    let before = came.get();
+    let is_given_up = is_given_up(&mut host) && does_say(&mut host, &[5]);
+    Ok((fails && is_given_up, before, came.get()))
 }
 
 #[test]
-fn after_a_sync_that_failed_the_file_is_given_up(rt: HostRuntime) -> Result<(), Fail> {
-    let system = NotingSystem::with_failing_syncs(rt, 7);
-    let mut host = FileHost::new(&system, name(rt.alloc(), "a.root")?, true);
-    host.write(0, &[1])?;
-    assert!(rt; host.sync().is_err());
-    let _ = system.take()?;
-
-    assert!(rt; host.sync().is_err());
-    assert!(rt; host.length().is_err());
-    assert!(rt; host.read(0, &mut [0]).is_err());
-    assert!(rt; host.write(0, &[1]).is_err());
-    assert!(rt; host.write_word(0, 1).is_err());
-    assert_eq!(rt; host.disk_faults, 6);
-    host.say(&[5])?;
-    assert_eq!(rt; system.take()?.as_str(), "say [5]\n");
-    assert_eq!(rt; host.say_faults, 0);
-    Ok(())
-}
-
-#[test]
-fn a_pipe_is_not_opened(rt: HostRuntime) -> Result<(), Fail> {
-    let system = NotingSystem::new(rt, 8, There::Pipe);
-    let mut host = FileHost::new(&system, name(rt.alloc(), "a.root")?, true);
-    assert!(rt; host.length().is_err());
-    assert_eq!(rt; system.take()?.as_str(), "look a.root\n");
-    Ok(())
+fn after_a_sync_that_failed_the_file_is_given_up(rt: HostRuntime) {
+    assert!(rt; asked_after_a_failed_sync(rt.alloc()) == Ok((true, 5, 6)));
 }
 
 // Makes the file and writes it.
-fn write_file(host: &mut FileHost<'_, HostRuntime>) -> Result<(), Failed> {
+fn write_file<R: Files + Print>(host: &mut FileHost<'_, R>) -> Result<(), Failed> {
     host.write(0, b"root....")?;
     host.write_word(4, 0x0102_0304)?;
     host.sync()?;
@@ -134,43 +233,58 @@ fn write_file(host: &mut FileHost<'_, HostRuntime>) -> Result<(), Failed> {
     host.sync()
 }
 
-#[test]
-fn reads_what_it_wrote(rt: HostRuntime) -> Result<(), Fail> {
-    let _ = fs::remove_file(&rt, PATH);
-    let mut host = FileHost::new(&rt, name(rt.alloc(), PATH)?, true);
-    assert!(rt; host.length() == Ok(0));
-    assert!(rt; write_file(&mut host).is_ok());
-    assert!(rt; host.length() == Ok(9));
+fn has_length<R: Files + Print>(host: &mut FileHost<'_, R>, length: u64) -> bool {
+    host.length() == Ok(length)
+}
+
+// A read past the end fails.
+fn is_read_back<R: Files + Print>(host: &mut FileHost<'_, R>) -> bool {
     let mut into = [0; 6];
-    assert!(rt; host.read(2, &mut into).is_ok());
-    assert_eq!(rt; into.as_slice(), [b'o', b't', 1, 2, 3, 4].as_slice());
-    assert!(rt;
-        host.read(4, &mut into).is_err(),
-        "a read past the end fails"
-    );
-    assert!(rt; host.say(b"said\n").is_ok());
-    fs::remove_file(&rt, PATH)?;
-    Ok(())
+    host.read(2, &mut into).is_ok()
+        && into.as_slice() == b"ot\x01\x02\x03\x04".as_slice()
+        && host.read(4, &mut into).is_err()
+}
+
+fn writes_and_reads<R: Files + Print>(host: &mut FileHost<'_, R>) -> bool {
+    has_length(host, 0)
+        && write_file(host).is_ok()
+        && has_length(host, 9)
+        && is_read_back(host)
+        && does_say(host, b"said\n")
 }
 
 #[test]
-fn a_reading_host_finds_a_file_and_leaves_it(rt: HostRuntime) -> Result<(), Fail> {
+fn reads_what_it_wrote(rt: HostRuntime) {
+    let path = "file_host_test.root";
+    let _ = fs::remove_file(&rt, path);
+    let mut host = host(rt.alloc(), &rt, path.as_bytes(), true).expect(&rt, "memory");
+    assert!(rt; writes_and_reads(&mut host));
+    assert!(rt; fs::remove_file(&rt, path).is_ok());
+}
+
+// Whether a host finds the file that is made behind its back, and leaves it.
+fn finds_and_leaves<R: Files + Print>(rt: &R, path: &str, host: &mut FileHost<'_, R>) -> bool {
+    host.length().is_err()
+        && fs::write(rt, path, b"root....!").is_ok()
+        && has_length(host, 9)
+        && host.write(0, b"x").is_err()
+}
+
+#[test]
+fn a_reading_host_finds_a_file_and_leaves_it(rt: HostRuntime) {
     let path = "file_host_read.root";
     let _ = fs::remove_file(&rt, path);
-    let mut reader = FileHost::new(&rt, name(rt.alloc(), path)?, false);
-    assert!(rt; reader.length().is_err(), "no file is made");
-    fs::write(&rt, path, b"root....!")?;
-    assert!(rt; reader.length() == Ok(9));
-    assert!(rt; reader.write(0, b"x").is_err(), "it does not write");
-    fs::remove_file(&rt, path)?;
-    Ok(())
+    let mut reader = host(rt.alloc(), &rt, path.as_bytes(), false).expect(&rt, "memory");
+    assert!(rt; finds_and_leaves(&rt, path, &mut reader));
+    assert!(rt; fs::remove_file(&rt, path).is_ok());
+}
+
+fn counts_a_fault<R: Files + Print>(host: &mut FileHost<'_, R>) -> bool {
+    host.length().is_err() && host.disk_faults == 1
 }
 
 #[test]
-fn fails_on_a_path_that_is_no_text(rt: HostRuntime) -> Result<(), Fail> {
-    let path = Name::from_slice(rt.alloc(), &[255])?;
-    let mut host = FileHost::new(&rt, path, true);
-    assert!(rt; host.length().is_err());
-    assert_eq!(rt; host.disk_faults, 1);
-    Ok(())
+fn fails_on_a_path_that_is_no_text(rt: HostRuntime) {
+    let mut host = host(rt.alloc(), &rt, &[255], true).expect(&rt, "memory");
+    assert!(rt; counts_a_fault(&mut host));
 }

@@ -9,7 +9,7 @@ enum Element {
     Base(&'static str, u32, u32),
     /// The same of a number: its name, code and type.
     Basic(&'static str, u32, &'static str),
-    /// So many numbers as `fMaxBaskets` of this class, TBranch 113 or TBasketList 2, says.
+    /// So many numbers as `fMaxBaskets` of this class and version says.
     Counted(&'static str, u32, &'static str, &'static str, u32),
     Text(&'static str),
     Array(&'static str),

@@ -2,7 +2,7 @@
 use super::classes::ClassList;
 use super::forest::Forest;
 use super::header::{Basket, Branch, BranchLayout, Leaf, LeafLayout, Tree, TreeLayout};
-use super::parts::{FILE, FIVE, FLOAT, GOOD, INT, NO_LETTER, SHORT, TEXT, TREE};
+use super::parts::{FILE, FIVE, FLOAT, GOOD, INTEGER, NO_LETTER, SHORT, TEXT, TREE};
 use super::scan::Row;
 
 // A tree of nine entries in baskets of three, two and four, and of four and five.
@@ -65,7 +65,7 @@ pub(super) const BASKETS: Tree = Tree {
 };
 
 pub(super) static ENTRIES: [Row; 9] = [
-    // Their leaves count one another, and no leaf of another branch.
+    // A leaf of a branch of objects may count one of its own branch, and none of another.
     Row {
         name: "branches of objects",
         forest: Forest {
@@ -90,7 +90,10 @@ pub(super) static ENTRIES: [Row; 9] = [
                     Branch {
                         name: "c",
                         leaves: &[
-                            Leaf { name: "r", ..INT },
+                            Leaf {
+                                name: "r",
+                                ..INTEGER
+                            },
                             Leaf {
                                 name: "v",
                                 counter: Some(1),
@@ -123,7 +126,7 @@ pub(super) static ENTRIES: [Row; 9] = [
                         leaves: &[Leaf {
                             class: "TLeafElement",
                             name: "x",
-                            ..INT
+                            ..INTEGER
                         }],
                         baskets: &[Basket {
                             entries: 1,
@@ -190,13 +193,13 @@ pub(super) static ENTRIES: [Row; 9] = [
                         Leaf {
                             class: "TLeafB",
                             name: "a",
-                            ..INT
+                            ..INTEGER
                         },
                         Leaf {
                             class: "TLeafB",
                             name: "b",
                             unsigned: true,
-                            ..INT
+                            ..INTEGER
                         },
                         Leaf { name: "c", ..SHORT },
                         Leaf {
@@ -204,22 +207,25 @@ pub(super) static ENTRIES: [Row; 9] = [
                             unsigned: true,
                             ..SHORT
                         },
-                        Leaf { name: "e", ..INT },
+                        Leaf {
+                            name: "e",
+                            ..INTEGER
+                        },
                         Leaf {
                             name: "f",
                             unsigned: true,
-                            ..INT
+                            ..INTEGER
                         },
                         Leaf {
                             class: "TLeafL",
                             name: "g",
-                            ..INT
+                            ..INTEGER
                         },
                         Leaf {
                             class: "TLeafL",
                             name: "h",
                             unsigned: true,
-                            ..INT
+                            ..INTEGER
                         },
                         Leaf {
                             unsigned: true,
@@ -228,12 +234,12 @@ pub(super) static ENTRIES: [Row; 9] = [
                         Leaf {
                             class: "TLeafD",
                             name: "j",
-                            ..INT
+                            ..INTEGER
                         },
                         Leaf {
                             class: "TLeafO",
                             name: "k",
-                            ..INT
+                            ..INTEGER
                         },
                         Leaf { name: "l", ..TEXT },
                     ],
@@ -266,7 +272,10 @@ pub(super) static ENTRIES: [Row; 9] = [
                 branches: &[
                     Branch {
                         name: "n",
-                        leaves: &[Leaf { name: "n", ..INT }],
+                        leaves: &[Leaf {
+                            name: "n",
+                            ..INTEGER
+                        }],
                         baskets: &[Basket {
                             entries: 2,
                             size: 4,
@@ -354,7 +363,7 @@ pub(super) static ENTRIES: [Row; 9] = [
                             name: "z",
                             length: 0,
                             counter: Some(0),
-                            ..INT
+                            ..INTEGER
                         }],
                         baskets: &[Basket {
                             entries: 2,
@@ -470,7 +479,7 @@ pub(super) static ENTRIES: [Row; 9] = [
                         leaves: &[Leaf {
                             name: "n",
                             layout: LeafLayout::Theirs,
-                            ..INT
+                            ..INTEGER
                         }],
                         baskets: &[Basket {
                             entries: 2,

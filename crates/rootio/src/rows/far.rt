@@ -13,7 +13,7 @@ use std::alloc::Global;
 pub(super) struct FarHost {
     file: File,
     said: Bytes,
-    /// Behind so many calls that look at the file, a word of the records is another one.
+    /// After so many calls that look at the file the word at this place of the records is overwritten by this one.
     change: (u64, usize, u32),
     disk_faults: u64,
     say_faults: u64,

@@ -31,7 +31,7 @@ pub(super) struct Basket {
     pub(super) fewer: u32,
 }
 
-/// A branch of a tree, or none where it has no class.
+/// A branch of a tree, or a null pointer where it has no class.
 #[derive(Clone, Copy)]
 pub(super) struct Branch {
     pub(super) name: &'static str,
@@ -41,7 +41,7 @@ pub(super) struct Branch {
     pub(super) objects: &'static str,
     pub(super) leaves: &'static [Leaf],
     pub(super) entries: u64,
-    /// Whether it has a branch, which is none, and a basket in the header.
+    /// Whether fBranches and fBaskets have an object in them.
     pub(super) parent: bool,
     pub(super) embedded: bool,
     pub(super) baskets: &'static [Basket],
@@ -438,7 +438,7 @@ fn put_firsts(pen: &mut Pen, baskets: &[Basket], entries: u64) -> Result<(), NoM
     pen.put(&[Field::Long(entries)])
 }
 
-/// Which of both.
+/// An array with a TObject in it; else one with null, or an empty one where `most` is 0.
 fn put_one_or(pen: &mut Pen, is_one: bool, most: usize) -> Result<(), NoMemory> {
     if is_one {
         return put_one(pen);

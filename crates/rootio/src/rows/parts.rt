@@ -4,7 +4,7 @@ use super::forest::{Forest, Form};
 use super::header::{Basket, Branch, BranchLayout, Leaf, LeafLayout, Tree, TreeLayout};
 
 // A leaf of one integer of four bytes.
-pub(super) const INT: Leaf = Leaf {
+pub(super) const INTEGER: Leaf = Leaf {
     name: "i",
     class: "TLeafI",
     layout: LeafLayout::Own,
@@ -16,23 +16,23 @@ pub(super) const INT: Leaf = Leaf {
 // A leaf of the class.
 pub(super) const SHORT: Leaf = Leaf {
     class: "TLeafS",
-    ..INT
+    ..INTEGER
 };
 
 pub(super) const FLOAT: Leaf = Leaf {
     class: "TLeafF",
-    ..INT
+    ..INTEGER
 };
 
 pub(super) const TEXT: Leaf = Leaf {
     class: "TLeafC",
-    ..INT
+    ..INTEGER
 };
 
 // A leaf of a class that has no letter.
 pub(super) const NO_LETTER: Leaf = Leaf {
     class: "TLeafElement",
-    ..INT
+    ..INTEGER
 };
 
 // A basket with the one entry 5.
@@ -52,7 +52,7 @@ pub(super) const GOOD: Branch = Branch {
     class: "TBranch",
     layout: BranchLayout::Own,
     objects: "",
-    leaves: &[INT],
+    leaves: &[INTEGER],
     entries: 1,
     parent: false,
     embedded: false,
@@ -78,11 +78,11 @@ pub(super) const FILE: Forest = Forest {
     classes: ClassList::Own,
 };
 
-// A leaf that is counted by the first leaf of the tree, and the same of a class that has no letter.
-pub(super) const UNCOUNTED: Leaf = Leaf {
+// A leaf that is counted by the first leaf of the tree.
+pub(super) const COUNTED: Leaf = Leaf {
     class: "TLeafF",
     counter: Some(0),
-    ..INT
+    ..INTEGER
 };
 
 // Baskets with an entry that is too long, with two entries in place of none, and compressed behind the others.
@@ -111,7 +111,7 @@ pub(super) const WORST: Branch = Branch {
     leaves: &[Leaf {
         class: "TLeafElement",
         counter: Some(0),
-        ..INT
+        ..INTEGER
     }],
     entries: 2,
     embedded: true,

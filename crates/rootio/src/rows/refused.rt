@@ -2,7 +2,7 @@
 use super::forest::Forest;
 use super::header::{Basket, Branch, BranchLayout, Leaf, LeafLayout, Tree};
 use super::parts::{
-    FILE, FIVE, FLOAT, GOOD, INT, LONG, NO_LETTER, PACKED, SHORT, TEXT, TREE, UNCOUNTED, WORST,
+    COUNTED, FILE, FIVE, FLOAT, GOOD, INTEGER, LONG, NO_LETTER, PACKED, SHORT, TEXT, TREE, WORST,
     WRONG,
 };
 use super::scan::Row;
@@ -69,7 +69,7 @@ pub(super) static REFUSED_BY_HEADER: [Row; 2] = [
                         name: "h",
                         leaves: &[Leaf {
                             layout: LeafLayout::Bare,
-                            ..INT
+                            ..INTEGER
                         }],
                         ..GOOD
                     },
@@ -211,7 +211,7 @@ pub(super) static REFUSED_BY_FILE: [Row; 1] = [Row {
                     name: "i",
                     leaves: &[Leaf {
                         class: "TLeafL",
-                        ..INT
+                        ..INTEGER
                     }],
                     ..GOOD
                 },
@@ -294,32 +294,38 @@ pub(super) static REFUSED_IN_ORDER: [Row; 1] = [
                     Branch {
                         name: "g",
                         embedded: false,
-                        leaves: &[UNCOUNTED],
+                        leaves: &[COUNTED],
                         ..WORST
                     },
                     Branch {
                         name: "h",
                         embedded: false,
-                        leaves: &[INT],
+                        leaves: &[INTEGER],
                         ..WORST
                     },
                     Branch {
                         name: "i",
                         embedded: false,
-                        leaves: &[INT],
+                        leaves: &[INTEGER],
                         entries: 1,
                         ..WORST
                     },
                     Branch {
                         name: "j",
-                        leaves: &[INT],
+                        leaves: &[INTEGER],
                         baskets: &[LONG, Basket { first: 1, ..WRONG }, PACKED],
                         ..GOOD
                     },
                     Branch {
                         name: "k",
-                        leaves: &[INT],
+                        leaves: &[INTEGER],
                         baskets: &[LONG, Basket { first: 1, ..WRONG }],
+                        ..GOOD
+                    },
+                    Branch {
+                        name: "l",
+                        leaves: &[INTEGER],
+                        baskets: &[LONG],
                         ..GOOD
                     },
                 ],
@@ -336,6 +342,7 @@ pub(super) static REFUSED_IN_ORDER: [Row; 1] = [
             branch i refused BadBasketList\n\
             branch j refused Compressed\n\
             branch k refused BadBasket\n\
+            branch l refused BadEntry\n\
             ok scan T 1\n0 [5]\n",
     },
 ];
@@ -356,12 +363,12 @@ pub(super) static REFUSED_COUNTERS: [Row; 3] = [
                             Leaf {
                                 name: "u",
                                 unsigned: true,
-                                ..INT
+                                ..INTEGER
                             },
                             Leaf {
                                 name: "m",
                                 length: 2,
-                                ..INT
+                                ..INTEGER
                             },
                         ],
                         baskets: &[Basket {
@@ -402,7 +409,10 @@ pub(super) static REFUSED_COUNTERS: [Row; 3] = [
                     },
                     Branch {
                         name: "f",
-                        leaves: &[Leaf { name: "k", ..INT }],
+                        leaves: &[Leaf {
+                            name: "k",
+                            ..INTEGER
+                        }],
                         embedded: true,
                         ..GOOD
                     },
@@ -417,7 +427,7 @@ pub(super) static REFUSED_COUNTERS: [Row; 3] = [
                     },
                     Branch {
                         name: "h",
-                        leaves: &[INT],
+                        leaves: &[INTEGER],
                         baskets: &[Basket {
                             entries: 1,
                             size: 4,
@@ -471,7 +481,10 @@ pub(super) static REFUSED_COUNTERS: [Row; 3] = [
                     Branch {
                         name: "m",
                         leaves: &[
-                            Leaf { name: "p", ..INT },
+                            Leaf {
+                                name: "p",
+                                ..INTEGER
+                            },
                             Leaf {
                                 name: "q",
                                 counter: Some(13),
@@ -508,7 +521,10 @@ pub(super) static REFUSED_COUNTERS: [Row; 3] = [
             trees: &[Tree {
                 branches: &[
                     Branch {
-                        leaves: &[Leaf { name: "n", ..INT }],
+                        leaves: &[Leaf {
+                            name: "n",
+                            ..INTEGER
+                        }],
                         baskets: &[Basket { used: 100, ..FIVE }],
                         ..GOOD
                     },
@@ -520,7 +536,10 @@ pub(super) static REFUSED_COUNTERS: [Row; 3] = [
                                 counter: Some(0),
                                 ..FLOAT
                             },
-                            Leaf { name: "m", ..INT },
+                            Leaf {
+                                name: "m",
+                                ..INTEGER
+                            },
                         ],
                         ..GOOD
                     },
@@ -594,7 +613,7 @@ pub(super) static REFUSED_COUNTERS: [Row; 3] = [
                     },
                     Branch {
                         name: "b",
-                        leaves: &[UNCOUNTED],
+                        leaves: &[COUNTED],
                         baskets: &[Basket {
                             size: 1,
                             data: b"\0\0\0\x02\0\0\0\x39\0\0\0\x39",

@@ -381,8 +381,8 @@ fn stops(rt: HostRuntime) -> Result<(), Fail> {
     Ok(())
 }
 
-// The same tree in a large file, far behind its front. The number is that of the call behind which a word of the records is
-// another one, with the word's place.
+// The same tree in a large file, far behind its front. After so many calls that look at the file the word at this place of the
+// records is overwritten by this one.
 fn far(alloc: Global, change: (u64, usize, u32)) -> Result<(Status, FarHost), NoMemory> {
     let mut host = FarHost::new(alloc, FAR_ENTRIES.file(alloc)?, change);
     let mut input = SureSource::new(Bytes::new(alloc));

@@ -2,13 +2,13 @@ use Rattle.std.proofs.Common.{◌≡◌, ℕ, List, map, ◌∷◌, [], ◌++◌
 use Rattle.std.specs.List.{range_with_len}
 use Rattle.std.proofs.lemmas.List.FromFn.{map-range_with_len_more}
 use Rattle.rio_num.specs.Room.{Room}
-use Rattle.rio_basket.specs.Entries.{entry_of}
+use Rattle.rio_basket.specs.Entries.{laid_entry}
 use Rattle.rio_basket.proofs.entries.read_basket.Goals as goal
 
 pub loop-k-preserved : goal.loop-k-preserved
 loop-k-preserved c =
     let k = c.loop-k.k in
-    let f = entry_of c.args.offsets c.in_ok-layout.layout c.args.bytes.now in
+    let f = laid_entry c.args.offsets c.in_ok-layout.layout c.args.bytes.now in
     let one : c.in_ok-from_slice.field-0.bytes ≡ f k = ap (λ (r : Room). r.bytes) c.in_ok-from_slice.ensures ∙ c.entry_of-entry.ensures.same in
     c.in_ok-push.ensures.ok
     ∙ ap (λ (l : List (List ℕ)). l ++ c.in_ok-from_slice.field-0.bytes ∷ []) c.loop-k.invariant

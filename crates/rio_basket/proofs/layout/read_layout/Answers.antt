@@ -1,12 +1,12 @@
 use Rattle.std.proofs.Common.{◌≡◌, ℕ, List, Bool, length, Result, Ok, Err, IfOk, sym, ap, ◌∙◌}
 use Rattle.rio_basket.specs.declared.fault.BasketFault.{BasketFault}
 use Rattle.rio_basket.specs.declared.layout.Layout.{Layout}
-use Rattle.rio_basket.specs.Laid.{IsWithin}
+use Rattle.rio_basket.specs.Laid.{IsLayoutWithin}
 use Rattle.rio_basket.specs.Stored.{layout_by, layout_in}
 use Rattle.rio_basket.proofs.LaidLaws.{layout_within}
 use Rattle.rio_basket.proofs.layout.read_layout.Goals as goal
 
-within : (offsets : Bool) (bytes : List ℕ) (r : Result Layout BasketFault) → layout_in offsets bytes ≡ r → IfOk r (λ layout. IsWithin layout bytes)
+within : (offsets : Bool) (bytes : List ℕ) (r : Result Layout BasketFault) → layout_in offsets bytes ≡ r → IfOk r (λ layout. IsLayoutWithin layout bytes)
 within offsets bytes (Ok layout) e = layout_within offsets bytes layout e
 within offsets bytes (Err fault) e = tt
 

@@ -1,6 +1,7 @@
 use Rattle.std.proofs.lemmas.Result.{err_from_is_err_and}
 use Rattle.rio_token.proofs.ListLaws.{more_closes, more_goes_on, more_is_cut, more_wants_comma, more_wants_item}
-use Rattle.rio_model.specs.ClassGrammar.{member, member_at}
+use Rattle.rio_format.specs.Bodies.{member}
+use Rattle.rio_model.specs.ClassGrammar.{member_at}
 use Rattle.rio_decl.proofs.read.read_more_members.Goals as goal
 
 pub returns-then-take_mark : goal.returns-then-take_mark

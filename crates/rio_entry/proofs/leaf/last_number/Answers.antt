@@ -1,4 +1,4 @@
-use Rattle.std.proofs.Common.{◌≡◌, ◌+◌, ℤ, Option, Some, Bool, cond, [], drop, rules, ◌∙◌, sym, ap, arith}
+use Rattle.std.proofs.Common.{◌+◌, ℤ, Option, Some, cond, [], drop, rules, ◌∙◌, sym, ap, arith}
 use Rattle.std.specs.Int.{w128}
 use Rattle.std.proofs.lemmas.Int.{to_z-of_z}
 use Rattle.std.specs.Str.{bytes_eq}

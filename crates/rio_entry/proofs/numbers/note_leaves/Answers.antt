@@ -1,10 +1,10 @@
-use Rattle.std.proofs.Common.{◌≡◌, ◌≤◌, ◌∙◌, ℤ, Bool, cond, List, length, Option, Some, sym, ap, arith, rules, ℕ}
+use Rattle.std.proofs.Common.{◌≤◌, ◌∙◌, ℤ, cond, List, length, Option, Some, sym, ap, arith, rules, ℕ}
 use Rattle.std.specs.Int.{w128}
 use Rattle.std.specs.Map.{lookup}
 use Rattle.std.specs.Str.{bytes_eq}
 use Rattle.std.proofs.lemmas.Bool.{ltb-false, ltb-true}
 use Rattle.std.proofs.lemmas.Int.{to_z-of_z}
-use Rattle.rio_format.specs.Bodies.{Counters, number_in}
+use Rattle.rio_format.specs.Bodies.{number_in}
 use Rattle.rio_format.specs.Counts.{number_in_map}
 use Rattle.rio_value.specs.declared.value.Value.{out-Value}
 use Rattle.rio_entry.specs.Leaves.{numbers_with}

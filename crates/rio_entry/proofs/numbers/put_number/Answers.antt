@@ -1,4 +1,4 @@
-use Rattle.std.proofs.Common.{◌≡◌, to_z, of_z, arith, ℤ, Bool, cond, Option, Some, ap, ◌∙◌, nat_cmp}
+use Rattle.std.proofs.Common.{◌≡◌, to_z, of_z, ℤ, Bool, cond, Option, Some, ap, ◌∙◌, nat_cmp}
 use Rattle.std.specs.Int.{w128}
 use Rattle.std.specs.Map.{lookup}
 use Rattle.std.specs.Ordering.{is_eq}

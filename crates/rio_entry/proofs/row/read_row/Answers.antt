@@ -1,5 +1,4 @@
-use Rattle.std.proofs.Common.{◌≡◌, ◌++◌, ◌∙◌, ℕ, ◌+◌, List, drop, map, subst, sym, ap, arith}
-use Rattle.rio_format.specs.Bodies.{Counters}
+use Rattle.std.proofs.Common.{◌≡◌, ◌++◌, ◌∙◌, ◌+◌, List, map, subst, sym, ap, arith}
 use Rattle.rio_format.specs.Counts.{SaysAsFirst}
 use Rattle.rio_value.specs.declared.value.Value.{Value}
 use Rattle.rio_entry.specs.Rows.{numbers_behind, row_in}

@@ -1,48 +1,40 @@
 use Rattle.std.proofs.Common.{refl}
 use Rattle.std.specs.Prelude.{pos}
+use Rattle.byteorder.specs.Endian.{big_bytes}
 use Rattle.rio_format.specs.Written.{both, just}
 use Rattle.rio_format.specs.Lists.{listed}
-use Rattle.rio_write.proofs.WriteLaws.{room_first, room_then}
+use Rattle.rio_write.proofs.SinkLaws.{behind_room, both_accepted, front_room, header_body_room, header_closes, headed_accepted}
 use Rattle.rio_info.specs.WrittenParts.{class_front, elements_writer}
-use Rattle.rio_info.proofs.WritingLaws.{body_room, object_counted, object_innermost, object_written, then_is}
 use Rattle.rio_info.proofs.write_class.write_info_object.Goals as goal
 
 pub write_info_head-requires : goal.write_info_head-requires
-write_info_head-requires c =
+write_info_head-requires g c =
+    let names = c.args.names.now in
     let front = just (class_front c.args.class.now) in
     let elements = elements_writer (listed c.args.classes.now) c.args.class.now in
-    let body = both front elements in
-    let room = body_room (pos 9) 9 body _ _ _ refl c.in_ok-begun.ensures c.requires in
-    room_first front elements _ room
+    let room = header_body_room g.S.Sink.stands g.S.Sink.bounded (pos 9) (both front elements) (big_bytes 2 9) refl _ (c.take_header.new.self, names) _ (c.in_ok-begun.ensures names) c.requires in
+    (names, front_room g.S.Sink.stands g.S.Sink.bounded front elements (c.take_header.new.self, names) room)
 
 pub write_array_pointer-requires : goal.write_array_pointer-requires
-write_array_pointer-requires c =
+write_array_pointer-requires g c =
+    let names = c.args.names.now in
     let front = just (class_front c.args.class.now) in
     let elements = elements_writer (listed c.args.classes.now) c.args.class.now in
-    let body = both front elements in
-    let room = body_room (pos 9) 9 body _ _ _ refl c.in_ok-begun.ensures c.requires in
-    room_then front elements _ _ c.in_ok-write_info_head.ensures room
+    let room = header_body_room g.S.Sink.stands g.S.Sink.bounded (pos 9) (both front elements) (big_bytes 2 9) refl _ _ _ (c.in_ok-begun.ensures names) c.requires in
+    behind_room g.S.Sink.stands g.S.Sink.bounded front elements _ (c.write_info_head.new.sink, names) (c.in_ok-write_info_head.ensures names) room
 
-pub end-requires-clause-innermost : goal.end-requires-clause-innermost
-end-requires-clause-innermost c =
+pub close-requires : goal.close-requires
+close-requires g c =
+    let names = c.args.names.now in
     let front = just (class_front c.args.class.now) in
     let elements = elements_writer (listed c.args.classes.now) c.args.class.now in
-    let body = both front elements in
-    let written = then_is front elements _ _ _ c.in_ok-write_info_head.ensures c.in_ok-write_array_pointer.ensures in
-    object_innermost (pos 9) 9 body _ _ _ refl c.in_ok-begun.ensures _ written
-
-pub end-requires-clause-size : goal.end-requires-clause-size
-end-requires-clause-size c =
-    let front = just (class_front c.args.class.now) in
-    let elements = elements_writer (listed c.args.classes.now) c.args.class.now in
-    let body = both front elements in
-    let written = then_is front elements _ _ _ c.in_ok-write_info_head.ensures c.in_ok-write_array_pointer.ensures in
-    object_counted (pos 9) 9 body _ _ _ refl c.in_ok-begun.ensures _ written c.requires
+    let taken = both_accepted g.S.Sink.stands front elements _ _ _ (c.in_ok-write_info_head.ensures names) c.in_ok-write_array_pointer.ensures in
+    (c.write_array_pointer.new.names, header_closes g.S.Sink.stands g.S.Sink.bounded (pos 9) (both front elements) (big_bytes 2 9) refl _ _ _ (c.in_ok-begun.ensures names) _ taken c.requires)
 
 pub returns : goal.returns
-returns c =
+returns g c =
+    let names = c.args.names.now in
     let front = just (class_front c.args.class.now) in
     let elements = elements_writer (listed c.args.classes.now) c.args.class.now in
-    let body = both front elements in
-    let written = then_is front elements _ _ _ c.in_ok-write_info_head.ensures c.in_ok-write_array_pointer.ensures in
-    object_written (pos 9) 9 body _ _ _ refl c.in_ok-begun.ensures _ written _ c.end.ensures
+    let taken = both_accepted g.S.Sink.stands front elements _ _ _ (c.in_ok-write_info_head.ensures names) c.in_ok-write_array_pointer.ensures in
+    headed_accepted g.S.Sink.stands g.S.Sink.bounded (pos 9) (both front elements) (big_bytes 2 9) refl _ _ _ (c.in_ok-begun.ensures names) _ taken _ (c.close.ensures c.write_array_pointer.new.names)

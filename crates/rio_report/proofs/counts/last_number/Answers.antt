@@ -1,4 +1,4 @@
-use Rattle.std.proofs.Common.{◌≡◌, ℤ, Option, drop, ◌+◌, sym, ap, ◌∙◌, arith}
+use Rattle.std.proofs.Common.{ℤ, Option, drop, ◌+◌, sym, ap, ◌∙◌, arith}
 use Rattle.rio_entry.specs.Leaves.{last_number}
 use Rattle.rio_report.proofs.Numbers.{last_more}
 use Rattle.rio_report.proofs.counts.last_number.Goals as goal

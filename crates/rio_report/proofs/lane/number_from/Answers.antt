@@ -1,4 +1,4 @@
-use Rattle.std.proofs.Common.{rules, ◌≡◌, ◌+◌, ◌<◌, ℕ, length, sym, ap, subst, ◌∙◌, arith}
+use Rattle.std.proofs.Common.{rules, ◌+◌, ◌<◌, ℕ, length, sym, ap, subst, ◌∙◌, arith}
 use Rattle.rio_report.proofs.Walks.{number_low, number_of, number_past}
 use Rattle.rio_report.proofs.lane.number_from.Goals as goal
 

@@ -3,7 +3,7 @@ use Rattle.std.proofs.lemmas.Result.{err_from_is_err_and}
 use Rattle.rio_host.proofs.ReadsLaws.{reads_then_says, said_all}
 use Rattle.rio_dir.specs.declared.closed.Closed.{Closed}
 use Rattle.rio_dir.specs.Closed.{closed_file}
-use Rattle.rio_dir.specs.Listing.{key_lines, listed_file, said_of}
+use Rattle.rio_dir.specs.Listing.{key_lines, listed_file, said_listing}
 use Rattle.rio_close.specs.Causes.{IsTested}
 use Rattle.rio_report.proofs.Dumps.{read_refuses}
 use Rattle.rio_report.proofs.Lines.{listed_bad, listed_ok, listed_said, listed_text}
@@ -27,12 +27,12 @@ returns-clause-refused g c file told = listed_ok file c.in_ok-closed.closed (c.i
 
 pub returns-in-Ok-clause-calls : goal.returns-in-Ok-clause-calls
 returns-in-Ok-clause-calls g c =
-    reads_then_says (λ file. said_of (listed_file file)) c.as_slice-2.result.now (g.met.H.Host.lawful c.open_closed.new.host) c.open_closed.ensures.calls
+    reads_then_says (λ file. said_listing (listed_file file)) c.as_slice-2.result.now (g.met.H.Host.lawful c.open_closed.new.host) c.open_closed.ensures.calls
     (λ file told. c.as_slice-2.ensures ∙ c.in_ok-text.ensures ∙ ap key_lines c.as_slice.ensures ∙ listed_text file c.in_ok-closed.closed (c.in_ok-closed.ensures.exact file told))
     (said_all c.as_slice-2.result.now _ _ c.in-Ok.ensures.said) c.say.ensures.time c.say.ensures.holds (omega (arith, c.say.ensures.reads)) (omega (arith, c.say.ensures.disk_faults)) c.say.ensures.say_faults
 
 pub returns-clause-calls : goal.returns-clause-calls
 returns-clause-calls g c =
-    reads_then_says (λ file. said_of (listed_file file)) c.as_slice-2.result.now (g.met.H.Host.lawful c.open_closed.new.host) c.open_closed.ensures.calls
+    reads_then_says (λ file. said_listing (listed_file file)) c.as_slice-2.result.now (g.met.H.Host.lawful c.open_closed.new.host) c.open_closed.ensures.calls
     (λ file told. c.as_slice-2.ensures ∙ c.in_ok-text.ensures ∙ ap key_lines c.as_slice.ensures ∙ listed_text file c.in_ok-closed.closed (c.in_ok-closed.ensures.exact file told))
     c.in-Err.ensures.failed c.say.ensures.time c.say.ensures.holds (omega (arith, c.say.ensures.reads)) (omega (arith, c.say.ensures.disk_faults)) c.say.ensures.say_faults

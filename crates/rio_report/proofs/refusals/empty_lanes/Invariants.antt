@@ -1,4 +1,4 @@
-use Rattle.std.proofs.Common.{◌≡◌, length, replicate}
+use Rattle.std.proofs.Common.{◌≡◌, replicate}
 use Rattle.rio_report.specs.Lanes.{empty_handed}
 use Rattle.rio_report.proofs.refusals.empty_lanes.Given as goal
 

@@ -1,4 +1,4 @@
-use Rattle.std.proofs.Common.{ℕ, List, get_or, take, sym, ap, ◌∙◌}
+use Rattle.std.proofs.Common.{List, get_or, take, sym, ap, ◌∙◌}
 use Rattle.std.proofs.lemmas.Option.{get_or_from_slice_get}
 use Rattle.rio_tree.specs.declared.basket_at.BasketAt.{BasketAt}
 use Rattle.rio_tree.specs.declared.head.Branch.{Branch}

@@ -1,4 +1,4 @@
-use Rattle.std.proofs.Common.{rules, ◌≡◌, ◌++◌, ℕ, List, ◌+◌, length, take, drop, is_none, Option, refl, sym, ap, subst, ◌∙◌, arith}
+use Rattle.std.proofs.Common.{ℕ, List, ◌+◌, length, drop, is_none, Option, refl, sym, ap, subst, ◌∙◌, arith}
 use Rattle.std.specs.List.{list_any}
 use Rattle.rio_host.proofs.ReadsLaws.{reads_join, reads_none}
 use Rattle.rio_tree.specs.declared.refusal.BranchRefusal.{BranchRefusal}

@@ -1,4 +1,4 @@
-use Rattle.std.proofs.Common.{◌≡◌, ℕ, List, [], Some, drop, length, take}
+use Rattle.std.proofs.Common.{◌≡◌, ℕ, List, Some, drop, length, take}
 use Rattle.rio_host.specs.OnlyReads.{OnlyReads}
 use Rattle.rio_close.specs.Causes.{NoDiskFault}
 use Rattle.rio_scan.specs.Sweeps.{sweep, sweep_behind}

@@ -1,7 +1,7 @@
-use Rattle.std.proofs.Common.{List, ℕ, Err, sym, ap, ◌∙◌}
+use Rattle.std.proofs.Common.{List, Err, sym, ap, ◌∙◌}
 use Rattle.rio_key.specs.declared.head.KeyHead.{KeyHead}
 use Rattle.rio_host.proofs.PiecesLaws.{says_as}
-use Rattle.rio_scan.specs.Scan.{found_tree, key_scan, no_tree_line, scan_lines, scan_text}
+use Rattle.rio_scan.specs.Scan.{found_tree, key_scan, scan_lines, scan_text}
 use Rattle.rio_report.proofs.scan.say_described_tree.Goals as goal
 
 pub returns-in-Ok-clause-says : goal.returns-in-Ok-clause-says

@@ -1,4 +1,4 @@
-use Rattle.std.proofs.Common.{◌++◌, true≢false, ℕ, List, Option, sym, ap, ◌∙◌}
+use Rattle.std.proofs.Common.{◌++◌, true≢false, List, Option, sym, ap, ◌∙◌}
 use Rattle.rio_num.specs.Room.{Room}
 use Rattle.rio_tree.specs.declared.refusal.BranchRefusal.{BranchRefusal}
 use Rattle.rio_value.specs.declared.value.Value.{Value}

@@ -4,13 +4,13 @@ use Rattle.std.specs.Ordering.{is_eq}
 use Rattle.std.specs.Cmp.Lexicographic.{slice_cmp}
 use Rattle.std.specs.Str.{bytes_eq}
 use Rattle.std.proofs.lemmas.Map.Text.{is_eq-slice_cmp}
-use Rattle.rio_types.specs.Index.{name_at}
+use Rattle.rio_types.specs.Index.{name_place}
 use Rattle.rio_types.proofs.MapLaws.{bytes-insert}
 use Rattle.rio_types.proofs.index.put_name.Goals as goal
 
 pub returns-clause-ok : goal.returns-clause-ok
 returns-clause-ok c = λ q.
-    let old : Option ℕ = name_at c.args.names.now q in
+    let old : Option ℕ = name_place c.args.names.now q in
     let key = c.in_ok-from_slice.field-0 in
     ap (lookup (λ k. is_eq (slice_cmp nat_cmp q k.items))) c.in_ok-insert.ensures.entries
     ∙ bytes-insert (λ k. k.items) c.args.names.now.entries key c.args.place q

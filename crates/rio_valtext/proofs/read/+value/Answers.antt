@@ -1,29 +1,29 @@
 use Rattle.std.proofs.lemmas.Result.{err_from_is_err_and}
 use Rattle.rio_token.proofs.ListLaws.{more_closes, more_goes_on, more_is_cut, more_wants_comma, more_wants_item}
-use Rattle.rio_model.specs.ValueGrammar.{enclosed_at, part_at, value_at}
+use Rattle.rio_model.specs.ValueGrammar.{enclosed_at, part_at, value_in_text}
 use Rattle.rio_valtext.proofs.read.+value.Goals as goal
 
 pub read_more_items-returns-then-take_mark : goal.read_more_items-returns-then-take_mark
 read_more_items-returns-then-take_mark t c =
-    more_closes 93 (λ before. value_at (enclosed_at c.args.levels)) c.left-done-end.result c.loop-done._done c.loop-done.items c.loop-done.tokens _ c.take_mark.result c.take_mark.new.self c.take_mark.ensures.value c.take_mark.ensures.state c.loop-done-test.true c.if-take_mark.true c.loop-done.invariant
+    more_closes 93 (λ before. value_in_text (enclosed_at c.args.levels)) c.left-done-end.result c.loop-done._done c.loop-done.items c.loop-done.tokens _ c.take_mark.result c.take_mark.new.self c.take_mark.ensures.value c.take_mark.ensures.state c.loop-done-test.true c.if-take_mark.true c.loop-done.invariant
 
 pub read_more_items-returns-in_err-expect_mark : goal.read_more_items-returns-in_err-expect_mark
 read_more_items-returns-in_err-expect_mark t c =
     let p = err_from_is_err_and c.from_residual.result c.from_residual.ensures.1 in
-    rw (p.1, p.2) (λ ne. more_wants_comma 93 (λ before. value_at (enclosed_at c.args.levels)) c.left-done-end.result c.loop-done._done c.loop-done.items c.loop-done.tokens _ c.take_mark.result c.take_mark.new.self c.take_mark.ensures.value c.take_mark.ensures.state c.in_err-expect_mark.field-0.0 c.loop-done-test.true c.if-take_mark.false c.in_err-expect_mark.ensures.0 c.loop-done.invariant)
+    rw (p.1, p.2) (λ ne. more_wants_comma 93 (λ before. value_in_text (enclosed_at c.args.levels)) c.left-done-end.result c.loop-done._done c.loop-done.items c.loop-done.tokens _ c.take_mark.result c.take_mark.new.self c.take_mark.ensures.value c.take_mark.ensures.state c.in_err-expect_mark.field-0.0 c.loop-done-test.true c.if-take_mark.false c.in_err-expect_mark.ensures.0 c.loop-done.invariant)
 
 pub read_more_items-returns-in_err-read_next : goal.read_more_items-returns-in_err-read_next
 read_more_items-returns-in_err-read_next t c =
     let p = err_from_is_err_and c.from_residual-in_err-read_next.result c.from_residual-in_err-read_next.ensures.1 in
-    rw (p.1, p.2) (λ ne. more_wants_item 93 (λ before. value_at (enclosed_at c.args.levels)) c.left-done-end.result c.loop-done._done c.loop-done.items c.loop-done.tokens _ c.take_mark.result c.take_mark.new.self c.take_mark.ensures.value c.take_mark.ensures.state c.expect_mark.new.self c.loop-done-test.true c.if-take_mark.false c.in_ok-expect_mark.ensures c.in_err-read_next.field-0.0 (c.in_err-read_next.ensures ne) c.loop-done.invariant)
+    rw (p.1, p.2) (λ ne. more_wants_item 93 (λ before. value_in_text (enclosed_at c.args.levels)) c.left-done-end.result c.loop-done._done c.loop-done.items c.loop-done.tokens _ c.take_mark.result c.take_mark.new.self c.take_mark.ensures.value c.take_mark.ensures.state c.expect_mark.new.self c.loop-done-test.true c.if-take_mark.false c.in_ok-expect_mark.ensures c.in_err-read_next.field-0.0 (c.in_err-read_next.ensures ne) c.loop-done.invariant)
 
 pub read_more_items-loop-done-preserved : goal.read_more_items-loop-done-preserved
 read_more_items-loop-done-preserved t c =
-    rw c.in_ok-push.ensures.ok (more_goes_on 93 (λ before. value_at (enclosed_at c.args.levels)) c.left-done-end.result c.loop-done._done c.loop-done.items c.loop-done.tokens _ c.take_mark.result c.take_mark.new.self c.take_mark.ensures.value c.take_mark.ensures.state c.expect_mark.new.self c.loop-done-test.true c.if-take_mark.false c.in_ok-expect_mark.ensures c.in_ok-read_next.field-0 c.read_next.new.tokens c.in_ok-read_next.ensures c.loop-done.invariant)
+    rw c.in_ok-push.ensures.ok (more_goes_on 93 (λ before. value_in_text (enclosed_at c.args.levels)) c.left-done-end.result c.loop-done._done c.loop-done.items c.loop-done.tokens _ c.take_mark.result c.take_mark.new.self c.take_mark.ensures.value c.take_mark.ensures.state c.expect_mark.new.self c.loop-done-test.true c.if-take_mark.false c.in_ok-expect_mark.ensures c.in_ok-read_next.field-0 c.read_next.new.tokens c.in_ok-read_next.ensures c.loop-done.invariant)
 
 pub read_more_items-returns : goal.read_more_items-returns
 read_more_items-returns t c =
-    λ ne. rw c.bad.ensures (more_is_cut 93 (λ before. value_at (enclosed_at c.args.levels)) c.left-done-end.result c.loop-done._done c.loop-done.items c.loop-done.tokens _ c.loop-done-test.false c.loop-done.invariant)
+    λ ne. rw c.bad.ensures (more_is_cut 93 (λ before. value_in_text (enclosed_at c.args.levels)) c.left-done-end.result c.loop-done._done c.loop-done.items c.loop-done.tokens _ c.loop-done-test.false c.loop-done.invariant)
 
 pub read_more_parts-returns-then-take_mark : goal.read_more_parts-returns-then-take_mark
 read_more_parts-returns-then-take_mark t c =

@@ -1,6 +1,6 @@
 use Rattle.std.proofs.Common.{◌≡◌, ◌*◌, ◌+◌, ◌-◌, length}
 use Rattle.rio_token.specs.Reading.{more_at}
-use Rattle.rio_model.specs.ValueGrammar.{enclosed_at, part_at, value_at}
+use Rattle.rio_model.specs.ValueGrammar.{enclosed_at, part_at, value_in_text}
 use Rattle.rio_valtext.proofs.read.+value.Given as goal
 
 abbrev pub decreases-read_list : goal.decreases-read_list
@@ -47,7 +47,7 @@ decreases-read_parts l = 9 * l.levels + 8
 
 abbrev pub invariant-read_more_items-loop-done : goal.invariant-read_more_items-loop-done
 invariant-read_more_items-loop-done l =
-    more_at (l._done-end - l._done) 93 (λ before. value_at (enclosed_at l.levels)) l.items l.tokens ≡ more_at (length l.fn.tokens.rest) 93 (λ before. value_at (enclosed_at l.levels)) l.fn.items l.fn.tokens
+    more_at (l._done-end - l._done) 93 (λ before. value_in_text (enclosed_at l.levels)) l.items l.tokens ≡ more_at (length l.fn.tokens.rest) 93 (λ before. value_in_text (enclosed_at l.levels)) l.fn.items l.fn.tokens
 
 abbrev pub invariant-read_more_parts-loop-done : goal.invariant-read_more_parts-loop-done
 invariant-read_more_parts-loop-done l =

@@ -1,14 +1,14 @@
-use Rattle.std.proofs.Common.{◌++◌, ◌∙◌, List, ℕ, subst}
+use Rattle.std.proofs.Common.{◌++◌, ◌∙◌, List, ℕ, Some, ap, subst, sym}
 use Rattle.std.proofs.lemmas.Result.{IfOk-from_err, err_from_is_err_and}
 use Rattle.rio_host.proofs.Moments.{elapses_join}
 use Rattle.rio_step.specs.Runs.{state_after}
-use Rattle.rio_session.specs.Closes.{IsWellClosed}
+use Rattle.rio_session.specs.Closes.{ClosesFile, IsWellClosed}
 use Rattle.rio_session.specs.Session.{ClosesAs}
 use Rattle.rio_session.proofs.CloseStates.{holds_closed_file}
 use Rattle.rio_session.proofs.Spoken.{grows_none}
 use Rattle.rootio.specs.Headline.{all_replies}
 use Rattle.rootio.specs.Script.{session_run}
-use Rattle.rootio.proofs.Doing.{cause_of_close, on_ok_both}
+use Rattle.rootio.proofs.Doing.{cause_of_close, on_ok_all}
 use Rattle.rootio.proofs.RunStops.{stop_closing}
 use Rattle.rootio.proofs.SaidFronts.{grows_join}
 use Rattle.rootio.proofs.Unclosed.{close_open, stays_open}
@@ -22,7 +22,8 @@ returns-in_err-do_commands g c =
       stops = c.in_err-do_commands.ensures.stops;
       done = IfOk-from_err c.from_residual.result _ c.from_residual.ensures.0;
       unclosed = λ m text stands.
-          rw (p.1, p.2) (stays_open (session_run c.args.session m c.args.commands.now) text (g.H.Host.view c.do_commands.new.host) c.in_err-do_commands.field-0.0 (c.in_err-do_commands.ensures.unclosed m text stands));
+          rw (p.1, p.2) (stays_open (session_run c.args.session m c.args.commands.now) text (g.H.Host.view c.do_commands.new.host) c.in_err-do_commands.field-0.0 (c.in_err-do_commands.ensures.unclosed m text stands)
+          (λ e. c.in_err-do_commands.ensures.unsaid e m text stands));
       told = c.in_err-do_commands.ensures.told;
       said = c.in_err-do_commands.ensures.said;
       room = c.in_err-do_commands.ensures.room;
@@ -41,18 +42,20 @@ returns g c =
           (c.close.ensures.any_moment end said (all.done m text stands).stands)
           (λ image told closes. stop_closing r file text image told closes);
       room = λ m text stands none room said told k command there long. (all.done m text stands).room none room k command there;
-      done = on_ok_both c.close.result (λ closed written m text stands.
+      done = on_ok_all c.close.result (λ closed written quiet m text stands.
           let r = session_run c.args.session m c.args.commands.now in
           let end = state_after m c.args.commands.now r.marks in
           let done = all.done m text stands in
           record {
             said = c.close.ensures.said ∙ done.stands.said;
             left = λ image told leaves. closed end (text ++ all_replies r) done.stands image told leaves;
-            written = λ file holds.
-                let last = holds_closed_file (g.H.Host.view c.do_commands.new.host) (g.H.Host.view c.close.new.host) c.do_commands.new.session file (written end (text ++ all_replies r) done.stands) holds in
-                subst (λ (x : List ℕ × ℕ). IsWellClosed x.0 x.1 file) (λ i. (done.name i, done.datime i)) last;
+            written = λ image told leaves.
+                let closes : ClosesFile (g.H.Host.view c.do_commands.new.host) (g.H.Host.view c.close.new.host) c.do_commands.new.session = written end (text ++ all_replies r) done.stands in
+                let same = quiet image told closes.written.file leaves closes.written.holds in
+                let last = holds_closed_file (g.H.Host.view c.do_commands.new.host) (g.H.Host.view c.close.new.host) c.do_commands.new.session image closes (closes.written.holds ∙ ap Some (sym same)) in
+                subst (λ (x : List ℕ × ℕ). IsWellClosed x.0 x.1 image) (λ i. (done.name i, done.datime i)) last;
             room = done.room;
-          }) c.close.ensures.closed c.close.ensures.written;
+          }) c.close.ensures.closed c.close.ensures.written c.close.ensures.quiet;
       unclosed = λ m text stands.
           let r = session_run c.args.session m c.args.commands.now in
           close_open (g.H.Host.view c.do_commands.new.host) (g.H.Host.view c.close.new.host) c.do_commands.new.session (state_after m c.args.commands.now r.marks)

@@ -1,7 +1,7 @@
 use Rattle.std.proofs.lemmas.Result.{IfOk-from_err, err_from_is_err_and}
 use Rattle.rio_machine.specs.declared.command.Outcome.{Outcome}
 use Rattle.rootio.proofs.Built.{built_at, statable_at}
-use Rattle.rootio.proofs.Doing.{all_done, cause_behind, does_next, leaves_open, nothing_yet, room_there, stops_there}
+use Rattle.rootio.proofs.Doing.{all_done, cause_behind, does_next, leaves_open, nothing_yet, room_there, stops_there, unsaid_there}
 use Rattle.rootio.proofs.SaidFronts.{grows_join}
 use Rattle.rootio.proofs.Untouched.{any_join}
 use Rattle.rootio.proofs.script.do_commands.Goals as goal
@@ -35,6 +35,10 @@ returns-in_err-apply g c =
           leaves_open (g.H.Host.view c.args.host.now) (g.H.Host.view c.loop-command.host) (g.H.Host.view c.apply.new.host) c.args.session.now c.loop-command.session
           c.args.commands.now c.loop-command.command-index c.command-item.result c.loop-command.invariant (g.met.H.Host.lawful c.apply.new.host)
           c.in_err-apply.ensures.any_moment m text stands);
+      unsaid = rw (p.1, p.2) (
+          unsaid_there (g.H.Host.view c.args.host.now) (g.H.Host.view c.loop-command.host) (g.H.Host.view c.apply.new.host) c.args.session.now c.loop-command.session c.apply.new.self
+          c.args.commands.now c.loop-command.command-index c.command-item.result c.loop-command-test.true c.command-item.is c.loop-command.invariant c.in_err-apply.field-0.0
+          c.in_err-apply.ensures.unsaid c.in_err-apply.ensures.part);
       room = λ m text stands none room.
           room_there (g.H.Host.view c.args.host.now) (g.H.Host.view c.loop-command.host) (g.H.Host.view c.apply.new.host) c.args.session.now c.loop-command.session c.apply.new.self
           c.args.commands.now c.loop-command.command-index c.command-item.result c.loop-command-test.true c.command-item.is c.loop-command.invariant c.in_err-apply.field-0.0
@@ -61,6 +65,7 @@ returns g c =
           (all_done (g.H.Host.view c.args.host.now) (g.H.Host.view c.loop-command.host) c.args.session.now c.loop-command.session c.args.commands.now c.loop-command.command-index
           c.loop-command-test.false doing m text stands).room none room k command there;
       unclosed = tt;
+      unsaid = λ e. absurd cc;
       ready = doing.ready;
       fresh = doing.fresh;
       told = doing.told;

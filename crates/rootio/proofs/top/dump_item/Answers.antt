@@ -1,7 +1,7 @@
 use Rattle.std.proofs.Common.{Err, Some, refl}
 use Rattle.rio_host.proofs.PiecesLaws.{reads_part}
 use Rattle.rio_host.proofs.ReadsLaws.{reads_none}
-use Rattle.rio_dir.specs.Listing.{said_of}
+use Rattle.rio_dir.specs.Listing.{said_listing}
 use Rattle.rio_meaning.specs.Dump.{dumped_file}
 use Rattle.rio_close.specs.declared.fault.ReportFault.TheVariants.{NoMemory}
 use Rattle.rootio.proofs.top.dump_item.Goals as goal
@@ -14,7 +14,7 @@ returns-in-Err g c = (
   record {
     done = tt;
     refused = λ file told. tt;
-    calls = reads_part (λ file. said_of (dumped_file (Some c.args.word.now) file)) (reads_none (g.H.Host.view c.args.host.now));
+    calls = reads_part (λ file. said_listing (dumped_file (Some c.args.word.now) file)) (reads_none (g.H.Host.view c.args.host.now));
     silent = λ silent. absurd silent;
     cause = (refl, refl);
   },

@@ -1,6 +1,6 @@
 use Rattle.std.proofs.Common.{◌≡◌, Some}
 use Rattle.rootio.specs.declared.words.Form.TheVariants.{Reads, Writes}
-use Rattle.rootio.specs.Words.{form_of}
+use Rattle.rootio.specs.Words.{form_of_words}
 use Rattle.rootio.proofs.Completes.{completes, formed}
 use Rattle.rootio.proofs.Endings.{ends_complete, ends_refused, ends_tells}
 use Rattle.rootio.proofs.Named.{writes_named}
@@ -56,5 +56,5 @@ returns-in-Some-Writes-clause-complete g c form is =
 
 pub write_file-requires : goal.write_file-requires
 write_file-requires g c =
-    let is : form_of c.args.words.now ≡ Some (Writes c.in-Some-Writes.work) = cc in
+    let is : form_of_words c.args.words.now ≡ Some (Writes c.in-Some-Writes.work) = cc in
     writes_named c.args.words.now c.in-Some-Writes.work is

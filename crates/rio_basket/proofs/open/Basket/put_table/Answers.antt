@@ -3,7 +3,7 @@ use Rattle.std.specs.List.{flat_map}
 use Rattle.std.proofs.lemmas.Result.{on_ok_weaker}
 use Rattle.byteorder.specs.Endian.{big_bytes}
 use Rattle.rio_num.specs.Room.{Room, with_more}
-use Rattle.rio_basket.specs.Open.{OpenBasket, data_length}
+use Rattle.rio_basket.specs.Open.{OpenBasket, entries_length}
 use Rattle.rio_basket.specs.Record.{offset_table}
 use Rattle.rio_basket.proofs.HeldLaws.{held_length, held_table}
 use Rattle.rio_basket.proofs.OpenLaws.{cut_bounds, length-cut}
@@ -17,7 +17,7 @@ put_ends-requires c k lt =
     let same : c.as_slice.result.now ≡ ends = c.as_slice.ensures.value in
     let below : k < length ends = omega (arith, lt, ap length same) in
     let bound = (cut_bounds 0 ends (length b.bytes.bytes) k c.self.invariant.0 below).1 in
-    let held : data_length c.args.self.now.entries ≡ length b.bytes.bytes = sym (ap (λ (o : OpenBasket). data_length o.entries) c.self.view_is) ∙ held_length ends b.bytes.bytes c.self.invariant.0 in
+    let held : entries_length c.args.self.now.entries ≡ length b.bytes.bytes = sym (ap (λ (o : OpenBasket). entries_length o.entries) c.self.view_is) ∙ held_length ends b.bytes.bytes c.self.invariant.0 in
     let there : get_or c.as_slice.result.now k 0 ≡ get_or ends k 0 = ap (λ (l : List ℕ). get_or l k 0) same in
     omega (arith, bound, held, there, c.from-2.ensures, c.requires.last)
 

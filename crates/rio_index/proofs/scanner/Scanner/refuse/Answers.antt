@@ -1,4 +1,4 @@
-use Rattle.std.proofs.Common.{◌≡◌, ◌<◌, length, Some, None, sym, ap, arith}
+use Rattle.std.proofs.Common.{◌≡◌, length, Some, None, ap, arith}
 use Rattle.rio_index.specs.Scan.{RowScan}
 use Rattle.rio_index.specs.declared.lane.Lane.{Lane}
 use Rattle.rio_index.proofs.ScanLaws.{goes_on, same_length}

@@ -59,7 +59,7 @@ returns-in_err-answer-in-Ok-clause-puts g c =
     (λ file links holds chain. c.put_record.ensures.any_moment file links holds (subst (λ (s : List Segment). HasChain links s file) same chain))
     (record c.args.self.now { segments = c.put_record.new.self.segments }) (g.met.H.Host.lawful c.put_record.new.host) c.in-Ok.ensures.quiet c.put_record.ensures.said
     (λ file links holds chain. c.in-Ok.ensures.holds file links holds (subst (λ (s : List Segment). HasChain links s file) same chain))
-    (g.H.Host.view c.answer.new.host) c.answer.new.self not_said c.put_record.ensures.told (c.in-Ok.ensures.counted refl, c.put_record.ensures.say_faults))
+    (g.H.Host.view c.answer.new.host) c.answer.new.self (g.met.H.Host.lawful c.answer.new.host) not_said c.put_record.ensures.told (c.in-Ok.ensures.counted refl, c.put_record.ensures.say_faults))
 
 pub returns-in_ok-answer-in-Ok-clause-puts : goal.returns-in_ok-answer-in-Ok-clause-puts
 returns-in_ok-answer-in-Ok-clause-puts g c =

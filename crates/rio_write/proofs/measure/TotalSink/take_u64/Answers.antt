@@ -1,0 +1,8 @@
+use Rattle.byteorder.specs.Endian.{big_bytes}
+use Rattle.rio_write.specs.Sinks.{Accepted}
+use Rattle.rio_write.proofs.Counting.{bytes_counted}
+use Rattle.rio_write.proofs.measure.TotalSink.take_u64.Goals as goal
+
+pub returns : goal.returns
+unfolding Accepted
+returns c = λ names. bytes_counted names c.args.self.now.bytes c.add.new.self.bytes (big_bytes 8 c.args._n) c.add.ensures
