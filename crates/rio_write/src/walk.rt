@@ -77,14 +77,8 @@ fn write_counted<'a, S: Sink>(
         return write_bool(sink, false);
     }
     write_bool(sink, true)?;
-    write_all(
-        alloc,
-        classes,
-        sink,
-        names,
-        items,
-        &Slot(SlotKind::Plain(of)),
-    )
+    let number = Slot(SlotKind::Plain(of));
+    write_all(alloc, classes, sink, names, items, &number)
 }
 
 // A pointer and a text.
@@ -103,15 +97,9 @@ fn write_link<'a, S: Sink>(
 {
     match items {
         [pointer, text] => {
-            write_value(
-                alloc,
-                classes,
-                sink,
-                names,
-                pointer,
-                &Slot(SlotKind::AnyPointer),
-            )?;
-            write_value(alloc, classes, sink, names, text, &Slot(SlotKind::Text))
+            let (any, words) = (Slot(SlotKind::AnyPointer), Slot(SlotKind::Text));
+            write_value(alloc, classes, sink, names, pointer, &any)?;
+            write_value(alloc, classes, sink, names, text, &words)
         }
         _ => Ok(()),
     }
@@ -133,32 +121,16 @@ fn write_list<'a, S: Sink>(
         (sink.old, names.old) (sink.new, names.new) }
 {
     match slot.0 {
-        SlotKind::Fixed(of, _) => write_all(
-            alloc,
-            classes,
-            sink,
-            names,
-            items,
-            &Slot(SlotKind::Plain(of)),
-        ),
+        SlotKind::Fixed(of, _) | SlotKind::Numbers(of) => {
+            let number = Slot(SlotKind::Plain(of));
+            write_all(alloc, classes, sink, names, items, &number)
+        }
         SlotKind::Counted(of, _) => write_counted(alloc, classes, sink, names, items, of),
         SlotKind::Link => write_link(alloc, classes, sink, names, items),
-        SlotKind::Numbers(of) => write_all(
-            alloc,
-            classes,
-            sink,
-            names,
-            items,
-            &Slot(SlotKind::Plain(of)),
-        ),
-        SlotKind::Pointers => write_all(
-            alloc,
-            classes,
-            sink,
-            names,
-            items,
-            &Slot(SlotKind::AnyPointer),
-        ),
+        SlotKind::Pointers => {
+            let pointer = Slot(SlotKind::AnyPointer);
+            write_all(alloc, classes, sink, names, items, &pointer)
+        }
         SlotKind::Links => write_all(alloc, classes, sink, names, items, &Slot(SlotKind::Link)),
         _ => Ok(()),
     }
@@ -180,14 +152,8 @@ fn write_pointed<'a, S: Sink>(
 {
     let class = class_of(object);
     let begun = sink.take_pointer(names, class)?;
-    write_value(
-        alloc,
-        classes,
-        sink,
-        names,
-        object,
-        &Slot(SlotKind::Inline(class)),
-    )?;
+    let place = Slot(SlotKind::Inline(class));
+    write_value(alloc, classes, sink, names, object, &place)?;
     sink.close(begun);
     Ok(())
 }
@@ -230,52 +196,19 @@ fn write_bare<'a, S: Sink>(
     ensures { Accepts S.stands (bare_bytes (map (part_writing classes.now) parts.now)) result
         (sink.old, names.old) (sink.new, names.new) }
 {
+    let (number, flags) = (Slot(SlotKind::Plain(Prim::U32)), Slot(SlotKind::Flags));
     match parts {
         [id, bits] => {
             sink.take_u16(1)?;
-            write_value(
-                alloc,
-                classes,
-                sink,
-                names,
-                &id.value,
-                &Slot(SlotKind::Plain(Prim::U32)),
-            )?;
-            write_value(
-                alloc,
-                classes,
-                sink,
-                names,
-                &bits.value,
-                &Slot(SlotKind::Flags),
-            )
+            write_value(alloc, classes, sink, names, &id.value, &number)?;
+            write_value(alloc, classes, sink, names, &bits.value, &flags)
         }
         [id, bits, pid] => {
+            let process = Slot(SlotKind::Plain(Prim::U16));
             sink.take_u16(1)?;
-            write_value(
-                alloc,
-                classes,
-                sink,
-                names,
-                &id.value,
-                &Slot(SlotKind::Plain(Prim::U32)),
-            )?;
-            write_value(
-                alloc,
-                classes,
-                sink,
-                names,
-                &bits.value,
-                &Slot(SlotKind::Flags),
-            )?;
-            write_value(
-                alloc,
-                classes,
-                sink,
-                names,
-                &pid.value,
-                &Slot(SlotKind::Plain(Prim::U16)),
-            )
+            write_value(alloc, classes, sink, names, &id.value, &number)?;
+            write_value(alloc, classes, sink, names, &bits.value, &flags)?;
+            write_value(alloc, classes, sink, names, &pid.value, &process)
         }
         _ => Ok(()),
     }
@@ -298,15 +231,9 @@ fn write_array<'a, S: Sink>(
 {
     match parts {
         [items] => {
+            let numbers = Slot(SlotKind::Numbers(of));
             write_count(sink, count_of(&items.value))?;
-            write_value(
-                alloc,
-                classes,
-                sink,
-                names,
-                &items.value,
-                &Slot(SlotKind::Numbers(of)),
-            )
+            write_value(alloc, classes, sink, names, &items.value, &numbers)
         }
         _ => Ok(()),
     }
@@ -328,31 +255,12 @@ fn write_listed<'a, S: Sink>(
 {
     match parts {
         [base, name, items] => {
-            write_value(
-                alloc,
-                classes,
-                sink,
-                names,
-                &base.value,
-                &Slot(SlotKind::Based(b"TObject", 1)),
-            )?;
-            write_value(
-                alloc,
-                classes,
-                sink,
-                names,
-                &name.value,
-                &Slot(SlotKind::Text),
-            )?;
+            let (object, text) = (Slot(SlotKind::Based(b"TObject", 1)), Slot(SlotKind::Text));
+            write_value(alloc, classes, sink, names, &base.value, &object)?;
+            write_value(alloc, classes, sink, names, &name.value, &text)?;
             write_count(sink, count_of(&items.value))?;
-            write_value(
-                alloc,
-                classes,
-                sink,
-                names,
-                &items.value,
-                &Slot(SlotKind::Links),
-            )
+            let links = Slot(SlotKind::Links);
+            write_value(alloc, classes, sink, names, &items.value, &links)
         }
         _ => Ok(()),
     }
@@ -374,39 +282,13 @@ fn write_arrayed<'a, S: Sink>(
 {
     match parts {
         [base, name, lower, items] => {
-            write_value(
-                alloc,
-                classes,
-                sink,
-                names,
-                &base.value,
-                &Slot(SlotKind::Based(b"TObject", 1)),
-            )?;
-            write_value(
-                alloc,
-                classes,
-                sink,
-                names,
-                &name.value,
-                &Slot(SlotKind::Text),
-            )?;
+            let (object, text) = (Slot(SlotKind::Based(b"TObject", 1)), Slot(SlotKind::Text));
+            write_value(alloc, classes, sink, names, &base.value, &object)?;
+            write_value(alloc, classes, sink, names, &name.value, &text)?;
             write_count(sink, count_of(&items.value))?;
-            write_value(
-                alloc,
-                classes,
-                sink,
-                names,
-                &lower.value,
-                &Slot(SlotKind::Plain(Prim::I32)),
-            )?;
-            write_value(
-                alloc,
-                classes,
-                sink,
-                names,
-                &items.value,
-                &Slot(SlotKind::Pointers),
-            )
+            let (number, pointers) = (Slot(SlotKind::Plain(Prim::I32)), Slot(SlotKind::Pointers));
+            write_value(alloc, classes, sink, names, &lower.value, &number)?;
+            write_value(alloc, classes, sink, names, &items.value, &pointers)
         }
         _ => Ok(()),
     }
