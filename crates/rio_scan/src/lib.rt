@@ -2,10 +2,14 @@
 //! `scan` says of them. Mostly definitions, in `specs/`: `StoredEntries` (the entries of baskets), `Counters` (what earlier
 //! branches count), `Rows`, `Refusals`, `Scan`, and
 //! `Sweeps` (how a walk over the rows finds the branches that aren't read).
+//!
+//! `tests` has the rows of tree headers, made and read by the crate below.
 #![tactic(auto)]
 
 mod no_tree;
 mod row;
+#[cfg(test)]
+mod tests;
 
 pub use no_tree::NoTree;
 pub use row::{BranchRows, Refusals, Row};

@@ -1,7 +1,9 @@
 //! The header of a tree, made and read.
-use crate::{BasketAt, Baskets, Branch, BranchNumbers, Branches, TreeHead, read_tree, tree_value};
 use rio_leaf::{BranchDef, LeafFault, Leaves, Shape, print_leaves, read_leaves};
 use rio_num::{Bytes, Name};
+use rio_tree::{
+    BasketAt, Baskets, Branch, BranchNumbers, Branches, TreeHead, read_tree, tree_value,
+};
 use rio_value::Value;
 use std::alloc::Global;
 

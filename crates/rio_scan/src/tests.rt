@@ -1,0 +1,3 @@
+//! Rows of the headers of trees.
+mod tree_members;
+mod trees;
