@@ -3,7 +3,7 @@
 //! branches count), `Rows`, `Refusals`, `Scan`, and
 //! `Sweeps` (how a walk over the rows finds the branches that aren't read).
 //!
-//! `tests` has the rows of tree headers, made and read by the crate below.
+//! `tests` has rows of what stands below: leaf lists, baskets, entries and the headers of trees.
 #![tactic(auto)]
 
 mod no_tree;
