@@ -87,15 +87,32 @@ fn is_made(made: Result<NewRecord, NoMemory>, bytes: &[u8]) -> bool {
     }
 }
 
+fn is_first_made(alloc: Global) -> bool {
+    is_made(
+        record_of(alloc, 100, 0, b"TFile", b"a.root", FIRST_DATA),
+        FIRST,
+    )
+}
+
+fn is_free_made(alloc: Global) -> bool {
+    is_made(
+        record_of(alloc, 252, 100, b"TFile", b"a.root", FREE_DATA),
+        FREE,
+    )
+}
+
+fn is_object_made(alloc: Global) -> bool {
+    is_made(
+        record_of(alloc, 208, 100, b"TObjString", b"s", OBJECT_DATA),
+        OBJECT,
+    )
+}
+
 #[test]
 fn writes_records(rt: HostRuntime) {
-    let alloc = rt.alloc();
-    let first = record_of(alloc, 100, 0, b"TFile", b"a.root", FIRST_DATA);
-    assert!(rt; is_made(first, FIRST));
-    let free = record_of(alloc, 252, 100, b"TFile", b"a.root", FREE_DATA);
-    assert!(rt; is_made(free, FREE));
-    let object = record_of(alloc, 208, 100, b"TObjString", b"s", OBJECT_DATA);
-    assert!(rt; is_made(object, OBJECT));
+    assert!(rt; is_first_made(rt.alloc()));
+    assert!(rt; is_free_made(rt.alloc()));
+    assert!(rt; is_object_made(rt.alloc()));
 }
 
 fn put_all(parts: &[&[u8]], into: &mut Bytes) -> Result<(), NoMemory> {
@@ -227,11 +244,13 @@ fn puts_behind(alloc: Global, host: &mut MemHost) -> bool {
     }
 }
 
+static ALONE: [&[u8]; 3] = [HEADER, FIRST, END];
+
+static STORED: [&[u8]; 4] = [HEADER, FIRST, OBJECT, END];
+
 fn is_put_behind(alloc: Global) -> bool {
-    match host_of(alloc, &[HEADER, FIRST, END]) {
-        Ok(mut host) => {
-            puts_behind(alloc, &mut host) && holds(alloc, &host, &[HEADER, FIRST, OBJECT, END])
-        }
+    match host_of(alloc, &ALONE) {
+        Ok(mut host) => puts_behind(alloc, &mut host) && holds(alloc, &host, &STORED),
         Err(_) => false,
     }
 }
@@ -279,7 +298,7 @@ fn reads_object(alloc: Global, host: &mut MemHost) -> bool {
 }
 
 fn is_read(alloc: Global) -> bool {
-    match host_of(alloc, &[HEADER, FIRST, OBJECT, END]) {
+    match host_of(alloc, &STORED) {
         Ok(mut host) => reads_object(alloc, &mut host),
         Err(_) => false,
     }
@@ -318,6 +337,9 @@ fn gapped() -> [Segment; 4]
 // What stands in the gap behind its word.
 const LOST: &[u8] = &[0xee; 116];
 
+// The end of that, behind the word of the rest.
+const LEFT: &[u8] = &[0xee; 56];
+
 // The object's record up to its place, and behind it.
 const FRONT: &[u8] = b"\0\0\0\x3c\0\x04\0\0\0\x14\0\0\0\x01\0\x28\0\x01";
 
@@ -341,29 +363,16 @@ fn puts_between(alloc: Global, host: &mut MemHost) -> bool {
     }
 }
 
-// Whether the object is put into the gap, and what is left of that is a gap.
-fn is_put_between(alloc: Global, host: &mut MemHost) -> bool {
-    let after = &[
-        HEADER,
-        FIRST,
-        OBJECT,
-        FRONT,
-        THIRD,
-        BACK,
-        REST,
-        &LOST[..56],
-        FRONT,
-        FOURTH,
-        BACK,
-        END,
-    ];
-    puts_between(alloc, host) && holds(alloc, host, after)
-}
+// The file with the gap, and with the object in it, behind which the rest is a gap.
+static BEFORE: [&[u8]; 9] = [HEADER, FIRST, OBJECT, GAP, LOST, FRONT, FOURTH, BACK, END];
+
+static AFTER: [&[u8]; 12] = [
+    HEADER, FIRST, OBJECT, FRONT, THIRD, BACK, REST, LEFT, FRONT, FOURTH, BACK, END,
+];
 
 fn is_gap_taken(alloc: Global) -> bool {
-    let before = &[HEADER, FIRST, OBJECT, GAP, LOST, FRONT, FOURTH, BACK, END];
-    match host_of(alloc, before) {
-        Ok(mut host) => is_put_between(alloc, &mut host),
+    match host_of(alloc, &BEFORE) {
+        Ok(mut host) => puts_between(alloc, &mut host) && holds(alloc, &host, &AFTER),
         Err(_) => false,
     }
 }

@@ -28,4 +28,4 @@ same (Gap p n) (Gap q m) = (
 )
 
 pub returns : goal.returns
-returns c yes = (slice_eq-Decides same _ _ _ c.eq.ensures).0 yes
+returns c e = (slice_eq-Decides same _ _ _ c.eq.ensures).0 e
