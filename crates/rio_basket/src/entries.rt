@@ -84,7 +84,7 @@ pub(crate) fn laid_entry<'a>(offsets: bool, layout: &Layout, bytes: &'a [u8], k:
 }
 
 /// The entries of a basket, each of them bytes of its own.
-#[derive(Debug, Drop)]
+#[derive(Drop)]
 pub struct Entries {
     items: Items<Bytes>,
 }

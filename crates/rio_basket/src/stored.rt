@@ -9,7 +9,7 @@ use std::marker::Model;
 
 /// A basket as it is stored, which contracts see as the list of its entries. The entries stand in the basket's bytes, so
 /// a scan that holds one makes no copy of it.
-#[derive(Debug, Drop)]
+#[derive(Drop)]
 pub struct StoredBasket {
     bytes: Bytes,
     offsets: bool,
