@@ -7,6 +7,7 @@ mod declare;
 mod laws;
 mod list_laws;
 mod read_laws;
+mod spelling_laws;
 
 pub use declare::{DeclareFault, holding_is_reaching};
 pub use laws::texts_are_one_line;
@@ -17,4 +18,7 @@ pub use list_laws::{
 pub use read_laws::{
     class_reading_goes_on, printed_classes_are_read, printed_values_are_read,
     read_classes_are_stated, value_reading_goes_on,
+};
+pub use spelling_laws::{
+    first_bad_tokens_are_told, read_values_are_spelled, spelled_values_are_read,
 };
