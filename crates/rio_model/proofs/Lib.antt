@@ -1,6 +1,9 @@
 mod Examples
+pub mod ClassAgain
+pub mod ClassFound
 pub mod ClassFurther
 pub mod ClassLines
+pub mod ClassTold
 pub mod DescribedBases
 pub mod DescribedClasses
 pub mod DescribedElements

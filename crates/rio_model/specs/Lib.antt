@@ -1,4 +1,5 @@
 pub mod ClassGrammar
+pub mod ClassSpelling
 pub mod ClassText
 pub mod Declaring
 pub mod Described

@@ -3,12 +3,16 @@
 //! them, and the fault that a declaration is refused for.
 #![tactic(auto)]
 
+mod class_laws;
 mod declare;
 mod laws;
 mod list_laws;
 mod read_laws;
 mod spelling_laws;
 
+pub use class_laws::{
+    first_bad_class_tokens_are_told, read_classes_are_spelled, spelled_classes_are_read,
+};
 pub use declare::{DeclareFault, holding_is_reaching};
 pub use laws::texts_are_one_line;
 pub use list_laws::{
