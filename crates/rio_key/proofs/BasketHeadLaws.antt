@@ -6,7 +6,7 @@ use Rattle.std.specs.Int.{w32, cast_signed, cast_unsigned}
 use Rattle.std.specs.Int.RustNames.{FitsSigned}
 use Rattle.byteorder.specs.Endian.{big_bytes}
 use Rattle.rio_num.specs.At.{At, AreBytes}
-use Rattle.rio_num.specs.Meanings.{Reading, Standing, Spells}
+use Rattle.rio_num.specs.Meanings.{Reading}
 use Rattle.rio_num.specs.declared.cursor.Short.{Short as Shortage}
 use Rattle.rio_num.proofs.Agree as Agree
 use Rattle.rio_num.proofs.Intro.{IsSo, done_is, number_then, so_by}

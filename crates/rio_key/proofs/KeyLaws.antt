@@ -1,5 +1,5 @@
 -- One key, and one list of key heads, is spelled at the beginning of some bytes.
-use Rattle.std.proofs.Common.{◌≡◌, List, ◌++◌, length, take, refl, sym, ap, ◌∙◌}
+use Rattle.std.proofs.Common.{length, take, refl, sym, ap, ◌∙◌}
 use Rattle.std.proofs.lemmas.List.{take_at}
 use Rattle.rio_key.specs.Key.{IsSpelledBy, Plain, SpellsKey, key_layout}
 use Rattle.rio_key.specs.KeyList.{SpellsKeyList, key_list_layout}

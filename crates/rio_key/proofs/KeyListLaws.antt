@@ -9,7 +9,7 @@ use Rattle.rio_num.proofs.Agree as Agree
 use Rattle.rio_num.proofs.Intro.{IsSo, both_are, done_is, ends_with, here_then, number_then}
 use Rattle.rio_num.proofs.ReadLaws.{ok_is}
 use Rattle.rio_num.proofs.Retold.{retold_spelled}
-use Rattle.rio_key.specs.Key.{IsSpelledBy, IsSpelledIn, SpellsKey, key_layout, plain}
+use Rattle.rio_key.specs.Key.{IsSpelledIn, SpellsKey, key_layout, plain}
 use Rattle.rio_key.specs.KeyList.{BreaksKeyList, FailsList, GivesListAt, IsListReadAs, SpellsKeyList, listed_fault, key_list_at, key_list_layout, listed_key}
 use Rattle.rio_key.specs.declared.head.KeyHead.{KeyHead}
 use Rattle.rio_key.specs.declared.fault.KeyFault.{KeyFault}

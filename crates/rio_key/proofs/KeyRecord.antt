@@ -1,12 +1,12 @@
 -- A key's first number is the length of its record, which holds the key.
-use Rattle.std.proofs.Common.{◌≡◌, ℕ, ◌≤◌, ◌<◌, ◌^◌, pos, Bool, true, false, cond, int_lt, ltb, List, length, Result, Ok, Err, refl, sym, ap, ◌∙◌, arith}
+use Rattle.std.proofs.Common.{◌≡◌, ℕ, ◌≤◌, ◌<◌, ◌^◌, pos, Bool, true, false, cond, int_lt, ltb, List, length, Ok, Err, refl, sym, ap, ◌∙◌, arith}
 use Rattle.std.proofs.lemmas.Bool.{ltb-false}
 use Rattle.std.specs.Int.{w32, cast_signed, cast_unsigned}
 use Rattle.std.proofs.lemmas.Int.{ints}
 use Rattle.byteorder.specs.Endian.{big_number}
 use Rattle.rio_num.specs.At.{At}
 use Rattle.rio_num.specs.Layout.{Layout, behind}
-use Rattle.rio_num.specs.Meanings.{Reading, Standing, of_bytes, read}
+use Rattle.rio_num.specs.Meanings.{Standing, of_bytes, read}
 use Rattle.rio_num.specs.Reading.{short, skip}
 use Rattle.rio_num.proofs.ReadLaws.{bind_ok, ok_is}
 use Rattle.rio_key.specs.Key.{key_at, key_fields, plain}

@@ -4,7 +4,7 @@ use Rattle.std.proofs.lemmas.List.{length-append}
 use Rattle.rio_num.specs.At.{At}
 use Rattle.rio_num.specs.Reading.{number_at, text_at}
 use Rattle.rio_num.specs.declared.cursor.Short.{Short}
-use Rattle.rio_num.specs.Layout.{Layout, done, broken, number, bytes, text, name, here, reaches, met, note, choice, behind}
+use Rattle.rio_num.specs.Layout.{done, broken, number, bytes, text, name, here, reaches, met, note, choice, behind}
 use Rattle.rio_num.specs.Meanings.{Reading, Standing, of_bytes, read, stand}
 use Rattle.rio_num.proofs.ReadLaws.{bind_ok, ok_is}
 use Rattle.rio_key.specs.Key.{Plain, plain}

@@ -1,8 +1,8 @@
 -- What is spelled in one place is spelled in another, where the description tells no places and no ends.
-use Rattle.std.proofs.Common.{◌≡◌, ℕ, ◌+◌, ◌≤◌, List, [], ◌∷◌, ◌++◌, length, replicate, Ok, Err, refl, sym, ap, ◌∙◌, append_assoc, arith}
+use Rattle.std.proofs.Common.{◌≡◌, ℕ, ◌+◌, List, [], ◌∷◌, ◌++◌, length, replicate, Ok, sym, ap, ◌∙◌, arith}
 use Rattle.std.proofs.lemmas.List.{length-append}
 use Rattle.rio_num.specs.At.{At, AreBytes, end_place}
-use Rattle.rio_num.specs.Layout.{Layout, done, number, text, each, times, behind}
+use Rattle.rio_num.specs.Layout.{Layout, done, number, each, times, behind}
 use Rattle.rio_num.specs.Meanings.{Standing, read, stand, Spells}
 use Rattle.rio_num.proofs.Agree as Agree
 use Rattle.rio_num.proofs.ReadLaws.{ok_is}

@@ -1,5 +1,5 @@
 -- A head of a list is a key, whose faults are told with the head's place.
-use Rattle.std.proofs.Common.{◌≡◌, ℕ, ◌+◌, true, false, List, length, Option, Some, refl}
+use Rattle.std.proofs.Common.{◌≡◌, ℕ, ◌+◌, true, false, List, length, Some}
 use Rattle.rio_num.specs.At.{At}
 use Rattle.rio_num.specs.Layout.{Layout, done, broken, number, bytes, text, name, here, reaches, met, note, choice, behind, retold}
 use Rattle.rio_num.specs.Meanings.{read, Spells}
