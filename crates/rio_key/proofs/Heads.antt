@@ -1,41 +1,36 @@
 -- Reading one head after the other, as a loop does.
-use Rattle.std.proofs.Common.{◌≡◌, ℕ, suc, ◌+◌, ◌-◌, ◌<◌, ◌≤◌, List, [], ◌∷◌, ◌++◌, Result, Ok, Err, refl, sym, ap, ◌∙◌, append_assoc, arith}
+use Rattle.std.proofs.Common.{◌≡◌, ℕ, suc, ◌+◌, ◌-◌, ◌<◌, ◌≤◌, List, [], ◌∷◌, ◌++◌, Ok, Err, refl, sym, ap, ◌∙◌, append_assoc, arith}
 use Rattle.std.proofs.lemmas.List.{append-nil}
-use Rattle.rio_num.specs.At.{At}
 use Rattle.rio_num.specs.Reading.{◌>>=◌}
-use Rattle.rio_key.specs.KeyList.{listed_key_at, heads_at}
-use Rattle.rio_key.specs.declared.head.KeyHead.{KeyHead}
-use Rattle.rio_key.specs.declared.fault.ListFault.{ListFault}
-
-abbrev Listing : Type 0
-Listing = Result (List KeyHead × At) ListFault
+use Rattle.rio_num.specs.Layout.{Layout, each, times}
+use Rattle.rio_num.specs.Meanings.{Reading, Standing, read}
 
 -- what was read before, and what is still read
-abbrev pub with_front : List KeyHead → Listing → Listing
-with_front front read = read >>= λ x. Ok (front ++ x.0, x.1)
+abbrev pub with_front : {W F Y : Type 0} → List Y → Reading W F (List Y) → Reading W F (List Y)
+with_front front given = given >>= λ x. Ok (front ++ x.0, x.1)
 
-regroup : (front : List KeyHead) (h : KeyHead) (read : Listing) → with_front front (read >>= λ x. Ok (h ∷ x.0, x.1)) ≡ with_front (front ++ h ∷ []) read
-regroup front h (Ok x) = ap (λ (l : List KeyHead). let r : Listing = Ok (l, x.1) in r) (sym (append_assoc front (h ∷ []) x.0))
-regroup front h (Err e) = refl
+module _ {W F Y : Type 0} (l : Layout W F Y) (n i : ℕ) (front : List Y) (s : Standing W) (total : Reading W F (List Y)) where
+  regroup : (y : Y) (given : Reading W F (List Y)) → with_front front (given >>= λ x. Ok (y ∷ x.0, x.1)) ≡ with_front (front ++ y ∷ []) given
+  regroup y (Ok x) = ap (λ (ys : List Y). let r : Reading W F (List Y) = Ok (ys, x.1) in r) (sym (append_assoc front (y ∷ []) x.0))
+  regroup y (Err e) = refl
 
-next : (count k : ℕ) → k < count → count - k ≡ suc (count - (k + 1))
-next count k lt = omega arith
+  pub times_goes_on : (y : Y) (s1 : Standing W) → i < n → read l s ≡ Ok (y, s1) → with_front front (read (times (n - i) l) s) ≡ total → with_front (front ++ y ∷ []) (read (times (n - (i + 1)) l) s1) ≡ total
+  unfolding each
+  times_goes_on y s1 lt e so_far =
+      let split : n - i ≡ suc (n - (i + 1)) = omega arith in
+      let one : with_front front (read (times (n - i) l) s) ≡ with_front (front ++ y ∷ []) (read (times (n - (i + 1)) l) s1) = rw (split, e) (regroup y (read (times (n - (i + 1)) l) s1)) in
+      sym one ∙ so_far
 
-pub heads_go_on : (count k : ℕ) (front : List KeyHead) (s s1 : At) (h : KeyHead) (total : Listing) → k < count → listed_key_at s ≡ Ok (h, s1) → with_front front (heads_at (count - k) s) ≡ total → with_front (front ++ h ∷ []) (heads_at (count - (k + 1)) s1) ≡ total
-unfolding heads_at
-heads_go_on count k front s s1 h total lt e so_far =
-    let one : with_front front (heads_at (count - k) s) ≡ with_front (front ++ h ∷ []) (heads_at (count - (k + 1)) s1) = rw (next count k lt, e) (regroup front h (heads_at (count - (k + 1)) s1)) in
-    sym one ∙ so_far
+  pub times_fails : (d : F) → i < n → read l s ≡ Err d → with_front front (read (times (n - i) l) s) ≡ total → total ≡ Err d
+  unfolding each
+  times_fails d lt e so_far =
+      let split : n - i ≡ suc (n - (i + 1)) = omega arith in
+      let one : with_front front (read (times (n - i) l) s) ≡ Err d = rw (split, e) refl in
+      sym so_far ∙ one
 
-pub heads_fail : (count k : ℕ) (front : List KeyHead) (s : At) (d : ListFault) (total : Listing) → k < count → listed_key_at s ≡ Err d → with_front front (heads_at (count - k) s) ≡ total → total ≡ Err d
-unfolding heads_at
-heads_fail count k front s d total lt e so_far =
-    let one : with_front front (heads_at (count - k) s) ≡ Err d = rw (next count k lt, e) refl in
-    sym so_far ∙ one
-
-pub heads_done : (count k : ℕ) (front : List KeyHead) (s : At) (total : Listing) → count ≤ k → with_front front (heads_at (count - k) s) ≡ total → total ≡ Ok (front, s)
-unfolding heads_at
-heads_done count k front s total le so_far =
-    let none : count - k ≡ 0 = omega arith in
-    let one : with_front front (heads_at (count - k) s) ≡ Ok (front, s) = rw none (ap (λ (l : List KeyHead). let r : Listing = Ok (l, s) in r) (append-nil front)) in
-    sym so_far ∙ one
+  pub times_done : n ≤ i → with_front front (read (times (n - i) l) s) ≡ total → total ≡ Ok (front, s)
+  unfolding each
+  times_done le so_far =
+      let none : n - i ≡ 0 = omega arith in
+      let one : with_front front (read (times (n - i) l) s) ≡ Ok (front, s) = rw none (ap (λ (ys : List Y). let r : Reading W F (List Y) = Ok (ys, s) in r) (append-nil front)) in
+      sym so_far ∙ one

@@ -5,9 +5,10 @@ use Rattle.std.proofs.lemmas.Int.{of_z-to_z}
 use Rattle.std.proofs.lemmas.Bool.{ltb-true}
 use Rattle.rio_key.proofs.Signed.{signed_is}
 use Rattle.rio_num.specs.Text.{SpellsText, text_bytes, short_form, long_form}
-use Rattle.rio_key.specs.Spelling.{SpellsKey}
+use Rattle.rio_key.specs.Key.{SpellsKey}
 use Rattle.rio_key.specs.Written.{FitsKey, HoldsItself, written_key}
 use Rattle.rio_key.specs.declared.head.KeyHead.{KeyHead}
+use Rattle.rio_key.proofs.KeyParts.{HasKey, of_parts}
 
 text_written : (text : List ℕ) → length text < 2 ^ 32 → SpellsText text (text_bytes text)
 text_written text lt = by (ltb (length text) 255) refl
@@ -20,18 +21,23 @@ pub key_spelled : (h : KeyHead) → FitsKey h → HoldsItself h → SpellsKey h 
 key_spelled h fits holds =
     let signed : cast_signed w32 holds.nbytes ≡ pos holds.nbytes = signed_is holds.nbytes holds.length_fits in
     let same : cast_unsigned w32 h.nbytes ≡ holds.nbytes = ap (cast_unsigned w32) (holds.length_is ∙ sym signed) ∙ of_z-to_z w32 holds.nbytes (omega (arith, holds.length_fits)) in
-    record {
-      nbytes = cast_unsigned w32 h.nbytes;
-      class_bytes = text_bytes h.class;
-      name_bytes = text_bytes h.name;
-      title_bytes = text_bytes h.title;
+    let parts : HasKey h (written_key h) = record {
+      fields = record {
+        nbytes = cast_unsigned w32 h.nbytes;
+        class_bytes = text_bytes h.class;
+        name_bytes = text_bytes h.name;
+        title_bytes = text_bytes h.title;
+        number_is = holds.length_is ∙ sym signed ∙ ap (cast_signed w32) (sym same);
+        number_fits = omega (arith, same, holds.length_fits);
+        numbers = holds.numbers;
+        class_spelled = text_written h.class fits.class;
+        name_spelled = text_written h.name fits.name;
+        title_spelled = text_written h.title fits.title;
+        parts = refl;
+      };
       length_is = holds.length_is ∙ ap pos (sym same);
       length_fits = omega (arith, same, holds.length_fits);
-      numbers = holds.numbers;
-      class_spelled = text_written h.class fits.class;
-      name_spelled = text_written h.name fits.name;
-      title_spelled = text_written h.title fits.title;
-      spelled = refl;
       key_held = omega (arith, same, holds.key_held);
       title_held = holds.title_held;
-    }
+    } in
+    of_parts h (written_key h) parts

@@ -1,0 +1,56 @@
+-- What is spelled in one place is spelled in another, where the description tells no places and no ends.
+use Rattle.std.proofs.Common.{◌≡◌, ℕ, ◌+◌, List, [], ◌∷◌, ◌++◌, length, replicate, Ok, sym, ap, ◌∙◌, arith}
+use Rattle.std.proofs.lemmas.List.{length-append}
+use Rattle.rio_num.specs.At.{At, AreBytes, end_place}
+use Rattle.rio_num.specs.Layout.{Layout, done, number, each, times, behind}
+use Rattle.rio_num.specs.Meanings.{Standing, read, stand, Spells}
+use Rattle.rio_num.proofs.Agree as Agree
+use Rattle.rio_num.proofs.ReadLaws.{ok_is}
+use Rattle.rio_key.specs.Key.{IsSpelledBy, Plain, plain}
+
+pub record Moves {W F A : Type 0} (l : Layout W F A) : Type 0 where
+  pub moves : (end end' p q : ℕ) (t : W) (y : A) (b : List ℕ) (t' : W) → Spells l end p t y b t' → Spells l end' q t y b t'
+
+module _ {W F : Type 0} where
+  pub moves_number : (f : ℕ → ℕ → F) (n : ℕ) → Moves {W = W} (number f n)
+  moves_number f n = record { moves = λ end end' p q t y b t' c. c }
+
+  pub moves_done : {A : Type 0} (a : A) → Moves {W = W} {F = F} (done a)
+  moves_done a = record { moves = λ end end' p q t y b t' c. c }
+
+  pub moves_behind : {A B : Type 0} {l : Layout W F B} {k : B → Layout W F A} → Moves l → ((x : B) → Moves (k x)) → Moves (behind l k)
+  moves_behind first next = record {
+    moves = λ end end' p q t y b t' c. (c.0, c.1, c.2, c.3, c.4, first.moves end end' p q t c.0 c.1 c.3 c.5, (next c.0).moves end end' (p + length c.1) (q + length c.1) c.3 y c.2 t' c.6);
+  }
+
+  pub moves_each : {X Y : Type 0} (l : X → Layout W F Y) → ((x : X) → Moves (l x)) → (xs : List X) → Moves (each l xs)
+  unfolding each
+  moves_each l one [] = moves_done []
+  moves_each l one (x ∷ xs) = moves_behind (one x) (λ y. moves_behind (moves_each l one xs) (λ ys. moves_done (y ∷ ys)))
+
+  pub moves_times : {Y : Type 0} (n : ℕ) (l : Layout W F Y) → Moves l → Moves (times n l)
+  moves_times n l one = moves_each (λ (x : Unit {0}). l) (λ x. one) (replicate n tt)
+
+-- ---- what is spelled wherever it stands
+
+pub spelled_again : {F A : Type 0} (l : Plain F A) (y : A) (bytes : List ℕ) (p : ℕ) (rest : List ℕ) → IsSpelledBy l y bytes → read l (stand p (bytes ++ rest) tt) ≡ Ok (y, stand (p + length bytes) rest tt)
+spelled_again l y bytes p rest c = Agree.spelled_is_read l (p + length bytes) p tt y bytes rest tt (omega (arith, length-append bytes rest)) (c p)
+
+-- what was read, and the bytes that spell it
+pub record IsFound {F A : Type 0} (l : Plain F A) (s : At) (y : A) (s' : At) : Type 0 where
+  pub bytes : List ℕ
+  pub parts : s.rest ≡ bytes ++ s'.rest
+  pub place : s'.place ≡ s.place + length bytes
+  pub spelled : IsSpelledBy l y bytes
+
+pub found : {F A : Type 0} (l : Plain F A) → Moves l → (s : At) (y : A) (s' : At) → AreBytes s.rest → read l (plain s) ≡ Ok (y, plain s') → IsFound l s y s'
+found l m s y s' fits e =
+    let a = Agree.read_is_spelled l (plain s) y (plain s') fits e in
+    record { bytes = a.front; parts = a.parts; place = a.place; spelled = λ q. m.moves (end_place s) (q + length a.front) s.place q tt y a.front tt a.spelled }
+
+-- one thing is spelled at the beginning of some bytes, by one front of them
+pub spelled_once : {F A : Type 0} (l : Plain F A) (a b : A) (xs ys more others : List ℕ) → xs ++ more ≡ ys ++ others → IsSpelledBy l a xs → IsSpelledBy l b ys → (a ≡ b) × (length xs ≡ length ys)
+spelled_once {F = F} {A = A} l a b xs ys more others e first second =
+    let both = sym (spelled_again l a xs 0 more first) ∙ ap (λ (bytes : List ℕ). read l (stand 0 bytes tt)) e ∙ spelled_again l b ys 0 others second in
+    let equal = ok_is {E = F} (a, stand (0 + length xs) more tt) (b, stand (0 + length ys) others tt) both in
+    (ap (λ (q : A × Standing (Unit {0})). q.0) equal, omega (arith, ap (λ (q : A × Standing (Unit {0})). q.1.at.place) equal))
