@@ -13,11 +13,12 @@ use Rattle.rio_key.specs.Key.{IsSpelledIn, SpellsKey, key_layout, plain}
 use Rattle.rio_key.specs.KeyList.{BreaksKeyList, FailsList, GivesListAt, IsListReadAs, SpellsKeyList, listed_fault, key_list_at, key_list_layout, listed_key}
 use Rattle.rio_key.specs.declared.head.KeyHead.{KeyHead}
 use Rattle.rio_key.specs.declared.fault.KeyFault.{KeyFault}
-use Rattle.rio_key.specs.declared.fault.KeyFault.TheVariants.{Short, BadLength, BadKeyLen, NoMemory}
+use Rattle.rio_key.specs.declared.fault.KeyFault.TheVariants.{NoMemory}
 use Rattle.rio_key.specs.declared.fault.ListFault.{ListFault}
 use Rattle.rio_key.proofs.Apart.{here_of}
 use Rattle.rio_key.proofs.KeyAgain.{standing}
 use Rattle.rio_key.proofs.KeyParts.{key_moves}
+use Rattle.rio_key.proofs.KeyRead.{no_memory}
 use Rattle.rio_key.proofs.Moves.{IsFound, Moves, found, moves_behind, moves_number, moves_times, spelled_again}
 use Rattle.rio_key.proofs.Retold.{told_before}
 
@@ -75,11 +76,8 @@ list_of hs bytes few c = λ p.
 abbrev read_so : {X : Type 0} → X → Result X ListFault
 read_so x = Ok x
 
-no_memory : {X : Type 0} (fault : KeyFault) (e : ListFault) (x : X) → e.fault ≡ fault → FailsList e (read_so x) → e.fault ≡ NoMemory
-no_memory NoMemory e x is h = is
-no_memory (Short place wanted) e x is h = absurd (let no : e.fault ≢ NoMemory = λ q. cc in let same = h no in cc)
-no_memory (BadLength place) e x is h = absurd (let no : e.fault ≢ NoMemory = λ q. cc in let same = h no in cc)
-no_memory (BadKeyLen place) e x is h = absurd (let no : e.fault ≢ NoMemory = λ q. cc in let same = h no in cc)
+no_list_memory : {X : Type 0} (e : ListFault) (x : X) → FailsList e (read_so x) → e.fault ≡ NoMemory
+no_list_memory e x h = no_memory e.fault x (λ ne. absurd (let same = h ne in cc))
 
 module _ (s new : At) where
   pub is_list_found : (r : Result (List KeyHead) ListFault) → AreBytes s.rest → GivesListAt r (key_list_at s) new → IfOk r (λ hs. IsSpelledIn (SpellsKeyList hs) s.rest)
@@ -94,7 +92,7 @@ module _ (s new : At) where
 
   gives_only : (end : Standing (Unit {0})) (r : Result (List KeyHead) ListFault) (hs : List KeyHead) → GivesListAt r (read_so (hs, end)) new → IsListReadAs r hs
   gives_only end (Ok x) hs given = ap (λ (q : List KeyHead × Standing (Unit {0})). q.0) (sym (ok_is {E = ListFault} (hs, end) (x, plain new) given))
-  gives_only end (Err e) hs given = no_memory e.fault e (hs, end) refl given
+  gives_only end (Err e) hs given = no_list_memory e (hs, end) given
 
   pub is_list_only : (r : Result (List KeyHead) ListFault) (hs : List KeyHead) (front rest : List ℕ) → GivesListAt r (key_list_at s) new → s.rest ≡ front ++ rest → SpellsKeyList hs front → IsListReadAs r hs
   is_list_only r hs front rest given e spelled =

@@ -28,19 +28,12 @@ next_of {l = l} {k = k} {s = s} {y = y} {s' = s'} c next =
 
 -- ---- the first number
 
-record FirstNumber (s : At) (n : ℕ) : Type 0 where
-  whole_is : 4 ≤ length s.rest
-  number_is : n ≡ big_number 4 s.rest
-
-first_number : (s : At) (n : ℕ) (s' : Standing (Unit {0})) (b : Bool) → ltb (length s.rest) 4 ≡ b → of_bytes {A = ℕ} Short (plain s) (cond b (Err (short s.place 4)) (Ok (big_number 4 s.rest, skip 4 s))) ≡ Ok (n, s') → FirstNumber s n
+-- the first four bytes are there, and the number is what they are read as
+first_number : (s : At) (n : ℕ) (s' : Standing (Unit {0})) (b : Bool) → ltb (length s.rest) 4 ≡ b → of_bytes {A = ℕ} Short (plain s) (cond b (Err (short s.place 4)) (Ok (big_number 4 s.rest, skip 4 s))) ≡ Ok (n, s') → (4 ≤ length s.rest) × (n ≡ big_number 4 s.rest)
 first_number s n s' true t e = absurd cc
-first_number s n s' false t e = record { whole_is = ltb-false _ _ t; number_is = ap (λ (q : ℕ × Standing (Unit {0})). q.0) (sym (ok_is {E = KeyFault} (big_number 4 s.rest, plain (skip 4 s)) (n, s') e)) }
+first_number s n s' false t e = (ltb-false _ _ t, ap (λ (q : ℕ × Standing (Unit {0})). q.0) (sym (ok_is {E = KeyFault} (big_number 4 s.rest, plain (skip 4 s)) (n, s') e)))
 
-record HasNumber (s : At) (h : KeyHead) : Type 0 where
-  whole_is : 4 ≤ length s.rest
-  nbytes_is : h.nbytes ≡ cast_signed w32 (big_number 4 s.rest)
-
-fields_number : (s : At) (h : KeyHead) (s' : Standing (Unit {0})) → Reads key_fields (plain s) h s' → HasNumber s h
+fields_number : (s : At) (h : KeyHead) (s' : Standing (Unit {0})) → Reads key_fields (plain s) h s' → (4 ≤ length s.rest) × (h.nbytes ≡ cast_signed w32 (big_number 4 s.rest))
 unfolding key_fields
 fields_number s h s' c =
     next_of c (λ nbytes s1 e1 c1.
@@ -57,7 +50,7 @@ fields_number s h s' c =
     let fields : KeyHead = record { nbytes = cast_signed w32 nbytes; version = version; objlen = objlen; datime = datime; keylen = keylen; cycle = cycle; seek = seek; pdir = pdir; class = class; name = name; title = title } in
     let same = ok_is {E = KeyFault} (fields, s11) (h, s') c11.so in
     let first = first_number s nbytes s1 (ltb (length s.rest) 4) refl e1 in
-    record { whole_is = first.whole_is; nbytes_is = ap (λ (q : KeyHead × Standing (Unit {0})). q.0.nbytes) (sym same) ∙ ap (cast_signed w32) first.number_is })))))))))))
+    (first.0, ap (λ (q : KeyHead × Standing (Unit {0})). q.0.nbytes) (sym same) ∙ ap (cast_signed w32) first.1))))))))))))
 
 -- where the key at a place is read, its first four bytes say how long its record is
 pub record HasRecord (bytes : List ℕ) (h : KeyHead) : Type 0 where
@@ -74,17 +67,17 @@ pub key_whole : (p : ℕ) (bytes : List ℕ) (h : KeyHead) → key_at (record { 
 key_whole p bytes h e =
     let s : At = record { place = p; rest = bytes } in
     let k = kept s h e in
-    (fields_number s h k.end (record { so = k.read_so })).whole_is
+    (fields_number s h k.end (record { so = k.read_so })).0
 
 pub key_record : (p : ℕ) (bytes : List ℕ) (h : KeyHead) → big_number 4 bytes < 2 ^ 32 → key_at (record { place = p; rest = bytes }) ≡ Ok h → HasRecord bytes h
 key_record p bytes h lt e =
     let s : At = record { place = p; rest = bytes } in
     let k = kept s h e in
     let n = fields_number s h k.end (record { so = k.read_so }) in
-    let least = at_least (big_number 4 bytes) h.keylen lt (ap (λ z. int_lt z (pos h.keylen)) (sym n.nbytes_is) ∙ k.key_held) in
+    let least = at_least (big_number 4 bytes) h.keylen lt (ap (λ z. int_lt z (pos h.keylen)) (sym n.1) ∙ k.key_held) in
     record {
-      whole = n.whole_is;
+      whole = n.0;
       small = least.low;
-      length_is = ap (cast_unsigned w32) (n.nbytes_is ∙ signed_is (big_number 4 bytes) least.low) ∙ unsigned_is (big_number 4 bytes) least.low;
+      length_is = ap (cast_unsigned w32) (n.1 ∙ signed_is (big_number 4 bytes) least.low) ∙ unsigned_is (big_number 4 bytes) least.low;
       key_held = least.above;
     }

@@ -1,11 +1,10 @@
 -- What is spelled in one place is spelled in another, where the description tells no places and no ends.
-use Rattle.std.proofs.Common.{◌≡◌, ℕ, ◌+◌, List, [], ◌∷◌, ◌++◌, length, replicate, Ok, sym, ap, ◌∙◌, arith}
+use Rattle.std.proofs.Common.{◌≡◌, ℕ, ◌+◌, List, [], ◌∷◌, ◌++◌, length, replicate, Ok, arith}
 use Rattle.std.proofs.lemmas.List.{length-append}
 use Rattle.rio_num.specs.At.{At, AreBytes, end_place}
 use Rattle.rio_num.specs.Layout.{Layout, done, number, each, times, behind}
-use Rattle.rio_num.specs.Meanings.{Standing, read, stand, Spells}
+use Rattle.rio_num.specs.Meanings.{read, stand, Spells}
 use Rattle.rio_num.proofs.Agree as Agree
-use Rattle.rio_num.proofs.ReadLaws.{ok_is}
 use Rattle.rio_key.specs.Key.{IsSpelledBy, Plain, plain}
 
 pub record Moves {W F A : Type 0} (l : Layout W F A) : Type 0 where
@@ -47,10 +46,3 @@ pub found : {F A : Type 0} (l : Plain F A) → Moves l → (s : At) (y : A) (s' 
 found l m s y s' fits e =
     let a = Agree.read_is_spelled l (plain s) y (plain s') fits e in
     record { bytes = a.front; parts = a.parts; place = a.place; spelled = λ q. m.moves (end_place s) (q + length a.front) s.place q tt y a.front tt a.spelled }
-
--- one thing is spelled at the beginning of some bytes, by one front of them
-pub spelled_once : {F A : Type 0} (l : Plain F A) (a b : A) (xs ys more others : List ℕ) → xs ++ more ≡ ys ++ others → IsSpelledBy l a xs → IsSpelledBy l b ys → (a ≡ b) × (length xs ≡ length ys)
-spelled_once {F = F} {A = A} l a b xs ys more others e first second =
-    let both = sym (spelled_again l a xs 0 more first) ∙ ap (λ (bytes : List ℕ). read l (stand 0 bytes tt)) e ∙ spelled_again l b ys 0 others second in
-    let equal = ok_is {E = F} (a, stand (0 + length xs) more tt) (b, stand (0 + length ys) others tt) both in
-    (ap (λ (q : A × Standing (Unit {0})). q.0) equal, omega (arith, ap (λ (q : A × Standing (Unit {0})). q.1.at.place) equal))
