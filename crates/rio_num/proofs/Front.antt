@@ -8,8 +8,8 @@ use Rattle.byteorder.specs.Numbers.{big_from-append, big_from-take}
 use Rattle.rio_num.specs.At.{At}
 use Rattle.rio_num.specs.Reading.{◌>>=◌, number_at, text_at, text_head, skip, short}
 use Rattle.rio_num.specs.declared.cursor.Short.{Short}
+use Rattle.rio_num.proofs.Plain.{standing}
 use Rattle.rio_num.proofs.ReadLaws.{ok_is}
-use Rattle.rio_key.proofs.KeyAgain.{standing}
 
 -- what was taken from the front is taken again, whatever follows
 pub record TakesFront {X E : Type 0} (read : At → Result (X × At) E) (s : At) (x : X) (s' : At) : Type 0 where

@@ -7,8 +7,8 @@ use Rattle.rio_num.specs.declared.cursor.Short.{Short}
 use Rattle.rio_num.specs.Layout.{done, broken, number, bytes, text, name, here, reaches, met, note, choice, behind}
 use Rattle.rio_num.specs.Meanings.{Reading, Standing, of_bytes, read, stand}
 use Rattle.rio_num.proofs.ReadLaws.{bind_ok, ok_is}
-use Rattle.rio_key.specs.Key.{Plain, plain}
-use Rattle.rio_key.proofs.Front.{TakesFront, number_front, text_front}
+use Rattle.rio_num.specs.Plain.{Plain, plain}
+use Rattle.rio_num.proofs.Front.{TakesFront, number_front, text_front}
 
 -- numbers and texts, one behind the other
 abbrev pub AreFields : {F A : Type 0} → Plain F A → Type 0

@@ -1,4 +1,4 @@
--- Reading one head after the other, as a loop does.
+-- Reading the same thing so many times, as a loop does.
 use Rattle.std.proofs.Common.{◌≡◌, ℕ, suc, ◌+◌, ◌-◌, ◌<◌, ◌≤◌, List, [], ◌∷◌, ◌++◌, Ok, Err, refl, sym, ap, ◌∙◌, append_assoc, arith}
 use Rattle.std.proofs.lemmas.List.{append-nil}
 use Rattle.rio_num.specs.Reading.{◌>>=◌}

@@ -1,11 +1,10 @@
 -- What is spelled in one place is spelled in another, where the description tells no places and no ends.
-use Rattle.std.proofs.Common.{◌≡◌, ℕ, ◌+◌, List, [], ◌∷◌, ◌++◌, length, replicate, Ok, arith}
-use Rattle.std.proofs.lemmas.List.{length-append}
+use Rattle.std.proofs.Common.{◌≡◌, ℕ, ◌+◌, List, [], ◌∷◌, ◌++◌, length, replicate, Ok}
 use Rattle.rio_num.specs.At.{At, AreBytes, end_place}
 use Rattle.rio_num.specs.Layout.{Layout, done, number, each, times, behind}
-use Rattle.rio_num.specs.Meanings.{read, stand, Spells}
+use Rattle.rio_num.specs.Meanings.{read, Spells}
+use Rattle.rio_num.specs.Plain.{IsSpelledBy, Plain, plain}
 use Rattle.rio_num.proofs.Agree as Agree
-use Rattle.rio_key.specs.Key.{IsSpelledBy, Plain, plain}
 
 pub record Moves {W F A : Type 0} (l : Layout W F A) : Type 0 where
   pub moves : (end end' p q : ℕ) (t : W) (y : A) (b : List ℕ) (t' : W) → Spells l end p t y b t' → Spells l end' q t y b t'
@@ -29,11 +28,6 @@ module _ {W F : Type 0} where
 
   pub moves_times : {Y : Type 0} (n : ℕ) (l : Layout W F Y) → Moves l → Moves (times n l)
   moves_times n l one = moves_each (λ (x : Unit {0}). l) (λ x. one) (replicate n tt)
-
--- ---- what is spelled wherever it stands
-
-pub spelled_again : {F A : Type 0} (l : Plain F A) (y : A) (bytes : List ℕ) (p : ℕ) (rest : List ℕ) → IsSpelledBy l y bytes → read l (stand p (bytes ++ rest) tt) ≡ Ok (y, stand (p + length bytes) rest tt)
-spelled_again l y bytes p rest c = Agree.spelled_is_read l (p + length bytes) p tt y bytes rest tt (omega (arith, length-append bytes rest)) (c p)
 
 -- what was read, and the bytes that spell it
 pub record IsFound {F A : Type 0} (l : Plain F A) (s : At) (y : A) (s' : At) : Type 0 where
