@@ -11,7 +11,8 @@ use Rattle.rio_num.specs.Text.{long_form, short_form, text_bytes}
 use Rattle.rio_num.proofs.ReadLaws.{bind_is}
 use Rattle.rio_key.specs.BasketFront.{basket_front_at}
 use Rattle.rio_key.specs.BasketHead.{AreInRange, basket_head_bytes, integer_bytes, sizes_bytes}
-use Rattle.rio_key.specs.Key.{IsSpelledIn, SpellsKey, is_compressed}
+use Rattle.rio_num.specs.Plain.{IsSpelledIn}
+use Rattle.rio_key.specs.Key.{SpellsKey, is_compressed}
 use Rattle.rio_key.specs.Written.{FitsKey, HoldsItself, number_bytes, written_key}
 use Rattle.rio_key.specs.declared.basket_head.BasketFront.{BasketFront}
 use Rattle.rio_key.specs.declared.basket_head.BasketHead.{BasketHead}

@@ -10,11 +10,13 @@ use Rattle.rio_num.specs.At.{At, AreBytes}
 use Rattle.rio_num.specs.Meanings.{Reading, Standing}
 use Rattle.rio_num.specs.declared.cursor.Short.{Short}
 use Rattle.rio_num.proofs.ReadLaws.{IsBytes, IsBytes-drop, IsBytes-take, ok_is}
-use Rattle.rio_key.specs.Key.{IsSpelledIn, SpellsKey, key_head_at, plain}
+use Rattle.rio_num.specs.Plain.{IsSpelledIn, plain}
+use Rattle.rio_key.specs.Key.{SpellsKey, key_head_at}
 use Rattle.rio_key.specs.declared.head.KeyHead.{KeyHead}
 use Rattle.rio_key.specs.declared.fault.KeyFault.{KeyFault}
-use Rattle.rio_key.proofs.KeyAgain.{key_again, standing}
-use Rattle.rio_key.proofs.KeyParts.{parts_of}
+use Rattle.rio_num.proofs.Plain.{standing}
+use Rattle.rio_key.proofs.KeyAgain.{key_again}
+use Rattle.rio_key.proofs.KeyParts.{parts_of_key}
 use Rattle.rio_key.proofs.KeyRead.{is_found}
 use Rattle.rio_chain.specs.Segments.{Link, RecordAt, GapAt, link_length, chain_end, texts_end_at, BreaksAt, HasWord, HoldsEnd, HoldsLink, HoldsLinks, IsChain, IsFirst, IsPositive, IsRecord}
 use Rattle.rio_chain.specs.Found.{FindsKey, segment_length_of}
@@ -86,7 +88,7 @@ record_or_not place bytes fits = by (key_or_none bytes fits).0 (key_or_none byte
     by None f = inr (λ r. none-some r.head (f.only r.head r.key))
     by (Some h) f =
         let key = f.found_is in
-        let parts = parts_of h key.0 key.3 in
+        let parts = parts_of_key h key.0 key.3 in
         let nbytes : h.nbytes ≡ pos parts.fields.nbytes = parts.length_is in
         let tests = both (low_or_not h.version 1000) (both (same_or_not h.seek place) (both (same_or_not parts.fields.nbytes (length bytes)) (both (same_or_not (h.keylen + h.objlen) (length bytes)) (same_or_not (length bytes % 4) 0)))) in
         elim tests [

@@ -9,7 +9,7 @@ use Rattle.rio_host.specs.Image.{Has}
 use Rattle.rio_host.specs.ImageLaws.{slice_get-take, slice_get-drop}
 use Rattle.rio_host.proofs.Images.{has_keeps, has_length, has_front}
 use Rattle.rio_key.specs.Key.{key_place_len}
-use Rattle.rio_key.proofs.KeyParts.{parts_of}
+use Rattle.rio_key.proofs.KeyParts.{parts_of_key}
 use Rattle.rio_chain.specs.Segments.{HasWord, HoldsRecord, IsPositive, IsRecord}
 
 -- as many bytes at one place are the same bytes
@@ -67,7 +67,7 @@ pos_same m n e = cc
 pub record_word : (place : ℕ) (bytes : List ℕ) → IsRecord place bytes → Word bytes
 record_word place bytes r =
     let front = r.key.0 in
-    let key = parts_of r.head r.key.0 r.key.3 in
+    let key = parts_of_key r.head r.key.0 r.key.3 in
     let spells = key.fields in
     let same : spells.nbytes ≡ length bytes = pos_same spells.nbytes (length bytes) (sym key.length_is ∙ r.nbytes) in
     let h = r.head in

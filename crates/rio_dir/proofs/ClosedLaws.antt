@@ -9,9 +9,11 @@ use Rattle.rio_num.proofs.ReadLaws.{IsBytes, IsBytes-drop, IsBytes-take, bind_is
 use Rattle.rio_key.specs.declared.head.KeyHead.{KeyHead}
 use Rattle.rio_key.specs.declared.fault.KeyFault.{KeyFault}
 use Rattle.rio_key.specs.declared.fault.ListFault.{ListFault}
-use Rattle.rio_key.specs.Key.{IsSpelledIn, SpellsKey, key_at, key_head_at, value_of}
+use Rattle.rio_num.specs.Plain.{IsSpelledIn, value_of}
+use Rattle.rio_key.specs.Key.{SpellsKey, key_at, key_head_at}
 use Rattle.rio_key.specs.KeyList.{SpellsKeyList, key_list_at}
-use Rattle.rio_key.proofs.KeyAgain.{key_again, key_found, standing}
+use Rattle.rio_num.proofs.Plain.{standing}
+use Rattle.rio_key.proofs.KeyAgain.{key_again, key_found}
 use Rattle.rio_key.proofs.KeyListLaws.{key_list_again, key_list_found}
 use Rattle.rio_head.specs.declared.head.FileHead.{FileHead}
 use Rattle.rio_head.specs.declared.dir.DirRecord.{DirRecord}
@@ -19,8 +21,7 @@ use Rattle.rio_head.specs.declared.fault.HeadFault.{HeadFault}
 use Rattle.rio_head.specs.declared.fault.FileFault.TheVariants.{NotClosed, BadDir, BadKeyList}
 use Rattle.rio_head.specs.Head.{fault_at, head_at, BeginsAsHead}
 use Rattle.rio_head.specs.Dir.{dir_at}
-use Rattle.rio_head.proofs.HeadAgain.{head_only}
-use Rattle.rio_head.proofs.HeadFound.{header_found}
+use Rattle.rio_head.proofs.HeadAgain.{head_only, header_found}
 use Rattle.rio_head.proofs.DirLaws.{dir_found, dir_only}
 use Rattle.rio_dir.specs.declared.closed.Closed.{Closed}
 use Rattle.rio_dir.specs.Closed.{file_at, dir_place, closed_head, closed_dir, closed_keys, closed_file, data_at, heads_of, listed_at, or_bad_list, or_fault}

@@ -1,6 +1,7 @@
 //! The key list of a file.
 ghost use Rattle.std.specs.Prelude.{◌≡◌, ◌+◌, ◌<◌, ◌^◌, ◌++◌, ℕ, List, length, IfOk};
-ghost use Rattle.rio_key.specs.Key.{Gives, IsReadAs, IsSpelledIn};
+ghost use Rattle.rio_num.specs.Plain.{IsSpelledIn};
+ghost use Rattle.rio_key.specs.Key.{Gives, IsReadAs};
 ghost use Rattle.rio_key.specs.KeyList.{SpellsKeyList, key_list_at};
 ghost use Rattle.rio_dir.specs.KeyList.{heads_in};
 

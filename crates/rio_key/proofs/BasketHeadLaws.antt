@@ -5,18 +5,17 @@ use Rattle.std.proofs.lemmas.List.{append-nil, length-append}
 use Rattle.std.specs.Int.{w32, cast_signed, cast_unsigned}
 use Rattle.std.specs.Int.RustNames.{FitsSigned}
 use Rattle.byteorder.specs.Endian.{big_bytes}
-use Rattle.rio_num.specs.At.{At, AreBytes}
-use Rattle.rio_num.specs.Meanings.{Reading}
+use Rattle.rio_num.specs.At.{At, AreBytes, end_place}
 use Rattle.rio_num.specs.declared.cursor.Short.{Short as Shortage}
-use Rattle.rio_num.proofs.Agree as Agree
 use Rattle.rio_num.proofs.Intro.{IsSo, done_is, number_then, so_by}
 use Rattle.rio_key.specs.BasketHead.{AreInRange, BreaksBasketHead, basket_head_at, basket_head_bytes, basket_head_layout, integer_bytes, sizes_bytes}
 use Rattle.rio_key.specs.declared.basket_head.BasketHead.{BasketHead}
-use Rattle.rio_key.specs.Key.{IsSpelledBy, key_head_at, plain, value_of}
+use Rattle.rio_num.specs.Plain.{IsSpelledBy, plain, value_of}
+use Rattle.rio_key.specs.Key.{key_head_at}
 use Rattle.rio_key.specs.declared.head.KeyHead.{KeyHead}
-use Rattle.rio_key.proofs.Apart.{number_of}
-use Rattle.rio_key.proofs.KeyAgain.{key_found, standing}
-use Rattle.rio_key.proofs.Moves.{spelled_again}
+use Rattle.rio_num.proofs.Apart.{number_of}
+use Rattle.rio_num.proofs.Plain.{spelled_again, standing, value_broken, value_found}
+use Rattle.rio_key.proofs.KeyAgain.{key_found}
 
 small : (z : ℤ) → FitsSigned w32 z → cast_unsigned w32 z < 2 ^ 32
 small z fits = grind (arith, ints)
@@ -58,26 +57,15 @@ basket_head_again h p rest c = spelled_again basket_head_layout h (basket_head_b
 -- ---- what a reader returned
 
 pub is_head_found : (s : At) (r : Result BasketHead Shortage) → r ≡ value_of (basket_head_at s) → AreBytes s.rest → IfOk r (λ h. (rest : List ℕ) × (s.rest ≡ basket_head_bytes h ++ rest))
-is_head_found s r e fits = subst P (sym e) (by (basket_head_at s) refl)
-  where
-    P : Result BasketHead Shortage → Type 0
-    P q = IfOk q (λ h. (rest : List ℕ) × (s.rest ≡ basket_head_bytes h ++ rest))
-
-    by : (read : Reading (Unit {0}) Shortage BasketHead) → basket_head_at s ≡ read → P (value_of read)
-    by (Ok x) is =
-        let a = Agree.read_is_spelled basket_head_layout (plain s) x.0 x.1 fits is in
-        let own = head_apart (s.place + length s.rest) s.place x.0 a.front (record { so = a.spelled }) in
-        (x.1.at.rest, a.parts ∙ ap (λ (b : List ℕ). b ++ x.1.at.rest) own)
-    by (Err d) is = tt
+is_head_found s (Ok h) e fits =
+    let f = value_found basket_head_layout s h fits (sym e) in
+    (f.rest, f.parts ∙ ap (λ (b : List ℕ). b ++ f.rest) (head_apart (end_place s) s.place h f.front f.spelled))
+is_head_found s (Err d) e fits = tt
 
 pub is_head_broken : (s : At) (r : Result BasketHead Shortage) → r ≡ value_of (basket_head_at s) → AreBytes s.rest → IfErr r (λ e. BreaksBasketHead s e)
 unfolding BreaksBasketHead
 is_head_broken s (Ok h) e fits = tt
-is_head_broken s (Err d) e fits = Agree.fault_is_broken basket_head_layout (plain s) d fits (by (basket_head_at s) (sym e))
-  where
-    by : (read : Reading (Unit {0}) Shortage BasketHead) → value_of read ≡ Err d → read ≡ Err d
-    by (Ok x) is = absurd cc
-    by (Err f) is = cc
+is_head_broken s (Err d) e fits = value_broken basket_head_layout s d fits (sym e)
 
 -- the head's place, behind a key, is within the bytes
 pub place_within : (base : ℕ) (bytes : List ℕ) (h : KeyHead) (s' : At) → AreBytes bytes → key_head_at (standing base bytes) ≡ Ok (h, plain s') → s'.place ≤ base + length bytes

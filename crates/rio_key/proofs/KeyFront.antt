@@ -6,13 +6,14 @@ use Rattle.std.proofs.Math.Seq.{take-append-add}
 use Rattle.rio_num.specs.At.{At}
 use Rattle.rio_num.specs.Meanings.{Reading, Standing, read}
 use Rattle.rio_num.proofs.ReadLaws.{bind_ok, ok_is}
-use Rattle.rio_key.specs.Key.{key_at, key_fields, key_head_at, key_layout, plain, value_of}
+use Rattle.rio_num.specs.Plain.{plain, value_of}
+use Rattle.rio_key.specs.Key.{key_at, key_fields, key_head_at, key_layout}
 use Rattle.rio_key.specs.Laws.{KeyFromFront, KeyInFront}
 use Rattle.rio_key.specs.declared.head.KeyHead.{KeyHead}
 use Rattle.rio_key.specs.declared.fault.KeyFault.{KeyFault}
 use Rattle.rio_key.specs.declared.fault.KeyFault.TheVariants.{BadLength, BadKeyLen}
-use Rattle.rio_key.proofs.KeyAgain.{standing}
-use Rattle.rio_key.proofs.LayoutFront.{AreFields, front_again}
+use Rattle.rio_num.proofs.Plain.{standing}
+use Rattle.rio_num.proofs.LayoutFront.{AreFields, front_again}
 
 abbrev pub Read : Type 0
 Read = Reading (Unit {0}) KeyFault KeyHead

@@ -1,5 +1,5 @@
 -- What spells a list of key heads is read as it, and what is read as one spells it.
-use Rattle.std.proofs.Common.{◌≡◌, ◌≢◌, ℕ, ◌+◌, ◌<◌, ◌^◌, Some, List, [], ◌∷◌, ◌++◌, length, Result, Ok, Err, refl, ap, subst, ◌∙◌, sym, arith}
+use Rattle.std.proofs.Common.{◌≡◌, ◌≢◌, ℕ, ◌+◌, ◌<◌, ◌^◌, Some, List, [], ◌∷◌, ◌++◌, length, Result, Ok, Err, ap, subst, ◌∙◌, sym, arith}
 use Rattle.std.specs.Prelude.{IfErr, IfOk}
 use Rattle.byteorder.specs.Endian.{big_bytes}
 use Rattle.rio_num.specs.At.{At, AreBytes}
@@ -8,19 +8,18 @@ use Rattle.rio_num.specs.Meanings.{Reading, Standing, Spells}
 use Rattle.rio_num.proofs.Agree as Agree
 use Rattle.rio_num.proofs.Intro.{IsSo, both_are, done_is, ends_with, here_then, number_then}
 use Rattle.rio_num.proofs.ReadLaws.{ok_is}
-use Rattle.rio_num.proofs.Retold.{retold_spelled}
-use Rattle.rio_key.specs.Key.{IsSpelledIn, SpellsKey, key_layout, plain}
+use Rattle.rio_num.proofs.Retold.{retold_spelled, told_before}
+use Rattle.rio_num.specs.Plain.{IsSpelledIn, plain}
+use Rattle.rio_key.specs.Key.{SpellsKey, key_layout}
 use Rattle.rio_key.specs.KeyList.{BreaksKeyList, FailsList, GivesListAt, IsListReadAs, SpellsKeyList, listed_fault, key_list_at, key_list_layout, listed_key}
 use Rattle.rio_key.specs.declared.head.KeyHead.{KeyHead}
-use Rattle.rio_key.specs.declared.fault.KeyFault.{KeyFault}
 use Rattle.rio_key.specs.declared.fault.KeyFault.TheVariants.{NoMemory}
 use Rattle.rio_key.specs.declared.fault.ListFault.{ListFault}
-use Rattle.rio_key.proofs.Apart.{here_of}
-use Rattle.rio_key.proofs.KeyAgain.{standing}
+use Rattle.rio_num.proofs.Apart.{here_of}
+use Rattle.rio_num.proofs.Plain.{spelled_again, standing}
 use Rattle.rio_key.proofs.KeyParts.{key_moves}
 use Rattle.rio_key.proofs.KeyRead.{no_memory}
-use Rattle.rio_key.proofs.Moves.{IsFound, Moves, found, moves_behind, moves_number, moves_times, spelled_again}
-use Rattle.rio_key.proofs.Retold.{told_before}
+use Rattle.rio_num.proofs.Moves.{IsFound, Moves, found, moves_behind, moves_number, moves_times}
 
 -- ---- a list stands anywhere
 

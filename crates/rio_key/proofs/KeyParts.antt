@@ -5,12 +5,12 @@ use Rattle.std.proofs.lemmas.List.{append-nil}
 use Rattle.std.specs.Int.{w32, cast_signed}
 use Rattle.rio_num.specs.Text.{SpellsText}
 use Rattle.rio_num.specs.Meanings.{Spells}
-use Rattle.rio_num.proofs.Intro.{IsSo, done_is, ends_with, here_then, number_then, second_is, so_by}
+use Rattle.rio_num.proofs.Intro.{IsSo, done_is, ends_with, here_then, number_then, second_is, so_by, text_then}
 use Rattle.rio_key.specs.Key.{SpellsKey, key_fields, key_layout}
 use Rattle.rio_key.specs.Written.{AreWithinFields, number_bytes}
 use Rattle.rio_key.specs.declared.head.KeyHead.{KeyHead}
-use Rattle.rio_key.proofs.Apart.{both_of, here_of, number_of, text_of, text_then, unbroken}
-use Rattle.rio_key.proofs.Moves.{Moves}
+use Rattle.rio_num.proofs.Apart.{both_of, here_of, number_of, text_of, unbroken}
+use Rattle.rio_num.proofs.Moves.{Moves}
 use Rattle.rio_key.proofs.Signed.{at_least, not_below, signed_is}
 
 -- the fields, and the bytes of each text
@@ -110,10 +110,10 @@ pub key_moves : Moves key_layout
 key_moves = record { moves = λ end end' p q t key bytes t' c. key_made end' q key bytes (key_apart end p key bytes c) }
 
 -- what spells a key, wherever it stands
-pub parts_of : (key : KeyHead) (bytes : List ℕ) → SpellsKey key bytes → HasKey key bytes
+pub parts_of_key : (key : KeyHead) (bytes : List ℕ) → SpellsKey key bytes → HasKey key bytes
 unfolding SpellsKey
-parts_of key bytes c = key_apart (0 + length bytes) 0 key bytes (c 0)
+parts_of_key key bytes c = key_apart (0 + length bytes) 0 key bytes (c 0)
 
-pub of_parts : (key : KeyHead) (bytes : List ℕ) → HasKey key bytes → SpellsKey key bytes
+pub key_of_parts : (key : KeyHead) (bytes : List ℕ) → HasKey key bytes → SpellsKey key bytes
 unfolding SpellsKey
-of_parts key bytes k = λ p. key_made (p + length bytes) p key bytes k
+key_of_parts key bytes k = λ p. key_made (p + length bytes) p key bytes k

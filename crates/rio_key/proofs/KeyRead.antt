@@ -1,22 +1,17 @@
 -- What a reader of a key returned is spelled, and what is spelled is returned.
-use Rattle.std.proofs.Common.{◌≡◌, ◌≢◌, ℕ, ◌+◌, ◌-◌, Bool, true, false, cond, List, [], ◌++◌, length, drop, nat_lt, Result, Ok, Err, refl, sym, ap, subst, ◌∙◌, arith}
+use Rattle.std.proofs.Common.{◌≡◌, ◌≢◌, ℕ, ◌+◌, List, ◌++◌, length, Result, Ok, Err, refl, sym, ap, subst, ◌∙◌}
 use Rattle.std.specs.Prelude.{IfErr, IfOk}
-use Rattle.rio_num.specs.At.{At, AreBytes, standing_at}
+use Rattle.rio_num.specs.At.{At, AreBytes}
 use Rattle.rio_num.specs.Meanings.{Reading, Standing}
 use Rattle.rio_num.proofs.Agree as Agree
-use Rattle.rio_num.proofs.ReadLaws.{IsBytes-drop, ok_is}
-use Rattle.rio_key.specs.Key.{BreaksKey, FailsKey, GivesAt, IsReadAs, IsSpelledIn, SpellsKey, key_head_at, key_layout, plain}
+use Rattle.rio_num.proofs.ReadLaws.{ok_is}
+use Rattle.rio_num.specs.Plain.{IsSpelledIn, plain}
+use Rattle.rio_key.specs.Key.{BreaksKey, FailsKey, GivesAt, IsReadAs, SpellsKey, key_head_at, key_layout}
 use Rattle.rio_key.specs.declared.head.KeyHead.{KeyHead}
 use Rattle.rio_key.specs.declared.fault.KeyFault.{KeyFault}
 use Rattle.rio_key.specs.declared.fault.KeyFault.TheVariants.{Short, BadLength, BadKeyLen, NoMemory}
-use Rattle.rio_key.proofs.KeyAgain.{key_again, key_found, standing}
-
-AreBytes-cond : (b : Bool) (xs : List ℕ) → AreBytes xs → AreBytes (cond b [] xs)
-AreBytes-cond true xs h = λ i. omega arith
-AreBytes-cond false xs h = h
-
-pub AreBytes-standing : (base place : ℕ) (bytes : List ℕ) → AreBytes bytes → AreBytes (standing_at base place bytes).rest
-AreBytes-standing base place bytes h = AreBytes-cond (nat_lt place base) (drop (place - base) bytes) (IsBytes-drop (place - base) bytes h)
+use Rattle.rio_num.proofs.Plain.{standing}
+use Rattle.rio_key.proofs.KeyAgain.{key_again, key_found}
 
 abbrev read_so : {X : Type 0} → X → Result X KeyFault
 read_so x = Ok x

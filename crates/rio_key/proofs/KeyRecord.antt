@@ -5,26 +5,17 @@ use Rattle.std.specs.Int.{w32, cast_signed, cast_unsigned}
 use Rattle.std.proofs.lemmas.Int.{ints}
 use Rattle.byteorder.specs.Endian.{big_number}
 use Rattle.rio_num.specs.At.{At}
-use Rattle.rio_num.specs.Layout.{Layout, behind}
-use Rattle.rio_num.specs.Meanings.{Standing, of_bytes, read}
+use Rattle.rio_num.specs.Meanings.{Standing, of_bytes}
 use Rattle.rio_num.specs.Reading.{short, skip}
-use Rattle.rio_num.proofs.ReadLaws.{bind_ok, ok_is}
-use Rattle.rio_key.specs.Key.{key_at, key_fields, plain}
+use Rattle.rio_num.proofs.ReadLaws.{ok_is}
+use Rattle.rio_num.specs.Plain.{plain}
+use Rattle.rio_num.proofs.Reads.{Reads, next_of}
+use Rattle.rio_key.specs.Key.{key_at, key_fields}
 use Rattle.rio_key.specs.declared.head.KeyHead.{KeyHead}
 use Rattle.rio_key.specs.declared.fault.KeyFault.{KeyFault}
 use Rattle.rio_key.specs.declared.fault.KeyFault.TheVariants.{Short}
 use Rattle.rio_key.proofs.KeyFront.{kept}
 use Rattle.rio_key.proofs.Signed.{at_least, signed_is}
-
--- ---- what was read, one part behind the other
-
-record Reads {W F A : Type 0} (l : Layout W F A) (s : Standing W) (y : A) (s' : Standing W) : Type 0 where
-  so : read l s ≡ Ok (y, s')
-
-next_of : {W F A B : Type 0} {l : Layout W F B} {k : B → Layout W F A} {s : Standing W} {y : A} {s' : Standing W} {P : Type 0} → Reads (behind l k) s y s' → ((x : B) (u : Standing W) → read l s ≡ Ok (x, u) → Reads (k x) u y s' → P) → P
-next_of {l = l} {k = k} {s = s} {y = y} {s' = s'} c next =
-    let w = bind_ok (read l s) (λ x. read (k x.0) x.1) (y, s') c.so in
-    next w.0.0 w.0.1 w.1 (record { so = w.2 })
 
 -- ---- the first number
 

@@ -1,21 +1,14 @@
 -- A key that is written is spelled by what was written.
-use Rattle.std.proofs.Common.{◌≡◌, inl, inr, ℕ, ◌^◌, ◌<◌, pos, Bool, true, false, cond, ltb, List, length, refl, ap, sym, ◌∙◌, arith}
+use Rattle.std.proofs.Common.{◌≡◌, pos, refl, ap, sym, ◌∙◌, arith}
 use Rattle.std.specs.Int.{w32, cast_signed, cast_unsigned}
 use Rattle.std.proofs.lemmas.Int.{of_z-to_z}
-use Rattle.std.proofs.lemmas.Bool.{ltb-true}
 use Rattle.rio_key.proofs.Signed.{signed_is}
-use Rattle.rio_num.specs.Text.{SpellsText, text_bytes, short_form, long_form}
+use Rattle.rio_num.specs.Text.{text_bytes}
+use Rattle.rio_num.proofs.ReadLaws.{text_written}
 use Rattle.rio_key.specs.Key.{SpellsKey}
 use Rattle.rio_key.specs.Written.{FitsKey, HoldsItself, written_key}
 use Rattle.rio_key.specs.declared.head.KeyHead.{KeyHead}
-use Rattle.rio_key.proofs.KeyParts.{HasKey, of_parts}
-
-text_written : (text : List ℕ) → length text < 2 ^ 32 → SpellsText text (text_bytes text)
-text_written text lt = by (ltb (length text) 255) refl
-  where
-    by : (b : Bool) → ltb (length text) 255 ≡ b → SpellsText text (cond b (short_form text) (long_form text))
-    by true e = inl (ltb-true _ _ e, refl)
-    by false e = inr (lt, refl)
+use Rattle.rio_key.proofs.KeyParts.{HasKey, key_of_parts}
 
 pub key_spelled : (h : KeyHead) → FitsKey h → HoldsItself h → SpellsKey h (written_key h)
 key_spelled h fits holds =
@@ -40,4 +33,4 @@ key_spelled h fits holds =
       key_held = omega (arith, same, holds.key_held);
       title_held = holds.title_held;
     } in
-    of_parts h (written_key h) parts
+    key_of_parts h (written_key h) parts

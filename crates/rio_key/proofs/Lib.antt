@@ -1,7 +1,4 @@
-pub mod Apart
 pub mod BasketHeadLaws
-pub mod Front
-pub mod Heads
 pub mod KeyAgain
 pub mod KeyFront
 pub mod KeyLaws
@@ -10,8 +7,5 @@ pub mod KeyParts
 pub mod KeyRead
 pub mod KeyRecord
 pub mod KeyWritten
-pub mod LayoutFront
-pub mod Moves
-pub mod Puts
 pub mod Retold
 pub mod Signed

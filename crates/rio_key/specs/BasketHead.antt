@@ -8,7 +8,7 @@ use Rattle.rio_num.specs.Layout.{done, number, ◌>>=◌}
 use Rattle.rio_num.specs.Meanings.{Reading, read, Breaks}
 use Rattle.rio_num.specs.Reading.{short}
 use Rattle.rio_num.specs.declared.cursor.Short.{Short as Shortage}
-use Rattle.rio_key.specs.Key.{Plain, plain}
+use Rattle.rio_num.specs.Plain.{Plain, plain}
 use Rattle.rio_key.specs.declared.basket_head.BasketHead.{BasketHead}
 
 -- the fields; an integer of 4 bytes may be negative

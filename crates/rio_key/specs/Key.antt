@@ -1,24 +1,13 @@
 -- A key. Each rule stands here once; the meanings of descriptions say how it is read, spelled and broken.
-use Rattle.std.specs.Prelude.{◌≡◌, ◌≢◌, ℕ, ◌+◌, ◌-◌, pos, List, ◌++◌, length, Result, Ok, Err, nat_lt, if◌then◌else◌, int_lt, ◌-ℤ◌, Bool}
+use Rattle.std.specs.Prelude.{◌≡◌, ◌≢◌, ℕ, ◌-◌, pos, List, Result, Ok, Err, nat_lt, if◌then◌else◌, int_lt, ◌-ℤ◌, Bool}
 use Rattle.std.specs.Int.{w32, cast_signed}
 use Rattle.rio_num.specs.At.{At}
-use Rattle.rio_num.specs.Layout.{Layout, done, broken, number, text, here, ◌>>=◌, when◌then◌else◌}
-use Rattle.rio_num.specs.Meanings.{Standing, Reading, read, Spells, Breaks}
+use Rattle.rio_num.specs.Layout.{done, broken, number, text, here, ◌>>=◌, when◌then◌else◌}
+use Rattle.rio_num.specs.Meanings.{Reading, read, Breaks}
+use Rattle.rio_num.specs.Plain.{IsSpelledBy, Plain, plain, value_of}
 use Rattle.rio_key.specs.declared.head.KeyHead.{KeyHead}
 use Rattle.rio_key.specs.declared.fault.KeyFault.{KeyFault}
 use Rattle.rio_key.specs.declared.fault.KeyFault.TheVariants.{Short, BadLength, BadKeyLen, NoMemory}
-
--- a description of what refers to nothing that stands before it
-abbrev pub Plain : Type 0 → Type 0 → Type 1
-Plain F A = Layout (Unit {0}) F A
-
--- reading stands there
-abbrev pub plain : At → Standing (Unit {0})
-plain s = record { at = s; words = tt }
-
--- these bytes spell it, wherever they stand
-abbrev pub IsSpelledBy : {F A : Type 0} → Plain F A → A → List ℕ → Type 0
-IsSpelledBy l x bytes = (place : ℕ) → Spells l (place + length bytes) place tt x bytes tt
 
 -- ---- the layout
 
@@ -56,11 +45,6 @@ key_layout = do
 abbrev pub key_head_at : At → Reading (Unit {0}) KeyFault KeyHead
 key_head_at s = read key_layout (plain s)
 
--- what was read, without the place where reading goes on
-abbrev pub value_of : {A B E : Type 0} → Result (A × B) E → Result A E
-value_of (Ok x) = Ok x.0
-value_of (Err e) = Err e
-
 -- the key there, or the first fault
 abbrev pub key_at : At → Result KeyHead KeyFault
 key_at s = value_of (key_head_at s)
@@ -72,10 +56,6 @@ SpellsKey key bytes = IsSpelledBy key_layout key bytes
 -- the bytes there begin with no key: what stands before is right, and this is the first fault
 unfoldable pub BreaksKey : At → KeyFault → Type 0
 BreaksKey s fault = Breaks key_layout s.place tt s.rest fault
-
--- a front of the bytes is spelled so
-abbrev pub IsSpelledIn : (List ℕ → Type 0) → List ℕ → Type 0
-IsSpelledIn spells bytes = (front : List ℕ) × (rest : List ℕ) × (bytes ≡ front ++ rest) × spells front
 
 -- ---- what a reader does
 

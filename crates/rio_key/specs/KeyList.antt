@@ -3,7 +3,8 @@ use Rattle.std.specs.Prelude.{◌≡◌, ◌≢◌, ℕ, List, Option, Some, Non
 use Rattle.rio_num.specs.At.{At}
 use Rattle.rio_num.specs.Layout.{number, here, times, retold, ◌>>=◌}
 use Rattle.rio_num.specs.Meanings.{Reading, read, Breaks}
-use Rattle.rio_key.specs.Key.{IsSpelledBy, Plain, key_layout, plain}
+use Rattle.rio_num.specs.Plain.{IsSpelledBy, Plain, plain}
+use Rattle.rio_key.specs.Key.{key_layout}
 use Rattle.rio_key.specs.declared.head.KeyHead.{KeyHead}
 use Rattle.rio_key.specs.declared.fault.KeyFault.{KeyFault}
 use Rattle.rio_key.specs.declared.fault.KeyFault.TheVariants.{Short, NoMemory}

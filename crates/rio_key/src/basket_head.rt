@@ -3,7 +3,8 @@ ghost use Rattle.std.specs.Prelude.{◌≡◌, ◌+◌, ◌<◌, ◌≤◌, ◌^
 ghost use Rattle.rio_num.specs.Room.{with_more};
 ghost use Rattle.rio_key.specs.BasketFront.{basket_front_at, within};
 ghost use Rattle.rio_key.specs.BasketHead.{AreInRange, BreaksBasketHead, basket_head_at, basket_head_bytes, integer_bytes, sizes_bytes};
-ghost use Rattle.rio_key.specs.Key.{Gives, value_of};
+ghost use Rattle.rio_num.specs.Plain.{value_of};
+ghost use Rattle.rio_key.specs.Key.{Gives};
 ghost use Rattle.rio_key.specs.declared.basket_head.BasketHead.{BasketHead as Head};
 
 use crate::read::take_key;

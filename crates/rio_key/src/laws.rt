@@ -1,7 +1,8 @@
 //! Laws of keys: how reading, spelling and first faults belong together, and that there is one key at a place.
 ghost use Rattle.rio_num.specs.Laws.{Agrees};
 ghost use Rattle.rio_key.specs.BasketHead.{basket_head_layout};
-ghost use Rattle.rio_key.specs.Laws.{IsOne, KeyFromFront, KeyInFront};
+ghost use Rattle.rio_num.specs.Plain.{IsOne};
+ghost use Rattle.rio_key.specs.Laws.{KeyFromFront, KeyInFront};
 ghost use Rattle.rio_key.specs.Key.{SpellsKey, key_layout};
 ghost use Rattle.rio_key.specs.KeyList.{SpellsKeyList, key_list_layout};
 ghost use Rattle.rio_key.specs.Written.{WrittenKeyIsSpelled};

@@ -3,7 +3,7 @@ ghost use Rattle.std.specs.Prelude.{◌≡◌, ◌≢◌, ◌+◌, ◌<◌, ◌^
 ghost use Rattle.rio_key.specs.declared.head.KeyHead.{KeyHead as Head};
 ghost use Rattle.rio_num.specs.Layout.{times};
 ghost use Rattle.rio_num.specs.Meanings.{read};
-ghost use Rattle.rio_key.specs.Key.{IsSpelledIn, plain, value_of};
+ghost use Rattle.rio_num.specs.Plain.{IsSpelledIn, plain, value_of};
 ghost use Rattle.rio_key.specs.KeyList.{BreaksKeyList, GivesList, GivesListAt, IsListReadAs, SpellsKeyList, head_count, key_list_at, listed_key};
 ghost use Rattle.rio_key.specs.declared.fault.KeyFault.TheVariants.{NoMemory as OutOfMemory};
 

@@ -3,7 +3,8 @@ ghost use Rattle.std.specs.Prelude.{◌≡◌, ◌≢◌, ◌+◌, ◌<◌, ◌^
 ghost use Rattle.rio_num.specs.At.{GoesOn, standing_at};
 ghost use Rattle.rio_num.specs.Reading.{Takes, number_at};
 ghost use Rattle.rio_num.specs.Meanings.{read};
-ghost use Rattle.rio_key.specs.Key.{BreaksKey, Gives, GivesAt, IsReadAs, IsSpelledIn, SpellsKey, key_at, key_fields, key_head_at, key_place_len, plain};
+ghost use Rattle.rio_num.specs.Plain.{IsSpelledIn, plain};
+ghost use Rattle.rio_key.specs.Key.{BreaksKey, Gives, GivesAt, IsReadAs, SpellsKey, key_at, key_fields, key_head_at, key_place_len};
 ghost use Rattle.rio_key.specs.declared.fault.KeyFault.TheVariants.{NoMemory as OutOfMemory};
 
 use crate::{KeyFault, KeyHead};

@@ -12,8 +12,8 @@ use Rattle.rio_key.specs.Key.{SpellsKey, key_fields, key_layout}
 use Rattle.rio_key.specs.KeyList.{key_list_layout, listed_key}
 use Rattle.rio_key.specs.Written.{AreWithinFields, FitsKey, HoldsItself, written_key}
 use Rattle.rio_key.specs.declared.head.KeyHead.{KeyHead}
-use Rattle.rio_head.specs.Dir.{dir_at}
-use Rattle.rio_head.specs.Head.{behind_at, head_at, header_at}
+use Rattle.rio_head.specs.Dir.{dir_layout}
+use Rattle.rio_head.specs.Head.{behind_layout, head_at, header_layout}
 use Rattle.rio_head.specs.declared.dir.DirRecord.{DirRecord}
 use Rattle.rio_head.specs.declared.head.FileHead.{FileHead}
 use Rattle.rio_dir.specs.Closed.{closed_file, closed_head, listed_at}
@@ -259,7 +259,7 @@ records = record {
 }
 
 head_read : head_at image ≡ Ok head
-unfolding head header_at behind_at
+unfolding head header_layout behind_layout
 head_read = refl
 
 read_as_made : ReadsAsMade image empty_state
@@ -276,7 +276,7 @@ closed : Closed
 closed = record { head = head; dir = dir; keys = [] }
 
 closed_read : closed_file image ≡ Ok closed
-unfolding closed head dir closed_file closed_head listed_at header_at behind_at dir_at key_layout key_fields text_at key_list_layout listed_key each retold
+unfolding closed head dir closed_file closed_head listed_at header_layout behind_layout dir_layout key_layout key_fields text_at key_list_layout listed_key each retold
 closed_read = refl
 
 free_record : KeyedRecord

@@ -3,10 +3,10 @@ use Rattle.rio_num.specs.At.{At}
 use Rattle.rio_num.specs.Meanings.{Reading}
 use Rattle.rio_num.specs.declared.cursor.Short.{Short as Shortage}
 use Rattle.rio_key.specs.BasketHead.{basket_head_at}
-use Rattle.rio_key.specs.Key.{value_of}
+use Rattle.rio_num.specs.Plain.{value_of}
 use Rattle.rio_key.specs.declared.basket_head.BasketHead.{BasketHead}
 use Rattle.rio_key.proofs.BasketHeadLaws.{basket_head_again, is_head_broken, is_head_found}
-use Rattle.rio_key.proofs.KeyAgain.{standing}
+use Rattle.rio_num.proofs.Plain.{standing}
 use Rattle.rio_key.proofs.basket_head.read_basket_head.Goals as goal
 
 pub returns-clause-found : goal.returns-clause-found

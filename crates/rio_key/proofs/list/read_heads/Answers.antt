@@ -1,7 +1,7 @@
 use Rattle.std.proofs.Common.{subst, arith}
 use Rattle.rio_num.specs.At.{At}
 use Rattle.rio_key.specs.KeyList.{GivesListAt, key_list_at}
-use Rattle.rio_key.proofs.KeyAgain.{standing}
+use Rattle.rio_num.proofs.Plain.{standing}
 use Rattle.rio_key.proofs.KeyListLaws.{is_list_broken, is_list_found, is_list_only}
 use Rattle.rio_key.proofs.list.read_heads.Goals as goal
 

@@ -1,7 +1,7 @@
 use Rattle.std.proofs.lemmas.Result.{err_from_is_err_and}
-use Rattle.rio_key.specs.Key.{plain}
+use Rattle.rio_num.specs.Plain.{plain}
 use Rattle.rio_key.specs.KeyList.{listed_key}
-use Rattle.rio_key.proofs.Heads.{times_goes_on, times_fails, times_done}
+use Rattle.rio_num.proofs.Loops.{times_goes_on, times_fails, times_done}
 use Rattle.rio_key.proofs.list.take_heads.Goals as goal
 
 pub returns-in_err-head : goal.returns-in_err-head
