@@ -1,6 +1,6 @@
 -- A header is read from the first 100 bytes of a file alone.
 use Rattle.std.proofs.Common.{ℕ, ◌*◌, ◌-◌, ◌≤◌, refl, arith}
-use Rattle.rio_num.proofs.Cut.{TakesFew, value_cut}
+use Rattle.rio_num.proofs.Cut.{TakesFew, few_bytes, few_done, few_must, few_number, value_cut}
 use Rattle.rio_num.proofs.Plain.{standing}
 use Rattle.rio_head.specs.Form.{place_len, is_large_head}
 use Rattle.rio_head.specs.Head.{behind_layout, header_layout}
@@ -17,21 +17,20 @@ unfolding behind_layout
 behind_few version =
     let n = place_len (is_large_head version) in
     let le : n ≤ 8 = place_len-le (is_large_head version) in
-    (λ a. 88 - n, λ a. omega (arith, le), λ a.
-    (λ b. 88 - 2 * n, λ b. omega (arith, le), λ b.
-    (λ c. 84 - 2 * n, λ c. omega (arith, le), λ c.
-    (λ d. 80 - 2 * n, λ d. omega (arith, le), λ d.
-    (λ e. 76 - 2 * n, λ e. omega (arith, le), λ e.
-    (λ f. 75 - 2 * n, λ f. omega (arith, le), λ f.
-    (λ u. 75 - 2 * n, (refl, tt), λ u.
-    (λ g. 71 - 2 * n, λ g. omega (arith, le), λ g.
-    (λ h. 71 - 3 * n, λ h. omega (arith, le), λ h.
-    (λ i. 67 - 3 * n, λ i. omega (arith, le), λ i.
-    (λ j. 49 - 3 * n, λ j. omega (arith, le), λ j. refl)))))))))))
+    few_number (88 - n) (omega (arith, le)) (λ a.
+    few_number (88 - 2 * n) (omega (arith, le)) (λ b.
+    few_number (84 - 2 * n) (omega (arith, le)) (λ c.
+    few_number (80 - 2 * n) (omega (arith, le)) (λ d.
+    few_number (76 - 2 * n) (omega (arith, le)) (λ e.
+    few_number (75 - 2 * n) (omega (arith, le)) (λ f. few_must _ (
+    few_number (71 - 2 * n) (omega (arith, le)) (λ g.
+    few_number (71 - 3 * n) (omega (arith, le)) (λ h.
+    few_number (67 - 3 * n) (omega (arith, le)) (λ i.
+    few_bytes (49 - 3 * n) (omega (arith, le)) (λ j. few_done _ refl)))))))))))
 
 header_few : TakesFew 100 left header_layout
 unfolding header_layout
-header_few = (λ a. 96, λ a. refl, λ a. (λ u. 96, (refl, tt), λ u. (λ b. 92, λ b. refl, λ version. (λ c. 88, λ c. refl, λ c. (λ v. 88, (refl, tt), λ v. behind_few version)))))
+header_few = few_number 96 refl (λ root. few_must _ (few_number 92 refl (λ version. few_number 88 refl (λ begin. few_must _ (behind_few version)))))
 
 pub head_in_front : HeadInFront
 head_in_front bytes = value_cut header_layout 100 left header_few (standing 0 bytes)
