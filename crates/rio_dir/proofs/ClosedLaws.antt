@@ -2,17 +2,15 @@
 use Rattle.std.proofs.Common.{◌≡◌, ◌≢◌, inl, inr, ℕ, ◌≤◌, Bool, true, false, cond, ltb, eqb, List, [], length, drop, Result, Ok, Err, refl, sym, ap, subst, ◌∙◌}
 use Rattle.std.proofs.lemmas.Bool.{le-ltb, ltb-false, eq-eqb, ne_eqb, eqb-true, eqb-false}
 use Rattle.std.specs.Int.{w32, cast_unsigned}
-use Rattle.rio_num.specs.At.{At}
 use Rattle.rio_num.specs.Meanings.{Reading, Standing}
 use Rattle.rio_num.specs.Reading.{◌>>=◌}
 use Rattle.rio_num.proofs.ReadLaws.{IsBytes, IsBytes-drop, IsBytes-take, bind_is, bind_ok, guard_ok, ok_is}
 use Rattle.rio_key.specs.declared.head.KeyHead.{KeyHead}
-use Rattle.rio_key.specs.declared.fault.KeyFault.{KeyFault}
 use Rattle.rio_key.specs.declared.fault.ListFault.{ListFault}
 use Rattle.rio_num.specs.Plain.{IsSpelledIn, value_of}
 use Rattle.rio_key.specs.Key.{SpellsKey, key_at, key_head_at}
 use Rattle.rio_key.specs.KeyList.{SpellsKeyList, key_list_at}
-use Rattle.rio_num.proofs.Plain.{standing}
+use Rattle.rio_num.proofs.Plain.{standing, value_ok}
 use Rattle.rio_key.proofs.KeyAgain.{key_again, key_found}
 use Rattle.rio_key.proofs.KeyListLaws.{key_list_again, key_list_found}
 use Rattle.rio_head.specs.declared.head.FileHead.{FileHead}
@@ -95,15 +93,11 @@ list_ok : (place : ℕ) (r : Reading (Unit {0}) ListFault (List KeyHead)) (hs : 
 list_ok place (Ok x) hs e = (x.1, ap (λ (y : List KeyHead). let read : Reading (Unit {0}) ListFault (List KeyHead) = Ok (y, x.1) in read) (ok_is {E = HeadFault} x.0 hs e))
 list_ok place (Err f) hs e = absurd cc
 
-value_is : (r : Reading (Unit {0}) KeyFault KeyHead) (h : KeyHead) → value_of r ≡ Ok h → (t : Standing (Unit {0})) × (r ≡ Ok (h, t))
-value_is (Ok x) h e = (x.1, ap (λ (y : KeyHead). let read : Reading (Unit {0}) KeyFault KeyHead = Ok (y, x.1) in read) (ok_is {E = KeyFault} x.0 h e))
-value_is (Err f) h e = absurd cc
-
 listed_is : (file : List ℕ) (place : ℕ) (keys : List KeyHead) → IsBytes file → place ≢ 0 → listed_at file place ≡ Ok keys → IsKeyList file place keys
 unfolding listed_at SpellsKey SpellsKeyList
 listed_is file place keys fits somewhere e =
     let k = bind_ok (or_fault (fault_at place BadKeyList) (key_at (file_at file place))) (λ key. heads_of place key (data_at file place key)) keys e in
-    let v = value_is (key_head_at (file_at file place)) k.0 (or_fault_ok (fault_at place BadKeyList) (key_at (file_at file place)) k.0 k.1) in
+    let v = value_ok (key_head_at (file_at file place)) k.0 (or_fault_ok (fault_at place BadKeyList) (key_at (file_at file place)) k.0 k.1) in
     let l = list_ok place (key_list_at (data_at file place k.0)) keys k.2 in
     let in_file = IsBytes-drop place file fits in
     let in_record = IsBytes-drop k.0.keylen _ (IsBytes-take (cast_unsigned w32 k.0.nbytes) (drop place file) in_file) in

@@ -6,13 +6,13 @@ use Rattle.std.proofs.Math.Seq.{take-append-add}
 use Rattle.rio_num.specs.At.{At}
 use Rattle.rio_num.specs.Meanings.{Reading, Standing, read}
 use Rattle.rio_num.proofs.ReadLaws.{bind_ok, ok_is}
-use Rattle.rio_num.specs.Plain.{plain, value_of}
+use Rattle.rio_num.specs.Plain.{plain}
 use Rattle.rio_key.specs.Key.{key_at, key_fields, key_head_at, key_layout}
 use Rattle.rio_key.specs.Laws.{KeyFromFront, KeyInFront}
 use Rattle.rio_key.specs.declared.head.KeyHead.{KeyHead}
 use Rattle.rio_key.specs.declared.fault.KeyFault.{KeyFault}
 use Rattle.rio_key.specs.declared.fault.KeyFault.TheVariants.{BadLength, BadKeyLen}
-use Rattle.rio_num.proofs.Plain.{standing}
+use Rattle.rio_num.proofs.Plain.{standing, value_ok}
 use Rattle.rio_num.proofs.LayoutFront.{AreFields, front_again}
 
 abbrev pub Read : Type 0
@@ -40,10 +40,6 @@ kept_by s x y false true is t u e = absurd cc
 kept_by s x y false false is t u e =
     let made : IsKept s x.0 = record { end = x.1; read_so = is; key_held = t; title_held = ltb-false _ _ u } in
     subst (λ (q : Keyed). IsKept s q.0) (ok_is {E = KeyFault} x y e) made
-
-value_ok : (r : Read) (h : KeyHead) → value_of r ≡ Ok h → (t : Standing (Unit {0})) × (r ≡ Ok (h, t))
-value_ok (Ok x) h e = (x.1, ap (λ (z : KeyHead). let r : Read = Ok (z, x.1) in r) (ok_is {E = KeyFault} x.0 h e))
-value_ok (Err d) h e = absurd cc
 
 pub kept : (s : At) (h : KeyHead) → key_at s ≡ Ok h → IsKept s h
 unfolding key_layout
