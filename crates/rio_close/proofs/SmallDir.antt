@@ -5,7 +5,7 @@ use Rattle.rio_num.specs.Meanings.{Reading}
 use Rattle.rio_num.specs.Plain.{plain, value_of}
 use Rattle.rio_num.specs.Reading.{number_at, skip}
 use Rattle.rio_num.specs.declared.cursor.Short.{Short}
-use Rattle.rio_num.proofs.Reads.{Reads, reads_bytes, reads_done, reads_number}
+use Rattle.rio_num.proofs.InOrder.{Reads, reads_bytes, reads_done, reads_number}
 use Rattle.rio_head.specs.Dir.{dir_at, dir_layout}
 use Rattle.rio_head.specs.Form.{is_large_dir, place_len}
 use Rattle.rio_head.specs.declared.dir.DirRecord.{DirRecord}

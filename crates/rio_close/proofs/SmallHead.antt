@@ -10,7 +10,7 @@ use Rattle.rio_num.specs.Reading.{bytes_at, number_at, skip}
 use Rattle.rio_num.specs.declared.cursor.Short.{Short}
 use Rattle.rio_num.proofs.Plain.{value_ok}
 use Rattle.rio_num.proofs.ReadLaws.{ok_is}
-use Rattle.rio_num.proofs.Reads.{Reads, kept_of, next_of, reads_bytes, reads_done, reads_kept, reads_number}
+use Rattle.rio_num.proofs.InOrder.{Reads, kept_of, next_of, reads_bytes, reads_done, reads_kept, reads_number}
 use Rattle.rio_head.specs.Form.{is_large_head, place_len}
 use Rattle.rio_head.specs.Head.{behind_layout, head_at, header_layout, root_number, short_head}
 use Rattle.rio_head.specs.declared.head.FileHead.{FileHead}

@@ -9,7 +9,7 @@ use Rattle.rio_num.specs.Meanings.{Standing, of_bytes}
 use Rattle.rio_num.specs.Reading.{short, skip}
 use Rattle.rio_num.proofs.ReadLaws.{ok_is}
 use Rattle.rio_num.specs.Plain.{plain}
-use Rattle.rio_num.proofs.Reads.{Reads, next_of}
+use Rattle.rio_num.proofs.InOrder.{Reads, next_of}
 use Rattle.rio_key.specs.Key.{key_at, key_fields}
 use Rattle.rio_key.specs.declared.head.KeyHead.{KeyHead}
 use Rattle.rio_key.specs.declared.fault.KeyFault.{KeyFault}

@@ -4,6 +4,7 @@ pub mod BytesEq
 pub mod Cut
 pub mod Examples
 pub mod Front
+pub mod InOrder
 pub mod Intro
 pub mod LayoutBytes
 pub mod LayoutFront
@@ -15,6 +16,5 @@ pub mod NameSets
 pub mod Plain
 pub mod Puts
 pub mod ReadLaws
-pub mod Reads
 pub mod Retold
 pub mod Within
