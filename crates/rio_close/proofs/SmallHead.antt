@@ -76,7 +76,7 @@ module _ (b : List ℕ) (h : FileHead) (s : SmallHead b h) where
 
 -- a number was read there
 record IsThere (n : ℕ) (b : List ℕ) (k x : ℕ) (t : Standing (Unit {0})) : Type 0 where
-  number : HasNumber n b k x
+  found : HasNumber n b k x
   on : t.at ≡ standing (k + n) (drop (k + n) b)
 
 was : (n m k : ℕ) (b : List ℕ) (u : Standing (Unit {0})) (x : ℕ) (t : Standing (Unit {0})) → n ≡ suc m → u.at ≡ standing k (drop k b) → read (number short_head n) u ≡ Ok (x, t) → IsThere (suc m) b k x t
@@ -86,7 +86,7 @@ was n m k b u x t is stands e = by (number_at (suc m) (standing k (drop k b))) r
     by (Err d) r e = absurd cc
     by (Ok y) r e =
         let was_read = number_was_read m k k b y.0 y.1 r in
-        let made : IsThere (suc m) b k y.0 (record u { at = y.1 }) = record { number = was_read.there; on = was_read.goes_on } in
+        let made : IsThere (suc m) b k y.0 (record u { at = y.1 }) = record { found = was_read.there; on = was_read.goes_on } in
         subst (λ (q : ℕ × Standing (Unit {0})). IsThere (suc m) b k q.0 q.1) (ok_is {E = HeadFault} (y.0, record u { at = y.1 }) (x, t) e) made
 
 pub small_head : (b : List ℕ) (h : FileHead) → 63 ≤ length b → head_at b ≡ Ok h → is_large_head h.version ≡ false → SmallHead b h
@@ -132,18 +132,18 @@ small_head b h long e small =
     let uuid_is : own ≡ uuid = ap (λ (q : List ℕ × Standing (Unit {0})). q.0) (ok_is {E = HeadFault} (own, end) (uuid, s12) (sym uuid_read ∙ e12)) in
     let units_same : units ≡ 4 = eqb-true units (place_len (is_large_head version)) units_is ∙ four in
     let made : SmallHead b built = record {
-      root = subst (HasNumber 4 b 0) (eqb-true root root_number root_is) n0.number;
-      version = n1.number;
-      begin = subst (HasNumber 4 b 8) (eqb-true begin 100 begin_is) n2.number;
-      end = n3.number;
-      seek_free = n4.number;
-      nbytes_free = n5.number;
-      nfree = n6.number;
-      nbytes_name = n7.number;
-      units = subst (HasNumber 1 b 32) units_same n8.number;
-      compress = n9.number;
-      seek_info = n10.number;
-      nbytes_info = n11.number;
+      root = subst (HasNumber 4 b 0) (eqb-true root root_number root_is) n0.found;
+      version = n1.found;
+      begin = subst (HasNumber 4 b 8) (eqb-true begin 100 begin_is) n2.found;
+      end = n3.found;
+      seek_free = n4.found;
+      nbytes_free = n5.found;
+      nfree = n6.found;
+      nbytes_name = n7.found;
+      units = subst (HasNumber 1 b 32) units_same n8.found;
+      compress = n9.found;
+      seek_info = n10.found;
+      nbytes_info = n11.found;
       long = long;
       uuid = uuid_is;
       small = is_small;

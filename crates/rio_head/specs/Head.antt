@@ -69,11 +69,11 @@ header_at s = value_of (read header_layout (plain s))
 
 -- the header of a file of these bytes
 abbrev pub head_at : List ℕ → Result FileHead HeadFault
-head_at bytes = header_at (record { place = 0; rest = bytes })
+head_at file = header_at (record { place = 0; rest = file })
 
 -- the bytes begin with no header: what stands before is right, and this is the first fault
 unfoldable pub BreaksHead : List ℕ → HeadFault → Type 0
-BreaksHead bytes fault = Breaks header_layout 0 tt bytes fault
+BreaksHead file fault = Breaks header_layout 0 tt file fault
 
 -- the bytes of a header, up to its UUID
 abbrev pub head_bytes : FileHead → List ℕ
