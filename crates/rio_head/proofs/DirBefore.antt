@@ -62,7 +62,7 @@ abbrev pub to_created : Number → Read
 to_created version = number_at 4 version.1 >>= to_changed version.0
 
 -- reading a description gives this
-record GivesSo (l : Plain Short DirRecord) (s : At) (r : Read) : Type 0 where
+pub record GivesSo (l : Plain Short DirRecord) (s : At) (r : Read) : Type 0 where
   so : value_of (read l (plain s)) ≡ r
 
 number_so : {n : ℕ} {k : ℕ → Plain Short DirRecord} (s : At) (next : Number → Read) → ((x : ℕ) (t : At) → GivesSo (k x) t (next (x, t))) → GivesSo (behind (number short n) k) s (number_at n s >>= next)

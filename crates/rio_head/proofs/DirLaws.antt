@@ -1,5 +1,5 @@
 -- What spells a directory record is read as it, and what is read as a directory record spells it.
-use Rattle.std.proofs.Common.{◌≡◌, ℕ, ◌+◌, List, ◌++◌, length, Result, Ok, Err, refl, sym, ap, subst, ◌∙◌, append_assoc}
+use Rattle.std.proofs.Common.{◌≡◌, ℕ, ◌+◌, List, ◌++◌, length, Result, Ok, Err, refl, sym, ap, subst, ◌∙◌}
 use Rattle.std.specs.Prelude.{IfErr, IfOk}
 use Rattle.std.proofs.lemmas.List.{append-nil}
 use Rattle.rio_num.specs.At.{At, AreBytes, end_place}
@@ -21,7 +21,7 @@ dir_spelled end p d is =
     (number_then d.seek_dir is.seek_dir (number_then d.seek_parent is.seek_parent (number_then d.seek_keys is.seek_keys
     (bytes_then d.uuid is.uuid done_is)))))))))
     refl
-    (simp (append_assoc, append-nil))
+    (simp append-nil)
     refl
 
 -- a directory record, and its bytes
@@ -44,7 +44,7 @@ dir_apart end p d bytes c =
     let made : DirRecord = record { version = version; created = created; changed = changed; nbytes_keys = nbytes_keys; nbytes_name = nbytes_name; seek_dir = seek_dir; seek_parent = seek_parent; seek_keys = seek_keys; uuid = uuid } in
     let written : IsWritten made bytes = record {
       is_dir = record { version = f1; created = f2; changed = f3; nbytes_keys = f4; nbytes_name = f5; seek_dir = f6; seek_parent = f7; seek_keys = f8; uuid = long };
-      own = rw (e1, e2, e3, e4, e5, e6, e7, e8, e9, c9.so.1) (simp (append_assoc, append-nil));
+      own = rw (e1, e2, e3, e4, e5, e6, e7, e8, e9, c9.so.1) (simp append-nil);
     } in
     subst (λ (k : DirRecord). IsWritten k bytes) (sym c9.so.0) written)))))))))
 

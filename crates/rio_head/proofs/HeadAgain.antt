@@ -1,5 +1,5 @@
 -- What spells a header is read as it, and what is read as a header spells it.
-use Rattle.std.proofs.Common.{◌≡◌, ◌==◌, ℕ, ◌+◌, ◌^◌, ◌<◌, Bool, true, false, List, ◌++◌, length, Result, Ok, Err, refl, sym, ap, subst, ◌∙◌, append_assoc, arith}
+use Rattle.std.proofs.Common.{◌≡◌, ◌==◌, ℕ, ◌+◌, ◌^◌, ◌<◌, Bool, true, false, List, ◌++◌, length, Result, Ok, Err, refl, sym, ap, subst, ◌∙◌, arith}
 use Rattle.std.specs.Prelude.{IfErr, IfOk}
 use Rattle.std.proofs.lemmas.Bool.{eq-eqb, eqb-true}
 use Rattle.std.proofs.lemmas.List.{append-nil}
@@ -31,7 +31,7 @@ head_spelled end p h is =
     (number_then h.compress is.compress (number_then h.seek_info is.seek_info (number_then h.nbytes_info is.nbytes_info
     (bytes_then h.uuid is.uuid done_is))))))))))))))))
     (λ i. record h { begin = is.begin i })
-    (simp (append_assoc, append-nil))
+    (simp append-nil)
     refl
 
 -- a header, and its bytes
@@ -63,7 +63,7 @@ head_apart end p head bytes c =
     let begin_same : begin ≡ 100 = eqb-true _ _ begin_is in
     let written : IsWritten made bytes = record {
       is_head = record { version = f1; begin = refl; end = f3; seek_free = f4; nbytes_free = f5; nfree = f6; nbytes_name = f7; units = eqb-true _ _ units_is; compress = f9; seek_info = f10; nbytes_info = f11; uuid = long };
-      own = rw (e0, root_same, e1, e2, begin_same, e3, e4, e5, e6, e7, e8, e9, e10, e11, e12, c15.so.1) (simp (append_assoc, append-nil));
+      own = rw (e0, root_same, e1, e2, begin_same, e3, e4, e5, e6, e7, e8, e9, e10, e11, e12, c15.so.1) (simp append-nil);
     } in
     subst (λ (h : FileHead). IsWritten h bytes) (sym c15.so.0) written))))))))))))))))
 

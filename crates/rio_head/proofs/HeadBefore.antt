@@ -101,7 +101,7 @@ abbrev pub to_seek_free : ℕ → Number → Read
 to_seek_free version end = head_field (number_at (place_len (is_large_head version)) end.1) >>= to_nbytes_free version end.0
 
 -- reading a description gives this
-record GivesSo (l : Plain HeadFault FileHead) (s : At) (r : Read) : Type 0 where
+pub record GivesSo (l : Plain HeadFault FileHead) (s : At) (r : Read) : Type 0 where
   so : value_of (read l (plain s)) ≡ r
 
 number_so : {n : ℕ} {k : ℕ → Plain HeadFault FileHead} (s : At) (next : Number → Read) → ((x : ℕ) (t : At) → GivesSo (k x) t (next (x, t))) → GivesSo (behind (number short_head n) k) s (head_field (number_at n s) >>= next)

@@ -73,7 +73,7 @@ module _ {W F A : Type 0} {k : ℕ} {m : A → ℕ} where
   few_must true next = record { few = λ s. next.few s }
   few_must false next = record { few = λ s. refl }
 
-  pub few_done : (a : A) → k ≡ m a → TakesFew {F = F} k m (done a)
+  pub few_done : (a : A) → k ≡ m a → TakesFew {W = W} {F = F} k m (done a)
   few_done a is = record { few = λ s. ap (λ (i : ℕ). let r : Reading W F A = Ok (a, cut_to i s) in r) is }
 
 value_kept : {W F A : Type 0} (m : A → ℕ) (r : Reading W F A) → value_of (cut_behind m r) ≡ value_of r
