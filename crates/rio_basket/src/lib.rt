@@ -22,6 +22,3 @@ pub use fault::BasketFault;
 pub use laws::basket_record_is_read;
 pub use open::Basket;
 pub use stored::StoredBasket;
-
-#[cfg(test)]
-mod tests;

@@ -31,6 +31,3 @@ pub use part::RowPart;
 pub use read::read_entry;
 pub use row::{broken_branch, read_row};
 pub use write::write_entry;
-
-#[cfg(test)]
-mod tests;

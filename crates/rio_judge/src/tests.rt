@@ -1,18 +1,16 @@
 //! Commands by an empty class list and the key `s;1`, and what is found of them.
-ghost use Rattle.std.specs.Prelude.{◌<◌, ◌^◌, length};
+ghost use Rattle.std.specs.Prelude.{IsTrue, IfOk};
+ghost use Rattle.rio_judge.specs.Judging.{is_judged};
 
 use crate::{Judged, Work, judge};
 use rio_dir::KeyTable;
 use rio_key::KeyHead;
 use rio_machine::Command;
-use rio_num::{Name, NoMemory};
+use rio_num::{Bytes, Name, NoMemory};
 use rio_types::Classes;
-use rio_valtext::{TextFault, read_value};
-use rio_value::{Part, Parts, Value};
+use rio_valtext::read_value;
+use rio_value::Value;
 use std::alloc::Global;
-use std::test::Fail;
-
-const EMPTY: &[u8] = b"TObjString{TObject{fUniqueID: 0, fBits: 0}, fString: \"\"}";
 
 fn key(alloc: Global) -> Result<KeyHead, NoMemory> {
     Ok(KeyHead {
@@ -38,164 +36,249 @@ fn keys(alloc: Global) -> Result<KeyTable, NoMemory> {
     Ok(table)
 }
 
-fn judged_put(alloc: Global, name: &[u8], value: Value) -> Result<Judged, NoMemory> {
-    let table = keys(alloc)?;
-    let name = Name::from_slice(alloc, name)?;
-    let classes = Classes::new(alloc);
-    judge(alloc, &classes, &table, &Command::Put { name, value })
-}
-
-fn judged_text(alloc: Global, name: &[u8], text: &[u8]) -> Result<Judged, NoMemory>
-    requires { length text.now < 2 ^ 32 }
+fn judged(alloc: Global, command: &Command) -> Result<Judged, NoMemory>
+    requires { IsTrue (is_judged command.now) }
 {
-    match read_value(alloc, text, 0) {
-        Ok((value, _)) => judged_put(alloc, name, value),
-        Err(TextFault::BadText { .. }) => Err(NoMemory),
-        Err(TextFault::NoMemory) => Err(NoMemory),
-    }
-}
-
-fn judged_get(alloc: Global, name: &[u8], cycle: Option<u32>) -> Result<Judged, NoMemory> {
     let table = keys(alloc)?;
-    let name = Name::from_slice(alloc, name)?;
-    let version = None;
-    let classes = Classes::new(alloc);
-    judge(
-        alloc,
-        &classes,
-        &table,
-        &Command::Get {
-            name,
-            cycle,
-            version,
-        },
-    )
+    judge(alloc, &Classes::new(alloc), &table, command)
 }
 
-// The number of the refusal, and 0 for none.
-fn number(judged: Result<Judged, NoMemory>) -> Result<u8, Fail> {
-    match judged? {
-        Judged::Refused(refusal) => Ok(refusal.number()),
-        Judged::Accepted(_) => Ok(0),
+// What is found of a command: the number of its refusal; or in which cycle what is stored or told, 0 for neither, and what it
+// may cost.
+#[derive(Clone, Copy)]
+enum Found {
+    Refused(u8),
+    Accepted { cycle: u16, cost: u64 },
+}
+
+fn cycle_of(work: &Work) -> u16 {
+    match work {
+        Work::Put { cycle, .. } => *cycle,
+        Work::Get { cycle } => *cycle,
+        Work::Ls => 0,
     }
 }
 
-// The cycle that is stored or told, and what it may cost.
-fn cycle_and_cost(judged: Result<Judged, NoMemory>) -> Result<(u16, u64), Fail> {
-    match judged? {
-        Judged::Accepted(work) => {
-            let cost = work.cost();
-            match work {
-                Work::Put { cycle, .. } => Ok((cycle, cost)),
-                Work::Get { cycle } => Ok((cycle, cost)),
-                Work::Ls => Err(Fail::from("a list")),
+impl Found {
+    fn is_of(&self, judged: &Judged) -> bool {
+        match (self, judged) {
+            (Found::Refused(number), Judged::Refused(refusal)) => refusal.number() == *number,
+            (Found::Accepted { cycle, cost }, Judged::Accepted(work)) => {
+                cycle_of(work) == *cycle && work.cost() == *cost
             }
+            _ => false,
         }
-        Judged::Refused(_) => Err(Fail::from("refused")),
+    }
+
+    fn is_found(&self, alloc: Global, command: &Command) -> bool
+        requires { IsTrue (is_judged command.now) }
+    {
+        match judged(alloc, command) {
+            Ok(judged) => self.is_of(&judged),
+            Err(_) => false,
+        }
     }
 }
 
-#[test]
-fn puts_are_refused_by_the_first_rule(rt: HostRuntime) -> Result<(), Fail> {
-    let alloc = rt.alloc();
-    assert_eq!(rt; number(judged_text(alloc, b"StreamerInfo", EMPTY))?, 2);
-    assert_eq!(rt; number(judged_text(alloc, b"StreamerInfo", b"Q{}"))?, 2);
-    assert_eq!(rt; number(judged_text(alloc, b"q", b"Q{}"))?, 8);
-    assert_eq!(rt; number(judged_text(alloc, b"q", b"[Q{}]"))?, 8);
-    assert_eq!(rt; number(judged_text(alloc, b"q", b"5"))?, 11);
-    Ok(())
+// A value that is put under a name.
+struct Put {
+    name: &'static [u8],
+    value: &'static [u8],
+    found: Found,
 }
 
-#[test]
-fn built_in_classes_are_put_or_not(rt: HostRuntime) -> Result<(), Fail> {
-    let alloc = rt.alloc();
-    let bare = b"TObject{fUniqueID: 0, fBits: 0}".as_slice();
-    assert_eq!(rt; number(judged_text(alloc, b"q", bare))?, 8);
-    let named = b"TNamed{TObject{fUniqueID: 0, fBits: 0}, fName: \"\", fTitle: \"\"}".as_slice();
-    assert_eq!(rt; number(judged_text(alloc, b"q", named))?, 0);
-    let list = b"TList{TObject{fUniqueID: 0, fBits: 0}, fName: \"\", items: []}".as_slice();
-    assert_eq!(rt; number(judged_text(alloc, b"q", list))?, 0);
-    Ok(())
+const EMPTY: &[u8] = b"TObjString{TObject{fUniqueID: 0, fBits: 0}, fString: \"\"}";
+
+static PUTS: [Put; 10] = [
+    Put {
+        name: b"StreamerInfo",
+        value: EMPTY,
+        found: Found::Refused(2),
+    },
+    Put {
+        name: b"StreamerInfo",
+        value: b"Q{}",
+        found: Found::Refused(2),
+    },
+    Put {
+        name: b"q",
+        value: b"Q{}",
+        found: Found::Refused(8),
+    },
+    Put {
+        name: b"q",
+        value: b"[Q{}]",
+        found: Found::Refused(8),
+    },
+    Put {
+        name: b"q",
+        value: b"5",
+        found: Found::Refused(11),
+    },
+    // Some of the built-in classes are put.
+    Put {
+        name: b"q",
+        value: b"TObject{fUniqueID: 0, fBits: 0}",
+        found: Found::Refused(8),
+    },
+    Put {
+        name: b"q",
+        value: b"TNamed{TObject{fUniqueID: 0, fBits: 0}, fName: \"\", fTitle: \"\"}",
+        found: Found::Accepted {
+            cycle: 1,
+            cost: 518,
+        },
+    },
+    Put {
+        name: b"q",
+        value: b"TList{TObject{fUniqueID: 0, fBits: 0}, fName: \"\", items: []}",
+        found: Found::Accepted {
+            cycle: 1,
+            cost: 521,
+        },
+    },
+    // The length of the text has one byte, and before it are 16.
+    Put {
+        name: b"q",
+        value: EMPTY,
+        found: Found::Accepted {
+            cycle: 1,
+            cost: 517,
+        },
+    },
+    Put {
+        name: b"s",
+        value: EMPTY,
+        found: Found::Accepted {
+            cycle: 2,
+            cost: 517,
+        },
+    },
+];
+
+fn value_of(alloc: Global, text: &[u8]) -> Result<Value, NoMemory> {
+    if text.len() > 1000 {
+        return Err(NoMemory);
+    }
+    match read_value(alloc, text, 0) {
+        Ok((value, _)) => Ok(value),
+        Err(_) => Err(NoMemory),
+    }
 }
 
-// The bytes of the text are 1 or 5 and its own, those before it 16.
-#[test]
-fn puts_get_the_next_cycle(rt: HostRuntime) -> Result<(), Fail> {
-    let alloc = rt.alloc();
-    let first = cycle_and_cost(judged_text(alloc, b"q", EMPTY))?;
-    assert_eq!(rt; first, (1, 517));
-    let second = cycle_and_cost(judged_text(alloc, b"s", EMPTY))?;
-    assert_eq!(rt; second, (2, 517));
-    Ok(())
-}
-
-#[test]
-fn gets_are_refused_by_the_first_rule(rt: HostRuntime) -> Result<(), Fail> {
-    let alloc = rt.alloc();
-    assert_eq!(rt; number(judged_get(alloc, b"x", None))?, 3);
-    assert_eq!(rt; number(judged_get(alloc, b"x", Some(1)))?, 3);
-    assert_eq!(rt; number(judged_get(alloc, b"s", Some(9)))?, 4);
-    assert_eq!(rt; number(judged_get(alloc, b"s", Some(65_537)))?, 4);
-    assert_eq!(rt; cycle_and_cost(judged_get(alloc, b"s", Some(1)))?, (1, 0));
-    assert_eq!(rt; cycle_and_cost(judged_get(alloc, b"s", None))?, (1, 0));
-    Ok(())
-}
-
-#[test]
-fn bad_lines_and_lists(rt: HostRuntime) -> Result<(), Fail> {
-    let alloc = rt.alloc();
-    let classes = Classes::new(alloc);
-    let table = KeyTable::new(alloc);
-    let bad = Command::Bad { line: 3, place: 0 };
-    assert_eq!(rt; number(judge(alloc, &classes, &table, &bad))?, 1);
-    assert_eq!(rt; number(judge(alloc, &classes, &table, &Command::Ls))?, 0);
-    Ok(())
-}
-
-fn part(alloc: Global, name: &[u8], value: Value) -> Result<Part, NoMemory> {
+fn put_of(alloc: Global, name: &[u8], text: &[u8]) -> Result<Command, NoMemory>
+    ensures { IfOk result (λ c. IsTrue (is_judged c)) }
+{
+    let value = value_of(alloc, text)?;
     let name = Name::from_slice(alloc, name)?;
-    Ok(Part { name, value })
+    Ok(Command::Put { name, value })
 }
 
-fn object(alloc: Global, class: &[u8], parts: Parts) -> Result<Value, NoMemory> {
-    let class = Name::from_slice(alloc, class)?;
-    Ok(Value::Object {
-        class,
-        version: 1,
-        parts,
+impl Put {
+    fn is_found(&self, alloc: Global) -> bool {
+        match put_of(alloc, self.name, self.value) {
+            Ok(command) => self.found.is_found(alloc, &command),
+            Err(_) => false,
+        }
+    }
+}
+
+// How many rows hold, up to the first that doesn't.
+fn count_puts(alloc: Global) -> usize {
+    for (k, row) in PUTS.iter().enumerate() {
+        if !row.is_found(alloc) {
+            return k;
+        }
+    }
+    PUTS.len()
+}
+
+#[test]
+fn puts_are_refused_by_the_first_rule_or_get_the_next_cycle(rt: HostRuntime) {
+    assert_eq!(rt; count_puts(rt.alloc()), PUTS.len());
+}
+
+fn get_of(alloc: Global, name: &[u8], cycle: Option<u32>) -> Result<Command, NoMemory>
+    ensures { IfOk result (λ c. IsTrue (is_judged c)) }
+{
+    Ok(Command::Get {
+        name: Name::from_slice(alloc, name)?,
+        cycle,
+        version: None,
     })
 }
 
-fn base(alloc: Global) -> Result<Value, NoMemory> {
-    let mut parts = Parts::new(alloc);
-    parts.push(part(alloc, b"fUniqueID", Value::Int(0))?)?;
-    parts.push(part(alloc, b"fBits", Value::Int(0))?)?;
-    object(alloc, b"TObject", parts)
-}
-
-fn long_string(alloc: Global, text: &[u8]) -> Result<Value, NoMemory> {
-    let mut parts = Parts::new(alloc);
-    parts.push(part(alloc, b"", base(alloc)?)?)?;
-    let text = Value::Text(Name::from_slice(alloc, text)?);
-    parts.push(part(alloc, b"fString", text)?)?;
-    object(alloc, b"TObjString", parts)
-}
-
-// How many bytes the record of such an object has under a name of one letter: its key has 40, and
-// zero bytes follow.
-fn record_length(alloc: Global, text: &[u8]) -> Result<u64, Fail> {
-    match judged_put(alloc, b"q", long_string(alloc, text)?)? {
-        Judged::Accepted(Work::Put { length, .. }) => Ok((40 + u64::from(length) + 3) / 4 * 4),
-        _ => Err(Fail::from("no put")),
+// Whether this is found of the object of a name that is told.
+fn is_told(alloc: Global, name: &[u8], cycle: Option<u32>, found: Found) -> bool {
+    match get_of(alloc, name, cycle) {
+        Ok(command) => found.is_found(alloc, &command),
+        Err(_) => false,
     }
 }
 
+const FIRST: Found = Found::Accepted { cycle: 1, cost: 0 };
+
 #[test]
-fn long_texts_have_a_longer_head(rt: HostRuntime) -> Result<(), Fail> {
+fn gets_are_refused_by_the_first_rule(rt: HostRuntime) {
     let alloc = rt.alloc();
-    let text = [b'x'; 256];
-    assert_eq!(rt; record_length(alloc, &text[..254])?, 312);
-    assert_eq!(rt; record_length(alloc, &text[..255])?, 316);
-    assert_eq!(rt; record_length(alloc, &text)?, 320);
-    Ok(())
+    assert!(rt; is_told(alloc, b"x", None, Found::Refused(3)));
+    assert!(rt; is_told(alloc, b"x", Some(1), Found::Refused(3)));
+    assert!(rt; is_told(alloc, b"s", Some(9), Found::Refused(4)));
+    assert!(rt; is_told(alloc, b"s", Some(65_537), Found::Refused(4)));
+    assert!(rt; is_told(alloc, b"s", Some(1), FIRST));
+    assert!(rt; is_told(alloc, b"s", None, FIRST));
+}
+
+const LISTED: Found = Found::Accepted { cycle: 0, cost: 0 };
+
+#[test]
+fn bad_lines_and_lists(rt: HostRuntime) {
+    let bad = Command::Bad { line: 3, place: 0 };
+    assert!(rt; Found::Refused(1).is_found(rt.alloc(), &bad));
+    assert!(rt; LISTED.is_found(rt.alloc(), &Command::Ls));
+}
+
+// The text of an object whose own text has so many letters.
+fn put_long(letters: usize, into: &mut Bytes) -> Result<(), NoMemory> {
+    into.put(b"TObjString{TObject{fUniqueID: 0, fBits: 0}, fString: \"")?;
+    for _ in 0..letters {
+        into.push(b'x')?;
+    }
+    into.put(b"\"}")
+}
+
+// How many bytes the record of such an object has: its key has 40, and zero bytes follow.
+fn record_length(judged: &Judged) -> u64 {
+    match judged {
+        Judged::Accepted(Work::Put { length, .. }) => (40 + u64::from(*length) + 3) / 4 * 4,
+        _ => 0,
+    }
+}
+
+fn has_length(alloc: Global, command: &Command, length: u64) -> bool
+    requires { IsTrue (is_judged command.now) }
+{
+    match judged(alloc, command) {
+        Ok(judged) => record_length(&judged) == length,
+        Err(_) => false,
+    }
+}
+
+fn is_text_long(alloc: Global, text: &[u8], length: u64) -> bool {
+    match put_of(alloc, b"q", text) {
+        Ok(command) => has_length(alloc, &command, length),
+        Err(_) => false,
+    }
+}
+
+fn is_long(alloc: Global, letters: usize, length: u64) -> bool {
+    let mut text = Bytes::new(alloc);
+    put_long(letters, &mut text).is_ok() && is_text_long(alloc, text.as_slice(), length)
+}
+
+#[test]
+fn long_texts_have_a_longer_head(rt: HostRuntime) {
+    assert!(rt; is_long(rt.alloc(), 254, 312));
+    assert!(rt; is_long(rt.alloc(), 255, 316));
+    assert!(rt; is_long(rt.alloc(), 256, 320));
 }

@@ -23,6 +23,3 @@ pub use leaf::{Dim, Leaf, Leaves};
 pub use print::print_leaves;
 pub use read::read_leaves;
 pub use stated::are_stated;
-
-#[cfg(test)]
-mod tests;

@@ -1,6 +1,7 @@
 //! Records of a file `a.root`, byte for byte, and such a record in the file's chain.
-ghost use Rattle.std.specs.Prelude.{◌≡◌, ◌≤◌, ◌∷◌, [], false, length, IfOk, OnOk};
+ghost use Rattle.std.specs.Prelude.{◌≡◌, ◌≤◌, ◌<◌, ◌^◌, ◌∷◌, [], false, length, sum, IfOk, OnOk, IsTrue};
 ghost use Rattle.rio_chain.specs.declared.segment.Segment.TheVariants.{Gap as GapSegment, Record as RecordSegment};
+ghost use Rattle.rio_chain.specs.Adjoining.{AreSegments};
 ghost use Rattle.rio_chain.specs.Chains.{HoldsChain};
 ghost use Rattle.rio_chain.specs.Placing.{IsPlaceFor, file_end, with_segment};
 ghost use Rattle.rio_chain.specs.Segments.{IsRecord};
@@ -8,13 +9,11 @@ ghost use Rattle.rio_host.specs.Host.{IsQuiet};
 ghost use Rattle.rio_host.specs.MemHost.{view_of};
 
 use crate::{KeyWords, NewRecord, new_record};
-use rio_chain::{Chain, Segment, Segments, walk};
+use rio_chain::{Chain, Segment, Segments, WalkFault, walk};
 use rio_free::Gap;
 use rio_host::{Host, MemHost};
 use rio_num::{Bytes, Lengths, Name, NoMemory, Numbers};
 use std::alloc::Global;
-use std::process::Abort;
-use std::test::Fail;
 
 // The header of an empty file, up to its identifier, and the zero bytes behind that.
 const HEADER: &[u8] =
@@ -80,43 +79,108 @@ fn record_of(
     new_record(alloc, words, contents)
 }
 
+// Whether these bytes are the record's.
+fn is_made(made: Result<NewRecord, NoMemory>, bytes: &[u8]) -> bool {
+    match made {
+        Ok(made) => made.bytes.as_slice() == bytes && made.head.keylen == 40,
+        Err(_) => false,
+    }
+}
+
+fn is_first_made(alloc: Global) -> bool {
+    is_made(
+        record_of(alloc, 100, 0, b"TFile", b"a.root", FIRST_DATA),
+        FIRST,
+    )
+}
+
+fn is_free_made(alloc: Global) -> bool {
+    is_made(
+        record_of(alloc, 252, 100, b"TFile", b"a.root", FREE_DATA),
+        FREE,
+    )
+}
+
+fn is_object_made(alloc: Global) -> bool {
+    is_made(
+        record_of(alloc, 208, 100, b"TObjString", b"s", OBJECT_DATA),
+        OBJECT,
+    )
+}
+
 #[test]
-fn writes_records(rt: HostRuntime) -> Result<(), Fail> {
-    let first = record_of(rt.alloc(), 100, 0, b"TFile", b"a.root", FIRST_DATA)?;
-    assert!(rt; first.bytes.as_slice() == FIRST);
-    assert_eq!(rt; first.head.keylen, 40);
-    let free = record_of(rt.alloc(), 252, 100, b"TFile", b"a.root", FREE_DATA)?;
-    assert!(rt; free.bytes.as_slice() == FREE);
-    let object = record_of(rt.alloc(), 208, 100, b"TObjString", b"s", OBJECT_DATA)?;
-    assert!(rt; object.bytes.as_slice() == OBJECT);
+fn writes_records(rt: HostRuntime) {
+    assert!(rt; is_first_made(rt.alloc()));
+    assert!(rt; is_free_made(rt.alloc()));
+    assert!(rt; is_object_made(rt.alloc()));
+}
+
+fn put_all(parts: &[&[u8]], into: &mut Bytes) -> Result<(), NoMemory> {
+    for part in parts {
+        into.put(part)?;
+    }
     Ok(())
+}
+
+fn image_of(alloc: Global, parts: &[&[u8]]) -> Result<Bytes, NoMemory> {
+    let mut image = Bytes::new(alloc);
+    put_all(parts, &mut image)?;
+    Ok(image)
 }
 
 // A file with these bytes.
 fn host_of(alloc: Global, parts: &[&[u8]]) -> Result<MemHost, NoMemory>
     ensures { IfOk result (λ host. IsQuiet (view_of host)) }
 {
-    let mut image = Bytes::new(alloc);
-    for part in parts {
-        image.put(part)?;
-    }
+    let image = image_of(alloc, parts)?;
     Ok(MemHost::new(alloc, image, Numbers::new(alloc)))
 }
 
 // Whether the file has these bytes.
-fn holds(alloc: Global, host: &MemHost, parts: &[&[u8]]) -> Result<bool, NoMemory> {
-    let wanted = host_of(alloc, parts)?;
-    Ok(host.image() == wanted.image())
+fn holds(alloc: Global, host: &MemHost, parts: &[&[u8]]) -> bool {
+    match image_of(alloc, parts) {
+        Ok(wanted) => host.image() == wanted.as_slice(),
+        Err(_) => false,
+    }
 }
 
-// The chain of a file that has these segments, with room for a change.
-fn chain_of(
-    rt: &impl Abort,
-    alloc: Global,
-    host: &mut MemHost,
-    wanted: &[Segment],
-) -> Result<Chain, Fail>
-    requires quiet { IsQuiet (view_of host.old) }
+fn walked(alloc: Global, host: &mut MemHost) -> Result<Segments, WalkFault>
+    ensures shape { IfOk result AreSegments }
+    ensures holds { IfOk result (HoldsChain (view_of host.new)) }
+    ensures quiet { OnOk result (IsQuiet (view_of host.new)) }
+{
+    let segments = walk(alloc, host)?;
+    host.sync()?;
+    Ok(segments)
+}
+
+fn are_same(segments: &[Segment], wanted: &[Segment]) -> bool
+    ensures { IsTrue result → segments.now ≡ wanted.now }
+{
+    segments == wanted
+}
+
+// The chain of these segments, with room for a change, if they are those that are wanted.
+fn kept(segments: Segments, wanted: &[Segment]) -> Result<Chain, NoMemory>
+    requires shape { AreSegments segments }
+    requires low { file_end wanted.now ≤ 1999999996 }
+    ensures same { IfOk result (λ _. segments ≡ wanted.now) }
+    ensures chain { IfOk result (λ chain. chain ≡ record {
+      segments = segments;
+      spare = 1;
+      spent = false;
+    }) }
+{
+    if !are_same(segments.as_slice(), wanted) {
+        return Err(NoMemory);
+    }
+    let mut chain = Chain::from_segments(segments)?;
+    chain.reserve(1)?;
+    Ok(chain)
+}
+
+// The chain of a file that has these segments.
+fn chain_of(alloc: Global, host: &mut MemHost, wanted: &[Segment]) -> Result<Chain, WalkFault>
     requires low { file_end wanted.now ≤ 1999999996 }
     ensures chain { IfOk result (λ chain. chain ≡ record {
       segments = wanted.now;
@@ -126,22 +190,26 @@ fn chain_of(
     ensures holds { OnOk result (HoldsChain (view_of host.new) wanted.now) }
     ensures quiet { OnOk result (IsQuiet (view_of host.new)) }
 {
-    let segments = walk(alloc, host)?;
-    host.sync()?;
-    assert!(rt; segments.as_slice() == wanted);
-    let mut chain = Chain::from_segments(segments)?;
-    chain.reserve(1)?;
-    Ok(chain)
+    let segments = walked(alloc, host)?;
+    Ok(kept(segments, wanted)?)
 }
 
-// Puts the object, of 60 bytes, at this place.
-fn put_object(
-    rt: &impl Abort,
-    alloc: Global,
-    chain: &mut Chain,
-    host: &mut MemHost,
-    place: u32,
-) -> Result<(), Fail>
+// Puts a record of 60 bytes.
+fn put_whole(chain: &mut Chain, host: &mut MemHost, place: u32, record: &mut Bytes) -> bool
+    requires fresh { chain.old.spent ≡ false }
+    requires room { 1 ≤ chain.old.spare }
+    requires holds { HoldsChain (view_of host.old) chain.old.segments }
+    requires quiet { IsQuiet (view_of host.old) }
+    requires place { IsPlaceFor chain.old.segments 60 place }
+    requires low { file_end (with_segment place 60 chain.old.segments) ≤ 1999999996 }
+    requires whole { IsRecord place record.old.bytes }
+    requires spare { 4 ≤ record.old.spare }
+{
+    record.len() == 60 && chain.put_record(host, u64::from(place), record).is_ok()
+}
+
+// Puts the object at this place.
+fn put_object(alloc: Global, chain: &mut Chain, host: &mut MemHost, place: u32) -> bool
     requires fresh { chain.old.spent ≡ false }
     requires room { 1 ≤ chain.old.spare }
     requires holds { HoldsChain (view_of host.old) chain.old.segments }
@@ -149,30 +217,54 @@ fn put_object(
     requires place { IsPlaceFor chain.old.segments 60 place }
     requires low { file_end (with_segment place 60 chain.old.segments) ≤ 1999999996 }
 {
-    let mut object = record_of(alloc, place, 100, b"TObjString", b"s", OBJECT_DATA)?;
-    assert_eq!(rt; object.bytes.len(), 60);
-    chain.put_record(host, u64::from(place), &mut object.bytes)?;
-    Ok(())
+    match record_of(alloc, place, 100, b"TObjString", b"s", OBJECT_DATA) {
+        Ok(mut object) => put_whole(chain, host, place, &mut object.bytes),
+        Err(_) => false,
+    }
 }
 
-#[test]
-fn puts_a_record_at_the_end(rt: HostRuntime) -> Result<(), Fail> {
-    let first = Segment::Record {
+fn stands_at(chain: &Chain, end: u64, live: u64) -> bool {
+    chain.end() == end && chain.live() == live
+}
+
+// The first record alone.
+fn lone() -> [Segment; 1]
+    ensures { result ≡ RecordSegment 100 108 ∷ [] }
+{
+    [Segment::Record {
         place: 100,
         length: 108,
-    };
-    let mut host = host_of(rt.alloc(), &[HEADER, FIRST, END])?;
-    let mut chain = chain_of(&rt, rt.alloc(), &mut host, &[first])?;
-    put_object(&rt, rt.alloc(), &mut chain, &mut host, 208)?;
-    assert_eq!(rt; chain.end(), 268);
-    assert_eq!(rt; chain.live(), 2);
-    assert!(rt; holds(rt.alloc(), &host, &[HEADER, FIRST, OBJECT, END])?);
-    Ok(())
+    }]
+}
+
+fn puts_behind(alloc: Global, host: &mut MemHost) -> bool {
+    match chain_of(alloc, host, &lone()) {
+        Ok(mut chain) => { put_object(alloc, &mut chain, host, 208) && stands_at(&chain, 268, 2) }
+        Err(_) => false,
+    }
+}
+
+static ALONE: [&[u8]; 3] = [HEADER, FIRST, END];
+
+static STORED: [&[u8]; 4] = [HEADER, FIRST, OBJECT, END];
+
+fn is_put_behind(alloc: Global) -> bool {
+    match host_of(alloc, &ALONE) {
+        Ok(mut host) => puts_behind(alloc, &mut host) && holds(alloc, &host, &STORED),
+        Err(_) => false,
+    }
 }
 
 #[test]
-fn reads_a_record(rt: HostRuntime) -> Result<(), Fail> {
-    let segments = [
+fn puts_a_record_at_the_end(rt: HostRuntime) {
+    assert!(rt; is_put_behind(rt.alloc()));
+}
+
+// The first record, and the object behind it.
+fn pair() -> [Segment; 2]
+    ensures { result ≡ RecordSegment 100 108 ∷ RecordSegment 208 60 ∷ [] }
+{
+    [
         Segment::Record {
             place: 100,
             length: 108,
@@ -181,12 +273,40 @@ fn reads_a_record(rt: HostRuntime) -> Result<(), Fail> {
             place: 208,
             length: 60,
         },
-    ];
-    let mut host = host_of(rt.alloc(), &[HEADER, FIRST, OBJECT, END])?;
-    let chain = chain_of(&rt, rt.alloc(), &mut host, &segments)?;
-    let bytes = chain.read_record(&mut host, 208)?;
-    assert!(rt; bytes.as_slice() == OBJECT);
-    Ok(())
+    ]
+}
+
+fn is_object(chain: &Chain, host: &mut MemHost) -> bool
+    requires chain { chain.now ≡ record {
+      segments = RecordSegment 100 108 ∷ RecordSegment 208 60 ∷ [];
+      spare = 1;
+      spent = false;
+    } }
+    requires holds { HoldsChain (view_of host.old) chain.now.segments }
+{
+    match chain.read_record(host, 208) {
+        Ok(bytes) => bytes.as_slice() == OBJECT,
+        Err(_) => false,
+    }
+}
+
+fn reads_object(alloc: Global, host: &mut MemHost) -> bool {
+    match chain_of(alloc, host, &pair()) {
+        Ok(chain) => is_object(&chain, host),
+        Err(_) => false,
+    }
+}
+
+fn is_read(alloc: Global) -> bool {
+    match host_of(alloc, &STORED) {
+        Ok(mut host) => reads_object(alloc, &mut host),
+        Err(_) => false,
+    }
+}
+
+#[test]
+fn reads_a_record(rt: HostRuntime) {
+    assert!(rt; is_read(rt.alloc()));
 }
 
 // Of three records behind the first, of 60, 120 and 60 bytes, the second is deleted.
@@ -217,6 +337,9 @@ fn gapped() -> [Segment; 4]
 // What stands in the gap behind its word.
 const LOST: &[u8] = &[0xee; 116];
 
+// The end of that, behind the word of the rest.
+const LEFT: &[u8] = &[0xee; 56];
+
 // The object's record up to its place, and behind it.
 const FRONT: &[u8] = b"\0\0\0\x3c\0\x04\0\0\0\x14\0\0\0\x01\0\x28\0\x01";
 
@@ -233,30 +356,30 @@ const GAP: &[u8] = b"\xff\xff\xff\x88";
 
 const REST: &[u8] = b"\xff\xff\xff\xc4";
 
+fn puts_between(alloc: Global, host: &mut MemHost) -> bool {
+    match chain_of(alloc, host, &gapped()) {
+        Ok(mut chain) => { put_object(alloc, &mut chain, host, 268) && stands_at(&chain, 448, 4) }
+        Err(_) => false,
+    }
+}
+
+// The file with the gap, and with the object in it, behind which the rest is a gap.
+static BEFORE: [&[u8]; 9] = [HEADER, FIRST, OBJECT, GAP, LOST, FRONT, FOURTH, BACK, END];
+
+static AFTER: [&[u8]; 12] = [
+    HEADER, FIRST, OBJECT, FRONT, THIRD, BACK, REST, LEFT, FRONT, FOURTH, BACK, END,
+];
+
+fn is_gap_taken(alloc: Global) -> bool {
+    match host_of(alloc, &BEFORE) {
+        Ok(mut host) => puts_between(alloc, &mut host) && holds(alloc, &host, &AFTER),
+        Err(_) => false,
+    }
+}
+
 #[test]
-fn puts_a_record_into_a_gap(rt: HostRuntime) -> Result<(), Fail> {
-    let before = &[HEADER, FIRST, OBJECT, GAP, LOST, FRONT, FOURTH, BACK, END];
-    let mut host = host_of(rt.alloc(), before)?;
-    let mut chain = chain_of(&rt, rt.alloc(), &mut host, &gapped())?;
-    put_object(&rt, rt.alloc(), &mut chain, &mut host, 268)?;
-    assert_eq!(rt; chain.end(), 448);
-    assert_eq!(rt; chain.live(), 4);
-    let after = &[
-        HEADER,
-        FIRST,
-        OBJECT,
-        FRONT,
-        THIRD,
-        BACK,
-        REST,
-        &LOST[..56],
-        FRONT,
-        FOURTH,
-        BACK,
-        END,
-    ];
-    assert!(rt; holds(rt.alloc(), &host, after)?);
-    Ok(())
+fn puts_a_record_into_a_gap(rt: HostRuntime) {
+    assert!(rt; is_gap_taken(rt.alloc()));
 }
 
 // The same chain, without its file.
@@ -273,36 +396,79 @@ fn gapped_chain(alloc: Global) -> Result<Chain, NoMemory>
     Ok(chain)
 }
 
-#[test]
-fn counts_records_and_gaps(rt: HostRuntime) -> Result<(), Fail> {
-    let chain = gapped_chain(rt.alloc())?;
-    assert_eq!(rt; chain.end(), 448);
-    assert_eq!(rt; chain.live(), 3);
+fn has_gap(chain: &Chain) -> bool {
     let gap = Gap {
         place: 268,
         length: 120,
     };
-    assert_eq!(rt; chain.gaps().as_slice(), [gap].as_slice());
-    Ok(())
+    chain.gaps().as_slice() == [gap].as_slice()
+}
+
+fn is_counted(alloc: Global) -> bool {
+    match gapped_chain(alloc) {
+        Ok(chain) => stands_at(&chain, 448, 3) && has_gap(&chain),
+        Err(_) => false,
+    }
 }
 
 #[test]
-fn plans_a_record_in_the_gap_and_one_at_the_end(rt: HostRuntime) -> Result<(), Fail> {
-    let chain = gapped_chain(rt.alloc())?;
-    let lengths = Lengths::from_slice(rt.alloc(), &[120, 60])?;
-    let places = chain.plan(&lengths, 1_999_999_996)?;
-    assert_eq!(rt; places.as_slice(), [268, 448].as_slice());
-    Ok(())
+fn counts_records_and_gaps(rt: HostRuntime) {
+    assert!(rt; is_counted(rt.alloc()));
+}
+
+fn are_planned(chain: &Chain, lengths: &Lengths) -> bool
+    requires { sum lengths.now < 2 ^ 64 }
+{
+    match chain.plan(lengths, 1_999_999_996) {
+        Ok(places) => places.as_slice() == [268, 448].as_slice(),
+        Err(_) => false,
+    }
+}
+
+fn plans_both(alloc: Global, chain: &Chain) -> bool {
+    match Lengths::from_slice(alloc, &[120, 60]) {
+        Ok(lengths) => are_planned(chain, &lengths),
+        Err(_) => false,
+    }
+}
+
+fn is_planned(alloc: Global) -> bool {
+    match gapped_chain(alloc) {
+        Ok(chain) => plans_both(alloc, &chain),
+        Err(_) => false,
+    }
 }
 
 #[test]
-fn notes_a_record_in_a_copy(rt: HostRuntime) -> Result<(), Fail> {
-    let chain = gapped_chain(rt.alloc())?;
-    let mut other = chain.copy()?;
-    other.note_put(268, 120);
-    assert_eq!(rt; other.end(), 448);
-    assert_eq!(rt; other.live(), 4);
-    assert!(rt; other.gaps().as_slice().is_empty());
-    assert_eq!(rt; chain.live(), 3);
-    Ok(())
+fn plans_a_record_in_the_gap_and_one_at_the_end(rt: HostRuntime) {
+    assert!(rt; is_planned(rt.alloc()));
+}
+
+fn notes_put(chain: &Chain) -> bool
+    requires { chain.now ≡ record {
+      segments = RecordSegment 100 108 ∷ RecordSegment 208 60 ∷ GapSegment 268 120
+          ∷ RecordSegment 388 60 ∷ [];
+      spare = 1;
+      spent = false;
+    } }
+{
+    match chain.copy() {
+        Ok(mut other) => {
+            other.note_put(268, 120);
+            stands_at(&other, 448, 4) && other.gaps().as_slice().is_empty()
+        }
+        Err(_) => false,
+    }
+}
+
+fn is_noted(alloc: Global) -> bool {
+    match gapped_chain(alloc) {
+        Ok(chain) => notes_put(&chain) && chain.live() == 3,
+        Err(_) => false,
+    }
+}
+
+#[test]
+fn notes_a_record_in_a_copy(rt: HostRuntime) {
+    assert!(rt; is_noted(rt.alloc()));
 }

@@ -10,7 +10,7 @@ use rio_key::KeyHead;
 use rio_meaning::{Item, Missing};
 
 /// Whether the key has the name.
-pub(crate) fn has_name(key: &KeyHead, name: &[u8]) -> bool
+pub(crate) fn is_of_name(key: &KeyHead, name: &[u8]) -> bool
     ensures { result ≡ is_of_name name.now key.now }
 {
     key.name.as_slice() == name
@@ -32,7 +32,7 @@ fn with_greatest_cycle<'a>(keys: &'a [KeyHead], name: &[u8]) -> Option<&'a KeyHe
 {
     let mut best: Option<&KeyHead> = None;
     for key in keys {
-        if has_name(key, name) {
+        if is_of_name(key, name) {
             best = greater_cycle(best, key);
         }
     }
@@ -43,15 +43,14 @@ fn with_greatest_cycle<'a>(keys: &'a [KeyHead], name: &[u8]) -> Option<&'a KeyHe
 fn with_cycle<'a>(keys: &'a [KeyHead], name: &[u8], cycle: u32) -> Option<&'a KeyHead>
     ensures { option_copied result ≡ with_cycle name.now cycle keys.now }
 {
-    keys.iter()
-        .find(|key| has_name(key, name) && u32::from(key.cycle) == cycle)
+    keys.iter().find(|key| is_of_name(key, name) && u32::from(key.cycle) == cycle)
 }
 
 /// Whether one of the keys has the name.
 pub(crate) fn has_any(keys: &[KeyHead], name: &[u8]) -> bool
     ensures { result ≡ list_any (is_of_name name.now) keys.now }
 {
-    keys.iter().any(|key| has_name(key, name))
+    keys.iter().any(|key| is_of_name(key, name))
 }
 
 fn key_of<'a>(keys: &'a [KeyHead], item: &Item) -> Option<&'a KeyHead>

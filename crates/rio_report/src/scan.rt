@@ -11,7 +11,7 @@ ghost use Rattle.rio_report.specs.Lists.{InPieces, IsDone, Lists, Refuses, SaysF
 
 use crate::content::is_tree;
 use crate::described::open_described;
-use crate::item::{greater_cycle, has_any, has_name};
+use crate::item::{greater_cycle, has_any, is_of_name};
 use crate::ls::put_named_cycle;
 use crate::pieces::{say_held, say_piece};
 use crate::refusals::find_refusals;
@@ -35,7 +35,7 @@ fn tree_key<'a>(keys: &'a [KeyHead], name: &[u8]) -> Option<&'a KeyHead>
 {
     let mut best: Option<&KeyHead> = None;
     for key in keys {
-        if is_tree(key) && has_name(key, name) {
+        if is_tree(key) && is_of_name(key, name) {
             best = greater_cycle(best, key);
         }
     }

@@ -90,7 +90,7 @@ pub record IsOpenAs (m : State) (image : List ℕ) : Type 0 where
   pub left : IsLeftAs (saved_of m) image
   pub marked : IsMarkedOpen image
 
--- each file that a stop leaves now is marked as open and reads so
+-- each file that a stop leaves now is marked as open and reads as the state
 abbrev pub LeavesOpenAs : View → State → Type 0
 LeavesOpenAs v m = (image said : List ℕ) → Leaves v image said → IsOpenAs m image
 

@@ -1,16 +1,17 @@
 //! A file `a.root` is made, stored into and closed, in memory.
 ghost use Rattle.std.specs.Prelude.{◌≡◌, ◌<◌, ◌^◌, length, false, IfOk, OnOk, IsTrue};
+ghost use Rattle.rio_host.specs.MemHost.{view_of};
 ghost use Rattle.rio_step.specs.Statable.{IsStatable};
 ghost use Rattle.rio_session.specs.Session.{IsReady};
 ghost use Rattle.rio_judge.specs.Judging.{is_judged};
 
 use crate::{OpenFault, Session, SessionFault};
-use rio_host::{Host, MemHost};
+use rio_host::MemHost;
 use rio_machine::Command;
-use rio_num::{Bytes, Name, Numbers};
+use rio_num::{Bytes, Name, NoMemory, Numbers};
 use rio_valtext::read_value;
+use rio_value::Value;
 use std::alloc::Global;
-use std::test::Fail;
 
 // The closed file without objects.
 const EMPTY: &[u8] =
@@ -41,21 +42,28 @@ const HI: &[u8] = b"TObjString{TObject{fUniqueID: 0, fBits: 0}, fString: \"hi\"}
 
 const HU: &[u8] = b"TObjString{TObject{fUniqueID: 0, fBits: 0}, fString: \"hu\"}";
 
+fn value_of(alloc: Global, text: &[u8]) -> Result<Value, NoMemory>
+    requires { length text.now < 2 ^ 32 }
+{
+    match read_value(alloc, text, 0) {
+        Ok((value, _)) => Ok(value),
+        Err(_) => Err(NoMemory),
+    }
+}
+
 // Stores the value of this text under the name `s`.
-fn put(alloc: Global, text: &[u8]) -> Result<Command, SessionFault>
+fn put(alloc: Global, text: &[u8]) -> Result<Command, NoMemory>
     requires { length text.now < 2 ^ 32 }
     ensures stated { IfOk result IsStatable }
     ensures built { IfOk result (λ c. IsTrue (is_judged c)) }
 {
+    let value = value_of(alloc, text)?;
     let name = Name::from_slice(alloc, b"s")?;
-    match read_value(alloc, text, 0) {
-        Ok((value, _)) => Ok(Command::Put { name, value }),
-        Err(_) => Err(SessionFault::NoMemory),
-    }
+    Ok(Command::Put { name, value })
 }
 
 // Tells the object `s` of this cycle, or the newest.
-fn get(alloc: Global, cycle: Option<u32>) -> Result<Command, SessionFault>
+fn get(alloc: Global, cycle: Option<u32>) -> Result<Command, NoMemory>
     ensures stated { IfOk result IsStatable }
     ensures built { IfOk result (λ c. IsTrue (is_judged c)) }
 {
@@ -67,31 +75,74 @@ fn get(alloc: Global, cycle: Option<u32>) -> Result<Command, SessionFault>
     })
 }
 
-// A host without bytes, of which the calls with these numbers fail.
-fn empty_host(alloc: Global, failing: Numbers) -> MemHost {
-    MemHost::new(alloc, Bytes::new(alloc), failing)
+// Does a command.
+fn act(session: &mut Session, host: &mut MemHost, command: &Command) -> Result<(), SessionFault>
+    requires fresh { session.old.failed ≡ false }
+    requires ready { IsReady (view_of host.old) session.old }
+    requires stated { IsStatable command.now }
+    requires built { IsTrue (is_judged command.now) }
+    ensures fresh { OnOk result (session.new.failed ≡ false) }
+    ensures ready { OnOk result (IsReady (view_of host.new) session.new) }
+{
+    session.apply(host, command)?;
+    Ok(())
 }
 
 // Does two commands and lists what there is.
-fn do_both<H: Host>(
+fn act_thrice(
     session: &mut Session,
-    host: &mut H,
+    host: &mut MemHost,
     first: &Command,
     second: &Command,
 ) -> Result<(), SessionFault>
     requires fresh { session.old.failed ≡ false }
-    requires ready { IsReady (H.view host.old) session.old }
+    requires ready { IsReady (view_of host.old) session.old }
     requires first { IsStatable first.now }
     requires first_built { IsTrue (is_judged first.now) }
     requires second { IsStatable second.now }
     requires second_built { IsTrue (is_judged second.now) }
     ensures fresh { OnOk result (session.new.failed ≡ false) }
-    ensures ready { OnOk result (IsReady (H.view host.new) session.new) }
+    ensures ready { OnOk result (IsReady (view_of host.new) session.new) }
 {
-    session.apply(host, first)?;
-    session.apply(host, second)?;
-    session.apply(host, &Command::Ls)?;
-    Ok(())
+    act(session, host, first)?;
+    act(session, host, second)?;
+    act(session, host, &Command::Ls)
+}
+
+fn close(session: Session, host: &mut MemHost) -> Result<(), SessionFault>
+    requires fresh { session.failed ≡ false }
+    requires ready { IsReady (view_of host.old) session }
+{
+    session.close(host)
+}
+
+// Does the same, and closes the file.
+fn act_and_close(
+    mut session: Session,
+    host: &mut MemHost,
+    first: &Command,
+    second: &Command,
+) -> Result<(), SessionFault>
+    requires fresh { session.failed ≡ false }
+    requires ready { IsReady (view_of host.old) session }
+    requires first { IsStatable first.now }
+    requires first_built { IsTrue (is_judged first.now) }
+    requires second { IsStatable second.now }
+    requires second_built { IsTrue (is_judged second.now) }
+{
+    act_thrice(&mut session, host, first, second)?;
+    close(session, host)
+}
+
+fn open(alloc: Global, host: &mut MemHost) -> Result<Session, SessionFault>
+    ensures fresh { IfOk result (λ session. session.failed ≡ false) }
+    ensures ready { IfOk result (IsReady (view_of host.new)) }
+{
+    match Session::open(alloc, host, b"a.root", 1) {
+        Ok(session) => Ok(session),
+        Err(OpenFault::HostFault) => Err(SessionFault::HostFault),
+        Err(_) => Err(SessionFault::NoMemory),
+    }
 }
 
 // Makes a file, does two commands, lists what there is, and closes the file.
@@ -106,92 +157,102 @@ fn run(
     requires second { IsStatable second.now }
     requires second_built { IsTrue (is_judged second.now) }
 {
-    let mut session = match Session::open(alloc, host, b"a.root", 1) {
-        Ok(session) => session,
-        Err(OpenFault::HostFault) => return Err(SessionFault::HostFault),
-        Err(_) => return Err(SessionFault::NoMemory),
-    };
-    do_both(&mut session, host, first, second)?;
-    session.close(host)
+    let session = open(alloc, host)?;
+    act_and_close(session, host, first, second)
 }
 
-// The same of two values that are stored.
-fn run_puts(
-    alloc: Global,
-    host: &mut MemHost,
-    first: &[u8],
-    second: &[u8],
-) -> Result<(), SessionFault>
-    requires first { length first.now < 2 ^ 32 }
-    requires second { length second.now < 2 ^ 32 }
-{
-    let first = put(alloc, first)?;
-    let second = put(alloc, second)?;
+// Stores two values.
+fn run_puts(alloc: Global, host: &mut MemHost) -> Result<(), SessionFault> {
+    let first = put(alloc, HI)?;
+    let second = put(alloc, HU)?;
     run(alloc, host, &first, &second)
 }
 
-// The same of a value that is stored and told.
-fn run_put_and_get(alloc: Global, host: &mut MemHost, value: &[u8]) -> Result<(), SessionFault>
-    requires { length value.now < 2 ^ 32 }
-{
-    let first = put(alloc, value)?;
+// Stores a value and tells it.
+fn run_put_and_get(alloc: Global, host: &mut MemHost) -> Result<(), SessionFault> {
+    let first = put(alloc, HI)?;
     let second = get(alloc, Some(1))?;
     run(alloc, host, &first, &second)
 }
 
-#[test]
-fn closes_an_empty_file(rt: HostRuntime) -> Result<(), Fail> {
-    let alloc = rt.alloc();
-    let mut host = empty_host(alloc, Numbers::new(alloc));
-    let session = Session::open(alloc, &mut host, b"a.root", 1)?;
-    assert!(rt; !session.is_failed());
-    session.close(&mut host)?;
-    assert!(rt; host.image() == EMPTY);
-    assert!(rt; host.said().as_slice().is_empty());
-    Ok(())
+// Does a bad line, and tells what isn't there.
+fn run_refused(alloc: Global, host: &mut MemHost) -> Result<(), SessionFault> {
+    let second = get(alloc, None)?;
+    run(alloc, host, &Command::Bad { line: 3, place: 0 }, &second)
 }
+
+// A host without bytes.
+fn empty_host(alloc: Global) -> MemHost {
+    MemHost::new(alloc, Bytes::new(alloc), Numbers::new(alloc))
+}
+
+fn opens_and_closes(alloc: Global, host: &mut MemHost) -> bool {
+    match open(alloc, host) {
+        Ok(session) => {
+            let failed = session.is_failed();
+            close(session, host).is_ok() && !failed
+        }
+        Err(_) => false,
+    }
+}
+
+fn closes_empty(alloc: Global) -> bool {
+    let mut host = empty_host(alloc);
+    opens_and_closes(alloc, &mut host) && host.image() == EMPTY && host.said().is_empty()
+}
+
+#[test]
+fn closes_an_empty_file(rt: HostRuntime) {
+    assert!(rt; closes_empty(rt.alloc()));
+}
+
+// What is said where two values are stored.
+const TWO: &[u8] = b"ok put s;1\nok put s;2\nok ls 2\ns;2 TObjString\ns;1 TObjString\n";
 
 // Two records of 60 bytes, a key list from 328 and a free record from 452 on.
-#[test]
-fn stores_two_objects(rt: HostRuntime) -> Result<(), Fail> {
-    let alloc = rt.alloc();
-    let mut host = empty_host(alloc, Numbers::new(alloc));
-    run_puts(alloc, &mut host, HI, HU)?;
-    let said = b"ok put s;1\nok put s;2\nok ls 2\ns;2 TObjString\ns;1 TObjString\n";
-    assert!(rt; host.said().as_slice() == said.as_slice());
-    assert_eq!(rt; host.image().len(), 508);
-    assert!(rt; host.image().get(208..268) == Some(FIRST));
-    assert!(rt; host.image().get(12..28) == Some(FIELDS_OF_TWO));
-    assert!(rt; host.image().get(328..332) == Some(b"\0\0\0\x7c".as_slice()));
-    Ok(())
+fn holds_two(image: &[u8]) -> bool {
+    image.len() == 508
+        && image.get(208..268) == Some(FIRST)
+        && image.get(12..28) == Some(FIELDS_OF_TWO)
+        && image.get(328..332) == Some(b"\0\0\0\x7c".as_slice())
+}
+
+fn stores_two(alloc: Global) -> bool {
+    let mut host = empty_host(alloc);
+    run_puts(alloc, &mut host).is_ok() && host.said().as_slice() == TWO && holds_two(host.image())
 }
 
 #[test]
-fn tells_an_object(rt: HostRuntime) -> Result<(), Fail> {
-    let alloc = rt.alloc();
-    let mut host = empty_host(alloc, Numbers::new(alloc));
-    run_put_and_get(alloc, &mut host, HI)?;
-    let said =
-        b"ok put s;1\nok get s;1 TObjString#1{TObject#1{fUniqueID: 0, fBits: 0}, fString: \"hi\"}\nok ls 1\ns;1 TObjString\n";
-    assert!(rt; host.said().as_slice() == said.as_slice());
-    Ok(())
+fn stores_two_objects(rt: HostRuntime) {
+    assert!(rt; stores_two(rt.alloc()));
+}
+
+const TOLD: &[u8] = b"ok put s;1\n\
+    ok get s;1 TObjString#1{TObject#1{fUniqueID: 0, fBits: 0}, fString: \"hi\"}\n\
+    ok ls 1\ns;1 TObjString\n";
+
+fn tells(alloc: Global) -> bool {
+    let mut host = empty_host(alloc);
+    run_put_and_get(alloc, &mut host).is_ok() && host.said().as_slice() == TOLD
 }
 
 #[test]
-fn changes_nothing_where_it_refuses(rt: HostRuntime) -> Result<(), Fail> {
-    let alloc = rt.alloc();
-    let second = get(alloc, None)?;
-    let mut host = empty_host(alloc, Numbers::new(alloc));
-    run(
-        alloc,
-        &mut host,
-        &Command::Bad { line: 3, place: 0 },
-        &second,
-    )?;
-    let said = b"no 1 BadLine 3 0\nno 3 NoSuchName\nok ls 0\n";
-    assert!(rt; host.said().as_slice() == said.as_slice());
-    assert!(rt; host.image() == EMPTY);
-    Ok(())
+fn tells_an_object(rt: HostRuntime) {
+    assert!(rt; tells(rt.alloc()));
+}
+
+const REFUSED: &[u8] = b"no 1 BadLine 3 0\nno 3 NoSuchName\nok ls 0\n";
+
+fn refuses(alloc: Global) -> bool {
+    let mut host = empty_host(alloc);
+    run_refused(alloc, &mut host).is_ok()
+        && host.said().as_slice() == REFUSED
+        && host.image() == EMPTY
+}
+
+#[test]
+fn changes_nothing_where_it_refuses(rt: HostRuntime) {
+    assert!(rt; refuses(rt.alloc()));
 }
 
 // Whether the object is in the file of which a put was said, by the length of what was said.
@@ -202,23 +263,38 @@ fn has_what_was_said(host: &MemHost) -> bool {
     (first || said == 0) && (second || said <= 11)
 }
 
-// Length, read and sync; six calls that make the file; five for each put, of which the last says so; one that says what
-// there is; four for each record of the close, three for its fields, and three that end it.
-#[test]
-fn stores_before_it_says_so(rt: HostRuntime) -> Result<(), Fail> {
-    let alloc = rt.alloc();
-    let mut unsaid: u32 = 0;
-    let mut failed: u32 = 0;
-    for k in 0..64 {
-        let mut host = empty_host(alloc, Numbers::from_slice(alloc, &[k])?);
-        match run_puts(alloc, &mut host, HI, HU) {
-            Ok(()) => (),
-            Err(SessionFault::SayFault) => unsaid = unsaid.saturating_add(1),
-            Err(_) => failed = failed.saturating_add(1),
-        }
-        assert!(rt; has_what_was_said(&host));
+fn failing_host(alloc: Global, call: u64) -> Result<MemHost, NoMemory> {
+    let failing = Numbers::from_slice(alloc, &[call])?;
+    Ok(MemHost::new(alloc, Bytes::new(alloc), failing))
+}
+
+// How a run ends whose call of this number fails. Its calls: length, read and sync; six that make the file; five for each
+// put, of which the last says so; one that says what there is; four for each record of the close, three for its fields, and
+// three that end it.
+fn end_by(call: u64) -> Result<(), SessionFault> {
+    match call {
+        13 | 18 | 19 => Err(SessionFault::SayFault),
+        0..=33 => Err(SessionFault::HostFault),
+        _ => Ok(()),
     }
-    assert_eq!(rt; unsaid, 3);
-    assert_eq!(rt; failed, 31);
-    Ok(())
+}
+
+// Whether it ends so, and has stored what it said.
+fn stores_first(alloc: Global, host: &mut MemHost, call: u64) -> bool {
+    let end = run_puts(alloc, host);
+    end == end_by(call) && has_what_was_said(host)
+}
+
+fn is_call_told(alloc: Global, call: u64) -> bool {
+    match failing_host(alloc, call) {
+        Ok(mut host) => stores_first(alloc, &mut host, call),
+        Err(_) => false,
+    }
+}
+
+#[test]
+fn stores_before_it_says_so(rt: HostRuntime) {
+    for call in 0..64 {
+        assert!(rt; is_call_told(rt.alloc(), call), "call {call}");
+    }
 }

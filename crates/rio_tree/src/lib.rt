@@ -40,8 +40,3 @@ pub use laws::{written_tree_fits, written_tree_is_read};
 pub use read::read_tree;
 pub use refusal::BranchRefusal;
 pub use written::tree_value;
-
-#[cfg(test)]
-mod tests;
-#[cfg(test)]
-mod written_tests;

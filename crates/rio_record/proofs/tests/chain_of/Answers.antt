@@ -1,50 +1,14 @@
-use Rattle.std.proofs.Common.{◌≡◌, ◌≤◌, ◌&&◌, ℕ, List, false, true, max, Decides, sym, ap, subst, ◌∙◌, eqb, rules}
-use Rattle.std.proofs.lemmas.Bool.{and_parts, and_from, eqb-true, eq-eqb}
-use Rattle.std.proofs.lemmas.Slice.Eq.{slice_eq-Decides}
-use Rattle.rio_chain.specs.contracts.segment.SegmentPartialEq.TheImpl.{eq-value}
+use Rattle.std.proofs.Common.{List, false, sym, ap, ◌∙◌}
 use Rattle.rio_chain.specs.declared.segment.Segment.{Segment}
-use Rattle.rio_chain.specs.declared.segment.Segment.TheVariants.{Record, Gap}
 use Rattle.rio_chain.specs.Chains.{ChainState}
-use Rattle.rio_chain.specs.Placing.{file_end}
 use Rattle.rio_record.proofs.tests.chain_of.Goals as goal
 
--- segments of one kind are equal where their numbers are
-same_numbers : (of : ℕ → ℕ → Segment) (p n q m : ℕ) → (eqb p q && eqb n m) ≡ true → of p n ≡ of q m
-same_numbers of p n q m e =
-    let both = and_parts (eqb p q) (eqb n m) e in
-    ap (λ (x : ℕ). of x n) (eqb-true p q both.0) ∙ ap (of q) (eqb-true n m both.1)
-
-equal_numbers : (p n q m : ℕ) → p ≡ q → n ≡ m → (eqb p q && eqb n m) ≡ true
-equal_numbers p n q m there long = and_from (eqb p q) (eqb n m) (eq-eqb p q there) (eq-eqb n m long)
-
-same : (a b : Segment) → Decides (eq-value.it a b) (a ≡ b)
-same (Record p n) (Record q m) = (
-  same_numbers Record p n q m,
-  λ e. let there : p ≡ q = cc in let long : n ≡ m = cc in equal_numbers p n q m there long,
-)
-same (Record p n) (Gap q m) = (λ e. absurd cc, λ e. absurd cc)
-same (Gap p n) (Record q m) = (λ e. absurd cc, λ e. absurd cc)
-same (Gap p n) (Gap q m) = (
-  same_numbers Gap p n q m,
-  λ e. let there : p ≡ q = cc in let long : n ≡ m = cc in equal_numbers p n q m there long,
-)
-
-pub from_segments-requires-clause-low : goal.from_segments-requires-clause-low
-from_segments-requires-clause-low g c =
-    let equal : c.eq.result ≡ true = search rules in
-    let is = sym c.as_slice.ensures ∙ (slice_eq-Decides same _ _ _ c.eq.ensures).0 equal in
-    subst (λ (s : List Segment). file_end s ≤ 1999999996) (sym is) c.requires.low
-
 pub returns-clause-chain : goal.returns-clause-chain
-returns-clause-chain g c =
-    let equal : c.eq.result ≡ true = search rules in
-    let is = sym c.as_slice.ensures ∙ (slice_eq-Decides same _ _ _ c.eq.ensures).0 equal in
-    c.in_ok-reserve.ensures.ok ∙ ap (λ (x : ChainState). record x { spare = max x.spare 1 }) c.in_ok-chain.ensures
-    ∙ ap (λ (s : List Segment). let made : ChainState = record { segments = s; spare = 1; spent = false } in made) is
+returns-clause-chain c =
+    c.in_ok-kept.ensures.chain
+    ∙ ap (λ (s : List Segment). let made : ChainState = record { segments = s; spare = 1; spent = false } in made) c.in_ok-kept.ensures.same
 
 pub returns-clause-holds : goal.returns-clause-holds
-returns-clause-holds g c file holds =
-    let equal : c.eq.result ≡ true = search rules in
-    let is = sym c.as_slice.ensures ∙ (slice_eq-Decides same _ _ _ c.eq.ensures).0 equal in
-    let found = c.in_ok-segments.ensures.segments file (sym (c.in_ok-sync.ensures.holds ∙ c.in_ok-segments.ensures.calls.holds) ∙ holds) in
-    (found.0, record { chain = found.1; same = sym is ∙ found.2 })
+returns-clause-holds c file holds =
+    let found = c.in_ok-segments.ensures.holds file holds in
+    (found.0, record { chain = found.1.chain; same = sym c.in_ok-kept.ensures.same ∙ found.1.same })

@@ -1,9 +1,10 @@
 //! Entries of branches of leaves.
 mod objects;
 
-use crate::{read_entry, write_entry};
-use rio_leaf::{BranchDef, LeafFault, Shape, read_leaves};
-use rio_num::{Name, NoMemory};
+use crate::tests::leaf_lists::branch_of_row;
+use rio_entry::{read_entry, write_entry};
+use rio_leaf::BranchDef;
+use rio_num::NoMemory;
 use rio_types::Classes;
 use rio_value::{Value, Values};
 use std::alloc::Global;
@@ -154,16 +155,6 @@ fn are(said: &[Said], values: &[Value]) -> bool {
     values.len() == said.len()
 }
 
-fn branch(alloc: Global, leaves: &str) -> Result<BranchDef, LeafFault> {
-    if leaves.len() > 1000 {
-        return Err(LeafFault::NoMemory);
-    }
-    Ok(BranchDef {
-        name: Name::new(alloc),
-        shape: Shape::Leaves(read_leaves(alloc, leaves.as_bytes())?),
-    })
-}
-
 fn counts_of(alloc: Global, counts: &[i128]) -> Result<Values, NoMemory> {
     let mut values = Values::new(alloc);
     for n in counts {
@@ -214,7 +205,10 @@ impl Row {
     }
 
     fn holds(&self, alloc: Global) -> bool {
-        match (branch(alloc, self.leaves), counts_of(alloc, self.counts)) {
+        match (
+            branch_of_row(alloc, "", self.leaves),
+            counts_of(alloc, self.counts),
+        ) {
             (Ok(branch), Ok(counts)) => self.is_read(alloc, &branch, &counts),
             _ => false,
         }

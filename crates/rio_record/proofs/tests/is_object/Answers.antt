@@ -1,6 +1,6 @@
 use Rattle.std.proofs.Common.{◌∷◌, [], ap}
 use Rattle.rio_chain.specs.declared.segment.Segment.TheVariants.{Record}
-use Rattle.rio_record.proofs.tests.reads_a_record.Goals as goal
+use Rattle.rio_record.proofs.tests.is_object.Goals as goal
 
 pub read_record-requires-clause-record : goal.read_record-requires-clause-record
-read_record-requires-clause-record g c = (Record 100 108 ∷ [], 60, [], ap (λ s. s.segments) c.in_ok-chain.ensures.chain)
+read_record-requires-clause-record c = (Record 100 108 ∷ [], 60, [], ap (λ s. s.segments) c.requires.chain)

@@ -1,7 +1,10 @@
 //! The header of a tree, made and read.
-use crate::{BasketAt, Baskets, Branch, BranchNumbers, Branches, TreeHead, read_tree, tree_value};
-use rio_leaf::{BranchDef, LeafFault, Leaves, Shape, print_leaves, read_leaves};
-use rio_num::{Bytes, Name};
+use crate::tests::leaf_lists::{are_listed, leaves_of_row};
+use rio_leaf::{BranchDef, LeafFault, Shape};
+use rio_num::Name;
+use rio_tree::{
+    BasketAt, Baskets, Branch, BranchNumbers, Branches, TreeHead, read_tree, tree_value,
+};
 use rio_value::Value;
 use std::alloc::Global;
 
@@ -67,21 +70,12 @@ static ROWS: [Row; 3] = [
     },
 ];
 
-// Whether the leaves are those that the text lists.
-fn are_listed(leaves: &Leaves, text: &str) -> bool {
-    let mut listed = Bytes::new(leaves.allocator());
-    print_leaves(leaves, &mut listed).is_ok() && listed.as_slice() == text.as_bytes()
-}
-
 impl Row {
     fn shape(&self, alloc: Global) -> Result<Shape, LeafFault> {
         if self.leaves.is_empty() {
             return Ok(Shape::Class(Name::from_slice(alloc, self.class.as_bytes())?));
         }
-        if self.leaves.len() > 1000 {
-            return Err(LeafFault::NoMemory);
-        }
-        Ok(Shape::Leaves(read_leaves(alloc, self.leaves.as_bytes())?))
+        Ok(Shape::Leaves(leaves_of_row(alloc, self.leaves)?))
     }
 
     fn def(&self, alloc: Global) -> Result<BranchDef, LeafFault> {
