@@ -5,7 +5,7 @@ use Rattle.std.proofs.lemmas.Bool.Decides.{nat_tests}
 use Rattle.std.proofs.lemmas.Int.{ints}
 use Rattle.rio_num.specs.Reading.{◌>>=◌}
 use Rattle.rio_num.proofs.ReadLaws.{bind_ok, chosen, ok_is}
-use Rattle.rio_key.specs.BasketHead.{basket_front_at}
+use Rattle.rio_key.specs.BasketFront.{basket_front_at}
 use Rattle.rio_key.specs.Key.{is_compressed}
 use Rattle.rio_key.specs.declared.basket_head.BasketFront.{BasketFront}
 use Rattle.rio_key.specs.declared.fault.KeyFault.{KeyFault}

@@ -9,10 +9,11 @@ use Rattle.rio_num.specs.Reading.{◌>>=◌}
 use Rattle.rio_num.specs.Room.{padding}
 use Rattle.rio_num.specs.Text.{long_form, short_form, text_bytes}
 use Rattle.rio_num.proofs.ReadLaws.{bind_is}
-use Rattle.rio_key.specs.BasketHead.{AreInRange, basket_front_at, basket_head_bytes, integer_bytes, sizes_bytes}
-use Rattle.rio_key.specs.Key.{is_compressed}
-use Rattle.rio_key.specs.Spelling.{IsSpelledIn, SpellsKey, number_bytes}
-use Rattle.rio_key.specs.Written.{FitsKey, HoldsItself, written_key}
+use Rattle.rio_key.specs.BasketFront.{basket_front_at}
+use Rattle.rio_key.specs.BasketHead.{AreInRange, basket_head_bytes, integer_bytes, sizes_bytes}
+use Rattle.rio_num.specs.Plain.{IsSpelledIn}
+use Rattle.rio_key.specs.Key.{SpellsKey, is_compressed}
+use Rattle.rio_key.specs.Written.{FitsKey, HoldsItself, number_bytes, written_key}
 use Rattle.rio_key.specs.declared.basket_head.BasketFront.{BasketFront}
 use Rattle.rio_key.specs.declared.basket_head.BasketHead.{BasketHead}
 use Rattle.rio_key.specs.declared.head.KeyHead.{KeyHead}
@@ -185,7 +186,7 @@ module _ (place : ℕ) (tree branch : List ℕ) (datime : ℕ) (basket : OpenBas
       let taken : take 19 (basket_head_bytes head ++ more) ≡ basket_head_bytes head ++ [] = take_at (basket_head_bytes head) more 19 (head_long head) ∙ sym (append-nil (basket_head_bytes head)) in
       let again = basket_head_again head p [] in_range in
       let there : p ≡ length (written_key key) = omega arith in
-      rw (read, left, taken, again.1, there) refl
+      rw (read, left, taken, again, there) refl
 
   -- ---- its entries
 

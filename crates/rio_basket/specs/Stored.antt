@@ -1,7 +1,7 @@
 -- How the entries of a basket are laid out in its bytes: the numbers of its head, or the first fault.
 use Rattle.std.specs.Prelude.{◌≡◌, ◌≢◌, ℕ, ◌+◌, ◌-◌, ◌%◌, ℤ, pos, List, length, Result, Ok, Err, Bool, int_lt, int_le, nat_lt, ◌==◌, ◌||◌, ◌&&◌, not, unsigned_abs, if◌then◌else◌}
 use Rattle.rio_num.specs.At.{At}
-use Rattle.rio_key.specs.BasketHead.{basket_front_at}
+use Rattle.rio_key.specs.BasketFront.{basket_front_at}
 use Rattle.rio_key.specs.Key.{is_compressed}
 use Rattle.rio_key.specs.declared.basket_head.BasketFront.{BasketFront}
 use Rattle.rio_key.specs.declared.basket_head.BasketHead.{BasketHead}

@@ -70,7 +70,7 @@ fn equal_entry<'a>(layout: &Layout, bytes: &'a [u8], k: u32) -> &'a [u8]
 }
 
 /// The k-th entry of a basket that is laid out so.
-pub(crate) fn entry_of<'a>(offsets: bool, layout: &Layout, bytes: &'a [u8], k: u32) -> &'a [u8]
+pub(crate) fn laid_entry<'a>(offsets: bool, layout: &Layout, bytes: &'a [u8], k: u32) -> &'a [u8]
     requires inside { k < layout.now.count }
     requires laid { IsLaid offsets layout.now bytes.now }
     ensures same { result.now ≡ laid_entry offsets layout.now bytes.now k }
@@ -84,7 +84,7 @@ pub(crate) fn entry_of<'a>(offsets: bool, layout: &Layout, bytes: &'a [u8], k: u
 }
 
 /// The entries of a basket, each of them bytes of its own.
-#[derive(Debug, Drop)]
+#[derive(Drop)]
 pub struct Entries {
     items: Items<Bytes>,
 }
@@ -167,7 +167,7 @@ pub fn read_basket(alloc: Global, bytes: &[u8], offsets: bool) -> Result<Entries
     let layout = read_sound_layout(alloc, bytes, offsets)?;
     let mut entries = Entries::new(alloc);
     for k in 0..layout.count {
-        let entry = entry_of(offsets, &layout, bytes, k);
+        let entry = laid_entry(offsets, &layout, bytes, k);
         entries.push(Bytes::from_slice(alloc, entry)?)?;
     }
     Ok(entries)

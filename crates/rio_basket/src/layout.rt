@@ -9,7 +9,7 @@ use std::alloc::Global;
 
 /// Where the data of the entries begin and end, and where the record ends, counted from its first byte, and how many
 /// entries there are.
-#[derive(Clone, Copy, Debug, PartialEq, Eq)]
+#[derive(Clone, Copy)]
 pub(crate) struct Layout {
     pub(crate) first: u32,
     pub(crate) last: u32,

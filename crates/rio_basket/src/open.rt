@@ -19,7 +19,7 @@ const MOST_ENTRIES: usize = 8_192;
 const BUFFER_SIZE: i32 = 32_000;
 
 /// A basket that is being filled with the entries of a branch, which have offsets or all have one length.
-#[derive(Debug, Drop)]
+#[derive(Drop)]
 pub struct Basket {
     offsets: bool,
     bytes: Bytes,

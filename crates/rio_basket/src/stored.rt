@@ -1,6 +1,6 @@
 //! A basket as it is stored, with its entries in place.
 use crate::BasketFault;
-use crate::entries::entry_of;
+use crate::entries::laid_entry;
 use crate::layout::Layout;
 use crate::offsets::read_sound_layout;
 use rio_num::Bytes;
@@ -9,7 +9,7 @@ use std::marker::Model;
 
 /// A basket as it is stored, which contracts see as the list of its entries. The entries stand in the basket's bytes, so
 /// a scan that holds one makes no copy of it.
-#[derive(Debug, Drop)]
+#[derive(Drop)]
 pub struct StoredBasket {
     bytes: Bytes,
     offsets: bool,
@@ -60,7 +60,7 @@ impl StoredBasket {
         ensures short { IfSome result (λ entry. length entry.now < 2 ^ 32) }
     {
         if k < self.layout.count as usize {
-            Some(entry_of(self.offsets, &self.layout, self.bytes.as_slice(), k as u32))
+            Some(laid_entry(self.offsets, &self.layout, self.bytes.as_slice(), k as u32))
         } else {
             None
         }

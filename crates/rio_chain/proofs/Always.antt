@@ -7,13 +7,16 @@ use Rattle.std.proofs.lemmas.Option.{none-some}
 use Rattle.byteorder.specs.Endian.{big_number}
 use Rattle.byteorder.specs.Numbers.{big_from-lt}
 use Rattle.rio_num.specs.At.{At, AreBytes}
+use Rattle.rio_num.specs.Meanings.{Reading, Standing}
 use Rattle.rio_num.specs.declared.cursor.Short.{Short}
 use Rattle.rio_num.proofs.ReadLaws.{IsBytes, IsBytes-drop, IsBytes-take, ok_is}
-use Rattle.rio_key.specs.Key.{key_head_at}
-use Rattle.rio_key.specs.Spelling.{IsSpelledIn, SpellsKey}
+use Rattle.rio_num.specs.Plain.{IsSpelledIn, plain}
+use Rattle.rio_key.specs.Key.{SpellsKey, key_head_at}
 use Rattle.rio_key.specs.declared.head.KeyHead.{KeyHead}
 use Rattle.rio_key.specs.declared.fault.KeyFault.{KeyFault}
-use Rattle.rio_key.proofs.KeyAgain.{key_again, standing}
+use Rattle.rio_num.proofs.Plain.{standing}
+use Rattle.rio_key.proofs.KeyAgain.{key_again}
+use Rattle.rio_key.proofs.KeyParts.{parts_of_key}
 use Rattle.rio_key.proofs.KeyRead.{is_found}
 use Rattle.rio_chain.specs.Segments.{Link, RecordAt, GapAt, link_length, chain_end, texts_end_at, BreaksAt, HasWord, HoldsEnd, HoldsLink, HoldsLinks, IsChain, IsFirst, IsPositive, IsRecord}
 use Rattle.rio_chain.specs.Found.{FindsKey, segment_length_of}
@@ -53,15 +56,15 @@ some_head h = Some h
 pub key_or_none : (bytes : List ℕ) → IsBytes bytes → (found : Option KeyHead) × FindsKey bytes found
 key_or_none bytes fits = by (key_head_at (standing 0 bytes)) refl
   where
-    again : (h : KeyHead) (s : IsSpelledIn (SpellsKey h) bytes) → key_head_at (standing 0 bytes) ≡ Ok (h, standing (0 + length s.0) s.1)
+    again : (h : KeyHead) (s : IsSpelledIn (SpellsKey h) bytes) → key_head_at (standing 0 bytes) ≡ Ok (h, plain (standing (0 + length s.0) s.1))
     again h s = ap (λ (b : List ℕ). key_head_at (standing 0 b)) s.2 ∙ key_again h s.0 0 s.1 s.3
 
-    by : (r : Result (KeyHead × At) KeyFault) → key_head_at (standing 0 bytes) ≡ r → (found : Option KeyHead) × FindsKey bytes found
+    by : (r : Reading (Unit {0}) KeyFault KeyHead) → key_head_at (standing 0 bytes) ≡ r → (found : Option KeyHead) × FindsKey bytes found
     by (Ok x) is = (
       Some x.0,
       record {
-        found_is = is_found (standing 0 bytes) x.1 (Ok x.0) fits is;
-        only = λ h s. ap (λ (y : KeyHead × At). some_head y.0) (ok_is {E = KeyFault} x (h, standing (0 + length s.0) s.1) (sym is ∙ again h s));
+        found_is = is_found (standing 0 bytes) x.1.at (Ok x.0) fits is;
+        only = λ h s. ap (λ (y : KeyHead × Standing (Unit {0})). some_head y.0) (ok_is {E = KeyFault} x (h, plain (standing (0 + length s.0) s.1)) (sym is ∙ again h s));
       },
     )
     by (Err e) is = (None, record { found_is = tt; only = λ h s. absurd (let clash = sym is ∙ again h s in cc) })
@@ -85,14 +88,15 @@ record_or_not place bytes fits = by (key_or_none bytes fits).0 (key_or_none byte
     by None f = inr (λ r. none-some r.head (f.only r.head r.key))
     by (Some h) f =
         let key = f.found_is in
-        let nbytes : h.nbytes ≡ pos key.3.nbytes = key.3.length_is in
-        let tests = both (low_or_not h.version 1000) (both (same_or_not h.seek place) (both (same_or_not key.3.nbytes (length bytes)) (both (same_or_not (h.keylen + h.objlen) (length bytes)) (same_or_not (length bytes % 4) 0)))) in
+        let parts = parts_of_key h key.0 key.3 in
+        let nbytes : h.nbytes ≡ pos parts.fields.nbytes = parts.length_is in
+        let tests = both (low_or_not h.version 1000) (both (same_or_not h.seek place) (both (same_or_not parts.fields.nbytes (length bytes)) (both (same_or_not (h.keylen + h.objlen) (length bytes)) (same_or_not (length bytes % 4) 0)))) in
         elim tests [
           | inl t ↦ inl (record { head = h; key = key; small = t.0; seek = t.1.0; nbytes = nbytes ∙ ap (λ (k : ℕ). pos k) t.1.1.0; parts = t.1.1.1.0; aligned = t.1.1.1.1 })
           | inr t ↦ inr (λ r.
               let same = same_head h r.head (f.only r.head r.key) in
               let as_h : IsRecordOf h place bytes = subst (λ (k : KeyHead). IsRecordOf k place bytes) (sym same) (r.small, (r.seek, (r.nbytes, (r.parts, r.aligned)))) in
-              t (as_h.0, (as_h.1.0, (same_pos key.3.nbytes (length bytes) (sym nbytes ∙ as_h.1.1.0), (as_h.1.1.1.0, as_h.1.1.1.1)))))
+              t (as_h.0, (as_h.1.0, (same_pos parts.fields.nbytes (length bytes) (sym nbytes ∙ as_h.1.1.0), (as_h.1.1.1.0, as_h.1.1.1.1)))))
         ]
 
 -- ---- a first record

@@ -7,12 +7,14 @@ use Rattle.std.proofs.Math.Seq.{take-append-add}
 use Rattle.rio_num.specs.At.{standing_at}
 use Rattle.rio_host.specs.Image.{Has}
 use Rattle.rio_host.proofs.Images.{has_front}
-use Rattle.rio_key.specs.Spelling.{SpellsKey, IsSpelledIn}
+use Rattle.rio_num.specs.Plain.{IsSpelledIn}
+use Rattle.rio_key.specs.Key.{SpellsKey}
 use Rattle.rio_key.specs.declared.head.KeyHead.{KeyHead}
 use Rattle.rio_key.specs.declared.fault.KeyFault.{KeyFault}
 use Rattle.rio_key.specs.declared.fault.KeyFault.TheVariants.{NoMemory}
 use Rattle.rio_chain.specs.declared.fault.WalkFault.{WalkFault}
 use Rattle.rio_key.proofs.KeyLaws.{one_key_lem}
+use Rattle.rio_key.proofs.KeyParts.{parts_of_key}
 use Rattle.rio_chain.specs.Found.{FindsKey, FindsKeyAt}
 
 pub standing_rest : (p : ℕ) (bytes : List ℕ) → (standing_at p p bytes).rest ≡ bytes
@@ -30,7 +32,8 @@ pub spelled_in_front : (h : KeyHead) (bytes : List ℕ) (n : ℕ) → (65535 ≤
 spelled_in_front h bytes n long s = ⊎_elim
     (λ le.
     let m = n - length s.0 in
-    let fits : length s.0 ≤ n = omega (arith, le, s.3.title_held, s.3.numbers.keylen) in
+    let k = parts_of_key h s.0 s.3 in
+    let fits : length s.0 ≤ n = omega (arith, le, k.title_held, k.fields.numbers.keylen) in
     (s.0, take m s.1, ap (take n) s.2 ∙ taken s.0 s.1 m n (omega (arith, fits)), s.3))
     (λ le. subst (IsSpelledIn (SpellsKey h)) (sym (take_all n bytes le)) s)
     long

@@ -5,9 +5,11 @@ use Rattle.std.specs.Int.{w32, cast_unsigned}
 use Rattle.byteorder.specs.Endian.{big_bytes}
 use Rattle.byteorder.specs.Numbers.{length-bytes_high_first}
 use Rattle.rio_num.specs.Text.{SpellsText, long_form, short_form, text_bytes}
-use Rattle.rio_key.specs.Key.{key_place_len}
-use Rattle.rio_key.specs.Spelling.{IsSpelledIn, SpellsKey, number_bytes}
+use Rattle.rio_num.specs.Plain.{IsSpelledIn}
+use Rattle.rio_key.specs.Key.{SpellsKey, key_place_len}
+use Rattle.rio_key.specs.Written.{number_bytes}
 use Rattle.rio_key.specs.declared.head.KeyHead.{KeyHead}
+use Rattle.rio_key.proofs.KeyParts.{parts_of_key}
 use Rattle.rio_chain.specs.Found.{IsShortKey}
 
 long_length : (text : List ℕ) → length (long_form text) ≡ length text + 5
@@ -66,13 +68,14 @@ text_within text bytes n s lt = ⊎_elim
 
 pub short_key : (h : KeyHead) (bytes : List ℕ) → IsSpelledIn (SpellsKey h) bytes → IsShortKey h
 short_key h bytes is =
-    let s = is.3 in
+    let k = parts_of_key h is.0 is.3 in
+    let s = k.fields in
     let whole : length is.0 ≡ length (number_bytes h s.nbytes) + (length s.class_bytes + (length s.name_bytes + length s.title_bytes)) =
-    ap length s.spelled ∙ three_long (number_bytes h s.nbytes) s.class_bytes s.name_bytes s.title_bytes in
+    ap length s.parts ∙ three_long (number_bytes h s.nbytes) s.class_bytes s.name_bytes s.title_bytes in
     let written = three_long (number_bytes h (cast_unsigned w32 h.nbytes)) (text_bytes h.class) (text_bytes h.name) (text_bytes h.title) in
     let n1 = numbers_long h s.nbytes in
     let n2 = numbers_long h (cast_unsigned w32 h.nbytes) in
-    let held = s.title_held in
+    let held = k.title_held in
     let small = s.numbers.keylen in
     record {
       fits = record {

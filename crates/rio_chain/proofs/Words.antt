@@ -9,6 +9,7 @@ use Rattle.rio_host.specs.Image.{Has}
 use Rattle.rio_host.specs.ImageLaws.{slice_get-take, slice_get-drop}
 use Rattle.rio_host.proofs.Images.{has_keeps, has_length, has_front}
 use Rattle.rio_key.specs.Key.{key_place_len}
+use Rattle.rio_key.proofs.KeyParts.{parts_of_key}
 use Rattle.rio_chain.specs.Segments.{HasWord, HoldsRecord, IsPositive, IsRecord}
 
 -- as many bytes at one place are the same bytes
@@ -66,18 +67,19 @@ pos_same m n e = cc
 pub record_word : (place : ℕ) (bytes : List ℕ) → IsRecord place bytes → Word bytes
 record_word place bytes r =
     let front = r.key.0 in
-    let spells = r.key.3 in
-    let same : spells.nbytes ≡ length bytes = pos_same spells.nbytes (length bytes) (sym spells.length_is ∙ r.nbytes) in
+    let key = parts_of_key r.head r.key.0 r.key.3 in
+    let spells = key.fields in
+    let same : spells.nbytes ≡ length bytes = pos_same spells.nbytes (length bytes) (sym key.length_is ∙ r.nbytes) in
     let h = r.head in
     let rest = spells.class_bytes ++ (spells.name_bytes ++ spells.title_bytes) in
     let numbers = big_bytes 2 h.version ++ (big_bytes 4 h.objlen ++ (big_bytes 4 h.datime ++ (big_bytes 2 h.keylen ++ (big_bytes 2 h.cycle ++ (big_bytes (key_place_len h.version) h.seek ++ big_bytes (key_place_len h.version) h.pdir))))) in
     record {
       others = (numbers ++ rest) ++ r.key.1;
-      spelled = r.key.2 ∙ ap (λ (b : List ℕ). b ++ r.key.1) spells.spelled
+      spelled = r.key.2 ∙ ap (λ (b : List ℕ). b ++ r.key.1) spells.parts
           ∙ ap (λ (n : ℕ). ((big_bytes 4 n ++ numbers) ++ rest) ++ r.key.1) same
           ∙ ap (λ (b : List ℕ). b ++ r.key.1) (append_assoc (big_bytes 4 (length bytes)) numbers rest)
           ∙ append_assoc (big_bytes 4 (length bytes)) (numbers ++ rest) r.key.1;
-      small = omega (arith, same, spells.length_fits);
+      small = omega (arith, same, key.length_fits);
     }
 
 pub record_long : (bytes : List ℕ) → Word bytes → 4 ≤ length bytes

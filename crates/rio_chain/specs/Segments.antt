@@ -5,7 +5,8 @@ use Rattle.rio_num.specs.At.{At, standing_at}
 use Rattle.rio_num.specs.Reading.{◌>>=◌, text_at}
 use Rattle.rio_num.specs.declared.cursor.Short.{Short}
 use Rattle.rio_host.specs.Image.{Has}
-use Rattle.rio_key.specs.Spelling.{IsSpelledIn, SpellsKey}
+use Rattle.rio_num.specs.Plain.{IsSpelledIn}
+use Rattle.rio_key.specs.Key.{SpellsKey}
 use Rattle.rio_key.specs.declared.head.KeyHead.{KeyHead}
 use Rattle.rio_chain.specs.declared.segment.Segment.{Segment}
 use Rattle.rio_chain.specs.declared.segment.Segment.TheVariants.{Record, Gap}

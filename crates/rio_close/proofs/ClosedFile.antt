@@ -12,6 +12,7 @@ use Rattle.rio_num.proofs.ReadLaws.{bind_is}
 use Rattle.rio_num.specs.Reading.{◌>>=◌}
 use Rattle.rio_key.specs.Written.{written_key}
 use Rattle.rio_key.specs.declared.head.KeyHead.{KeyHead}
+use Rattle.rio_key.proofs.KeyParts.{parts_of_key}
 use Rattle.rio_head.specs.Head.{fault_at, head_at}
 use Rattle.rio_head.specs.declared.head.FileHead.{FileHead}
 use Rattle.rio_head.specs.declared.dir.DirRecord.{DirRecord}
@@ -103,7 +104,7 @@ small_seek file links chain None among = omega arith
 small_seek file links chain (Some r) among =
     let w = whole_records file 100 links chain.links_are r (among r refl) in
     let small : ltb 1000 w.whole.head.version ≡ false = le-ltb _ _ w.whole.small in
-    let lt : w.whole.head.seek < 256 ^ cond (ltb 1000 w.whole.head.version) 8 4 = w.whole.key.3.numbers.seek in
+    let lt : w.whole.head.seek < 256 ^ cond (ltb 1000 w.whole.head.version) 8 4 = (parts_of_key w.whole.head w.whole.key.0 w.whole.key.3).fields.numbers.seek in
     let four : w.whole.head.seek < 2 ^ 32 = subst (λ (b : Bool). w.whole.head.seek < 256 ^ cond b 8 4) small lt in
     subst (λ (h : KeyHead). h.seek < 2 ^ 32) w.key four
 

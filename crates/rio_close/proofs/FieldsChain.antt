@@ -7,8 +7,10 @@ use Rattle.byteorder.specs.Endian.{big_number}
 use Rattle.rio_host.specs.ImageLaws.{slice_get-drop, slice_get-take}
 use Rattle.rio_host.proofs.Images.{has_keeps}
 use Rattle.std.proofs.lemmas.Option.{slice_get_within}
-use Rattle.rio_key.specs.Spelling.{IsSpelledIn, SpellsKey}
+use Rattle.rio_num.specs.Plain.{IsSpelledIn}
+use Rattle.rio_key.specs.Key.{SpellsKey}
 use Rattle.rio_key.specs.declared.head.KeyHead.{KeyHead}
+use Rattle.rio_key.proofs.KeyParts.{parts_of_key}
 use Rattle.rio_chain.specs.Segments.{GapAt, HasWord, HoldsEnd, HoldsRecord, IsChain, IsFirst, IsRecord, Link, RecordAt, chain_end, end_from}
 use Rattle.rio_chain.proofs.Chains.{Parts, PlainLinks, chain_of, end-le, end_keeps, parts_of}
 use Rattle.rio_chain.proofs.Keys.{spelled_in_whole, spelled_one}
@@ -71,7 +73,7 @@ plain_behind old new place (GapAt p n ∷ links) later keeps plain =
 spelled_front : (h : KeyHead) (bytes : List ℕ) (k : ℕ) → h.keylen ≤ k → IsSpelledIn (SpellsKey h) bytes → IsSpelledIn (SpellsKey h) (take k bytes)
 spelled_front h bytes k le s =
     let m = k - length s.0 in
-    let count : k ≡ length s.0 + m = omega (arith, le, s.3.title_held) in
+    let count : k ≡ length s.0 + m = omega (arith, le, (parts_of_key h s.0 s.3).title_held) in
     (s.0, take m s.1, ap (take k) s.2 ∙ ap (λ (c : ℕ). take c (s.0 ++ s.1)) count ∙ take-append-add s.0 s.1 m, s.3)
 
 -- ---- the first record

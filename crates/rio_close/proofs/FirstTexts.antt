@@ -5,7 +5,7 @@ use Rattle.rio_num.specs.At.{At, standing_at}
 use Rattle.rio_num.specs.Reading.{◌>>=◌, text_at}
 use Rattle.rio_num.specs.declared.cursor.Short.{Short}
 use Rattle.rio_num.proofs.ReadLaws.{bind_is, bind_ok, ok_is}
-use Rattle.rio_key.proofs.Front.{text_front, then_front}
+use Rattle.rio_num.proofs.Front.{text_front, then_front}
 use Rattle.rio_chain.specs.Segments.{texts_end_at}
 use Rattle.rio_close.proofs.Numbers.{standing}
 

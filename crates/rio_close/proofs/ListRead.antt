@@ -4,9 +4,11 @@ use Rattle.std.proofs.lemmas.Bool.{ltb-false}
 use Rattle.std.proofs.lemmas.List.{take-append-drop}
 use Rattle.std.specs.Int.{w32, cast_unsigned}
 use Rattle.rio_num.specs.Text.{SpellsText, long_form, short_form, text_bytes}
-use Rattle.rio_key.specs.Spelling.{IsSpelledIn, SpellsKey, number_bytes}
-use Rattle.rio_key.specs.Written.{FitsKey, HoldsItself}
+use Rattle.rio_num.specs.Plain.{IsSpelledIn}
+use Rattle.rio_key.specs.Key.{SpellsKey}
+use Rattle.rio_key.specs.Written.{FitsKey, HoldsItself, number_bytes}
 use Rattle.rio_key.specs.declared.head.KeyHead.{KeyHead}
+use Rattle.rio_key.proofs.KeyParts.{parts_of_key}
 use Rattle.rio_host.specs.Image.{Has}
 use Rattle.rio_host.proofs.Images.{has_length}
 use Rattle.rio_chain.specs.Segments.{IsRecord}
@@ -50,10 +52,11 @@ pub record Writable (h : KeyHead) : Type 0 where
 pub writable : (place : ℕ) (bytes : List ℕ) (w : IsRecord place bytes) → Writable w.head
 writable place bytes w =
     let h = w.head in
-    let s = w.key.3 in
+    let k = parts_of_key h w.key.0 w.key.3 in
+    let s = k.fields in
     let n = cast_unsigned w32 h.nbytes in
     let numbers : length (number_bytes h n) ≡ length (number_bytes h s.nbytes) = refl in
-    let long = ap length s.spelled ∙ length-append (number_bytes h s.nbytes) (s.class_bytes ++ (s.name_bytes ++ s.title_bytes)) in
+    let long = ap length s.parts ∙ length-append (number_bytes h s.nbytes) (s.class_bytes ++ (s.name_bytes ++ s.title_bytes)) in
     let own = length-append (number_bytes h n) (text_bytes h.class ++ (text_bytes h.name ++ text_bytes h.title)) in
     record {
       fits = record {
@@ -66,12 +69,12 @@ writable place bytes w =
       holds = record {
         numbers = s.numbers;
         nbytes = s.nbytes;
-        length_is = s.length_is;
-        length_fits = s.length_fits;
-        key_held = s.key_held;
+        length_is = k.length_is;
+        length_fits = k.length_fits;
+        key_held = k.key_held;
         title_held = omega (
           arith,
-          s.title_held,
+          k.title_held,
           numbers,
           long,
           own,

@@ -6,7 +6,7 @@ use Rattle.rio_num.specs.At.{standing_at}
 use Rattle.rio_num.specs.Reading.{◌>>=◌}
 use Rattle.rio_key.specs.declared.head.KeyHead.{KeyHead}
 use Rattle.rio_key.specs.Key.{key_at}
-use Rattle.rio_key.specs.KeyList.{key_list_at}
+use Rattle.rio_key.specs.KeyList.{key_list_at, key_list_layout}
 use Rattle.rio_head.specs.declared.fault.FileFault.TheVariants.{BadKeyList}
 use Rattle.rio_head.specs.Head.{fault_at}
 use Rattle.rio_dir.specs.Closed.{heads_of, or_bad_list, or_fault}
@@ -15,7 +15,7 @@ use Rattle.rio_close.proofs.Records.{Keyed, at}
 
 -- a key that ends behind the bytes leaves no count
 no_count : (place keylen : ℕ) (bytes : List ℕ) → length bytes < keylen → or_bad_list place (key_list_at (at (place + keylen) (drop keylen bytes))) ≡ Err (fault_at place BadKeyList)
-unfolding key_list_at
+unfolding key_list_layout
 no_count place keylen bytes lt =
     let none : drop keylen bytes ≡ [] = drop_all keylen bytes (omega (arith, lt)) in
     ap (λ (b : List ℕ). or_bad_list place (key_list_at (at (place + keylen) b))) none ∙ refl

@@ -2,7 +2,8 @@
 use Rattle.std.proofs.Common.{◌≡◌, ℕ, zero, suc, ◌^◌, ◌<◌, pos, List, ◌++◌, length, drop, replicate, true, Some, refl, sym, ap, subst, ◌∙◌, arith}
 use Rattle.std.specs.Int.{w32, cast_unsigned}
 use Rattle.std.proofs.lemmas.Int.{ints}
-use Rattle.rio_key.specs.Spelling.{IsSpelledIn, SpellsKey}
+use Rattle.rio_num.specs.Plain.{IsSpelledIn}
+use Rattle.rio_key.specs.Key.{SpellsKey}
 use Rattle.rio_key.specs.declared.head.KeyHead.{KeyHead}
 use Rattle.rio_chain.specs.Changes.{with_record}
 use Rattle.rio_chain.specs.Segments.{IsRecord, Link, RecordAt}

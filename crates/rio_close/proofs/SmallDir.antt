@@ -1,11 +1,14 @@
 -- A directory record of the small form is read from its numbers.
-use Rattle.std.proofs.Common.{◌≡◌, ℕ, ◌+◌, ◌≤◌, false, List, length, take, drop, Ok, refl, ap, ◌∙◌, arith}
-use Rattle.rio_num.specs.Reading.{◌>>=◌, bytes_at, number_at, skip}
-use Rattle.rio_num.proofs.ReadLaws.{bind_is}
-use Rattle.rio_head.specs.Dir.{dir_at}
+use Rattle.std.proofs.Common.{◌≡◌, ℕ, ◌+◌, ◌≤◌, false, List, length, take, drop, Result, Ok, refl, ap, ◌∙◌, arith}
+use Rattle.rio_num.specs.At.{At}
+use Rattle.rio_num.specs.Meanings.{Reading}
+use Rattle.rio_num.specs.Plain.{plain, value_of}
+use Rattle.rio_num.specs.Reading.{number_at, skip}
+use Rattle.rio_num.specs.declared.cursor.Short.{Short}
+use Rattle.rio_num.proofs.InOrder.{Reads, reads_bytes, reads_done, reads_number}
+use Rattle.rio_head.specs.Dir.{dir_at, dir_layout}
 use Rattle.rio_head.specs.Form.{is_large_dir, place_len}
 use Rattle.rio_head.specs.declared.dir.DirRecord.{DirRecord}
-use Rattle.rio_head.proofs.DirSteps.{Number, Read, to_changed, to_created, to_dir, to_nbytes_keys, to_nbytes_name, to_seek_dir, to_seek_keys, to_seek_parent, to_uuid}
 use Rattle.rio_close.proofs.Numbers.{HasNumber, bytes_read, number_read, standing}
 
 -- the record's numbers in the file
@@ -23,30 +26,26 @@ pub record SmallDir (b : List ℕ) (p : ℕ) (d : DirRecord) : Type 0 where
   pub small : is_large_dir d.version ≡ false
 
 module _ (b : List ℕ) (p : ℕ) (d : DirRecord) (s : SmallDir b p d) where
-  abbrev n : ℕ
-  n = place_len (is_large_dir d.version)
+  abbrev spot : ℕ → At
+  spot k = standing k (drop k b)
 
-  four : n ≡ 4
-  four = ap place_len s.small
-
-  next : (m m' k k' w : ℕ) (f : Number → Read) → m ≡ m' → k' ≡ k + m' → HasNumber m' b k w → (number_at m (standing k (drop k b)) >>= f) ≡ f (w, standing k' (drop k' b))
-  next m m' k k' w f is later a = bind_is (number_at m (standing k (drop k b))) (w, standing k' (drop k' b)) f (number_read m m' k k' k k' w b is later later a)
-
-  uuid_read : to_uuid d.version d.created d.changed d.nbytes_keys d.nbytes_name d.seek_dir d.seek_parent (d.seek_keys, standing (p + 30) (drop (p + 30) b)) ≡ Ok d
-  uuid_read =
-      let to = to_dir d.version d.created d.changed d.nbytes_keys d.nbytes_name d.seek_dir d.seek_parent d.seek_keys in
-      bind_is (bytes_at 18 (standing (p + 30) (drop (p + 30) b))) (take 18 (drop (p + 30) b), skip 18 (standing (p + 30) (drop (p + 30) b))) to (bytes_read 18 (p + 30) (p + 30) b (omega (arith, s.long)))
-      ∙ ap (λ (u : List ℕ). to (u, skip 18 (standing (p + 30) (drop (p + 30) b)))) s.uuid
+  there : (n m k k' w : ℕ) → n ≡ m → k' ≡ k + m → HasNumber m b k w → number_at n (spot k) ≡ Ok (w, spot k')
+  there n m k k' w is next a = number_read n m k k' k k' w b is next next a
 
   pub dir_read : dir_at (standing p (drop p b)) ≡ Ok d
-  unfolding dir_at
+  unfolding dir_layout
   dir_read =
-      next 2 2 p (p + 2) d.version to_created refl (omega arith) s.version
-      ∙ next 4 4 (p + 2) (p + 6) d.created (to_changed d.version) refl (omega arith) s.created
-      ∙ next 4 4 (p + 6) (p + 10) d.changed (to_nbytes_keys d.version d.created) refl (omega arith) s.changed
-      ∙ next 4 4 (p + 10) (p + 14) d.nbytes_keys (to_nbytes_name d.version d.created d.changed) refl (omega arith) s.nbytes_keys
-      ∙ next 4 4 (p + 14) (p + 18) d.nbytes_name (to_seek_dir d.version d.created d.changed d.nbytes_keys) refl (omega arith) s.nbytes_name
-      ∙ next n 4 (p + 18) (p + 22) d.seek_dir (to_seek_parent d.version d.created d.changed d.nbytes_keys d.nbytes_name) four (omega arith) s.seek_dir
-      ∙ next n 4 (p + 22) (p + 26) d.seek_parent (to_seek_keys d.version d.created d.changed d.nbytes_keys d.nbytes_name d.seek_dir) four (omega arith) s.seek_parent
-      ∙ next n 4 (p + 26) (p + 30) d.seek_keys (to_uuid d.version d.created d.changed d.nbytes_keys d.nbytes_name d.seek_dir d.seek_parent) four (omega arith) s.seek_keys
-      ∙ uuid_read
+      let n = place_len (is_large_dir d.version) in
+      let four : n ≡ 4 = ap place_len s.small in
+      let own = take 18 (drop (p + 30) b) in
+      let all : Reads dir_layout (plain (spot p)) (record d { uuid = own }) (plain (skip 18 (spot (p + 30)))) =
+      reads_number d.version (spot (p + 2)) (there 2 2 p (p + 2) d.version refl (omega arith) s.version)
+      (reads_number d.created (spot (p + 6)) (there 4 4 (p + 2) (p + 6) d.created refl (omega arith) s.created)
+      (reads_number d.changed (spot (p + 10)) (there 4 4 (p + 6) (p + 10) d.changed refl (omega arith) s.changed)
+      (reads_number d.nbytes_keys (spot (p + 14)) (there 4 4 (p + 10) (p + 14) d.nbytes_keys refl (omega arith) s.nbytes_keys)
+      (reads_number d.nbytes_name (spot (p + 18)) (there 4 4 (p + 14) (p + 18) d.nbytes_name refl (omega arith) s.nbytes_name)
+      (reads_number d.seek_dir (spot (p + 22)) (there n 4 (p + 18) (p + 22) d.seek_dir four (omega arith) s.seek_dir)
+      (reads_number d.seek_parent (spot (p + 26)) (there n 4 (p + 22) (p + 26) d.seek_parent four (omega arith) s.seek_parent)
+      (reads_number d.seek_keys (spot (p + 30)) (there n 4 (p + 26) (p + 30) d.seek_keys four (omega arith) s.seek_keys)
+      (reads_bytes own (skip 18 (spot (p + 30))) (bytes_read 18 (p + 30) (p + 30) b (omega (arith, s.long))) (reads_done _ _))))))))) in
+      ap (λ (r : Reading (Unit {0}) Short DirRecord). value_of r) all.so ∙ ap (λ (u : List ℕ). let r : Result DirRecord Short = Ok (record d { uuid = u }) in r) s.uuid

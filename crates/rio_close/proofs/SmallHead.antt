@@ -1,17 +1,20 @@
 -- A header of the small form is read from its numbers, and they are there where it is read.
-use Rattle.std.proofs.Common.{◌≡◌, ◌⊎◌, inl, inr, ◌==◌, ℕ, suc, ◌+◌, ◌<◌, ◌≤◌, Bool, true, false, List, length, take, drop, Result, Ok, Err, Some, refl, sym, ap, subst, ◌∙◌, arith}
+use Rattle.std.proofs.Common.{◌≡◌, ◌⊎◌, inl, inr, ◌==◌, ℕ, suc, ◌+◌, ◌<◌, ◌≤◌, false, List, length, take, drop, Result, Ok, Err, Some, refl, sym, ap, subst, ◌∙◌, arith}
 use Rattle.std.specs.List.{slice_get}
 use Rattle.std.proofs.lemmas.Bool.{eq-eqb, eqb-true}
 use Rattle.rio_num.specs.At.{At}
-use Rattle.rio_num.specs.Reading.{◌>>=◌, bytes_at, number_at, skip}
+use Rattle.rio_num.specs.Layout.{bytes, number}
+use Rattle.rio_num.specs.Meanings.{Reading, Standing, of_bytes, read}
+use Rattle.rio_num.specs.Plain.{plain, value_of}
+use Rattle.rio_num.specs.Reading.{bytes_at, number_at, skip}
 use Rattle.rio_num.specs.declared.cursor.Short.{Short}
-use Rattle.rio_num.proofs.ReadLaws.{bind_is, bind_ok, ok_is}
+use Rattle.rio_num.proofs.Plain.{value_ok}
+use Rattle.rio_num.proofs.ReadLaws.{ok_is}
+use Rattle.rio_num.proofs.InOrder.{Reads, kept_of, next_of, reads_bytes, reads_done, reads_kept, reads_number}
 use Rattle.rio_head.specs.Form.{is_large_head, place_len}
-use Rattle.rio_head.specs.Head.{behind_at, check, fault_at, head_at, head_field, header_at, root_number, units_place_of}
+use Rattle.rio_head.specs.Head.{behind_layout, head_at, header_layout, root_number, short_head}
 use Rattle.rio_head.specs.declared.head.FileHead.{FileHead}
 use Rattle.rio_head.specs.declared.fault.HeadFault.{HeadFault}
-use Rattle.rio_head.specs.declared.fault.FileFault.TheVariants.{BadBegin, BadUnits, NotRoot}
-use Rattle.rio_head.proofs.HeadSteps.{Read, Number, header_of, test_begin, test_root, test_units, to_begin, to_compress, to_header, to_nbytes_free, to_nbytes_info, to_nbytes_name, to_nfree, to_seek_free, to_seek_info, to_units, to_uuid}
 use Rattle.rio_close.proofs.Numbers.{HasNumber, KeepsRange, bytes_keep, bytes_read, number_keeps, number_read, number_was_read, standing, within_keeps}
 
 -- the header's numbers in the file
@@ -36,156 +39,118 @@ pub record SmallHead (b : List ℕ) (h : FileHead) : Type 0 where
 
 -- ---- numbers give the header
 
+abbrev Head : Type 0
+Head = Reading (Unit {0}) HeadFault FileHead
+
 module _ (b : List ℕ) (h : FileHead) (s : SmallHead b h) where
-  abbrev n : ℕ
-  n = place_len (is_large_head h.version)
+  abbrev spot : ℕ → At
+  spot k = standing k (drop k b)
 
-  four : n ≡ 4
-  four = ap place_len s.small
-
-  next : (m m' k k' w : ℕ) (f : Number → Read) → m ≡ m' → k' ≡ k + m' → HasNumber m' b k w → (head_field (number_at m (standing k (drop k b))) >>= f) ≡ f (w, standing k' (drop k' b))
-  next m m' k k' w f is later a = bind_is (head_field (number_at m (standing k (drop k b)))) (w, standing k' (drop k' b)) f (ap head_field (number_read m m' k k' k k' w b is later later a))
-
-  tested : (t : Bool) (fault : HeadFault) (f : Read) → t ≡ true → (check t fault >>= λ done. f) ≡ f
-  tested t fault f is = ap (λ (c : Bool). check c fault >>= λ done. f) is
-
-  uuid_read : to_uuid h.version h.end h.seek_free h.nbytes_free h.nfree h.nbytes_name 4 h.compress h.seek_info (h.nbytes_info, standing 45 (drop 45 b)) ≡ Ok h
-  uuid_read =
-      bind_is (head_field (bytes_at 18 (standing 45 (drop 45 b)))) (take 18 (drop 45 b), skip 18 (standing 45 (drop 45 b))) (to_header h.version h.end h.seek_free h.nbytes_free h.nfree h.nbytes_name 4 h.compress h.seek_info h.nbytes_info) (ap head_field (bytes_read 18 45 45 b s.long))
-      ∙ ap (λ (u : List ℕ). to_header h.version h.end h.seek_free h.nbytes_free h.nfree h.nbytes_name 4 h.compress h.seek_info h.nbytes_info (u, skip 18 (standing 45 (drop 45 b)))) s.uuid
-      ∙ ap (λ (q : ℕ × ℕ). let r : Read = Ok (record h { begin = q.0; units = q.1 }) in r) (λ i. (sym s.begin_is i, sym s.units_is i))
-
-  behind_read : behind_at h.version (standing 12 (drop 12 b)) ≡ Ok h
-  unfolding behind_at
-  behind_read =
-      let v = h.version in
-      next n 4 12 16 h.end (to_seek_free v) four refl s.end
-      ∙ next n 4 16 20 h.seek_free (to_nbytes_free v h.end) four refl s.seek_free
-      ∙ next 4 4 20 24 h.nbytes_free (to_nfree v h.end h.seek_free) refl refl s.nbytes_free
-      ∙ next 4 4 24 28 h.nfree (to_nbytes_name v h.end h.seek_free h.nbytes_free) refl refl s.nfree
-      ∙ next 4 4 28 32 h.nbytes_name (to_units v h.end h.seek_free h.nbytes_free h.nfree) refl refl s.nbytes_name
-      ∙ next 1 1 32 33 4 (test_units v h.end h.seek_free h.nbytes_free h.nfree h.nbytes_name) refl refl s.units
-      ∙ tested (4 == n) (fault_at (units_place_of (is_large_head v)) BadUnits) (to_compress v h.end h.seek_free h.nbytes_free h.nfree h.nbytes_name (4, standing 33 (drop 33 b))) (eq-eqb 4 n (sym four))
-      ∙ next 4 4 33 37 h.compress (to_seek_info v h.end h.seek_free h.nbytes_free h.nfree h.nbytes_name 4) refl refl s.compress
-      ∙ next n 4 37 41 h.seek_info (to_nbytes_info v h.end h.seek_free h.nbytes_free h.nfree h.nbytes_name 4 h.compress) four refl s.seek_info
-      ∙ next 4 4 41 45 h.nbytes_info (to_uuid v h.end h.seek_free h.nbytes_free h.nfree h.nbytes_name 4 h.compress h.seek_info) refl refl s.nbytes_info
-      ∙ uuid_read
+  there : (n m k k' w : ℕ) → n ≡ m → k' ≡ k + m → HasNumber m b k w → number_at n (spot k) ≡ Ok (w, spot k')
+  there n m k k' w is next a = number_read n m k k' k k' w b is next next a
 
   pub small_read : head_at b ≡ Ok h
-  unfolding header_at
+  unfolding header_layout behind_layout
   small_read =
-      next 4 4 0 4 root_number test_root refl refl s.root
-      ∙ next 4 4 4 8 h.version to_begin refl refl s.version
-      ∙ next 4 4 8 12 100 (test_begin h.version) refl refl s.begin
-      ∙ behind_read
+      let n = place_len (is_large_head h.version) in
+      let four : n ≡ 4 = ap place_len s.small in
+      let own = take 18 (drop 45 b) in
+      let all : Reads header_layout (plain (standing 0 b)) (record h { begin = 100; units = 4; uuid = own }) (plain (skip 18 (spot 45))) =
+      reads_number root_number (spot 4) (there 4 4 0 4 root_number refl refl s.root) (reads_kept _ refl
+      (reads_number h.version (spot 8) (there 4 4 4 8 h.version refl refl s.version)
+      (reads_number 100 (spot 12) (there 4 4 8 12 100 refl refl s.begin) (reads_kept _ refl
+      (reads_number h.end (spot 16) (there n 4 12 16 h.end four refl s.end)
+      (reads_number h.seek_free (spot 20) (there n 4 16 20 h.seek_free four refl s.seek_free)
+      (reads_number h.nbytes_free (spot 24) (there 4 4 20 24 h.nbytes_free refl refl s.nbytes_free)
+      (reads_number h.nfree (spot 28) (there 4 4 24 28 h.nfree refl refl s.nfree)
+      (reads_number h.nbytes_name (spot 32) (there 4 4 28 32 h.nbytes_name refl refl s.nbytes_name)
+      (reads_number 4 (spot 33) (there 1 1 32 33 4 refl refl s.units) (reads_kept _ (eq-eqb 4 n (sym four))
+      (reads_number h.compress (spot 37) (there 4 4 33 37 h.compress refl refl s.compress)
+      (reads_number h.seek_info (spot 41) (there n 4 37 41 h.seek_info four refl s.seek_info)
+      (reads_number h.nbytes_info (spot 45) (there 4 4 41 45 h.nbytes_info refl refl s.nbytes_info)
+      (reads_bytes own (skip 18 (spot 45)) (bytes_read 18 45 45 b s.long) (reads_done _ _)))))))))))))))) in
+      ap (λ (r : Head). value_of r) all.so
+      ∙ ap (λ (q : ℕ × ℕ × List ℕ). let r : Result FileHead HeadFault = Ok (record h { begin = q.0; units = q.1; uuid = q.2 }) in r) (λ i. (sym s.begin_is i, sym s.units_is i, s.uuid i))
 
 -- ---- the header gives its numbers
 
-whole_ok : {A : Type 0} (r : Result A Short) (x : A) → head_field r ≡ Ok x → r ≡ Ok x
-whole_ok (Ok y) x e = ap (λ (z : _). let r : Result _ Short = Ok z in r) (ok_is {E = HeadFault} y x e)
-whole_ok (Err d) x e = absurd cc
+-- a number was read there
+record IsThere (n : ℕ) (b : List ℕ) (k x : ℕ) (t : Standing (Unit {0})) : Type 0 where
+  found : HasNumber n b k x
+  on : t.at ≡ standing (k + n) (drop (k + n) b)
 
--- one number more was read
-record Took (m k : ℕ) (b : List ℕ) (f : Number → Read) (h : FileHead) : Type 0 where
-  x : ℕ
-  there : HasNumber (suc m) b k x
-  on : f (x, standing (k + suc m) (drop (k + suc m) b)) ≡ Ok h
-
-took : (m k : ℕ) (b : List ℕ) (f : Number → Read) (h : FileHead) → (head_field (number_at (suc m) (standing k (drop k b))) >>= f) ≡ Ok h → Took m k b f h
-took m k b f h e =
-    let r = bind_ok (head_field (number_at (suc m) (standing k (drop k b)))) f h e in
-    let n = number_was_read m k k b r.0.0 r.0.1 (whole_ok (number_at (suc m) (standing k (drop k b))) r.0 r.1) in
-    record { x = r.0.0; there = n.there; on = subst (λ (t : At). f (r.0.0, t) ≡ Ok h) n.goes_on r.2 }
-
-passed : (t : Bool) (fault : HeadFault) (f : Read) (h : FileHead) → (check t fault >>= λ done. f) ≡ Ok h → (t ≡ true) × (f ≡ Ok h)
-passed true fault f h e = (refl, e)
-passed false fault f h e = absurd cc
-
--- what is read behind the version has this version
-version_step : {X : Type 0} (v : ℕ) (h : FileHead) (r : Result X HeadFault) (f : X → Read) → (r >>= f) ≡ Ok h → ((x : X) → f x ≡ Ok h → h.version ≡ v) → h.version ≡ v
-version_step v h (Ok x) f e more = more x e
-version_step v h (Err d) f e more = absurd cc
-
-version_is : (v : ℕ) (s : At) (h : FileHead) → behind_at v s ≡ Ok h → h.version ≡ v
-unfolding behind_at
-version_is v s head e =
-    let n = place_len (is_large_head v) in
-    version_step v head (head_field (number_at n s)) (to_seek_free v) e (λ a e1.
-    version_step v head (head_field (number_at n a.1)) (to_nbytes_free v a.0) e1 (λ b e2.
-    version_step v head (head_field (number_at 4 b.1)) (to_nfree v a.0 b.0) e2 (λ c e3.
-    version_step v head (head_field (number_at 4 c.1)) (to_nbytes_name v a.0 b.0 c.0) e3 (λ d e4.
-    version_step v head (head_field (number_at 4 d.1)) (to_units v a.0 b.0 c.0 d.0) e4 (λ f e5.
-    version_step v head (head_field (number_at 1 f.1)) (test_units v a.0 b.0 c.0 d.0 f.0) e5 (λ g e6.
-    version_step v head (check (g.0 == n) (fault_at (units_place_of (is_large_head v)) BadUnits)) (λ done. to_compress v a.0 b.0 c.0 d.0 f.0 g) e6 (λ done e7.
-    version_step v head (head_field (number_at 4 g.1)) (to_seek_info v a.0 b.0 c.0 d.0 f.0 g.0) e7 (λ i e8.
-    version_step v head (head_field (number_at n i.1)) (to_nbytes_info v a.0 b.0 c.0 d.0 f.0 g.0 i.0) e8 (λ j e9.
-    version_step v head (head_field (number_at 4 j.1)) (to_uuid v a.0 b.0 c.0 d.0 f.0 g.0 i.0 j.0) e9 (λ k e10.
-    version_step v head (head_field (bytes_at 18 k.1)) (to_header v a.0 b.0 c.0 d.0 f.0 g.0 i.0 j.0 k.0) e10 (λ u e11.
-    ap (λ (x : FileHead). x.version) (sym (ok_is {E = HeadFault} (header_of v a.0 b.0 c.0 d.0 f.0 g.0 i.0 j.0 k.0 u.0) head e11)))))))))))))
-
-module _ (b : List ℕ) (h : FileHead) (long : 63 ≤ length b) (root : HasNumber 4 b 0 root_number) (v : ℕ) (version : HasNumber 4 b 4 v) (begin : HasNumber 4 b 8 100) where
-  -- the fields behind, where the version is small
-  behind_numbers : is_large_head v ≡ false → behind_at v (standing 12 (drop 12 b)) ≡ Ok h → SmallHead b h
-  unfolding behind_at
-  behind_numbers small e =
-      let P : Bool → Type 0 = λ large. (head_field (number_at (place_len large) (standing 12 (drop 12 b))) >>= λ end.
-      head_field (number_at (place_len large) end.1) >>= λ seek_free.
-      head_field (number_at 4 seek_free.1) >>= λ nbytes_free.
-      head_field (number_at 4 nbytes_free.1) >>= λ nfree.
-      head_field (number_at 4 nfree.1) >>= λ nbytes_name.
-      head_field (number_at 1 nbytes_name.1) >>= λ units.
-      check (units.0 == place_len large) (fault_at (units_place_of large) BadUnits) >>= λ done.
-      head_field (number_at 4 units.1) >>= λ compress.
-      head_field (number_at (place_len large) compress.1) >>= λ seek_info.
-      head_field (number_at 4 seek_info.1) >>= λ nbytes_info.
-      head_field (bytes_at 18 nbytes_info.1) >>= λ uuid.
-      Ok (header_of v end.0 seek_free.0 nbytes_free.0 nfree.0 nbytes_name.0 units.0 compress.0 seek_info.0 nbytes_info.0 uuid.0)) ≡ Ok h in
-      let e4 = subst P small e in
-      let t1 = took 3 12 b _ h e4 in
-      let t2 = took 3 16 b _ h t1.on in
-      let t3 = took 3 20 b _ h t2.on in
-      let t4 = took 3 24 b _ h t3.on in
-      let t5 = took 3 28 b _ h t4.on in
-      let t6 = took 0 32 b _ h t5.on in
-      let c = passed (t6.x == 4) (fault_at 32 BadUnits) _ h t6.on in
-      let t7 = took 3 33 b _ h c.1 in
-      let t8 = took 3 37 b _ h t7.on in
-      let t9 = took 3 41 b _ h t8.on in
-      let units : t6.x ≡ 4 = eqb-true t6.x 4 c.0 in
-      let is : Ok (header_of v t1.x t2.x t3.x t4.x t5.x t6.x t7.x t8.x t9.x (take 18 (drop 45 b))) ≡ Ok h =
-      sym (bind_is (head_field (bytes_at 18 (standing 45 (drop 45 b)))) (take 18 (drop 45 b), skip 18 (standing 45 (drop 45 b))) (to_header v t1.x t2.x t3.x t4.x t5.x t6.x t7.x t8.x t9.x) (ap head_field (bytes_read 18 45 45 b long))) ∙ t9.on in
-      let made : SmallHead b (header_of v t1.x t2.x t3.x t4.x t5.x t6.x t7.x t8.x t9.x (take 18 (drop 45 b))) = record {
-        root = root;
-        version = version;
-        begin = begin;
-        end = t1.there;
-        seek_free = t2.there;
-        nbytes_free = t3.there;
-        nfree = t4.there;
-        nbytes_name = t5.there;
-        units = subst (HasNumber 1 b 32) units t6.there;
-        compress = t7.there;
-        seek_info = t8.there;
-        nbytes_info = t9.there;
-        long = long;
-        uuid = refl;
-        small = small;
-        begin_is = refl;
-        units_is = units;
-      } in
-      subst (SmallHead b) (ok_is {E = HeadFault} _ h is) made
+was : (n m k : ℕ) (b : List ℕ) (u : Standing (Unit {0})) (x : ℕ) (t : Standing (Unit {0})) → n ≡ suc m → u.at ≡ standing k (drop k b) → read (number short_head n) u ≡ Ok (x, t) → IsThere (suc m) b k x t
+was n m k b u x t is stands e = by (number_at (suc m) (standing k (drop k b))) refl (sym (ap (λ (q : ℕ × At). of_bytes short_head u (number_at q.0 q.1)) (λ i. (is i, stands i))) ∙ e)
+  where
+    by : (r : Result (ℕ × At) Short) → number_at (suc m) (standing k (drop k b)) ≡ r → of_bytes short_head u r ≡ Ok (x, t) → IsThere (suc m) b k x t
+    by (Err d) r e = absurd cc
+    by (Ok y) r e =
+        let was_read = number_was_read m k k b y.0 y.1 r in
+        let made : IsThere (suc m) b k y.0 (record u { at = y.1 }) = record { found = was_read.there; on = was_read.goes_on } in
+        subst (λ (q : ℕ × Standing (Unit {0})). IsThere (suc m) b k q.0 q.1) (ok_is {E = HeadFault} (y.0, record u { at = y.1 }) (x, t) e) made
 
 pub small_head : (b : List ℕ) (h : FileHead) → 63 ≤ length b → head_at b ≡ Ok h → is_large_head h.version ≡ false → SmallHead b h
-unfolding header_at
+unfolding header_layout behind_layout
 small_head b h long e small =
-    let t1 = took 3 0 b test_root h e in
-    let root = passed (t1.x == root_number) (fault_at 0 NotRoot) (head_field (number_at 4 (standing 4 (drop 4 b))) >>= to_begin) h t1.on in
-    let t2 = took 3 4 b to_begin h root.1 in
-    let t3 = took 3 8 b (test_begin t2.x) h t2.on in
-    let begin = passed (t3.x == 100) (fault_at 8 BadBegin) (behind_at t2.x (standing 12 (drop 12 b))) h t3.on in
-    let same : h.version ≡ t2.x = version_is t2.x (standing 12 (drop 12 b)) h begin.1 in
-    behind_numbers b h long (subst (HasNumber 4 b 0) (eqb-true t1.x root_number root.0) t1.there) t2.x t2.there (subst (HasNumber 4 b 8) (eqb-true t3.x 100 begin.0) t3.there)
-    (ap is_large_head (sym same) ∙ small) begin.1
+    let v = value_ok (read header_layout (plain (standing 0 b))) h e in
+    let all : Reads header_layout (plain (standing 0 b)) h v.0 = record { so = v.1 } in
+    next_of all (λ root s0 e0 c0.
+    kept_of (root == root_number) c0 (λ root_is c1.
+    next_of c1 (λ version s1 e1 c2.
+    next_of c2 (λ begin s2 e2 c3.
+    kept_of (begin == 100) c3 (λ begin_is c4.
+    next_of c4 (λ stop s3 e3 c5.
+    next_of c5 (λ seek_free s4 e4 c6.
+    next_of c6 (λ nbytes_free s5 e5 c7.
+    next_of c7 (λ nfree s6 e6 c8.
+    next_of c8 (λ nbytes_name s7 e7 c9.
+    next_of c9 (λ units s8 e8 c10.
+    kept_of (units == place_len (is_large_head version)) c10 (λ units_is c11.
+    next_of c11 (λ compress s9 e9 c12.
+    next_of c12 (λ seek_info s10 e10 c13.
+    next_of c13 (λ nbytes_info s11 e11 c14.
+    next_of c14 (λ uuid s12 e12 c15.
+    let built : FileHead = record { version = version; begin = 100; end = stop; seek_free = seek_free; nbytes_free = nbytes_free; nfree = nfree; nbytes_name = nbytes_name; units = units; compress = compress; seek_info = seek_info; nbytes_info = nbytes_info; uuid = uuid } in
+    let same : built ≡ h = ap (λ (q : FileHead × Standing (Unit {0})). q.0) (ok_is {E = HeadFault} (built, s12) (h, v.0) c15.so) in
+    let is_small : is_large_head version ≡ false = ap (λ (x : FileHead). is_large_head x.version) same ∙ small in
+    let four : place_len (is_large_head version) ≡ 4 = ap place_len is_small in
+    let n0 = was 4 3 0 b (plain (standing 0 b)) root s0 refl refl e0 in
+    let n1 = was 4 3 4 b s0 version s1 refl n0.on e1 in
+    let n2 = was 4 3 8 b s1 begin s2 refl n1.on e2 in
+    let n3 = was (place_len (is_large_head version)) 3 12 b s2 stop s3 four n2.on e3 in
+    let n4 = was (place_len (is_large_head version)) 3 16 b s3 seek_free s4 four n3.on e4 in
+    let n5 = was 4 3 20 b s4 nbytes_free s5 refl n4.on e5 in
+    let n6 = was 4 3 24 b s5 nfree s6 refl n5.on e6 in
+    let n7 = was 4 3 28 b s6 nbytes_name s7 refl n6.on e7 in
+    let n8 = was 1 0 32 b s7 units s8 refl n7.on e8 in
+    let n9 = was 4 3 33 b s8 compress s9 refl n8.on e9 in
+    let n10 = was (place_len (is_large_head version)) 3 37 b s9 seek_info s10 four n9.on e10 in
+    let n11 = was 4 3 41 b s10 nbytes_info s11 refl n10.on e11 in
+    let own = take 18 (drop 45 b) in
+    let end : Standing (Unit {0}) = record s11 { at = skip 18 (standing 45 (drop 45 b)) } in
+    let uuid_read : read (bytes short_head 18) s11 ≡ Ok (own, end) = ap (λ (q : At). of_bytes short_head s11 (bytes_at 18 q)) n11.on ∙ ap (of_bytes short_head s11) (bytes_read 18 45 45 b long) in
+    let uuid_is : own ≡ uuid = ap (λ (q : List ℕ × Standing (Unit {0})). q.0) (ok_is {E = HeadFault} (own, end) (uuid, s12) (sym uuid_read ∙ e12)) in
+    let units_same : units ≡ 4 = eqb-true units (place_len (is_large_head version)) units_is ∙ four in
+    let made : SmallHead b built = record {
+      root = subst (HasNumber 4 b 0) (eqb-true root root_number root_is) n0.found;
+      version = n1.found;
+      begin = subst (HasNumber 4 b 8) (eqb-true begin 100 begin_is) n2.found;
+      end = n3.found;
+      seek_free = n4.found;
+      nbytes_free = n5.found;
+      nfree = n6.found;
+      nbytes_name = n7.found;
+      units = subst (HasNumber 1 b 32) units_same n8.found;
+      compress = n9.found;
+      seek_info = n10.found;
+      nbytes_info = n11.found;
+      long = long;
+      uuid = uuid_is;
+      small = is_small;
+      begin_is = refl;
+      units_is = units_same;
+    } in
+    subst (SmallHead b) same made))))))))))))))))
 
 -- ---- other images
 

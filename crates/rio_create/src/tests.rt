@@ -33,6 +33,10 @@ fn host_over(alloc: Global, front: &[u8], failing: &[u64]) -> Result<MemHost, No
     Ok(MemHost::new(alloc, image, failing))
 }
 
+fn is_whole(image: &[u8]) -> bool {
+    image == NEW
+}
+
 fn is_new(created: &Created) -> bool {
     created.chain.end() == 208 && created.nbytes_name == 48
 }
@@ -63,7 +67,7 @@ fn is_made(alloc: Global, front: &[u8], failing: &[u64]) -> bool
     requires { length front.now < 4 }
 {
     match host_over(alloc, front, failing) {
-        Ok(mut host) => makes(alloc, &mut host) && host.image() == NEW,
+        Ok(mut host) => makes(alloc, &mut host) && is_whole(host.image()),
         Err(_) => false,
     }
 }
@@ -71,7 +75,7 @@ fn is_made(alloc: Global, front: &[u8], failing: &[u64]) -> bool
 // Whether it is told that this call fails. At the last the bytes of the file stand already.
 fn is_call_told(alloc: Global, number: u64) -> bool {
     match host_over(alloc, b"abc", &[number]) {
-        Ok(mut host) => fails(alloc, &mut host) && (host.image() == NEW) == (number == 5),
+        Ok(mut host) => fails(alloc, &mut host) && is_whole(host.image()) == (number == 5),
         Err(_) => false,
     }
 }

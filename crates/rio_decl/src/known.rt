@@ -164,7 +164,7 @@ impl<'a> KnownBases<'a> {
     }
 
     /// Whether one of the bases has the name.
-    pub(crate) fn has_base(&self, name: &[u8]) -> bool
+    pub(crate) fn has_base_named(&self, name: &[u8]) -> bool
         ensures { result ≡ has_base_named self.now name.now }
     {
         self.names.has(name)

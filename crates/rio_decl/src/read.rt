@@ -73,7 +73,7 @@ fn take_base_name<'a>(tokens: &mut Tokens<'a>, before: &KnownBases) -> Result<&'
         (word_that_at (is_new_base before.now) tokens.old) tokens.old tokens.new }
 {
     match tokens.peek_word() {
-        Some(word) if is_name(word) && !before.has_base(word) => {
+        Some(word) if is_name(word) && !before.has_base_named(word) => {
             tokens.pass();
             Ok(word)
         }

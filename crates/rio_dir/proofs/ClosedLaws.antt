@@ -2,17 +2,16 @@
 use Rattle.std.proofs.Common.{◌≡◌, ◌≢◌, inl, inr, ℕ, ◌≤◌, Bool, true, false, cond, ltb, eqb, List, [], length, drop, Result, Ok, Err, refl, sym, ap, subst, ◌∙◌}
 use Rattle.std.proofs.lemmas.Bool.{le-ltb, ltb-false, eq-eqb, ne_eqb, eqb-true, eqb-false}
 use Rattle.std.specs.Int.{w32, cast_unsigned}
-use Rattle.rio_num.specs.At.{At}
+use Rattle.rio_num.specs.Meanings.{Reading, Standing}
 use Rattle.rio_num.specs.Reading.{◌>>=◌}
 use Rattle.rio_num.proofs.ReadLaws.{IsBytes, IsBytes-drop, IsBytes-take, bind_is, bind_ok, guard_ok, ok_is}
 use Rattle.rio_key.specs.declared.head.KeyHead.{KeyHead}
-use Rattle.rio_key.specs.declared.fault.KeyFault.{KeyFault}
 use Rattle.rio_key.specs.declared.fault.ListFault.{ListFault}
-use Rattle.rio_key.specs.Key.{key_at, key_head_at, value_of}
-use Rattle.rio_key.specs.KeyList.{key_list_at}
-use Rattle.rio_key.specs.Spelling.{IsSpelledIn, SpellsKey, SpellsKeyList}
-use Rattle.rio_key.proofs.KeyAgain.{key_again, standing}
-use Rattle.rio_key.proofs.KeyFound.{key_found}
+use Rattle.rio_num.specs.Plain.{IsSpelledIn, value_of}
+use Rattle.rio_key.specs.Key.{SpellsKey, key_at, key_head_at}
+use Rattle.rio_key.specs.KeyList.{SpellsKeyList, key_list_at}
+use Rattle.rio_num.proofs.Plain.{standing, value_ok}
+use Rattle.rio_key.proofs.KeyAgain.{key_again, key_found}
 use Rattle.rio_key.proofs.KeyListLaws.{key_list_again, key_list_found}
 use Rattle.rio_head.specs.declared.head.FileHead.{FileHead}
 use Rattle.rio_head.specs.declared.dir.DirRecord.{DirRecord}
@@ -20,8 +19,7 @@ use Rattle.rio_head.specs.declared.fault.HeadFault.{HeadFault}
 use Rattle.rio_head.specs.declared.fault.FileFault.TheVariants.{NotClosed, BadDir, BadKeyList}
 use Rattle.rio_head.specs.Head.{fault_at, head_at, BeginsAsHead}
 use Rattle.rio_head.specs.Dir.{dir_at}
-use Rattle.rio_head.proofs.HeadAgain.{head_only}
-use Rattle.rio_head.proofs.HeadFound.{header_found}
+use Rattle.rio_head.proofs.HeadAgain.{head_only, header_found}
 use Rattle.rio_head.proofs.DirLaws.{dir_found, dir_only}
 use Rattle.rio_dir.specs.declared.closed.Closed.{Closed}
 use Rattle.rio_dir.specs.Closed.{file_at, dir_place, closed_head, closed_dir, closed_keys, closed_file, data_at, heads_of, listed_at, or_bad_list, or_fault}
@@ -91,29 +89,25 @@ or_fault_ok : {A E : Type 0} (fault : HeadFault) (r : Result A E) (x : A) → or
 or_fault_ok {A} {E} fault (Ok y) x e = ap (λ (z : A). let read : Result A E = Ok z in read) (ok_is {E = HeadFault} y x e)
 or_fault_ok fault (Err f) x e = absurd cc
 
-list_ok : (place : ℕ) (r : Result (List KeyHead × At) ListFault) (hs : List KeyHead) → or_bad_list place r ≡ Ok hs → (t : At) × (r ≡ Ok (hs, t))
-list_ok place (Ok x) hs e = (x.1, ap (λ (y : List KeyHead). let read : Result (List KeyHead × At) ListFault = Ok (y, x.1) in read) (ok_is {E = HeadFault} x.0 hs e))
+list_ok : (place : ℕ) (r : Reading (Unit {0}) ListFault (List KeyHead)) (hs : List KeyHead) → or_bad_list place r ≡ Ok hs → (t : Standing (Unit {0})) × (r ≡ Ok (hs, t))
+list_ok place (Ok x) hs e = (x.1, ap (λ (y : List KeyHead). let read : Reading (Unit {0}) ListFault (List KeyHead) = Ok (y, x.1) in read) (ok_is {E = HeadFault} x.0 hs e))
 list_ok place (Err f) hs e = absurd cc
 
-value_is : (r : Result (KeyHead × At) KeyFault) (h : KeyHead) → value_of r ≡ Ok h → (t : At) × (r ≡ Ok (h, t))
-value_is (Ok x) h e = (x.1, ap (λ (y : KeyHead). let read : Result (KeyHead × At) KeyFault = Ok (y, x.1) in read) (ok_is {E = KeyFault} x.0 h e))
-value_is (Err f) h e = absurd cc
-
 listed_is : (file : List ℕ) (place : ℕ) (keys : List KeyHead) → IsBytes file → place ≢ 0 → listed_at file place ≡ Ok keys → IsKeyList file place keys
-unfolding listed_at
+unfolding listed_at SpellsKey SpellsKeyList
 listed_is file place keys fits somewhere e =
     let k = bind_ok (or_fault (fault_at place BadKeyList) (key_at (file_at file place))) (λ key. heads_of place key (data_at file place key)) keys e in
-    let v = value_is (key_head_at (file_at file place)) k.0 (or_fault_ok (fault_at place BadKeyList) (key_at (file_at file place)) k.0 k.1) in
+    let v = value_ok (key_head_at (file_at file place)) k.0 (or_fault_ok (fault_at place BadKeyList) (key_at (file_at file place)) k.0 k.1) in
     let l = list_ok place (key_list_at (data_at file place k.0)) keys k.2 in
     let in_file = IsBytes-drop place file fits in
     let in_record = IsBytes-drop k.0.keylen _ (IsBytes-take (cast_unsigned w32 k.0.nbytes) (drop place file) in_file) in
-    let key = key_found (file_at file place) k.0 v.0 in_file v.1 in
-    let list = key_list_found (data_at file place k.0) keys l.0 in_record l.1 in
+    let key = key_found (file_at file place) k.0 v.0.at in_file v.1 in
+    let list = key_list_found (data_at file place k.0) keys l.0.at in_record l.1 in
     record {
       somewhere = somewhere;
       key = k.0;
-      key_spelled = (key.bytes, v.0.rest, key.took.parts, key.spelled);
-      list_spelled = (list.bytes, l.0.rest, list.took.parts, list.spelled);
+      key_spelled = (key.bytes, v.0.at.rest, key.parts, key.spelled);
+      list_spelled = (list.bytes, l.0.at.rest, list.parts, list.spelled);
     }
 
 keys_by : (file : List ℕ) (place : ℕ) (keys : List KeyHead) (none : Bool) → IsBytes file → eqb place 0 ≡ none → cond none (Ok []) (listed_at file place) ≡ Ok keys → HasKeys file place keys

@@ -2,7 +2,7 @@
 use Rattle.std.proofs.Common.{◌≡◌, ◌++◌, ℕ, List, [], ◌∷◌, take, Err, refl}
 use Rattle.std.specs.Prelude.{codes, replicate}
 use Rattle.byteorder.specs.Endian.{big_bytes}
-use Rattle.rio_head.specs.Head.{behind_at, fault_at, header_at}
+use Rattle.rio_head.specs.Head.{behind_layout, fault_at, header_layout}
 use Rattle.rio_head.specs.declared.fault.FileFault.TheVariants.{NotRoot, Short, BadBegin, NotClosed}
 use Rattle.rio_dir.specs.Closed.{closed_file, closed_head}
 use Rattle.rio_dir.specs.Listing.{listed_file}
@@ -58,23 +58,23 @@ one_object : List ℕ
 one_object = header ++ first_record ++ object_record ++ list_record ++ free_record
 
 few_bytes_are_short : listed_file (codes "roo") ≡ Err (fault_at 0 Short)
-unfolding listed_file closed_file closed_head header_at behind_at
+unfolding listed_file closed_file closed_head header_layout behind_layout
 few_bytes_are_short = refl
 
 another_beginning : listed_file (codes "boot") ≡ Err (fault_at 0 NotRoot)
-unfolding listed_file closed_file closed_head header_at behind_at
+unfolding listed_file closed_file closed_head header_layout behind_layout
 another_beginning = refl
 
 -- fSeekInfo isn't whole
 header_cut_off : listed_file (take 39 one_object) ≡ Err (fault_at 37 Short)
-unfolding one_object header first_record object_record object_key list_record free_record small_key_of short_text uuid listed_file closed_file closed_head header_at behind_at
+unfolding one_object header first_record object_record object_key list_record free_record small_key_of short_text uuid listed_file closed_file closed_head header_layout behind_layout
 header_cut_off = refl
 
 -- fBEGIN is tested before the Short behind it
 another_first_place : listed_file (codes "root" ++ big_bytes 4 60000 ++ big_bytes 4 64) ≡ Err (fault_at 8 BadBegin)
-unfolding listed_file closed_file closed_head header_at behind_at
+unfolding listed_file closed_file closed_head header_layout behind_layout
 another_first_place = refl
 
 end_past_the_file : listed_file (take 403 one_object) ≡ Err (fault_at 12 NotClosed)
-unfolding one_object header first_record object_record object_key list_record free_record small_key_of short_text uuid listed_file closed_file closed_head header_at behind_at
+unfolding one_object header first_record object_record object_key list_record free_record small_key_of short_text uuid listed_file closed_file closed_head header_layout behind_layout
 end_past_the_file = refl

@@ -2,7 +2,6 @@ pub mod ClosedLaws
 pub mod Examples
 pub mod TableLists
 pub mod TableOrder
-pub mod Puts
 pub mod TableWritten
 pub mod TableLaws
 pub mod MapLaws

@@ -2,7 +2,9 @@
 use Rattle.std.specs.Prelude.{◌≡◌, ◌≢◌, ◌⊎◌, ℕ, ◌≤◌, List, [], length, drop, Ok}
 use Rattle.rio_num.specs.At.{AreBytes}
 use Rattle.rio_key.specs.declared.head.KeyHead.{KeyHead}
-use Rattle.rio_key.specs.Spelling.{IsSpelledIn, SpellsKey, SpellsKeyList}
+use Rattle.rio_num.specs.Plain.{IsSpelledIn}
+use Rattle.rio_key.specs.Key.{SpellsKey}
+use Rattle.rio_key.specs.KeyList.{SpellsKeyList}
 use Rattle.rio_head.specs.Head.{BeginsAsHead}
 use Rattle.rio_head.specs.Dir.{BeginsAsDir}
 use Rattle.rio_dir.specs.declared.closed.Closed.{Closed}

@@ -9,7 +9,7 @@ use Rattle.std.specs.declared.cmp.Ordering.{Ordering}
 use Rattle.std.specs.declared.cmp.Ordering.TheVariants.{Less, Equal, Greater}
 use Rattle.byteorder.specs.Endian.{big_bytes}
 use Rattle.rio_key.specs.declared.head.KeyHead.{KeyHead}
-use Rattle.rio_key.specs.Spelling.{SpellsKeyList}
+use Rattle.rio_key.specs.KeyList.{SpellsKeyList}
 use Rattle.rio_key.specs.Written.{FitsKey, HoldsItself, written_key}
 
 -- heads in order, and for how many more there is room

@@ -1,8 +1,8 @@
 //! The key list of a file.
 ghost use Rattle.std.specs.Prelude.{◌≡◌, ◌+◌, ◌<◌, ◌^◌, ◌++◌, ℕ, List, length, IfOk};
+ghost use Rattle.rio_num.specs.Plain.{IsSpelledIn};
 ghost use Rattle.rio_key.specs.Key.{Gives, IsReadAs};
-ghost use Rattle.rio_key.specs.KeyList.{key_list_at};
-ghost use Rattle.rio_key.specs.Spelling.{IsSpelledIn, SpellsKeyList};
+ghost use Rattle.rio_key.specs.KeyList.{SpellsKeyList, key_list_at};
 ghost use Rattle.rio_dir.specs.KeyList.{heads_in};
 
 use rio_key::{Heads, KeyFault, read_heads};

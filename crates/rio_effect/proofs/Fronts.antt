@@ -8,7 +8,7 @@ use Rattle.rio_chain.specs.Segments.{IsChain, Link, chain_end}
 use Rattle.rio_chain.specs.Stops.{KeepsFront}
 use Rattle.rio_dir.specs.Unborn.{is_unborn}
 use Rattle.rio_head.proofs.HeadCut.{head_in_front}
-use Rattle.rio_head.specs.Head.{head_at, header_at}
+use Rattle.rio_head.specs.Head.{head_at, header_layout}
 use Rattle.rio_head.specs.declared.head.FileHead.{FileHead}
 use Rattle.rio_machine.specs.State.{empty_state}
 use Rattle.rio_state.specs.Reads.{ReadsAsMade}
@@ -39,11 +39,11 @@ same_head old new links chain keeps =
 -- a file with a header is made
 module _ (file : List ℕ) (head : FileHead) (e : head_at file ≡ Ok head) where
   not_short : nat_lt (length file) 4 ≡ true → ⊥
-  unfolding header_at
+  unfolding header_layout
   not_short t = let h = rw t at e in cc
 
   not_zero : nat_lt (length file) 4 ≡ false → (big_number 4 file == 0) ≡ true → ⊥
-  unfolding header_at
+  unfolding header_layout
   not_zero t z =
       let zero_word = eqb-true (big_number 4 file) 0 z in
       let h = rw (t, zero_word) at e in cc

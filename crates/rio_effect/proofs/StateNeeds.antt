@@ -13,8 +13,7 @@ use Rattle.byteorder.specs.Numbers.{length-bytes_high_first}
 use Rattle.rio_num.specs.Text.{text_bytes}
 use Rattle.rio_value.specs.declared.value.Value.{Value}
 use Rattle.rio_key.specs.Key.{key_place_len}
-use Rattle.rio_key.specs.Spelling.{number_bytes}
-use Rattle.rio_key.specs.Written.{written_key}
+use Rattle.rio_key.specs.Written.{number_bytes, written_key}
 use Rattle.rio_key.specs.declared.head.KeyHead.{KeyHead}
 use Rattle.rio_chain.specs.Segments.{IsChain, Link}
 use Rattle.rio_machine.specs.Limits.{head_length}

@@ -4,7 +4,7 @@ ghost use Rattle.std.specs.Prelude.{◌<◌, ◌^◌, length};
 use rio_leaf::BranchDef;
 
 /// A branch of a tree, and the bytes of its entry in a row.
-#[derive(Clone, Copy, Debug)]
+#[derive(Clone, Copy)]
 pub struct RowPart<'a> {
     pub branch: &'a BranchDef,
     pub entry: &'a [u8],

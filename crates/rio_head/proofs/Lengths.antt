@@ -35,15 +35,15 @@ head_long : (is_large : Bool) (h : FileHead) → length h.uuid ≡ 18 → length
 head_long true h long = omega (arith, long, length-append h.uuid (replicate 25 0))
 head_long false h long = omega (arith, long, length-append h.uuid (replicate 37 0))
 
-le_8 : (is_large : Bool) → place_len is_large ≤ 8
-le_8 true = omega arith
-le_8 false = omega arith
+pub place_len-le : (is_large : Bool) → place_len is_large ≤ 8
+place_len-le true = omega arith
+place_len-le false = omega arith
 
 pub length-front : (h : FileHead) → length (front_bytes h) ≤ 40
-length-front h = omega (arith, front_long (is_large_head h.version) h, le_8 (is_large_head h.version))
+length-front h = omega (arith, front_long (is_large_head h.version) h, place_len-le (is_large_head h.version))
 
 pub length-back : (h : FileHead) → length h.uuid ≡ 18 → length (back_bytes h) ≤ 35
-length-back h long = omega (arith, back_long (is_large_head h.version) h long, le_8 (is_large_head h.version))
+length-back h long = omega (arith, back_long (is_large_head h.version) h long, place_len-le (is_large_head h.version))
 
 pub length-dir : (d : DirRecord) → length d.uuid ≡ 18 → 60 ≡ length (dir_bytes_all d)
 length-dir d long = sym (fields_long (is_large_dir d.version) d long)

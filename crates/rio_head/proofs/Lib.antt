@@ -1,12 +1,5 @@
-pub mod Cut
 pub mod DirCut
 pub mod DirLaws
-pub mod DirSteps
 pub mod HeadAgain
 pub mod HeadCut
-pub mod HeadFound
-pub mod HeadRead
-pub mod HeadSteps
 pub mod Lengths
-pub mod Parts
-pub mod Puts

@@ -1,25 +1,36 @@
--- The record of a directory: its fields in order of place, and the first that isn't whole.
-use Rattle.std.specs.Prelude.{◌≡◌, ℕ, ◌^◌, ◌<◌, List, ◌++◌, length, Result, Ok}
+-- The record of a directory. Its layout stands here once; the meanings of descriptions say how it is read and broken.
+use Rattle.std.specs.Prelude.{◌≡◌, ℕ, ◌^◌, ◌<◌, List, ◌++◌, length, Result}
 use Rattle.byteorder.specs.Endian.{big_bytes}
 use Rattle.rio_num.specs.At.{At}
-use Rattle.rio_num.specs.Reading.{◌>>=◌, number_at, bytes_at}
+use Rattle.rio_num.specs.Layout.{done, number, bytes, ◌>>=◌}
+use Rattle.rio_num.specs.Meanings.{read, Breaks}
+use Rattle.rio_num.specs.Plain.{Plain, plain, value_of}
+use Rattle.rio_num.specs.Reading.{short}
 use Rattle.rio_num.specs.declared.cursor.Short.{Short}
 use Rattle.rio_head.specs.Form.{place_len, is_large_dir}
 use Rattle.rio_head.specs.declared.dir.DirRecord.{DirRecord}
 
--- the directory record there, up to its UUID
-unfoldable pub dir_at : At → Result DirRecord Short
-dir_at s = do
-  version ← number_at 2 s
-  created ← number_at 4 version.1
-  changed ← number_at 4 created.1
-  nbytes_keys ← number_at 4 changed.1
-  nbytes_name ← number_at 4 nbytes_keys.1
-  seek_dir ← number_at (place_len (is_large_dir version.0)) nbytes_name.1
-  seek_parent ← number_at (place_len (is_large_dir version.0)) seek_dir.1
-  seek_keys ← number_at (place_len (is_large_dir version.0)) seek_parent.1
-  uuid ← bytes_at 18 seek_keys.1
-  Ok (record { version = version.0; created = created.0; changed = changed.0; nbytes_keys = nbytes_keys.0; nbytes_name = nbytes_name.0; seek_dir = seek_dir.0; seek_parent = seek_parent.0; seek_keys = seek_keys.0; uuid = uuid.0 })
+-- the fields, up to the UUID
+unfoldable pub dir_layout : Plain Short DirRecord
+dir_layout = do
+  version ← number short 2
+  created ← number short 4
+  changed ← number short 4
+  nbytes_keys ← number short 4
+  nbytes_name ← number short 4
+  seek_dir ← number short (place_len (is_large_dir version))
+  seek_parent ← number short (place_len (is_large_dir version))
+  seek_keys ← number short (place_len (is_large_dir version))
+  uuid ← bytes short 18
+  done (record { version = version; created = created; changed = changed; nbytes_keys = nbytes_keys; nbytes_name = nbytes_name; seek_dir = seek_dir; seek_parent = seek_parent; seek_keys = seek_keys; uuid = uuid })
+
+-- the directory record there, or the first field that isn't whole
+abbrev pub dir_at : At → Result DirRecord Short
+dir_at s = value_of (read dir_layout (plain s))
+
+-- the bytes there begin with no directory record: this field is the first that isn't whole
+unfoldable pub BreaksDir : At → Short → Type 0
+BreaksDir s fault = Breaks dir_layout s.place tt s.rest fault
 
 -- the bytes of a directory record, up to its UUID
 abbrev pub dir_bytes : DirRecord → List ℕ

@@ -1,9 +1,10 @@
--- The header of a file: its fields in order of place, and the first fault.
-use Rattle.std.specs.Prelude.{◌≡◌, ◌==◌, ℕ, ◌^◌, ◌<◌, Bool, true, false, List, ◌++◌, length, codes, Result, Ok, Err, if◌then◌else◌}
+-- The header of a file. Each rule stands here once; the meanings of descriptions say how it is read and broken.
+use Rattle.std.specs.Prelude.{◌≡◌, ◌==◌, ℕ, ◌^◌, ◌<◌, Bool, List, ◌++◌, length, codes, Result, if◌then◌else◌}
 use Rattle.byteorder.specs.Endian.{big_bytes}
 use Rattle.rio_num.specs.At.{At}
-use Rattle.rio_num.specs.Reading.{◌>>=◌, number_at, bytes_at}
-use Rattle.rio_num.specs.declared.cursor.Short.{Short as Shortage}
+use Rattle.rio_num.specs.Layout.{done, number, bytes, must, ◌>>=◌}
+use Rattle.rio_num.specs.Meanings.{read, Breaks}
+use Rattle.rio_num.specs.Plain.{Plain, plain, value_of}
 use Rattle.rio_head.specs.Form.{place_len, is_large_head}
 use Rattle.rio_head.specs.declared.head.FileHead.{FileHead}
 use Rattle.rio_head.specs.declared.fault.HeadFault.{HeadFault}
@@ -25,15 +26,9 @@ IsHeaderKind BadKeyList = ⊥
 IsHeaderKind Compressed = ⊥
 IsHeaderKind BadInfo = ⊥
 
--- a field that isn't whole is a fault of the header
-abbrev pub head_field : {A : Type 0} → Result A Shortage → Result A HeadFault
-head_field (Ok x) = Ok x
-head_field (Err s) = Err (fault_at s.place Short)
-
--- a test, and the fault where it fails
-abbrev pub check : Bool → HeadFault → Result (Unit {0}) HeadFault
-check true fault = Ok tt
-check false fault = Err fault
+-- a field that isn't whole
+abbrev pub short_head : ℕ → ℕ → HeadFault
+short_head place wanted = fault_at place Short
 
 -- the four bytes `root`, as a number
 abbrev pub root_number : ℕ
@@ -44,34 +39,41 @@ abbrev pub units_place_of : Bool → ℕ
 units_place_of is_large = if is_large then 40 else 32
 
 -- the fields behind the place of the first record: the header of this version
-unfoldable pub behind_at : ℕ → At → Result FileHead HeadFault
-behind_at version s = do
-  end ← head_field (number_at (place_len (is_large_head version)) s)
-  seek_free ← head_field (number_at (place_len (is_large_head version)) end.1)
-  nbytes_free ← head_field (number_at 4 seek_free.1)
-  nfree ← head_field (number_at 4 nbytes_free.1)
-  nbytes_name ← head_field (number_at 4 nfree.1)
-  units ← head_field (number_at 1 nbytes_name.1)
-  is_units ← check (units.0 == place_len (is_large_head version)) (fault_at (units_place_of (is_large_head version)) BadUnits)
-  compress ← head_field (number_at 4 units.1)
-  seek_info ← head_field (number_at (place_len (is_large_head version)) compress.1)
-  nbytes_info ← head_field (number_at 4 seek_info.1)
-  uuid ← head_field (bytes_at 18 nbytes_info.1)
-  Ok (record { version = version; begin = 100; end = end.0; seek_free = seek_free.0; nbytes_free = nbytes_free.0; nfree = nfree.0; nbytes_name = nbytes_name.0; units = units.0; compress = compress.0; seek_info = seek_info.0; nbytes_info = nbytes_info.0; uuid = uuid.0 })
+unfoldable pub behind_layout : ℕ → Plain HeadFault FileHead
+behind_layout version = do
+  end ← number short_head (place_len (is_large_head version))
+  seek_free ← number short_head (place_len (is_large_head version))
+  nbytes_free ← number short_head 4
+  nfree ← number short_head 4
+  nbytes_name ← number short_head 4
+  units ← number short_head 1
+  _ ← must (units == place_len (is_large_head version)) (fault_at (units_place_of (is_large_head version)) BadUnits)
+  compress ← number short_head 4
+  seek_info ← number short_head (place_len (is_large_head version))
+  nbytes_info ← number short_head 4
+  uuid ← bytes short_head 18
+  done (record { version = version; begin = 100; end = end; seek_free = seek_free; nbytes_free = nbytes_free; nfree = nfree; nbytes_name = nbytes_name; units = units; compress = compress; seek_info = seek_info; nbytes_info = nbytes_info; uuid = uuid })
 
--- the header there
-unfoldable pub header_at : At → Result FileHead HeadFault
-header_at s = do
-  root ← head_field (number_at 4 s)
-  is_root ← check (root.0 == root_number) (fault_at 0 NotRoot)
-  version ← head_field (number_at 4 root.1)
-  begin ← head_field (number_at 4 version.1)
-  is_begin ← check (begin.0 == 100) (fault_at 8 BadBegin)
-  behind_at version.0 begin.1
+unfoldable pub header_layout : Plain HeadFault FileHead
+header_layout = do
+  root ← number short_head 4
+  _ ← must (root == root_number) (fault_at 0 NotRoot)
+  version ← number short_head 4
+  begin ← number short_head 4
+  _ ← must (begin == 100) (fault_at 8 BadBegin)
+  behind_layout version
+
+-- the header there, or the first fault
+abbrev pub header_at : At → Result FileHead HeadFault
+header_at s = value_of (read header_layout (plain s))
 
 -- the header of a file of these bytes
 abbrev pub head_at : List ℕ → Result FileHead HeadFault
-head_at bytes = header_at (record { place = 0; rest = bytes })
+head_at file = header_at (record { place = 0; rest = file })
+
+-- the bytes begin with no header: what stands before is right, and this is the first fault
+unfoldable pub BreaksHead : List ℕ → HeadFault → Type 0
+BreaksHead file fault = Breaks header_layout 0 tt file fault
 
 -- the bytes of a header, up to its UUID
 abbrev pub head_bytes : FileHead → List ℕ

@@ -1,6 +1,6 @@
 //! The directory record is read.
-ghost use Rattle.std.specs.Prelude.{◌≡◌, ◌+◌, ◌<◌, ◌^◌, length, IfOk};
-ghost use Rattle.rio_head.specs.Dir.{BeginsAsDir, dir_at};
+ghost use Rattle.std.specs.Prelude.{◌≡◌, ◌+◌, ◌<◌, ◌^◌, length, IfErr, IfOk};
+ghost use Rattle.rio_head.specs.Dir.{BeginsAsDir, BreaksDir, dir_at};
 ghost use Rattle.rio_head.specs.declared.dir.DirRecord.{DirRecord as Directory};
 
 use crate::take::{take_place, take_uuid};
@@ -27,7 +27,7 @@ pub struct DirRecord {
 }
 
 // The record of a directory, up to its UUID.
-#[tactic(auto, unfolding(crate::specs::Dir::dir_at))]
+#[tactic(auto, unfolding(crate::specs::Dir::dir_layout))]
 fn take_dir(cursor: &mut Cursor) -> Result<DirRecord, Short>
     ensures { result ≡ dir_at cursor.old }
 {
@@ -52,6 +52,8 @@ pub fn read_dir(bytes: &[u8], place: u64) -> Result<DirRecord, Short>
     requires { place + length bytes.now < 2 ^ 64 }
     ensures exact { result ≡ dir_at (record { place = place; rest = bytes.now }) }
     ensures found { IfOk result (λ dir. BeginsAsDir dir bytes.now) }
+    ensures broken { IfErr result (λ fault.
+        BreaksDir (record { place = place; rest = bytes.now }) fault) }
     ensures only { (dir : Directory) → BeginsAsDir dir bytes.now → result ≡ Ok dir }
 {
     take_dir(&mut Cursor::new(bytes, place))

@@ -1,7 +1,9 @@
 //! The file header is read.
 ghost use Rattle.std.specs.Prelude.{◌≡◌, IfErr, IfOk};
+ghost use Rattle.rio_num.specs.Meanings.{read};
+ghost use Rattle.rio_num.specs.Plain.{plain, value_of};
 ghost use Rattle.rio_head.specs.Form.{place_len};
-ghost use Rattle.rio_head.specs.Head.{BeginsAsHead, IsHeaderKind, behind_at, head_at, header_at, units_place_of};
+ghost use Rattle.rio_head.specs.Head.{BeginsAsHead, BreaksHead, IsHeaderKind, behind_layout, head_at, header_at, units_place_of};
 ghost use Rattle.rio_head.specs.declared.head.FileHead.{FileHead as Header};
 
 use crate::take::{take_place, take_uuid};
@@ -50,9 +52,9 @@ fn units_of(is_large: bool) -> u8
 }
 
 // The fields behind the place of the first record.
-#[tactic(auto, unfolding(crate::specs::Head::behind_at))]
+#[tactic(auto, unfolding(crate::specs::Head::behind_layout))]
 fn take_behind(cursor: &mut Cursor, version: u32) -> Result<FileHead, HeadFault>
-    ensures exact { result ≡ behind_at version cursor.old }
+    ensures exact { result ≡ value_of (read (behind_layout version) (plain cursor.old)) }
     ensures kinds { IfErr result (λ fault. IsHeaderKind fault.kind) }
 {
     let is_large = version >= 1_000_000;
@@ -85,7 +87,7 @@ fn take_behind(cursor: &mut Cursor, version: u32) -> Result<FileHead, HeadFault>
 }
 
 // The header, from its first field on.
-#[tactic(auto, unfolding(crate::specs::Head::header_at))]
+#[tactic(auto, unfolding(crate::specs::Head::header_layout))]
 fn take_head(cursor: &mut Cursor) -> Result<FileHead, HeadFault>
     ensures exact { result ≡ header_at cursor.old }
     ensures kinds { IfErr result (λ fault. IsHeaderKind fault.kind) }
@@ -114,6 +116,7 @@ pub fn read_head(bytes: &[u8]) -> Result<FileHead, HeadFault>
     ensures exact { result ≡ head_at bytes.now }
     ensures kinds { IfErr result (λ fault. IsHeaderKind fault.kind) }
     ensures found { IfOk result (λ head. BeginsAsHead head bytes.now) }
+    ensures broken { IfErr result (λ fault. BreaksHead bytes.now fault) }
     ensures only { (head : Header) → BeginsAsHead head bytes.now → result ≡ Ok head }
 {
     take_head(&mut Cursor::new(bytes, 0))

@@ -1,6 +1,16 @@
 //! Laws of headers and directory records.
+ghost use Rattle.rio_num.specs.Laws.{Agrees};
+ghost use Rattle.rio_head.specs.Dir.{dir_layout};
+ghost use Rattle.rio_head.specs.Head.{header_layout};
 ghost use Rattle.rio_head.specs.Laws.{DirInFront, HeadInFront, OneDir, OneHead};
 ghost use Rattle.rio_head.specs.Written.{WrittenDirIsRead, WrittenHeadIsRead};
+
+/// What is spelled is read, what breaks gives the fault, what is read is spelled, and what fails is broken: so it is with headers
+/// and with directory records.
+pub fn meanings_agree()
+    ensures header { Agrees header_layout }
+    ensures dir { Agrees dir_layout }
+{}
 
 /// A header is read from the first 100 bytes of a file alone.
 pub fn header_in_front()

@@ -16,7 +16,8 @@ pub use fault::{FileFault, HeadFault};
 pub use head::{FileHead, read_head};
 pub use identifier::file_uuid;
 pub use laws::{
-    dir_in_front, header_in_front, one_dir, one_head, written_dir_is_read, written_head_is_read,
+    dir_in_front, header_in_front, meanings_agree, one_dir, one_head, written_dir_is_read,
+    written_head_is_read,
 };
 pub use reason::Reason;
 pub use write::{write_dir, write_head};

@@ -130,10 +130,6 @@ holding s branch basket entries =
 abbrev pub refusing : RowScan → ℕ → BranchRefusal → RowScan
 refusing s branch why = record s { lanes = slice_set s.lanes branch (record { refused = Some why; held = None }) }
 
--- why each branch is refused
-abbrev pub lane_refusals : RowScan → List (Option BranchRefusal)
-lane_refusals s = map (λ lane. lane.refused) s.lanes
-
 -- ---- the next row
 
 -- the branches that are read

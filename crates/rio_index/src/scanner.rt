@@ -40,7 +40,7 @@ fn hold(lanes: &mut [Lane], branch: usize, held: Held)
 /// A scan of a tree, row after row. It holds one basket of each branch, tells which basket it wants, and reads rows of the
 /// baskets that it is given. Contracts see the header, the refusal and the basket of each branch, and the next row's
 /// number.
-#[derive(Debug, Drop)]
+#[derive(Drop)]
 pub struct Scanner {
     alloc: Global,
     head: TreeHead,

@@ -1,57 +1,47 @@
 -- A key's first number is the length of its record, which holds the key.
-use Rattle.std.proofs.Common.{◌≡◌, ℕ, ◌≤◌, ◌<◌, ◌^◌, ◌-◌, ℤ, pos, nat_lt, Bool, true, false, cond, int_lt, ltb, List, length, Result, Ok, Err, refl, sym, ap, subst, ◌∙◌, arith}
+use Rattle.std.proofs.Common.{◌≡◌, ℕ, ◌≤◌, ◌<◌, ◌^◌, pos, Bool, true, false, cond, int_lt, ltb, List, length, Ok, Err, refl, sym, ap, ◌∙◌, arith}
 use Rattle.std.proofs.lemmas.Bool.{ltb-false}
 use Rattle.std.specs.Int.{w32, cast_signed, cast_unsigned}
 use Rattle.std.proofs.lemmas.Int.{ints}
 use Rattle.byteorder.specs.Endian.{big_number}
 use Rattle.rio_num.specs.At.{At}
-use Rattle.rio_num.specs.Reading.{◌>>=◌, number_at, text_at, short, skip}
-use Rattle.rio_num.specs.declared.cursor.Short.{Short as Shortage}
-use Rattle.rio_num.proofs.ReadLaws.{bind_ok, ok_is}
-use Rattle.rio_key.specs.Key.{fields_at, key_head_at, key_at, key_place_len, whole}
+use Rattle.rio_num.specs.Meanings.{Standing, of_bytes}
+use Rattle.rio_num.specs.Reading.{short, skip}
+use Rattle.rio_num.proofs.ReadLaws.{ok_is}
+use Rattle.rio_num.specs.Plain.{plain}
+use Rattle.rio_num.proofs.InOrder.{Reads, next_of}
+use Rattle.rio_key.specs.Key.{key_at, key_fields}
 use Rattle.rio_key.specs.declared.head.KeyHead.{KeyHead}
 use Rattle.rio_key.specs.declared.fault.KeyFault.{KeyFault}
-use Rattle.rio_key.specs.declared.fault.KeyFault.TheVariants.{BadLength, BadKeyLen}
+use Rattle.rio_key.specs.declared.fault.KeyFault.TheVariants.{Short}
+use Rattle.rio_key.proofs.KeyFront.{kept}
 use Rattle.rio_key.proofs.Signed.{at_least, signed_is}
-use Rattle.rio_key.proofs.Steps.{Read, head_of, to_version, to_objlen, to_datime, to_keylen, to_cycle, to_seek, to_pdir, to_class, to_name, to_title, to_end}
-use Rattle.rio_key.proofs.KeyFront.{kept, value_ok}
 
-record FirstNumber (s : At) (h : KeyHead) : Type 0 where
-  whole_is : 4 ≤ length s.rest
-  nbytes_is : h.nbytes ≡ cast_signed w32 (big_number 4 s.rest)
+-- ---- the first number
 
-first_number : (s : At) (a : ℕ) (s1 : At) (b : Bool) → ltb (length s.rest) 4 ≡ b → whole {A = ℕ × At} (cond b (Err (short s.place 4)) (Ok (big_number 4 s.rest, skip 4 s))) ≡ Ok (a, s1) → (4 ≤ length s.rest) × (big_number 4 s.rest ≡ a)
-first_number s a s1 true t e = absurd cc
-first_number s a s1 false t e = (ltb-false _ _ t, ap (λ (q : ℕ × At). q.0) (ok_is {E = KeyFault} (big_number 4 s.rest, skip 4 s) (a, s1) e))
+-- the first four bytes are there, and the number is what they are read as
+first_number : (s : At) (n : ℕ) (s' : Standing (Unit {0})) (b : Bool) → ltb (length s.rest) 4 ≡ b → of_bytes {A = ℕ} Short (plain s) (cond b (Err (short s.place 4)) (Ok (big_number 4 s.rest, skip 4 s))) ≡ Ok (n, s') → (4 ≤ length s.rest) × (n ≡ big_number 4 s.rest)
+first_number s n s' true t e = absurd cc
+first_number s n s' false t e = (ltb-false _ _ t, ap (λ (q : ℕ × Standing (Unit {0})). q.0) (sym (ok_is {E = KeyFault} (big_number 4 s.rest, plain (skip 4 s)) (n, s') e)))
 
--- one step of reading a key that is read
-step : {X : Type 0} (P : Type 0) (y : KeyHead × At) (r : Result (X × At) Shortage) (next : X × At → Read) → (whole r >>= next) ≡ Ok y → ((x : X) (t : At) → next (x, t) ≡ Ok y → P) → P
-step P y (Ok x) next e more = more x.0 x.1 e
-step P y (Err d) next e more = absurd cc
-
--- the steps behind the first keep its number
-fields_keep : (a : ℕ) (s1 : At) (y : KeyHead × At) → to_version (a, s1) ≡ Ok y → y.0.nbytes ≡ cast_signed w32 a
-fields_keep a s1 y read =
-    let P : Type 0 = y.0.nbytes ≡ cast_signed w32 a in
-    step P y (number_at 2 s1) (to_objlen a) read (λ b s2 b2.
-    step P y (number_at 4 s2) (to_datime a b) b2 (λ c s3 c2.
-    step P y (number_at 4 s3) (to_keylen a b c) c2 (λ d s4 d2.
-    step P y (number_at 2 s4) (to_cycle a b c d) d2 (λ e s5 e2.
-    step P y (number_at 2 s5) (to_seek a b c d e) e2 (λ f s6 f2.
-    step P y (number_at (key_place_len b) s6) (to_pdir a b c d e f) f2 (λ g s7 g2.
-    step P y (number_at (key_place_len b) s7) (to_class a b c d e f g) g2 (λ h s8 h2.
-    step P y (text_at s8) (to_name a b c d e f g h) h2 (λ i s9 i2.
-    step P y (text_at s9) (to_title a b c d e f g h i) i2 (λ j s10 j2.
-    step P y (text_at s10) (to_end a b c d e f g h i j) j2 (λ k s11 k2.
-    ap (λ (q : KeyHead × At). q.0.nbytes) (sym (ok_is {E = KeyFault} (head_of a b c d e f g h i j k, s11) y k2))))))))))))
-
-fields_number : (s : At) (h : KeyHead) (s' : At) → fields_at s ≡ Ok (h, s') → FirstNumber s h
-unfolding fields_at
-fields_number s head s' read =
-    let y : KeyHead × At = (head, s') in
-    let a = bind_ok (whole (number_at 4 s)) to_version y read in
-    let first = first_number s a.0.0 a.0.1 (ltb (length s.rest) 4) refl a.1 in
-    record { whole_is = first.0; nbytes_is = fields_keep a.0.0 a.0.1 y a.2 ∙ ap (cast_signed w32) (sym first.1) }
+fields_number : (s : At) (h : KeyHead) (s' : Standing (Unit {0})) → Reads key_fields (plain s) h s' → (4 ≤ length s.rest) × (h.nbytes ≡ cast_signed w32 (big_number 4 s.rest))
+unfolding key_fields
+fields_number s h s' c =
+    next_of c (λ nbytes s1 e1 c1.
+    next_of c1 (λ version s2 e2 c2.
+    next_of c2 (λ objlen s3 e3 c3.
+    next_of c3 (λ datime s4 e4 c4.
+    next_of c4 (λ keylen s5 e5 c5.
+    next_of c5 (λ cycle s6 e6 c6.
+    next_of c6 (λ seek s7 e7 c7.
+    next_of c7 (λ pdir s8 e8 c8.
+    next_of c8 (λ class s9 e9 c9.
+    next_of c9 (λ name s10 e10 c10.
+    next_of c10 (λ title s11 e11 c11.
+    let fields : KeyHead = record { nbytes = cast_signed w32 nbytes; version = version; objlen = objlen; datime = datime; keylen = keylen; cycle = cycle; seek = seek; pdir = pdir; class = class; name = name; title = title } in
+    let same = ok_is {E = KeyFault} (fields, s11) (h, s') c11.so in
+    let first = first_number s nbytes s1 (ltb (length s.rest) 4) refl e1 in
+    (first.0, ap (λ (q : KeyHead × Standing (Unit {0})). q.0.nbytes) (sym same) ∙ ap (cast_signed w32) first.1))))))))))))
 
 -- where the key at a place is read, its first four bytes say how long its record is
 pub record HasRecord (bytes : List ℕ) (h : KeyHead) : Type 0 where
@@ -65,26 +55,20 @@ unsigned_is n lt = grind (arith, ints)
 
 -- and these four bytes are there
 pub key_whole : (p : ℕ) (bytes : List ℕ) (h : KeyHead) → key_at (record { place = p; rest = bytes }) ≡ Ok h → 4 ≤ length bytes
-unfolding key_head_at
 key_whole p bytes h e =
     let s : At = record { place = p; rest = bytes } in
-    let v = value_ok (key_head_at s) h e in
-    let f = bind_ok (fields_at s) (λ x. cond (int_lt x.0.nbytes (pos x.0.keylen)) (Err (BadLength s.place)) (cond (nat_lt x.0.keylen (x.1.place - s.place)) (Err (BadKeyLen s.place)) (Ok x))) (h, v.0) v.1 in
-    (fields_number s f.0.0 f.0.1 f.1).whole_is
+    let k = kept s h e in
+    (fields_number s h k.end (record { so = k.read_so })).0
 
 pub key_record : (p : ℕ) (bytes : List ℕ) (h : KeyHead) → big_number 4 bytes < 2 ^ 32 → key_at (record { place = p; rest = bytes }) ≡ Ok h → HasRecord bytes h
-unfolding key_head_at
 key_record p bytes h lt e =
     let s : At = record { place = p; rest = bytes } in
-    let v = value_ok (key_head_at s) h e in
-    let f = bind_ok (fields_at s) (λ x. cond (int_lt x.0.nbytes (pos x.0.keylen)) (Err (BadLength s.place)) (cond (nat_lt x.0.keylen (x.1.place - s.place)) (Err (BadKeyLen s.place)) (Ok x))) (h, v.0) v.1 in
-    let k = kept s f.0 (h, v.0) _ _ refl refl f.2 in
-    let n = fields_number s f.0.0 f.0.1 f.1 in
-    let least = at_least (big_number 4 bytes) f.0.0.keylen lt (subst (λ (z : ℤ). int_lt z (pos f.0.0.keylen) ≡ false) n.nbytes_is k.key_held) in
-    let made : HasRecord bytes f.0.0 = record {
-      whole = n.whole_is;
+    let k = kept s h e in
+    let n = fields_number s h k.end (record { so = k.read_so }) in
+    let least = at_least (big_number 4 bytes) h.keylen lt (ap (λ z. int_lt z (pos h.keylen)) (sym n.1) ∙ k.key_held) in
+    record {
+      whole = n.0;
       small = least.low;
-      length_is = ap (cast_unsigned w32) (n.nbytes_is ∙ signed_is (big_number 4 bytes) least.low) ∙ unsigned_is (big_number 4 bytes) least.low;
+      length_is = ap (cast_unsigned w32) (n.1 ∙ signed_is (big_number 4 bytes) least.low) ∙ unsigned_is (big_number 4 bytes) least.low;
       key_held = least.above;
-    } in
-    subst (λ (z : KeyHead × At). HasRecord bytes z.0) k.same made
+    }

@@ -1,30 +1,34 @@
 -- What the key of a basket has behind its title: as it is read, and as it is written.
-use Rattle.std.specs.Prelude.{ℕ, ◌-◌, ◌^◌, ◌<◌, ℤ, List, ◌++◌, take, Result, Ok}
+use Rattle.std.specs.Prelude.{ℕ, ◌^◌, ◌<◌, ℤ, List, ◌++◌}
 use Rattle.std.specs.Int.{w32, cast_signed, cast_unsigned}
 use Rattle.std.specs.Int.RustNames.{FitsSigned}
 use Rattle.byteorder.specs.Endian.{big_bytes}
 use Rattle.rio_num.specs.At.{At}
-use Rattle.rio_num.specs.Reading.{◌>>=◌, number_at}
+use Rattle.rio_num.specs.Layout.{done, number, ◌>>=◌}
+use Rattle.rio_num.specs.Meanings.{Reading, read, Breaks}
+use Rattle.rio_num.specs.Reading.{short}
 use Rattle.rio_num.specs.declared.cursor.Short.{Short as Shortage}
-use Rattle.rio_key.specs.Key.{key_head_at, whole}
-use Rattle.rio_key.specs.declared.basket_head.BasketFront.{BasketFront}
+use Rattle.rio_num.specs.Plain.{Plain, plain}
 use Rattle.rio_key.specs.declared.basket_head.BasketHead.{BasketHead}
-use Rattle.rio_key.specs.declared.fault.KeyFault.{KeyFault}
 
--- an integer of 4 bytes, which may be negative
-abbrev pub integer_at : At → Result (ℤ × At) Shortage
-integer_at s = number_at 4 s >>= λ n. Ok (cast_signed w32 n.0, n.1)
+-- the fields; an integer of 4 bytes may be negative
+unfoldable pub basket_head_layout : Plain Shortage BasketHead
+basket_head_layout = do
+  version ← number short 2
+  buffer_size ← number short 4
+  nev_size ← number short 4
+  nev ← number short 4
+  last ← number short 4
+  flag ← number short 1
+  done (record { version = version; buffer_size = cast_signed w32 buffer_size; nev_size = cast_signed w32 nev_size; nev = cast_signed w32 nev; last = cast_signed w32 last; flag = flag })
 
--- the fields, and where the last one ends
-unfoldable pub basket_head_at : At → Result (BasketHead × At) Shortage
-basket_head_at s = do
-  version ← number_at 2 s
-  buffer_size ← integer_at version.1
-  nev_size ← integer_at buffer_size.1
-  nev ← integer_at nev_size.1
-  last ← integer_at nev.1
-  flag ← number_at 1 last.1
-  Ok (record { version = version.0; buffer_size = buffer_size.0; nev_size = nev_size.0; nev = nev.0; last = last.0; flag = flag.0 }, flag.1)
+-- the fields, and where the last one ends, or the first fault
+abbrev pub basket_head_at : At → Reading (Unit {0}) Shortage BasketHead
+basket_head_at s = read basket_head_layout (plain s)
+
+-- the bytes there begin with no head of a basket: this field is the first that isn't whole
+unfoldable pub BreaksBasketHead : At → Shortage → Type 0
+BreaksBasketHead s fault = Breaks basket_head_layout s.place tt s.rest fault
 
 unfoldable pub integer_bytes : ℤ → List ℕ
 integer_bytes z = big_bytes 4 (cast_unsigned w32 z)
@@ -45,14 +49,3 @@ pub record AreInRange (h : BasketHead) : Type 0 where
   pub nev : FitsSigned w32 h.nev
   pub last : FitsSigned w32 h.last
   pub flag : h.flag < 256
-
--- no more than the next n bytes
-abbrev pub within : ℕ → At → At
-within n s = record { place = s.place; rest = take n s.rest }
-
--- the key of a basket, and behind its title, but within its KeyLen, the basket's head
-unfoldable pub basket_front_at : At → Result BasketFront KeyFault
-basket_front_at s = do
-  key ← key_head_at s
-  head ← whole (basket_head_at (within (key.0.keylen - (key.1.place - s.place)) key.1))
-  Ok (record { key = key.0; head = head.0; place = key.1.place })

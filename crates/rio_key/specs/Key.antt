@@ -1,53 +1,63 @@
--- A key, read from left to right, with the first fault and its place.
-use Rattle.std.specs.Prelude.{◌≡◌, ◌≢◌, ℕ, ◌-◌, pos, Result, Ok, Err, nat_lt, if◌then◌else◌, int_lt, ◌-ℤ◌, Bool}
+-- A key. Each rule stands here once; the meanings of descriptions say how it is read, spelled and broken.
+use Rattle.std.specs.Prelude.{◌≡◌, ◌≢◌, ℕ, ◌-◌, pos, List, Result, Ok, Err, nat_lt, if◌then◌else◌, int_lt, ◌-ℤ◌, Bool}
 use Rattle.std.specs.Int.{w32, cast_signed}
 use Rattle.rio_num.specs.At.{At}
-use Rattle.rio_num.specs.Reading.{◌>>=◌, number_at, text_at}
-use Rattle.rio_num.specs.declared.cursor.Short.{Short as Shortage}
+use Rattle.rio_num.specs.Layout.{done, broken, number, text, here, ◌>>=◌, when◌then◌else◌}
+use Rattle.rio_num.specs.Meanings.{Reading, read, Breaks}
+use Rattle.rio_num.specs.Plain.{IsSpelledBy, Plain, plain, value_of}
 use Rattle.rio_key.specs.declared.head.KeyHead.{KeyHead}
 use Rattle.rio_key.specs.declared.fault.KeyFault.{KeyFault}
 use Rattle.rio_key.specs.declared.fault.KeyFault.TheVariants.{Short, BadLength, BadKeyLen, NoMemory}
 
--- a field that isn't whole is a fault of the key
-abbrev pub whole : {A : Type 0} → Result A Shortage → Result A KeyFault
-whole (Ok x) = Ok x
-whole (Err s) = Err (Short s.place s.wanted)
+-- ---- the layout
 
 -- how many bytes a place in the file takes: 8 in keys of the large form
 abbrev pub key_place_len : ℕ → ℕ
 key_place_len version = if nat_lt 1000 version then 8 else 4
 
--- the fields, each of them whole, and where the title ends
-unfoldable pub fields_at : At → Result (KeyHead × At) KeyFault
-fields_at s = do
-  nbytes ← whole (number_at 4 s)
-  version ← whole (number_at 2 nbytes.1)
-  objlen ← whole (number_at 4 version.1)
-  datime ← whole (number_at 4 objlen.1)
-  keylen ← whole (number_at 2 datime.1)
-  cycle ← whole (number_at 2 keylen.1)
-  seek ← whole (number_at (key_place_len version.0) cycle.1)
-  pdir ← whole (number_at (key_place_len version.0) seek.1)
-  class ← whole (text_at pdir.1)
-  name ← whole (text_at class.1)
-  title ← whole (text_at name.1)
-  Ok (record { nbytes = cast_signed w32 nbytes.0; version = version.0; objlen = objlen.0; datime = datime.0; keylen = keylen.0; cycle = cycle.0; seek = seek.0; pdir = pdir.0; class = class.0; name = name.0; title = title.0 }, title.1)
+-- the fields, each of them whole
+unfoldable pub key_fields : Plain KeyFault KeyHead
+key_fields = do
+  nbytes ← number Short 4
+  version ← number Short 2
+  objlen ← number Short 4
+  datime ← number Short 4
+  keylen ← number Short 2
+  cycle ← number Short 2
+  seek ← number Short (key_place_len version)
+  pdir ← number Short (key_place_len version)
+  class ← text Short
+  name ← text Short
+  title ← text Short
+  done (record { nbytes = cast_signed w32 nbytes; version = version; objlen = objlen; datime = datime; keylen = keylen; cycle = cycle; seek = seek; pdir = pdir; class = class; name = name; title = title })
 
--- a key, whose record holds it and which holds its title, and where the title ends
-unfoldable pub key_head_at : At → Result (KeyHead × At) KeyFault
-key_head_at s = do
-  fields ← fields_at s
-  if int_lt fields.0.nbytes (pos fields.0.keylen) then Err (BadLength s.place)
-      else if nat_lt fields.0.keylen (fields.1.place - s.place) then Err (BadKeyLen s.place) else Ok fields
+-- a key, whose record holds it and which holds its title
+unfoldable pub key_layout : Plain KeyFault KeyHead
+key_layout = do
+  place ← here
+  key ← key_fields
+  end ← here
+  when int_lt key.nbytes (pos key.keylen) then broken (BadLength place) else when nat_lt key.keylen (end - place) then broken (BadKeyLen place) else done key
 
--- what was read, without the place where reading goes on
-abbrev pub value_of : {A E : Type 0} → Result (A × At) E → Result A E
-value_of (Ok x) = Ok x.0
-value_of (Err e) = Err e
+-- ---- what bytes are
+
+-- a key, and where its title ends, or the first fault
+abbrev pub key_head_at : At → Reading (Unit {0}) KeyFault KeyHead
+key_head_at s = read key_layout (plain s)
 
 -- the key there, or the first fault
 abbrev pub key_at : At → Result KeyHead KeyFault
 key_at s = value_of (key_head_at s)
+
+-- the bytes are a key's from its first to its title's end
+unfoldable pub SpellsKey : KeyHead → List ℕ → Type 0
+SpellsKey key bytes = IsSpelledBy key_layout key bytes
+
+-- the bytes there begin with no key: what stands before is right, and this is the first fault
+unfoldable pub BreaksKey : At → KeyFault → Type 0
+BreaksKey s fault = Breaks key_layout s.place tt s.rest fault
+
+-- ---- what a reader does
 
 -- a fault is the one that reading gives, unless memory ran out
 abbrev pub FailsKey : {X : Type 0} → KeyFault → Result X KeyFault → Type 0
@@ -59,8 +69,8 @@ Gives (Ok x) read = read ≡ Ok x
 Gives (Err e) read = FailsKey e read
 
 -- the same of a reader, which stands at new then
-abbrev pub GivesAt : {X : Type 0} → Result X KeyFault → Result (X × At) KeyFault → At → Type 0
-GivesAt (Ok x) read new = read ≡ Ok (x, new)
+abbrev pub GivesAt : {X : Type 0} → Result X KeyFault → Reading (Unit {0}) KeyFault X → At → Type 0
+GivesAt (Ok x) read new = read ≡ Ok (x, plain new)
 GivesAt (Err e) read new = FailsKey e read
 
 -- a function returned this, unless memory ran out

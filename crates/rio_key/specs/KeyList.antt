@@ -1,39 +1,45 @@
 -- A list of key heads: their count, and so many heads, one behind the other.
-use Rattle.std.specs.Prelude.{◌≡◌, ◌≢◌, ℕ, zero, suc, List, [], ◌∷◌, Option, Some, None, Result, Ok, Err}
+use Rattle.std.specs.Prelude.{◌≡◌, ◌≢◌, ℕ, List, Option, Some, None, Result, Ok, Err}
 use Rattle.rio_num.specs.At.{At}
-use Rattle.rio_num.specs.Reading.{◌>>=◌, number_at}
-use Rattle.rio_key.specs.Key.{key_head_at, whole}
+use Rattle.rio_num.specs.Layout.{number, here, times, retold, ◌>>=◌}
+use Rattle.rio_num.specs.Meanings.{Reading, read, Breaks}
+use Rattle.rio_num.specs.Plain.{IsSpelledBy, Plain, plain}
+use Rattle.rio_key.specs.Key.{key_layout}
 use Rattle.rio_key.specs.declared.head.KeyHead.{KeyHead}
 use Rattle.rio_key.specs.declared.fault.KeyFault.{KeyFault}
-use Rattle.rio_key.specs.declared.fault.KeyFault.TheVariants.{NoMemory}
+use Rattle.rio_key.specs.declared.fault.KeyFault.TheVariants.{Short, NoMemory}
 use Rattle.rio_key.specs.declared.fault.ListFault.{ListFault}
 
 -- a fault of the list, in the head at a place or in the count
-abbrev pub faulted : {A : Type 0} → Option ℕ → Result A KeyFault → Result A ListFault
-faulted place (Ok x) = Ok x
-faulted place (Err e) = Err (record { head = place; fault = e })
-
--- how many heads the list has
-abbrev pub count_at : At → Result (ℕ × At) ListFault
-count_at s = faulted None (whole (number_at 4 s))
+abbrev pub listed_fault : Option ℕ → KeyFault → ListFault
+listed_fault place fault = record { head = place; fault = fault }
 
 -- one head of the list
-unfoldable pub listed_key_at : At → Result (KeyHead × At) ListFault
-listed_key_at s = faulted (Some s.place) (key_head_at s)
+unfoldable pub listed_key : Plain ListFault KeyHead
+listed_key = do
+  place ← here
+  retold (listed_fault (Some place)) key_layout
 
--- so many heads, and where the last one's title ends
-unfoldable pub heads_at : ℕ → At → Result (List KeyHead × At) ListFault
-heads_at zero s = Ok ([], s)
-heads_at (suc n) s = do
-  head ← listed_key_at s
-  heads ← heads_at n head.1
-  Ok (head.0 ∷ heads.0, heads.1)
+-- how many heads the list has
+abbrev pub head_count : Plain ListFault ℕ
+head_count = number (λ place wanted. listed_fault None (Short place wanted)) 4
 
--- the heads of a list, and where the last one's title ends
-unfoldable pub key_list_at : At → Result (List KeyHead × At) ListFault
-key_list_at s = do
-  count ← count_at s
-  heads_at count.0 count.1
+unfoldable pub key_list_layout : Plain ListFault (List KeyHead)
+key_list_layout = do
+  count ← head_count
+  times count listed_key
+
+-- the heads of a list, and where the last one's title ends, or the first fault
+abbrev pub key_list_at : At → Reading (Unit {0}) ListFault (List KeyHead)
+key_list_at s = read key_list_layout (plain s)
+
+-- the bytes are a list's from its count to the end of its last head's title
+unfoldable pub SpellsKeyList : List KeyHead → List ℕ → Type 0
+SpellsKeyList heads bytes = IsSpelledBy key_list_layout heads bytes
+
+-- the bytes there begin with no list: what stands before is right, and this is the first fault
+unfoldable pub BreaksKeyList : At → ListFault → Type 0
+BreaksKeyList s fault = Breaks key_list_layout s.place tt s.rest fault
 
 -- a fault is the one that reading gives, unless memory ran out
 abbrev pub FailsList : {X : Type 0} → ListFault → Result X ListFault → Type 0
@@ -45,8 +51,8 @@ GivesList (Ok x) read = read ≡ Ok x
 GivesList (Err e) read = FailsList e read
 
 -- the same of a reader, which stands at new then
-abbrev pub GivesListAt : {X : Type 0} → Result X ListFault → Result (X × At) ListFault → At → Type 0
-GivesListAt (Ok x) read new = read ≡ Ok (x, new)
+abbrev pub GivesListAt : {X : Type 0} → Result X ListFault → Reading (Unit {0}) ListFault X → At → Type 0
+GivesListAt (Ok x) read new = read ≡ Ok (x, plain new)
 GivesListAt (Err e) read new = FailsList e read
 
 -- a function returned this, unless memory ran out

@@ -1,11 +1,7 @@
 -- What holds of every key and every list of key heads.
-use Rattle.std.specs.Prelude.{◌≡◌, ℕ, ◌≤◌, List, ◌++◌, take, Ok}
+use Rattle.std.specs.Prelude.{◌≡◌, ℕ, ◌≤◌, List, take, Ok}
 use Rattle.rio_key.specs.Key.{key_at}
 use Rattle.rio_key.specs.declared.head.KeyHead.{KeyHead}
-
--- one thing is spelled at the beginning of some bytes, by one front of them
-abbrev pub IsOne : {X : Type 0} → (X → List ℕ → Type 0) → Type 0
-IsOne {X = X} spells = (a b : X) (xs ys more others : List ℕ) → xs ++ more ≡ ys ++ others → spells a xs → spells b ys → (a ≡ b) × (xs ≡ ys)
 
 -- a key ends within its KeyLen: it is read from so many bytes as from all
 abbrev pub KeyInFront : Type 0

@@ -1,6 +1,6 @@
+pub mod BasketFront
 pub mod BasketHead
 pub mod Key
 pub mod KeyList
 pub mod Laws
-pub mod Spelling
 pub mod Written

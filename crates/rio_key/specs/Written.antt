@@ -1,10 +1,25 @@
 -- The one way in which a key is written.
 use Rattle.std.specs.Prelude.{◌≡◌, ℕ, ◌^◌, ◌<◌, ◌≤◌, pos, List, ◌++◌, length}
 use Rattle.std.specs.Int.{w32, cast_unsigned}
+use Rattle.byteorder.specs.Endian.{big_bytes}
 use Rattle.rio_num.specs.Text.{text_bytes}
-use Rattle.rio_key.specs.Key.{key_place_len}
-use Rattle.rio_key.specs.Spelling.{AreWithinFields, SpellsKey, number_bytes}
+use Rattle.rio_key.specs.Key.{SpellsKey, key_place_len}
 use Rattle.rio_key.specs.declared.head.KeyHead.{KeyHead}
+
+-- the numbers of a key, of a record with this length, each in its field
+abbrev pub number_bytes : KeyHead → ℕ → List ℕ
+number_bytes h nbytes =
+    big_bytes 4 nbytes ++ (big_bytes 2 h.version ++ (big_bytes 4 h.objlen ++ (big_bytes 4 h.datime ++ (big_bytes 2 h.keylen ++ (big_bytes 2 h.cycle ++ (big_bytes (key_place_len h.version) h.seek ++ big_bytes (key_place_len h.version) h.pdir))))))
+
+-- each number within its field
+pub record AreWithinFields (h : KeyHead) : Type 0 where
+  pub version : h.version < 2 ^ 16
+  pub objlen : h.objlen < 2 ^ 32
+  pub datime : h.datime < 2 ^ 32
+  pub keylen : h.keylen < 2 ^ 16
+  pub cycle : h.cycle < 2 ^ 16
+  pub seek : h.seek < 256 ^ key_place_len h.version
+  pub pdir : h.pdir < 256 ^ key_place_len h.version
 
 -- the bytes of a key from its first to its title's end, each text in its short form where it can be
 abbrev pub written_key : KeyHead → List ℕ

@@ -1,9 +1,10 @@
 //! What the key of a basket has behind its title.
-ghost use Rattle.std.specs.Prelude.{◌≡◌, ◌+◌, ◌<◌, ◌≤◌, ◌^◌, ◌++◌, ℕ, List, length, take, Ok, IfOk, OnOk, OnErr};
-ghost use Rattle.rio_num.specs.Reading.{Takes};
+ghost use Rattle.std.specs.Prelude.{◌≡◌, ◌+◌, ◌<◌, ◌≤◌, ◌^◌, ◌++◌, ℕ, List, length, take, Ok, IfErr, IfOk, OnOk, OnErr};
 ghost use Rattle.rio_num.specs.Room.{with_more};
-ghost use Rattle.rio_key.specs.BasketHead.{AreInRange, basket_front_at, basket_head_at, basket_head_bytes, integer_at, integer_bytes, sizes_bytes, within};
-ghost use Rattle.rio_key.specs.Key.{Gives, value_of};
+ghost use Rattle.rio_key.specs.BasketFront.{basket_front_at, within};
+ghost use Rattle.rio_key.specs.BasketHead.{AreInRange, BreaksBasketHead, basket_head_at, basket_head_bytes, integer_bytes, sizes_bytes};
+ghost use Rattle.rio_num.specs.Plain.{value_of};
+ghost use Rattle.rio_key.specs.Key.{Gives};
 ghost use Rattle.rio_key.specs.declared.basket_head.BasketHead.{BasketHead as Head};
 
 use crate::read::take_key;
@@ -26,22 +27,16 @@ pub struct BasketHead {
     pub flag: u8,
 }
 
-fn take_i32(cursor: &mut Cursor) -> Result<i32, Short>
-    ensures { Takes (λ x. x) result (integer_at cursor.old) cursor.old cursor.new }
-{
-    Ok(cursor.take_u32()?.cast_signed())
-}
-
-#[tactic(auto, unfolding(crate::specs::BasketHead::basket_head_at))]
+#[tactic(auto, unfolding(crate::specs::BasketHead::basket_head_layout))]
 fn take_basket_head(cursor: &mut Cursor) -> Result<BasketHead, Short>
     ensures { result ≡ value_of (basket_head_at cursor.old) }
 {
     Ok(BasketHead {
         version: cursor.take_u16()?,
-        buffer_size: take_i32(cursor)?,
-        nev_size: take_i32(cursor)?,
-        nev: take_i32(cursor)?,
-        last: take_i32(cursor)?,
+        buffer_size: cursor.take_u32()?.cast_signed(),
+        nev_size: cursor.take_u32()?.cast_signed(),
+        nev: cursor.take_u32()?.cast_signed(),
+        last: cursor.take_u32()?.cast_signed(),
         flag: cursor.take_u8()?,
     })
 }
@@ -52,6 +47,8 @@ pub fn read_basket_head(bytes: &[u8], place: u64) -> Result<BasketHead, Short>
     requires { place + length bytes.now < 2 ^ 64 }
     ensures exact { result
         ≡ value_of (basket_head_at (record { place = place; rest = bytes.now })) }
+    ensures broken { IfErr result (λ fault.
+        BreaksBasketHead (record { place = place; rest = bytes.now }) fault) }
     ensures found { IfOk result (λ head.
         (rest : List ℕ) × (bytes.now ≡ basket_head_bytes head ++ rest)) }
     ensures only { (head : Head) (rest : List ℕ) → AreInRange head
@@ -90,7 +87,7 @@ fn within<'a>(cursor: &Cursor<'a>, n: u64) -> Cursor<'a>
 
 /// The key of a basket and the basket's head that these bytes begin with, the first of which has the place `base`. The
 /// head stands behind the title and ends within KeyLen, else it is Short at the first field that isn't whole there.
-#[tactic(auto, unfolding(crate::specs::BasketHead::basket_front_at))]
+#[tactic(auto, unfolding(crate::specs::BasketFront::basket_front_at))]
 pub fn read_basket_front(alloc: Global, bytes: &[u8], base: u64) -> Result<BasketFront, KeyFault>
     requires { base + length bytes.now < 2 ^ 64 }
     ensures exact { Gives result (basket_front_at (record { place = base; rest = bytes.now })) }

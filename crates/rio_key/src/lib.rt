@@ -14,7 +14,7 @@ pub use basket_head::{
 };
 pub use fault::{KeyFault, ListFault};
 pub use head::KeyHead;
-pub use laws::{key_in_front, one_key, one_key_list, written_key_is_spelled};
+pub use laws::{key_in_front, meanings_agree, one_key, one_key_list, written_key_is_spelled};
 pub use list::{Heads, read_heads};
 pub use read::read_key;
 pub use write::{key_length, write_key};

@@ -1,9 +1,11 @@
 //! Lists of key heads are read.
-ghost use Rattle.std.specs.Prelude.{◌≡◌, ◌+◌, ◌<◌, ◌^◌, ◌++◌, ℕ, List, length, IfOk};
+ghost use Rattle.std.specs.Prelude.{◌≡◌, ◌≢◌, ◌+◌, ◌<◌, ◌^◌, ◌++◌, ℕ, List, length, IfErr, IfOk};
 ghost use Rattle.rio_key.specs.declared.head.KeyHead.{KeyHead as Head};
-ghost use Rattle.rio_key.specs.Key.{value_of};
-ghost use Rattle.rio_key.specs.KeyList.{GivesList, GivesListAt, IsListReadAs, count_at, heads_at, key_list_at, listed_key_at};
-ghost use Rattle.rio_key.specs.Spelling.{IsSpelledIn, SpellsKeyList};
+ghost use Rattle.rio_num.specs.Layout.{times};
+ghost use Rattle.rio_num.specs.Meanings.{read};
+ghost use Rattle.rio_num.specs.Plain.{IsSpelledIn, plain, value_of};
+ghost use Rattle.rio_key.specs.KeyList.{BreaksKeyList, GivesList, GivesListAt, IsListReadAs, SpellsKeyList, head_count, key_list_at, listed_key};
+ghost use Rattle.rio_key.specs.declared.fault.KeyFault.TheVariants.{NoMemory as OutOfMemory};
 
 use crate::read::take_key;
 use crate::{KeyFault, KeyHead, ListFault};
@@ -14,9 +16,9 @@ use std::alloc::Global;
 pub type Heads = Items<KeyHead>;
 
 // The next head of a list.
-#[tactic(auto, unfolding(crate::specs::KeyList::listed_key_at))]
+#[tactic(auto, using(crate::proofs::Retold::told_in_list))]
 fn take_head(alloc: Global, cursor: &mut Cursor) -> Result<KeyHead, ListFault>
-    ensures { GivesListAt result (listed_key_at cursor.old) cursor.new }
+    ensures { GivesListAt result (read listed_key (plain cursor.old)) cursor.new }
 {
     let place = cursor.place();
     match take_key(alloc, cursor) {
@@ -30,7 +32,7 @@ fn take_head(alloc: Global, cursor: &mut Cursor) -> Result<KeyHead, ListFault>
 
 // How many heads follow.
 fn take_count(cursor: &mut Cursor) -> Result<u32, ListFault>
-    ensures { GivesListAt result (count_at cursor.old) cursor.new }
+    ensures { GivesListAt result (read head_count (plain cursor.old)) cursor.new }
 {
     match cursor.take_u32() {
         Ok(count) => Ok(count),
@@ -43,7 +45,7 @@ fn take_count(cursor: &mut Cursor) -> Result<u32, ListFault>
 
 // So many heads, one behind the other.
 fn take_heads(alloc: Global, cursor: &mut Cursor, count: u32) -> Result<Heads, ListFault>
-    ensures { GivesListAt result (heads_at count cursor.old) cursor.new }
+    ensures { GivesListAt result (read (times count listed_key) (plain cursor.old)) cursor.new }
 {
     let mut heads = Heads::new(alloc);
     'heads: for k in 0..count {
@@ -53,7 +55,7 @@ fn take_heads(alloc: Global, cursor: &mut Cursor, count: u32) -> Result<Heads, L
     Ok(heads)
 }
 
-#[tactic(auto, unfolding(crate::specs::KeyList::key_list_at))]
+#[tactic(auto, unfolding(crate::specs::KeyList::key_list_layout))]
 fn take_key_list(alloc: Global, cursor: &mut Cursor) -> Result<Heads, ListFault>
     ensures { GivesListAt result (key_list_at cursor.old) cursor.new }
 {
@@ -70,6 +72,8 @@ pub fn read_heads(alloc: Global, bytes: &[u8], base: u64) -> Result<Heads, ListF
     ensures exact { GivesList result
         (value_of (key_list_at (record { place = base; rest = bytes.now }))) }
     ensures found { IfOk result (λ heads. IsSpelledIn (SpellsKeyList heads) bytes.now) }
+    ensures broken { IfErr result (λ e. e.fault ≢ OutOfMemory
+        → BreaksKeyList (record { place = base; rest = bytes.now }) e) }
     ensures only { (heads : List Head) (front rest : List ℕ) → bytes.now ≡ front ++ rest
         → SpellsKeyList heads front → IsListReadAs result heads }
 {

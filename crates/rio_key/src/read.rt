@@ -1,9 +1,11 @@
 //! A key is read at its place.
-ghost use Rattle.std.specs.Prelude.{◌≡◌, ◌+◌, ◌<◌, ◌^◌, ◌++◌, ℕ, List, length, IfOk};
+ghost use Rattle.std.specs.Prelude.{◌≡◌, ◌≢◌, ◌+◌, ◌<◌, ◌^◌, ◌++◌, ℕ, List, length, IfErr, IfOk};
 ghost use Rattle.rio_num.specs.At.{GoesOn, standing_at};
 ghost use Rattle.rio_num.specs.Reading.{Takes, number_at};
-ghost use Rattle.rio_key.specs.Key.{Gives, GivesAt, IsReadAs, fields_at, key_at, key_head_at, key_place_len};
-ghost use Rattle.rio_key.specs.Spelling.{IsSpelledIn, SpellsKey};
+ghost use Rattle.rio_num.specs.Meanings.{read};
+ghost use Rattle.rio_num.specs.Plain.{IsSpelledIn, plain};
+ghost use Rattle.rio_key.specs.Key.{BreaksKey, Gives, GivesAt, IsReadAs, SpellsKey, key_at, key_fields, key_head_at, key_place_len};
+ghost use Rattle.rio_key.specs.declared.fault.KeyFault.TheVariants.{NoMemory as OutOfMemory};
 
 use crate::{KeyFault, KeyHead};
 use rio_num::{Cursor, Name, Short};
@@ -22,9 +24,9 @@ fn take_place(cursor: &mut Cursor, version: u16) -> Result<u64, Short>
     }
 }
 
-#[tactic(auto, unfolding(crate::specs::Key::fields_at))]
+#[tactic(auto, unfolding(crate::specs::Key::key_fields))]
 fn read_fields(alloc: Global, cursor: &mut Cursor) -> Result<KeyHead, KeyFault>
-    ensures { GivesAt result (fields_at cursor.old) cursor.new }
+    ensures { GivesAt result (read key_fields (plain cursor.old)) cursor.new }
 {
     let nbytes = cursor.take_u32()?.cast_signed();
     let version = cursor.take_u16()?;
@@ -53,7 +55,7 @@ fn read_fields(alloc: Global, cursor: &mut Cursor) -> Result<KeyHead, KeyFault>
 }
 
 // The next key, which takes the bytes up to its title's end.
-#[tactic(auto, unfolding(crate::specs::Key::key_head_at))]
+#[tactic(auto, unfolding(crate::specs::Key::key_layout))]
 pub(crate) fn take_key(alloc: Global, cursor: &mut Cursor) -> Result<KeyHead, KeyFault>
     ensures { GivesAt result (key_head_at cursor.old) cursor.new }
 {
@@ -76,6 +78,8 @@ pub fn read_key(alloc: Global, bytes: &[u8], base: u64, place: u64) -> Result<Ke
     ensures exact { Gives result (key_at (standing_at base place bytes.now)) }
     ensures found { IfOk result (λ head.
         IsSpelledIn (SpellsKey head) (standing_at base place bytes.now).rest) }
+    ensures broken { IfErr result (λ fault. fault ≢ OutOfMemory
+        → BreaksKey (standing_at base place bytes.now) fault) }
     ensures only { (head : KeyHead) (front rest : List ℕ)
         → (standing_at base place bytes.now).rest ≡ front ++ rest → SpellsKey head front
         → IsReadAs result head }

@@ -5,8 +5,7 @@ ghost use Rattle.byteorder.specs.Endian.{big_bytes};
 ghost use Rattle.rio_num.specs.Room.{Appends};
 ghost use Rattle.rio_num.specs.Text.{text_bytes};
 ghost use Rattle.rio_key.specs.Key.{key_place_len};
-ghost use Rattle.rio_key.specs.Spelling.{number_bytes};
-ghost use Rattle.rio_key.specs.Written.{FitsKey, written_key};
+ghost use Rattle.rio_key.specs.Written.{FitsKey, number_bytes, written_key};
 
 use crate::KeyHead;
 use rio_num::{Bytes, NoMemory};

@@ -7,7 +7,7 @@ use std::alloc::Global;
 use std::marker::Model;
 
 /// What a branch holds at each entry.
-#[derive(Debug, Drop)]
+#[derive(Drop)]
 pub enum Shape {
     /// The values of its leaves, one behind the other.
     Leaves(Leaves),
@@ -16,7 +16,7 @@ pub enum Shape {
 }
 
 /// A branch of a tree.
-#[derive(Debug, Drop)]
+#[derive(Drop)]
 pub struct BranchDef {
     pub name: Name,
     pub shape: Shape,
@@ -57,7 +57,7 @@ fn copy_leaves(leaves: &Leaves) -> Result<Leaves, NoMemory>
 }
 
 /// The branches of a tree, in order.
-#[derive(Debug, Drop)]
+#[derive(Drop)]
 pub struct BranchDefs {
     items: Items<BranchDef>,
 }

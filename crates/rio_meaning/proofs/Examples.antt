@@ -3,7 +3,7 @@ use Rattle.std.proofs.Common.{◌≡◌, [], ◌∷◌, refl}
 use Rattle.std.specs.Prelude.{codes, Some, None}
 use Rattle.std.specs.Fmt.{digits}
 use Rattle.rio_buffer.specs.declared.fault.ObjFault.TheVariants.{CountMismatch, UnknownClassWord}
-use Rattle.rio_head.specs.Head.{fault_at, header_at}
+use Rattle.rio_head.specs.Head.{fault_at, header_layout}
 use Rattle.rio_dir.specs.Closed.{closed_file, closed_head}
 use Rattle.rio_head.specs.declared.fault.FileFault.TheVariants.{NotRoot, Short}
 use Rattle.rio_meaning.specs.Dump.{object_fault_text}
@@ -21,11 +21,11 @@ zeros_are_unborn = refl
 
 -- it is no closed file
 empty_is_short : first_fault ToKeyList [] ≡ Some (fault_at 0 Short)
-unfolding header_at closed_file closed_head
+unfolding header_layout closed_file closed_head
 empty_is_short = refl
 
 other_begin : first_fault HeaderAlone (codes "rooX") ≡ Some (fault_at 0 NotRoot)
-unfolding header_at
+unfolding header_layout
 other_begin = refl
 
 -- the numbers of a fault stand in the order of its fields

@@ -13,6 +13,7 @@ use Rattle.std.specs.Fmt.{digits}
 use Rattle.rio_format.specs.Bodies.{member}
 use Rattle.rio_model.specs.ClassGrammar.{bases_at, class_at, class_in, dimension_of, kind_at, member_at, primitive_of, sized_at}
 use Rattle.rio_model.specs.ClassText.{text_of_class}
+use Rattle.rio_model.specs.Lexemes.{Stand, chars, mark}
 use Rattle.rio_model.specs.ValueGrammar.{class_version_at, enclosed_at, enclosed_by, object_at, part_at, text_value_at, value_and_end, value_in, value_in_text, values_at, word_value, word_value_at}
 
 node_class : ClassDef
@@ -46,3 +47,8 @@ cut_string = refl
 no_string_behind : value_and_end (value_in (codes "[1 \"x") 0) ≡ Err (BadText 3)
 unfolding scan_of value_in_text enclosed_at enclosed_by values_at list_at some_at more_at mark_at word_value_at word_at word_value number_of decimal written
 no_string_behind = refl
+
+-- blanks between tokens, and an escape in a string, spell nothing of their own
+escaped_list : Stand (mark 91 ∷ chars (codes "A") ∷ mark 93 ∷ []) (record { place = 0; rest = codes "[ \"\\x41\"]" }) (record { place = 9; rest = [] })
+unfolding scan_of
+escaped_list = (refl, ((refl, refl), (refl, refl)))

@@ -1,6 +1,9 @@
 mod Examples
+pub mod ClassAgain
+pub mod ClassFound
 pub mod ClassFurther
 pub mod ClassLines
+pub mod ClassTold
 pub mod DescribedBases
 pub mod DescribedClasses
 pub mod DescribedElements
@@ -9,6 +12,9 @@ pub mod DescribedMembers
 pub mod DescribedTrees
 pub mod DescribedValues
 pub mod DescriptionSums
+pub mod ItemLaws
+pub mod ItemTold
+pub mod LexemeLaws
 pub mod ListDepth
 pub mod ListElements
 pub mod ListFits
@@ -26,10 +32,15 @@ pub mod ReadLayers
 pub mod ReadMembers
 pub mod ReadValues
 pub mod ReadWords
+pub mod SpellingUp
 pub mod StatedClasses
 pub mod StatedKinds
 pub mod StatedMembers
 pub mod StatedParts
+pub mod ToldLaws
+pub mod ValueAgain
+pub mod ValueFound
 pub mod ValueFurther
 pub mod ValueLines
 pub mod ValueTextLaws
+pub mod ValueTold

@@ -14,13 +14,13 @@ use Rattle.rio_types.specs.declared.kind.Primitive.{Primitive}
 use Rattle.rio_types.specs.declared.kind.Primitive.TheVariants.{I8, I16, I32, I64, U8, U16, U32, U64, Bool as Truth, F32, F64}
 use Rattle.rio_token.specs.Tokens.{behind, scan_of}
 use Rattle.rio_token.specs.Reading.{mark_at, marked}
-use Rattle.rio_token.specs.Words.{decimal as decimal_of, digit_in, num_between_of, written}
+use Rattle.rio_token.specs.Words.{decimal as decimal_of, num_between_of, written}
 use Rattle.rio_token.proofs.DecimalLaws.{nums_are_read}
 use Rattle.rio_token.proofs.StandLaws.{IsWord, Stops, at, behind_word, name_is_word, next_is_word, word_that_back}
 use Rattle.rio_model.specs.ClassGrammar.{dimension_of, has_i32, kind_at, plain_at, primitive_of, sized_at}
 use Rattle.rio_model.specs.ClassText.{kind_text, primitive_text}
 use Rattle.rio_model.specs.Stated.{is_class_word, is_none}
-use Rattle.rio_model.proofs.ReadWords.{decimal_word, name_as_it_is}
+use Rattle.rio_model.proofs.ReadWords.{decimal_word, name_as_it_is, no_digit}
 
 -- what stands behind a kind
 pub record IsEnd (rest : List ℕ) : Type 0 where
@@ -39,7 +39,7 @@ is_read_kind before (Inline class) = is_class_word class
 is_read_kind before (Pointer class) = is_name_text class
 is_read_kind before (Other code) = false
 
-primitive_back : (of : Primitive) → primitive_of (primitive_text of) ≡ Some of
+pub primitive_back : (of : Primitive) → primitive_of (primitive_text of) ≡ Some of
 unfolding primitive_of
 primitive_back I8 = refl
 primitive_back I16 = refl
@@ -53,7 +53,7 @@ primitive_back Truth = refl
 primitive_back F32 = refl
 primitive_back F64 = refl
 
-primitive_named : (of : Primitive) → is_name_text (primitive_text of) ≡ true
+pub primitive_named : (of : Primitive) → is_name_text (primitive_text of) ≡ true
 primitive_named I8 = refl
 primitive_named I16 = refl
 primitive_named I32 = refl
@@ -121,9 +121,6 @@ fixed_says before of count low high =
     let a : nat_le 1 count ≡ true = grind (arith, nat_tests) in
     let b : nat_le count 100000 ≡ true = grind (arith, nat_tests) in
     rw (num, a, b) refl
-
-no_digit : (b : ℕ) → begins_name b ≡ true → digit_in 10 b ≡ None
-no_digit b h = grind (arith, nat_tests)
 
 none_of : (f : ℕ → Option ℕ) (b : Bool) → (let none : Option ℕ = None in option_and_then f (if b then none else none) ≡ none)
 none_of f true = refl

@@ -172,7 +172,7 @@ no_bracket E s x (Mark b) h = by_test (b == 93) refl
     by_test false t = t
 no_bracket E s x other h = refl
 
-value_begins : (E : Reader) (s : At) (x : Value × At) → value_in_text E s ≡ Ok x → marked 93 s ≡ false
+pub value_begins : (E : Reader) (s : At) (x : Value × At) → value_in_text E s ≡ Ok x → marked 93 s ≡ false
 unfolding value_in_text
 value_begins E s x h = no_bracket E s x (next_at s).token h
 
@@ -221,7 +221,7 @@ part_wants_word : (E : Reader) (s : At) (x : Part × At) → is_word (next_at s)
 unfolding part_at word_that_at
 part_wants_word E s x none h = absurd (let bad = rw none at h in cc)
 
-part_begins : (E : Reader) (s : At) (x : Part × At) → part_at E s ≡ Ok x → marked 125 s ≡ false
+pub part_begins : (E : Reader) (s : At) (x : Part × At) → part_at E s ≡ Ok x → marked 125 s ≡ false
 part_begins E s x h = elim (word_or_no_brace (next_at s).token) [ inl free ↦ free | inr none ↦ part_wants_word E s x none h ]
 
 part_ends : (levels : ℕ) (rest : List ℕ) → Ends 125 (λ before. part_at (enclosed_at levels)) text_of_part Follows (125 ∷ rest) 1 rest

@@ -60,7 +60,7 @@ module _ (E : Reader) (p q : ℕ) (w rest : List ℕ) (is : IsWord w) (follows :
 
 -- ---- integers
 
-not_named : (w : List ℕ) (z : ℤ) → number_of w ≡ Some z → (name : List ℕ) → number_of name ≡ None → bytes_eq w name ≡ false
+pub not_named : (w : List ℕ) (z : ℤ) → number_of w ≡ Some z → (name : List ℕ) → number_of name ≡ None → bytes_eq w name ≡ false
 not_named w z h name none =
     false_from_ne_true (bytes_eq w name) (λ t.
     let e : w ≡ name = (bytes_eq-Decides w name).0 t in
@@ -69,15 +69,15 @@ not_named w z h name none =
     let nothing : Option ℤ = None in
     let clash : some ≡ nothing = sym h ∙ same in cc)
 
-true_no_number : number_of (codes "true") ≡ None
+pub true_no_number : number_of (codes "true") ≡ None
 unfolding number_of decimal_of written
 true_no_number = refl
 
-false_no_number : number_of (codes "false") ≡ None
+pub false_no_number : number_of (codes "false") ≡ None
 unfolding number_of decimal_of written
 false_no_number = refl
 
-null_no_number : number_of (codes "null") ≡ None
+pub null_no_number : number_of (codes "null") ≡ None
 unfolding number_of decimal_of written
 null_no_number = refl
 
@@ -100,6 +100,10 @@ integer_word (pos n) h = decimal_word n h
 integer_word (negsuc n) h =
     let is = decimal_word (suc n) (omega arith) in
     record { first = 45; others = decimal (suc n); parts = refl; all = is.all }
+
+-- a name is no number
+pub no_digit : (b : ℕ) → begins_name b ≡ true → digit_in 10 b ≡ None
+no_digit b h = grind (arith, nat_tests)
 
 -- ---- bit patterns
 
@@ -153,7 +157,7 @@ bits_no_number : (ds : List ℕ) → number_of (48 ∷ 120 ∷ ds) ≡ None
 unfolding number_of decimal_of
 bits_no_number ds = let some : (length (120 ∷ ds) == 0) ≡ false = not_empty 120 ds in rw some refl
 
-bits_value_of : (ds : List ℕ) (bits : Bits) → bits_of (48 ∷ 120 ∷ ds) ≡ Some bits → word_value (48 ∷ 120 ∷ ds) ≡ Some (value_of_bits bits)
+pub bits_value_of : (ds : List ℕ) (bits : Bits) → bits_of (48 ∷ 120 ∷ ds) ≡ Some bits → word_value (48 ∷ 120 ∷ ds) ≡ Some (value_of_bits bits)
 unfolding word_value
 bits_value_of ds bits h = rw (bits_no_number ds, h) refl
 

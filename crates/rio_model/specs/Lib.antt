@@ -1,12 +1,16 @@
 pub mod ClassGrammar
+pub mod ClassSpelling
 pub mod ClassText
 pub mod Declaring
 pub mod Described
+pub mod Lexemes
 pub mod Lists
 pub mod OneLine
 pub mod Readable
 pub mod Resolving
 pub mod StateClasses
 pub mod Stated
+pub mod ToldPlaces
 pub mod ValueGrammar
+pub mod ValueSpelling
 pub mod ValueText

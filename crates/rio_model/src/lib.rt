@@ -3,11 +3,16 @@
 //! them, and the fault that a declaration is refused for.
 #![tactic(auto)]
 
+mod class_laws;
 mod declare;
 mod laws;
 mod list_laws;
 mod read_laws;
+mod spelling_laws;
 
+pub use class_laws::{
+    first_bad_class_tokens_are_told, read_classes_are_spelled, spelled_classes_are_read,
+};
 pub use declare::{DeclareFault, holding_is_reaching};
 pub use laws::texts_are_one_line;
 pub use list_laws::{
@@ -17,4 +22,7 @@ pub use list_laws::{
 pub use read_laws::{
     class_reading_goes_on, printed_classes_are_read, printed_values_are_read,
     read_classes_are_stated, value_reading_goes_on,
+};
+pub use spelling_laws::{
+    first_bad_tokens_are_told, read_values_are_spelled, spelled_values_are_read,
 };

@@ -3,8 +3,9 @@ use Rattle.std.proofs.Common.{◌≡◌, ℕ, ◌+◌, ◌^◌, ◌<◌, ◌≤�
 use Rattle.std.proofs.lemmas.List.{append-nil}
 use Rattle.byteorder.specs.Endian.{big_bytes}
 use Rattle.byteorder.specs.Numbers.{length-bytes_high_first}
-use Rattle.rio_num.specs.Layout.{Layout, done, number, bytes, here, reaches, met, note, choice, behind, known, any}
+use Rattle.rio_num.specs.Layout.{Layout, done, number, bytes, text, here, reaches, met, note, choice, behind, known, must, any}
 use Rattle.rio_num.specs.Meanings.{Spells}
+use Rattle.rio_num.specs.Text.{SpellsText}
 
 abbrev nothing : List ℕ
 nothing = []
@@ -45,6 +46,18 @@ module _ {W F A : Type 0} {end p : ℕ} {t : W} {y : A} {b : List ℕ} {t' : W} 
   number_then {n = n} {k = k} x lt c =
       let same : p + n ≡ p + length (big_bytes n x) = omega (arith, length-bytes_high_first n x) in
       record { so = (x, big_bytes n x, b, t, refl, (lt, refl, refl), subst (λ (q : ℕ). Spells (k x) end q t y b t') same c.so) }
+
+  pub bytes_then : {f : ℕ → ℕ → F} {n : ℕ} {k : List ℕ → Layout W F A} (x : List ℕ) → length x ≡ n → IsSo (k x) end (p + n) t y b t' → IsSo (behind (bytes f n) k) end p t y (x ++ b) t'
+  bytes_then {n = n} {k = k} x long c =
+      let same : p + n ≡ p + length x = omega (arith, long) in
+      record { so = (x, x, b, t, refl, (long, refl, refl), subst (λ (q : ℕ). Spells (k x) end q t y b t') same c.so) }
+
+  pub text_then : {f : ℕ → ℕ → F} {k : List ℕ → Layout W F A} (x own : List ℕ) → SpellsText x own → IsSo (k x) end (p + length own) t y b t' → IsSo (behind (text f) k) end p t y (own ++ b) t'
+  text_then x own spelled c = record { so = (x, own, b, t, refl, (spelled, refl), c.so) }
+
+  pub must_then : {f : F} {k : Unit {0} → Layout W F A} (c : Bool) → c ≡ true → IsSo (k tt) end p t y b t' → IsSo (behind (must c f) k) end p t y b t'
+  must_then {k = k} true e d = record { so = (tt, [], b, t, refl, (refl, refl, refl), stays (k tt) d) }
+  must_then false e d = absurd cc
 
   -- what takes no bytes, and what follows it
   pub still_then : {B : Type 0} {l : Layout W F B} {k : B → Layout W F A} (x : B) → IsSo l end p t x [] t → IsSo (k x) end p t y b t' → IsSo (behind l k) end p t y b t'

@@ -1,13 +1,14 @@
 -- Texts of which too few bytes are left: where they are cut, reading tells how many are wanted, and back.
-use Rattle.std.proofs.Common.{◌≡◌, ◌≢◌, inl, inr, ℕ, suc, ◌+◌, ◌^◌, ◌<◌, ◌≤◌, Bool, true, false, cond, ltb, eqb, List, [], ◌∷◌, ◌++◌, length, take, drop, Result, Ok, Err, refl, sym, ap, ◌∙◌, arith}
-use Rattle.std.proofs.lemmas.Bool.{lt-ltb, le-ltb, ltb-false, ltb-true, eqb-true, eqb-false, ne_eqb}
+use Rattle.std.proofs.Common.{◌≡◌, ◌≢◌, inl, inr, ℕ, suc, ◌+◌, ◌<◌, ◌≤◌, Bool, true, false, cond, ltb, eqb, List, [], ◌∷◌, ◌++◌, length, take, drop, Result, Ok, Err, refl, sym, ap, ◌∙◌, arith}
+use Rattle.std.proofs.lemmas.Bool.{lt-ltb, ltb-false, ltb-true, eqb-true, eqb-false, ne_eqb}
 use Rattle.std.proofs.lemmas.List.{length-drop, take-append-drop}
 use Rattle.byteorder.specs.Endian.{big_bytes, big_number}
-use Rattle.byteorder.specs.Numbers.{big_from-lt, big_number-reads_back}
+use Rattle.byteorder.specs.Numbers.{big_from-lt}
 use Rattle.rio_num.specs.At.{At}
 use Rattle.rio_num.specs.Reading.{skip, short, text_at, text_head}
 use Rattle.rio_num.specs.declared.cursor.Short.{Short}
-use Rattle.rio_num.proofs.ReadLaws.{IsBytes, back_4}
+use Rattle.rio_num.proofs.LayoutBytes.{reads_back}
+use Rattle.rio_num.proofs.ReadLaws.{IsBytes, long_head}
 use Rattle.rio_num.specs.Meanings.{IsCutText}
 
 -- ---- cut bytes are short
@@ -17,11 +18,6 @@ unfolding text_at
 text_cut p bytes wanted h head same lt =
     let few : ltb (length bytes) (h.0 + h.1) ≡ true = lt-ltb _ _ (omega (arith, same, lt)) in
     rw (head, few, same) refl
-
-long_head : (n : ℕ) (own : List ℕ) → n < 2 ^ 32 → text_head (255 ∷ (big_bytes 4 n ++ own)) ≡ (5, n)
-long_head n own lt =
-    let few : ltb (length (big_bytes 4 n ++ own)) 4 ≡ false = le-ltb _ _ (omega arith) in
-    rw few (ap (λ (k : ℕ). let h : ℕ × ℕ = (5, k) in h) (big_number-reads_back 4 n own lt))
 
 pub text_fault : (p : ℕ) (bytes : List ℕ) (n : ℕ) → IsCutText bytes n → text_at (record { place = p; rest = bytes }) ≡ Err (short p n)
 text_fault p [] n c = rw c (text_cut p [] 1 (1, 0) refl refl (omega arith))
@@ -71,7 +67,7 @@ text_by p b bs e true false fits is few d t h =
     let le : 4 ≤ length bs = ltb-false _ _ few in
     let c = cut_short (record { place = p; rest = b ∷ bs }) 5 n e d t h in
     let long : length (b ∷ bs) < 5 + n = c.0 in
-    let whole : bs ≡ big_bytes 4 n ++ drop 4 bs = sym (take-append-drop 4 bs) ∙ ap (λ (x : List ℕ). x ++ drop 4 bs) (sym (back_4 bs own le)) in
+    let whole : bs ≡ big_bytes 4 n ++ drop 4 bs = sym (take-append-drop 4 bs) ∙ ap (λ (x : List ℕ). x ++ drop 4 bs) (sym (reads_back 4 bs own le)) in
     record {
       wanted = 5 + n;
       cut = inr (inr (eqb-true _ _ is, n, drop 4 bs, big_from-lt 0 4 bs own, whole, omega (arith, length-drop 4 bs, long), refl));

@@ -1,16 +1,15 @@
 -- What reading takes from the front, and that it takes again what is spelled.
-use Rattle.std.proofs.Common.{◌≡◌, ◌≢◌, ◌⊎◌, inl, inr, ℕ, suc, ◌+◌, ◌*◌, ◌%◌, ◌^◌, ◌<◌, ◌≤◌, Bool, true, false, cond, ltb, eqb, List, [], ◌∷◌, ◌++◌, length, take, drop, get_or, Result, Ok, Err, refl, sym, ap, subst, ◌∙◌, append_assoc, arith}
+use Rattle.std.proofs.Common.{◌≡◌, ◌≢◌, ◌⊎◌, inl, inr, ℕ, suc, ◌+◌, ◌-◌, ◌^◌, ◌<◌, ◌≤◌, Bool, true, false, cond, ltb, eqb, List, [], ◌∷◌, ◌++◌, length, take, drop, get_or, Result, Ok, Err, refl, sym, ap, subst, ◌∙◌, append_assoc, arith}
 use Rattle.std.proofs.lemmas.Bool.{ltb-false, ltb-true, le-ltb, eqb-true, eqb-false, ne_eqb, cases_lt}
 use Rattle.std.proofs.lemmas.List.{length-append, length-take, length-drop, take-append-drop, take_at, drop_at, get_or-drop, get_or-take, get_or_past}
-use Rattle.std.proofs.lemmas.Nat.{be_bytes_2, be_bytes_4, be_bytes_8}
-use Rattle.std.proofs.Math.Nat.{mod-eq_of_lt}
 use Rattle.std.proofs.Math.Seq.{take-add}
 use Rattle.byteorder.specs.Endian.{big_bytes, big_number}
-use Rattle.byteorder.specs.Numbers.{big_from-lt, big_number-reads_back, length-bytes_high_first}
-use Rattle.rio_num.specs.At.{At}
-use Rattle.rio_num.specs.Reading.{◌>>=◌, skip, short, number_at, text_at, text_head}
-use Rattle.rio_num.specs.Text.{SpellsText, short_form, long_form}
+use Rattle.byteorder.specs.Numbers.{big_from-lt, big_number-reads_back}
+use Rattle.rio_num.specs.At.{At, standing_at}
+use Rattle.rio_num.specs.Reading.{◌>>=◌, skip, short, text_at, text_head}
+use Rattle.rio_num.specs.Text.{SpellsText, long_form, short_form, text_bytes}
 use Rattle.rio_num.specs.declared.cursor.Short.{Short}
+use Rattle.rio_num.proofs.LayoutBytes.{reads_back}
 
 -- ---- one reading after the other
 
@@ -51,84 +50,18 @@ IsBytes-take n bytes h i =
       | inr le ↦ rw (get_or_past (take n bytes) i 0 (omega (arith, length-take n bytes))) (omega arith)
     ]
 
+IsBytes-cond : (b : Bool) (bytes : List ℕ) → IsBytes bytes → IsBytes (cond b [] bytes)
+IsBytes-cond true bytes h i = omega arith
+IsBytes-cond false bytes h i = h i
+
+pub IsBytes-standing : (base place : ℕ) (bytes : List ℕ) → IsBytes bytes → IsBytes (standing_at base place bytes).rest
+IsBytes-standing base place bytes h = IsBytes-cond (ltb place base) (drop (place - base) bytes) (IsBytes-drop (place - base) bytes h)
+
 -- what a reader took from the front
 pub record Took (s : At) (bytes : List ℕ) (s' : At) : Type 0 where
   pub parts : s.rest ≡ bytes ++ s'.rest
   pub place : s'.place ≡ s.place + length bytes
   pub fits : IsBytes s'.rest
-
-pub Took-then : (s : At) (a : List ℕ) (s1 : At) (b : List ℕ) (s2 : At) → Took s a s1 → Took s1 b s2 → Took s (a ++ b) s2
-Took-then s a s1 b s2 p q = record {
-  parts = p.parts ∙ ap (λ (x : List ℕ). a ++ x) q.parts ∙ sym (append_assoc a b s2.rest);
-  place = omega (arith, p.place, q.place, length-append a b);
-  fits = q.fits;
-}
-
--- ---- numbers
-
--- n bytes spell the number that they are read as
-abbrev pub ReadsBack : ℕ → Type 0
-ReadsBack n = (xs : List ℕ) → IsBytes xs → n ≤ length xs → big_bytes n (big_number n xs) ≡ take n xs
-
-pub back_1 : ReadsBack 1
-back_1 [] fits le = absurd (omega arith)
-back_1 (a ∷ rest) fits le =
-    let small : a < 256 = fits 0 in
-    let same : (a * 1 + 0) % 256 ≡ a = omega (arith, mod-eq_of_lt small) in
-    ap (λ (b : ℕ). b ∷ []) same
-
-pub back_2 : ReadsBack 2
-back_2 [] fits le = absurd (omega arith)
-back_2 (a ∷ []) fits le = absurd (omega arith)
-back_2 (a ∷ b ∷ rest) fits le = be_bytes_2 (a ∷ b ∷ []) _ refl (IsBytes-take 2 (a ∷ b ∷ rest) fits) (omega arith)
-
-pub back_4 : ReadsBack 4
-back_4 [] fits le = absurd (omega arith)
-back_4 (a ∷ []) fits le = absurd (omega arith)
-back_4 (a ∷ b ∷ []) fits le = absurd (omega arith)
-back_4 (a ∷ b ∷ c ∷ []) fits le = absurd (omega arith)
-back_4 (a ∷ b ∷ c ∷ d ∷ rest) fits le = be_bytes_4 (a ∷ b ∷ c ∷ d ∷ []) _ refl (IsBytes-take 4 (a ∷ b ∷ c ∷ d ∷ rest) fits) (omega arith)
-
-pub back_8 : ReadsBack 8
-back_8 [] fits le = absurd (omega arith)
-back_8 (a ∷ []) fits le = absurd (omega arith)
-back_8 (a ∷ b ∷ []) fits le = absurd (omega arith)
-back_8 (a ∷ b ∷ c ∷ []) fits le = absurd (omega arith)
-back_8 (a ∷ b ∷ c ∷ d ∷ []) fits le = absurd (omega arith)
-back_8 (a ∷ b ∷ c ∷ d ∷ e ∷ []) fits le = absurd (omega arith)
-back_8 (a ∷ b ∷ c ∷ d ∷ e ∷ f ∷ []) fits le = absurd (omega arith)
-back_8 (a ∷ b ∷ c ∷ d ∷ e ∷ f ∷ g ∷ []) fits le = absurd (omega arith)
-back_8 (a ∷ b ∷ c ∷ d ∷ e ∷ f ∷ g ∷ h ∷ rest) fits le =
-    be_bytes_8 (a ∷ b ∷ c ∷ d ∷ e ∷ f ∷ g ∷ h ∷ []) _ refl (IsBytes-take 8 (a ∷ b ∷ c ∷ d ∷ e ∷ f ∷ g ∷ h ∷ rest) fits) (omega arith)
-
--- what is spelled is read, whatever follows
-pub number_again : (n x p : ℕ) (rest : List ℕ) → x < 256 ^ n → number_at n (record { place = p; rest = big_bytes n x ++ rest }) ≡ Ok (x, record { place = p + n; rest = rest })
-number_again n x p rest lt =
-    let long : ltb (length (big_bytes n x ++ rest)) n ≡ false = le-ltb _ _ (omega (arith, length-append (big_bytes n x) rest, length-bytes_high_first n x)) in
-    rw (long, big_number-reads_back n x rest lt, drop_at (big_bytes n x) rest n (length-bytes_high_first n x)) refl
-
--- what is read is spelled so
-pub record IsNumber (n x : ℕ) (s s' : At) : Type 0 where
-  pub took : Took s (big_bytes n x) s'
-  pub fits : x < 256 ^ n
-
-numbered : (s : At) (n x : ℕ) (s' : At) (b : Bool) (d : Short) (y : ℕ × At) → cond b (Err d) (Ok y) ≡ Ok (x, s') → (b ≡ false) × (y ≡ (x, s'))
-numbered s n x s' true d y e = absurd cc
-numbered s n x s' false d y e = (refl, ok_is {E = Short} y (x, s') e)
-
-pub number_found : (n : ℕ) → ReadsBack n → (s : At) (x : ℕ) (s' : At) → IsBytes s.rest → number_at n s ≡ Ok (x, s') → IsNumber n x s s'
-number_found n back s x s' fits e =
-    let g = numbered s n x s' (ltb (length s.rest) n) (short s.place n) (big_number n s.rest, skip n s) e in
-    let long : n ≤ length s.rest = ltb-false _ _ g.0 in
-    let made : IsNumber n (big_number n s.rest) s (skip n s) = record {
-      took = record {
-        parts = sym (take-append-drop n s.rest) ∙ ap (λ (b : List ℕ). b ++ drop n s.rest) (sym (back s.rest fits long));
-        place = ap (λ (k : ℕ). s.place + k) (sym (length-bytes_high_first n (big_number n s.rest)));
-        fits = IsBytes-drop n s.rest fits;
-      };
-      fits = big_from-lt 0 n s.rest fits;
-    } in
-    subst (λ (y : ℕ × At). IsNumber n y.0 s y.1) g.1 made
 
 -- ---- texts
 
@@ -137,10 +70,17 @@ headed : (s : At) (h : ℕ × ℕ) → text_head s.rest ≡ h → text_at s ≡ 
 unfolding text_at
 headed s h e = ap (λ (k : ℕ × ℕ). let r : Result (List ℕ × At) Short = cond (ltb (length s.rest) (k.0 + k.1)) (Err (short s.place (k.0 + k.1))) (Ok (take k.1 (drop k.0 s.rest), skip (k.0 + k.1) s)) in r) e
 
-long_head : (n : ℕ) (rest : List ℕ) → n < 2 ^ 32 → text_head (255 ∷ (big_bytes 4 n ++ rest)) ≡ (5, n)
+pub long_head : (n : ℕ) (rest : List ℕ) → n < 2 ^ 32 → text_head (255 ∷ (big_bytes 4 n ++ rest)) ≡ (5, n)
 long_head n rest lt =
     let few : ltb (length (big_bytes 4 n ++ rest)) 4 ≡ false = le-ltb _ _ (omega arith) in
     rw few (ap (λ (k : ℕ). let h : ℕ × ℕ = (5, k) in h) (big_number-reads_back 4 n rest lt))
+
+pub text_written : (text : List ℕ) → length text < 2 ^ 32 → SpellsText text (text_bytes text)
+text_written text lt = by (ltb (length text) 255) refl
+  where
+    by : (b : Bool) → ltb (length text) 255 ≡ b → SpellsText text (cond b (short_form text) (long_form text))
+    by true e = inl (ltb-true _ _ e, refl)
+    by false e = inr (lt, refl)
 
 pub text_again : (text bytes : List ℕ) (p : ℕ) (rest : List ℕ) → SpellsText text bytes → text_at (record { place = p; rest = bytes ++ rest }) ≡ Ok (text, record { place = p + length bytes; rest = rest })
 unfolding text_at
@@ -200,7 +140,7 @@ short_spelled b bs lt le =
 long_spelled : (n : ℕ) (bs : List ℕ) → IsBytes bs → n ≡ big_number 4 bs → 5 + n ≤ length (255 ∷ bs) → SpellsText (take n (drop 4 bs)) (take (5 + n) (255 ∷ bs))
 long_spelled n bs fits is le =
     let own : length (take n (drop 4 bs)) ≡ n = omega (arith, length-take n (drop 4 bs), length-drop 4 bs) in
-    let word : take 4 bs ≡ big_bytes 4 (length (take n (drop 4 bs))) = sym (back_4 bs fits (omega arith)) ∙ ap (big_bytes 4) (sym is ∙ sym own) in
+    let word : take 4 bs ≡ big_bytes 4 (length (take n (drop 4 bs))) = sym (reads_back 4 bs fits (omega arith)) ∙ ap (big_bytes 4) (sym is ∙ sym own) in
     let five : take (5 + n) (255 ∷ bs) ≡ 255 ∷ (take 4 bs ++ take n (drop 4 bs)) = take-add 5 n (255 ∷ bs) in
     let small : n < 256 ^ 4 = subst (λ (k : ℕ). k < 256 ^ 4) (sym is) (big_from-lt 0 4 bs fits) in
     inr (omega (arith, own, small), five ∙ ap (λ (w : List ℕ). 255 ∷ (w ++ take n (drop 4 bs))) word)

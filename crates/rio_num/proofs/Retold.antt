@@ -63,3 +63,20 @@ retold_spelled h (note u) end p t y b t' c = c
 retold_spelled h (choice true l m) end p t y b t' c = retold_spelled h l end p t y b t' c
 retold_spelled h (choice false l m) end p t y b t' c = retold_spelled h m end p t y b t' c
 retold_spelled h (behind l k) end p t y b t' c = (c.0, c.1, c.2, c.3, c.4, retold_spelled h l end p t c.0 c.1 c.3 c.5, retold_spelled h (k c.0) end (p + length c.1) c.3 y c.2 t' c.6)
+
+-- what spells a description with other faults spells it
+pub told_before : {W F G A : Type 0} (h : G → F) (l : Layout W G A) (end p : ℕ) (t : W) (y : A) (b : List ℕ) (t' : W) → Spells (retold h l) end p t y b t' → Spells l end p t y b t'
+unfolding retold
+told_before h (done a) end p t y b t' c = c
+told_before h (broken f) end p t y b t' c = c
+told_before h (number f n) end p t y b t' c = c
+told_before h (bytes f n) end p t y b t' c = c
+told_before h (text f) end p t y b t' c = c
+told_before h (name f) end p t y b t' c = c
+told_before h here end p t y b t' c = c
+told_before h (reaches e f) end p t y b t' c = c
+told_before h met end p t y b t' c = c
+told_before h (note u) end p t y b t' c = c
+told_before h (choice true l m) end p t y b t' c = told_before h l end p t y b t' c
+told_before h (choice false l m) end p t y b t' c = told_before h m end p t y b t' c
+told_before h (behind l k) end p t y b t' c = (c.0, c.1, c.2, c.3, c.4, told_before h l end p t c.0 c.1 c.3 c.5, told_before h (k c.0) end (p + length c.1) c.3 y c.2 t' c.6)

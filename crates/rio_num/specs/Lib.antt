@@ -9,3 +9,4 @@ pub mod Books
 pub mod Laws
 pub mod Layout
 pub mod Meanings
+pub mod Plain

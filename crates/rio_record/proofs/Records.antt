@@ -5,11 +5,12 @@ use Rattle.std.proofs.lemmas.List.{length-replicate}
 use Rattle.std.proofs.Math.Seq.{drop-append_seam}
 use Rattle.rio_num.specs.Room.{padding}
 use Rattle.rio_num.specs.Text.{long_form, short_form, text_bytes}
-use Rattle.rio_key.specs.Key.{key_head_at, value_of}
-use Rattle.rio_key.specs.Spelling.{IsSpelledIn, SpellsKey, number_bytes}
-use Rattle.rio_key.specs.Written.{FitsKey, HoldsItself, written_key}
+use Rattle.rio_num.specs.Plain.{IsSpelledIn, value_of}
+use Rattle.rio_key.specs.Key.{SpellsKey, key_head_at}
+use Rattle.rio_key.specs.Written.{FitsKey, HoldsItself, number_bytes, written_key}
 use Rattle.rio_key.specs.declared.head.KeyHead.{KeyHead}
-use Rattle.rio_key.proofs.KeyAgain.{key_again, standing}
+use Rattle.rio_num.proofs.Plain.{standing}
+use Rattle.rio_key.proofs.KeyAgain.{key_again}
 use Rattle.rio_key.proofs.KeyWritten.{key_spelled}
 use Rattle.rio_record.specs.Laws.{AreNewRecords, IsNewRecord}
 use Rattle.rio_record.specs.Record.{FitsWords, key_size, new_key, padded_size, record_bytes, unpadded}

@@ -1,7 +1,7 @@
 -- What holds of every new record.
 use Rattle.std.specs.Prelude.{◌≡◌, ℕ, ◌+◌, ◌%◌, ◌<◌, List, ◌++◌, length, drop, replicate, Ok}
-use Rattle.rio_key.specs.Key.{key_at}
-use Rattle.rio_key.specs.Spelling.{IsSpelledIn, SpellsKey}
+use Rattle.rio_num.specs.Plain.{IsSpelledIn}
+use Rattle.rio_key.specs.Key.{SpellsKey, key_at}
 use Rattle.rio_chain.specs.Segments.{IsRecord}
 use Rattle.rio_record.specs.Record.{FitsWords, key_size, new_key, padded_size, record_bytes}
 use Rattle.rio_record.specs.declared.words.KeyWords.{KeyWords}

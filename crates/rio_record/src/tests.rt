@@ -195,17 +195,17 @@ fn chain_of(alloc: Global, host: &mut MemHost, wanted: &[Segment]) -> Result<Cha
 }
 
 // Puts a record of 60 bytes.
-fn put_whole(chain: &mut Chain, host: &mut MemHost, place: u32, record: &mut Bytes) -> bool
+fn put_whole(chain: &mut Chain, host: &mut MemHost, place: u32, made: &mut Bytes) -> bool
     requires fresh { chain.old.spent ≡ false }
     requires room { 1 ≤ chain.old.spare }
     requires holds { HoldsChain (view_of host.old) chain.old.segments }
     requires quiet { IsQuiet (view_of host.old) }
     requires place { IsPlaceFor chain.old.segments 60 place }
     requires low { file_end (with_segment place 60 chain.old.segments) ≤ 1999999996 }
-    requires whole { IsRecord place record.old.bytes }
-    requires spare { 4 ≤ record.old.spare }
+    requires whole { IsRecord place made.old.bytes }
+    requires spare { 4 ≤ made.old.spare }
 {
-    record.len() == 60 && chain.put_record(host, u64::from(place), record).is_ok()
+    made.len() == 60 && chain.put_record(host, u64::from(place), made).is_ok()
 }
 
 // Puts the object at this place.

@@ -6,9 +6,11 @@ use Rattle.std.specs.Int.{w32, cast_signed, cast_unsigned}
 use Rattle.std.proofs.lemmas.Int.{of_z-to_z}
 use Rattle.rio_host.specs.Image.{Has}
 use Rattle.rio_host.proofs.Images.{has_length}
-use Rattle.rio_key.proofs.KeyAgain.{key_again, standing}
+use Rattle.rio_num.proofs.Plain.{standing}
+use Rattle.rio_key.proofs.KeyAgain.{key_again}
 use Rattle.rio_key.proofs.Signed.{signed_is}
-use Rattle.rio_key.specs.Key.{key_at, value_of}
+use Rattle.rio_num.specs.Plain.{value_of}
+use Rattle.rio_key.specs.Key.{key_at}
 use Rattle.rio_key.specs.declared.head.KeyHead.{KeyHead}
 use Rattle.rio_chain.specs.declared.segment.Segment.{Segment}
 use Rattle.rio_chain.specs.declared.segment.Segment.TheVariants.{Record, Gap}

@@ -139,9 +139,11 @@ fn is_image_refused(alloc: Global, image: Bytes, wanted: RecoverFault) -> bool {
     is_refused(alloc, &mut host, wanted)
 }
 
+static CLOSED: [&[u8]; 2] = [CLOSING, END];
+
 // Whether a rule is broken at this place, where the closed file has another byte in its header.
 fn is_broken(alloc: Global, edit: (usize, u8), place: u64, kind: FileFault) -> bool {
-    match edited_file(alloc, &[CLOSING, END], &[edit]) {
+    match edited_file(alloc, &CLOSED, &[edit]) {
         Ok(image) => is_image_refused(alloc, image, bad_file(place, kind)),
         Err(_) => false,
     }
@@ -452,7 +454,7 @@ fn put_list(data: &[u8], cycle: u16, into: &mut Bytes) -> Result<(), NoMemory> {
 }
 
 fn put_listed(data: &[u8], cycle: u16, into: &mut Bytes) -> Result<(), NoMemory> {
-    into.put(FRONT)?;
+    put_all(&[], into)?;
     put_list(data, cycle, into)?;
     into.put(END)
 }
@@ -544,9 +546,11 @@ fn is_call_told(alloc: Global, number: u64) -> bool {
     }
 }
 
+static STORED: [&[u8]; 2] = [FIRST, END];
+
 // The same of those that recover it, which come behind.
 fn is_fault_told(alloc: Global, number: u64) -> bool {
-    match failing_file(alloc, &[FIRST, END], number) {
+    match failing_file(alloc, &STORED, number) {
         Ok(mut host) => is_refused(alloc, &mut host, RecoverFault::HostFault),
         Err(_) => false,
     }

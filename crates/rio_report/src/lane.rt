@@ -24,7 +24,7 @@ pub(crate) enum RowFault {
 
 /// What is held of a branch: the number of the basket that was looked at last, and what it is; and why an entry wasn't
 /// read, if one wasn't.
-#[derive(Debug, Drop)]
+#[derive(Drop)]
 pub(crate) struct Lane {
     pub(crate) number: usize,
     pub(crate) basket: Option<FoundBasket>,

@@ -186,6 +186,10 @@ fn empty_host(alloc: Global) -> MemHost {
     MemHost::new(alloc, Bytes::new(alloc), Numbers::new(alloc))
 }
 
+fn is_empty(image: &[u8]) -> bool {
+    image == EMPTY
+}
+
 fn opens_and_closes(alloc: Global, host: &mut MemHost) -> bool {
     match open(alloc, host) {
         Ok(session) => {
@@ -198,7 +202,7 @@ fn opens_and_closes(alloc: Global, host: &mut MemHost) -> bool {
 
 fn closes_empty(alloc: Global) -> bool {
     let mut host = empty_host(alloc);
-    opens_and_closes(alloc, &mut host) && host.image() == EMPTY && host.said().is_empty()
+    opens_and_closes(alloc, &mut host) && is_empty(host.image()) && host.said().is_empty()
 }
 
 #[test]
@@ -247,7 +251,7 @@ fn refuses(alloc: Global) -> bool {
     let mut host = empty_host(alloc);
     run_refused(alloc, &mut host).is_ok()
         && host.said().as_slice() == REFUSED
-        && host.image() == EMPTY
+        && is_empty(host.image())
 }
 
 #[test]

@@ -4,7 +4,7 @@ use Rattle.std.specs.Prelude.{codes, replicate}
 use Rattle.std.specs.FinMap.{get-empty}
 use Rattle.byteorder.specs.Endian.{big_bytes}
 use Rattle.rio_num.specs.Reading.{text_at}
-use Rattle.rio_key.specs.Key.{fields_at, key_head_at}
+use Rattle.rio_key.specs.Key.{key_fields, key_layout}
 use Rattle.rio_head.specs.declared.reason.Reason.TheVariants.{OtherDirectory, BadInfo, BadName, BadKey, BadObject, BadTree}
 use Rattle.rio_num.specs.Layout.{each}
 use Rattle.rio_buffer.specs.Frames.{header}
@@ -62,7 +62,7 @@ bare_record place cycle class name =
 -- ---- what they stand for
 
 empty_stands : AreRecordsOf (keyed_records empty_links) empty_state
-unfolding empty_links first_record list_record free_record key_bytes short_text key_head_at fields_at text_at
+unfolding empty_links first_record list_record free_record key_bytes short_text key_layout key_fields text_at
 empty_stands = record {
   here = refl;
   stand = record {
@@ -80,49 +80,49 @@ empty_stands = record {
 
 -- no reason, and room: a close writes 44 bytes for the key list and 72 for the free record
 no_reasons : state_reasons true (keyed_records empty_links) ≡ []
-unfolding empty_links first_record list_record free_record key_bytes short_text key_head_at fields_at text_at state_reasons
+unfolding empty_links first_record list_record free_record key_bytes short_text key_layout key_fields text_at state_reasons
 no_reasons = refl
 
 small_need : close_need (kept_in empty_links) ≡ 116
-unfolding empty_links first_record list_record free_record key_bytes short_text key_head_at fields_at text_at close_need kept_in
+unfolding empty_links first_record list_record free_record key_bytes short_text key_layout key_fields text_at close_need kept_in
 small_need = refl
 
 has_room : room_reasons empty_links ≡ []
-unfolding empty_links first_record list_record free_record key_bytes short_text key_head_at fields_at text_at close_need kept_in room_reasons
+unfolding empty_links first_record list_record free_record key_bytes short_text key_layout key_fields text_at close_need kept_in room_reasons
 has_room = refl
 
 -- END is 304; the lengths are 44 and 70, each with three bytes more
 some_held : held_of empty_links ≡ 424
-unfolding empty_links first_record list_record free_record key_bytes short_text key_head_at fields_at text_at kept_in held_of
+unfolding empty_links first_record list_record free_record key_bytes short_text key_layout key_fields text_at kept_in held_of
 some_held = refl
 
 -- ---- reasons
 
 directory_of_others : slice_get (state_reasons true (keyed_records (first_record ∷ string_record (codes "s") [] 208 1 ∷ []))) 0 ≡ Some (reason_at 208 OtherDirectory)
-unfolding first_record string_record key_bytes short_text key_head_at fields_at text_at state_reasons
+unfolding first_record string_record key_bytes short_text key_layout key_fields text_at state_reasons
 directory_of_others = refl
 
 blank_in_a_name : slice_get (state_reasons true (keyed_records (first_record ∷ string_record (codes "s s") [] 100 3 ∷ []))) 0 ≡ Some (reason_at 208 BadName)
-unfolding first_record string_record key_bytes short_text key_head_at fields_at text_at state_reasons
+unfolding first_record string_record key_bytes short_text key_layout key_fields text_at state_reasons
 blank_in_a_name = refl
 
 some_title : slice_get (state_reasons true (keyed_records (first_record ∷ string_record (codes "s") (codes "t") 100 0 ∷ []))) 0 ≡ Some (reason_at 208 BadKey)
-unfolding first_record string_record key_bytes short_text key_head_at fields_at text_at state_reasons
+unfolding first_record string_record key_bytes short_text key_layout key_fields text_at state_reasons
 some_title = refl
 
 -- four zero bytes behind the object
 many_zeros : state_reasons true (keyed_records (first_record ∷ string_record (codes "abcd") [] 100 4 ∷ [])) ≡ reason_at 208 BadObject ∷ []
-unfolding first_record string_record key_bytes short_text key_head_at fields_at text_at state_reasons object_in object_of formed headed body unread header whole_object closed each parts base_part member_parts member_part kind_value text_value bare_layout
+unfolding first_record string_record key_bytes short_text key_layout key_fields text_at state_reasons object_in object_of formed headed body unread header whole_object closed each parts base_part member_parts member_part kind_value text_value bare_layout
 many_zeros = refl
 
 -- trees aren't read yet; the lower cycle of a name isn't looked at
 two_trees : state_reasons true (keyed_records (first_record ∷ bare_record 208 1 (codes "TTree") (codes "ab") ∷ bare_record 244 2 (codes "TTree") (codes "ab") ∷ [])) ≡ reason_at 244 BadTree ∷ []
-unfolding first_record bare_record key_bytes short_text key_head_at fields_at text_at state_reasons tree_of
+unfolding first_record bare_record key_bytes short_text key_layout key_fields text_at state_reasons tree_of
 two_trees = refl
 
 -- of two class lists with the greatest cycle the later one counts, whatever its class
 last_list : state_reasons false (keyed_records (first_record ∷ bare_record 208 1 (codes "TList") (codes "StreamerInfo") ∷ bare_record 256 2 (codes "TList") (codes "StreamerInfo") ∷ bare_record 304 2 (codes "TMap") (codes "StreamerInfo") ∷ bare_record 348 1 (codes "TList") (codes "StreamerInfo") ∷ [])) ≡ reason_at 304 BadInfo ∷ []
-unfolding first_record bare_record key_bytes short_text key_head_at fields_at text_at state_reasons
+unfolding first_record bare_record key_bytes short_text key_layout key_fields text_at state_reasons
 last_list = refl
 
 -- ---- placing

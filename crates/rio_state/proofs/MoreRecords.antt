@@ -2,10 +2,11 @@
 use Rattle.std.proofs.Common.{◌≡◌, ℕ, ◌+◌, ◌-◌, ◌∙◌, List, [], ◌∷◌, length, map, Bool, true, false, ◌==◌, Option, Some, None, refl, sym, ap, subst, arith}
 use Rattle.std.specs.Prelude.{if◌then◌else◌}
 use Rattle.std.specs.List.{cons_option}
-use Rattle.rio_key.specs.Key.{key_at, value_of}
-use Rattle.rio_key.specs.Spelling.{IsSpelledIn, SpellsKey}
+use Rattle.rio_num.specs.Plain.{IsSpelledIn, value_of}
+use Rattle.rio_key.specs.Key.{SpellsKey, key_at}
 use Rattle.rio_key.specs.declared.head.KeyHead.{KeyHead}
-use Rattle.rio_key.proofs.KeyAgain.{key_again, standing}
+use Rattle.rio_num.proofs.Plain.{standing}
+use Rattle.rio_key.proofs.KeyAgain.{key_again}
 use Rattle.rio_chain.specs.Changes.{with_record, with_rest}
 use Rattle.rio_chain.specs.Placing.{record_count}
 use Rattle.rio_chain.specs.Segments.{GapAt, IsRecord, Link, RecordAt, segment_of}

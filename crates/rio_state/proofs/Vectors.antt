@@ -3,17 +3,17 @@ use Rattle.std.proofs.Common.{◌≡◌, ◌≤◌, ◌<◌, ℕ, ◌+◌, pos, 
 use Rattle.std.specs.Prelude.{codes, replicate}
 use Rattle.std.specs.FinMap.{get-empty}
 use Rattle.byteorder.specs.Endian.{big_bytes}
+use Rattle.rio_num.specs.Layout.{each, retold}
 use Rattle.rio_num.specs.Reading.{text_at}
 use Rattle.rio_host.proofs.Images.{has_back, has_front}
 use Rattle.rio_host.specs.Image.{Has}
 use Rattle.rio_key.proofs.KeyWritten.{key_spelled}
-use Rattle.rio_key.specs.Key.{fields_at, key_head_at}
-use Rattle.rio_key.specs.KeyList.{heads_at, key_list_at}
-use Rattle.rio_key.specs.Spelling.{AreWithinFields, SpellsKey}
-use Rattle.rio_key.specs.Written.{FitsKey, HoldsItself, written_key}
+use Rattle.rio_key.specs.Key.{SpellsKey, key_fields, key_layout}
+use Rattle.rio_key.specs.KeyList.{key_list_layout, listed_key}
+use Rattle.rio_key.specs.Written.{AreWithinFields, FitsKey, HoldsItself, written_key}
 use Rattle.rio_key.specs.declared.head.KeyHead.{KeyHead}
-use Rattle.rio_head.specs.Dir.{dir_at}
-use Rattle.rio_head.specs.Head.{behind_at, head_at, header_at}
+use Rattle.rio_head.specs.Dir.{dir_layout}
+use Rattle.rio_head.specs.Head.{behind_layout, head_at, header_layout}
 use Rattle.rio_head.specs.declared.dir.DirRecord.{DirRecord}
 use Rattle.rio_head.specs.declared.head.FileHead.{FileHead}
 use Rattle.rio_dir.specs.Closed.{closed_file, closed_head, listed_at}
@@ -242,7 +242,7 @@ head = record {
 }
 
 records : AreRecordsOf (keyed_records links) empty_state
-unfolding links key_head_at fields_at text_at
+unfolding links key_layout key_fields text_at
 records = record {
   here = refl;
   stand = record {
@@ -259,7 +259,7 @@ records = record {
 }
 
 head_read : head_at image ≡ Ok head
-unfolding head header_at behind_at
+unfolding head header_layout behind_layout
 head_read = refl
 
 read_as_made : ReadsAsMade image empty_state
@@ -276,14 +276,14 @@ closed : Closed
 closed = record { head = head; dir = dir; keys = [] }
 
 closed_read : closed_file image ≡ Ok closed
-unfolding closed head dir closed_file closed_head listed_at header_at behind_at dir_at key_head_at fields_at text_at key_list_at heads_at
+unfolding closed head dir closed_file closed_head listed_at header_layout behind_layout dir_layout key_layout key_fields text_at key_list_layout listed_key each retold
 closed_read = refl
 
 free_record : KeyedRecord
 free_record = record { head = free_head; bytes = free_bytes }
 
 pub image_reads_closed : ReadsClosed image empty_state
-unfolding links head dir closed free_record key_head_at fields_at text_at
+unfolding links head dir closed free_record key_layout key_fields text_at
 image_reads_closed = record {
   closed = closed;
   closed_is = closed_read;

@@ -2,6 +2,7 @@ pub mod DecimalLaws
 pub mod FurtherLaws
 pub mod ListLaws
 pub mod NumberLaws
+pub mod PassLaws
 pub mod SeparatedLaws
 pub mod StandLaws
 pub mod StringLaws

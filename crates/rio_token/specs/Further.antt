@@ -1,8 +1,10 @@
 -- Reading goes on in the same text: what is left afterwards is what was left before, without the bytes that were read.
-use Rattle.std.specs.Prelude.{◌≡◌, ℕ, ◌+◌, List, ◌++◌, length, Ok, Err, Bool}
+use Rattle.std.specs.Prelude.{◌≡◌, ℕ, ◌+◌, ◌<◌, List, ◌++◌, length, Ok, Err, Bool, true, false}
 use Rattle.rio_num.specs.At.{At, GoesOn}
+use Rattle.rio_token.specs.declared.token.Token.{Token}
+use Rattle.rio_token.specs.declared.token.Token.TheVariants.{Word, Text, Mark}
 use Rattle.rio_token.specs.Reading.{Read, end_at, mark_at, num_at, num_between_at, string_at, word_at, word_that_at}
-use Rattle.rio_token.specs.Tokens.{standing_in}
+use Rattle.rio_token.specs.Tokens.{behind, next_at, standing_in}
 
 -- further on in the text, or at the same place
 pub record IsFurther (old new : At) : Type 0 where
@@ -31,3 +33,14 @@ FurtherIsInText = (text : List ℕ) (place : ℕ) (s : At) → IsFurther (standi
 
 abbrev pub FurtherGoesOn : Type 0
 FurtherGoesOn = (old new : At) → IsFurther old new → GoesOn old new
+
+-- a token that can be passed: a word, a string or a byte of punctuation
+abbrev pub can_pass : Token → Bool
+can_pass Word = true
+can_pass Text = true
+can_pass (Mark b) = true
+can_pass other = false
+
+-- it takes some of the text
+abbrev pub PassedTakesSome : Type 0
+PassedTakesSome = (s : At) → can_pass (next_at s).token ≡ true → length (behind s).rest < length s.rest

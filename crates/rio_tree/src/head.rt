@@ -4,7 +4,7 @@ use rio_leaf::BranchDef;
 use rio_num::Items;
 
 /// What a tree's header says of a branch.
-#[derive(Debug, Drop)]
+#[derive(Drop)]
 pub struct Branch {
     /// Its name, and its leaves or its class.
     pub def: BranchDef,
@@ -29,7 +29,7 @@ pub type BranchNumbers = Items<usize>;
 pub type Branches = Items<Branch>;
 
 /// The header of a tree: how many entries it has, and its branches.
-#[derive(Debug, Drop)]
+#[derive(Drop)]
 pub struct TreeHead {
     pub entries: u64,
     pub branches: Branches,

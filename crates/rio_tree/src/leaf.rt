@@ -1,5 +1,6 @@
 //! What a leaf in a header says.
-ghost use Rattle.std.specs.Prelude.{◌≡◌, if◌then◌else◌};
+ghost use Rattle.std.specs.Prelude.{◌≡◌, Some, if◌then◌else◌};
+ghost use Rattle.std.specs.Str.{bytes_eq};
 ghost use Rattle.rio_tree.specs.HeaderLeaves.{counter_in, counter_member, is_plain_number, leaf_at_pointer, leaf_said, least_one, letter_of_class, uncounted_dim};
 ghost use Rattle.rio_tree.specs.Tables.{labels_of};
 
@@ -39,29 +40,25 @@ fn letter_if(unsigned: bool, letter: u8, without_sign: u8) -> u8
     if unsigned { without_sign } else { letter }
 }
 
+// The letter where the class has this name, or else the other one.
+fn letter_or(class: &[u8], name: &[u8], letter: u8, other: Option<u8>) -> Option<u8>
+    ensures { result ≡ (if bytes_eq class.now name.now then Some letter else other) }
+{
+    if class == name { Some(letter) } else { other }
+}
+
 // The letter of a class of leaves.
 fn letter_of_class(class: &[u8], unsigned: bool) -> Option<u8>
     ensures { result ≡ letter_of_class class.now unsigned }
 {
-    if class == b"TLeafB".as_slice() {
-        Some(letter_if(unsigned, b'B', b'b'))
-    } else if class == b"TLeafS".as_slice() {
-        Some(letter_if(unsigned, b'S', b's'))
-    } else if class == b"TLeafI".as_slice() {
-        Some(letter_if(unsigned, b'I', b'i'))
-    } else if class == b"TLeafL".as_slice() {
-        Some(letter_if(unsigned, b'L', b'l'))
-    } else if class == b"TLeafF".as_slice() {
-        Some(b'F')
-    } else if class == b"TLeafD".as_slice() {
-        Some(b'D')
-    } else if class == b"TLeafO".as_slice() {
-        Some(b'O')
-    } else if class == b"TLeafC".as_slice() {
-        Some(b'C')
-    } else {
-        None
-    }
+    let other = letter_or(class, b"TLeafC", b'C', None);
+    let other = letter_or(class, b"TLeafO", b'O', other);
+    let other = letter_or(class, b"TLeafD", b'D', other);
+    let other = letter_or(class, b"TLeafF", b'F', other);
+    let other = letter_or(class, b"TLeafL", letter_if(unsigned, b'L', b'l'), other);
+    let other = letter_or(class, b"TLeafI", letter_if(unsigned, b'I', b'i'), other);
+    let other = letter_or(class, b"TLeafS", letter_if(unsigned, b'S', b's'), other);
+    letter_or(class, b"TLeafB", letter_if(unsigned, b'B', b'b'), other)
 }
 
 // Null, or the label of an object; None for another value.

@@ -1,4 +1,4 @@
--- What a measure counts is what is written.
+-- What a `Total` counts is what is written.
 use Rattle.std.proofs.Common.{◌≡◌, ◌^◌, ◌+◌, ℕ, List, [], ◌++◌, length, take, drop, min, false, Result, Ok, Err, refl, sym, ap, subst, ◌∙◌, arith}
 use Rattle.std.proofs.lemmas.List.{length-append, length-drop, length-take}
 use Rattle.byteorder.specs.Endian.{big_bytes}

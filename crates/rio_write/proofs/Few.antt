@@ -1,4 +1,4 @@
--- Lists of few items, by these.
+-- A list of so many items is the list of these.
 use Rattle.std.proofs.Common.{◌≡◌, ◌<◌, ◌≤◌, List, [], ◌∷◌, length, slice_index_or, refl, sym, ap, arith}
 
 module _ {X : Type 0} where

@@ -60,10 +60,6 @@ module _ (f g : Writer) (s : WriterState) where
       let here : HasRoom g (with_written f s) = rw behind (omega (arith, room, length-append a.0 (g (next_place s + length a.0) a.1).0)) in
       subst (HasRoom g) (sym e) here
 
-  pub both_writes : (s1 s2 : WriterState) (r : Result (Unit {0}) NoMemory) → s1 ≡ with_written f s → Writes g r s1 s2 → Writes (both f g) r s s2
-  both_writes s1 s2 (Ok x) e h = h ∙ ap (with_written g) e ∙ sym both_after
-  both_writes s1 s2 (Err x) e h = tt
-
 -- ---- a list
 
 module _ {X : Type 0} (h : X → Writing) (slot : Slot) (xs : List X) (i : ℕ) (s : WriterState) where
@@ -187,10 +183,6 @@ module _ (version : ℤ) (body : Writer) (s : WriterState) where
   pub header_room : HasRoom (headed_bytes version body) s → next_place s + 4 + length header + length (inside s header s.words body).0 < 2 ^ 30 - 2
   unfolding HasRoom
   header_room room = omega (arith, room)
-
-  pub headed_is : (s1 s2 s3 : WriterState) → s1 ≡ opened_at s header s.words → s2 ≡ with_written body s1 → s3 ≡ ended (length s.bytes) s2 → s3 ≡ with_written (headed_bytes version body) s
-  unfolding with_written
-  headed_is s1 s2 s3 opens w e = e ∙ closed_is s header s.words body s1 s2 opens w
 
 -- ---- a pointer to a new object
 

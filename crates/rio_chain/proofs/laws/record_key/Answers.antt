@@ -1,6 +1,8 @@
 use Rattle.std.proofs.Common.{◌∙◌, ap, List, ℕ}
-use Rattle.rio_key.specs.Key.{key_at, value_of}
-use Rattle.rio_key.proofs.KeyAgain.{key_again, standing}
+use Rattle.rio_num.specs.Plain.{value_of}
+use Rattle.rio_key.specs.Key.{key_at}
+use Rattle.rio_num.proofs.Plain.{standing}
+use Rattle.rio_key.proofs.KeyAgain.{key_again}
 use Rattle.rio_chain.proofs.laws.record_key.Goals as goal
 
 pub returns : goal.returns

@@ -4,7 +4,7 @@ use Rattle.byteorder.specs.Endian.{big_bytes}
 use Rattle.rio_num.specs.Room.{Appends}
 use Rattle.rio_key.specs.Written.{written_key}
 use Rattle.rio_dir.specs.Table.{key_list_bytes}
-use Rattle.rio_dir.proofs.Puts.{puts_then, puts_reserved}
+use Rattle.rio_num.proofs.Puts.{puts_then, puts_reserved}
 use Rattle.rio_dir.proofs.TableWritten.{appends_err, appends_ok, length-flat}
 use Rattle.rio_dir.proofs.write.write_key_list.Goals as goal
 

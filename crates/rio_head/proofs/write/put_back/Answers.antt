@@ -1,7 +1,7 @@
 use Rattle.std.proofs.Common.{◌≡◌, ◌++◌, length, rules, arith}
 use Rattle.byteorder.specs.Endian.{big_bytes}
 use Rattle.rio_head.specs.Form.{place_len, is_large_head}
-use Rattle.rio_head.proofs.Puts.{puts_then}
+use Rattle.rio_num.proofs.Puts.{puts_then}
 use Rattle.rio_head.proofs.Lengths.{length-back}
 use Rattle.rio_head.proofs.write.put_back.Goals as goal
 

@@ -1,7 +1,7 @@
 use Rattle.std.proofs.Common.{◌≡◌, ◌++◌, length, replicate, if◌then◌else◌, rules}
 use Rattle.byteorder.specs.Endian.{big_bytes}
 use Rattle.rio_head.specs.Form.{place_len, is_large_dir}
-use Rattle.rio_head.proofs.Puts.{puts_then, puts_reserved}
+use Rattle.rio_num.proofs.Puts.{puts_then, puts_reserved}
 use Rattle.rio_head.proofs.Lengths.{length-dir, dir_parts, dir_bytes_all}
 use Rattle.rio_head.proofs.write.write_dir.Goals as goal
 

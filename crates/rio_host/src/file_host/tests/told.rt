@@ -1,4 +1,4 @@
-//! A system that is told before what it will be asked for.
+//! A system that is told beforehand what it will be asked for.
 use std::alloc::Allocator;
 use std::cell::Cell;
 use std::fmt::Display;

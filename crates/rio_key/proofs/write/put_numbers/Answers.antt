@@ -4,8 +4,8 @@ use Rattle.byteorder.specs.Endian.{big_bytes}
 use Rattle.rio_num.specs.Room.{with_more}
 use Rattle.rio_num.specs.Text.{text_bytes}
 use Rattle.rio_key.specs.Key.{key_place_len}
-use Rattle.rio_key.specs.Spelling.{number_bytes}
-use Rattle.rio_key.proofs.Puts.{puts_then}
+use Rattle.rio_key.specs.Written.{number_bytes}
+use Rattle.rio_num.proofs.Puts.{puts_then}
 use Rattle.rio_key.proofs.write.put_numbers.Goals as goal
 
 pub returns : goal.returns

@@ -8,8 +8,8 @@ use Rattle.byteorder.specs.Numbers.{big_from-append, big_from-take}
 use Rattle.rio_num.specs.At.{At}
 use Rattle.rio_num.specs.Reading.{◌>>=◌, number_at, text_at, text_head, skip, short}
 use Rattle.rio_num.specs.declared.cursor.Short.{Short}
+use Rattle.rio_num.proofs.Plain.{standing}
 use Rattle.rio_num.proofs.ReadLaws.{ok_is}
-use Rattle.rio_key.proofs.KeyAgain.{standing}
 
 -- what was taken from the front is taken again, whatever follows
 pub record TakesFront {X E : Type 0} (read : At → Result (X × At) E) (s : At) (x : X) (s' : At) : Type 0 where
@@ -133,10 +133,3 @@ then_front {A = A} {E = E} read next s x t y u a b = record {
       let end : t.place + length b.front ≡ s.place + length (a.front ++ b.front) = omega (arith, a.place, length-append a.front b.front) in
       ap (λ (z : Result (A × At) E). z >>= next) first ∙ second ∙ ap (λ (p : ℕ). let r : Result _ E = Ok (y, standing p more) in r) end;
 }
-
--- nothing more is read
-pub end_front : {A E : Type 0} (x : A) (s : At) (y : A) (u : At) → ◌≡◌ {A = A × At} (x, s) (y, u) → TakesFront {E = E} (λ w. Ok (x, w)) s y u
-end_front {A = A} {E = E} x s y u e = subst (λ (z : A × At). TakesFront {E = E} (λ w. Ok (x, w)) s z.0 z.1) e made
-  where
-    made : TakesFront {E = E} (λ w. Ok (x, w)) s x s
-    made = record { front = []; parts = refl; place = omega arith; again = λ more. ap (λ (p : ℕ). let r : Result (A × At) E = Ok (x, standing p more) in r) (omega arith) }

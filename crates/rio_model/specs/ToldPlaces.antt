@@ -1,0 +1,51 @@
+-- The place that is told of a text that isn't read is that of its first token that can't stand.
+use Rattle.std.specs.Prelude.{◌≡◌, ℕ, suc, List, [], ◌∷◌, ◌++◌, Err, Bool, true, false, if◌then◌else◌}
+use Rattle.rio_num.specs.At.{At, end_place}
+use Rattle.rio_token.specs.declared.fault.TextFault.{TextFault}
+use Rattle.rio_token.specs.declared.fault.TextFault.TheVariants.{BadText}
+use Rattle.rio_token.specs.declared.token.Token.TheVariants.{Cut}
+use Rattle.rio_token.specs.Reading.{Read, next_word}
+use Rattle.rio_token.specs.Tokens.{next_at, token_place}
+use Rattle.rio_model.specs.Lexemes.{Lexeme, Stand, chars}
+use Rattle.rio_model.specs.ValueGrammar.{enclosed_at, value_in_text, values_at}
+use Rattle.rio_model.specs.ValueSpelling.{SpellsRow, SpellsValue}
+
+-- the same token comes next: one of the same kind, and the same word
+pub record HaveSameNext (s t : At) : Type 0 where
+  pub token : (next_at s).token ≡ (next_at t).token
+  pub word : next_word s ≡ next_word t
+
+-- The place that is told of a token. Of a string that isn't ended it is the text's end, where a string may stand.
+abbrev pub told_place : Bool → At → ℕ
+told_place cut s = if cut then end_place s else token_place s
+
+-- what stands last in a text that is completed: any string in place of one that isn't ended
+abbrev pub IsLast : Bool → List Lexeme → Type 0
+IsLast true ls = (text : List ℕ) × (ls ≡ chars text ∷ [])
+IsLast false ls = ls ≡ []
+
+-- Behind some tokens one comes next that can't stand, and its place is told. Where it comes next behind the same tokens,
+-- its place is told, whatever stands behind it. The tokens before it are the beginning of what is read.
+pub record IsFirstBad {A : Type 0} (read : At → Read A) (Begins : List Lexeme → Type 0) (old : At) (fault : TextFault) : Type 0 where
+  pub before : List Lexeme
+  pub here : At
+  pub cut : Bool
+  pub stands : Stand before old here
+  pub unended : cut ≡ true → (next_at here).token ≡ Cut
+  pub told : fault ≡ BadText (told_place cut here)
+  pub always : (s t : At) → Stand before s t → HaveSameNext here t → read s ≡ Err (BadText (told_place cut t))
+  pub begins : (last : List Lexeme) → IsLast cut last → Begins (before ++ last)
+
+-- these tokens, with others behind them, spell something
+abbrev pub Begin : {A : Type 0} → (A → List Lexeme → Type 0) → List Lexeme → Type 0
+Begin {A} Spells ls = (more : List Lexeme) × (x : A) × Spells x (ls ++ more)
+
+-- A text that isn't read has a first token that can't stand. One bracket more than may be open is enough to complete what
+-- stands before it: where as many are open as may be, the bracket itself is the token that can't stand.
+pub record PlacesAreTold : Type 0 where
+  pub value :
+      (levels : ℕ) (old : At) (fault : TextFault) → value_in_text (enclosed_at levels) old ≡ Err fault
+      → IsFirstBad (value_in_text (enclosed_at levels)) (Begin (SpellsValue (suc levels))) old fault
+  pub row :
+      (levels : ℕ) (old : At) (fault : TextFault) → values_at (enclosed_at levels) old ≡ Err fault
+      → IsFirstBad (values_at (enclosed_at levels)) (Begin (SpellsRow (suc levels))) old fault
