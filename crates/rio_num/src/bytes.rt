@@ -8,6 +8,9 @@ use itoa::Buffer;
 use std::alloc::Global;
 use std::marker::Model;
 
+// Memory is taken for at least so many bytes at once, where it is taken beforehand.
+const FIRST_ROOM: usize = 64;
+
 /// Bytes that grow, and how many more are promised to fit without memory.
 #[derive(Debug, Drop)]
 pub struct Bytes {
@@ -106,7 +109,7 @@ impl Bytes {
         if self.spare as u64 >= n {
             return Ok(());
         }
-        self.items.reserve(n as usize)?;
+        self.items.reserve((n as usize).max(FIRST_ROOM))?;
         self.spare = n as usize;
         Ok(())
     }

@@ -33,6 +33,15 @@ impl<T> Items<T> {
         }
     }
 
+    /// The empty list, with memory for `n` items.
+    pub fn with_capacity(alloc: Global, n: usize) -> Result<Items<T>, NoMemory>
+        ensures { IfOk result (λ list. list ≡ []) }
+    {
+        Ok(Items {
+            items: Vec::with_capacity(alloc, n)?,
+        })
+    }
+
     pub fn len(&self) -> usize
         ensures { result ≡ length self.now }
     {

@@ -7,6 +7,7 @@ ghost use Rattle.rio_num.specs.Layout.{text, times};
 ghost use Rattle.rio_num.specs.Meanings.{read};
 
 use rio_buffer::{ObjFault, ObjReader};
+use rio_format::width_of;
 use rio_num::Name;
 use rio_types::Prim;
 use rio_value::{Value, Values};
@@ -42,7 +43,8 @@ fn read_times(
         reader.new }
     ensures goes { GoesOn reader.old.at reader.new.at }
 {
-    let mut values = Values::new(alloc);
+    let held = reader.left() / width_of(of);
+    let mut values = Values::with_capacity(alloc, held.min(u64::from(count)) as usize)?;
     for _done in 0..count {
         values.push(read_number(reader, of)?)?;
     }
