@@ -6,7 +6,7 @@ use Rattle.rio_read.proofs.numbers.read_times.Goals as goal
 
 pub returns-in_err-read_number-clause-exact : goal.returns-in_err-read_number-clause-exact
 returns-in_err-read_number-clause-exact c =
-    let p = err_from_is_err_and c.from_residual.result c.from_residual.ensures.1 in
+    let p = err_from_is_err_and c.from_residual-in_err-read_number.result c.from_residual-in_err-read_number.ensures.1 in
     rw (p.1, p.2) (λ ne. times_fails (number_value c.args.of) c.args.count c.loop-done._done c.loop-done.values c.loop-done.reader _ c.in_err-read_number.field-0.0 c.loop-done-test.true (c.in_err-read_number.ensures.exact ne) c.loop-done.invariant.0)
 
 pub loop-done-preserved : goal.loop-done-preserved

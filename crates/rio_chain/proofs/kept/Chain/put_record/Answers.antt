@@ -1,10 +1,23 @@
-use Rattle.std.proofs.Common.{◌≡◌, ◌∙◌, ◌-◌, length, take, drop, ap, sym, subst}
+use Rattle.std.proofs.Common.{◌≡◌, ◌∙◌, ◌-◌, arith, length, length-append, take, drop, ap, sym, subst}
 use Rattle.std.specs.Prelude.{MatchOption}
 use Rattle.rio_chain.specs.Changes.{with_record}
-use Rattle.rio_chain.specs.Placing.{HasRest, file_end, with_segment}
+use Rattle.rio_chain.specs.Placing.{HasRest, file_end, with_segment, word_behind}
 use Rattle.rio_chain.specs.Chains.{ChainState, HasChain}
+use Rattle.rio_chain.proofs.Words.{whole_long, whole_small}
 use Rattle.rio_chain.proofs.PutChain.{behind_word, putting, put_time, put_holds}
 use Rattle.rio_chain.proofs.kept.Chain.put_record.Goals as goal
+
+pub slice_bounds-put_behind-count : goal.slice_bounds-put_behind-count
+slice_bounds-put_behind-count g c = omega (arith, whole_long c.args.place c.args.body.now.bytes c.requires.whole, ap length (c.as_slice.ensures ∙ c.append_word.ensures), length-append c.args.body.now.bytes (word_behind c.rest_behind-rest.result))
+
+pub slice_bounds-put_behind-start : goal.slice_bounds-put_behind-start
+slice_bounds-put_behind-start g c = slice_bounds-put_behind-count g c
+
+pub overflow_cast-n : goal.overflow_cast-n
+overflow_cast-n g c = omega (arith, c.len-n.ensures, whole_small c.args.place c.args.body.now.bytes c.requires.whole)
+
+pub note_put-requires-clause-some : goal.note_put-requires-clause-some
+note_put-requires-clause-some g c = omega (arith, c.len-n.ensures, whole_long c.args.place c.args.body.now.bytes c.requires.whole)
 
 pub put_behind-requires-clause-within : goal.put_behind-requires-clause-within
 put_behind-requires-clause-within g c file told =
