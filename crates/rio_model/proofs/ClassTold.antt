@@ -17,7 +17,7 @@ use Rattle.rio_format.specs.Bodies.{member}
 use Rattle.rio_model.specs.ClassGrammar.{base, base_at, bases_at, class_at, class_of, dimension_at, dimension_of, is_new_base, is_new_member, kind_at, member_at, plain_at, primitive_of, sized_at}
 use Rattle.rio_model.specs.ClassSpelling.{ClassPlacesAreTold, SpellsBase, SpellsMember, ends_kind}
 use Rattle.rio_model.specs.Lexemes.{IsNext, Lexeme, SpellsItems, Stand, mark, word}
-use Rattle.rio_model.specs.ToldPlaces.{Begin, HaveSameNext, IsFirstBad}
+use Rattle.rio_model.specs.ToldPlaces.{Begin, HaveSameNext, TellsBadToken}
 use Rattle.rio_model.proofs.ClassAgain.{base_items, bases_again, kind_again, member_items}
 use Rattle.rio_model.proofs.ClassFound.{base_found, bases_found, dimension_found, kind_found, member_found}
 use Rattle.rio_model.proofs.ItemLaws.{ended, items_again, items_found}
@@ -33,7 +33,7 @@ Any ls = Unit {0}
 
 -- what a reader tells, where it fails
 abbrev IsTold : {A : Type 0} → (At → Read A) → Type 0
-IsTold r = (s : At) (e : TextFault) → r s ≡ Err e → IsFirstBad r Any s e
+IsTold r = (s : At) (e : TextFault) → r s ≡ Err e → TellsBadToken r Any s e
 
 -- what a reader read it reads behind the same tokens, where the same one comes next
 record IsRead {A : Type 0} (r : At → Read A) (s : At) (x : A) (m : At) : Type 0 where
@@ -44,7 +44,7 @@ record IsRead {A : Type 0} (r : At → Read A) (s : At) (x : A) (m : At) : Type 
 abbrev IsKnown : {A : Type 0} → (At → Read A) → Type 0
 IsKnown {A} r = (s : At) (x : A) (m : At) → r s ≡ Ok (x, m) → IsRead r s x m
 
-forget : {A : Type 0} (r : At → Read A) (P : List Lexeme → Type 0) (s : At) (e : TextFault) → IsFirstBad r P s e → IsFirstBad r Any s e
+forget : {A : Type 0} (r : At → Read A) (P : List Lexeme → Type 0) (s : At) (e : TextFault) → TellsBadToken r P s e → TellsBadToken r Any s e
 forget r P s e b = told_here r r P Any s e (λ t same g bad. bad) (λ ms p. tt) b
 
 bind_told : {A B : Type 0} (r : At → Read A) (f : A → At → Read B) → IsTold r → IsKnown r → ((x : A) → IsTold (f x)) → IsTold (λ t. r t >>= λ y. f y.0 y.1)
@@ -121,7 +121,7 @@ module _ (before : List Member) where
   unfolding kind_at
   goes_on w t next named = let one = word_that_again is_name_text w t next named in rw one refl
 
-  plain_told : (w : List ℕ) (s : At) (e : TextFault) → IsNext (word w) s → is_name_text w ≡ true → marked 42 (behind s) ≡ false → (o : Option Primitive) → primitive_of w ≡ o → plain_at before w o (behind s) ≡ Err e → IsFirstBad (kind_at before) Any s e
+  plain_told : (w : List ℕ) (s : At) (e : TextFault) → IsNext (word w) s → is_name_text w ≡ true → marked 42 (behind s) ≡ false → (o : Option Primitive) → primitive_of w ≡ o → plain_at before w o (behind s) ≡ Err e → TellsBadToken (kind_at before) Any s e
   plain_told w s e next named star None is h = absurd (neither (bytes_eq w (codes "text")) h)
     where
       neither : (b : Bool) → (let r : Read Kind = (if b then Ok (Text, behind s) else Ok (Inline w, behind s)) in r ≡ Err e) → ⊥
@@ -129,7 +129,7 @@ module _ (before : List Member) where
       neither false h = cc
   plain_told w s e next named star (Some of) is h = by (marked 91 (behind s)) refl h
     where
-      by : (b : Bool) → marked 91 (behind s) ≡ b → (if b then sized_at before of (behind (behind s)) else Ok (Plain of, behind s)) ≡ Err e → IsFirstBad (kind_at before) Any s e
+      by : (b : Bool) → marked 91 (behind s) ≡ b → (if b then sized_at before of (behind (behind s)) else Ok (Plain of, behind s)) ≡ Err e → TellsBadToken (kind_at before) Any s e
       by false m h = absurd (cc)
       by true m h =
           told_behind (kind_at before) (sized_at before of) Any Any (word w ∷ mark 91 ∷ []) s (behind (behind s)) e (next, (marked_is 91 (behind s) m, refl))
@@ -141,7 +141,7 @@ module _ (before : List Member) where
           (λ ms p. tt) (sized_told of (behind (behind s)) e h)
 
   kind_by : (w : List ℕ) (s : At) (e : TextFault) → IsNext (word w) s → is_name_text w ≡ true → (b : Bool) → marked 42 (behind s) ≡ b
-      → (if b then Ok (Pointer w, behind (behind s)) else plain_at before w (primitive_of w) (behind s)) ≡ Err e → IsFirstBad (kind_at before) Any s e
+      → (if b then Ok (Pointer w, behind (behind s)) else plain_at before w (primitive_of w) (behind s)) ≡ Err e → TellsBadToken (kind_at before) Any s e
   kind_by w s e next named true m h = absurd (cc)
   kind_by w s e next named false m h = plain_told w s e next named m (primitive_of w) refl h
 
@@ -171,7 +171,7 @@ unfolding base_at
 base_told before = handed_told (word_that_at (is_new_base before)) base (word_told (is_new_base before))
 
 -- any items of a list, one of which there is
-some_item : {A : Type 0} (r : At → Read A) (x : A) (s : At) (e : TextFault) → IsFirstBad r Any s e → IsFirstBad r (Begin (λ (y : A) ls. Unit {0})) s e
+some_item : {A : Type 0} (r : At → Read A) (x : A) (s : At) (e : TextFault) → TellsBadToken r Any s e → TellsBadToken r (Begin (λ (y : A) ls. Unit {0})) s e
 some_item r x s e b = told_here r r Any (Begin (λ y ls. Unit {0})) s e (λ t same g bad. bad) (λ ms p. ([], x, tt)) b
 
 members_items : ItemTold {A = Member} 125 member_at SpellsMember (λ front m ls. Unit {0}) (λ m. ends_kind m.kind)
@@ -192,7 +192,7 @@ bases_items = record {
   ends_same = λ b s t same h. refl;
 }
 
-bases_by : (b : Bool) (s : At) (e : TextFault) → marked 58 s ≡ b → (if b then some_at 123 base_at (behind s) else (mark_at 123 s >>= λ opening. Ok ([], opening.1))) ≡ Err e → IsFirstBad bases_at Any s e
+bases_by : (b : Bool) (s : At) (e : TextFault) → marked 58 s ≡ b → (if b then some_at 123 base_at (behind s) else (mark_at 123 s >>= λ opening. Ok ([], opening.1))) ≡ Err e → TellsBadToken bases_at Any s e
 unfolding bases_at
 bases_by true s e m h =
     let b = some_told {A = Base} 123 base_at SpellsBase (λ front b ls. Unit {0}) (λ b s. true) bases_items (behind s) e h in

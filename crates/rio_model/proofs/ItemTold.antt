@@ -8,7 +8,7 @@ use Rattle.rio_token.specs.declared.token.Token.TheVariants.{End}
 use Rattle.rio_token.specs.Reading.{Read, bad_at, list_at, mark_at, marked, more_at, some_at}
 use Rattle.rio_token.specs.Tokens.{behind, next_at, scan_of}
 use Rattle.rio_model.specs.Lexemes.{IsNext, Lexeme, SpellsItems, SpellsFurther, mark}
-use Rattle.rio_model.specs.ToldPlaces.{Begin, HaveSameNext, IsFirstBad}
+use Rattle.rio_model.specs.ToldPlaces.{Begin, HaveSameNext, TellsBadToken}
 use Rattle.rio_model.proofs.ItemLaws.{ItemAgain, ItemFound}
 use Rattle.rio_model.proofs.LexemeLaws.{mark_again, mark_found, marked_again, stand_within, takes_some}
 use Rattle.rio_model.proofs.ToldLaws.{bad_here, bad_is, bind_bad, err_is, mark_bad, marked_same, told_behind, told_here}
@@ -51,7 +51,7 @@ module _ {A : Type 0} (close : ℕ) (item : List A → At → Read A) (Spells : 
       ih (front ++ x.0 ∷ []) x.1 (omega (arith, within, le)) (omega (arith, within, le'))
   after_comma f g front s ih le le' (Err e) one = refl
 
-  -- enough is enough
+  -- limits that are at least the length of the text give the same
   enough_step : (f g : ℕ) (front : List A) (s : At) → ((front : List A) (t : At) → length t.rest ≤ f → length t.rest ≤ g → more_at f close item front t ≡ more_at g close item front t) → length s.rest ≤ suc f → length s.rest ≤ suc g
       → (b : Bool) → marked close s ≡ b → (c : Read (Unit {0})) → mark_at 44 s ≡ c → more_at (suc f) close item front s ≡ more_at (suc g) close item front s
   unfolding more_at
@@ -81,7 +81,7 @@ module _ {A : Type 0} (close : ℕ) (item : List A → At → Read A) (Spells Ab
     pub again : ItemAgain close item Spells ends
     pub found : ItemFound close item Spells ends
     pub up : (front : List A) (x : A) (ls : List Lexeme) → Spells front x ls → Above front x ls
-    pub told : (front : List A) (s : At) (e : TextFault) → item front s ≡ Err e → IsFirstBad (item front) (Begin (Above front)) s e
+    pub told : (front : List A) (s : At) (e : TextFault) → item front s ≡ Err e → TellsBadToken (item front) (Begin (Above front)) s e
     pub ends_same : (x : A) (s t : At) → HaveSameNext s t → ends x s ≡ true → ends x t ≡ true
 
   module _ (i : ItemTold) where
@@ -89,7 +89,7 @@ module _ {A : Type 0} (close : ℕ) (item : List A → At → Read A) (Spells Ab
     abbrev rest_of : List A → At → Read (List A)
     rest_of front t = more_at (length t.rest) close item front t
 
-    no_comma : (front : List A) (s : At) (e : TextFault) → marked close s ≡ false → mark_at 44 s ≡ Err e → IsFirstBad (rest_of front) (Begin (SpellsFurther Above front)) s e
+    no_comma : (front : List A) (s : At) (e : TextFault) → marked close s ≡ false → mark_at 44 s ≡ Err e → TellsBadToken (rest_of front) (Begin (SpellsFurther Above front)) s e
     no_comma front s e goes h =
         let bad = mark_bad 44 s e h in
         bad_here (rest_of front) (Begin (SpellsFurther Above front)) s e (λ t same.
@@ -97,7 +97,7 @@ module _ {A : Type 0} (close : ℕ) (item : List A → At → Read A) (Spells Ab
         more_bad close item (length t.rest) front t opened (bad.1 t same)) ([], [], refl) bad.0
 
     -- the item behind a comma
-    bad_item : (front : List A) (s : At) (e : TextFault) → IsNext (mark 44) s → item front (behind s) ≡ Err e → IsFirstBad (rest_of front) (Begin (SpellsFurther Above front)) s e
+    bad_item : (front : List A) (s : At) (e : TextFault) → IsNext (mark 44) s → item front (behind s) ≡ Err e → TellsBadToken (rest_of front) (Begin (SpellsFurther Above front)) s e
     bad_item front s e next h =
         told_behind (rest_of front) (item front) (Begin (Above front)) (Begin (SpellsFurther Above front)) (mark 44 ∷ []) s (behind s) e (next, refl)
         (λ t n k same g bad.
@@ -110,8 +110,8 @@ module _ {A : Type 0} (close : ℕ) (item : List A → At → Read A) (Spells Ab
         (i.told front (behind s) e h)
 
     -- what stands behind an item
-    bad_behind : (front : List A) (s : At) (x : A) (m : At) (e : TextFault) → IsNext (mark 44) s → item front (behind s) ≡ Ok (x, m) → IsFirstBad (rest_of (front ++ x ∷ [])) (Begin (SpellsFurther Above (front ++ x ∷ []))) m e
-        → IsFirstBad (rest_of front) (Begin (SpellsFurther Above front)) s e
+    bad_behind : (front : List A) (s : At) (x : A) (m : At) (e : TextFault) → IsNext (mark 44) s → item front (behind s) ≡ Ok (x, m) → TellsBadToken (rest_of (front ++ x ∷ [])) (Begin (SpellsFurther Above (front ++ x ∷ []))) m e
+        → TellsBadToken (rest_of front) (Begin (SpellsFurther Above front)) s e
     bad_behind front s x m e next one b =
         let o = i.found front x (behind s) m one in
         told_behind (rest_of front) (rest_of (front ++ x ∷ [])) (Begin (SpellsFurther Above (front ++ x ∷ []))) (Begin (SpellsFurther Above front)) (mark 44 ∷ o.0) s m e (next, o.2)
@@ -127,9 +127,9 @@ module _ {A : Type 0} (close : ℕ) (item : List A → At → Read A) (Spells Ab
         b
 
     more_step : (fuel : ℕ) (front : List A) (s : At) (e : TextFault)
-        → ((f : List A) (t : At) (g : TextFault) → length t.rest ≤ fuel → more_at fuel close item f t ≡ Err g → IsFirstBad (rest_of f) (Begin (SpellsFurther Above f)) t g)
+        → ((f : List A) (t : At) (g : TextFault) → length t.rest ≤ fuel → more_at fuel close item f t ≡ Err g → TellsBadToken (rest_of f) (Begin (SpellsFurther Above f)) t g)
         → length s.rest ≤ suc fuel → marked close s ≡ false → (c : Read (Unit {0})) → mark_at 44 s ≡ c → (c >>= λ passed. item front passed.1 >>= λ next. more_at fuel close item (front ++ next.0 ∷ []) next.1) ≡ Err e
-        → IsFirstBad (rest_of front) (Begin (SpellsFurther Above front)) s e
+        → TellsBadToken (rest_of front) (Begin (SpellsFurther Above front)) s e
     more_step fuel front s e ih le goes (Err d) comma h =
         let same : d ≡ e = err_is {A = List A × At} d e h in
         no_comma front s e goes (comma ∙ ap (λ (g : TextFault). let y : Read (Unit {0}) = Err g in y) same)
@@ -146,14 +146,14 @@ module _ {A : Type 0} (close : ℕ) (item : List A → At → Read A) (Spells Ab
         ]
 
     more_by : (fuel : ℕ) (front : List A) (s : At) (e : TextFault)
-        → ((f : List A) (t : At) (g : TextFault) → length t.rest ≤ fuel → more_at fuel close item f t ≡ Err g → IsFirstBad (rest_of f) (Begin (SpellsFurther Above f)) t g)
+        → ((f : List A) (t : At) (g : TextFault) → length t.rest ≤ fuel → more_at fuel close item f t ≡ Err g → TellsBadToken (rest_of f) (Begin (SpellsFurther Above f)) t g)
         → length s.rest ≤ suc fuel → (b : Bool) → marked close s ≡ b
         → (if b then Ok (front, behind s) else (mark_at 44 s >>= λ passed. item front passed.1 >>= λ next. more_at fuel close item (front ++ next.0 ∷ []) next.1)) ≡ Err e
-        → IsFirstBad (rest_of front) (Begin (SpellsFurther Above front)) s e
+        → TellsBadToken (rest_of front) (Begin (SpellsFurther Above front)) s e
     more_by fuel front s e ih le true m h = absurd (cc)
     more_by fuel front s e ih le false m h = more_step fuel front s e ih le m (mark_at 44 s) refl h
 
-    more_told : (fuel : ℕ) (front : List A) (s : At) (e : TextFault) → length s.rest ≤ fuel → more_at fuel close item front s ≡ Err e → IsFirstBad (rest_of front) (Begin (SpellsFurther Above front)) s e
+    more_told : (fuel : ℕ) (front : List A) (s : At) (e : TextFault) → length s.rest ≤ fuel → more_at fuel close item front s ≡ Err e → TellsBadToken (rest_of front) (Begin (SpellsFurther Above front)) s e
     unfolding more_at
     more_told zero front s e le h =
         let end = end_of_rest s.rest le in
@@ -162,14 +162,14 @@ module _ {A : Type 0} (close : ℕ) (item : List A → At → Read A) (Spells Ab
         more_bad close item (length t.rest) front t b.0 b.1) ([], [], refl) (bad_is {A = List A} s e h)
     more_told (suc fuel) front s e le h = more_by fuel front s e (λ f t g l k. more_told fuel f t g l k) le (marked close s) refl h
 
-    first_bad : (s : At) (e : TextFault) → item [] s ≡ Err e → IsFirstBad (some_at close item) (Begin (SpellsItems Above)) s e
+    first_bad : (s : At) (e : TextFault) → item [] s ≡ Err e → TellsBadToken (some_at close item) (Begin (SpellsItems Above)) s e
     unfolding some_at
     first_bad s e h =
         told_here (some_at close item) (item []) (Begin (Above [])) (Begin (SpellsItems Above)) s e (λ t same g bad. rw bad refl)
         (λ ms b. (b.0, b.1 ∷ [], (ms ++ b.0, [], sym (append-nil (ms ++ b.0)), b.2, refl)))
         (i.told [] s e h)
 
-    later_bad : (s : At) (x : A) (m : At) (e : TextFault) → item [] s ≡ Ok (x, m) → more_at (length m.rest) close item (x ∷ []) m ≡ Err e → IsFirstBad (some_at close item) (Begin (SpellsItems Above)) s e
+    later_bad : (s : At) (x : A) (m : At) (e : TextFault) → item [] s ≡ Ok (x, m) → more_at (length m.rest) close item (x ∷ []) m ≡ Err e → TellsBadToken (some_at close item) (Begin (SpellsItems Above)) s e
     unfolding some_at
     later_bad s x m e one h =
         let o = i.found [] x s m one in
@@ -180,7 +180,7 @@ module _ {A : Type 0} (close : ℕ) (item : List A → At → Read A) (Spells Ab
         (λ ms b. (b.0, x ∷ b.1, (o.0, ms ++ b.0, append_assoc o.0 ms b.0, i.up [] x o.0 o.1, b.2)))
         (more_told (length m.rest) (x ∷ []) m e (omega arith) h)
 
-    pub some_told : (s : At) (e : TextFault) → some_at close item s ≡ Err e → IsFirstBad (some_at close item) (Begin (SpellsItems Above)) s e
+    pub some_told : (s : At) (e : TextFault) → some_at close item s ≡ Err e → TellsBadToken (some_at close item) (Begin (SpellsItems Above)) s e
     unfolding some_at
     some_told s e h =
         elim (bind_bad (List A) (item [] s) (λ first. more_at (length first.1.rest) close item (first.0 ∷ []) first.1) e h) [
@@ -188,7 +188,7 @@ module _ {A : Type 0} (close : ℕ) (item : List A → At → Read A) (Spells Ab
           | inr w ↦ later_bad s w.0.0 w.0.1 e w.1 w.2
         ]
 
-    items_by : (s : At) (e : TextFault) (b : Bool) → marked close s ≡ b → (if b then Ok ([], behind s) else some_at close item s) ≡ Err e → IsFirstBad (list_at close item) (Begin (SpellsItems Above)) s e
+    items_by : (s : At) (e : TextFault) (b : Bool) → marked close s ≡ b → (if b then Ok ([], behind s) else some_at close item s) ≡ Err e → TellsBadToken (list_at close item) (Begin (SpellsItems Above)) s e
     unfolding list_at
     items_by s e true m h = absurd (cc)
     items_by s e false m h =
@@ -196,6 +196,6 @@ module _ {A : Type 0} (close : ℕ) (item : List A → At → Read A) (Spells Ab
         (λ t same g bad. let opened : marked close t ≡ false = sym (marked_same close s t same) ∙ m in rw opened bad)
         (λ ms b. b) (some_told s e h)
 
-    pub items_told : (s : At) (e : TextFault) → list_at close item s ≡ Err e → IsFirstBad (list_at close item) (Begin (SpellsItems Above)) s e
+    pub items_told : (s : At) (e : TextFault) → list_at close item s ≡ Err e → TellsBadToken (list_at close item) (Begin (SpellsItems Above)) s e
     unfolding list_at
     items_told s e h = items_by s e (marked close s) refl h

@@ -10,7 +10,7 @@ use Rattle.rio_token.specs.Reading.{Read, bad_at, cut_at, end_at, is_end, is_mar
 use Rattle.rio_token.specs.Tokens.{next_at, token_place}
 use Rattle.rio_token.specs.Words.{num_between_of, num_of}
 use Rattle.rio_model.specs.Lexemes.{IsNext, Lexeme, Stand, chars, mark, word}
-use Rattle.rio_model.specs.ToldPlaces.{HaveSameNext, IsFirstBad, told_place}
+use Rattle.rio_model.specs.ToldPlaces.{HaveSameNext, TellsBadToken, told_place}
 use Rattle.rio_model.proofs.LexemeLaws.{next_word_is, stand_joined, stand_split, with_place}
 
 -- ---- the same token
@@ -43,7 +43,7 @@ word_same w s t same h =
 module _ {A B : Type 0} (r : At → Read B) (r2 : At → Read A) (P2 P : List Lexeme → Type 0) where
   pub told_behind : (ls : List Lexeme) (s m : At) (e : TextFault) → Stand ls s m
       → ((t n : At) → Stand ls t n → HaveSameNext m n → (g : TextFault) → r2 n ≡ Err g → r t ≡ Err g) → ((ms : List Lexeme) → P2 ms → P (ls ++ ms))
-      → IsFirstBad r2 P2 m e → IsFirstBad r P s e
+      → TellsBadToken r2 P2 m e → TellsBadToken r P s e
   told_behind ls s m e stands pass grows b = record {
     before = ls ++ b.before;
     here = b.here;
@@ -58,13 +58,13 @@ module _ {A B : Type 0} (r : At → Read B) (r2 : At → Read A) (P2 P : List Le
     begins = λ last is. subst P (sym (append_assoc ls b.before last)) (grows (b.before ++ last) (b.begins last is));
   }
 
-  pub told_here : (s : At) (e : TextFault) → ((t : At) → HaveSameNext s t → (g : TextFault) → r2 t ≡ Err g → r t ≡ Err g) → ((ms : List Lexeme) → P2 ms → P ms) → IsFirstBad r2 P2 s e → IsFirstBad r P s e
+  pub told_here : (s : At) (e : TextFault) → ((t : At) → HaveSameNext s t → (g : TextFault) → r2 t ≡ Err g → r t ≡ Err g) → ((ms : List Lexeme) → P2 ms → P ms) → TellsBadToken r2 P2 s e → TellsBadToken r P s e
   told_here s e pass grows b =
       told_behind [] s s e refl (λ t n h same g bad. subst (λ (x : At). r x ≡ Err g) h (pass n same g bad)) grows b
 
 -- ---- single tokens
 
-pub bad_here : {A : Type 0} (r : At → Read A) (P : List Lexeme → Type 0) (s : At) (e : TextFault) → ((t : At) → HaveSameNext s t → r t ≡ bad_at t) → P [] → e ≡ BadText (token_place s) → IsFirstBad r P s e
+pub bad_here : {A : Type 0} (r : At → Read A) (P : List Lexeme → Type 0) (s : At) (e : TextFault) → ((t : At) → HaveSameNext s t → r t ≡ bad_at t) → P [] → e ≡ BadText (token_place s) → TellsBadToken r P s e
 bad_here r P s e always empty told = record {
   before = [];
   here = s;
@@ -95,46 +95,46 @@ mark_bad b s e h =
     let t = taken_bad (some_if (marked b s) tt) s e h in
     (t.1, λ u same. none_is_bad (some_if (marked b u) tt) u (subst (λ (k : Token). some_if (is_mark b k) tt ≡ None) same.token t.0))
 
-pub mark_told : (b : ℕ) (P : List Lexeme → Type 0) (s : At) (e : TextFault) → P [] → mark_at b s ≡ Err e → IsFirstBad (mark_at b) P s e
+pub mark_told : (b : ℕ) (P : List Lexeme → Type 0) (s : At) (e : TextFault) → P [] → mark_at b s ≡ Err e → TellsBadToken (mark_at b) P s e
 mark_told b P s e empty h = let bad = mark_bad b s e h in bad_here (mark_at b) P s e bad.1 empty bad.0
 
-pub end_told : (P : List Lexeme → Type 0) (s : At) (e : TextFault) → P [] → end_at s ≡ Err e → IsFirstBad end_at P s e
+pub end_told : (P : List Lexeme → Type 0) (s : At) (e : TextFault) → P [] → end_at s ≡ Err e → TellsBadToken end_at P s e
 unfolding end_at
 end_told P s e empty h =
     let t = taken_bad (some_if (is_end (next_at s).token) tt) s e h in
     bad_here end_at P s e (λ u same. none_is_bad (some_if (is_end (next_at u).token) tt) u (subst (λ (k : Token). some_if (is_end k) tt ≡ None) same.token t.0)) empty t.1
 
 -- a word that says something
-pub from_word : {A : Type 0} (f : List ℕ → Option A) (P : List Lexeme → Type 0) (s : At) (e : TextFault) → P [] → taken_at (option_and_then f (next_word s)) s ≡ Err e → IsFirstBad (λ t. taken_at (option_and_then f (next_word t)) t) P s e
+pub from_word : {A : Type 0} (f : List ℕ → Option A) (P : List Lexeme → Type 0) (s : At) (e : TextFault) → P [] → taken_at (option_and_then f (next_word s)) s ≡ Err e → TellsBadToken (λ t. taken_at (option_and_then f (next_word t)) t) P s e
 from_word f P s e empty h =
     let t = taken_bad (option_and_then f (next_word s)) s e h in
     bad_here (λ t. taken_at (option_and_then f (next_word t)) t) P s e (λ u same. none_is_bad (option_and_then f (next_word u)) u (subst (λ (o : Option (List ℕ)). option_and_then f o ≡ None) same.word t.0)) empty t.1
 
-pub word_that_told : (test : List ℕ → Bool) (P : List Lexeme → Type 0) (s : At) (e : TextFault) → P [] → word_that_at test s ≡ Err e → IsFirstBad (word_that_at test) P s e
+pub word_that_told : (test : List ℕ → Bool) (P : List Lexeme → Type 0) (s : At) (e : TextFault) → P [] → word_that_at test s ≡ Err e → TellsBadToken (word_that_at test) P s e
 unfolding word_that_at
 word_that_told test P s e empty h = from_word (λ w. some_if (test w) w) P s e empty h
 
-pub num_told : (P : List Lexeme → Type 0) (s : At) (e : TextFault) → P [] → num_at s ≡ Err e → IsFirstBad num_at P s e
+pub num_told : (P : List Lexeme → Type 0) (s : At) (e : TextFault) → P [] → num_at s ≡ Err e → TellsBadToken num_at P s e
 unfolding num_at
 num_told P s e empty h = from_word num_of P s e empty h
 
-pub num_between_told : (low high : ℕ) (P : List Lexeme → Type 0) (s : At) (e : TextFault) → P [] → num_between_at low high s ≡ Err e → IsFirstBad (num_between_at low high) P s e
+pub num_between_told : (low high : ℕ) (P : List Lexeme → Type 0) (s : At) (e : TextFault) → P [] → num_between_at low high s ≡ Err e → TellsBadToken (num_between_at low high) P s e
 unfolding num_between_at
 num_between_told low high P s e empty h = from_word (num_between_of low high) P s e empty h
 
-pub word_told : (P : List Lexeme → Type 0) (s : At) (e : TextFault) → P [] → word_at s ≡ Err e → IsFirstBad word_at P s e
+pub word_told : (P : List Lexeme → Type 0) (s : At) (e : TextFault) → P [] → word_at s ≡ Err e → TellsBadToken word_at P s e
 unfolding word_at
 word_told P s e empty h =
     let t = taken_bad (next_word s) s e h in
     bad_here word_at P s e (λ u same. none_is_bad (next_word u) u (sym same.word ∙ t.0)) empty t.1
 
 module _ (P : List Lexeme → Type 0) (s : At) (e : TextFault) (empty : P []) (strings : (text : List ℕ) → P (chars text ∷ [])) where
-  no_string : (token : Token) → (next_at s).token ≡ token → ((t : At) → string_by token t ≡ bad_at t) → e ≡ BadText (token_place s) → IsFirstBad string_at P s e
+  no_string : (token : Token) → (next_at s).token ≡ token → ((t : At) → string_by token t ≡ bad_at t) → e ≡ BadText (token_place s) → TellsBadToken string_at P s e
   unfolding string_at
   no_string token next bad told =
       bad_here string_at P s e (λ t same. ap (λ (k : Token). string_by k t) (sym same.token ∙ next) ∙ bad t) empty told
 
-  cut_string : (next_at s).token ≡ Cut → e ≡ BadText (end_place s) → IsFirstBad string_at P s e
+  cut_string : (next_at s).token ≡ Cut → e ≡ BadText (end_place s) → TellsBadToken string_at P s e
   unfolding string_at
   cut_string next told = record {
     before = [];
@@ -149,7 +149,7 @@ module _ (P : List Lexeme → Type 0) (s : At) (e : TextFault) (empty : P []) (s
     begins = λ last is. subst P (sym is.1) (strings is.0);
   }
 
-  string_by_told : (token : Token) → (next_at s).token ≡ token → string_by token s ≡ Err e → IsFirstBad string_at P s e
+  string_by_told : (token : Token) → (next_at s).token ≡ token → string_by token s ≡ Err e → TellsBadToken string_at P s e
   string_by_told Text next h = absurd (cc)
   string_by_told Cut next h = cut_string next (sym (err_is {A = List ℕ × At} (BadText (end_place s)) e h))
   string_by_told Word next h = no_string Word next (λ t. refl) (bad_is {A = List ℕ} s e h)
@@ -157,7 +157,7 @@ module _ (P : List Lexeme → Type 0) (s : At) (e : TextFault) (empty : P []) (s
   string_by_told Bad next h = no_string Bad next (λ t. refl) (bad_is {A = List ℕ} s e h)
   string_by_told End next h = no_string End next (λ t. refl) (bad_is {A = List ℕ} s e h)
 
-  pub string_told : string_at s ≡ Err e → IsFirstBad string_at P s e
+  pub string_told : string_at s ≡ Err e → TellsBadToken string_at P s e
   unfolding string_at
   string_told h = string_by_told (next_at s).token refl h
 

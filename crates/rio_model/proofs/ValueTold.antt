@@ -17,7 +17,7 @@ use Rattle.rio_token.specs.Tokens.{behind, next_at}
 use Rattle.rio_token.specs.Words.{decimal as decimal_of, num_of, written}
 use Rattle.rio_format.specs.Bodies.{part}
 use Rattle.rio_model.specs.Lexemes.{IsNext, Lexeme, SpellsItems, chars, mark, word}
-use Rattle.rio_model.specs.ToldPlaces.{Begin, HaveSameNext, IsFirstBad, PlacesAreTold}
+use Rattle.rio_model.specs.ToldPlaces.{Begin, HaveSameNext, TellsBadToken, PlacesAreTold}
 use Rattle.rio_model.specs.ValueGrammar.{Reader, class_version_at, enclosed_at, enclosed_by, listed, named_object_at, object_at, object_of, opens_object, part_at, pointer_at, text_value_at, value_by, value_in_text, values_at, word_value, word_value_at, worded}
 use Rattle.rio_model.specs.ValueSpelling.{Spelling, SpellsAsObject, SpellsBrackets, SpellsLayer, SpellsNamed, SpellsRow, SpellsValue, SpellsVersion, SpellsWithin, ends_here, in_brackets}
 use Rattle.rio_model.proofs.ItemTold.{ItemTold, items_told}
@@ -63,7 +63,7 @@ zero_is_number = refl
 one_is_small : suc 0 ≤ 32767
 one_is_small = omega arith
 
-version_by : (s : At) (e : TextFault) (b : Bool) → marked 35 s ≡ b → (if b then (version_at (behind s) >>= with_place pos) else Ok (pos 0, s)) ≡ Err e → IsFirstBad class_version_at (Begin SpellsVersion) s e
+version_by : (s : At) (e : TextFault) (b : Bool) → marked 35 s ≡ b → (if b then (version_at (behind s) >>= with_place pos) else Ok (pos 0, s)) ≡ Err e → TellsBadToken class_version_at (Begin SpellsVersion) s e
 unfolding class_version_at
 version_by s e true m h =
     let bad = handed_bad (version_at (behind s)) pos e h in
@@ -76,7 +76,7 @@ version_by s e true m h =
     (num_between_told 1 32767 Nothing (behind s) e refl bad)
 version_by s e false m h = absurd (cc)
 
-version_told : (s : At) (e : TextFault) → class_version_at s ≡ Err e → IsFirstBad class_version_at (Begin SpellsVersion) s e
+version_told : (s : At) (e : TextFault) → class_version_at s ≡ Err e → TellsBadToken class_version_at (Begin SpellsVersion) s e
 unfolding class_version_at
 version_told s e h = version_by s e (marked 35 s) refl h
 
@@ -91,8 +91,8 @@ Braces R class z parts ls = R (layer.Object class z parts) ls
 -- what is told of brackets, where one more may be open
 pub record EnclosedTold (E : Reader) (R : Spelling) : Type 0 where
   pub none : (class : List ℕ) (z : ℤ) → R (layer.Object class z []) empty_braces
-  pub list : (s : At) (e : TextFault) → E listed s ≡ Err e → IsFirstBad (E listed) (Begin (Lists R)) s e
-  pub object : (class : List ℕ) (z : ℤ) (s : At) (e : TextFault) → E (object_of class z) s ≡ Err e → IsFirstBad (E (object_of class z)) (Begin (Braces R class z)) s e
+  pub list : (s : At) (e : TextFault) → E listed s ≡ Err e → TellsBadToken (E listed) (Begin (Lists R)) s e
+  pub object : (class : List ℕ) (z : ℤ) (s : At) (e : TextFault) → E (object_of class z) s ≡ Err e → TellsBadToken (E (object_of class z)) (Begin (Braces R class z)) s e
 
 -- what stands behind a class, of some version and parts
 pub record IsTail (R : Spelling) (class : List ℕ) (ls : List Lexeme) : Type 0 where
@@ -148,7 +148,7 @@ module _ (E : Reader) (R S : Spelling) (again : EnclosedAgain E R) (found : Encl
 
   -- ---- objects
 
-  object_told : (class : List ℕ) (s : At) (e : TextFault) → object_at E class s ≡ Err e → IsFirstBad (object_at E class) (Tail class) s e
+  object_told : (class : List ℕ) (s : At) (e : TextFault) → object_at E class s ≡ Err e → TellsBadToken (object_at E class) (Tail class) s e
   unfolding object_at
   object_told class s e h =
       elim (bind_bad Value (class_version_at s) (λ version. E (object_of class version.0) version.1) e h) [
@@ -190,7 +190,7 @@ module _ (E : Reader) (R S : Spelling) (again : EnclosedAgain E R) (found : Encl
             (told.object class z m e w.2)
       ]
 
-  named_object_told : (s : At) (e : TextFault) → named_object_at E s ≡ Err e → IsFirstBad (named_object_at E) (Begin Objects) s e
+  named_object_told : (s : At) (e : TextFault) → named_object_at E s ≡ Err e → TellsBadToken (named_object_at E) (Begin Objects) s e
   unfolding named_object_at
   named_object_told s e h =
       elim (bind_bad Value (name_at s) (λ class. object_at E class.0 class.1) e h) [
@@ -226,7 +226,7 @@ module _ (E : Reader) (R S : Spelling) (again : EnclosedAgain E R) (found : Encl
       (word (codes "0") ∷ [], Back 0, subst (λ (y : Value-F Value Part). SpellsLayer S y ls) (sym (outs-Back 0)) spelled)
 
   label_told : (label : ℕ) (digits : List ℕ) (s : At) (e : TextFault) → IsNext (word digits) s → num_of digits ≡ Some label → (b : Bool) → marked 61 (behind s) ≡ b
-      → (if b then (named_object_at E (behind (behind s)) >>= with_place (Pointed label)) else Ok (Back label, behind s)) ≡ Err e → IsFirstBad (pointer_at E) (Begin Pointers) s e
+      → (if b then (named_object_at E (behind (behind s)) >>= with_place (Pointed label)) else Ok (Back label, behind s)) ≡ Err e → TellsBadToken (pointer_at E) (Begin Pointers) s e
   unfolding pointer_at
   label_told label digits s e next num true m h =
       let bad = handed_bad (named_object_at E (behind (behind s))) (Pointed label) e h in
@@ -240,7 +240,7 @@ module _ (E : Reader) (R S : Spelling) (again : EnclosedAgain E R) (found : Encl
       (named_object_told (behind (behind s)) e bad)
   label_told label digits s e next num false m h = absurd (cc)
 
-  pointer_told : (s : At) (e : TextFault) → pointer_at E s ≡ Err e → IsFirstBad (pointer_at E) (Begin Pointers) s e
+  pointer_told : (s : At) (e : TextFault) → pointer_at E s ≡ Err e → TellsBadToken (pointer_at E) (Begin Pointers) s e
   unfolding pointer_at
   pointer_told s e h =
       elim (bind_bad Value (num_at s) (λ label. if marked 61 label.1 then (named_object_at E (behind label.1) >>= with_place (Pointed label.0)) else Ok (Back label.0, label.1)) e h) [
@@ -261,7 +261,7 @@ module _ (E : Reader) (R S : Spelling) (again : EnclosedAgain E R) (found : Encl
   word_goes w t name opens next named goes = let one = word_again w t next in rw (one, named, goes) refl
 
   -- an object whose class stands here
-  object_bad : (w : List ℕ) (s : At) (e : TextFault) → IsNext (word w) s → is_name_text w ≡ true → opens_object (behind s) ≡ true → object_at E w (behind s) ≡ Err e → IsFirstBad (word_value_at E) (Begin Values) s e
+  object_bad : (w : List ℕ) (s : At) (e : TextFault) → IsNext (word w) s → is_name_text w ≡ true → opens_object (behind s) ≡ true → object_at E w (behind s) ≡ Err e → TellsBadToken (word_value_at E) (Begin Values) s e
   object_bad w s e next named goes h =
       told_behind (word_value_at E) (object_at E w) (Tail w) (Begin Values) (word w ∷ []) s (behind s) e (next, refl)
       (λ t x k same g fault.
@@ -272,7 +272,7 @@ module _ (E : Reader) (R S : Spelling) (again : EnclosedAgain E R) (found : Encl
       (object_told w (behind s) e h)
 
   -- a name behind which no object goes on
-  name_bad : (w : List ℕ) (s : At) (e : TextFault) → IsNext (word w) s → is_name_text w ≡ true → opens_object (behind s) ≡ false → (o : Option Value) → word_value w ≡ o → worded o true s (behind s) ≡ Err e → IsFirstBad (word_value_at E) (Begin Values) s e
+  name_bad : (w : List ℕ) (s : At) (e : TextFault) → IsNext (word w) s → is_name_text w ≡ true → opens_object (behind s) ≡ false → (o : Option Value) → word_value w ≡ o → worded o true s (behind s) ≡ Err e → TellsBadToken (word_value_at E) (Begin Values) s e
   name_bad w s e next named goes (Some v) is h = absurd (cc)
   name_bad w s e next named goes None is h =
       told_behind (word_value_at E) (bad_at {A = Value}) Nothing (Begin Values) (word w ∷ []) s (behind s) e (next, refl)
@@ -284,19 +284,19 @@ module _ (E : Reader) (R S : Spelling) (again : EnclosedAgain E R) (found : Encl
       (bad_here (bad_at {A = Value}) Nothing (behind s) e (λ t same. refl) refl (bad_is {A = Value} (behind s) e h))
 
   -- a word that is neither a value nor a name
-  word_bad : (w : List ℕ) (s : At) (e : TextFault) → IsNext (word w) s → is_name_text w ≡ false → (o : Option Value) → word_value w ≡ o → worded o false s (behind s) ≡ Err e → IsFirstBad (word_value_at E) (Begin Values) s e
+  word_bad : (w : List ℕ) (s : At) (e : TextFault) → IsNext (word w) s → is_name_text w ≡ false → (o : Option Value) → word_value w ≡ o → worded o false s (behind s) ≡ Err e → TellsBadToken (word_value_at E) (Begin Values) s e
   word_bad w s e next named (Some v) is h = absurd (cc)
   word_bad w s e next named None is h =
       bad_here (word_value_at E) (Begin Values) s e (λ t same.
       word_goes w t false (opens_object (behind t)) (word_same w s t same next) named refl ∙ rw is refl) no_value (bad_is {A = Value} s e h)
 
   word_by : (w : List ℕ) (s : At) (e : TextFault) → IsNext (word w) s → (name opens : Bool) → is_name_text w ≡ name → opens_object (behind s) ≡ opens
-      → (if name && opens then object_at E w (behind s) else worded (word_value w) name s (behind s)) ≡ Err e → IsFirstBad (word_value_at E) (Begin Values) s e
+      → (if name && opens then object_at E w (behind s) else worded (word_value w) name s (behind s)) ≡ Err e → TellsBadToken (word_value_at E) (Begin Values) s e
   word_by w s e next true true named goes h = object_bad w s e next named goes h
   word_by w s e next true false named goes h = name_bad w s e next named goes (word_value w) refl h
   word_by w s e next false opens named goes h = word_bad w s e next named (word_value w) refl h
 
-  word_value_told : (s : At) (e : TextFault) → word_value_at E s ≡ Err e → IsFirstBad (word_value_at E) (Begin Values) s e
+  word_value_told : (s : At) (e : TextFault) → word_value_at E s ≡ Err e → TellsBadToken (word_value_at E) (Begin Values) s e
   unfolding word_value_at
   word_value_told s e h =
       elim (bind_bad Value (word_at s) (λ x. if is_name_text x.0 && opens_object x.1 then object_at E x.0 x.1 else worded (word_value x.0) (is_name_text x.0) s x.1) e h) [
@@ -318,7 +318,7 @@ module _ (E : Reader) (R S : Spelling) (again : EnclosedAgain E R) (found : Encl
   text_begins ms (inl is) = subst (Begin Values) (sym is) no_value
   text_begins ms (inr c) = subst (Begin Values) (sym c.1) (value_as (Chars c.0) (layer.Text c.0) (chars c.0 ∷ []) [] (outs-Text c.0) refl)
 
-  text_told : (s : At) (e : TextFault) → text_value_at s ≡ Err e → IsFirstBad text_value_at (Begin Values) s e
+  text_told : (s : At) (e : TextFault) → text_value_at s ≡ Err e → TellsBadToken text_value_at (Begin Values) s e
   unfolding text_value_at
   text_told s e h =
       let bad = handed_bad (string_at s) Chars e h in
@@ -330,7 +330,7 @@ module _ (E : Reader) (R S : Spelling) (again : EnclosedAgain E R) (found : Encl
   unfolding value_in_text
   value_goes token t next = ap (λ (k : Token). value_by E k t) next
 
-  by_token : (token : Token) (s : At) (e : TextFault) → (next_at s).token ≡ token → IsFirstBad (value_by E token) (Begin Values) s e → IsFirstBad (value_in_text E) (Begin Values) s e
+  by_token : (token : Token) (s : At) (e : TextFault) → (next_at s).token ≡ token → TellsBadToken (value_by E token) (Begin Values) s e → TellsBadToken (value_in_text E) (Begin Values) s e
   by_token token s e next b =
       told_here (value_in_text E) (value_by E token) (Begin Values) (Begin Values) s e (λ t same g fault. value_goes token t (sym same.token ∙ next) ∙ fault) (λ ms b. b) b
 
@@ -338,7 +338,7 @@ module _ (E : Reader) (R S : Spelling) (again : EnclosedAgain E R) (found : Encl
   list_begins ms b = value_as (Items b.1) (layer.List b.1) ms b.0 (outs-List b.1) b.2
 
   by_mark : (b : ℕ) (s : At) (e : TextFault) → (next_at s).token ≡ Mark b → (list pointer : Bool) → (b == 91) ≡ list → (b == 64) ≡ pointer
-      → (if list then E listed s else if pointer then pointer_at E (behind s) else bad_at s) ≡ Err e → IsFirstBad (value_by E (Mark b)) (Begin Values) s e
+      → (if list then E listed s else if pointer then pointer_at E (behind s) else bad_at s) ≡ Err e → TellsBadToken (value_by E (Mark b)) (Begin Values) s e
   by_mark b s e next true pointer l p h =
       told_here (value_by E (Mark b)) (E listed) (Begin (Lists S)) (Begin Values) s e (λ t same g fault. rw l fault) list_begins (told.list s e h)
   by_mark b s e next false true l p h =
@@ -352,7 +352,7 @@ module _ (E : Reader) (R S : Spelling) (again : EnclosedAgain E R) (found : Encl
   by_mark b s e next false false l p h =
       bad_here (value_by E (Mark b)) (Begin Values) s e (λ t same. rw (l, p) refl) no_value (bad_is {A = Value} s e h)
 
-  value_by_told : (token : Token) (s : At) (e : TextFault) → (next_at s).token ≡ token → value_by E token s ≡ Err e → IsFirstBad (value_by E token) (Begin Values) s e
+  value_by_told : (token : Token) (s : At) (e : TextFault) → (next_at s).token ≡ token → value_by E token s ≡ Err e → TellsBadToken (value_by E token) (Begin Values) s e
   value_by_told Word s e next h = word_value_told s e h
   value_by_told (Mark b) s e next h = by_mark b s e next (b == 91) (b == 64) refl refl h
   value_by_told Text s e next h = text_told s e h
@@ -360,7 +360,7 @@ module _ (E : Reader) (R S : Spelling) (again : EnclosedAgain E R) (found : Encl
   value_by_told Cut s e next h = text_told s e h
   value_by_told End s e next h = text_told s e h
 
-  pub value_told : (s : At) (e : TextFault) → value_in_text E s ≡ Err e → IsFirstBad (value_in_text E) (Begin Values) s e
+  pub value_told : (s : At) (e : TextFault) → value_in_text E s ≡ Err e → TellsBadToken (value_in_text E) (Begin Values) s e
   value_told s e h = by_token (next_at s).token s e refl (value_by_told (next_at s).token s e refl (sym (value_goes (next_at s).token s refl) ∙ h))
 
   -- ---- parts
@@ -371,7 +371,7 @@ module _ (E : Reader) (R S : Spelling) (again : EnclosedAgain E R) (found : Encl
       let null : SpellsLayer S (out-Value Null) (word (codes "null") ∷ []) = subst (λ (y : Value-F Value Part). SpellsLayer S y (word (codes "null") ∷ [])) (sym outs-Null) refl in
       (ls, part (codes "a") Null, (word (codes "null") ∷ [], refl, refl, null))
 
-  member_bad : (name : List ℕ) (s : At) (e : TextFault) → IsNext (word name) s → is_name_text name ≡ true → marked 58 (behind s) ≡ true → value_in_text E (behind (behind s)) ≡ Err e → IsFirstBad (part_at E) (Begin Parts) s e
+  member_bad : (name : List ℕ) (s : At) (e : TextFault) → IsNext (word name) s → is_name_text name ≡ true → marked 58 (behind s) ≡ true → value_in_text E (behind (behind s)) ≡ Err e → TellsBadToken (part_at E) (Begin Parts) s e
   unfolding part_at
   member_bad name s e next named m bad =
       told_behind (part_at E) (value_in_text E) (Begin Values) (Begin Parts) (word name ∷ mark 58 ∷ []) s (behind (behind s)) e (next, (marked_is 58 (behind s) m, refl))
@@ -383,7 +383,7 @@ module _ (E : Reader) (R S : Spelling) (again : EnclosedAgain E R) (found : Encl
       (λ ms b. (b.0, part name b.1, member_named S name b.1 (ms ++ b.0) named b.2))
       (value_told (behind (behind s)) e bad)
 
-  base_bad : (name : List ℕ) (s : At) (e : TextFault) → IsNext (word name) s → is_name_text name ≡ true → marked 58 (behind s) ≡ false → object_at E name (behind s) ≡ Err e → IsFirstBad (part_at E) (Begin Parts) s e
+  base_bad : (name : List ℕ) (s : At) (e : TextFault) → IsNext (word name) s → is_name_text name ≡ true → marked 58 (behind s) ≡ false → object_at E name (behind s) ≡ Err e → TellsBadToken (part_at E) (Begin Parts) s e
   unfolding part_at
   base_bad name s e next named m bad =
       told_behind (part_at E) (object_at E name) (Tail name) (Begin Parts) (word name ∷ []) s (behind s) e (next, refl)
@@ -396,11 +396,11 @@ module _ (E : Reader) (R S : Spelling) (again : EnclosedAgain E R) (found : Encl
       (object_told name (behind s) e bad)
 
   part_by : (name : List ℕ) (s : At) (e : TextFault) → IsNext (word name) s → is_name_text name ≡ true → (b : Bool) → marked 58 (behind s) ≡ b
-      → (if b then (value_in_text E (behind (behind s)) >>= with_place (part name)) else (object_at E name (behind s) >>= with_place (part []))) ≡ Err e → IsFirstBad (part_at E) (Begin Parts) s e
+      → (if b then (value_in_text E (behind (behind s)) >>= with_place (part name)) else (object_at E name (behind s) >>= with_place (part []))) ≡ Err e → TellsBadToken (part_at E) (Begin Parts) s e
   part_by name s e next named true m h = member_bad name s e next named m (handed_bad (value_in_text E (behind (behind s))) (part name) e h)
   part_by name s e next named false m h = base_bad name s e next named m (handed_bad (object_at E name (behind s)) (part []) e h)
 
-  part_told : (s : At) (e : TextFault) → part_at E s ≡ Err e → IsFirstBad (part_at E) (Begin Parts) s e
+  part_told : (s : At) (e : TextFault) → part_at E s ≡ Err e → TellsBadToken (part_at E) (Begin Parts) s e
   unfolding part_at
   part_told s e h =
       elim (bind_bad Part (name_at s) (λ name. if marked 58 name.1 then (value_in_text E (behind name.1) >>= with_place (part name.0)) else (object_at E name.0 name.1 >>= with_place (part []))) e h) [
@@ -440,7 +440,7 @@ module _ (E : Reader) (R S : Spelling) (again : EnclosedAgain E R) (found : Encl
   enclosing : (opening closing : ℕ) (ms more : List Lexeme) → (mark opening ∷ ms) ++ (more ++ mark closing ∷ []) ≡ in_brackets opening (ms ++ more) closing
   enclosing opening closing ms more = ap (λ (l : List Lexeme). mark opening ∷ l) (sym (append_assoc ms more (mark closing ∷ [])))
 
-  pub values_told : (s : At) (e : TextFault) → values_at E s ≡ Err e → IsFirstBad (values_at E) (Begin Rows) s e
+  pub values_told : (s : At) (e : TextFault) → values_at E s ≡ Err e → TellsBadToken (values_at E) (Begin Rows) s e
   unfolding values_at
   values_told s e h =
       elim (bind_bad (List Value) (mark_at 91 s) (λ opening. list_at 93 (λ before. value_in_text E) opening.1) e h) [
@@ -457,13 +457,13 @@ module _ (E : Reader) (R S : Spelling) (again : EnclosedAgain E R) (found : Encl
             (items_told {A = Value} 93 (λ before. value_in_text E) (λ before v. SpellsLayer R (out-Value v)) (λ before. Values) (λ v. ends_here (out-Value v)) told_values w.0.1 e w.2)
       ]
 
-  list_told : (s : At) (e : TextFault) → enclosed_by E listed s ≡ Err e → IsFirstBad (enclosed_by E listed) (Begin (Lists (SpellsBrackets S))) s e
+  list_told : (s : At) (e : TextFault) → enclosed_by E listed s ≡ Err e → TellsBadToken (enclosed_by E listed) (Begin (Lists (SpellsBrackets S))) s e
   unfolding enclosed_by
   list_told s e h =
       let bad = handed_bad (values_at E s) Items e h in
       told_here (enclosed_by E listed) (values_at E) (Begin Rows) (Begin (Lists (SpellsBrackets S))) s e (λ t same g fault. rw fault refl) (λ ms b. (b.0, b.1, b.2)) (values_told s e bad)
 
-  braces_told : (class : List ℕ) (z : ℤ) (s : At) (e : TextFault) → enclosed_by E (object_of class z) s ≡ Err e → IsFirstBad (enclosed_by E (object_of class z)) (Begin (Braces (SpellsBrackets S) class z)) s e
+  braces_told : (class : List ℕ) (z : ℤ) (s : At) (e : TextFault) → enclosed_by E (object_of class z) s ≡ Err e → TellsBadToken (enclosed_by E (object_of class z)) (Begin (Braces (SpellsBrackets S) class z)) s e
   unfolding enclosed_by
   braces_told class z s e h =
       elim (bind_bad Value (mark_at 123 s) (λ opening. list_at 125 (λ before. part_at E) opening.1 >>= with_place (Object class z)) e h) [

@@ -1,5 +1,5 @@
--- Declarations of classes as tokens spell them, by cases on what is declared. What has several spellings has them in the
--- blanks between its tokens.
+-- Declarations of classes as tokens spell them, by cases on what is declared. Texts that declare the same class differ in
+-- the blanks between their tokens.
 use Rattle.std.specs.Prelude.{◌≡◌, ℕ, pos, List, [], ◌∷◌, ◌++◌, codes, Ok, Err, Some, None, Bool, true, not, ◌&&◌}
 use Rattle.rio_num.specs.At.{At}
 use Rattle.rio_num.specs.Word.{is_name_text}
@@ -18,7 +18,7 @@ use Rattle.rio_model.specs.ClassGrammar.{class_at, class_of, has_i32, is_new_bas
 use Rattle.rio_model.specs.ClassText.{primitive_text}
 use Rattle.rio_model.specs.Lexemes.{Lexeme, SpellsItems, Stand, mark, word}
 use Rattle.rio_model.specs.Stated.{is_class_word}
-use Rattle.rio_model.specs.ToldPlaces.{IsFirstBad}
+use Rattle.rio_model.specs.ToldPlaces.{TellsBadToken}
 use Rattle.rio_model.specs.ValueSpelling.{in_brackets}
 
 -- ---- kinds
@@ -89,7 +89,6 @@ ReadClassesAreSpelled =
     (class : ClassDef) (old new : At) → class_at old ≡ Ok (class, new)
     → (ls : List Lexeme) × (here : At) × SpellsDeclaration class ls × Stand ls old here × ((next_at here).token ≡ End) × (new ≡ behind here)
 
--- A declaration that isn't read has a first token that can't stand, and wherever it comes next behind the same tokens, its
--- place is told.
+-- A text that isn't read has a token whose place is told, wherever it comes next behind the same tokens.
 abbrev pub ClassPlacesAreTold : Type 0
-ClassPlacesAreTold = (old : At) (fault : TextFault) → class_at old ≡ Err fault → IsFirstBad class_at (λ ls. Unit {0}) old fault
+ClassPlacesAreTold = (old : At) (fault : TextFault) → class_at old ≡ Err fault → TellsBadToken class_at (λ ls. Unit {0}) old fault

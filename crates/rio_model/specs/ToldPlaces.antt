@@ -1,4 +1,4 @@
--- The place that is told of a text that isn't read is that of its first token that can't stand.
+-- The place that is told of a text that isn't read, and what the tokens before that place begin.
 use Rattle.std.specs.Prelude.{◌≡◌, ℕ, suc, List, [], ◌∷◌, ◌++◌, Err, Bool, true, false, if◌then◌else◌}
 use Rattle.rio_num.specs.At.{At, end_place}
 use Rattle.rio_token.specs.declared.fault.TextFault.{TextFault}
@@ -24,9 +24,9 @@ abbrev pub IsLast : Bool → List Lexeme → Type 0
 IsLast true ls = (text : List ℕ) × (ls ≡ chars text ∷ [])
 IsLast false ls = ls ≡ []
 
--- Behind some tokens one comes next that can't stand, and its place is told. Where it comes next behind the same tokens,
--- its place is told, whatever stands behind it. The tokens before it are the beginning of what is read.
-pub record IsFirstBad {A : Type 0} (read : At → Read A) (Begins : List Lexeme → Type 0) (old : At) (fault : TextFault) : Type 0 where
+-- Behind some tokens one comes next whose place is told. Where it comes next behind the same tokens, its place is told,
+-- whatever stands behind it. What the tokens before it begin is given.
+pub record TellsBadToken {A : Type 0} (read : At → Read A) (Begins : List Lexeme → Type 0) (old : At) (fault : TextFault) : Type 0 where
   pub before : List Lexeme
   pub here : At
   pub cut : Bool
@@ -40,12 +40,12 @@ pub record IsFirstBad {A : Type 0} (read : At → Read A) (Begins : List Lexeme 
 abbrev pub Begin : {A : Type 0} → (A → List Lexeme → Type 0) → List Lexeme → Type 0
 Begin {A} Spells ls = (more : List Lexeme) × (x : A) × Spells x (ls ++ more)
 
--- A text that isn't read has a first token that can't stand. One bracket more than may be open is enough to complete what
--- stands before it: where as many are open as may be, the bracket itself is the token that can't stand.
+-- A text that isn't read has a token whose place is told. With others behind them the tokens before it spell something, in
+-- which one bracket more than may be open may be open.
 pub record PlacesAreTold : Type 0 where
   pub value :
       (levels : ℕ) (old : At) (fault : TextFault) → value_in_text (enclosed_at levels) old ≡ Err fault
-      → IsFirstBad (value_in_text (enclosed_at levels)) (Begin (SpellsValue (suc levels))) old fault
+      → TellsBadToken (value_in_text (enclosed_at levels)) (Begin (SpellsValue (suc levels))) old fault
   pub row :
       (levels : ℕ) (old : At) (fault : TextFault) → values_at (enclosed_at levels) old ≡ Err fault
-      → IsFirstBad (values_at (enclosed_at levels)) (Begin (SpellsRow (suc levels))) old fault
+      → TellsBadToken (values_at (enclosed_at levels)) (Begin (SpellsRow (suc levels))) old fault

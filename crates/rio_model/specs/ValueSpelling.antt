@@ -1,5 +1,5 @@
--- Values as tokens spell them, by cases on the value. What has several spellings has them in its tokens: blanks between
--- them, and escapes in a string. An object of version 0 is one whose version is left out.
+-- Values as tokens spell them, by cases on the value. Texts that spell the same value differ in the blanks between their
+-- tokens and in the escapes of their strings. An object of version 0 is one whose version is left out.
 use Rattle.std.specs.Prelude.{◌≡◌, ℕ, zero, suc, ◌≤◌, ℤ, pos, negsuc, List, [], ◌∷◌, ◌++◌, codes, Some, Ok, Bool, true, false, not}
 use Rattle.rio_num.specs.At.{At}
 use Rattle.rio_num.specs.Word.{is_name_text}
@@ -101,7 +101,7 @@ ends_here Null s = not (opens_object s)
 ends_here (Back label) s = not (marked equals_sign s)
 ends_here other s = true
 
--- what is spelled is read, wherever it stands and whatever follows
+-- what is spelled is read, wherever it stands, where it ends
 pub record SpelledAreRead : Type 0 where
   pub value :
       (levels : ℕ) (v : Value) (ls : List Lexeme) (old new : At) → SpellsValue levels v ls → Stand ls old new

@@ -12,8 +12,8 @@ pub fn read_classes_are_spelled()
     ensures { ReadClassesAreSpelled }
 {}
 
-/// The place that is told of a text that isn't read as a declaration is that of a token, the first that can't stand,
-/// and whatever stands behind that token the place is the same.
-pub fn first_bad_class_tokens_are_told()
+/// The place that is told of a text that isn't read as a declaration is that of a token, and whatever stands behind that
+/// token the place is the same.
+pub fn bad_class_tokens_are_told()
     ensures { ClassPlacesAreTold }
 {}

@@ -11,7 +11,7 @@ mod read_laws;
 mod spelling_laws;
 
 pub use class_laws::{
-    first_bad_class_tokens_are_told, read_classes_are_spelled, spelled_classes_are_read,
+    bad_class_tokens_are_told, read_classes_are_spelled, spelled_classes_are_read,
 };
 pub use declare::{DeclareFault, holding_is_reaching};
 pub use laws::texts_are_one_line;

@@ -2,7 +2,8 @@
 ghost use Rattle.rio_model.specs.ToldPlaces.{PlacesAreTold};
 ghost use Rattle.rio_model.specs.ValueSpelling.{ReadAreSpelled, SpelledAreRead};
 
-/// What tokens spell as a value or a row is read as it, wherever they stand, with any blanks between them.
+/// What tokens spell as a value or a row is read as it, wherever they stand, with any blanks between them, where a value
+/// ends behind them: behind `true`, `false` and `null` no `{` and no `#` comes next, behind a label no `=`.
 pub fn spelled_values_are_read()
     ensures { SpelledAreRead }
 {}
@@ -12,8 +13,9 @@ pub fn read_values_are_spelled()
     ensures { ReadAreSpelled }
 {}
 
-/// The place that is told of a text that isn't read as a value or a row is that of its first token that can't stand. The
-/// text before it can be completed, and whatever stands behind that token the place is the same.
+/// The place that is told of a text that isn't read as a value or a row is that of a token. With others behind them the
+/// tokens before it spell a value or a row, in which one bracket more than may be open may be open, and whatever stands
+/// behind that token the place is the same.
 pub fn first_bad_tokens_are_told()
     ensures { PlacesAreTold }
 {}
