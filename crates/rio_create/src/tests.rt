@@ -33,7 +33,7 @@ fn host_over(alloc: Global, front: &[u8], failing: &[u64]) -> Result<MemHost, No
     Ok(MemHost::new(alloc, image, failing))
 }
 
-fn is_whole(image: &[u8]) -> bool {
+fn is_new_file(image: &[u8]) -> bool {
     image == NEW
 }
 
@@ -67,7 +67,7 @@ fn is_made(alloc: Global, front: &[u8], failing: &[u64]) -> bool
     requires { length front.now < 4 }
 {
     match host_over(alloc, front, failing) {
-        Ok(mut host) => makes(alloc, &mut host) && is_whole(host.image()),
+        Ok(mut host) => makes(alloc, &mut host) && is_new_file(host.image()),
         Err(_) => false,
     }
 }
@@ -75,7 +75,7 @@ fn is_made(alloc: Global, front: &[u8], failing: &[u64]) -> bool
 // Whether it is told that this call fails. At the last the bytes of the file stand already.
 fn is_call_told(alloc: Global, number: u64) -> bool {
     match host_over(alloc, b"abc", &[number]) {
-        Ok(mut host) => fails(alloc, &mut host) && is_whole(host.image()) == (number == 5),
+        Ok(mut host) => fails(alloc, &mut host) && is_new_file(host.image()) == (number == 5),
         Err(_) => false,
     }
 }

@@ -186,7 +186,7 @@ fn empty_host(alloc: Global) -> MemHost {
     MemHost::new(alloc, Bytes::new(alloc), Numbers::new(alloc))
 }
 
-fn is_empty(image: &[u8]) -> bool {
+fn is_empty_file(image: &[u8]) -> bool {
     image == EMPTY
 }
 
@@ -202,7 +202,7 @@ fn opens_and_closes(alloc: Global, host: &mut MemHost) -> bool {
 
 fn closes_empty(alloc: Global) -> bool {
     let mut host = empty_host(alloc);
-    opens_and_closes(alloc, &mut host) && is_empty(host.image()) && host.said().is_empty()
+    opens_and_closes(alloc, &mut host) && is_empty_file(host.image()) && host.said().is_empty()
 }
 
 #[test]
@@ -251,7 +251,7 @@ fn refuses(alloc: Global) -> bool {
     let mut host = empty_host(alloc);
     run_refused(alloc, &mut host).is_ok()
         && host.said().as_slice() == REFUSED
-        && is_empty(host.image())
+        && is_empty_file(host.image())
 }
 
 #[test]
