@@ -4,7 +4,7 @@ ghost use Rattle.std.specs.List.{list_any};
 ghost use Rattle.std.specs.Option.{option_copied};
 ghost use Rattle.std.specs.Result.{result_err, result_unwrap_or};
 ghost use Rattle.rio_tree.specs.BranchMembers.{class_version_said};
-ghost use Rattle.rio_tree.specs.Header.{branch_in, branch_known, branch_refused, entries_said, has_offsets, is_counted_dim, met_behind, shape_said, varies_in_length};
+ghost use Rattle.rio_tree.specs.Header.{branch_in, branch_known, branch_refused, entries_said, has_offsets, met_behind, shape_said, varies_in_length};
 ghost use Rattle.rio_tree.specs.HeaderLeaves.{name_said};
 ghost use Rattle.rio_tree.specs.Refusals.{listed_baskets};
 ghost use Rattle.rio_tree.specs.Tables.{branch_of, labels_of, leaves_said, met_of};
@@ -39,17 +39,11 @@ fn branch_refused(alloc: Global, name: &[u8], why: BranchRefusal) -> Result<Bran
     })
 }
 
-fn is_counted_dim(dim: &Dim) -> bool
-    ensures { result ≡ is_counted_dim dim.now }
-{
-    matches!(dim, Dim::Counted { .. })
-}
-
 // Whether a leaf may have values of different lengths.
 fn varies_in_length(leaf: &Leaf) -> bool
     ensures { result ≡ varies_in_length leaf.now }
 {
-    leaf.letter == b'C' || is_counted_dim(&leaf.dim)
+    leaf.letter == b'C' || matches!(leaf.dim, Dim::Counted { .. })
 }
 
 fn have_offsets(leaves: &[Leaf]) -> bool

@@ -1,7 +1,7 @@
 //! What a leaf in a header says.
 ghost use Rattle.std.specs.Prelude.{◌≡◌, Some, if◌then◌else◌};
 ghost use Rattle.std.specs.Str.{bytes_eq};
-ghost use Rattle.rio_tree.specs.HeaderLeaves.{counter_in, counter_member, is_plain_number, leaf_at_pointer, leaf_said, least_one, letter_of_class, uncounted_dim};
+ghost use Rattle.rio_tree.specs.HeaderLeaves.{counter_member, is_plain_number, leaf_at_pointer, leaf_said, least_one, letter_of_class, uncounted_dim};
 ghost use Rattle.rio_tree.specs.Tables.{labels_of};
 
 use crate::labels::LabelTable;
@@ -61,22 +61,16 @@ fn letter_of_class(class: &[u8], unsigned: bool) -> Option<u8>
     letter_or(class, b"TLeafB", letter_if(unsigned, b'B', b'b'), other)
 }
 
-// Null, or the label of an object; None for another value.
-fn counter_in(value: &Value) -> Option<Option<u32>>
-    ensures { result ≡ counter_in value.now }
+// The label that a member is, or no label where it is null; None for another value.
+fn counter_member(name: &[u8], value: &Value) -> Option<Option<u32>>
+    ensures { result ≡ counter_member name.now value.now }
 {
-    match value {
+    match member(name, value)? {
         Value::Null => Some(None),
         Value::Pointed { label, .. } => Some(Some(*label)),
         Value::Back(label) => Some(Some(*label)),
         _ => None,
     }
-}
-
-fn counter_member(name: &[u8], value: &Value) -> Option<Option<u32>>
-    ensures { result ≡ counter_member name.now value.now }
-{
-    counter_in(member(name, value)?)
 }
 
 /// What a leaf says. None where its class isn't one of those of leaves, or a member is lacking.

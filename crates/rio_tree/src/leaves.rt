@@ -71,15 +71,6 @@ fn leaf_by(alloc: Global, said: &LeafSaid, counter: Option<MetLeaf>) -> Result<L
 }
 
 impl LeavesRead {
-    fn new(alloc: Global) -> LeavesRead
-        ensures { leaves_of_branch result ≡ no_leaves }
-    {
-        LeavesRead {
-            leaves: Leaves::new(alloc),
-            numbers: BTreeSet::new(alloc),
-        }
-    }
-
     // The number of the counter's branch, if that is another one.
     fn note_counter(&mut self, own: usize, counter: Option<MetLeaf>) -> Result<(), NoMemory>
         ensures { OnOk result (leaves_of_branch self.new
@@ -115,9 +106,8 @@ impl LeavesRead {
             return Err(Stop::Refused(BranchRefusal::LeafClass));
         };
         let counter = counter_met(branches, met, &said)?;
-        let leaf = leaf_by(alloc, &said, counter)?;
+        self.leaves.push(leaf_by(alloc, &said, counter)?)?;
         self.note_counter(branches.len(), counter)?;
-        self.leaves.push(leaf)?;
         Ok(())
     }
 }
@@ -136,7 +126,10 @@ fn read_each<'a>(
         (leaves_met (labels_of labels.now) (length branches.now) items.now (met_of met.old))
         (met_of met.new) }
 {
-    let mut read = LeavesRead::new(alloc);
+    let mut read = LeavesRead {
+        leaves: Leaves::new(alloc),
+        numbers: BTreeSet::new(alloc),
+    };
     for (k, item) in items.iter().enumerate() {
         match read.note_leaf(alloc, labels, branches, met, item) {
             Ok(()) => met.note_leaf(labels, branches.len(), item)?,

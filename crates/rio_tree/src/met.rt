@@ -1,13 +1,13 @@
 //! The leaves before another one, and the one that counts it.
-ghost use Rattle.std.specs.Prelude.{◌≡◌, Some, None, slice_get, OnOk};
+ghost use Rattle.std.specs.Prelude.{◌≡◌, None, slice_get, OnOk};
 ghost use Rattle.std.specs.Option.{option_copied, option_map};
 ghost use Rattle.rio_tree.specs.HeaderLeaves.{can_count_behind, counter_of_label, is_nearest_of_name, leaf_met, leaves_met, name_said, no_leaves_met, object_met, says_values, with_label_met, with_leaf_met, with_name_met};
 ghost use Rattle.rio_tree.specs.Tables.{labels_of, leaf_of, met_of};
 
+use crate::Branches;
 use crate::labels::{LabelTable, label_in};
 use crate::leaf::{is_plain_number, leaf_said};
 use crate::members::name_member;
-use crate::{Branch, Branches};
 use rio_leaf::Shape;
 use rio_num::NoMemory;
 use rio_value::Value;
@@ -65,15 +65,6 @@ impl<'a> MetTable<'a> {
         Ok(())
     }
 
-    // One more leaf.
-    fn note(&mut self, leaf: MetLeaf<'a>) -> Result<(), NoMemory>
-        ensures { OnOk result (met_of self.new
-            ≡ with_leaf_met (leaf_of leaf.entry) (met_of self.old)) }
-    {
-        self.note_label(leaf)?;
-        self.note_name(leaf)
-    }
-
     // The nearest leaf of the label.
     fn nearest_of_label(&self, label: u32) -> Option<MetLeaf<'a>>
         ensures { option_map leaf_of result ≡ (met_of self.now).of_label label }
@@ -123,7 +114,9 @@ impl<'a> MetTable<'a> {
         ensures { OnOk result (met_of self.new
             ≡ with_leaf_met (leaf_met (labels_of labels.now) branch item.now) (met_of self.old)) }
     {
-        self.note(met_leaf(branch, label_in(item), labels.object_behind(item)))
+        let leaf = met_leaf(branch, label_in(item), labels.object_behind(item));
+        self.note_label(leaf)?;
+        self.note_name(leaf)
     }
 
     /// The leaves of a branch that these pointers lead to.
@@ -143,25 +136,19 @@ impl<'a> MetTable<'a> {
     }
 }
 
-// Whether entries of a branch say the values of its leaves.
-fn says_values(branch: &Branch) -> bool
-    ensures { result ≡ says_values (Some branch.now) }
-{
-    branch.refused.is_none() && matches!(branch.def.shape, Shape::Leaves(_))
-}
-
 // Whether a leaf may count those of the branch behind these.
 fn can_count_behind(branches: &Branches, leaf: &MetLeaf) -> bool
     ensures { result ≡ can_count_behind branches.now (leaf_of leaf.now) }
 {
-    leaf.counts && (leaf.branch == branches.len() || is_read(branches, leaf.branch))
+    leaf.counts && (leaf.branch == branches.len() || says_values(branches, leaf.branch))
 }
 
-fn is_read(branches: &Branches, k: usize) -> bool
+// Whether entries of a branch say the values of its leaves.
+fn says_values(branches: &Branches, k: usize) -> bool
     ensures { result ≡ says_values (slice_get branches.now k) }
 {
     match branches.get(k) {
-        Some(branch) => says_values(branch),
+        Some(branch) => branch.refused.is_none() && matches!(branch.def.shape, Shape::Leaves(_)),
         None => false,
     }
 }

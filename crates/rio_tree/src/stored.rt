@@ -2,7 +2,7 @@
 ghost use Rattle.std.specs.Prelude.{◌≡◌, pos};
 ghost use Rattle.std.specs.Option.{ok_or};
 ghost use Rattle.std.specs.Ordering.{int_eq};
-ghost use Rattle.rio_tree.specs.Refusals.{are_in_order, basket_numbered, basket_said, baskets_from, listed_baskets, natural_in, number_baskets, rise_behind};
+ghost use Rattle.rio_tree.specs.Refusals.{are_in_order, basket_numbered, baskets_from, listed_baskets, natural_in, number_baskets, rise_behind};
 ghost use Rattle.rio_tree.specs.Stops.{GivesOrStops};
 ghost use Rattle.rio_tree.specs.Tables.{branch_of};
 ghost use Rattle.rio_tree.specs.declared.refusal.BranchRefusal.TheVariants.{BadBasketList as NoList};
@@ -26,25 +26,18 @@ fn u64_in(value: &Value) -> Option<u64>
     u64::try_from(i64_in(value)?).ok()
 }
 
-#[tactic(auto, unfolding(crate::specs::Refusals::basket_said))]
-fn basket_said(bytes: &Value, first: &Value, seek: &Value) -> Option<BasketAt>
-    ensures { result ≡ basket_said bytes.now first.now seek.now }
-{
-    let bytes = u32_in(bytes)?;
-    let first = u64_in(first)?;
-    let seek = u64_in(seek)?;
-    Some(BasketAt { bytes, first, seek })
-}
-
 // The basket of this number. None where a list is shorter or a number below 0.
-#[tactic(auto, unfolding(crate::specs::Refusals::basket_numbered))]
+#[tactic(auto, unfolding(crate::specs::Refusals::basket_numbered, crate::specs::Refusals::basket_said))]
 fn basket_numbered(said: &BranchSaid, k: usize) -> Option<BasketAt>
     ensures { result ≡ basket_numbered (branch_of said.now) k }
 {
     let bytes = said.bytes.get(k)?;
     let first = said.firsts.get(k)?;
     let seek = said.seeks.get(k)?;
-    basket_said(bytes, first, seek)
+    let bytes = u32_in(bytes)?;
+    let first = u64_in(first)?;
+    let seek = u64_in(seek)?;
+    Some(BasketAt { bytes, first, seek })
 }
 
 // The first baskets, so many.
