@@ -1,7 +1,7 @@
 //! What a branch in a header says.
 ghost use Rattle.std.specs.Prelude.{◌≡◌};
 ghost use Rattle.std.specs.List.{list_all};
-ghost use Rattle.std.specs.Option.{option_and_then, option_copied, option_map};
+ghost use Rattle.std.specs.Option.{option_copied, option_map};
 ghost use Rattle.std.specs.Result.{result_map_both};
 ghost use Rattle.rio_tree.specs.BranchMembers.{branch_said, class_version_said, entry_class, leaf_items};
 ghost use Rattle.rio_tree.specs.Refusals.{has_leaf_class, is_null, readable_branch};
@@ -18,7 +18,7 @@ use rio_value::Value;
 
 /// What a branch says that has all members that are needed. `class` is the class of its entries, if it is a branch of
 /// objects.
-#[derive(Drop)]
+#[derive(Clone, Copy)]
 pub(crate) struct BranchSaid<'a> {
     pub(crate) class: Option<&'a [u8]>,
     pub(crate) write_basket: i32,
@@ -77,16 +77,10 @@ fn branch_said(value: &Value) -> Option<BranchSaid<'_>>
     })
 }
 
-fn is_null(value: &Value) -> bool
-    ensures { result ≡ is_null value.now }
-{
-    matches!(value, Value::Null)
-}
-
 fn are_null(items: &[Value]) -> bool
     ensures { result ≡ list_all is_null items.now }
 {
-    items.iter().all(|item| is_null(item))
+    items.iter().all(|item| matches!(item, Value::Null))
 }
 
 fn have_leaf_class<'a>(labels: &LabelTable<'a>, items: &'a [Value]) -> bool
@@ -100,13 +94,6 @@ fn have_leaf_class<'a>(labels: &LabelTable<'a>, items: &'a [Value]) -> bool
     true
 }
 
-fn said_behind<'a>(object: Option<&'a Value>) -> Option<BranchSaid<'a>>
-    ensures { option_map branch_of result
-        ≡ option_and_then branch_said (option_copied object.entry) }
-{
-    branch_said(object?)
-}
-
 /// What a branch says, which has all its members, no branches of its own, no basket in the header, and no leaf of another
 /// class than those of leaves.
 #[tactic(auto, unfolding(crate::specs::Refusals::readable_branch))]
@@ -117,7 +104,10 @@ pub(crate) fn readable_branch<'a>(
     ensures { result_map_both branch_of (λ why. why) result
         ≡ readable_branch (labels_of labels.now) item.now }
 {
-    let Some(said) = said_behind(labels.object_behind(item)) else {
+    let Some(object) = labels.object_behind(item) else {
+        return Err(BranchRefusal::BranchClass);
+    };
+    let Some(said) = branch_said(object) else {
         return Err(BranchRefusal::BranchClass);
     };
     if !said.branches.is_empty() {

@@ -3,7 +3,7 @@ ghost use Rattle.std.specs.Prelude.{◌≡◌};
 ghost use Rattle.std.specs.Option.{option_copied};
 ghost use Rattle.std.specs.List.{flat_map, list_all};
 ghost use Rattle.rio_format.specs.ValueParts.{part_of};
-ghost use Rattle.rio_tree.specs.Members.{class_of_object, integer_in, integer_member, integers_in, integers_member, is_integer, list_in, member_in, name_member, own_parts, parts_of_base, parts_with_bases, pointers_in, pointers_member, text_bytes_in, truth_in, truth_member, version_of_object};
+ghost use Rattle.rio_tree.specs.Members.{class_of_object, integer_in, integer_member, integers_in, integers_member, is_integer, list_in, member_in, name_member, parts_of_base, parts_with_bases, pointers_member, truth_member, version_of_object};
 
 use rio_value::{Part, Value};
 
@@ -24,15 +24,6 @@ pub(crate) fn version_of_object(value: &Value) -> i32
     match value {
         Value::Object { version, .. } => *version,
         _ => 0,
-    }
-}
-
-fn own_parts(value: &Value) -> &[Part]
-    ensures { result.now ≡ own_parts value.now }
-{
-    match value {
-        Value::Object { parts, .. } => parts.as_slice(),
-        _ => &[],
     }
 }
 
@@ -106,24 +97,6 @@ pub(crate) fn i64_in(value: &Value) -> Option<i64>
     }
 }
 
-fn truth_in(value: &Value) -> Option<bool>
-    ensures { result ≡ truth_in value.now }
-{
-    match value {
-        Value::Bool(b) => Some(*b),
-        _ => None,
-    }
-}
-
-fn text_in(value: &Value) -> Option<&[u8]>
-    ensures { option_copied result ≡ text_bytes_in value.now }
-{
-    match value {
-        Value::Text(text) => Some(text.as_slice()),
-        _ => None,
-    }
-}
-
 fn list_in(value: &Value) -> Option<&[Value]>
     ensures { option_copied result ≡ list_in value.now }
 {
@@ -159,15 +132,6 @@ fn i64s_in(value: &Value) -> Option<&[Value]>
     if are_i64(items) { Some(items) } else { None }
 }
 
-fn pointers_in(value: &Value) -> Option<&[Value]>
-    ensures { option_copied result ≡ pointers_in value.now }
-{
-    if class_of_object(value) != b"TObjArray".as_slice() {
-        return None;
-    }
-    list_in(own_member(b"items", own_parts(value))?)
-}
-
 /// The integer that a member is, if an `i32` holds it.
 pub(crate) fn i32_member(name: &[u8], value: &Value) -> Option<i32>
     ensures { result ≡ integer_member 32 name.now value.now }
@@ -186,14 +150,20 @@ pub(crate) fn i64_member(name: &[u8], value: &Value) -> Option<i64>
 pub(crate) fn truth_member(name: &[u8], value: &Value) -> Option<bool>
     ensures { result ≡ truth_member name.now value.now }
 {
-    truth_in(member(name, value)?)
+    match member(name, value)? {
+        Value::Bool(b) => Some(*b),
+        _ => None,
+    }
 }
 
 /// The bytes of the text that a member is.
 pub(crate) fn name_member<'a>(name: &[u8], value: &'a Value) -> Option<&'a [u8]>
     ensures { option_copied result ≡ name_member name.now value.now }
 {
-    text_in(member(name, value)?)
+    match member(name, value)? {
+        Value::Text(text) => Some(text.as_slice()),
+        _ => None,
+    }
 }
 
 /// The items of a member that is a list of integers that an `i32` holds.
@@ -214,5 +184,10 @@ pub(crate) fn i64s_member<'a>(name: &[u8], value: &'a Value) -> Option<&'a [Valu
 pub(crate) fn pointers_member<'a>(name: &[u8], value: &'a Value) -> Option<&'a [Value]>
     ensures { option_copied result ≡ pointers_member name.now value.now }
 {
-    pointers_in(member(name, value)?)
+    match member(name, value)? {
+        Value::Object { class, parts, .. } if class.as_slice() == b"TObjArray".as_slice() => {
+            list_in(own_member(b"items", parts.as_slice())?)
+        }
+        _ => None,
+    }
 }
