@@ -58,13 +58,19 @@ fn with_baskets(parts: PartList, alloc: Global, branch: &Branch) -> Result<PartL
     ensures { IfOk result (λ list. list ≡ parts ++ basket_arrays branch.now) }
 {
     let baskets = branch.baskets.as_slice();
-    let bytes = basket_numbers(alloc, BasketNumber::Bytes, baskets, 0)?;
-    let firsts = basket_numbers(alloc, BasketNumber::First, baskets, branch.entries)?;
-    let seeks = basket_numbers(alloc, BasketNumber::Seek, baskets, 0)?;
     parts
-        .with(b"fBasketBytes", bytes)?
-        .with(b"fBasketEntry", firsts)?
-        .with(b"fBasketSeek", seeks)
+        .with(
+            b"fBasketBytes",
+            basket_numbers(alloc, BasketNumber::Bytes, baskets, 0)?,
+        )?
+        .with(
+            b"fBasketEntry",
+            basket_numbers(alloc, BasketNumber::First, baskets, branch.entries)?,
+        )?
+        .with(
+            b"fBasketSeek",
+            basket_numbers(alloc, BasketNumber::Seek, baskets, 0)?,
+        )
 }
 
 #[tactic(auto, unfolding(crate::specs::WrittenTree::plain_branch_object))]

@@ -6,9 +6,9 @@ returns c =
     simp (
       c.in_ok-with-2.ensures,
       c.in_ok-with.ensures,
-      c.in_ok-seeks.ensures,
-      c.in_ok-firsts.ensures,
-      c.in_ok-bytes.ensures,
+      c.in_ok-basket_numbers-3.ensures,
+      c.in_ok-basket_numbers-2.ensures,
+      c.in_ok-basket_numbers.ensures,
       c.as_slice-baskets.ensures,
       append_assoc,
     ) at c.with-3.ensures
