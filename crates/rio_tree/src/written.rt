@@ -85,10 +85,13 @@ fn plain_branch_object(
     ensures known { OnOk result
         (known.new ≡ labels_behind known.old first (leaves_in_branch branch.now)) }
 {
-    let leaves = leaf_pointers(alloc, known, first, leaves_of(&branch.def.shape))?;
+    let leaves = leaves_of(&branch.def.shape);
     let parts = branch_numbers(alloc, branch)?
         .with(b"fBranches", array_object(alloc, Values::new(alloc))?)?
-        .with(b"fLeaves", array_object(alloc, leaves)?)?
+        .with(
+            b"fLeaves",
+            array_object(alloc, leaf_pointers(alloc, known, first, leaves)?)?,
+        )?
         .with(b"fBaskets", array_object(alloc, Values::new(alloc))?)?;
     with_baskets(parts, alloc, branch)?.object(b"TBranch", 113)
 }
