@@ -193,12 +193,16 @@ pub fn tree_value(alloc: Global, name: &[u8], head: &TreeHead) -> Result<Value, 
 {
     let branches = head.branches.as_slice();
     let named = titled_object(alloc, Name::from_slice(alloc, name)?, Name::new(alloc))?;
-    let leaves = leaf_backs(alloc, branches)?;
-    let branches = branch_pointers(alloc, branches)?;
     PartList::new(alloc)
         .with(b"", named)?
         .with_number(b"fEntries", head.entries)?
-        .with(b"fBranches", array_object(alloc, branches)?)?
-        .with(b"fLeaves", array_object(alloc, leaves)?)?
+        .with(
+            b"fBranches",
+            array_object(alloc, branch_pointers(alloc, branches)?)?,
+        )?
+        .with(
+            b"fLeaves",
+            array_object(alloc, leaf_backs(alloc, branches)?)?,
+        )?
         .object(b"TTree", 120)
 }

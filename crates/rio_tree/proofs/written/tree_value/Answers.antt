@@ -7,10 +7,10 @@ returns c =
     simp (
       c.in_ok-with-3.ensures,
       c.in_ok-array_object-2.ensures,
-      c.in_ok-leaves.ensures,
+      c.in_ok-leaf_backs.ensures,
       c.in_ok-with-2.ensures,
       c.in_ok-array_object.ensures,
-      c.in_ok-branches.ensures,
+      c.in_ok-branch_pointers.ensures,
       c.in_ok-with_number.ensures,
       c.in_ok-with.ensures,
       c.in_ok-named.ensures,
