@@ -110,15 +110,21 @@ static ROWS: [Row; 9] = [
     },
 ];
 
+fn is_text(value: &Value, text: &str) -> bool {
+    match value {
+        Value::Text(name) => name.as_slice() == text.as_bytes(),
+        _ => false,
+    }
+}
+
 impl Single {
     fn is(&self, value: &Value) -> bool {
-        match (self, value) {
-            (Int(n), Value::Int(m)) => n == m,
-            (Word(n), Value::Bits32(m)) => n == m,
-            (Long(n), Value::Bits64(m)) => n == m,
-            (Bool(b), Value::Bool(c)) => b == c,
-            (Text(text), Value::Text(name)) => text.as_bytes() == name.as_slice(),
-            _ => false,
+        match self {
+            Int(n) => matches!(value, Value::Int(m) if m == n),
+            Word(n) => matches!(value, Value::Bits32(m) if m == n),
+            Long(n) => matches!(value, Value::Bits64(m) if m == n),
+            Bool(b) => matches!(value, Value::Bool(c) if c == b),
+            Text(text) => is_text(value, text),
         }
     }
 }
@@ -204,13 +210,17 @@ impl Row {
         }
     }
 
+    fn is_of(&self, alloc: Global, branch: &BranchDef) -> bool {
+        match counts_of(alloc, self.counts) {
+            Ok(counts) => self.is_read(alloc, branch, &counts),
+            Err(_) => false,
+        }
+    }
+
     fn holds(&self, alloc: Global) -> bool {
-        match (
-            branch_of_row(alloc, "", self.leaves),
-            counts_of(alloc, self.counts),
-        ) {
-            (Ok(branch), Ok(counts)) => self.is_read(alloc, &branch, &counts),
-            _ => false,
+        match branch_of_row(alloc, "", self.leaves) {
+            Ok(branch) => self.is_of(alloc, &branch),
+            Err(_) => false,
         }
     }
 }

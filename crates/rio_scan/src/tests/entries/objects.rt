@@ -23,16 +23,20 @@ fn node_members(alloc: Global) -> Result<Members, NoMemory> {
 }
 
 // The class `Node 1 { val: i32, next: Node* }`.
-fn node_class(alloc: Global) -> Result<Classes, NoMemory> {
-    let mut classes = Classes::new(alloc);
+fn node_class(alloc: Global) -> Result<ClassDef, NoMemory> {
     let members = node_members(alloc)?;
-    classes.push(ClassDef {
+    Ok(ClassDef {
         name: Name::from_slice(alloc, b"Node")?,
         version: 1,
         sum: 0,
         bases: Bases::new(alloc),
         members,
-    })?;
+    })
+}
+
+fn node_classes(alloc: Global) -> Result<Classes, NoMemory> {
+    let mut classes = Classes::new(alloc);
+    classes.push(node_class(alloc)?)?;
     Ok(classes)
 }
 
@@ -86,17 +90,28 @@ fn are_nodes(row: &Values) -> bool {
     }
 }
 
-fn are_read(alloc: Global, classes: &Classes, branch: &BranchDef) -> bool {
+fn are_read_in(alloc: Global, classes: &Classes, branch: &BranchDef) -> bool {
     match row_of(alloc, classes, branch, &Values::new(alloc), NODES) {
         Some(row) => are_nodes(&row),
         None => false,
     }
 }
 
+fn are_read_among(alloc: Global, classes: &Classes) -> bool {
+    match node_branch(alloc) {
+        Ok(branch) => are_read_in(alloc, classes, &branch),
+        Err(_) => false,
+    }
+}
+
+fn are_read(alloc: Global) -> bool {
+    match node_classes(alloc) {
+        Ok(classes) => are_read_among(alloc, &classes),
+        Err(_) => false,
+    }
+}
+
 #[test]
 fn objects_are_read_and_written(rt: HostRuntime) {
-    match (node_class(rt.alloc()), node_branch(rt.alloc())) {
-        (Ok(classes), Ok(branch)) => assert!(rt; are_read(rt.alloc(), &classes, &branch)),
-        _ => assert!(rt; false),
-    }
+    assert!(rt; are_read(rt.alloc()));
 }
