@@ -48,11 +48,7 @@ fn branch(alloc: Global, leaves: Leaves, entries: u64, baskets: Baskets) -> Bran
 fn three_baskets(alloc: Global) -> Result<Baskets, NoMemory>
     ensures { IfOk result (λ baskets. IsIndex baskets 9) }
 {
-    let mut baskets = Baskets::new(alloc);
-    baskets.push(at(0))?;
-    baskets.push(at(3))?;
-    baskets.push(at(5))?;
-    Ok(baskets)
+    Baskets::from_slice(alloc, &[at(0), at(3), at(5)])
 }
 
 fn is_in(branch: &Branch, entry: u64, basket: Option<usize>) -> bool
@@ -102,10 +98,7 @@ fn baskets_by_entry(rt: HostRuntime) {
 fn two_baskets(alloc: Global) -> Result<Baskets, NoMemory>
     ensures { IfOk result (λ baskets. IsIndex baskets 8001) }
 {
-    let mut baskets = Baskets::new(alloc);
-    baskets.push(at(0))?;
-    baskets.push(at(8000))?;
-    Ok(baskets)
+    Baskets::from_slice(alloc, &[at(0), at(8000)])
 }
 
 fn is_last_alone(branch: &Branch) -> bool
@@ -135,9 +128,7 @@ fn last_entry_in_a_basket_of_its_own(rt: HostRuntime) {
 fn one_basket(alloc: Global) -> Result<Baskets, NoMemory>
     ensures { IfOk result (λ baskets. IsIndex baskets 3) }
 {
-    let mut baskets = Baskets::new(alloc);
-    baskets.push(at(0))?;
-    Ok(baskets)
+    Baskets::from_slice(alloc, &[at(0)])
 }
 
 fn leaves_of(alloc: Global, text: &[u8]) -> Result<Leaves, LeafFault> {
@@ -211,16 +202,6 @@ enum Step {
 }
 
 use Step::{Broken, Check, End, Give, Refuse, Rewind, Row, Skip, Wants};
-
-fn wants(scanner: &Scanner, wanted: Option<(usize, usize)>) -> bool {
-    match scanner.wants() {
-        Some((branch, basket)) => match wanted {
-            Some((b, k)) => branch == b && basket == k,
-            None => false,
-        },
-        None => wanted.is_none(),
-    }
-}
 
 fn stored(alloc: Global, bytes: &[u8], offsets: bool) -> Option<StoredBasket> {
     let bytes = Bytes::from_slice(alloc, bytes).ok()?;
@@ -326,7 +307,7 @@ fn rewind(scanner: &mut Scanner) -> bool {
 
 fn does(scanner: &mut Scanner, alloc: Global, classes: &Classes, step: &Step) -> bool {
     match step {
-        Wants(wanted) => wants(scanner, *wanted),
+        Wants(wanted) => scanner.wants() == *wanted,
         Give(bytes, offsets) => takes(scanner, alloc, bytes, *offsets),
         Check(branch) => breaks(scanner, classes, *branch),
         Row(count, bits) => has_row(scanner, classes, *count, *bits),
@@ -401,10 +382,7 @@ fn rows_behind_a_bad_entry(rt: HostRuntime) {
 fn baskets_of_two_and_one(alloc: Global) -> Result<Baskets, NoMemory>
     ensures { IfOk result (λ baskets. IsIndex baskets 3) }
 {
-    let mut baskets = Baskets::new(alloc);
-    baskets.push(at(0))?;
-    baskets.push(at(2))?;
-    Ok(baskets)
+    Baskets::from_slice(alloc, &[at(0), at(2)])
 }
 
 fn branch_n(alloc: Global) -> Result<Branch, LeafFault>
