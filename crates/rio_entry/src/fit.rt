@@ -1,13 +1,13 @@
 //! Which values fit a leaf.
 ghost use Rattle.std.specs.Prelude.{◌≡◌, ℕ, Some, [], min};
 ghost use Rattle.std.specs.List.{list_all};
-ghost use Rattle.rio_format.specs.Fits.{bits32_fits, bits64_fits, int_fits, truth_fits};
+ghost use Rattle.rio_format.specs.Fits.{bits32_fits, bits64_fits, int_fits};
 ghost use Rattle.rio_format.specs.Slots.{kinded};
 ghost use Rattle.rio_machine.specs.Rows.{counted_leaf_kind, leaf_kind, sized_kind};
 ghost use Rattle.rio_types.specs.declared.kind.Kind.TheVariants.{Fixed, Plain};
 ghost use Rattle.rio_entry.specs.Bounds.{most_values};
 ghost use Rattle.rio_entry.specs.Entries.{counter_saying};
-ghost use Rattle.rio_entry.specs.Leaves.{kind_fits, leaves_fit, single_fits, without_number};
+ghost use Rattle.rio_entry.specs.Leaves.{kind_fits, leaves_fit, single_fits};
 
 use crate::leaf::{given_count, letter_kind, said_count};
 use rio_leaf::{Dim, Leaf};
@@ -42,12 +42,6 @@ fn bits64_fits(of: Prim, bits: u64) -> bool
     matches!(of, Prim::F64)
 }
 
-fn truth_fits(of: Prim) -> bool
-    ensures { result ≡ truth_fits (kinded (Plain of)) }
-{
-    matches!(of, Prim::Bool)
-}
-
 fn single_fits(of: Prim, value: &Value) -> bool
     ensures { result ≡ single_fits of value.now }
 {
@@ -55,7 +49,7 @@ fn single_fits(of: Prim, value: &Value) -> bool
         Value::Int(n) => int_fits(of, *n),
         Value::Bits32(bits) => bits32_fits(of, *bits),
         Value::Bits64(bits) => bits64_fits(of, *bits),
-        Value::Bool(_) => truth_fits(of),
+        Value::Bool(_) => matches!(of, Prim::Bool),
         _ => false,
     }
 }
@@ -98,12 +92,6 @@ fn sized_fits(of: Prim, dim: &Dim, count: i128, value: &Value) -> bool
     }
 }
 
-fn text_fits(letter: u8, value: &Value) -> bool
-    ensures { result ≡ kind_fits (without_number letter) value.now }
-{
-    letter == b'C' && matches!(value, Value::Text(_))
-}
-
 // Whether the value fits the leaf, whose counter says so.
 fn leaf_fits(leaf: &Leaf, count: i128, value: &Value) -> bool
     ensures { result
@@ -111,7 +99,7 @@ fn leaf_fits(leaf: &Leaf, count: i128, value: &Value) -> bool
 {
     match letter_kind(leaf.letter) {
         Some(of) => sized_fits(of, &leaf.dim, count, value),
-        None => text_fits(leaf.letter, value),
+        None => leaf.letter == b'C' && matches!(value, Value::Text(_)),
     }
 }
 

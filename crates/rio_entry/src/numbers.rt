@@ -63,16 +63,10 @@ pub(crate) fn note_values(
     }
 }
 
-fn number_said(numbers: &Numbers, name: &[u8]) -> Option<i128>
-    ensures { result ≡ number_in_map numbers.now name.now }
-{
-    numbers.get(name).copied()
-}
-
 fn count_said(numbers: &Numbers, name: &[u8]) -> i128
     ensures { result ≡ unwrap_or (number_in_map numbers.now name.now) (pos 0) }
 {
-    number_said(numbers, name).unwrap_or(0)
+    numbers.get(name).copied().unwrap_or(0)
 }
 
 fn count_of(numbers: &Numbers, dim: &Dim) -> i128
