@@ -14,9 +14,9 @@ use Rattle.rio_leaf.specs.declared.fault.LeafFault.{LeafFault}
 use Rattle.rio_leaf.specs.declared.leaf.Dim.{Dim}
 use Rattle.rio_leaf.specs.declared.leaf.Dim.TheVariants.{One, Fixed, Counted}
 use Rattle.rio_leaf.specs.declared.leaf.Leaf.{Leaf}
-use Rattle.rio_leaf.specs.Leaves.{are_leaves_behind, is_leaf_behind, is_leaf_list}
 use Rattle.rio_leaf.specs.Marks.{between_leaves}
 use Rattle.rio_leaf.specs.Reading.{from_place, leaf_at, leaves_at, leaves_in, pieces}
+use Rattle.rio_leaf.specs.Spelling.{are_leaves_behind, is_leaf_behind, is_leaf_list}
 use Rattle.rio_leaf.specs.Text.{text_of_dim, text_of_leaf, text_of_leaves}
 use Rattle.rio_leaf.proofs.LeafAgain.{IsDimOfWords, IsOfWords, leaf_again, leaf_of_words}
 use Rattle.rio_leaf.proofs.LeafFound.{leaf_found}
@@ -24,13 +24,13 @@ use Rattle.rio_leaf.proofs.TextLaws.{joined_leaves}
 
 -- ---- no colon stands in a leaf's text
 
-abbrev no_colon : ℕ → Bool
+abbrev pub no_colon : ℕ → Bool
 no_colon b = not (b == between_leaves)
 
-is_no_colon : (b : ℕ) → no_colon b ≡ true → (b == between_leaves) ≡ false
+pub is_no_colon : (b : ℕ) → no_colon b ≡ true → (b == between_leaves) ≡ false
 is_no_colon b h = grind (arith, nat_tests)
 
-cut_there : (xs ys : List ℕ) → list_all no_colon xs ≡ true → pieces (xs ++ 58 ∷ ys) ≡ xs ∷ pieces ys
+pub cut_there : (xs ys : List ℕ) → list_all no_colon xs ≡ true → pieces (xs ++ 58 ∷ ys) ≡ xs ∷ pieces ys
 cut_there [] ys h = slice_split-cons_yes (λ b. b == between_leaves) 58 ys refl
 cut_there (x ∷ xs) ys h =
     let parts = and_parts (no_colon x) (list_all no_colon xs) h in
@@ -42,7 +42,7 @@ cut_none (x ∷ xs) h =
     let parts = and_parts (no_colon x) (list_all no_colon xs) h in
     slice_split-cons_no (λ b. b == between_leaves) x xs (is_no_colon x parts.0) ∙ ap (onto_first x) (cut_none xs parts.1)
 
-item_no_colon : (b : ℕ) → is_item_byte b ≡ true → no_colon b ≡ true
+pub item_no_colon : (b : ℕ) → is_item_byte b ≡ true → no_colon b ≡ true
 item_no_colon b h = grind (arith, nat_tests)
 
 word_no_colon : (bs : List ℕ) → list_all is_item_byte bs ≡ true → list_all no_colon bs ≡ true
@@ -57,7 +57,7 @@ dim_no_colon One h = refl
 dim_no_colon (Fixed n) h = both_no_colon (decimal n) (93 ∷ []) (word_no_colon (decimal n) h) refl
 dim_no_colon (Counted counter times) h = both_no_colon counter (93 ∷ []) (word_no_colon counter h) refl
 
-leaf_no_colon : (leaf : Leaf) → IsOfWords leaf → list_all no_colon (text_of_leaf leaf) ≡ true
+pub leaf_no_colon : (leaf : Leaf) → IsOfWords leaf → list_all no_colon (text_of_leaf leaf) ≡ true
 leaf_no_colon leaf h =
     let letter : list_all no_colon (47 ∷ leaf.letter ∷ []) ≡ true = rw (item_no_colon leaf.letter h.letter) refl in
     both_no_colon leaf.name (text_of_dim leaf.dim ++ 47 ∷ leaf.letter ∷ []) (word_no_colon leaf.name h.name) (both_no_colon (text_of_dim leaf.dim) (47 ∷ leaf.letter ∷ []) (dim_no_colon leaf.dim h.dim) letter)
@@ -65,7 +65,7 @@ leaf_no_colon leaf h =
 -- ---- what is written is read
 
 -- one leaf, and then the others
-one_more : (before : List Leaf) (leaf : Leaf) (p : ℕ) (texts : List (List ℕ)) → is_leaf_behind before leaf ≡ true → leaves_at before p (text_of_leaf leaf ∷ texts) ≡ leaves_at (before ++ leaf ∷ []) (p + length (text_of_leaf leaf) + 1) texts
+pub one_more : (before : List Leaf) (leaf : Leaf) (p : ℕ) (texts : List (List ℕ)) → is_leaf_behind before leaf ≡ true → leaves_at before p (text_of_leaf leaf ∷ texts) ≡ leaves_at (before ++ leaf ∷ []) (p + length (text_of_leaf leaf) + 1) texts
 unfolding leaves_at
 one_more before leaf p texts h = let there = leaf_again before leaf p h in rw there.1 refl
 
@@ -97,7 +97,7 @@ record AreFound (before : List Leaf) (texts : List (List ℕ)) (leaves : List Le
   fit : are_leaves_behind before more ≡ true
   texts_are : texts ≡ map text_of_leaf more
 
-abbrev to_leaves : List Leaf → ℕ → List (List ℕ) → Leaf × At → Result (List Leaf) LeafFault
+abbrev pub to_leaves : List Leaf → ℕ → List (List ℕ) → Leaf × At → Result (List Leaf) LeafFault
 to_leaves before p texts leaf = leaves_at (before ++ leaf.0 ∷ []) p texts
 
 leaves_found : (before : List Leaf) (p : ℕ) (texts : List (List ℕ)) (leaves : List Leaf) → leaves_at before p texts ≡ Ok leaves → AreFound before texts leaves

@@ -2,7 +2,7 @@
 ghost use Rattle.std.specs.Prelude.{◌≡◌, ◌<◌, ◌≤◌, ◌^◌, ◌==◌, List, length, IfOk, IsTrue};
 ghost use Rattle.std.specs.List.{position_or_len};
 ghost use Rattle.std.specs.Option.{option_copied};
-ghost use Rattle.rio_leaf.specs.Leaves.{is_leaf_list};
+ghost use Rattle.rio_leaf.specs.Spelling.{is_leaf_list};
 ghost use Rattle.rio_leaf.specs.Text.{text_of_leaves};
 ghost use Rattle.rio_leaf.specs.declared.leaf.Leaf.{Leaf};
 ghost use Rattle.rio_leaf.specs.Marks.{between_leaves};
