@@ -11,7 +11,7 @@ use Rattle.rio_leaf.specs.declared.fault.LeafFault.TheVariants.{BadLeaf}
 use Rattle.rio_leaf.specs.declared.leaf.Leaf.{Leaf}
 use Rattle.rio_leaf.specs.Marks.{between_leaves}
 use Rattle.rio_leaf.specs.Reading.{from_place, leaf_at, leaves_at, leaves_in, pieces, word_length}
-use Rattle.rio_leaf.specs.Spelling.{AreApart, IsFirstBadLeaf, LeafPlacesAreTold, SpellsLeaves, are_leaves_behind, ends_in_word, is_leaf_behind, is_leaf_list, next_token}
+use Rattle.rio_leaf.specs.Spelling.{IsFirstBadLeaf, are_leaves_behind, is_leaf_behind, is_leaf_list, next_token}
 use Rattle.rio_leaf.specs.Text.{text_of_leaf, text_of_leaves}
 use Rattle.rio_leaf.proofs.LeafAgain.{leaf_of_words}
 use Rattle.rio_leaf.proofs.LeafFound.{leaf_found}
@@ -19,7 +19,7 @@ use Rattle.rio_leaf.proofs.LeafTold.{leaf_told}
 use Rattle.rio_leaf.proofs.ListLaws.{cut_there, leaf_no_colon, no_colon, one_more, to_leaves}
 use Rattle.rio_leaf.proofs.PieceLaws.{before_behind, before_colon, blanks_before, from_colon, more_pieces, none_at_colon, none_before, pieces_cut, rest_is, stops_before, token_before, whole_cut}
 use Rattle.rio_leaf.proofs.TokenLaws.{blanks}
-use Rattle.rio_leaf.proofs.ToldLaws.{apart_behind, bind_bad, ends_behind, ends_both, place_behind}
+use Rattle.rio_leaf.proofs.ToldLaws.{apart_behind, apart_by, bind_bad, ends_behind, ends_both, ends_in_word, place_behind}
 
 -- ---- the leaves before
 
@@ -133,7 +133,7 @@ piece_fails before p x xs e h = rw h refl
 
 -- ---- the first token that can't stand
 
-pub leaf_places_are_told : LeafPlacesAreTold
+pub leaf_places_are_told : (text : List ℕ) (e : LeafFault) → leaves_in text ≡ Err e → IsFirstBadLeaf text e
 leaf_places_are_told text e h =
     let b = bad_piece (pieces text) [] text e refl refl h in
     let p = length (lead b.before) in
@@ -150,10 +150,10 @@ leaf_places_are_told text e h =
       front = lead b.before ++ t.front;
       behind = behind;
       parts = b.whole ∙ ap (λ (bs : List ℕ). lead b.before ++ bs) rest ∙ sym (append_assoc (lead b.before) t.front behind);
-      apart = apart_behind (lead b.before) t.front behind (inl (lead_ends b.before)) (elim t.apart [
+      apart = apart_by (lead b.before ++ t.front) behind (apart_behind (lead b.before) t.front behind (inl (lead_ends b.before)) (elim t.apart [
         | inl ends ↦ inl ends
         | inr stops ↦ inr (stops_before behind (ap word_length piece ∙ stops))
-      ]);
+      ]));
       told = t.told ∙ ap (λ (n : ℕ). let d : LeafFault = BadLeaf n in d) place;
       always = λ other same.
           let token : next_token (before_colon other) ≡ next_token t.behind = token_before other ∙ ap before_colon same ∙ sym (token_before behind) ∙ ap next_token piece in
@@ -170,5 +170,5 @@ leaf_places_are_told text e h =
           let m = t.begins (omega (arith, few, lead_long b.before, length-append (lead b.before) t.front)) in
           let whole : (lead b.before ++ t.front) ++ m.0 ≡ text_of_leaves (b.before ++ m.1 ∷ []) =
           append_assoc (lead b.before) t.front m.0 ∙ ap (λ (bs : List ℕ). lead b.before ++ bs) m.4 ∙ sym (lead_last b.before m.1) in
-          (m.0, b.before ++ m.1 ∷ [], apart_behind (lead b.before) t.front m.0 (inl (lead_ends b.before)) m.2, (listed b.before m.1 (one_behind [] b.before m.1 b.fits m.3), whole));
+          (m.0, b.before ++ m.1 ∷ [], apart_by (lead b.before ++ t.front) m.0 (apart_behind (lead b.before) t.front m.0 (inl (lead_ends b.before)) m.2), (listed b.before m.1 (one_behind [] b.before m.1 b.fits m.3), whole));
     }

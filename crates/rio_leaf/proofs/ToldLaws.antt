@@ -1,17 +1,50 @@
 -- How first tokens that can't stand are found, one reading after the other.
-use Rattle.std.proofs.Common.{◌≡◌, ◌⊎◌, inl, inr, ℕ, ◌+◌, List, [], ◌∷◌, ◌++◌, length, take, Bool, true, false, ◌==◌, Option, Some, None, Result, Ok, Err, refl, sym, ap, subst, ◌∙◌, arith, append_assoc, length-append}
+use Rattle.std.proofs.Common.{◌≡◌, ◌⊎◌, inl, inr, ℕ, suc, ◌+◌, ◌-◌, List, [], ◌∷◌, ◌++◌, length, slice_index, Bool, true, false, ◌==◌, ◌&&◌, Option, Some, None, Result, Ok, Err, refl, sym, ap, subst, ◌∙◌, arith, append_assoc, length-append}
 use Rattle.std.specs.List.{prefix_len}
 use Rattle.std.proofs.lemmas.List.{append-nil}
 use Rattle.rio_num.specs.At.{At}
 use Rattle.rio_num.specs.Reading.{◌>>=◌}
+use Rattle.rio_num.specs.Word.{is_item_byte}
 use Rattle.rio_leaf.specs.declared.fault.LeafFault.{LeafFault}
 use Rattle.rio_leaf.specs.declared.fault.LeafFault.TheVariants.{BadLeaf}
 use Rattle.rio_leaf.specs.Marks.{is_blank_byte}
 use Rattle.rio_leaf.specs.Reading.{ReadLeaf, bad_leaf_at, begins_with, byte_at, found_at, from_place, no_more_at, said_at, some_where, word_length}
-use Rattle.rio_leaf.specs.Spelling.{AreApart, ends_in_word, next_token}
+use Rattle.rio_leaf.specs.Spelling.{AreApart, next_token}
 use Rattle.rio_leaf.proofs.TokenLaws.{same_begins, same_behind, same_blanks, same_empty, same_length, same_word, word_of}
 
 -- ---- what is apart
+
+-- whether the last byte is one of a word
+abbrev pub ends_in_word : List ℕ → Bool
+ends_in_word [] = false
+ends_in_word (b ∷ []) = is_item_byte b
+ends_in_word (b ∷ c ∷ bs) = ends_in_word (c ∷ bs)
+
+abbrev pub NoWordGoesOn : List ℕ → List ℕ → Type 0
+NoWordGoesOn front behind = (ends_in_word front ≡ false) ⊎ (word_length behind ≡ 0)
+
+last_is : (bs : List ℕ) → is_item_byte (slice_index bs (length bs - 1)) ≡ ends_in_word bs
+last_is [] = refl
+last_is (b ∷ []) = refl
+last_is (b ∷ c ∷ bs) =
+    let place : length (b ∷ c ∷ bs) - 1 ≡ suc (length (c ∷ bs) - 1) = omega arith in
+    ap (λ (k : ℕ). is_item_byte (slice_index (b ∷ c ∷ bs) k)) place ∙ last_is (c ∷ bs)
+
+first_by : (b : ℕ) (bs : List ℕ) (t : Bool) → is_item_byte b ≡ t → word_length (b ∷ bs) ≡ 0 → t ≡ false
+first_by b bs true t h = absurd (let some : 1 + word_length bs ≡ 0 = rw t at h in omega arith)
+first_by b bs false t h = refl
+
+first_is : (bs : List ℕ) → word_length bs ≡ 0 → is_item_byte (slice_index bs 0) ≡ false
+first_is [] h = refl
+first_is (b ∷ bs) h = first_by b bs (is_item_byte b) refl h
+
+second_false : (a b : Bool) → b ≡ false → (a && b) ≡ false
+second_false true b h = h
+second_false false b h = refl
+
+pub apart_by : (front behind : List ℕ) → NoWordGoesOn front behind → AreApart front behind
+apart_by front behind (inl h) = ap (λ (t : Bool). t && is_item_byte (slice_index behind 0)) (last_is front ∙ h)
+apart_by front behind (inr h) = second_false (is_item_byte (slice_index front (length front - 1))) (is_item_byte (slice_index behind 0)) (first_is behind h)
 
 pub ends_behind : (f : List ℕ) (b : ℕ) (bs : List ℕ) → ends_in_word (f ++ b ∷ bs) ≡ ends_in_word (b ∷ bs)
 ends_behind [] b bs = refl
@@ -22,8 +55,8 @@ pub ends_both : (f g : List ℕ) → ends_in_word f ≡ false → ends_in_word g
 ends_both f [] h k = ap ends_in_word (append-nil f) ∙ h
 ends_both f (b ∷ bs) h k = ends_behind f b bs ∙ k
 
-pub apart_behind : (f g rest : List ℕ) → AreApart f (g ++ rest) → AreApart g rest → AreApart (f ++ g) rest
-apart_behind f [] rest here h = subst (λ (xs : List ℕ). AreApart xs rest) (sym (append-nil f)) here
+pub apart_behind : (f g rest : List ℕ) → NoWordGoesOn f (g ++ rest) → NoWordGoesOn g rest → NoWordGoesOn (f ++ g) rest
+apart_behind f [] rest here h = subst (λ (xs : List ℕ). NoWordGoesOn xs rest) (sym (append-nil f)) here
 apart_behind f (b ∷ bs) rest here (inl h) = inl (ends_behind f b bs ∙ h)
 apart_behind f (b ∷ bs) rest here (inr h) = inr h
 
@@ -40,7 +73,7 @@ pub record Told {A : Type 0} (r : At → ReadLeaf A) (P : List ℕ → Type 0) (
   pub parts : s.rest ≡ front ++ behind
   pub told : e ≡ BadLeaf (place_behind s.place front behind)
   pub always : (p : ℕ) (q : List ℕ) → next_token q ≡ next_token behind → r (from_place p (front ++ q)) ≡ Err (BadLeaf (place_behind p front behind))
-  pub apart : AreApart front behind
+  pub apart : NoWordGoesOn front behind
   pub begins : P front
 
 pub err_is : {A : Type 0} (d e : LeafFault) → (let x : Result A LeafFault = Err d in x ≡ Err e) → d ≡ e
@@ -100,7 +133,7 @@ module _ {A B : Type 0} (r : At → ReadLeaf A) (r2 : At → ReadLeaf B) (P : Li
   }
 
   -- some was passed, and then it fails
-  pub told_behind : (passed : List ℕ) (m : At) → s.rest ≡ passed ++ m.rest → m.place ≡ s.place + length passed → AreApart passed m.rest
+  pub told_behind : (passed : List ℕ) (m : At) → s.rest ≡ passed ++ m.rest → m.place ≡ s.place + length passed → NoWordGoesOn passed m.rest
       → ((p : ℕ) (q : List ℕ) (g : LeafFault) → next_token q ≡ next_token m.rest → r2 (from_place (p + length passed) q) ≡ Err g → r (from_place p (passed ++ q)) ≡ Err g)
       → Told r2 (λ ms. P (passed ++ ms)) m e → Told r P s e
   told_behind passed m parts place apart pass b = record {
@@ -114,7 +147,7 @@ module _ {A B : Type 0} (r : At → ReadLeaf A) (r2 : At → ReadLeaf B) (P : Li
         ap (λ (bs : List ℕ). r (from_place p bs)) (append_assoc passed b.front q)
         ∙ pass p (b.front ++ q) _ next (b.always (p + length passed) q same)
         ∙ ap (λ (k : ℕ). let d : ReadLeaf A = Err (BadLeaf k) in d) n;
-    apart = apart_behind passed b.front b.behind (subst (AreApart passed) b.parts apart) b.apart;
+    apart = apart_behind passed b.front b.behind (subst (NoWordGoesOn passed) b.parts apart) b.apart;
     begins = b.begins;
   }
 
@@ -128,7 +161,7 @@ pub record Known {A : Type 0} (Says : A → List ℕ → Type 0) (r : At → Rea
   pub is : Says x passed
   pub parts : s.rest ≡ passed ++ m.rest
   pub place : m.place ≡ s.place + length passed
-  pub apart : AreApart passed m.rest
+  pub apart : NoWordGoesOn passed m.rest
   pub again : (p : ℕ) (q : List ℕ) → next_token q ≡ next_token m.rest → r (from_place p (passed ++ q)) ≡ Ok (x, from_place (p + length passed) q)
 
 fails_first : {A B : Type 0} (r : ReadLeaf A) (f : A × At → ReadLeaf B) (g : LeafFault) → r ≡ Err g → (r >>= f) ≡ Err g

@@ -1,9 +1,9 @@
--- Which texts spell which lists of leaves, by cases on the leaves: each leaf has one text (`Text`), and may stand behind
--- those before it by rules of its own (`Leaves`). Beside it, what ties this to the reading of a text.
+-- Which texts spell which lists of leaves, by cases on the leaves. A list has one text (`Text`), and each leaf must be one
+-- that may stand behind those before it (`Leaves`).
 --
 --   leaves = leaf {":" leaf}
 --   leaf   = NAME ["[" (NUM | NAME) "]"] "/" LETTER
-use Rattle.std.specs.Prelude.{◌≡◌, ◌⊎◌, ℕ, ◌+◌, ◌^◌, ◌<◌, List, [], ◌∷◌, ◌++◌, length, take, Ok, Err, Bool, true, false, ◌&&◌, IsTrue, if◌then◌else◌}
+use Rattle.std.specs.Prelude.{◌≡◌, ℕ, ◌+◌, ◌-◌, ◌^◌, ◌<◌, List, [], ◌∷◌, ◌++◌, length, take, slice_index, Err, Bool, true, false, ◌&&◌, IsTrue, if◌then◌else◌}
 use Rattle.std.specs.List.{prefix_len}
 use Rattle.rio_num.specs.Word.{is_item_byte}
 use Rattle.rio_leaf.specs.declared.fault.LeafFault.{LeafFault}
@@ -31,15 +31,7 @@ is_leaf_list (leaf ∷ leaves) = are_leaves_behind [] (leaf ∷ leaves)
 abbrev pub SpellsLeaves : List Leaf → List ℕ → Type 0
 SpellsLeaves leaves text = IsTrue (is_leaf_list leaves) × (text ≡ text_of_leaves leaves)
 
--- ---- the laws
-
--- what is spelled is read
-abbrev pub SpelledLeavesAreRead : Type 0
-SpelledLeavesAreRead = (leaves : List Leaf) (text : List ℕ) → SpellsLeaves leaves text → leaves_in text ≡ Ok leaves
-
--- what is read is spelled
-abbrev pub ReadLeavesAreSpelled : Type 0
-ReadLeavesAreSpelled = (leaves : List Leaf) (text : List ℕ) → leaves_in text ≡ Ok leaves → SpellsLeaves leaves text
+-- ---- the first token that can't stand
 
 -- The next token, with the blanks before it: a word, another byte, or nothing at the end.
 abbrev pub next_token : List ℕ → List ℕ
@@ -47,14 +39,9 @@ next_token [] = []
 next_token (b ∷ bs) =
     if is_blank_byte b then b ∷ next_token bs else b ∷ (if is_item_byte b then take (word_length bs) bs else [])
 
-abbrev pub ends_in_word : List ℕ → Bool
-ends_in_word [] = false
-ends_in_word (b ∷ []) = is_item_byte b
-ends_in_word (b ∷ c ∷ bs) = ends_in_word (c ∷ bs)
-
--- no word goes on from the one text into the other
+-- No word goes on from the one text into the other: the last byte of the one and the first of the other aren't both of words.
 abbrev pub AreApart : List ℕ → List ℕ → Type 0
-AreApart front behind = (ends_in_word front ≡ false) ⊎ (word_length behind ≡ 0)
+AreApart front behind = (is_item_byte (slice_index front (length front - 1)) && is_item_byte (slice_index behind 0)) ≡ false
 
 -- Behind the front a token comes next that can't stand, and its place is told, whatever stands behind that token. Other
 -- tokens behind the front make it a text that is read; with fewer than 2^32 bytes it has not used up all names.
@@ -67,7 +54,3 @@ pub record IsFirstBadLeaf (text : List ℕ) (fault : LeafFault) : Type 0 where
   pub always : (other : List ℕ) → next_token other ≡ next_token behind → leaves_in (front ++ other) ≡ Err fault
   pub begins :
       length front < 2 ^ 32 → (more : List ℕ) × (leaves : List Leaf) × AreApart front more × SpellsLeaves leaves (front ++ more)
-
--- A text that isn't read has a first token that can't stand, and the place that is told is its place.
-abbrev pub LeafPlacesAreTold : Type 0
-LeafPlacesAreTold = (text : List ℕ) (fault : LeafFault) → leaves_in text ≡ Err fault → IsFirstBadLeaf text fault

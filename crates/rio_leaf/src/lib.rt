@@ -3,8 +3,12 @@
 //! A leaf has a name, a letter that tells what its values are, and a dimension: one value, a list of so many, or a list
 //! that an earlier leaf counts. [`read_leaves`] reads a text as `n/I:list[n]/F`, or tells the first token that can't
 //! stand; [`print_leaves`] writes the text, and what is read is written so and the other way round. [`are_stated`] tells
-//! whether a tree may be declared with such branches. `specs/Reading.antt` has the grammar, `specs/Leaves.antt` and
-//! `specs/Stated.antt` which leaves and branches may stand together, `specs/Text.antt` the written form.
+//! whether a tree may be declared with such branches.
+//!
+//! `specs/Spelling.antt` says which text spells which leaves: those of `specs/Text.antt`, of leaves that may stand together
+//! by `specs/Leaves.antt`. `specs/Reading.antt` reads from left to right. The two agree ([`spelled_leaves_are_read`],
+//! [`read_leaves_are_spelled`]), and a text that isn't read has a first token that can't stand
+//! ([`first_bad_leaf_tokens_are_told`]). `specs/Stated.antt` says which branches a tree may be declared with.
 #![tactic(auto)]
 
 mod branch;
