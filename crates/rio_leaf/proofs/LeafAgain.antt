@@ -18,8 +18,7 @@ use Rattle.rio_leaf.specs.declared.leaf.Leaf.{Leaf}
 use Rattle.rio_leaf.specs.Leaves.{counts_for, is_dim, is_leaf_count, is_letter_of, is_one, is_taken}
 use Rattle.rio_leaf.specs.Marks.{before_dimension, is_leaf_letter, letter_of_texts}
 use Rattle.rio_leaf.specs.Reading.{ReadLeaf, begins_with, byte_at, dim_at, dim_of, from_place, leaf_at, leaf_name_of, letter_in, no_more_at, said_at}
-use Rattle.rio_leaf.specs.Spelling.{is_leaf_behind}
-use Rattle.rio_leaf.specs.Text.{text_of_dim, text_of_leaf}
+use Rattle.rio_leaf.specs.Spelling.{is_leaf_behind, text_of_dim, text_of_leaf}
 
 -- no byte of a word comes next
 abbrev pub Stops : List ℕ → Type 0

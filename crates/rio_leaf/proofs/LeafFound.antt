@@ -18,8 +18,7 @@ use Rattle.rio_leaf.specs.declared.leaf.Dim.TheVariants.{One, Fixed, Counted}
 use Rattle.rio_leaf.specs.declared.leaf.Leaf.{Leaf}
 use Rattle.rio_leaf.specs.Leaves.{counts_for, is_dim, is_leaf_count, is_letter_of, is_taken}
 use Rattle.rio_leaf.specs.Reading.{ReadLeaf, begins_with, bracketed_at, byte_at, dim_at, dim_of, found_at, is_dimension, leaf_at, leaf_name_of, letter_in, no_more_at, said_at, some_where, word_length}
-use Rattle.rio_leaf.specs.Spelling.{is_leaf_behind}
-use Rattle.rio_leaf.specs.Text.{text_of_dim, text_of_leaf}
+use Rattle.rio_leaf.specs.Spelling.{is_leaf_behind, text_of_dim, text_of_leaf}
 use Rattle.rio_leaf.proofs.LeafAgain.{ends_dim, own}
 use Rattle.rio_leaf.proofs.TokenLaws.{all_of_word, length_of_word, word_stops}
 

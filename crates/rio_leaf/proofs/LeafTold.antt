@@ -13,8 +13,8 @@ use Rattle.rio_leaf.specs.declared.leaf.Dim.TheVariants.{One, Fixed, Counted}
 use Rattle.rio_leaf.specs.declared.leaf.Leaf.{Leaf}
 use Rattle.rio_leaf.specs.Leaves.{counts_for, is_dim, is_letter_of, is_taken}
 use Rattle.rio_leaf.specs.Reading.{ReadLeaf, begins_with, bracketed_at, byte_at, dim_at, dim_of, from_place, leaf_at, leaf_name_of, letter_in, no_more_at, said_at}
-use Rattle.rio_leaf.specs.Spelling.{is_leaf_behind, next_token}
-use Rattle.rio_leaf.specs.Text.{text_of_dim, text_of_leaf}
+use Rattle.rio_leaf.specs.Spelling.{is_leaf_behind, text_of_dim, text_of_leaf}
+use Rattle.rio_leaf.specs.ToldPlaces.{next_token}
 use Rattle.rio_leaf.proofs.FreshNames.{name_left}
 use Rattle.rio_leaf.proofs.LeafAgain.{dim_again, ends_dim, said_there}
 use Rattle.rio_leaf.proofs.LeafFound.{begins, byte_found, dim_found, dim_word, leaf_is, letter_one, said_found, where_true}

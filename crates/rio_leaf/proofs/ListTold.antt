@@ -11,31 +11,17 @@ use Rattle.rio_leaf.specs.declared.fault.LeafFault.TheVariants.{BadLeaf}
 use Rattle.rio_leaf.specs.declared.leaf.Leaf.{Leaf}
 use Rattle.rio_leaf.specs.Marks.{between_leaves}
 use Rattle.rio_leaf.specs.Reading.{from_place, leaf_at, leaves_at, leaves_in, pieces, word_length}
-use Rattle.rio_leaf.specs.Spelling.{IsFirstBadLeaf, are_leaves_behind, is_leaf_behind, is_leaf_list, next_token}
-use Rattle.rio_leaf.specs.Text.{text_of_leaf, text_of_leaves}
+use Rattle.rio_leaf.specs.Spelling.{are_leaves_behind, is_leaf_behind, is_leaf_list, text_of_leaf, text_of_leaves}
+use Rattle.rio_leaf.specs.ToldPlaces.{IsFirstBadLeaf, next_token}
 use Rattle.rio_leaf.proofs.LeafAgain.{leaf_of_words}
 use Rattle.rio_leaf.proofs.LeafFound.{leaf_found}
 use Rattle.rio_leaf.proofs.LeafTold.{leaf_told}
-use Rattle.rio_leaf.proofs.ListLaws.{cut_there, leaf_no_colon, no_colon, one_more, to_leaves}
-use Rattle.rio_leaf.proofs.PieceLaws.{before_behind, before_colon, blanks_before, from_colon, more_pieces, none_at_colon, none_before, pieces_cut, rest_is, stops_before, token_before, whole_cut}
+use Rattle.rio_leaf.proofs.ListLaws.{cons_is, cut_there, lead, lead_first, lead_last, lead_place, lead_whole, leaf_no_colon, listed, one_behind, one_more, to_leaves, with_colon}
+use Rattle.rio_leaf.proofs.PieceLaws.{before_behind, before_colon, blanks_before, from_colon, more_pieces, no_colon, none_at_colon, none_before, pieces_cut, rest_is, stops_before, token_before, whole_cut}
 use Rattle.rio_leaf.proofs.TokenLaws.{blanks}
 use Rattle.rio_leaf.proofs.ToldLaws.{apart_behind, apart_by, bind_bad, ends_behind, ends_both, ends_in_word, place_behind}
 
 -- ---- the leaves before
-
--- a leaf with the colon behind it
-abbrev with_colon : Leaf → List ℕ
-with_colon leaf = text_of_leaf leaf ++ between_leaves ∷ []
-
--- leaves, each with the colon behind it
-abbrev lead : List Leaf → List ℕ
-lead leaves = flat_map with_colon leaves
-
-lead_more : (before : List Leaf) (leaf : Leaf) → lead (before ++ leaf ∷ []) ≡ lead before ++ with_colon leaf
-lead_more before leaf = flat_map-append with_colon before (leaf ∷ []) ∙ ap (λ (bs : List ℕ). lead before ++ bs) (append-nil (with_colon leaf))
-
-lead_first : (leaf : Leaf) (more : List Leaf) (t : List ℕ) → lead (leaf ∷ more) ++ t ≡ text_of_leaf leaf ++ 58 ∷ (lead more ++ t)
-lead_first leaf more t = append_assoc (with_colon leaf) (lead more) t ∙ append_assoc (text_of_leaf leaf) (58 ∷ []) (lead more ++ t)
 
 lead_ends : (leaves : List Leaf) → ends_in_word (lead leaves) ≡ false
 lead_ends [] = refl
@@ -44,11 +30,6 @@ lead_ends (leaf ∷ more) = ends_both (with_colon leaf) (lead more) (ends_behind
 lead_long : (leaves : List Leaf) → length leaves ≤ length (lead leaves)
 lead_long [] = omega arith
 lead_long (leaf ∷ more) = omega (arith, length-append (with_colon leaf) (lead more), length-append (text_of_leaf leaf) (58 ∷ []), lead_long more)
-
-lead_last : (before : List Leaf) (leaf : Leaf) → text_of_leaves (before ++ leaf ∷ []) ≡ lead before ++ text_of_leaf leaf
-lead_last [] leaf = append-nil (text_of_leaf leaf)
-lead_last (x ∷ []) leaf = ap (λ (bs : List ℕ). text_of_leaf x ++ 58 ∷ bs) (lead_last [] leaf) ∙ sym (lead_first x [] (text_of_leaf leaf))
-lead_last (x ∷ y ∷ ys) leaf = ap (λ (bs : List ℕ). text_of_leaf x ++ 58 ∷ bs) (lead_last (y ∷ ys) leaf) ∙ sym (lead_first x (y ∷ ys) (text_of_leaf leaf))
 
 -- they are read, and then what stands behind them
 behind_lead : (front before : List Leaf) (p : ℕ) (t : List ℕ) → are_leaves_behind front before ≡ true → leaves_at front p (pieces (lead before ++ t)) ≡ leaves_at (front ++ before) (p + length (lead before)) (pieces t)
@@ -66,17 +47,6 @@ behind_lead front (leaf ∷ more) p t h =
     ∙ ap (λ (leaves : List Leaf). leaves_at leaves (p + length text + 1 + length (lead more)) (pieces t)) (append_assoc front (leaf ∷ []) more)
     ∙ ap (λ (k : ℕ). leaves_at (front ++ leaf ∷ more) k (pieces t)) place
 
-one_behind : (front before : List Leaf) (leaf : Leaf) → are_leaves_behind front before ≡ true → is_leaf_behind (front ++ before) leaf ≡ true → are_leaves_behind front (before ++ leaf ∷ []) ≡ true
-one_behind front [] leaf h k = and_from (is_leaf_behind front leaf) true (subst (λ (leaves : List Leaf). is_leaf_behind leaves leaf ≡ true) (append-nil front) k) refl
-one_behind front (x ∷ xs) leaf h k =
-    let parts = and_parts (is_leaf_behind front x) (are_leaves_behind (front ++ x ∷ []) xs) h in
-    let fits : is_leaf_behind ((front ++ x ∷ []) ++ xs) leaf ≡ true = subst (λ (leaves : List Leaf). is_leaf_behind leaves leaf ≡ true) (sym (append_assoc front (x ∷ []) xs)) k in
-    and_from (is_leaf_behind front x) (are_leaves_behind (front ++ x ∷ []) (xs ++ leaf ∷ [])) parts.0 (one_behind (front ++ x ∷ []) xs leaf parts.1 fits)
-
-listed : (before : List Leaf) (leaf : Leaf) → are_leaves_behind [] (before ++ leaf ∷ []) ≡ true → is_leaf_list (before ++ leaf ∷ []) ≡ true
-listed [] leaf h = h
-listed (x ∷ xs) leaf h = h
-
 -- ---- the first leaf that isn't read
 
 record BadPiece (text : List ℕ) (e : LeafFault) : Type 0 where
@@ -85,9 +55,6 @@ record BadPiece (text : List ℕ) (e : LeafFault) : Type 0 where
   whole : text ≡ lead before ++ rest
   fits : are_leaves_behind [] before ≡ true
   bad : leaf_at before (from_place (length (lead before)) (before_colon rest)) ≡ Err e
-
-cons_is : {A : Type 0} (x y : A) (xs ys : List A) → x ∷ xs ≡ y ∷ ys → (x ≡ y) × (xs ≡ ys)
-cons_is x y xs ys h = (cc, cc)
 
 none_fails : (leaves : List Leaf) (p : ℕ) (texts : List (List ℕ)) (e : LeafFault) → texts ≡ [] → leaves_at leaves p texts ≡ Err e → ⊥
 unfolding leaves_at
@@ -112,18 +79,11 @@ bad_piece (x ∷ xs) before t e is fits h =
           let leaf = w.0.0 in
           let f = leaf_found before leaf (from_place p x) w.0.1 w.1 in
           elim (rest_is t) [
-            | inl none ↦ absurd (none_fails (before ++ leaf ∷ []) (p + length x + 1) xs e (sym own.1 ∙ none) w.2)
+            | inl none ↦ absurd (none_fails (before ++ leaf ∷ []) (p + length x + 1) xs e (sym own.1 ∙ none.0) w.2)
             | inr u ↦
-                let text = text_of_leaf leaf in
-                let place : p + length x + 1 ≡ length (lead (before ++ leaf ∷ [])) =
-                omega (arith, ap length f.parts, ap length (lead_more before leaf), length-append (lead before) (with_colon leaf), length-append text (58 ∷ [])) in
-                let fails : leaves_at (before ++ leaf ∷ []) (length (lead (before ++ leaf ∷ []))) xs ≡ Err e = ap (λ (k : ℕ). leaves_at (before ++ leaf ∷ []) k xs) (sym place) ∙ w.2 in
-                let more = bad_piece xs (before ++ leaf ∷ []) u.0 e (sym u.2 ∙ own.1) (one_behind [] before leaf fits f.fits) fails in
-                let same : lead (before ++ leaf ∷ []) ++ u.0 ≡ lead before ++ t =
-                ap (λ (bs : List ℕ). bs ++ u.0) (lead_more before leaf)
-                ∙ append_assoc (lead before) (with_colon leaf) u.0
-                ∙ ap (λ (bs : List ℕ). lead before ++ bs) (append_assoc text (58 ∷ []) u.0 ∙ ap (λ (bs : List ℕ). bs ++ 58 ∷ u.0) (sym f.parts ∙ sym own.0) ∙ sym u.1) in
-                subst (λ (bs : List ℕ). BadPiece bs e) same more
+                let fails = ap (λ (k : ℕ). leaves_at (before ++ leaf ∷ []) k xs) (sym (lead_place before leaf x t u.0 own.0 f.parts)) ∙ w.2 in
+                subst (λ (bs : List ℕ). BadPiece bs e) (lead_whole before leaf x t u.0 own.0 f.parts u.1)
+                (bad_piece xs (before ++ leaf ∷ []) u.0 e (sym u.2 ∙ own.1) (one_behind [] before leaf fits f.fits) fails)
           ]
     ]
 

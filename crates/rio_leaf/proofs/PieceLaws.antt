@@ -7,9 +7,17 @@ use Rattle.std.proofs.lemmas.List.Splits.{slice_split-cons_no, slice_split-cons_
 use Rattle.rio_num.specs.Word.{is_item_byte}
 use Rattle.rio_leaf.specs.Marks.{between_leaves, is_blank_byte}
 use Rattle.rio_leaf.specs.Reading.{pieces, word_length}
-use Rattle.rio_leaf.specs.Spelling.{next_token}
-use Rattle.rio_leaf.proofs.ListLaws.{is_no_colon, item_no_colon, no_colon}
+use Rattle.rio_leaf.specs.ToldPlaces.{next_token}
 use Rattle.rio_leaf.proofs.TokenLaws.{Kind, blank, item, other, blanks, item_no_blank, kind_of, passes_blank, takes_byte, takes_word, word_ends, word_goes, word_of}
+
+abbrev pub no_colon : ℕ → Bool
+no_colon b = not (b == between_leaves)
+
+pub is_no_colon : (b : ℕ) → no_colon b ≡ true → (b == between_leaves) ≡ false
+is_no_colon b h = grind (arith, nat_tests)
+
+pub item_no_colon : (b : ℕ) → is_item_byte b ≡ true → no_colon b ≡ true
+item_no_colon b h = grind (arith, nat_tests)
 
 abbrev pub before_colon : List ℕ → List ℕ
 before_colon [] = []
@@ -50,15 +58,15 @@ whole_cut (b ∷ bs) = whole_by b bs (b == between_leaves) refl (whole_cut bs)
 
 -- no colon stands at all, or the other pieces are those of what stands behind the first
 abbrev Rest : List ℕ → Type 0
-Rest t = (more_pieces t ≡ []) ⊎ ((u : List ℕ) × (t ≡ before_colon t ++ 58 ∷ u) × (more_pieces t ≡ pieces u))
+Rest t = ((more_pieces t ≡ []) × (t ≡ before_colon t)) ⊎ ((u : List ℕ) × (t ≡ before_colon t ++ 58 ∷ u) × (more_pieces t ≡ pieces u))
 
 rest_by : (b : ℕ) (bs : List ℕ) (t : Bool) → (b == between_leaves) ≡ t → Rest bs → Rest (b ∷ bs)
 rest_by b bs true t ih = inr (bs, rw t (ap (λ (k : ℕ). k ∷ bs) (eqb-true b 58 t)), rw t refl)
-rest_by b bs false t (inl none) = inl (rw t none)
+rest_by b bs false t (inl none) = inl (rw t none.0, rw t (ap (λ (xs : List ℕ). b ∷ xs) none.1))
 rest_by b bs false t (inr w) = inr (w.0, rw t (ap (λ (xs : List ℕ). b ∷ xs) w.1), rw t w.2)
 
 pub rest_is : (t : List ℕ) → Rest t
-rest_is [] = inl refl
+rest_is [] = inl (refl, refl)
 rest_is (b ∷ bs) = rest_by b bs (b == between_leaves) refl (rest_is bs)
 
 -- ---- where colons stand

@@ -8,7 +8,7 @@ use Rattle.std.proofs.lemmas.List.Sums.{prefix_len-le-length}
 use Rattle.rio_num.specs.Word.{is_item_byte}
 use Rattle.rio_leaf.specs.Marks.{between_leaves, is_blank_byte}
 use Rattle.rio_leaf.specs.Reading.{begins_with, word_length}
-use Rattle.rio_leaf.specs.Spelling.{next_token}
+use Rattle.rio_leaf.specs.ToldPlaces.{next_token}
 
 one_on : (n b : ℕ) (bs : List ℕ) → take (1 + n) (b ∷ bs) ≡ b ∷ take n bs
 one_on n b bs = let same : 1 + n ≡ suc n = omega arith in ap (λ (k : ℕ). take k (b ∷ bs)) same

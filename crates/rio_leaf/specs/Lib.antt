@@ -3,4 +3,4 @@ pub mod Marks
 pub mod Reading
 pub mod Spelling
 pub mod Stated
-pub mod Text
+pub mod ToldPlaces

@@ -3,7 +3,8 @@ ghost use Rattle.std.specs.Prelude.{◌≡◌, ℕ, List, Ok, Err};
 ghost use Rattle.rio_leaf.specs.declared.fault.LeafFault.{LeafFault};
 ghost use Rattle.rio_leaf.specs.declared.leaf.Leaf.{Leaf};
 ghost use Rattle.rio_leaf.specs.Reading.{leaves_in};
-ghost use Rattle.rio_leaf.specs.Spelling.{IsFirstBadLeaf, SpellsLeaves};
+ghost use Rattle.rio_leaf.specs.Spelling.{SpellsLeaves};
+ghost use Rattle.rio_leaf.specs.ToldPlaces.{IsFirstBadLeaf};
 
 /// The text that spells leaves is read as them.
 pub fn spelled_leaves_are_read()

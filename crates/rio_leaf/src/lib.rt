@@ -5,10 +5,11 @@
 //! stand; [`print_leaves`] writes the text, and what is read is written so and the other way round. [`are_stated`] tells
 //! whether a tree may be declared with such branches.
 //!
-//! `specs/Spelling.antt` says which text spells which leaves: those of `specs/Text.antt`, of leaves that may stand together
-//! by `specs/Leaves.antt`. `specs/Reading.antt` reads from left to right. The two agree ([`spelled_leaves_are_read`],
+//! `specs/Spelling.antt` says which text spells which leaves, by cases on the leaves, and `specs/Leaves.antt` which may
+//! stand together; `specs/Reading.antt` reads from left to right. The two agree ([`spelled_leaves_are_read`],
 //! [`read_leaves_are_spelled`]), and a text that isn't read has a first token that can't stand
-//! ([`first_bad_leaf_tokens_are_told`]). `specs/Stated.antt` says which branches a tree may be declared with.
+//! ([`first_bad_leaf_tokens_are_told`], by `specs/ToldPlaces.antt`). `specs/Stated.antt` says which branches a tree may
+//! be declared with.
 #![tactic(auto)]
 
 mod branch;

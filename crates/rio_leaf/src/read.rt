@@ -2,8 +2,7 @@
 ghost use Rattle.std.specs.Prelude.{◌≡◌, ◌+◌, ◌<◌, ◌≤◌, ◌^◌, ◌==◌, List, [], ◌∷◌, length, IfOk, IsTrue};
 ghost use Rattle.std.specs.List.{position_or_len};
 ghost use Rattle.std.specs.Option.{option_copied, option_map_or};
-ghost use Rattle.rio_leaf.specs.Spelling.{is_leaf_list};
-ghost use Rattle.rio_leaf.specs.Text.{text_of_leaves};
+ghost use Rattle.rio_leaf.specs.Spelling.{is_leaf_list, text_of_leaves};
 ghost use Rattle.rio_leaf.specs.declared.leaf.Leaf.{Leaf};
 ghost use Rattle.rio_leaf.specs.Marks.{between_leaves};
 ghost use Rattle.rio_leaf.specs.Reading.{GivesLeaf, GivesLeafAt, IsLeafReadAs, dim_at, dim_of, leaf_at, leaf_name_of, leaves_in, letter_in, pieces, said_at};
