@@ -1,17 +1,15 @@
 -- The first token that can't stand in a list of leaves.
-use Rattle.std.proofs.Common.{◌≡◌, inl, inr, ℕ, ◌+◌, ◌^◌, ◌<◌, ◌≤◌, List, [], ◌∷◌, ◌++◌, length, true, false, Result, Ok, Err, refl, sym, ap, subst, ◌∙◌, arith, append_assoc, length-append}
-use Rattle.std.specs.List.{flat_map, list_all}
-use Rattle.std.proofs.lemmas.Bool.{and_from, and_parts}
-use Rattle.std.proofs.lemmas.Grind.{flat_map-append}
+use Rattle.std.proofs.Common.{◌≡◌, inl, inr, ℕ, ◌+◌, ◌≤◌, List, [], ◌∷◌, ◌++◌, length, true, false, Result, Err, refl, sym, ap, subst, ◌∙◌, arith, append_assoc, length-append}
+use Rattle.std.specs.List.{list_all}
+use Rattle.std.proofs.lemmas.Bool.{and_parts}
 use Rattle.std.proofs.lemmas.List.{append-nil}
 use Rattle.std.proofs.lemmas.List.Folds.{list_all-append}
 use Rattle.rio_num.specs.At.{At}
 use Rattle.rio_leaf.specs.declared.fault.LeafFault.{LeafFault}
 use Rattle.rio_leaf.specs.declared.fault.LeafFault.TheVariants.{BadLeaf}
 use Rattle.rio_leaf.specs.declared.leaf.Leaf.{Leaf}
-use Rattle.rio_leaf.specs.Marks.{between_leaves}
 use Rattle.rio_leaf.specs.Reading.{from_place, leaf_at, leaves_at, leaves_in, pieces, word_length}
-use Rattle.rio_leaf.specs.Spelling.{are_leaves_behind, is_leaf_behind, is_leaf_list, text_of_leaf, text_of_leaves}
+use Rattle.rio_leaf.specs.Spelling.{are_leaves_behind, is_leaf_behind, text_of_leaf, text_of_leaves}
 use Rattle.rio_leaf.specs.ToldPlaces.{IsFirstBadLeaf, next_token}
 use Rattle.rio_leaf.proofs.LeafAgain.{leaf_of_words}
 use Rattle.rio_leaf.proofs.LeafFound.{leaf_found}
@@ -69,12 +67,12 @@ bad_piece (x ∷ xs) before t e is fits h =
     let own = cons_is (before_colon t) x (more_pieces t) xs (sym (pieces_cut t) ∙ is) in
     elim (bind_bad (List Leaf) (leaf_at before (from_place p x)) (to_leaves before (p + length x + 1) xs) e h) [
       | inl bad ↦ record {
-          before = before;
-          rest = t;
-          whole = refl;
-          fits = fits;
-          bad = ap (λ (bs : List ℕ). leaf_at before (from_place p bs)) own.0 ∙ bad;
-        }
+        before = before;
+        rest = t;
+        whole = refl;
+        fits = fits;
+        bad = ap (λ (bs : List ℕ). leaf_at before (from_place p bs)) own.0 ∙ bad;
+      }
       | inr w ↦
           let leaf = w.0.0 in
           let f = leaf_found before leaf (from_place p x) w.0.1 w.1 in

@@ -8,7 +8,7 @@ use Rattle.rio_num.specs.Word.{is_item_byte}
 use Rattle.rio_leaf.specs.Marks.{between_leaves, is_blank_byte}
 use Rattle.rio_leaf.specs.Reading.{pieces, word_length}
 use Rattle.rio_leaf.specs.ToldPlaces.{next_token}
-use Rattle.rio_leaf.proofs.TokenLaws.{Kind, blank, item, other, blanks, item_no_blank, kind_of, passes_blank, takes_byte, takes_word, word_ends, word_goes, word_of}
+use Rattle.rio_leaf.proofs.TokenLaws.{Kind, blank, item, other, blanks, kind_of, passes_blank, takes_byte, takes_word, word_ends, word_goes, word_of}
 
 abbrev pub no_colon : ℕ → Bool
 no_colon b = not (b == between_leaves)

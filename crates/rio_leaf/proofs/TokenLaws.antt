@@ -1,12 +1,11 @@
 -- What stands next in a text hangs on its next token alone.
-use Rattle.std.proofs.Common.{◌≡◌, ℕ, suc, ◌+◌, List, [], ◌∷◌, ◌++◌, length, take, drop, Bool, true, false, ◌==◌, not, if◌then◌else◌, refl, sym, ap, ◌∙◌, arith}
+use Rattle.std.proofs.Common.{◌≡◌, ℕ, suc, ◌+◌, List, [], ◌∷◌, ◌++◌, length, take, drop, Bool, true, false, ◌==◌, refl, sym, ap, ◌∙◌, arith}
 use Rattle.std.specs.List.{list_all, prefix_len}
-use Rattle.std.proofs.lemmas.Bool.{eqb-true}
 use Rattle.std.proofs.lemmas.Bool.Decides.{nat_tests}
 use Rattle.std.proofs.lemmas.List.{length-take}
 use Rattle.std.proofs.lemmas.List.Sums.{prefix_len-le-length}
 use Rattle.rio_num.specs.Word.{is_item_byte}
-use Rattle.rio_leaf.specs.Marks.{between_leaves, is_blank_byte}
+use Rattle.rio_leaf.specs.Marks.{is_blank_byte}
 use Rattle.rio_leaf.specs.Reading.{begins_with, word_length}
 use Rattle.rio_leaf.specs.ToldPlaces.{next_token}
 

@@ -10,7 +10,7 @@ use Rattle.rio_leaf.specs.declared.fault.LeafFault.TheVariants.{BadLeaf}
 use Rattle.rio_leaf.specs.Marks.{is_blank_byte}
 use Rattle.rio_leaf.specs.Reading.{ReadLeaf, bad_leaf_at, begins_with, byte_at, found_at, from_place, no_more_at, said_at, some_where, word_length}
 use Rattle.rio_leaf.specs.ToldPlaces.{AreApart, next_token}
-use Rattle.rio_leaf.proofs.TokenLaws.{same_begins, same_behind, same_blanks, same_empty, same_length, same_word, word_of}
+use Rattle.rio_leaf.proofs.TokenLaws.{same_begins, same_behind, same_blanks, same_empty, same_word, word_of}
 
 -- ---- what is apart
 

@@ -1,5 +1,5 @@
 -- Which leaves may stand in a branch: names, dimensions, counters.
-use Rattle.std.specs.Prelude.{ℕ, List, [], ◌∷◌, ◌++◌, Bool, true, false, nat_le, ◌==◌, ◌&&◌, ◌||◌, not}
+use Rattle.std.specs.Prelude.{ℕ, List, Bool, true, false, nat_le, ◌==◌, ◌&&◌, ◌||◌, not}
 use Rattle.std.specs.List.{list_any}
 use Rattle.std.specs.Str.{bytes_eq}
 use Rattle.rio_num.specs.Word.{is_name_text}

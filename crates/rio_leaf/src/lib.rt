@@ -25,9 +25,7 @@ mod stated;
 
 pub use branch::{BranchDef, BranchDefs, Shape};
 pub use fault::LeafFault;
-pub use laws::{
-    first_bad_leaf_tokens_are_told, read_leaves_are_spelled, spelled_leaves_are_read,
-};
+pub use laws::{first_bad_leaf_tokens_are_told, read_leaves_are_spelled, spelled_leaves_are_read};
 pub use leaf::{Dim, Leaf, Leaves};
 pub use print::print_leaves;
 pub use read::read_leaves;
