@@ -19,6 +19,7 @@ use Rattle.rio_leaf.specs.Leaves.{counts_for, is_dim, is_leaf_count, is_letter_o
 use Rattle.rio_leaf.specs.Marks.{before_dimension, is_leaf_letter, letter_of_texts}
 use Rattle.rio_leaf.specs.Reading.{ReadLeaf, begins_with, byte_at, dim_at, dim_of, from_place, leaf_at, leaf_name_of, letter_in, no_more_at, said_at}
 use Rattle.rio_leaf.specs.Spelling.{is_leaf_behind, text_of_dim, text_of_leaf}
+use Rattle.rio_leaf.proofs.DigitLaws.{second_false}
 
 -- no byte of a word comes next
 abbrev pub Stops : List ℕ → Type 0
@@ -71,19 +72,19 @@ name_no_digits (b ∷ bs) h =
 digit_item : (b : ℕ) → is_ascii_digit b ≡ true → is_item_byte b ≡ true
 digit_item b h = grind arith
 
-digits_of_word : (bs : List ℕ) → all_ascii_digits bs ≡ true → IsOfWord bs
+pub digits_of_word : (bs : List ℕ) → all_ascii_digits bs ≡ true → IsOfWord bs
 digits_of_word [] h = refl
 digits_of_word (b ∷ bs) h = let parts = and_parts (is_ascii_digit b) (all_ascii_digits bs) h in rw (digit_item b parts.0, digits_of_word bs parts.1) refl
 
 pub own : IsNumeralModel (λ ds. all_ascii_digits ds ≡ true) (digits_value 10)
 own = numerals_by_value (λ ds. all_ascii_digits ds ≡ true) tells_all_ascii_digits
 
-letter_item : (b : ℕ) → is_leaf_letter b ≡ true → is_item_byte b ≡ true
+pub letter_item : (b : ℕ) → is_leaf_letter b ≡ true → is_item_byte b ≡ true
 letter_item b h = grind (arith, nat_tests)
 
 -- ---- dimensions
 
-count_bounds : (n : ℕ) → is_leaf_count n ≡ true → (2 ≤ n) × (n ≤ 100000)
+pub count_bounds : (n : ℕ) → is_leaf_count n ≡ true → (2 ≤ n) × (n ≤ 100000)
 count_bounds n h = grind (arith, nat_tests)
 
 no_zero : (ds : List ℕ) → 48 < get_or ds 0 0 → (slice_index ds 0 == 48) ≡ false
@@ -107,11 +108,7 @@ module _ (before : List Leaf) (name : List ℕ) where
 
   counter_again : (counter : List ℕ) → is_name_text counter ≡ true → counts_for before name counter ≡ true → dim_of before name counter ≡ Some (Counted counter 1)
   unfolding dim_of
-  counter_again counter named counts = rw (no_dimension (not (slice_index counter 0 == 48)) (all_ascii_digits counter) (is_leaf_count (digits_value 10 counter)) (name_no_digits counter named), named, counts) refl
-    where
-      no_dimension : (a b c : Bool) → b ≡ false → (a && b && c) ≡ false
-      no_dimension true b c e = rw e refl
-      no_dimension false b c e = refl
+  counter_again counter named counts = rw (second_false (not (slice_index counter 0 == 48)) (all_ascii_digits counter) (is_leaf_count (digits_value 10 counter)) (name_no_digits counter named), named, counts) refl
 
   bracketed : (p : ℕ) (word rest : List ℕ) (dim : Dim) → IsOfWord word → dim_of before name word ≡ Some dim
       → dim_at before name (from_place p ((91 ∷ (word ++ 93 ∷ [])) ++ rest)) ≡ Ok (dim, from_place (p + length (91 ∷ (word ++ 93 ∷ []))) rest)
@@ -168,33 +165,3 @@ leaf_again before leaf p h =
     let letter_word : IsOfWord (leaf.letter ∷ []) = rw (letter_item leaf.letter lettered.0) refl in
     let three = said_there (letter_in leaf.dim) (q + 1) (leaf.letter ∷ []) [] leaf.letter letter_word refl letter_says in
     (from_place (q + 1 + 1 + 0) [], rw (one, two, three) refl)
-
--- what is in square brackets is a word
-abbrev pub IsDimOfWords : Dim → Type 0
-IsDimOfWords One = Unit {0}
-IsDimOfWords (Fixed n) = IsOfWord (decimal n)
-IsDimOfWords (Counted counter times) = IsOfWord counter
-
-dim_of_words : (counts : List ℕ → Bool) (dim : Dim) → is_dim counts dim ≡ true → IsDimOfWords dim
-dim_of_words counts One h = tt
-dim_of_words counts (Fixed n) h = let bounds = count_bounds n h in digits_of_word (decimal n) (digits_decimal own n (omega arith))
-dim_of_words counts (Counted counter times) h =
-    let outer = and_parts (is_name_text counter && counts counter) (times == 1) h in
-    name_of_word counter (and_parts (is_name_text counter) (counts counter) outer.0).0
-
--- a leaf's text is made of words
-pub record IsOfWords (leaf : Leaf) : Type 0 where
-  pub name : IsOfWord leaf.name
-  pub dim : IsDimOfWords leaf.dim
-  pub letter : is_item_byte leaf.letter ≡ true
-
-pub leaf_of_words : (before : List Leaf) (leaf : Leaf) → is_leaf_behind before leaf ≡ true → IsOfWords leaf
-leaf_of_words before leaf h =
-    let name = leaf.name in
-    let outer = and_parts (is_name_text name && not (is_taken before name) && is_dim (counts_for before name) leaf.dim) (is_letter_of leaf.dim leaf.letter) h in
-    let middle = and_parts (is_name_text name && not (is_taken before name)) (is_dim (counts_for before name) leaf.dim) outer.0 in
-    record {
-      name = name_of_word name (and_parts (is_name_text name) (not (is_taken before name)) middle.0).0;
-      dim = dim_of_words (counts_for before name) leaf.dim middle.1;
-      letter = letter_item leaf.letter (and_parts (is_leaf_letter leaf.letter) (is_one leaf.dim || not (leaf.letter == letter_of_texts)) outer.1).0;
-    }

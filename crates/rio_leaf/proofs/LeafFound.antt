@@ -5,7 +5,6 @@ use Rattle.std.specs.List.{list_all}
 use Rattle.std.specs.Str.{all_ascii_digits}
 use Rattle.std.specs.Str.Parse.{digits_value}
 use Rattle.std.proofs.lemmas.Bool.{and_parts, eqb-true}
-use Rattle.std.proofs.lemmas.Bool.Decides.{nat_tests}
 use Rattle.std.proofs.lemmas.Fmt.{decimal-digits_value}
 use Rattle.std.proofs.lemmas.List.{take-append-drop}
 use Rattle.rio_num.specs.At.{At}
@@ -19,7 +18,7 @@ use Rattle.rio_leaf.specs.declared.leaf.Leaf.{Leaf}
 use Rattle.rio_leaf.specs.Leaves.{counts_for, is_dim, is_leaf_count, is_letter_of, is_taken}
 use Rattle.rio_leaf.specs.Reading.{ReadLeaf, begins_with, bracketed_at, byte_at, dim_at, dim_of, found_at, is_dimension, leaf_at, leaf_name_of, letter_in, no_more_at, said_at, some_where, word_length}
 use Rattle.rio_leaf.specs.Spelling.{is_leaf_behind, text_of_dim, text_of_leaf}
-use Rattle.rio_leaf.proofs.LeafAgain.{ends_dim, own}
+use Rattle.rio_leaf.proofs.LeafAgain.{count_bounds, ends_dim, own}
 use Rattle.rio_leaf.proofs.TokenLaws.{all_of_word, length_of_word, word_stops}
 
 -- a word was passed, which says this
@@ -83,12 +82,6 @@ some_digits : (word : List ℕ) → 2 ≤ digits_value 10 word → 0 < length wo
 some_digits [] h = absurd (omega arith)
 some_digits (b ∷ bs) h = omega arith
 
-count_least : (n : ℕ) → is_leaf_count n ≡ true → 2 ≤ n
-count_least n h = grind (arith, nat_tests)
-
-count_most : (n : ℕ) → is_leaf_count n ≡ true → n ≤ 100000
-count_most n h = grind (arith, nat_tests)
-
 not_zero : (word : List ℕ) → not (slice_index word 0 == 48) ≡ true → get_or word 0 0 ≡ 48 → length word ≡ 1
 not_zero word h e = absurd (let test : (slice_index word 0 == 48) ≡ true = rw e refl in let clash : false ≡ true = sym (ap not test) ∙ h in cc)
 
@@ -96,9 +89,8 @@ number_back : (word : List ℕ) → is_dimension word ≡ true → decimal (digi
 number_back word h =
     let outer = and_parts (not (slice_index word 0 == 48) && all_ascii_digits word) (is_leaf_count (digits_value 10 word)) h in
     let inner = and_parts (not (slice_index word 0 == 48)) (all_ascii_digits word) outer.0 in
-    let least = count_least (digits_value 10 word) outer.1 in
-    let most = count_most (digits_value 10 word) outer.1 in
-    decimal-digits_value own word inner.1 (some_digits word least) (not_zero word inner.0) (omega arith)
+    let bounds = count_bounds (digits_value 10 word) outer.1 in
+    decimal-digits_value own word inner.1 (some_digits word bounds.0) (not_zero word inner.0) (omega arith)
 
 -- a dimension that may stand, and what is written for it
 pub record IsDimOf (before : List Leaf) (name : List ℕ) (dim : Dim) (bytes : List ℕ) : Type 0 where

@@ -1,23 +1,25 @@
 -- Lists of leaves: what is written is read, and what is read is written so.
-use Rattle.std.proofs.Common.{◌≡◌, inl, inr, ℕ, ◌+◌, List, [], ◌∷◌, ◌++◌, length, true, ◌==◌, Result, Ok, refl, sym, ap, subst, ◌∙◌, arith, append_assoc, length-append}
+use Rattle.std.proofs.Common.{◌≡◌, inl, inr, ℕ, ◌+◌, List, [], ◌∷◌, ◌++◌, length, Bool, true, ◌==◌, ◌&&◌, ◌||◌, not, Result, Ok, refl, sym, ap, subst, ◌∙◌, arith, append_assoc, length-append}
 use Rattle.std.specs.Fmt.{decimal}
 use Rattle.std.specs.List.{flat_map, list_all, onto_first}
 use Rattle.std.proofs.lemmas.Bool.{and_from, and_parts}
+use Rattle.std.proofs.lemmas.Fmt.{digits_decimal}
 use Rattle.std.proofs.lemmas.Grind.{flat_map-append}
 use Rattle.std.proofs.lemmas.List.{append-nil}
 use Rattle.std.proofs.lemmas.List.Folds.{list_all-append}
 use Rattle.std.proofs.lemmas.List.Splits.{slice_split-cons_no, slice_split-cons_yes}
 use Rattle.rio_num.specs.At.{At}
-use Rattle.rio_num.specs.Word.{is_item_byte}
+use Rattle.rio_num.specs.Word.{is_item_byte, is_name_text}
 use Rattle.rio_num.proofs.ReadLaws.{bind_ok, ok_is}
 use Rattle.rio_leaf.specs.declared.fault.LeafFault.{LeafFault}
 use Rattle.rio_leaf.specs.declared.leaf.Dim.{Dim}
 use Rattle.rio_leaf.specs.declared.leaf.Dim.TheVariants.{One, Fixed, Counted}
 use Rattle.rio_leaf.specs.declared.leaf.Leaf.{Leaf}
-use Rattle.rio_leaf.specs.Marks.{between_leaves}
+use Rattle.rio_leaf.specs.Leaves.{counts_for, is_dim, is_letter_of, is_one, is_taken}
+use Rattle.rio_leaf.specs.Marks.{between_leaves, is_leaf_letter, letter_of_texts}
 use Rattle.rio_leaf.specs.Reading.{from_place, leaf_at, leaves_at, leaves_in, pieces}
 use Rattle.rio_leaf.specs.Spelling.{are_leaves_behind, is_leaf_behind, is_leaf_list, text_of_dim, text_of_leaf, text_of_leaves}
-use Rattle.rio_leaf.proofs.LeafAgain.{IsDimOfWords, IsOfWords, leaf_again, leaf_of_words}
+use Rattle.rio_leaf.proofs.LeafAgain.{count_bounds, digits_of_word, leaf_again, letter_item, name_of_word, own}
 use Rattle.rio_leaf.proofs.LeafFound.{leaf_found}
 use Rattle.rio_leaf.proofs.PieceLaws.{before_colon, item_no_colon, is_no_colon, more_pieces, no_colon, pieces_cut, rest_is}
 
@@ -42,15 +44,25 @@ word_no_colon (b ∷ bs) h = let parts = and_parts (is_item_byte b) (list_all is
 both_no_colon : (xs ys : List ℕ) → list_all no_colon xs ≡ true → list_all no_colon ys ≡ true → list_all no_colon (xs ++ ys) ≡ true
 both_no_colon xs ys p q = list_all-append no_colon xs ys ∙ rw (p, q) refl
 
-dim_no_colon : (dim : Dim) → IsDimOfWords dim → list_all no_colon (text_of_dim dim) ≡ true
-dim_no_colon One h = refl
-dim_no_colon (Fixed n) h = both_no_colon (decimal n) (93 ∷ []) (word_no_colon (decimal n) h) refl
-dim_no_colon (Counted counter times) h = both_no_colon counter (93 ∷ []) (word_no_colon counter h) refl
+dim_no_colon : (counts : List ℕ → Bool) (dim : Dim) → is_dim counts dim ≡ true → list_all no_colon (text_of_dim dim) ≡ true
+dim_no_colon counts One h = refl
+dim_no_colon counts (Fixed n) h =
+    let bounds = count_bounds n h in
+    both_no_colon (decimal n) (93 ∷ []) (word_no_colon (decimal n) (digits_of_word (decimal n) (digits_decimal own n (omega arith)))) refl
+dim_no_colon counts (Counted counter times) h =
+    let outer = and_parts (is_name_text counter && counts counter) (times == 1) h in
+    both_no_colon counter (93 ∷ []) (word_no_colon counter (name_of_word counter (and_parts (is_name_text counter) (counts counter) outer.0).0)) refl
 
-pub leaf_no_colon : (leaf : Leaf) → IsOfWords leaf → list_all no_colon (text_of_leaf leaf) ≡ true
-leaf_no_colon leaf h =
-    let letter : list_all no_colon (47 ∷ leaf.letter ∷ []) ≡ true = rw (item_no_colon leaf.letter h.letter) refl in
-    both_no_colon leaf.name (text_of_dim leaf.dim ++ 47 ∷ leaf.letter ∷ []) (word_no_colon leaf.name h.name) (both_no_colon (text_of_dim leaf.dim) (47 ∷ leaf.letter ∷ []) (dim_no_colon leaf.dim h.dim) letter)
+pub leaf_no_colon : (before : List Leaf) (leaf : Leaf) → is_leaf_behind before leaf ≡ true → list_all no_colon (text_of_leaf leaf) ≡ true
+leaf_no_colon before leaf h =
+    let name = leaf.name in
+    let outer = and_parts (is_name_text name && not (is_taken before name) && is_dim (counts_for before name) leaf.dim) (is_letter_of leaf.dim leaf.letter) h in
+    let middle = and_parts (is_name_text name && not (is_taken before name)) (is_dim (counts_for before name) leaf.dim) outer.0 in
+    let named = and_parts (is_name_text name) (not (is_taken before name)) middle.0 in
+    let lettered = and_parts (is_leaf_letter leaf.letter) (is_one leaf.dim || not (leaf.letter == letter_of_texts)) outer.1 in
+    let letter : list_all no_colon (47 ∷ leaf.letter ∷ []) ≡ true = rw (item_no_colon leaf.letter (letter_item leaf.letter lettered.0)) refl in
+    both_no_colon name (text_of_dim leaf.dim ++ 47 ∷ leaf.letter ∷ []) (word_no_colon name (name_of_word name named.0))
+    (both_no_colon (text_of_dim leaf.dim) (47 ∷ leaf.letter ∷ []) (dim_no_colon (counts_for before name) leaf.dim middle.1) letter)
 
 -- ---- what is written is read
 
@@ -64,12 +76,12 @@ unfolding leaves_at
 leaves_again before leaf [] p h =
     let parts = and_parts (is_leaf_behind before leaf) true h in
     let text = text_of_leaf leaf in
-    let one : pieces (text ++ []) ≡ text ∷ [] = ap pieces (append-nil text) ∙ cut_none text (leaf_no_colon leaf (leaf_of_words before leaf parts.0)) in
+    let one : pieces (text ++ []) ≡ text ∷ [] = ap pieces (append-nil text) ∙ cut_none text (leaf_no_colon before leaf parts.0) in
     ap (leaves_at before p) one ∙ one_more before leaf p [] parts.0
 leaves_again before leaf (next ∷ more) p h =
     let parts = and_parts (is_leaf_behind before leaf) (are_leaves_behind (before ++ leaf ∷ []) (next ∷ more)) h in
     let text = text_of_leaf leaf in
-    let cut : pieces (text ++ 58 ∷ text_of_leaves (next ∷ more)) ≡ text ∷ pieces (text_of_leaves (next ∷ more)) = cut_there text (text_of_leaves (next ∷ more)) (leaf_no_colon leaf (leaf_of_words before leaf parts.0)) in
+    let cut : pieces (text ++ 58 ∷ text_of_leaves (next ∷ more)) ≡ text ∷ pieces (text_of_leaves (next ∷ more)) = cut_there text (text_of_leaves (next ∷ more)) (leaf_no_colon before leaf parts.0) in
     let others = leaves_again (before ++ leaf ∷ []) next more (p + length text + 1) parts.1 in
     let joined : (before ++ leaf ∷ []) ++ next ∷ more ≡ before ++ leaf ∷ next ∷ more = append_assoc before (leaf ∷ []) (next ∷ more) in
     ap (leaves_at before p) cut ∙ one_more before leaf p (pieces (text_of_leaves (next ∷ more))) parts.0 ∙ others ∙ ap (λ (l : List Leaf). let r : Result (List Leaf) LeafFault = Ok l in r) joined

@@ -11,7 +11,6 @@ use Rattle.rio_leaf.specs.declared.leaf.Leaf.{Leaf}
 use Rattle.rio_leaf.specs.Reading.{from_place, leaf_at, leaves_at, leaves_in, pieces, word_length}
 use Rattle.rio_leaf.specs.Spelling.{are_leaves_behind, is_leaf_behind, text_of_leaf, text_of_leaves}
 use Rattle.rio_leaf.specs.ToldPlaces.{IsFirstBadLeaf, next_token}
-use Rattle.rio_leaf.proofs.LeafAgain.{leaf_of_words}
 use Rattle.rio_leaf.proofs.LeafFound.{leaf_found}
 use Rattle.rio_leaf.proofs.LeafTold.{leaf_told}
 use Rattle.rio_leaf.proofs.ListLaws.{cons_is, cut_there, lead, lead_first, lead_last, lead_place, lead_whole, leaf_no_colon, listed, one_behind, one_more, to_leaves, with_colon}
@@ -39,7 +38,7 @@ behind_lead front (leaf ∷ more) p t h =
     let text = text_of_leaf leaf in
     let place : p + length text + 1 + length (lead more) ≡ p + length (lead (leaf ∷ more)) = omega (arith, length-append (with_colon leaf) (lead more), length-append text (58 ∷ [])) in
     ap (λ (bs : List ℕ). leaves_at front p (pieces bs)) (lead_first leaf more t)
-    ∙ ap (leaves_at front p) (cut_there text (lead more ++ t) (leaf_no_colon leaf (leaf_of_words front leaf parts.0)))
+    ∙ ap (leaves_at front p) (cut_there text (lead more ++ t) (leaf_no_colon front leaf parts.0))
     ∙ one_more front leaf p (pieces (lead more ++ t)) parts.0
     ∙ behind_lead (front ++ leaf ∷ []) more (p + length text + 1) t parts.1
     ∙ ap (λ (leaves : List Leaf). leaves_at leaves (p + length text + 1 + length (lead more)) (pieces t)) (append_assoc front (leaf ∷ []) more)
