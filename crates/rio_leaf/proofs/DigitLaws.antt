@@ -13,7 +13,7 @@ pub grows : (n : ℕ) (ds : List ℕ) → n ≤ digits_value_after 10 n ds
 grows n [] = le_refl n
 grows n (d ∷ ds) = let step : n ≤ n * 10 + digit_value d = omega arith in le_trans step (grows (n * 10 + digit_value d) ds)
 
-second_false : (a b c : Bool) → b ≡ false → (a && b && c) ≡ false
+pub second_false : (a b c : Bool) → b ≡ false → (a && b && c) ≡ false
 second_false true b c e = rw e refl
 second_false false b c e = refl
 

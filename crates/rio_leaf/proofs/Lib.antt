@@ -1,6 +1,11 @@
 pub mod DigitLaws
 pub mod SplitLaws
-pub mod TextLaws
+pub mod TokenLaws
+pub mod FreshNames
 pub mod LeafAgain
 pub mod LeafFound
+pub mod ToldLaws
+pub mod LeafTold
+pub mod PieceLaws
 pub mod ListLaws
+pub mod ListTold

@@ -1,36 +1,31 @@
 -- Lists of leaves: what is written is read, and what is read is written so.
-use Rattle.std.proofs.Common.{◌≡◌, ℕ, ◌+◌, ◌<◌, List, [], ◌∷◌, ◌++◌, map, length, Bool, true, false, ◌==◌, not, Result, Ok, refl, sym, ap, subst, ◌∙◌, arith, append_assoc}
+use Rattle.std.proofs.Common.{◌≡◌, inl, inr, ℕ, ◌+◌, List, [], ◌∷◌, ◌++◌, length, Bool, true, ◌==◌, ◌&&◌, ◌||◌, not, Result, Ok, refl, sym, ap, subst, ◌∙◌, arith, append_assoc, length-append}
 use Rattle.std.specs.Fmt.{decimal}
-use Rattle.std.specs.List.{join_with_byte, list_all, onto_first}
-use Rattle.std.proofs.lemmas.Bool.{and_parts}
-use Rattle.std.proofs.lemmas.Bool.Decides.{nat_tests}
-use Rattle.std.proofs.lemmas.List.{append-nil, length-map}
+use Rattle.std.specs.List.{flat_map, list_all, onto_first}
+use Rattle.std.proofs.lemmas.Bool.{and_from, and_parts}
+use Rattle.std.proofs.lemmas.Fmt.{digits_decimal}
+use Rattle.std.proofs.lemmas.Grind.{flat_map-append}
+use Rattle.std.proofs.lemmas.List.{append-nil}
 use Rattle.std.proofs.lemmas.List.Folds.{list_all-append}
-use Rattle.std.proofs.lemmas.List.Splits.{join_with_byte-slice_split, length-slice_split, slice_split-cons_no, slice_split-cons_yes}
+use Rattle.std.proofs.lemmas.List.Splits.{slice_split-cons_no, slice_split-cons_yes}
 use Rattle.rio_num.specs.At.{At}
-use Rattle.rio_num.specs.Word.{is_item_byte}
+use Rattle.rio_num.specs.Word.{is_item_byte, is_name_text}
 use Rattle.rio_num.proofs.ReadLaws.{bind_ok, ok_is}
 use Rattle.rio_leaf.specs.declared.fault.LeafFault.{LeafFault}
 use Rattle.rio_leaf.specs.declared.leaf.Dim.{Dim}
 use Rattle.rio_leaf.specs.declared.leaf.Dim.TheVariants.{One, Fixed, Counted}
 use Rattle.rio_leaf.specs.declared.leaf.Leaf.{Leaf}
-use Rattle.rio_leaf.specs.Leaves.{are_leaves_behind, is_leaf_behind, is_leaf_list}
-use Rattle.rio_leaf.specs.Marks.{between_leaves}
+use Rattle.rio_leaf.specs.Leaves.{counts_for, is_dim, is_letter_of, is_one, is_taken}
+use Rattle.rio_leaf.specs.Marks.{between_leaves, is_leaf_letter, letter_of_texts}
 use Rattle.rio_leaf.specs.Reading.{from_place, leaf_at, leaves_at, leaves_in, pieces}
-use Rattle.rio_leaf.specs.Text.{text_of_dim, text_of_leaf, text_of_leaves}
-use Rattle.rio_leaf.proofs.LeafAgain.{IsDimOfWords, IsOfWords, leaf_again, leaf_of_words}
+use Rattle.rio_leaf.specs.Spelling.{are_leaves_behind, is_leaf_behind, is_leaf_list, text_of_dim, text_of_leaf, text_of_leaves}
+use Rattle.rio_leaf.proofs.LeafAgain.{count_bounds, digits_of_word, leaf_again, letter_item, name_of_word, own}
 use Rattle.rio_leaf.proofs.LeafFound.{leaf_found}
-use Rattle.rio_leaf.proofs.TextLaws.{joined_leaves}
+use Rattle.rio_leaf.proofs.PieceLaws.{before_colon, item_no_colon, is_no_colon, more_pieces, no_colon, pieces_cut, rest_is}
 
 -- ---- no colon stands in a leaf's text
 
-abbrev no_colon : ℕ → Bool
-no_colon b = not (b == between_leaves)
-
-is_no_colon : (b : ℕ) → no_colon b ≡ true → (b == between_leaves) ≡ false
-is_no_colon b h = grind (arith, nat_tests)
-
-cut_there : (xs ys : List ℕ) → list_all no_colon xs ≡ true → pieces (xs ++ 58 ∷ ys) ≡ xs ∷ pieces ys
+pub cut_there : (xs ys : List ℕ) → list_all no_colon xs ≡ true → pieces (xs ++ 58 ∷ ys) ≡ xs ∷ pieces ys
 cut_there [] ys h = slice_split-cons_yes (λ b. b == between_leaves) 58 ys refl
 cut_there (x ∷ xs) ys h =
     let parts = and_parts (no_colon x) (list_all no_colon xs) h in
@@ -42,9 +37,6 @@ cut_none (x ∷ xs) h =
     let parts = and_parts (no_colon x) (list_all no_colon xs) h in
     slice_split-cons_no (λ b. b == between_leaves) x xs (is_no_colon x parts.0) ∙ ap (onto_first x) (cut_none xs parts.1)
 
-item_no_colon : (b : ℕ) → is_item_byte b ≡ true → no_colon b ≡ true
-item_no_colon b h = grind (arith, nat_tests)
-
 word_no_colon : (bs : List ℕ) → list_all is_item_byte bs ≡ true → list_all no_colon bs ≡ true
 word_no_colon [] h = refl
 word_no_colon (b ∷ bs) h = let parts = and_parts (is_item_byte b) (list_all is_item_byte bs) h in rw (item_no_colon b parts.0, word_no_colon bs parts.1) refl
@@ -52,20 +44,30 @@ word_no_colon (b ∷ bs) h = let parts = and_parts (is_item_byte b) (list_all is
 both_no_colon : (xs ys : List ℕ) → list_all no_colon xs ≡ true → list_all no_colon ys ≡ true → list_all no_colon (xs ++ ys) ≡ true
 both_no_colon xs ys p q = list_all-append no_colon xs ys ∙ rw (p, q) refl
 
-dim_no_colon : (dim : Dim) → IsDimOfWords dim → list_all no_colon (text_of_dim dim) ≡ true
-dim_no_colon One h = refl
-dim_no_colon (Fixed n) h = both_no_colon (decimal n) (93 ∷ []) (word_no_colon (decimal n) h) refl
-dim_no_colon (Counted counter times) h = both_no_colon counter (93 ∷ []) (word_no_colon counter h) refl
+dim_no_colon : (counts : List ℕ → Bool) (dim : Dim) → is_dim counts dim ≡ true → list_all no_colon (text_of_dim dim) ≡ true
+dim_no_colon counts One h = refl
+dim_no_colon counts (Fixed n) h =
+    let bounds = count_bounds n h in
+    both_no_colon (decimal n) (93 ∷ []) (word_no_colon (decimal n) (digits_of_word (decimal n) (digits_decimal own n (omega arith)))) refl
+dim_no_colon counts (Counted counter times) h =
+    let outer = and_parts (is_name_text counter && counts counter) (times == 1) h in
+    both_no_colon counter (93 ∷ []) (word_no_colon counter (name_of_word counter (and_parts (is_name_text counter) (counts counter) outer.0).0)) refl
 
-leaf_no_colon : (leaf : Leaf) → IsOfWords leaf → list_all no_colon (text_of_leaf leaf) ≡ true
-leaf_no_colon leaf h =
-    let letter : list_all no_colon (47 ∷ leaf.letter ∷ []) ≡ true = rw (item_no_colon leaf.letter h.letter) refl in
-    both_no_colon leaf.name (text_of_dim leaf.dim ++ 47 ∷ leaf.letter ∷ []) (word_no_colon leaf.name h.name) (both_no_colon (text_of_dim leaf.dim) (47 ∷ leaf.letter ∷ []) (dim_no_colon leaf.dim h.dim) letter)
+pub leaf_no_colon : (before : List Leaf) (leaf : Leaf) → is_leaf_behind before leaf ≡ true → list_all no_colon (text_of_leaf leaf) ≡ true
+leaf_no_colon before leaf h =
+    let name = leaf.name in
+    let outer = and_parts (is_name_text name && not (is_taken before name) && is_dim (counts_for before name) leaf.dim) (is_letter_of leaf.dim leaf.letter) h in
+    let middle = and_parts (is_name_text name && not (is_taken before name)) (is_dim (counts_for before name) leaf.dim) outer.0 in
+    let named = and_parts (is_name_text name) (not (is_taken before name)) middle.0 in
+    let lettered = and_parts (is_leaf_letter leaf.letter) (is_one leaf.dim || not (leaf.letter == letter_of_texts)) outer.1 in
+    let letter : list_all no_colon (47 ∷ leaf.letter ∷ []) ≡ true = rw (item_no_colon leaf.letter (letter_item leaf.letter lettered.0)) refl in
+    both_no_colon name (text_of_dim leaf.dim ++ 47 ∷ leaf.letter ∷ []) (word_no_colon name (name_of_word name named.0))
+    (both_no_colon (text_of_dim leaf.dim) (47 ∷ leaf.letter ∷ []) (dim_no_colon (counts_for before name) leaf.dim middle.1) letter)
 
 -- ---- what is written is read
 
 -- one leaf, and then the others
-one_more : (before : List Leaf) (leaf : Leaf) (p : ℕ) (texts : List (List ℕ)) → is_leaf_behind before leaf ≡ true → leaves_at before p (text_of_leaf leaf ∷ texts) ≡ leaves_at (before ++ leaf ∷ []) (p + length (text_of_leaf leaf) + 1) texts
+pub one_more : (before : List Leaf) (leaf : Leaf) (p : ℕ) (texts : List (List ℕ)) → is_leaf_behind before leaf ≡ true → leaves_at before p (text_of_leaf leaf ∷ texts) ≡ leaves_at (before ++ leaf ∷ []) (p + length (text_of_leaf leaf) + 1) texts
 unfolding leaves_at
 one_more before leaf p texts h = let there = leaf_again before leaf p h in rw there.1 refl
 
@@ -74,12 +76,12 @@ unfolding leaves_at
 leaves_again before leaf [] p h =
     let parts = and_parts (is_leaf_behind before leaf) true h in
     let text = text_of_leaf leaf in
-    let one : pieces (text ++ []) ≡ text ∷ [] = ap pieces (append-nil text) ∙ cut_none text (leaf_no_colon leaf (leaf_of_words before leaf parts.0)) in
+    let one : pieces (text ++ []) ≡ text ∷ [] = ap pieces (append-nil text) ∙ cut_none text (leaf_no_colon before leaf parts.0) in
     ap (leaves_at before p) one ∙ one_more before leaf p [] parts.0
 leaves_again before leaf (next ∷ more) p h =
     let parts = and_parts (is_leaf_behind before leaf) (are_leaves_behind (before ++ leaf ∷ []) (next ∷ more)) h in
     let text = text_of_leaf leaf in
-    let cut : pieces (text ++ 58 ∷ text_of_leaves (next ∷ more)) ≡ text ∷ pieces (text_of_leaves (next ∷ more)) = cut_there text (text_of_leaves (next ∷ more)) (leaf_no_colon leaf (leaf_of_words before leaf parts.0)) in
+    let cut : pieces (text ++ 58 ∷ text_of_leaves (next ∷ more)) ≡ text ∷ pieces (text_of_leaves (next ∷ more)) = cut_there text (text_of_leaves (next ∷ more)) (leaf_no_colon before leaf parts.0) in
     let others = leaves_again (before ++ leaf ∷ []) next more (p + length text + 1) parts.1 in
     let joined : (before ++ leaf ∷ []) ++ next ∷ more ≡ before ++ leaf ∷ next ∷ more = append_assoc before (leaf ∷ []) (next ∷ more) in
     ap (leaves_at before p) cut ∙ one_more before leaf p (pieces (text_of_leaves (next ∷ more))) parts.0 ∙ others ∙ ap (λ (l : List Leaf). let r : Result (List Leaf) LeafFault = Ok l in r) joined
@@ -88,51 +90,88 @@ pub list_again : (leaves : List Leaf) → is_leaf_list leaves ≡ true → leave
 list_again [] h = absurd cc
 list_again (leaf ∷ more) h = leaves_again [] leaf more 0 h
 
+-- ---- the leaves before
+
+-- a leaf with the colon behind it
+abbrev pub with_colon : Leaf → List ℕ
+with_colon leaf = text_of_leaf leaf ++ between_leaves ∷ []
+
+-- leaves, each with the colon behind it
+abbrev pub lead : List Leaf → List ℕ
+lead leaves = flat_map with_colon leaves
+
+pub lead_more : (before : List Leaf) (leaf : Leaf) → lead (before ++ leaf ∷ []) ≡ lead before ++ with_colon leaf
+lead_more before leaf = flat_map-append with_colon before (leaf ∷ []) ∙ ap (λ (bs : List ℕ). lead before ++ bs) (append-nil (with_colon leaf))
+
+pub lead_first : (leaf : Leaf) (more : List Leaf) (t : List ℕ) → lead (leaf ∷ more) ++ t ≡ text_of_leaf leaf ++ 58 ∷ (lead more ++ t)
+lead_first leaf more t = append_assoc (with_colon leaf) (lead more) t ∙ append_assoc (text_of_leaf leaf) (58 ∷ []) (lead more ++ t)
+
+pub lead_last : (before : List Leaf) (leaf : Leaf) → text_of_leaves (before ++ leaf ∷ []) ≡ lead before ++ text_of_leaf leaf
+lead_last [] leaf = append-nil (text_of_leaf leaf)
+lead_last (x ∷ []) leaf = ap (λ (bs : List ℕ). text_of_leaf x ++ 58 ∷ bs) (lead_last [] leaf) ∙ sym (lead_first x [] (text_of_leaf leaf))
+lead_last (x ∷ y ∷ ys) leaf = ap (λ (bs : List ℕ). text_of_leaf x ++ 58 ∷ bs) (lead_last (y ∷ ys) leaf) ∙ sym (lead_first x (y ∷ ys) (text_of_leaf leaf))
+
+pub one_behind : (front before : List Leaf) (leaf : Leaf) → are_leaves_behind front before ≡ true → is_leaf_behind (front ++ before) leaf ≡ true → are_leaves_behind front (before ++ leaf ∷ []) ≡ true
+one_behind front [] leaf h k = and_from (is_leaf_behind front leaf) true (subst (λ (leaves : List Leaf). is_leaf_behind leaves leaf ≡ true) (append-nil front) k) refl
+one_behind front (x ∷ xs) leaf h k =
+    let parts = and_parts (is_leaf_behind front x) (are_leaves_behind (front ++ x ∷ []) xs) h in
+    let fits : is_leaf_behind ((front ++ x ∷ []) ++ xs) leaf ≡ true = subst (λ (leaves : List Leaf). is_leaf_behind leaves leaf ≡ true) (sym (append_assoc front (x ∷ []) xs)) k in
+    and_from (is_leaf_behind front x) (are_leaves_behind (front ++ x ∷ []) (xs ++ leaf ∷ [])) parts.0 (one_behind (front ++ x ∷ []) xs leaf parts.1 fits)
+
+pub listed : (before : List Leaf) (leaf : Leaf) → are_leaves_behind [] (before ++ leaf ∷ []) ≡ true → is_leaf_list (before ++ leaf ∷ []) ≡ true
+listed [] leaf h = h
+listed (x ∷ xs) leaf h = h
+
 -- ---- what is read is written so
 
--- the leaves behind those before, each of them in its text
-record AreFound (before : List Leaf) (texts : List (List ℕ)) (leaves : List Leaf) : Type 0 where
-  more : List Leaf
-  all : before ++ more ≡ leaves
-  fit : are_leaves_behind before more ≡ true
-  texts_are : texts ≡ map text_of_leaf more
-
-abbrev to_leaves : List Leaf → ℕ → List (List ℕ) → Leaf × At → Result (List Leaf) LeafFault
+abbrev pub to_leaves : List Leaf → ℕ → List (List ℕ) → Leaf × At → Result (List Leaf) LeafFault
 to_leaves before p texts leaf = leaves_at (before ++ leaf.0 ∷ []) p texts
 
-leaves_found : (before : List Leaf) (p : ℕ) (texts : List (List ℕ)) (leaves : List Leaf) → leaves_at before p texts ≡ Ok leaves → AreFound before texts leaves
-unfolding leaves_at
-leaves_found before p [] leaves e = record { more = []; all = append-nil before ∙ ok_is {E = LeafFault} before leaves e; fit = refl; texts_are = refl }
-leaves_found before p (text ∷ texts) leaves e =
-    let q = p + length text + 1 in
-    let one = bind_ok (leaf_at before (from_place p text)) (to_leaves before q texts) leaves e in
-    let leaf = one.0.0 in
-    let here = leaf_found before leaf (from_place p text) one.0.1 one.1 in
-    let others = leaves_found (before ++ leaf ∷ []) q texts leaves one.2 in
-    record {
-      more = leaf ∷ others.more;
-      all = sym (append_assoc before (leaf ∷ []) others.more) ∙ others.all;
-      fit = rw (here.fits, others.fit) refl;
-      texts_are = ap (λ (t : List ℕ). t ∷ texts) here.parts ∙ ap (λ (ts : List (List ℕ)). text_of_leaf leaf ∷ ts) others.texts_are;
-    }
+pub cons_is : {A : Type 0} (x y : A) (xs ys : List A) → x ∷ xs ≡ y ∷ ys → (x ≡ y) × (xs ≡ ys)
+cons_is x y xs ys h = (cc, cc)
+
+-- a leaf that was read, and the text behind its colon
+module _ (before : List Leaf) (leaf : Leaf) (x t u : List ℕ) (own : before_colon t ≡ x) (is : x ≡ text_of_leaf leaf) where
+  pub lead_place : length (lead before) + length x + 1 ≡ length (lead (before ++ leaf ∷ []))
+  lead_place = omega (arith, ap length is, ap length (lead_more before leaf), length-append (lead before) (with_colon leaf), length-append (text_of_leaf leaf) (58 ∷ []))
+
+  pub lead_whole : t ≡ before_colon t ++ 58 ∷ u → lead (before ++ leaf ∷ []) ++ u ≡ lead before ++ t
+  lead_whole cut =
+      ap (λ (bs : List ℕ). bs ++ u) (lead_more before leaf)
+      ∙ append_assoc (lead before) (with_colon leaf) u
+      ∙ ap (λ (bs : List ℕ). lead before ++ bs) (append_assoc (text_of_leaf leaf) (58 ∷ []) u ∙ ap (λ (bs : List ℕ). bs ++ 58 ∷ u) (sym is ∙ sym own) ∙ sym cut)
 
 -- a leaf list, and its text
 pub record ListFound (text : List ℕ) (leaves : List Leaf) : Type 0 where
   pub is : is_leaf_list leaves ≡ true
   pub parts : text ≡ text_of_leaves leaves
 
-some_leaves : (leaves : List Leaf) → 0 < length leaves → are_leaves_behind [] leaves ≡ true → is_leaf_list leaves ≡ true
-some_leaves [] lt h = absurd (omega arith)
-some_leaves (leaf ∷ more) lt h = h
+none_more : (leaves others : List Leaf) (p : ℕ) (texts : List (List ℕ)) → texts ≡ [] → leaves_at leaves p texts ≡ Ok others → leaves ≡ others
+unfolding leaves_at
+none_more leaves others p [] is h = ok_is {E = LeafFault} leaves others h
+none_more leaves others p (t ∷ ts) is h = absurd cc
+
+found_behind : (texts : List (List ℕ)) (before : List Leaf) (t : List ℕ) (leaves : List Leaf) → pieces t ≡ texts → are_leaves_behind [] before ≡ true → leaves_at before (length (lead before)) texts ≡ Ok leaves
+    → ListFound (lead before ++ t) leaves
+unfolding leaves_at
+found_behind [] before t leaves is fits h = absurd (let clash = sym (pieces_cut t) ∙ is in cc)
+found_behind (x ∷ xs) before t leaves is fits h =
+    let p = length (lead before) in
+    let own = cons_is (before_colon t) x (more_pieces t) xs (sym (pieces_cut t) ∙ is) in
+    let one = bind_ok (leaf_at before (from_place p x)) (to_leaves before (p + length x + 1) xs) leaves h in
+    let leaf = one.0.0 in
+    let f = leaf_found before leaf (from_place p x) one.0.1 one.1 in
+    let behind = one_behind [] before leaf fits f.fits in
+    elim (rest_is t) [
+      | inl none ↦
+          let all : before ++ leaf ∷ [] ≡ leaves = none_more (before ++ leaf ∷ []) leaves (p + length x + 1) xs (sym own.1 ∙ none.0) one.2 in
+          let text : lead before ++ t ≡ text_of_leaves (before ++ leaf ∷ []) = ap (λ (bs : List ℕ). lead before ++ bs) (none.1 ∙ own.0 ∙ f.parts) ∙ sym (lead_last before leaf) in
+          subst (λ (ls : List Leaf). ListFound (lead before ++ t) ls) all (record { is = listed before leaf behind; parts = text })
+      | inr u ↦
+          let there = ap (λ (k : ℕ). leaves_at (before ++ leaf ∷ []) k xs) (sym (lead_place before leaf x t u.0 own.0 f.parts)) ∙ one.2 in
+          subst (λ (bs : List ℕ). ListFound bs leaves) (lead_whole before leaf x t u.0 own.0 f.parts u.1)
+          (found_behind xs (before ++ leaf ∷ []) u.0 leaves (sym u.2 ∙ own.1) behind there)
+    ]
 
 pub list_found : (text : List ℕ) (leaves : List Leaf) → leaves_in text ≡ Ok leaves → ListFound text leaves
-list_found text leaves e =
-    let found = leaves_found [] 0 (pieces text) leaves e in
-    let all : found.more ≡ leaves = found.all in
-    let count : length (pieces text) ≡ length leaves = ap length found.texts_are ∙ length-map found.more text_of_leaf ∙ ap length all in
-    let some : 0 < length leaves = omega (arith, count, length-slice_split (λ b. b == between_leaves) text) in
-    let fit : are_leaves_behind [] leaves ≡ true = subst (λ (l : List Leaf). are_leaves_behind [] l ≡ true) all found.fit in
-    record {
-      is = some_leaves leaves some fit;
-      parts = sym (join_with_byte-slice_split 58 text) ∙ ap (join_with_byte 58) (found.texts_are ∙ ap (map text_of_leaf) all) ∙ sym (joined_leaves leaves);
-    }
+list_found text leaves h = found_behind (pieces text) [] text leaves refl refl h

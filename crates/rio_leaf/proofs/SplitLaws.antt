@@ -1,8 +1,9 @@
 -- Leaves are read up to the first colon, and then the others.
-use Rattle.std.proofs.Common.{◌≡◌, ℕ, ◌+◌, ◌-◌, ◌<◌, ◌≤◌, List, [], ◌∷◌, length, take, drop, Bool, true, false, ◌==◌, refl, sym, ap, ◌∙◌, arith}
+use Rattle.std.proofs.Common.{◌≡◌, ℕ, ◌+◌, ◌-◌, ◌<◌, ◌≤◌, List, [], ◌∷◌, length, take, drop, ◌==◌, refl, sym, ap, ◌∙◌, arith}
 use Rattle.std.specs.List.{position_or_len}
 use Rattle.std.proofs.lemmas.List.{take_all, length-drop, drop-drop}
-use Rattle.std.proofs.lemmas.List.Splits.{slice_split-cons_no, slice_split_first}
+use Rattle.std.proofs.lemmas.List.Splits.{slice_split_first, slice_split_none}
+use Rattle.std.proofs.lemmas.List.Sums.{fails_before_first}
 use Rattle.rio_leaf.specs.Marks.{between_leaves}
 use Rattle.rio_leaf.specs.Reading.{pieces}
 
@@ -10,15 +11,8 @@ abbrev pub colon_place : List ℕ → ℕ
 colon_place = position_or_len (λ b. b == between_leaves)
 
 -- where no colon stands, the text is one piece
-one_piece_by : (b : ℕ) (bs : List ℕ) (test : Bool) → (b == between_leaves) ≡ test → colon_place (b ∷ bs) ≡ length (b ∷ bs) → (colon_place bs ≡ length bs → pieces bs ≡ bs ∷ []) → pieces (b ∷ bs) ≡ (b ∷ bs) ∷ []
-one_piece_by b bs true t e ih = let none : 0 ≡ length (b ∷ bs) = rw t at e in absurd (omega arith)
-one_piece_by b bs false t e ih =
-    let more : 1 + colon_place bs ≡ length (b ∷ bs) = rw t at e in
-    slice_split-cons_no (λ b. b == between_leaves) b bs t ∙ rw (ih (omega arith)) refl
-
-pub one_piece : (text : List ℕ) → colon_place text ≡ length text → pieces text ≡ text ∷ []
-one_piece [] e = refl
-one_piece (b ∷ bs) e = one_piece_by b bs (b == between_leaves) refl e (one_piece bs)
+one_piece : (text : List ℕ) → colon_place text ≡ length text → pieces text ≡ text ∷ []
+one_piece text e = slice_split_none (λ b. b == between_leaves) text (λ k d l. fails_before_first (λ b. b == between_leaves) text k d (omega (arith, l, e)))
 
 module _ (text front back : List ℕ) (n : ℕ) (at : n ≡ colon_place text) (within : n ≤ length text) (before : front ≡ take n text) (behind : back ≡ drop n text) where
   -- no colon stands in the text

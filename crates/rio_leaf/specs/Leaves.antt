@@ -1,5 +1,5 @@
 -- Which leaves may stand in a branch: names, dimensions, counters.
-use Rattle.std.specs.Prelude.{ℕ, List, [], ◌∷◌, ◌++◌, Bool, true, false, nat_le, ◌==◌, ◌&&◌, ◌||◌, not}
+use Rattle.std.specs.Prelude.{ℕ, List, Bool, true, false, nat_le, ◌==◌, ◌&&◌, ◌||◌, not}
 use Rattle.std.specs.List.{list_any}
 use Rattle.std.specs.Str.{bytes_eq}
 use Rattle.rio_num.specs.Word.{is_name_text}
@@ -60,15 +60,3 @@ is_taken before name = has_leaf before name || has_counted_leaf before name
 -- Leaves of the name may count the leaf behind those before: one of these does, or none is of this branch.
 abbrev pub counts_for : List Leaf → List ℕ → List ℕ → Bool
 counts_for before own name = has_counting_leaf before name || not (bytes_eq own name || has_leaf before name)
-
-abbrev pub is_leaf_behind : List Leaf → Leaf → Bool
-is_leaf_behind before leaf = is_leaf (is_taken before) (counts_for before leaf.name) leaf
-
-abbrev pub are_leaves_behind : List Leaf → List Leaf → Bool
-are_leaves_behind before [] = true
-are_leaves_behind before (leaf ∷ leaves) = is_leaf_behind before leaf && are_leaves_behind (before ++ leaf ∷ []) leaves
-
--- a leaf or more, which some tree has in one branch
-abbrev pub is_leaf_list : List Leaf → Bool
-is_leaf_list [] = false
-is_leaf_list (leaf ∷ leaves) = are_leaves_behind [] (leaf ∷ leaves)

@@ -1,5 +1,6 @@
 pub mod Leaves
 pub mod Marks
 pub mod Reading
+pub mod Spelling
 pub mod Stated
-pub mod Text
+pub mod ToldPlaces

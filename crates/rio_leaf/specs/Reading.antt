@@ -1,8 +1,4 @@
 -- Lists of leaves as texts are read: the leaves, or the place of the first token that can't stand.
---
---   leaves = leaf {":" leaf}
---   leaf   = NAME ["[" (NUM | NAME) "]"] "/" LETTER
---
 -- A token is a word, a longest run of letters, digits and _ . - +, or another single byte. No blanks stand in the list.
 use Rattle.std.specs.Prelude.{◌≡◌, ◌≢◌, ℕ, ◌+◌, List, [], ◌∷◌, ◌++◌, length, take, slice_index, Result, Ok, Err, Option, Some, None, Bool, false, ◌==◌, ◌&&◌, not, if◌then◌else◌}
 use Rattle.std.specs.List.{prefix_len, slice_split}
@@ -116,16 +112,6 @@ pieces text = slice_split (λ b. b == between_leaves) text
 -- the leaves that a text lists, with colons between them
 abbrev pub leaves_in : List ℕ → Result (List Leaf) LeafFault
 leaves_in text = leaves_at [] 0 (pieces text)
-
--- the first piece, and those of the text behind its colon, if one stands there
-abbrev pub with_pieces : List ℕ → Option (List ℕ) → List (List ℕ)
-with_pieces piece None = piece ∷ []
-with_pieces piece (Some behind) = piece ∷ pieces behind
-
--- so long is a piece with what stands behind it
-abbrev pub length_with : List ℕ → Option (List ℕ) → ℕ
-length_with piece None = length piece
-length_with piece (Some behind) = length piece + 1 + length behind
 
 -- ---- what a reader does
 

@@ -3,7 +3,7 @@ ghost use Rattle.std.specs.Prelude.{◌≡◌, ◌∷◌, ◌++◌, OnOk, OnErr}
 ghost use Rattle.std.specs.List.{flat_map};
 ghost use Rattle.rio_num.specs.Room.{with_more};
 ghost use Rattle.rio_leaf.specs.Marks.{between_leaves};
-ghost use Rattle.rio_leaf.specs.Text.{text_of_dim, text_of_leaf, text_of_leaves};
+ghost use Rattle.rio_leaf.specs.Spelling.{text_of_dim, text_of_leaf, text_of_leaves};
 
 use crate::{Dim, Leaf, Leaves};
 use rio_num::{Bytes, NoMemory};

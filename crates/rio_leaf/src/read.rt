@@ -1,12 +1,11 @@
 //! Lists of leaves are read.
-ghost use Rattle.std.specs.Prelude.{◌≡◌, ◌<◌, ◌≤◌, ◌^◌, ◌==◌, List, length, IfOk, IsTrue};
+ghost use Rattle.std.specs.Prelude.{◌≡◌, ◌+◌, ◌<◌, ◌≤◌, ◌^◌, ◌==◌, List, [], ◌∷◌, length, IfOk, IsTrue};
 ghost use Rattle.std.specs.List.{position_or_len};
-ghost use Rattle.std.specs.Option.{option_copied};
-ghost use Rattle.rio_leaf.specs.Leaves.{is_leaf_list};
-ghost use Rattle.rio_leaf.specs.Text.{text_of_leaves};
+ghost use Rattle.std.specs.Option.{option_copied, option_map_or};
+ghost use Rattle.rio_leaf.specs.Spelling.{is_leaf_list, text_of_leaves};
 ghost use Rattle.rio_leaf.specs.declared.leaf.Leaf.{Leaf};
 ghost use Rattle.rio_leaf.specs.Marks.{between_leaves};
-ghost use Rattle.rio_leaf.specs.Reading.{GivesLeaf, GivesLeafAt, IsLeafReadAs, dim_at, dim_of, leaf_at, leaf_name_of, leaves_in, length_with, letter_in, pieces, said_at, with_pieces};
+ghost use Rattle.rio_leaf.specs.Reading.{GivesLeaf, GivesLeafAt, IsLeafReadAs, dim_at, dim_of, leaf_at, leaf_name_of, leaves_in, letter_in, pieces, said_at};
 
 use crate::dim::{dim_in, letter_in};
 use crate::rules::is_taken;
@@ -97,8 +96,10 @@ fn piece_length(text: &[u8]) -> usize
 
 // What stands before the first colon, and what stands behind it, if there is one.
 fn first_piece(text: &[u8]) -> (&[u8], Option<&[u8]>)
-    ensures pieces { pieces text.now ≡ with_pieces result.0.now (option_copied result.1) }
-    ensures whole { length text.now ≡ length_with result.0.now (option_copied result.1) }
+    ensures pieces { pieces text.now
+        ≡ result.0.now ∷ option_map_or pieces (option_copied result.1) [] }
+    ensures whole { length text.now
+        ≡ length result.0.now + option_map_or (λ b. length b + 1) (option_copied result.1) 0 }
 {
     match text.split_at(piece_length(text)) {
         (piece, []) => (piece, None),

@@ -6,7 +6,7 @@ use Rattle.std.specs.Map.{lookup}
 use Rattle.std.specs.Prelude.{◌==◌, unwrap_or}
 use Rattle.std.specs.Str.{bytes_eq}
 use Rattle.rio_leaf.specs.Marks.{is_leaf_letter}
-use Rattle.rio_leaf.specs.Text.{text_of_dim}
+use Rattle.rio_leaf.specs.Spelling.{text_of_dim}
 use Rattle.rio_leaf.specs.declared.branch.Shape.{Shape}
 use Rattle.rio_leaf.specs.declared.branch.Shape.TheVariants.{Leaves, Class}
 use Rattle.rio_leaf.specs.declared.leaf.Dim.{Dim}

@@ -4,7 +4,7 @@ use Rattle.std.specs.List.{list_any}
 use Rattle.std.specs.Map.{lookup}
 use Rattle.std.specs.Str.{bytes_eq}
 use Rattle.rio_leaf.specs.Stated.{leaves_of}
-use Rattle.rio_leaf.specs.Text.{text_of_dim, text_of_leaves}
+use Rattle.rio_leaf.specs.Spelling.{text_of_dim, text_of_leaves}
 use Rattle.rio_leaf.specs.declared.branch.Shape.{Shape}
 use Rattle.rio_leaf.specs.declared.branch.Shape.TheVariants.{Leaves, Class}
 use Rattle.rio_leaf.specs.declared.leaf.Dim.{Dim}

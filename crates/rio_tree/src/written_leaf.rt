@@ -1,6 +1,6 @@
 //! The leaves of a header that is written.
 ghost use Rattle.std.specs.Prelude.{◌≡◌, ◌++◌, IfOk, OnOk};
-ghost use Rattle.rio_leaf.specs.Text.{text_of_dim};
+ghost use Rattle.rio_leaf.specs.Spelling.{text_of_dim};
 ghost use Rattle.rio_tree.specs.WrittenTree.{class_of_letter, counter_pointer, is_unsigned_letter, labels_behind, leaf_object, leaf_pointers, plain_leaf_object, width_of_letter, written_count};
 
 use crate::written_labels::{LeafLabels, label_behind};

@@ -3,9 +3,8 @@ use Rattle.rio_num.proofs.ReadLaws.{ok_is}
 use Rattle.rio_leaf.specs.declared.fault.LeafFault.{LeafFault}
 use Rattle.rio_leaf.specs.declared.fault.LeafFault.TheVariants.{NoMemory, BadLeaf}
 use Rattle.rio_leaf.specs.declared.leaf.Leaf.{Leaf}
-use Rattle.rio_leaf.specs.Leaves.{is_leaf_list}
+use Rattle.rio_leaf.specs.Spelling.{is_leaf_list, text_of_leaves}
 use Rattle.rio_leaf.specs.Reading.{GivesLeaf, IsLeafReadAs, leaves_in}
-use Rattle.rio_leaf.specs.Text.{text_of_leaves}
 use Rattle.rio_leaf.proofs.ListLaws.{list_again, list_found}
 use Rattle.rio_leaf.proofs.read.read_leaves.Goals as goal
 
