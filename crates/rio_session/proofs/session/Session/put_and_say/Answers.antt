@@ -10,6 +10,7 @@ use Rattle.rio_session.proofs.CloseRoom.{directory_stays}
 use Rattle.rio_session.proofs.Keeps.{kept_put, size_with}
 use Rattle.rio_session.proofs.Needs.{key_bytes}
 use Rattle.rio_session.proofs.PutMoments.{put_and_said, put_in_time, put_not_said, says_fault, stored_is}
+use Rattle.rio_session.proofs.session.Session.put_and_say.Goals.{in-Heap-9, in-Inline-9}
 use Rattle.rio_session.proofs.session.Session.put_and_say.Goals as goal
 
 pub key_length-added-requires : goal.key_length-added-requires
@@ -47,7 +48,10 @@ returns-in-Err-clause-puts g c =
       told = c.put_record.ensures.told;
       said = c.put_record.ensures.said;
       faults = (c.in-Err.ensures.cause refl, c.put_record.ensures.say_faults);
-      failed = refl;
+      failed = elim c.match-head-3.branch [
+        | in-Heap-9 w ↦ ap (λ (s : SessionState). s.failed) w.self-is
+        | in-Inline-9 w ↦ ap (λ (s : SessionState). s.failed) w.self-is
+      ];
     }
 
 pub returns-in_err-answer-in-Ok-clause-puts : goal.returns-in_err-answer-in-Ok-clause-puts
