@@ -8,6 +8,7 @@
 //! The definitions stand in `specs/`: `Segments` (what stands at each place, END, and where the chain breaks), `Laws`
 //! (a file has one list of segments or one first break), `Adjoining` (segments without what they hold), `Placing` (the
 //! choice of place), `Changes` (what a put makes of the segments) and `Stops` (what a stop leaves).
+//! Its tests stand in `rio_file_rows`.
 #![tactic(auto)]
 
 mod behind;
@@ -31,6 +32,3 @@ pub use laws::{chain_or_break, laid_by_puts, one_chain, record_key};
 pub use reads::{bytes_at, key_at};
 pub use segment::{Segment, Segments};
 pub use walking::walk;
-
-#[cfg(test)]
-mod tests;

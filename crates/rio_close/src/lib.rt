@@ -6,7 +6,7 @@
 //!
 //! The definitions stand in `specs/`: `Opens` and `Causes` (what a call that reads answers, and why
 //! it fails), `Sizes`, `Written` (what a close writes), `Fields` (its last writes) and `Leaving`
-//! (what a stop leaves).
+//! (what a stop leaves). Its tests stand in `rio_file_rows`.
 #![tactic(auto)]
 
 mod fault;
@@ -30,6 +30,3 @@ pub use parts::CloseRecords;
 pub use record::{data_of, read_record, read_up_to};
 pub use rio_dir::Closed;
 pub use writing::write_close;
-
-#[cfg(test)]
-mod tests;

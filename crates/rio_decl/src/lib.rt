@@ -1,16 +1,12 @@
-//! Classes as the text of their declarations.
+//! Classes as the text of their declarations. Its tests stand in `rio_rows`.
 #![tactic(auto)]
 
 mod known;
 mod print;
 mod read;
 mod read_kind;
-#[cfg(test)]
-mod read_tests;
 mod stated;
 mod sum;
-#[cfg(test)]
-mod tests;
 
 pub use print::print_class;
 pub use read::{read_class, take_class};

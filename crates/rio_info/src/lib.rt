@@ -2,7 +2,7 @@
 //! its first fault, `write_info` writes the list for declared classes, `info_length` and `info_length_with` tell its
 //! length beforehand: the same walk, into a sink that counts. The definitions stand in `rio_format`: `ClassList` and
 //! `Elements` of what is read, `TreeClasses`, `WrittenElements`, `WrittenList` and `WrittenBytes` of what is written;
-//! `WrittenParts` here says the same bytes part by part.
+//! `WrittenParts` here says the same bytes part by part. Its tests stand in `rio_rows`.
 #![tactic(auto)]
 
 mod classes;
@@ -14,8 +14,6 @@ mod list;
 mod members;
 mod parts;
 mod read;
-#[cfg(test)]
-mod tests;
 mod write;
 mod write_class;
 mod write_element;

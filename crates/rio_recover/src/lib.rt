@@ -4,7 +4,7 @@
 //! reason, unless another has its name and a higher cycle.
 //!
 //! The definitions stand in `specs/`: `Recovered` (what is recovered and what is answered) and `Causes` (why a call
-//! fails); `Walked`, `Keys`, `Names`, `Checks` and `Classes` are of the steps.
+//! fails); `Walked`, `Keys`, `Names`, `Checks` and `Classes` are of the steps. Its tests stand in `rio_file_rows`.
 #![tactic(auto)]
 
 mod classes;
@@ -22,6 +22,3 @@ mod walked;
 pub use fault::RecoverFault;
 pub use recovery::{Recovered, recover};
 pub use unborn::is_unborn;
-
-#[cfg(test)]
-mod tests;

@@ -1,4 +1,4 @@
-//! The classes that are declared, and which may follow them.
+//! The classes that are declared, and which may follow them. Its tests stand in `rio_rows`.
 #![tactic(auto)]
 
 mod judge;
@@ -7,8 +7,6 @@ mod newest;
 mod reach;
 mod reached;
 mod registry;
-#[cfg(test)]
-mod tests;
 
 pub use names::is_reserved_name;
 pub use registry::Registry;

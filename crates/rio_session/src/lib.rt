@@ -2,6 +2,7 @@
 //! closes the file. A stop at any moment leaves the state of before the command or of behind it; what is kept beside the
 //! file stands for the state, so no command but `get` reads it again. `specs/Session.antt` says what a session stands for
 //! and what a stop leaves, `specs/Marks.antt` where records go and which commands find no room.
+//! Its tests stand in `rio_file_rows`.
 #![tactic(auto)]
 
 mod close;
@@ -18,6 +19,3 @@ mod work;
 
 pub use fault::{OpenFault, SessionFault};
 pub use session::Session;
-
-#[cfg(test)]
-mod tests;

@@ -1,16 +1,10 @@
-//! Values as text.
+//! Values as text. Its tests stand in `rio_rows`.
 #![tactic(auto)]
 
 mod laws;
 mod print;
 mod read;
-#[cfg(test)]
-mod read_tests;
 mod resolving;
-#[cfg(test)]
-mod resolving_tests;
-#[cfg(test)]
-mod tests;
 
 pub use laws::stored_values_are_read;
 pub use print::print_value;

@@ -1,14 +1,12 @@
 //! Rows of class lists in bytes, with the classes or the fault that they stand for.
 
-mod printed;
 mod written;
 
-use crate::read_info;
-use printed::{hex_bytes, printed_classes};
+use crate::tests::printed::printed_classes;
 use rio_buffer::ObjFault;
-use rio_num::Bytes;
+use rio_info::read_info;
+use rio_num::{Bytes, NoMemory};
 use std::alloc::Global;
-use std::test::Fail;
 
 struct Row {
     bytes: &'static str,
@@ -54,32 +52,81 @@ static READ: [Row; 6] = [
 static FAULTY: &str =
     "40000149 0005 0001 00000000 00000000 00 00000001 40000133 FFFFFFFF 5453747265616D6572496E666F00 4000011D 0009 40000012 0001 0001 00000000 00000000 04 4E6F6465 00 00000001 00000001 400000F9 FFFFFFFF 544F626A417272617900 400000E7 0003 0001 00000000 00000000 00 00000002 00000000 40000060 FFFFFFFF 5453747265616D657242617369635479706500 40000045 0002 40000040 0004 40000011 0001 0001 00000000 00000000 03 76616C 00 00000003 00000004 00000000 00000000 00000000 00000000 00000000 00000000 00000000 03 696E74 4000006A FFFFFFFF 5453747265616D65724F626A656374416E79506F696E74657200 40000048 0001 40000042 0004 40000012 0001 0001 00000000 00000000 04 6E657874 00 00000045 00000000 00000000 00000000 00000000 00000000 00000000 00000000 00000000 05 4E6F64652A 00";
 
-fn classes_text(alloc: Global, bytes: &str) -> Result<Bytes, ObjFault> {
-    let bytes = hex_bytes(alloc, bytes)?;
-    if bytes.len() > 10_000 {
-        return Err(ObjFault::NoMemory);
+fn digit_of(c: u8) -> u8 {
+    match c {
+        b'0'..=b'9' => c - b'0',
+        b'A'..=b'F' => c - b'A' + 10,
+        _ => 0,
     }
-    let classes = read_info(alloc, bytes.as_slice(), 64)?;
-    Ok(printed_classes(alloc, classes.as_slice())?)
 }
 
-#[test]
-fn reads(rt: HostRuntime) -> Result<(), Fail> {
-    for row in &READ {
-        let text = classes_text(rt.alloc(), row.bytes).ok().ok_or(row.bytes)?;
-        assert!(rt; text.as_slice() == row.text.as_bytes(), "{}", row.text);
+// Puts the bytes that a text gives in hexadecimal digits, with blanks between them.
+fn put_hex(bytes: &mut Bytes, text: &str) -> Result<(), NoMemory> {
+    let mut high: Option<u8> = None;
+    for c in text.as_bytes() {
+        if *c == b' ' {
+            continue;
+        }
+        match high {
+            Some(first) => {
+                bytes.push(first.wrapping_mul(16).wrapping_add(digit_of(*c)))?;
+                high = None;
+            }
+            None => high = Some(digit_of(*c)),
+        }
     }
     Ok(())
 }
 
+fn hex_bytes(alloc: Global, text: &str) -> Result<Bytes, NoMemory> {
+    let mut bytes = Bytes::new(alloc);
+    put_hex(&mut bytes, text)?;
+    Ok(bytes)
+}
+
+// The classes that are read of the bytes, as text.
+fn classes_in(alloc: Global, bytes: &[u8]) -> Result<Bytes, ObjFault> {
+    if bytes.len() > 10_000 {
+        return Err(ObjFault::NoMemory);
+    }
+    let classes = read_info(alloc, bytes, 64)?;
+    Ok(printed_classes(alloc, classes.as_slice())?)
+}
+
+fn classes_text(alloc: Global, bytes: &str) -> Result<Bytes, ObjFault> {
+    let bytes = hex_bytes(alloc, bytes)?;
+    classes_in(alloc, bytes.as_slice())
+}
+
+impl Row {
+    fn is_read(&self, alloc: Global) -> bool {
+        match classes_text(alloc, self.bytes) {
+            Ok(text) => text.as_slice() == self.text.as_bytes(),
+            Err(_) => false,
+        }
+    }
+}
+
 #[test]
-fn refuses(rt: HostRuntime) -> Result<(), Fail> {
-    let fault = classes_text(rt.alloc(), FAULTY).err();
+fn reads(rt: HostRuntime) {
+    for row in &READ {
+        assert!(rt; row.is_read(rt.alloc()), "{}", row.text);
+    }
+}
+
+fn is_refused(alloc: Global, bytes: &str, wanted: ObjFault) -> bool {
+    match classes_text(alloc, bytes) {
+        Ok(_) => false,
+        Err(fault) => fault == wanted,
+    }
+}
+
+#[test]
+fn refuses(rt: HostRuntime) {
     let wanted = ObjFault::CountMismatch {
         place: 219,
         said: 64,
         used: 63,
     };
-    assert_eq!(rt; fault, Some(wanted));
-    Ok(())
+    assert!(rt; is_refused(rt.alloc(), FAULTY, wanted));
 }

@@ -1,5 +1,5 @@
 //! Elements as text, as the tests compare them.
-use crate::{Element, ElementClass, TypeName};
+use rio_describe::{Element, ElementClass, TypeName};
 use rio_num::{Bytes, NoMemory};
 use std::alloc::Global;
 
@@ -43,18 +43,27 @@ fn put_added(printed: &mut Bytes, class: ElementClass) -> Result<(), NoMemory> {
     }
 }
 
-/// Class and version, code, size, the values of an array, type, and what the class adds.
+fn put_count(printed: &mut Bytes, count: Option<u32>) -> Result<(), NoMemory> {
+    match count {
+        Some(count) => put_number(printed, u64::from(count)),
+        None => printed.put(b" -"),
+    }
+}
+
+// Class and version, code, size, the values of an array, type, and what the class adds.
+fn put_element(printed: &mut Bytes, element: &Element) -> Result<(), NoMemory> {
+    printed.put(element.class_name())?;
+    put_number(printed, u64::from(element.class_version()))?;
+    put_integer(printed, element.code)?;
+    put_number(printed, element.size)?;
+    put_count(printed, element.array)?;
+    put_type(printed, &element.type_name)?;
+    put_added(printed, element.class)
+}
+
+/// An element as text.
 pub(crate) fn printed_element(alloc: Global, element: &Element) -> Result<Bytes, NoMemory> {
     let mut printed = Bytes::new(alloc);
-    printed.put(element.class_name())?;
-    put_number(&mut printed, u64::from(element.class_version()))?;
-    put_integer(&mut printed, element.code)?;
-    put_number(&mut printed, element.size)?;
-    match element.array {
-        Some(count) => put_number(&mut printed, u64::from(count))?,
-        None => printed.put(b" -")?,
-    }
-    put_type(&mut printed, &element.type_name)?;
-    put_added(&mut printed, element.class)?;
+    put_element(&mut printed, element)?;
     Ok(printed)
 }

@@ -1,5 +1,4 @@
 //! Files `a.root` are recovered, in memory: the closed file without objects, and files of its first record and others.
-use crate::{RecoverFault, Recovered, is_unborn, recover};
 use rio_decl::{print_class, read_class};
 use rio_dir::KeyTable;
 use rio_head::{FileFault, Reason};
@@ -7,6 +6,7 @@ use rio_host::MemHost;
 use rio_info::{info_length, write_info};
 use rio_key::KeyHead;
 use rio_num::{Bytes, NoMemory, Numbers};
+use rio_recover::{RecoverFault, Recovered, is_unborn, recover};
 use rio_types::{ClassDef, Classes};
 use std::alloc::Global;
 

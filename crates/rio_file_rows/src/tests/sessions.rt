@@ -5,10 +5,10 @@ ghost use Rattle.rio_step.specs.Statable.{IsStatable};
 ghost use Rattle.rio_session.specs.Session.{IsReady};
 ghost use Rattle.rio_judge.specs.Judging.{is_judged};
 
-use crate::{OpenFault, Session, SessionFault};
 use rio_host::MemHost;
 use rio_machine::Command;
 use rio_num::{Bytes, Name, NoMemory, Numbers};
+use rio_session::{OpenFault, Session, SessionFault};
 use rio_valtext::read_value;
 use rio_value::Value;
 use std::alloc::Global;

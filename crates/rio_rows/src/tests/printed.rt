@@ -26,11 +26,23 @@ fn put_integer(printed: &mut Bytes, n: i32) -> Result<(), NoMemory> {
     printed.put_decimal(u64::from(n.unsigned_abs()))
 }
 
-fn put_array(printed: &mut Bytes, of: Prim, count: &[u8]) -> Result<(), NoMemory> {
+fn put_fixed(printed: &mut Bytes, of: Prim, count: u32) -> Result<(), NoMemory> {
     printed.put(prim_name(of).as_bytes())?;
     printed.put(b"[")?;
-    printed.put(count)?;
+    printed.put_decimal(u64::from(count))?;
     printed.put(b"]")
+}
+
+fn put_counted(printed: &mut Bytes, of: Prim, counter: &[u8]) -> Result<(), NoMemory> {
+    printed.put(prim_name(of).as_bytes())?;
+    printed.put(b"[")?;
+    printed.put(counter)?;
+    printed.put(b"]")
+}
+
+fn put_other(printed: &mut Bytes, code: i32) -> Result<(), NoMemory> {
+    printed.put(b"other ")?;
+    put_integer(printed, code)
 }
 
 fn put_named(printed: &mut Bytes, what: &str, name: &[u8]) -> Result<(), NoMemory> {
@@ -39,23 +51,16 @@ fn put_named(printed: &mut Bytes, what: &str, name: &[u8]) -> Result<(), NoMemor
     printed.put(name)
 }
 
-fn put_kind(alloc: Global, printed: &mut Bytes, kind: &Kind) -> Result<(), NoMemory> {
+fn put_kind(printed: &mut Bytes, kind: &Kind) -> Result<(), NoMemory> {
     match kind {
         Kind::Plain { of } => printed.put(prim_name(*of).as_bytes()),
         Kind::Counter => printed.put(b"counter"),
-        Kind::Fixed { of, count } => {
-            let mut digits = Bytes::new(alloc);
-            digits.put_decimal(u64::from(*count))?;
-            put_array(printed, *of, digits.as_slice())
-        }
-        Kind::Counted { of, counter } => put_array(printed, *of, counter.as_slice()),
+        Kind::Fixed { of, count } => put_fixed(printed, *of, *count),
+        Kind::Counted { of, counter } => put_counted(printed, *of, counter.as_slice()),
         Kind::Text => printed.put(b"text"),
         Kind::Inline { class } => put_named(printed, "object", class.as_slice()),
         Kind::Pointer { class } => put_named(printed, "pointer", class.as_slice()),
-        Kind::Other { code } => {
-            printed.put(b"other ")?;
-            put_integer(printed, *code)
-        }
+        Kind::Other { code } => put_other(printed, *code),
     }
 }
 
@@ -71,10 +76,10 @@ fn put_bases(printed: &mut Bytes, bases: &[Base]) -> Result<(), NoMemory> {
     Ok(())
 }
 
-fn put_member(alloc: Global, printed: &mut Bytes, member: &Member) -> Result<(), NoMemory> {
+fn put_member(printed: &mut Bytes, member: &Member) -> Result<(), NoMemory> {
     printed.put(member.name.as_slice())?;
     printed.put(b": ")?;
-    put_kind(alloc, printed, &member.kind)?;
+    put_kind(printed, &member.kind)?;
     if member.title.is_empty() {
         return Ok(());
     }
@@ -83,62 +88,48 @@ fn put_member(alloc: Global, printed: &mut Bytes, member: &Member) -> Result<(),
     printed.put(b"\"")
 }
 
-fn put_members(alloc: Global, printed: &mut Bytes, members: &[Member]) -> Result<(), NoMemory> {
+fn put_members(printed: &mut Bytes, members: &[Member]) -> Result<(), NoMemory> {
     printed.put(b" {")?;
     let mut before = " ";
     for member in members {
         printed.put(before.as_bytes())?;
         before = ", ";
-        put_member(alloc, printed, member)?;
+        put_member(printed, member)?;
     }
     printed.put(b" }")
 }
 
 // A class as its name, version and checksum, its bases with their versions, and its members.
-fn put_class(alloc: Global, printed: &mut Bytes, class: &ClassDef) -> Result<(), NoMemory> {
+fn put_class(printed: &mut Bytes, class: &ClassDef) -> Result<(), NoMemory> {
     printed.put(class.name.as_slice())?;
     printed.put(b" ")?;
     put_integer(printed, class.version)?;
     printed.put(b" ")?;
     printed.put_decimal(u64::from(class.sum))?;
     put_bases(printed, class.bases.as_slice())?;
-    put_members(alloc, printed, class.members.as_slice())
+    put_members(printed, class.members.as_slice())
 }
 
-pub(crate) fn printed_classes(alloc: Global, classes: &[ClassDef]) -> Result<Bytes, NoMemory> {
+/// The members of a class as text.
+pub(crate) fn printed_members(alloc: Global, class: &ClassDef) -> Result<Bytes, NoMemory> {
     let mut printed = Bytes::new(alloc);
-    for class in classes {
-        if !printed.is_empty() {
-            printed.put(b"; ")?;
-        }
-        put_class(alloc, &mut printed, class)?;
-    }
+    put_members(&mut printed, class.members.as_slice())?;
     Ok(printed)
 }
 
-fn digit_of(c: u8) -> u8 {
-    match c {
-        b'0'..=b'9' => c - b'0',
-        b'A'..=b'F' => c - b'A' + 10,
-        _ => 0,
+fn put_classes(printed: &mut Bytes, classes: &[ClassDef]) -> Result<(), NoMemory> {
+    let mut before = "";
+    for class in classes {
+        printed.put(before.as_bytes())?;
+        before = "; ";
+        put_class(printed, class)?;
     }
+    Ok(())
 }
 
-// The bytes that a text gives in hexadecimal digits, with blanks between them.
-pub(crate) fn hex_bytes(alloc: Global, text: &str) -> Result<Bytes, NoMemory> {
-    let mut bytes = Bytes::new(alloc);
-    let mut high: Option<u8> = None;
-    for c in text.as_bytes() {
-        if *c == b' ' {
-            continue;
-        }
-        match high {
-            Some(first) => {
-                bytes.push(first.wrapping_mul(16).wrapping_add(digit_of(*c)))?;
-                high = None;
-            }
-            None => high = Some(digit_of(*c)),
-        }
-    }
-    Ok(bytes)
+/// Classes as text.
+pub(crate) fn printed_classes(alloc: Global, classes: &[ClassDef]) -> Result<Bytes, NoMemory> {
+    let mut printed = Bytes::new(alloc);
+    put_classes(&mut printed, classes)?;
+    Ok(printed)
 }

@@ -1,0 +1,5 @@
+//! Rows of files in memory: their chain, their close, what they are recovered as, and sessions on them.
+mod chains;
+mod closes;
+mod recovery;
+mod sessions;

@@ -1,0 +1,156 @@
+//! A walk along an empty file, and places for records.
+use rio_chain::{Chain, PlanFault, Segment, Segments, WalkFault, walk};
+use rio_host::MemHost;
+use rio_num::{Bytes, Lengths, NoMemory, Numbers, Places};
+use std::alloc::Global;
+
+// The header of an empty file `a.root`, without its identifier and the bytes behind it.
+const HEADER: &[u8] =
+    b"root\0\0\xea\x60\0\0\0\x64\0\0\x01\x30\0\0\0\xfc\0\0\0\x34\0\0\0\x01\0\0\0\x30\x04";
+
+const FIRST_KEY: &[u8] =
+    b"\0\0\0\x6c\0\x04\0\0\0\x44\0\0\0\x01\0\x28\0\x01\0\0\0\x64\0\0\0\0\x05TFile\x06a.root\0";
+
+// Name and title, and the directory record up to its identifier.
+const DIRECTORY: &[u8] =
+    b"\x06a.root\0\0\x05\0\0\0\x01\0\0\0\x01\0\0\0\x2c\0\0\0\x30\0\0\0\x64\0\0\0\0\0\0\0\xd0\0\x01";
+
+const KEY_LIST: &[u8] =
+    b"\0\0\0\x2c\0\x04\0\0\0\x04\0\0\0\x01\0\x28\0\x01\0\0\0\xd0\0\0\0\x64\x05TFile\x06a.root\0\0\0\0\0";
+
+const FREE: &[u8] =
+    b"\0\0\0\x34\0\x04\0\0\0\x0c\0\0\0\x01\0\x28\0\x01\0\0\0\xfc\0\0\0\x64\x05TFile\x06a.root\0\0\x01\0\0\x01\x30\x77\x35\x94\0\0\0";
+
+const ZEROS: &[u8] = &[0; 67];
+
+fn put_file(image: &mut Bytes) -> Result<(), NoMemory> {
+    image.put(HEADER)?;
+    image.put(ZEROS)?;
+    image.put(FIRST_KEY)?;
+    image.put(DIRECTORY)?;
+    image.put(&ZEROS[..28])?;
+    image.put(KEY_LIST)?;
+    image.put(FREE)
+}
+
+// The file, with these bytes behind its last record.
+fn image_of(alloc: Global, end: &[u8]) -> Result<Bytes, NoMemory> {
+    let mut image = Bytes::new(alloc);
+    put_file(&mut image)?;
+    image.put(end)?;
+    Ok(image)
+}
+
+static SEGMENTS: [Segment; 3] = [
+    Segment::Record {
+        place: 100,
+        length: 108,
+    },
+    Segment::Record {
+        place: 208,
+        length: 44,
+    },
+    Segment::Record {
+        place: 252,
+        length: 52,
+    },
+];
+
+fn walked(alloc: Global, image: Bytes) -> Result<Segments, WalkFault> {
+    let mut host = MemHost::new(alloc, image, Numbers::new(alloc));
+    walk(alloc, &mut host)
+}
+
+// Whether a walk along it gives the segments of the empty file.
+fn is_walked(alloc: Global, image: Bytes) -> bool {
+    match walked(alloc, image) {
+        Ok(segments) => segments.as_slice() == SEGMENTS.as_slice(),
+        Err(_) => false,
+    }
+}
+
+fn breaks_at(alloc: Global, image: Bytes, place: u64) -> bool {
+    match walked(alloc, image) {
+        Ok(_) => false,
+        Err(fault) => fault == WalkFault::NoChain { place },
+    }
+}
+
+fn walks(alloc: Global) -> bool {
+    match image_of(alloc, b"\0\0\0\0") {
+        Ok(image) => is_walked(alloc, image),
+        Err(_) => false,
+    }
+}
+
+#[test]
+fn walks_an_empty_file(rt: HostRuntime) {
+    assert!(rt; walks(rt.alloc()));
+}
+
+fn breaks(alloc: Global) -> bool {
+    match image_of(alloc, b"") {
+        Ok(image) => breaks_at(alloc, image, 304),
+        Err(_) => false,
+    }
+}
+
+#[test]
+fn breaks_where_the_end_word_lacks(rt: HostRuntime) {
+    assert!(rt; breaks(rt.alloc()));
+}
+
+fn nearly_full(alloc: Global) -> Result<Chain, NoMemory> {
+    let mut segments = Segments::new(alloc);
+    segments.push(Segment::Record {
+        place: 100,
+        length: 108,
+    })?;
+    segments.push(Segment::Record {
+        place: 208,
+        length: 1_999_998_792,
+    })?;
+    Chain::from_segments(segments)
+}
+
+fn placed(alloc: Global, chain: &Chain) -> Result<Places, PlanFault> {
+    let lengths = Lengths::from_slice(alloc, &[996])?;
+    chain.plan(&lengths, 1_999_999_996)
+}
+
+fn too_long(alloc: Global, chain: &Chain) -> Result<Places, PlanFault> {
+    let lengths = Lengths::from_slice(alloc, &[1000])?;
+    chain.plan(&lengths, 1_999_999_996)
+}
+
+fn fits(alloc: Global, chain: &Chain) -> bool {
+    match placed(alloc, chain) {
+        Ok(places) => places.as_slice() == [1_999_999_000].as_slice(),
+        Err(_) => false,
+    }
+}
+
+fn is_full(alloc: Global, chain: &Chain) -> bool {
+    match too_long(alloc, chain) {
+        Ok(_) => false,
+        Err(fault) => {
+            fault
+                == PlanFault::Full {
+                    end: 1_999_999_000,
+                    wanted: 1000,
+                }
+        }
+    }
+}
+
+fn plans(alloc: Global) -> bool {
+    match nearly_full(alloc) {
+        Ok(chain) => fits(alloc, &chain) && is_full(alloc, &chain),
+        Err(_) => false,
+    }
+}
+
+#[test]
+fn plans_up_to_the_limit(rt: HostRuntime) {
+    assert!(rt; plans(rt.alloc()));
+}

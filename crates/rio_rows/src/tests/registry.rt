@@ -1,0 +1,226 @@
+//! Declarations, and what each of them is answered.
+use crate::tests::classes::{bare_class, name_of};
+use rio_num::{Name, NoMemory};
+use rio_registry::{DeclareFault, Registry, is_reserved_name};
+use rio_types::{Base, ClassDef, Kind, Member, Members};
+use std::alloc::Global;
+
+// A class and the answer to its declaration. Its parts are bases `:NAME`, members by value `=NAME` and pointers `*NAME`.
+type Row = (
+    &'static str,
+    i32,
+    &'static [&'static str],
+    Option<DeclareFault>,
+);
+
+static FIRST_RULE: [Row; 10] = [
+    ("Node", 1, &["*Node"], None),
+    ("Node", 1, &[], Some(DeclareFault::SameVersion)),
+    ("A", 1, &["=A"], Some(DeclareFault::HoldsItself)),
+    ("A", 1, &[":A"], Some(DeclareFault::HoldsItself)),
+    ("Node", 1, &["=Node"], Some(DeclareFault::SameVersion)),
+    ("Node", 1, &["=Q"], Some(DeclareFault::NoSuchClass)),
+    ("A", 1, &[":TObjString"], Some(DeclareFault::NoSuchClass)),
+    ("A", 1, &["=TObject"], Some(DeclareFault::NoSuchClass)),
+    ("A", 1, &["*TArrayI"], Some(DeclareFault::NoSuchClass)),
+    (
+        "A",
+        1,
+        &[":TObject", "*TNamed", "*TObjArray", "*TList", "*TObjString"],
+        None,
+    ),
+];
+
+static ALL_VERSIONS: [Row; 6] = [
+    ("B", 1, &[], None),
+    ("A", 1, &["=B"], None),
+    ("A", 2, &[], None),
+    ("C", 1, &[":A"], None),
+    ("B", 2, &["=C"], Some(DeclareFault::HoldsItself)),
+    ("B", 2, &["*C"], None),
+];
+
+// A base may be TObject before a class of this name is declared.
+static BUILT_IN_NAME: [Row; 3] = [
+    ("A", 1, &[":TObject"], None),
+    ("TObject", 1, &["=A"], Some(DeclareFault::HoldsItself)),
+    ("TObject", 1, &["*A"], None),
+];
+
+static TWO_VERSIONS: [Row; 2] = [("P", 1, &[], None), ("P", 3, &[], None)];
+
+static OF_P: Row = ("D", 1, &[":P"], None);
+
+static OF_ITSELF: Row = ("D", 1, &["=D"], Some(DeclareFault::HoldsItself));
+
+static THREE_VERSIONS: [Row; 4] = [
+    ("P", 1, &[], None),
+    ("P", 3, &[], None),
+    ("P", 2, &[], None),
+    ("D", 1, &[":TNamed", ":P", ":TObject"], None),
+];
+
+fn push_member(members: &mut Members, kind: Kind) -> Result<(), NoMemory> {
+    let name = name_of(members.allocator(), "x")?;
+    let title = name_of(members.allocator(), "")?;
+    members.push(Member { name, kind, title })
+}
+
+fn push_named(class: &mut ClassDef, sign: u8, name: &[u8]) -> Result<(), NoMemory> {
+    let name = Name::from_slice(class.bases.allocator(), name)?;
+    match sign {
+        b':' => class.bases.push(Base { name, version: 0 }),
+        b'=' => push_member(&mut class.members, Kind::Inline { class: name }),
+        _ => push_member(&mut class.members, Kind::Pointer { class: name }),
+    }
+}
+
+fn push_part(class: &mut ClassDef, part: &str) -> Result<(), NoMemory> {
+    match part.as_bytes().split_first() {
+        Some((sign, name)) => push_named(class, *sign, name),
+        None => Ok(()),
+    }
+}
+
+fn class_of(alloc: Global, row: &Row) -> Result<ClassDef, NoMemory> {
+    let mut class = bare_class(alloc, row.0, row.1, 0)?;
+    for part in row.2 {
+        push_part(&mut class, part)?;
+    }
+    Ok(class)
+}
+
+fn is_answered(alloc: Global, registry: &mut Registry, row: &Row) -> bool {
+    match class_of(alloc, row) {
+        Ok(class) => registry.declare(class).err() == row.3,
+        Err(_) => false,
+    }
+}
+
+// Whether each of the rows is answered as it says, one after the other.
+fn are_answered(alloc: Global, registry: &mut Registry, rows: &[Row]) -> bool {
+    for row in rows {
+        if !is_answered(alloc, registry, row) {
+            return false;
+        }
+    }
+    true
+}
+
+fn holds(alloc: Global, rows: &[Row]) -> bool {
+    let mut registry = Registry::new(alloc);
+    are_answered(alloc, &mut registry, rows)
+}
+
+// Takes the last of two classes out.
+fn forgets(registry: &mut Registry) -> bool {
+    if registry.classes().len() != 2 {
+        return false;
+    }
+    registry.forget_last();
+    true
+}
+
+// Whether the last row is answered as before once its class is taken out.
+fn holds_again(alloc: Global) -> bool {
+    let mut registry = Registry::new(alloc);
+    are_answered(alloc, &mut registry, &FIRST_RULE)
+        && forgets(&mut registry)
+        && are_answered(alloc, &mut registry, &FIRST_RULE[9..])
+}
+
+#[test]
+fn answers_by_the_first_rule(rt: HostRuntime) {
+    assert!(rt; holds_again(rt.alloc()));
+}
+
+#[test]
+fn follows_all_versions_of_all_classes(rt: HostRuntime) {
+    assert!(rt; holds(rt.alloc(), &ALL_VERSIONS));
+}
+
+#[test]
+fn follows_a_built_in_name(rt: HostRuntime) {
+    assert!(rt; holds(rt.alloc(), &BUILT_IN_NAME));
+}
+
+fn judged(alloc: Global, registry: &Registry, row: &Row) -> Result<ClassDef, DeclareFault> {
+    let class = class_of(alloc, row)?;
+    registry.judge(&class)
+}
+
+fn has_base(class: &ClassDef, version: i32) -> bool {
+    match class.bases.get(0) {
+        Some(base) => base.version == version,
+        None => false,
+    }
+}
+
+fn is_judged(alloc: Global, registry: &Registry, row: &Row, version: i32) -> bool {
+    match judged(alloc, registry, row) {
+        Ok(class) => has_base(&class, version),
+        Err(_) => false,
+    }
+}
+
+fn is_refused(alloc: Global, registry: &Registry, row: &Row) -> bool {
+    match judged(alloc, registry, row) {
+        Ok(_) => false,
+        Err(fault) => row.3 == Some(fault),
+    }
+}
+
+fn judges(alloc: Global) -> bool {
+    let mut registry = Registry::new(alloc);
+    are_answered(alloc, &mut registry, &TWO_VERSIONS)
+        && is_judged(alloc, &registry, &OF_P, 3)
+        && is_refused(alloc, &registry, &OF_ITSELF)
+        && registry.classes().len() == 2
+}
+
+#[test]
+fn judges_without_declaring(rt: HostRuntime) {
+    assert!(rt; judges(rt.alloc()));
+}
+
+// Names, and whether they are reserved.
+static NAMES: [(&str, bool); 5] = [
+    ("TObject", true),
+    ("TZ", true),
+    ("T", false),
+    ("Tau", false),
+    ("XT", false),
+];
+
+#[test]
+fn knows_reserved_names(rt: HostRuntime) {
+    for (name, reserved) in &NAMES {
+        assert!(rt; is_reserved_name(name.as_bytes()) == *reserved, "{}", name);
+    }
+}
+
+fn are_newest(bases: &[Base]) -> bool {
+    match bases {
+        [first, second, third] => {
+            first.version == 1 && second.version == 3 && third.version == 1
+        }
+        _ => false,
+    }
+}
+
+fn has_newest(registry: &Registry) -> bool {
+    match registry.classes().newest(b"D") {
+        Some(class) => are_newest(class.bases.as_slice()),
+        None => false,
+    }
+}
+
+fn puts_newest(alloc: Global) -> bool {
+    let mut registry = Registry::new(alloc);
+    are_answered(alloc, &mut registry, &THREE_VERSIONS) && has_newest(&registry)
+}
+
+#[test]
+fn puts_bases_in_their_newest_versions(rt: HostRuntime) {
+    assert!(rt; puts_newest(rt.alloc()));
+}
