@@ -1,5 +1,5 @@
 -- Declarations: what is read, and the first tokens that can't stand.
-use Rattle.std.proofs.Common.{◌≡◌, ℕ, ◌+◌, ◌<◌, ◌^◌, List, [], ◌∷◌, ◌++◌, length, codes, Bool, true, false, if◌then◌else◌, Option, Some, None, option_and_then, Ok, Err, refl, sym, ◌∙◌, ap, subst, arith}
+use Rattle.std.proofs.Common.{◌≡◌, ℕ, List, [], ◌∷◌, ◌++◌, codes, Bool, Ok, Err, refl, sym, ◌∙◌, ap, subst, arith}
 use Rattle.std.specs.Str.{bytes_eq}
 use Rattle.std.proofs.lemmas.Slice.Eq.{bytes_eq-Decides}
 use Rattle.rio_num.specs.At.{At}
@@ -8,12 +8,10 @@ use Rattle.rio_num.specs.Word.{is_name_text}
 use Rattle.rio_types.specs.declared.class.Base.{Base}
 use Rattle.rio_types.specs.declared.class.ClassDef.{ClassDef}
 use Rattle.rio_types.specs.declared.class.Member.{Member}
-use Rattle.rio_token.specs.declared.fault.TextFault.{TextFault}
 use Rattle.rio_token.specs.Reading.{Read, end_at, keyword_at, list_at, name_at, version_at}
 use Rattle.rio_model.specs.ClassGrammar.{bases_at, class_at, class_of, member_at}
-use Rattle.rio_model.specs.ClassSpelling.{SpellsBases, SpellsDeclaration, SpellsMember}
-use Rattle.rio_model.specs.Lexemes.{Lexeme, SpellsItems, mark, word}
-use Rattle.rio_model.specs.ValueGrammar.{bracket_limit}
+use Rattle.rio_model.specs.ClassSpelling.{SpellsBases, SpellsDeclaration}
+use Rattle.rio_model.specs.Lexemes.{Lexeme, mark, word}
 use Rattle.rio_model.proofs.LexemeLaws.{with_place}
 use Rattle.rio_machine.specs.declared.command.Command.{Command}
 use Rattle.rio_machine.specs.declared.command.Command.TheVariants.{Class}

@@ -1,7 +1,6 @@
 -- What tokens spell as a command is read as it.
-use Rattle.std.proofs.Common.{◌≡◌, ℕ, ◌-◌, ℤ, pos, List, [], ◌∷◌, ◌++◌, codes, Bool, true, false, Option, Some, None, Ok, refl, sym, ◌∙◌, ap, subst}
+use Rattle.std.proofs.Common.{◌≡◌, ℕ, ◌-◌, ℤ, pos, List, codes, true, false, Option, Some, None, Ok, refl, sym, ◌∙◌, ap, subst}
 use Rattle.rio_num.specs.At.{At}
-use Rattle.rio_num.specs.Reading.{◌>>=◌}
 use Rattle.rio_num.specs.Word.{is_item_text, is_name_text}
 use Rattle.rio_types.specs.declared.class.Base.{Base}
 use Rattle.rio_types.specs.declared.class.ClassDef.{ClassDef}
@@ -13,17 +12,16 @@ use Rattle.rio_token.specs.declared.token.Token.TheVariants.{End}
 use Rattle.rio_token.specs.Reading.{Read, end_at, item_at, marked, next_word}
 use Rattle.rio_token.specs.Tokens.{behind, next_at}
 use Rattle.rio_leaf.specs.declared.branch.BranchDef.{BranchDef}
-use Rattle.rio_model.specs.ClassGrammar.{class_at}
-use Rattle.rio_model.specs.Lexemes.{IsNext, Lexeme, Stand, mark, word}
-use Rattle.rio_model.specs.ValueGrammar.{bracket_limit, enclosed_at, value_in_text}
+use Rattle.rio_model.specs.Lexemes.{IsNext, Lexeme, Stand, word}
+use Rattle.rio_model.specs.ValueGrammar.{bracket_limit}
 use Rattle.rio_model.specs.ValueSpelling.{ends_here}
 use Rattle.rio_model.proofs.ClassAgain.{spelled_classes_are_read}
 use Rattle.rio_model.proofs.LexemeLaws.{bounded_again, mark_again, marked_again, num_again, stand_split, word_not_marked, word_that_again}
 use Rattle.rio_model.proofs.ValueAgain.{spelled_are_read}
 use Rattle.rio_machine.specs.declared.command.Command.{Command}
 use Rattle.rio_machine.specs.declared.command.Command.TheVariants.{Bad, Class, Put, Delete, Tree as MakeTree, Fill, Save, Get, Scan, Ls}
-use Rattle.rio_step.specs.CommandLaws.{SpelledCommandsAreRead, StandToEnd}
-use Rattle.rio_step.specs.CommandSpelling.{IsVersion, SpellsAskedClass, SpellsAskedVersion, SpellsCommand, SpellsCycle, SpellsIfSome}
+use Rattle.rio_step.specs.CommandLaws.{SpelledCommandsAreRead}
+use Rattle.rio_step.specs.CommandSpelling.{SpellsAskedClass, SpellsAskedVersion, SpellsCommand, SpellsCycle, SpellsIfSome}
 use Rattle.rio_step.specs.Script.{asked_class_at, asked_version_at, command_at, comes_next, cycle_at, delete_command_at, ended_at, fill_command_at, get_command_at, in_version, put_command_at, save_command_at, scan_command_at, tree_command_at}
 use Rattle.rio_step.proofs.TellsLaws.{next_again}
 use Rattle.rio_step.proofs.TreeAgain.{branches_again}
@@ -215,5 +213,6 @@ stands_again (Scan name class) ls old here c h end = scan_again name class ls ol
 stands_again Ls ls old here c h end = ls_again ls old here c h end
 
 pub spelled_commands_are_read : SpelledCommandsAreRead
-spelled_commands_are_read c ls old new spelled e =
-    stands_again c ls old e.0 spelled e.1 e.2 ∙ ap (λ (a : At). let r : Read Command = Ok (c, a) in r) (sym e.3)
+spelled_commands_are_read c old new d =
+    let e = d.2 in
+    stands_again c d.0 old e.0 d.1 e.1 e.2 ∙ ap (λ (a : At). let r : Read Command = Ok (c, a) in r) (sym e.3)

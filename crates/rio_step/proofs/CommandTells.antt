@@ -1,14 +1,8 @@
 -- Commands: what is read, and the first tokens that can't stand.
-use Rattle.std.proofs.Common.{◌≡◌, inl, inr, ℕ, suc, ◌+◌, ◌<◌, ◌^◌, ◌-◌, ℤ, pos, List, [], ◌∷◌, ◌++◌, length, codes, Bool, true, false, if◌then◌else◌, Option, Some, None, option_and_then, Ok, Err, refl, sym, ◌∙◌, ap, subst, arith}
-use Rattle.std.proofs.lemmas.List.{append-nil}
-use Rattle.std.specs.Option.{option_map_or}
-use Rattle.std.specs.Str.{bytes_eq}
-use Rattle.std.proofs.lemmas.Slice.Eq.{bytes_eq-Decides}
+use Rattle.std.proofs.Common.{◌≡◌, ℕ, suc, ◌-◌, ℤ, List, [], ◌∷◌, ◌++◌, codes, true, if◌then◌else◌, Option, None, Ok, refl, sym, ◌∙◌, ap, subst, arith}
 use Rattle.rio_num.specs.At.{At}
 use Rattle.rio_num.specs.Reading.{◌>>=◌}
-use Rattle.rio_num.specs.Word.{is_item_text, is_name_text}
-use Rattle.rio_types.specs.declared.class.Base.{Base}
-use Rattle.rio_types.specs.declared.class.ClassDef.{ClassDef}
+use Rattle.rio_num.specs.Word.{is_item_text}
 use Rattle.rio_value.specs.declared.value.Value.{Value}
 use Rattle.rio_value.specs.declared.value.Value as value
 use Rattle.rio_value.specs.declared.value.Part.{Part}
@@ -16,29 +10,26 @@ use Rattle.rio_value.specs.declared.value.Value.{out-Value}
 use Rattle.rio_value.specs.declared.value.Value.TheOpen.{Value-F}
 use Rattle.rio_value.specs.declared.value.Value.TheVariants.{outs-Null}
 use Rattle.rio_leaf.specs.declared.branch.Shape.TheVariants.{Class as Objects}
-use Rattle.rio_token.specs.declared.fault.TextFault.{TextFault}
-use Rattle.rio_token.specs.Reading.{Read, bad_at, is_word, item_at, mark_at, marked, name_at, next_word, num_at, some_if, version_at, word_that_at}
-use Rattle.rio_token.specs.Tokens.{behind, next_at}
-use Rattle.rio_token.specs.Words.{decimal, num_between_of, num_of, written}
+use Rattle.rio_token.specs.Reading.{Read, bad_at, item_at, mark_at, num_at}
+use Rattle.rio_token.specs.Tokens.{behind}
+use Rattle.rio_token.specs.Words.{num_of}
 use Rattle.rio_leaf.specs.declared.branch.BranchDef.{BranchDef}
-use Rattle.rio_model.specs.Lexemes.{IsNext, Lexeme, glued, mark, word}
-use Rattle.rio_model.specs.ValueGrammar.{bracket_limit, enclosed_at, row_at, value_in_text, values_at}
+use Rattle.rio_model.specs.Lexemes.{Lexeme, glued, mark, word}
+use Rattle.rio_model.specs.ValueGrammar.{bracket_limit, enclosed_at, row_at, value_in_text}
 use Rattle.rio_model.specs.ValueSpelling.{SpellsLayer, SpellsRow, SpellsValue, SpellsWithin}
-use Rattle.rio_model.proofs.LexemeLaws.{if_is, next_word_is, with_place}
+use Rattle.rio_model.proofs.LexemeLaws.{with_place}
 use Rattle.rio_machine.specs.declared.command.Command.{Command}
-use Rattle.rio_machine.specs.declared.command.Command.TheVariants.{Bad, Class, Put, Delete, Tree as MakeTree, Fill, Save, Get, Scan, Ls}
-use Rattle.rio_step.specs.CommandLaws.{BeginIfFew, CommandPlacesAreTold, HaveSameToken, ReadCommandsAreSpelled}
-use Rattle.rio_step.specs.CommandSpelling.{IsVersion, SpellsAsked, SpellsAskedClass, SpellsAskedVersion, SpellsBranch, SpellsCommand, SpellsCycle, SpellsIfSome, SpellsSome}
-use Rattle.rio_step.specs.Script.{asked_class_at, asked_version_at, class_command_at, class_version_in, command_at, comes_next, cycle_at, delete_command_at, ended_at, fill_command_at, get_command_at, in_version, put_command_at, save_command_at, scan_command_at, tree_command_at}
+use Rattle.rio_machine.specs.declared.command.Command.TheVariants.{Put, Delete, Tree as MakeTree, Fill, Save, Get, Scan, Ls}
+use Rattle.rio_step.specs.CommandLaws.{BeginIfFew, CommandPlacesAreTold, ReadCommandsAreSpelled}
+use Rattle.rio_step.specs.CommandSpelling.{SpellsAskedClass, SpellsAskedVersion, SpellsBranch, SpellsCommand, SpellsCycle, SpellsIfSome, SpellsSome}
+use Rattle.rio_step.specs.Script.{asked_class_at, asked_version_at, class_command_at, command_at, comes_next, cycle_at, delete_command_at, ended_at, fill_command_at, get_command_at, put_command_at, save_command_at, scan_command_at, tree_command_at}
 use Rattle.rio_step.specs.TreeGrammar.{branches_at}
 use Rattle.rio_step.proofs.AskedTells.{MarkOf, WordOf, asked_class_tells, asked_version_tells, cycle_tells, mark_tells, num_tells, one_number, word_test}
 use Rattle.rio_step.proofs.AlikeLaws.{BeginBehind, Tells, bad_there}
 use Rattle.rio_step.proofs.ClassTells.{class_line}
 use Rattle.rio_step.proofs.BranchTells.{Named, branches_tells, named_tells}
 use Rattle.rio_step.proofs.LineTells.{AfterWord, TellsLine, either_line, first_line, line_tells, no_line}
-use Rattle.rio_step.proofs.TellsLaws.{IsLexeme, IsTest, SaysOne, SaysWord, mark_test, next_again, one_tells, test_said, word_said}
-use Rattle.rio_step.proofs.TreeTells.{tested}
-use Rattle.rio_step.proofs.TurnLaws.{Behind, EitherOf, InTurn, Nothing, choice_tells, handed_tells, nothing_tells, tells_as, turn_tells}
+use Rattle.rio_step.proofs.TurnLaws.{InTurn, Nothing, handed_tells, nothing_tells, tells_as, turn_tells}
 use Rattle.rio_step.proofs.ValueTells.{row_tells, row_up, value_tells, value_up}
 
 -- ---- verbs

@@ -1,21 +1,19 @@
 -- Items one behind the other: what is read, and the first tokens that can't stand.
-use Rattle.std.proofs.Common.{◌≡◌, inl, inr, ℕ, zero, suc, ◌+◌, ◌<◌, ◌≤◌, ◌^◌, List, [], ◌∷◌, ◌++◌, length, Bool, true, false, if◌then◌else◌, Option, Some, None, Ok, Err, refl, sym, ◌∙◌, ap, subst, arith, append_assoc, length-append}
+use Rattle.std.proofs.Common.{◌≡◌, ℕ, zero, suc, ◌+◌, ◌<◌, ◌≤◌, List, [], ◌∷◌, ◌++◌, length, Bool, true, false, Ok, Err, refl, sym, ◌∙◌, ap, subst, arith, append_assoc, length-append}
 use Rattle.std.proofs.lemmas.List.{append-nil}
 use Rattle.rio_num.specs.At.{At}
 use Rattle.rio_num.specs.Reading.{◌>>=◌}
 use Rattle.rio_token.specs.declared.fault.TextFault.{TextFault}
 use Rattle.rio_token.specs.declared.token.Token.TheVariants.{End}
 use Rattle.rio_token.specs.Reading.{Read}
-use Rattle.rio_token.specs.Tokens.{behind, next_at, scan_of}
-use Rattle.rio_model.specs.Lexemes.{Lexeme, Stand}
-use Rattle.rio_model.specs.ToldPlaces.{Begin}
+use Rattle.rio_token.specs.Tokens.{next_at, scan_of}
+use Rattle.rio_model.specs.Lexemes.{Lexeme}
 use Rattle.rio_model.proofs.ItemLaws.{read_is}
-use Rattle.rio_model.proofs.LexemeLaws.{stand_joined, stand_within, then_ok}
-use Rattle.rio_model.proofs.ToldLaws.{bind_bad}
+use Rattle.rio_model.proofs.LexemeLaws.{stand_joined, stand_within}
 use Rattle.rio_step.specs.CommandLaws.{HaveSameToken, IsFirstBadToken}
 use Rattle.rio_step.specs.CommandSpelling.{SpellsEach, SpellsSome}
 use Rattle.rio_step.specs.TreeGrammar.{further_at, items_at}
-use Rattle.rio_step.proofs.AlikeLaws.{BeginBehind, IsKnown, Tells, alike_first, alike_split, bad_behind, bad_there, begin_as}
+use Rattle.rio_step.proofs.AlikeLaws.{BeginBehind, IsKnown, Tells, alike_first, alike_split, bad_behind, bad_there}
 use Rattle.rio_step.proofs.TurnLaws.{InTurn, tells_as, turn_tells}
 
 end_of_rest : (rest : List ℕ) → length rest ≤ 0 → (scan_of rest).token ≡ End

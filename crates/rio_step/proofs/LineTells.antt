@@ -1,22 +1,18 @@
 -- Whole lines: what is read, and the first token that can't stand.
-use Rattle.std.proofs.Common.{◌≡◌, inl, inr, ℕ, ◌+◌, ◌<◌, ◌^◌, List, [], ◌∷◌, ◌++◌, length, Bool, true, false, if◌then◌else◌, Option, Some, None, Ok, Err, refl, sym, ◌∙◌, ap, subst, arith, append_assoc, length-append}
+use Rattle.std.proofs.Common.{◌≡◌, inl, inr, List, [], ◌∷◌, ◌++◌, Bool, true, false, if◌then◌else◌, Ok, Err, refl, sym, ◌∙◌, ap, subst, arith}
 use Rattle.std.proofs.lemmas.List.{append-nil}
 use Rattle.rio_num.specs.At.{At}
 use Rattle.rio_num.specs.Reading.{◌>>=◌}
 use Rattle.rio_token.specs.declared.fault.TextFault.{TextFault}
-use Rattle.rio_token.specs.declared.fault.TextFault.TheVariants.{BadText}
 use Rattle.rio_token.specs.declared.token.Token.{Token}
 use Rattle.rio_token.specs.declared.token.Token.TheVariants.{Word, Text, Mark, Bad, Cut, End}
-use Rattle.rio_token.specs.Reading.{Read, bad_at, end_at, is_end, some_if, taken_at}
-use Rattle.rio_token.specs.Tokens.{behind, next_at, token_place}
-use Rattle.rio_model.specs.Lexemes.{IsNext, Lexeme, Stand}
-use Rattle.rio_model.specs.ToldPlaces.{Begin}
+use Rattle.rio_token.specs.Reading.{Read, bad_at, end_at, is_end, some_if}
+use Rattle.rio_token.specs.Tokens.{behind, next_at}
+use Rattle.rio_model.specs.Lexemes.{Lexeme}
 use Rattle.rio_model.proofs.ItemLaws.{read_is}
-use Rattle.rio_model.proofs.LexemeLaws.{if_is, stand_joined, taken_is, then_ok}
+use Rattle.rio_model.proofs.LexemeLaws.{if_is, taken_is, then_ok}
 use Rattle.rio_model.proofs.ToldLaws.{bad_is, bind_bad}
-use Rattle.rio_machine.specs.declared.command.Command.{Command}
-use Rattle.rio_step.specs.CommandLaws.{HaveSameToken, IsFirstBadToken, StandToEnd}
-use Rattle.rio_step.specs.Script.{ended_at}
+use Rattle.rio_step.specs.CommandLaws.{IsFirstBadToken, StandToEnd}
 use Rattle.rio_step.proofs.AlikeLaws.{BeginBehind, Tells, bad_behind, bad_there, bad_token}
 use Rattle.rio_step.proofs.TellsLaws.{IsTest, taken_bad, taken_none}
 

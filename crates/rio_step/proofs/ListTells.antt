@@ -1,20 +1,17 @@
 -- Lists with commas between their items: what is read, and the first tokens that can't stand.
-use Rattle.std.proofs.Common.{◌≡◌, inl, inr, ℕ, zero, suc, ◌+◌, ◌<◌, ◌≤◌, ◌^◌, List, [], ◌∷◌, ◌++◌, length, Bool, true, false, ◌&&◌, not, if◌then◌else◌, Ok, Err, refl, sym, ◌∙◌, ap, subst, arith, append_assoc, length-append}
-use Rattle.std.proofs.lemmas.List.{append-nil}
+use Rattle.std.proofs.Common.{◌≡◌, inl, inr, ℕ, zero, suc, ◌+◌, ◌<◌, ◌≤◌, ◌^◌, List, [], ◌∷◌, ◌++◌, length, Bool, true, false, ◌&&◌, not, Ok, Err, refl, sym, ◌∙◌, ap, subst, arith, append_assoc, length-append}
 use Rattle.rio_num.specs.At.{At}
 use Rattle.rio_num.specs.Reading.{◌>>=◌}
-use Rattle.rio_token.specs.declared.fault.TextFault.{TextFault}
 use Rattle.rio_token.specs.declared.token.Token.{Token}
 use Rattle.rio_token.specs.declared.token.Token.TheVariants.{End}
 use Rattle.rio_token.specs.Reading.{Read, bad_at, is_end, list_at, mark_at, marked, more_at, some_at}
 use Rattle.rio_token.specs.Tokens.{behind, next_at, scan_of}
-use Rattle.rio_model.specs.Lexemes.{IsNext, Lexeme, SpellsFurther, SpellsItems, Stand, mark}
-use Rattle.rio_model.specs.ToldPlaces.{Begin}
+use Rattle.rio_model.specs.Lexemes.{Lexeme, SpellsFurther, SpellsItems, mark}
 use Rattle.rio_model.proofs.LexemeLaws.{mark_found, stand_within, takes_some}
-use Rattle.rio_step.specs.CommandLaws.{HaveSameToken, IsFirstBadToken}
+use Rattle.rio_step.specs.CommandLaws.{HaveSameToken}
 use Rattle.rio_step.specs.CommandSpelling.{SpellsEach}
 use Rattle.rio_step.specs.TreeGrammar.{further_at}
-use Rattle.rio_step.proofs.AlikeLaws.{BeginBehind, IsKnown, Tells}
+use Rattle.rio_step.proofs.AlikeLaws.{Tells}
 use Rattle.rio_step.proofs.AskedTells.{MarkOf, mark_tells}
 use Rattle.rio_step.proofs.FurtherTells.{ItemTells, Rest, rest_tells}
 use Rattle.rio_step.proofs.TellsLaws.{mark_test}

@@ -1,16 +1,13 @@
 -- Each line of a script is read as the command that it is, and is no other.
-use Rattle.std.proofs.Common.{◌≡◌, ℕ, List, [], ◌∷◌, Ok, Err, refl, sym, ◌∙◌, ap, subst}
+use Rattle.std.proofs.Common.{◌≡◌, ℕ, List, [], ◌∷◌, Ok, Err, refl, sym, ◌∙◌, ap}
 use Rattle.rio_num.specs.At.{At}
 use Rattle.rio_token.specs.declared.fault.TextFault.TheVariants.{BadText, NoMemory}
 use Rattle.rio_token.specs.Reading.{Read}
 use Rattle.rio_token.specs.Tokens.{behind, standing_in}
 use Rattle.rio_model.specs.Lexemes.{Lexeme, Stand}
-use Rattle.rio_model.specs.ToldPlaces.{told_place}
-use Rattle.rio_model.specs.ValueGrammar.{bracket_limit}
 use Rattle.rio_machine.specs.declared.command.Command.{Command}
 use Rattle.rio_machine.specs.declared.command.Command.TheVariants.{Bad, Class, Put, Delete, Tree as MakeTree, Fill, Save, Get, Scan, Ls}
-use Rattle.rio_step.specs.CommandLaws.{IsBadLine, IsLine, LinesAreSpelled, StandAlike, StandToEnd}
-use Rattle.rio_step.specs.CommandSpelling.{SpellsCommand}
+use Rattle.rio_step.specs.CommandLaws.{IsBadLine, IsLine, IsSpelled, LinesAreSpelled, StandAlike}
 use Rattle.rio_step.specs.Script.{command_at, line_command, or_bad_line}
 use Rattle.rio_step.proofs.CommandAgain.{spelled_commands_are_read}
 use Rattle.rio_step.proofs.CommandTells.{command_places_are_told, read_commands_are_spelled}
@@ -18,17 +15,17 @@ use Rattle.rio_step.proofs.CommandTells.{command_places_are_told, read_commands_
 -- ---- what is read
 
 abbrev Spelled : List ℕ → Command → Type 0
-Spelled line c = (ls : List Lexeme) × (new : At) × SpellsCommand bracket_limit c ls × StandToEnd ls (standing_in 0 line) new
+Spelled line c = (new : At) × IsSpelled c (standing_in 0 line) new
 
 spelled_line : (number : ℕ) (line : List ℕ) (c : Command) → Spelled line c → IsLine number line c
-spelled_line number line (Bad n place) d = absurd d.2
+spelled_line number line (Bad n place) d = absurd d.1.1
 spelled_line number line other d = d
 
 never : (old : At) → IsBadLine old NoMemory → ⊥
 never old b = let e = b.told in cc
 
 line_is : (number : ℕ) (line : List ℕ) (r : Read Command) → command_at (standing_in 0 line) ≡ r → IsLine number line (or_bad_line number r)
-line_is number line (Ok x) is = let k = read_commands_are_spelled x.0 (standing_in 0 line) x.1 is in spelled_line number line x.0 (k.0, x.1, k.1, k.2)
+line_is number line (Ok x) is = spelled_line number line x.0 (x.1, read_commands_are_spelled x.0 (standing_in 0 line) x.1 is)
 line_is number line (Err (BadText place)) is = (refl, command_places_are_told (standing_in 0 line) (BadText place) is)
 line_is number line (Err NoMemory) is = absurd (never (standing_in 0 line) (command_places_are_told (standing_in 0 line) NoMemory is))
 
@@ -42,7 +39,7 @@ abbrev Again : ℕ → List ℕ → Command → Type 0
 Again number line c = c ≡ or_bad_line number (command_at (standing_in 0 line))
 
 line_again : (number : ℕ) (line : List ℕ) (c : Command) → Spelled line c → Again number line c
-line_again number line c d = let h = spelled_commands_are_read c d.0 (standing_in 0 line) d.1 d.2 d.3 in rw h refl
+line_again number line c d = let h = spelled_commands_are_read c (standing_in 0 line) d.0 d.1 in rw h refl
 
 bad_again : (number n : ℕ) (line : List ℕ) (place : ℕ) → n ≡ number → IsBadLine (standing_in 0 line) (BadText place) → Again number line (Bad n place)
 bad_again number n line place e b =

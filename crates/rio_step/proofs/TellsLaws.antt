@@ -1,23 +1,19 @@
 -- Readers of single tokens, and one reader behind another: what they read, and the first tokens that can't stand.
-use Rattle.std.proofs.Common.{◌≡◌, ◌⊎◌, inl, inr, ℕ, ◌+◌, ◌<◌, ◌≤◌, ◌^◌, List, [], ◌∷◌, ◌++◌, length, Bool, true, false, ◌&&◌, if◌then◌else◌, Option, Some, None, option_and_then, Ok, Err, refl, sym, ◌∙◌, ap, subst, arith, append_assoc, length-append}
+use Rattle.std.proofs.Common.{◌≡◌, ℕ, ◌<◌, ◌^◌, List, [], ◌∷◌, Bool, true, ◌&&◌, Option, Some, None, option_and_then, Ok, Err, refl, sym, ◌∙◌, ap, subst, arith}
 use Rattle.std.proofs.lemmas.Bool.{and_parts}
 use Rattle.rio_num.specs.At.{At}
-use Rattle.rio_num.specs.Reading.{◌>>=◌}
 use Rattle.rio_token.specs.declared.fault.TextFault.{TextFault}
 use Rattle.rio_token.specs.declared.fault.TextFault.TheVariants.{BadText}
 use Rattle.rio_token.specs.declared.token.Token.{Token}
-use Rattle.rio_token.specs.Reading.{Read, bad_at, is_mark, mark_at, marked, next_word, num_at, num_between_at, some_if, taken_at, word_that_at}
-use Rattle.rio_token.specs.Tokens.{behind, is_glued, next_at, token_place}
-use Rattle.rio_token.specs.Words.{num_between_of, num_of}
-use Rattle.rio_model.specs.Lexemes.{IsNext, Lexeme, Stand, glued, mark, word}
-use Rattle.rio_model.specs.ToldPlaces.{Begin, HaveSameNext}
-use Rattle.rio_model.proofs.ItemLaws.{read_is}
-use Rattle.rio_model.proofs.LexemeLaws.{if_is, marked_again, marked_is, next_word_is, stand_joined, taken_is, then_is, then_ok, with_place}
-use Rattle.rio_model.proofs.ToldLaws.{bad_is, bind_bad, handed_bad}
+use Rattle.rio_token.specs.Reading.{Read, bad_at, is_mark, marked, next_word, some_if, taken_at}
+use Rattle.rio_token.specs.Tokens.{behind, is_glued, token_place}
+use Rattle.rio_model.specs.Lexemes.{IsNext, Lexeme, glued, mark, word}
+use Rattle.rio_model.proofs.LexemeLaws.{if_is, marked_again, marked_is, next_word_is, taken_is, then_is}
+use Rattle.rio_model.proofs.ToldLaws.{bad_is}
 use Rattle.std.proofs.lemmas.Bool.{eq-eqb}
-use Rattle.rio_step.specs.CommandLaws.{HaveSameToken, IsFirstBadToken, StandAlike}
-use Rattle.rio_step.specs.TreeGrammar.{glued_at, glued_mark_at, glued_word, is_glued_mark}
-use Rattle.rio_step.proofs.AlikeLaws.{BeginBehind, IsKnown, Tells, alike_end, alike_first, alike_split, bad_behind, bad_there, bad_token, begin_as}
+use Rattle.rio_step.specs.CommandLaws.{HaveSameToken, IsFirstBadToken}
+use Rattle.rio_step.specs.TreeGrammar.{glued_word, is_glued_mark}
+use Rattle.rio_step.proofs.AlikeLaws.{BeginBehind, IsKnown, Tells, bad_token}
 
 behind_alike : {A : Type 0} (x : A) (t n : At) → n ≡ behind t → (let r : Read A = Ok (x, behind t) in r ≡ Ok (x, n))
 behind_alike x t n h = rw h refl

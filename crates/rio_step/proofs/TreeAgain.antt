@@ -1,28 +1,27 @@
 -- What tokens spell as the branches of a tree is read as them.
-use Rattle.std.proofs.Common.{◌≡◌, ℕ, zero, suc, ◌+◌, ◌<◌, ◌≤◌, List, [], ◌∷◌, ◌++◌, length, codes, Bool, true, false, ◌&&◌, ◌||◌, ◌==◌, not, if◌then◌else◌, Option, Some, None, option_and_then, Ok, Err, refl, sym, ◌∙◌, ap, subst, arith, append_assoc, length-append}
+use Rattle.std.proofs.Common.{◌≡◌, ℕ, zero, suc, ◌<◌, ◌≤◌, List, [], ◌∷◌, ◌++◌, length, codes, Bool, true, false, ◌&&◌, ◌==◌, not, Option, Some, Ok, refl, sym, ◌∙◌, ap, subst, arith, append_assoc, length-append}
 use Rattle.std.proofs.lemmas.List.{append-nil}
 use Rattle.std.specs.Str.{bytes_eq}
 use Rattle.std.proofs.lemmas.Bool.{and_parts, not-true, not_from_false}
 use Rattle.std.proofs.lemmas.Slice.Eq.{bytes_eq-Decides}
 use Rattle.rio_num.specs.At.{At}
-use Rattle.rio_num.specs.Reading.{◌>>=◌}
 use Rattle.rio_num.specs.Word.{is_name_text}
 use Rattle.rio_token.specs.declared.token.Token.{Token}
 use Rattle.rio_token.specs.declared.token.Token.TheVariants.{Mark, End}
-use Rattle.rio_token.specs.Reading.{Read, is_end, is_mark, marked, some_if, word_that_at}
+use Rattle.rio_token.specs.Reading.{Read, is_end, is_mark, marked, some_if}
 use Rattle.rio_token.specs.Tokens.{behind, is_glued, next_at}
 use Rattle.rio_leaf.specs.declared.branch.BranchDef.{BranchDef}
 use Rattle.rio_leaf.specs.declared.branch.Shape.{Shape}
 use Rattle.rio_leaf.specs.declared.branch.Shape.TheVariants.{Leaves, Class as Objects}
 use Rattle.rio_leaf.specs.declared.leaf.Dim.{Dim}
-use Rattle.rio_leaf.specs.declared.leaf.Dim.TheVariants.{One, Fixed, Counted}
+use Rattle.rio_leaf.specs.declared.leaf.Dim.TheVariants.{One}
 use Rattle.rio_leaf.specs.declared.leaf.Leaf.{Leaf}
 use Rattle.rio_leaf.specs.Leaves.{has_leaf}
 use Rattle.rio_leaf.specs.Stated.{all_leaves}
 use Rattle.rio_model.specs.Lexemes.{IsNext, Lexeme, Stand, glued, mark, word}
 use Rattle.rio_model.proofs.LexemeLaws.{marked_again, stand_split, stand_within, word_not_marked, word_that_again}
 use Rattle.rio_step.specs.CommandSpelling.{SpellsBranch, SpellsDim, SpellsEach, SpellsLeaf, SpellsNextLeaf, SpellsShape, SpellsSome}
-use Rattle.rio_step.specs.TreeGrammar.{branch_at, branch_class_at, branch_leaf_at, branch_leaves_at, branches_at, comes_class, further_at, glued_at, glued_mark_at, glued_word, goes_on, is_glued_mark, is_new_branch, is_new_leaf, items_at, leaf_dim_at, leaf_dimension, leaf_letter, leaf_size_at, opens_class, shape_at, tree_leaf_at}
+use Rattle.rio_step.specs.TreeGrammar.{branch_at, branch_class_at, branch_leaf_at, branch_leaves_at, branches_at, further_at, glued_at, glued_mark_at, goes_on, is_glued_mark, is_new_branch, is_new_leaf, items_at, leaf_dim_at, leaf_dimension, leaf_letter, opens_class, shape_at, tree_leaf_at}
 use Rattle.rio_step.proofs.BranchTells.{comes_again}
 use Rattle.rio_step.proofs.TellsLaws.{glued_again, glued_mark_test}
 use Rattle.rio_step.proofs.TreeTells.{next_leaf_takes}

@@ -1,37 +1,27 @@
 -- The branches of a tree: what is read, and the first tokens that can't stand.
-use Rattle.std.proofs.Common.{◌≡◌, ◌⊎◌, inl, inr, ℕ, zero, suc, ◌+◌, ◌<◌, ◌≤◌, ◌^◌, List, [], ◌∷◌, ◌++◌, length, codes, Bool, true, false, ◌&&◌, ◌||◌, ◌==◌, not, if◌then◌else◌, Option, Some, None, option_and_then, Ok, Err, refl, sym, ◌∙◌, ap, subst, arith, append_assoc, length-append}
-use Rattle.std.proofs.lemmas.List.{append-nil}
-use Rattle.std.specs.List.{flat_map}
-use Rattle.std.specs.Option.{option_map, option_map_or, option_or}
-use Rattle.std.specs.Str.{bytes_eq}
-use Rattle.std.proofs.lemmas.Bool.{and_parts}
-use Rattle.std.proofs.lemmas.Slice.Eq.{bytes_eq-Decides}
+use Rattle.std.proofs.Common.{◌≡◌, inl, inr, ℕ, ◌+◌, ◌<◌, ◌≤◌, ◌^◌, List, [], ◌∷◌, ◌++◌, length, codes, Bool, true, false, ◌&&◌, Option, Some, None, option_and_then, Ok, refl, sym, ◌∙◌, ap, subst, arith, length-append}
+use Rattle.std.specs.Option.{option_map, option_or}
 use Rattle.rio_num.specs.At.{At}
 use Rattle.rio_num.specs.Reading.{◌>>=◌}
 use Rattle.rio_num.specs.Word.{is_name_text}
-use Rattle.rio_token.specs.declared.token.Token.{Token}
 use Rattle.rio_token.specs.declared.token.Token.TheVariants.{End}
-use Rattle.rio_token.specs.Reading.{Read, is_end, marked, next_word, some_if, word_that_at}
-use Rattle.rio_token.specs.Tokens.{behind, is_glued, next_at}
+use Rattle.rio_token.specs.Reading.{Read, marked, some_if}
+use Rattle.rio_token.specs.Tokens.{is_glued, next_at}
 use Rattle.rio_token.specs.Words.{decimal, num_between_of, written}
-use Rattle.rio_leaf.specs.declared.branch.BranchDef.{BranchDef}
 use Rattle.rio_leaf.specs.declared.branch.Shape.{Shape}
 use Rattle.rio_leaf.specs.declared.branch.Shape.TheVariants.{Leaves, Class as Objects}
 use Rattle.rio_leaf.specs.declared.leaf.Dim.{Dim}
 use Rattle.rio_leaf.specs.declared.leaf.Dim.TheVariants.{One, Fixed, Counted}
 use Rattle.rio_leaf.specs.declared.leaf.Leaf.{Leaf}
-use Rattle.rio_leaf.specs.Leaves.{has_counting_leaf, has_leaf, is_letter_of}
-use Rattle.rio_leaf.specs.Stated.{all_leaves, leaves_of}
-use Rattle.rio_model.specs.Lexemes.{IsNext, Lexeme, glued, mark, word}
-use Rattle.rio_model.specs.ToldPlaces.{Begin}
+use Rattle.rio_leaf.specs.Leaves.{has_counting_leaf}
+use Rattle.rio_model.specs.Lexemes.{Lexeme, glued, mark, word}
 use Rattle.rio_model.proofs.LexemeLaws.{if_is, with_place}
-use Rattle.rio_step.specs.CommandLaws.{HaveSameToken, IsFirstBadToken}
-use Rattle.rio_step.specs.CommandSpelling.{SpellsBranch, SpellsDim, SpellsEach, SpellsLeaf, SpellsNextLeaf, SpellsShape, SpellsSome}
-use Rattle.rio_step.specs.TreeGrammar.{branch_at, branch_class_at, branch_leaf_at, branch_leaves_at, branches_at, comes_class, glued_at, glued_mark_at, glued_word, goes_on, is_glued_mark, is_new_branch, is_new_leaf, items_at, leaf_dim_at, leaf_dimension, leaf_letter, leaf_size_at, opens_class, shape_at, tree_leaf_at}
-use Rattle.rio_step.proofs.AlikeLaws.{BeginBehind, IsKnown, Tells, alike_first, bad_there}
+use Rattle.rio_step.specs.CommandSpelling.{SpellsDim, SpellsLeaf, SpellsNextLeaf, SpellsSome}
+use Rattle.rio_step.specs.TreeGrammar.{branch_class_at, branch_leaf_at, branch_leaves_at, glued_at, glued_mark_at, glued_word, is_glued_mark, is_new_leaf, items_at, leaf_dim_at, leaf_dimension, leaf_letter, leaf_size_at, tree_leaf_at}
+use Rattle.rio_step.proofs.AlikeLaws.{Tells}
 use Rattle.rio_step.proofs.FreshNames.{new_leaf}
 use Rattle.rio_step.proofs.FurtherTells.{ItemTells, items_tell}
-use Rattle.rio_step.proofs.TellsLaws.{IsLexeme, IsTest, SaysGluedWord, SaysOne, SaysWord, glued_again, glued_mark_test, glued_word_is, glued_word_said, one_tells, test_said, word_said}
+use Rattle.rio_step.proofs.TellsLaws.{IsLexeme, SaysGluedWord, SaysOne, glued_mark_test, glued_word_said, one_tells, test_said}
 use Rattle.rio_step.proofs.TurnLaws.{Behind, EitherOf, InTurn, Nothing, choice_tells, handed_tells, fewer, nothing_tells, tells_as, turn_tells}
 
 -- ---- single tokens

@@ -1,5 +1,5 @@
 -- Values and rows in a command: what is read, and the first tokens that can't stand.
-use Rattle.std.proofs.Common.{◌≡◌, ℕ, suc, ◌+◌, ◌<◌, List, [], ◌∷◌, ◌++◌, Bool, true, false, not, Ok, Err, refl, sym, ◌∙◌, ap, subst}
+use Rattle.std.proofs.Common.{◌≡◌, ℕ, suc, List, [], ◌∷◌, ◌++◌, true, not, refl, sym, ◌∙◌, ap}
 use Rattle.rio_num.specs.At.{At}
 use Rattle.rio_value.specs.declared.value.Value.{Value, out-Value}
 use Rattle.rio_value.specs.declared.value.Value.TheOpen.{Value-F}
@@ -7,17 +7,17 @@ use Rattle.rio_value.specs.declared.value.Value.TheOpen as layer
 use Rattle.rio_value.specs.declared.value.Part.{Part}
 use Rattle.rio_token.specs.declared.fault.TextFault.{TextFault}
 use Rattle.rio_token.specs.Reading.{Read}
-use Rattle.rio_model.specs.Lexemes.{Lexeme, SpellsFurther, SpellsItems}
+use Rattle.rio_model.specs.Lexemes.{Lexeme, SpellsFurther}
 use Rattle.rio_model.specs.ToldPlaces.{Begin, HaveSameNext}
 use Rattle.rio_model.specs.ValueGrammar.{enclosed_at, value_in_text, values_at}
-use Rattle.rio_model.specs.ValueSpelling.{SpellsLayer, SpellsRow, SpellsValue, SpellsWithin, ends_here}
+use Rattle.rio_model.specs.ValueSpelling.{SpellsRow, SpellsValue, SpellsWithin, ends_here}
 use Rattle.rio_model.proofs.SpellingUp.{layer_up, within_up}
 use Rattle.rio_model.proofs.ToldLaws.{marked_same, opens_same}
 use Rattle.rio_model.proofs.ValueAgain.{spelled_are_read}
 use Rattle.rio_model.proofs.ValueFound.{read_are_spelled}
 use Rattle.rio_model.proofs.ValueTold.{places_are_told}
-use Rattle.rio_step.specs.CommandLaws.{HaveSameToken, IsFirstBadToken, StandAlike}
-use Rattle.rio_step.proofs.AlikeLaws.{BeginBehind, IsKnown, Tells, alike_end, alike_stand, bad_alike, bad_there}
+use Rattle.rio_step.specs.CommandLaws.{IsFirstBadToken}
+use Rattle.rio_step.proofs.AlikeLaws.{BeginBehind, Tells, alike_end, alike_stand, bad_alike, bad_there}
 
 ends_same : (y : Value-F Value Part) (s t : At) → HaveSameNext s t → ends_here y s ≡ true → ends_here y t ≡ true
 ends_same (layer.Bool b) s t same h = ap not (sym (opens_same s t same)) ∙ h

@@ -1,7 +1,6 @@
 -- Commands as tokens spell them, by cases on the command. What has several spellings has them in the blanks between its
 -- tokens, and in its value.
-use Rattle.std.specs.Prelude.{◌≡◌, ℕ, suc, ◌+◌, ◌-◌, ◌^◌, ◌<◌, ℤ, pos, List, [], ◌∷◌, ◌++◌, codes, length, Option, Some, None, Ok, Err, Bool, true}
-use Rattle.rio_num.specs.At.{At}
+use Rattle.std.specs.Prelude.{◌≡◌, ℕ, ◌-◌, ℤ, pos, List, [], ◌∷◌, ◌++◌, codes, Option, Some, None, true}
 use Rattle.rio_num.specs.Word.{is_item_text, is_name_text}
 use Rattle.rio_types.specs.declared.class.Base.{Base}
 use Rattle.rio_token.specs.Marks.{closing_bracket, colon, equals_sign, number_sign, opening_bracket, semicolon, slash}
