@@ -24,6 +24,7 @@ use Rattle.rio_step.specs.TreeGrammar.{branch_at, branch_class_at, branch_leaf_a
 use Rattle.rio_step.proofs.AlikeLaws.{BeginBehind, IsKnown, Tells, alike_first, bad_behind, bad_there, begin_as}
 use Rattle.rio_step.proofs.FreshNames.{new_branch}
 use Rattle.rio_step.proofs.FurtherTells.{ItemTells, Rest, items_tell, rest_tells}
+use Rattle.rio_step.proofs.NamedTells.{Named, named_tells}
 use Rattle.rio_step.proofs.TellsLaws.{SaysOne, SaysWord, glued_again, glued_mark_test, glued_word_is, glued_word_same, one_tells, word_said}
 use Rattle.rio_step.proofs.TreeTells.{BehindName, GluedMark, OfClass, OfLeaves, behind_name_at, behind_name_tells, glued_mark_tells, leaf_spelled, leaves_tell, next_leaf_takes, of_class_tells, of_leaves_tell, slashed_at, tested}
 use Rattle.rio_step.proofs.TurnLaws.{InTurn, fewer, handed_tells, tells_as, turn_tells}
@@ -43,14 +44,14 @@ comes_is s h = by (glued_word s) refl h
 pub comes_again : (s : At) → IsNext class_word s → comes_class s ≡ true
 comes_again s h = let next = glued_again (codes "class") s h in rw next refl
 
-comes_same : (s t : At) → HaveSameToken s t → comes_class s ≡ comes_class t
+comes_same : (s t : At) → HaveSameToken true s t → comes_class s ≡ comes_class t
 comes_same s t h = ap (λ (o : Option (List ℕ)). option_map_or (λ w. bytes_eq w (codes "class")) o false) (glued_word_same s t h)
 
 module _ (before : List Leaf) where
   abbrev colon_or_taken : At → Bool
   colon_or_taken s = is_glued_mark 58 (behind s) || has_leaf before (codes "class")
 
-  opens_same : (s t : At) → comes_class s ≡ comes_class t → HaveSameToken (behind s) (behind t) → opens_class before s ≡ opens_class before t
+  opens_same : (s t : At) → comes_class s ≡ comes_class t → HaveSameToken true (behind s) (behind t) → opens_class before s ≡ opens_class before t
   opens_same s t comes h =
       ap (λ (b : Bool). b && colon_or_taken s) comes
       ∙ ap (λ (b : Bool). comes_class t && (b || has_leaf before (codes "class"))) ((glued_mark_test 58).same (behind s) (behind t) h)
@@ -68,7 +69,7 @@ module _ (before : List Leaf) where
   leaves_spelled shape ls c = subst (λ (x : Shape). SpellsShape before x ls) (sym c.1) c.2
 
   -- a class is read where the same stands
-  class_known : (n : ℕ) (s : At) (x : Shape) (m : At) → comes_class s ≡ true → opens_class before s ≡ true → branch_class_at (behind s) ≡ Ok (x, m) → IsKnown (shape_at before) (SpellsShape before) s x m
+  class_known : (n : ℕ) (s : At) (x : Shape) (m : At) → comes_class s ≡ true → opens_class before s ≡ true → branch_class_at (behind s) ≡ Ok (x, m) → IsKnown true (shape_at before) (SpellsShape before) s x m
   class_known n s x m comes opens h =
       let k = (of_class_tells n).known (behind s) x m h in
       record {
@@ -76,7 +77,7 @@ module _ (before : List Leaf) where
         spelled = class_spelled x k.passed k.spelled;
         stands = (comes_is s comes, k.stands);
         again = λ u v st.
-            let here : opens_class before u ≡ true = sym (opens_same s u (comes_same s u st.1) (alike_first k.passed (behind s) (behind u) v st.2)) ∙ opens in
+            let here : opens_class before u ≡ true = sym (opens_same s u (comes_same s u st.1) (alike_first true k.passed (behind s) (behind u) v st.2)) ∙ opens in
             let one = k.again (behind u) v st.2 in
             rw (here, one) refl;
       }
@@ -91,7 +92,7 @@ module _ (before : List Leaf) where
           let e = ap (λ (o : List Lexeme). length o) d.2 in
           omega (arith, some, e, length-append d.0 d.1)
 
-  leaves_known : (n : ℕ) → length before ≤ n → (s : At) (x : Shape) (m : At) → opens_class before s ≡ false → branch_leaves_at before s ≡ Ok (x, m) → IsKnown (shape_at before) (SpellsShape before) s x m
+  leaves_known : (n : ℕ) → length before ≤ n → (s : At) (x : Shape) (m : At) → opens_class before s ≡ false → branch_leaves_at before s ≡ Ok (x, m) → IsKnown true (shape_at before) (SpellsShape before) s x m
   leaves_known n le s x m not_so h =
       let k = (of_leaves_tell before n le).known s x m h in
       record {
@@ -104,15 +105,15 @@ module _ (before : List Leaf) where
             rw (here, one) refl;
       }
     where
-      closed : (passed : List Lexeme) (u v : At) → OfLeaves before x passed → StandAlike passed s u v → opens_class before u ≡ false
+      closed : (passed : List Lexeme) (u v : At) → OfLeaves before x passed → StandAlike true passed s u v → opens_class before u ≡ false
       closed [] u v c st = absurd (no_tokens x c)
-      closed (l ∷ ls) u v c st = sym (opens_same s u (comes_same s u st.1) (alike_first ls (behind s) (behind u) v st.2)) ∙ not_so
+      closed (l ∷ ls) u v c st = sym (opens_same s u (comes_same s u st.1) (alike_first true ls (behind s) (behind u) v st.2)) ∙ not_so
 
   -- ---- and the first token that can't stand
 
-  class_told : (n : ℕ) (s : At) (e : TextFault) → comes_class s ≡ true → opens_class before s ≡ true → branch_class_at (behind s) ≡ Err e → IsFirstBadToken (shape_at before) (BeginBehind n (SpellsShape before)) s e
+  class_told : (n : ℕ) (s : At) (e : TextFault) → comes_class s ≡ true → opens_class before s ≡ true → branch_class_at (behind s) ≡ Err e → IsFirstBadToken true (shape_at before) (BeginBehind n (SpellsShape before)) s e
   class_told n s e comes opens h =
-      bad_behind (shape_at before) branch_class_at (BeginBehind n OfClass) (BeginBehind n (SpellsShape before)) (class_word ∷ []) s (behind s) e (comes_is s comes, refl)
+      bad_behind true (shape_at before) branch_class_at (BeginBehind n OfClass) (BeginBehind n (SpellsShape before)) (class_word ∷ []) s (behind s) e (comes_is s comes, refl)
       (λ u v st g fault.
       let here : opens_class before u ≡ true = sym (opens_same s u (comes_same s u st.1) st.2.1) ∙ opens in
       let one : branch_class_at (behind u) ≡ Err g = subst (λ (a : At). branch_class_at a ≡ Err g) st.2.0 fault in
@@ -120,9 +121,9 @@ module _ (before : List Leaf) where
       (λ ms b few. let o = b (omega (arith, few)) in (o.0, o.1, class_spelled o.1 (ms ++ o.0) o.2)) ((of_class_tells n).told (behind s) e h)
 
   -- no leaf is called `class` here
-  leaves_told : (n : ℕ) → length before ≤ n → (s : At) (e : TextFault) → comes_class s ≡ false → branch_leaves_at before s ≡ Err e → IsFirstBadToken (shape_at before) (BeginBehind n (SpellsShape before)) s e
+  leaves_told : (n : ℕ) → length before ≤ n → (s : At) (e : TextFault) → comes_class s ≡ false → branch_leaves_at before s ≡ Err e → IsFirstBadToken true (shape_at before) (BeginBehind n (SpellsShape before)) s e
   leaves_told n le s e comes h =
-      bad_there (shape_at before) (branch_leaves_at before) (BeginBehind n (OfLeaves before)) (BeginBehind n (SpellsShape before)) s e
+      bad_there true (shape_at before) (branch_leaves_at before) (BeginBehind n (OfLeaves before)) (BeginBehind n (SpellsShape before)) s e
       (λ u same g fault. let here = not_comes u (sym (comes_same s u same) ∙ comes) in rw (here, fault) refl)
       (begin_as n (λ x. x) (OfLeaves before) (SpellsShape before) leaves_spelled) ((of_leaves_tell before n le).told s e h)
 
@@ -147,13 +148,13 @@ module _ (before : List Leaf) where
       let slash = ap (λ (o : List Lexeme). length o) c.5.4 in
       omega (arith, all, back, slash, length-append c.1 c.2, length-append c.5.1 c.5.2)
 
-  after_class_tells : (n : ℕ) → length before ≤ n → Tells after_class_at AfterClass AfterClass n
+  after_class_tells : (n : ℕ) → length before ≤ n → Tells true after_class_at AfterClass AfterClass n
   unfolding after_class_at
   after_class_tells n le =
       let G = BehindName before (codes "class") in
-      let more = λ (x : Leaf). rest_tells (is_glued_mark 58) (branch_leaf_at before) S S (λ own. length own) n (leaves_tell before n le) (x ∷ []) in
-      handed_tells (λ m. behind_name_at before (codes "class") m >>= λ x. further_leaves_at (x.0 ∷ []) x.1) Leaves (InTurn G (λ x. Rest S (x ∷ []))) (InTurn G (λ x. Rest S (x ∷ []))) AfterClass AfterClass n
-      (turn_tells (behind_name_at before (codes "class")) (λ x m. further_leaves_at (x ∷ []) m) G G (λ x. Rest S (x ∷ [])) (λ x. Rest S (x ∷ [])) n (λ x. n + length (x ∷ []))
+      let more = λ (x : Leaf). rest_tells true (is_glued_mark 58) (branch_leaf_at before) S S (λ own. length own) n (leaves_tell before n le) (x ∷ []) in
+      handed_tells true (λ m. behind_name_at before (codes "class") m >>= λ x. further_leaves_at (x.0 ∷ []) x.1) Leaves (InTurn G (λ x. Rest S (x ∷ []))) (InTurn G (λ x. Rest S (x ∷ []))) AfterClass AfterClass n
+      (turn_tells true (behind_name_at before (codes "class")) (λ x m. further_leaves_at (x ∷ []) m) G G (λ x. Rest S (x ∷ [])) (λ x. Rest S (x ∷ [])) n (λ x. n + length (x ∷ []))
       (behind_name_tells before (codes "class") n) more (λ x own c. let some = some_tokens x own c in omega (arith, some)) (λ x few. (x ∷ [], [], ([], refl, refl))))
       (λ x ls c. (x, refl, c)) (λ x ls c. (x, refl, c)) (λ y ls c. c)
 
@@ -172,9 +173,9 @@ module _ (before : List Leaf) where
   new_class free = rw free refl
 
   after_told : (n : ℕ) → length before ≤ n → (s : At) (e : TextFault) → comes_class s ≡ true → opens_class before s ≡ false → has_leaf before (codes "class") ≡ false
-      → branch_leaves_at before s ≡ Err e → IsFirstBadToken (shape_at before) (BeginBehind n (SpellsShape before)) s e
+      → branch_leaves_at before s ≡ Err e → IsFirstBadToken true (shape_at before) (BeginBehind n (SpellsShape before)) s e
   after_told n le s e comes not_so free h =
-      bad_behind (shape_at before) after_class_at (BeginBehind n AfterClass) (BeginBehind n (SpellsShape before)) (class_word ∷ []) s (behind s) e (comes_is s comes, refl)
+      bad_behind true (shape_at before) after_class_at (BeginBehind n AfterClass) (BeginBehind n (SpellsShape before)) (class_word ∷ []) s (behind s) e (comes_is s comes, refl)
       (λ u v st g fault.
       let here : opens_class before u ≡ false = sym (opens_same s u (comes_same s u st.1) st.2.1) ∙ not_so in
       let one : branch_leaves_at before u ≡ Err g = goes_after u st.0 free ∙ subst (λ (a : At). after_class_at a ≡ Err g) st.2.0 fault in
@@ -195,17 +196,17 @@ module _ (before : List Leaf) where
   opens_comes : (s : At) → opens_class before s ≡ true → comes_class s ≡ true
   opens_comes s opens = (and_parts (comes_class s) (colon_or_taken s) opens).0
 
-  shape_known : (n : ℕ) → length before ≤ n → (b : Bool) (s : At) (x : Shape) (m : At) → opens_class before s ≡ b → either_at b s ≡ Ok (x, m) → IsKnown (shape_at before) (SpellsShape before) s x m
+  shape_known : (n : ℕ) → length before ≤ n → (b : Bool) (s : At) (x : Shape) (m : At) → opens_class before s ≡ b → either_at b s ≡ Ok (x, m) → IsKnown true (shape_at before) (SpellsShape before) s x m
   shape_known n le true s x m opens h = class_known n s x m (opens_comes s opens) opens h
   shape_known n le false s x m not_so h = leaves_known n le s x m not_so h
 
   shape_told : (n : ℕ) → length before ≤ n → (b c : Bool) (s : At) (e : TextFault) → opens_class before s ≡ b → comes_class s ≡ c → either_at b s ≡ Err e
-      → IsFirstBadToken (shape_at before) (BeginBehind n (SpellsShape before)) s e
+      → IsFirstBadToken true (shape_at before) (BeginBehind n (SpellsShape before)) s e
   shape_told n le true c s e opens comes h = class_told n s e (opens_comes s opens) opens h
   shape_told n le false true s e not_so comes h = after_told n le s e comes not_so (opens_parts s comes not_so) h
   shape_told n le false false s e not_so comes h = leaves_told n le s e comes h
 
-  pub shape_tells : (n : ℕ) → length before ≤ n → Tells (shape_at before) (SpellsShape before) (SpellsShape before) n
+  pub shape_tells : (n : ℕ) → length before ≤ n → Tells true (shape_at before) (SpellsShape before) (SpellsShape before) n
   shape_tells n le = record {
     known = λ s x m h. shape_known n le (opens_class before s) s x m refl h;
     up = λ x ls c. c;
@@ -213,23 +214,6 @@ module _ (before : List Leaf) where
   }
 
 -- ---- branches
-
--- a name that passes a test
-abbrev pub Named : (List ℕ → Bool) → List ℕ → List Lexeme → Type 0
-Named test name ls = (ls ≡ word name ∷ []) × (test name ≡ true)
-
-pub named_tells : (test : List ℕ → Bool) (n : ℕ) → (n < 2 ^ 32 → (name : List ℕ) × (test name ≡ true)) → Tells (word_that_at test) (Named test) (Named test) n
-unfolding word_that_at
-named_tells test n some =
-    tells_as (λ s. word_that_at test s) (SaysOne (SaysWord (tested test))) (SaysOne (SaysWord (tested test))) (Named test) (Named test) n
-    (one_tells (λ s. option_and_then (tested test) (next_word s)) (SaysWord (tested test)) (word_said (tested test)) n
-    (λ few. let c = some few in (c.0, word c.0, (c.0, let goes_so = c.1 in rw goes_so refl, refl))))
-    to to (λ w ls c. c)
-  where
-    to : (w : List ℕ) (ls : List Lexeme) → SaysOne (SaysWord (tested test)) w ls → Named test w ls
-    to w ls c =
-        let i = if_is (test c.2.0) c.2.0 w c.2.1 in
-        (c.1 ∙ ap (λ (l : Lexeme). l ∷ []) (c.2.2 ∙ ap (λ (v : List ℕ). word v) i.1), subst (λ (v : List ℕ). test v ≡ true) i.1 i.0)
 
 abbrev branch_with : List ℕ → Shape → BranchDef
 branch_with name shape = record { name = name; shape = shape }
@@ -247,25 +231,25 @@ Equals before name = InTurn (GluedMark 61) (λ u. Shaped before name)
 any_class : (before : List Leaf) (name : List ℕ) → Shaped before name (branch_with name (Objects (codes "A"))) (class_word ∷ glued (mark 58) ∷ glued (word (codes "A")) ∷ [])
 any_class before name = (Objects (codes "A"), refl, (refl, refl))
 
-equals_tells : (before : List Leaf) (name : List ℕ) (n : ℕ) → length before ≤ n → Tells (equals_at before name) (Equals before name) (Equals before name) n
+equals_tells : (before : List Leaf) (name : List ℕ) (n : ℕ) → length before ≤ n → Tells true (equals_at before name) (Equals before name) (Equals before name) n
 unfolding equals_at
 equals_tells before name n le =
-    turn_tells (glued_mark_at 61) (λ u m. shape_at before m >>= with_place (branch_with name)) (GluedMark 61) (GluedMark 61) (λ u. Shaped before name) (λ u. Shaped before name) n (λ u. n)
+    turn_tells true (glued_mark_at 61) (λ u m. shape_at before m >>= with_place (branch_with name)) (GluedMark 61) (GluedMark 61) (λ u. Shaped before name) (λ u. Shaped before name) n (λ u. n)
     (glued_mark_tells 61 n)
-    (λ u. handed_tells (shape_at before) (branch_with name) (SpellsShape before) (SpellsShape before) (Shaped before name) (Shaped before name) n (shape_tells before n le) (λ x ls c. (x, refl, c)) (λ x ls c. (x, refl, c)) (λ y ls c. c))
+    (λ u. handed_tells true (shape_at before) (branch_with name) (SpellsShape before) (SpellsShape before) (Shaped before name) (Shaped before name) n (shape_tells before n le) (λ x ls c. (x, refl, c)) (λ x ls c. (x, refl, c)) (λ y ls c. c))
     (λ x own c. omega arith) (λ u few. (branch_with name (Objects (codes "A")), class_word ∷ glued (mark 58) ∷ glued (word (codes "A")) ∷ [], any_class before name))
 
 -- so many names are taken behind some branches: theirs, and those of their leaves
 abbrev names_of : List BranchDef → ℕ
 names_of bs = length bs + length (all_leaves bs)
 
-branch_tells : (before : List BranchDef) (n : ℕ) → names_of before ≤ n → Tells (branch_at before) (SpellsBranch before) (SpellsBranch before) n
+branch_tells : (before : List BranchDef) (n : ℕ) → names_of before ≤ n → Tells true (branch_at before) (SpellsBranch before) (SpellsBranch before) n
 unfolding branch_at equals_at
 branch_tells before n le =
     let leaves = all_leaves before in
-    tells_as (λ s. branch_at before s) (InTurn (Named (is_new_branch before)) (Equals leaves)) (InTurn (Named (is_new_branch before)) (Equals leaves)) (SpellsBranch before) (SpellsBranch before) n
-    (turn_tells (word_that_at (is_new_branch before)) (λ name m. equals_at leaves name m) (Named (is_new_branch before)) (Named (is_new_branch before)) (Equals leaves) (Equals leaves) n (λ name. n)
-    (named_tells (is_new_branch before) n (λ few. new_branch before (omega (arith, le, few)))) (λ name. equals_tells leaves name n (omega (arith, le))) (λ x own c. omega arith)
+    tells_as true (λ s. branch_at before s) (InTurn (Named (is_new_branch before)) (Equals leaves)) (InTurn (Named (is_new_branch before)) (Equals leaves)) (SpellsBranch before) (SpellsBranch before) n
+    (turn_tells true (word_that_at (is_new_branch before)) (λ name m. equals_at leaves name m) (Named (is_new_branch before)) (Named (is_new_branch before)) (Equals leaves) (Equals leaves) n (λ name. n)
+    (named_tells true (is_new_branch before) n (λ few. new_branch before (omega (arith, le, few)))) (λ name. equals_tells leaves name n (omega (arith, le))) (λ x own c. omega arith)
     (λ name few. (
       branch_with name (Objects (codes "A")),
       glued (mark 61) ∷ class_word ∷ glued (mark 58) ∷ glued (word (codes "A")) ∷ [],
@@ -307,7 +291,7 @@ branch_length before b ls c =
     let inside = shape_takes (all_leaves before) b.shape c.0 c.3 in
     omega (arith, all, inside)
 
-branches_tell : ItemTells goes_on branch_at SpellsBranch SpellsBranch (λ front. names_of front) 0
+branches_tell : ItemTells true goes_on branch_at SpellsBranch SpellsBranch (λ front. names_of front) 0
 branches_tell = record {
   one = λ front. branch_tells front (0 + names_of front) (omega arith);
   same = λ s t h. ap (λ (k : Token). not (is_end k)) h.next.token;
@@ -319,7 +303,7 @@ branches_tell = record {
   stops = λ t h. rw h refl;
 }
 
-pub branches_tells : Tells branches_at (SpellsSome SpellsBranch) (SpellsSome SpellsBranch) 0
+pub branches_tells : Tells true branches_at (SpellsSome SpellsBranch) (SpellsSome SpellsBranch) 0
 branches_tells =
-    fewer branches_at (SpellsSome SpellsBranch) (SpellsSome SpellsBranch) (0 + names_of []) 0 (omega arith)
-    (items_tell goes_on branch_at SpellsBranch SpellsBranch (λ front. names_of front) 0 branches_tell)
+    fewer true branches_at (SpellsSome SpellsBranch) (SpellsSome SpellsBranch) (0 + names_of []) 0 (omega arith)
+    (items_tell true goes_on branch_at SpellsBranch SpellsBranch (λ front. names_of front) 0 branches_tell)

@@ -20,6 +20,7 @@ pub mod KindTells
 pub mod LineTells
 pub mod ListTells
 pub mod LowestLaws
+pub mod NamedTells
 mod Refusals
 pub mod RunLaws
 pub mod ScriptLaws

@@ -1,5 +1,5 @@
 -- Each line of a script is read as the command that it is, and is no other.
-use Rattle.std.proofs.Common.{◌≡◌, ℕ, List, [], ◌∷◌, Ok, Err, refl, sym, ◌∙◌, ap}
+use Rattle.std.proofs.Common.{codes, Bool, ◌≡◌, ℕ, List, [], ◌∷◌, Ok, Err, refl, sym, ◌∙◌, ap}
 use Rattle.rio_num.specs.At.{At}
 use Rattle.rio_token.specs.declared.fault.TextFault.TheVariants.{BadText, NoMemory}
 use Rattle.rio_token.specs.Reading.{Read}
@@ -8,7 +8,7 @@ use Rattle.rio_model.specs.Lexemes.{Lexeme, Stand}
 use Rattle.rio_machine.specs.declared.command.Command.{Command}
 use Rattle.rio_machine.specs.declared.command.Command.TheVariants.{Bad, Class, Put, Delete, Tree as MakeTree, Fill, Save, Get, Scan, Ls}
 use Rattle.rio_step.specs.CommandLaws.{IsBadLine, IsLine, IsSpelled, LinesAreSpelled, StandAlike}
-use Rattle.rio_step.specs.Script.{command_at, line_command, or_bad_line}
+use Rattle.rio_step.specs.Script.{comes_next, command_at, line_command, or_bad_line}
 use Rattle.rio_step.proofs.CommandAgain.{spelled_commands_are_read}
 use Rattle.rio_step.proofs.CommandTells.{command_places_are_told, read_commands_are_spelled}
 
@@ -31,9 +31,9 @@ line_is number line (Err NoMemory) is = absurd (never (standing_in 0 line) (comm
 
 -- ---- and only that
 
-alike : (ls : List Lexeme) (s t : At) → Stand ls s t → StandAlike ls s s t
-alike [] s t h = (h, record { next = record { token = refl; word = refl }; glue = refl })
-alike (l ∷ ls) s t h = (h.0, record { next = record { token = refl; word = refl }; glue = refl }, alike ls (behind s) t h.1)
+alike : (strict : Bool) (ls : List Lexeme) (s t : At) → Stand ls s t → StandAlike strict ls s s t
+alike strict [] s t h = (h, record { next = record { token = refl; word = refl }; glue = λ _. refl })
+alike strict (l ∷ ls) s t h = (h.0, record { next = record { token = refl; word = refl }; glue = λ _. refl }, alike strict ls (behind s) t h.1)
 
 abbrev Again : ℕ → List ℕ → Command → Type 0
 Again number line c = c ≡ or_bad_line number (command_at (standing_in 0 line))
@@ -44,7 +44,7 @@ line_again number line c d = let h = spelled_commands_are_read c (standing_in 0 
 bad_again : (number n : ℕ) (line : List ℕ) (place : ℕ) → n ≡ number → IsBadLine (standing_in 0 line) (BadText place) → Again number line (Bad n place)
 bad_again number n line place e b =
     let old = standing_in 0 line in
-    let h : command_at old ≡ Err (BadText place) = b.always old b.here (alike b.before old b.here b.stands) ∙ ap (λ f. let r : Read Command = Err f in r) (sym b.told) in
+    let h : command_at old ≡ Err (BadText place) = b.always old b.here (alike (comes_next (codes "tree") old) b.before old b.here b.stands) ∙ ap (λ f. let r : Read Command = Err f in r) (sym b.told) in
     rw (h, e) refl
 
 only_line : (number : ℕ) (line : List ℕ) (c : Command) → IsLine number line c → Again number line c

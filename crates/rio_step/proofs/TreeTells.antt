@@ -29,12 +29,12 @@ use Rattle.rio_step.proofs.TurnLaws.{Behind, EitherOf, InTurn, Nothing, choice_t
 abbrev pub GluedMark : ℕ → Unit {0} → List Lexeme → Type 0
 GluedMark b u ls = ls ≡ glued (mark b) ∷ []
 
-pub glued_mark_tells : (b n : ℕ) → Tells (glued_mark_at b) (GluedMark b) (GluedMark b) n
+pub glued_mark_tells : (b n : ℕ) → Tells true (glued_mark_at b) (GluedMark b) (GluedMark b) n
 unfolding glued_mark_at
 glued_mark_tells b n =
     let k = glued (mark b) in
-    tells_as (λ s. glued_mark_at b s) (SaysOne (IsLexeme k)) (SaysOne (IsLexeme k)) (GluedMark b) (GluedMark b) n
-    (one_tells (λ s. some_if (is_glued_mark b s) tt) (IsLexeme k) (test_said (is_glued_mark b) k (glued_mark_test b)) n (λ few. (tt, k, refl)))
+    tells_as true (λ s. glued_mark_at b s) (SaysOne (IsLexeme k)) (SaysOne (IsLexeme k)) (GluedMark b) (GluedMark b) n
+    (one_tells true (λ s. some_if (is_glued_mark b s) tt) (IsLexeme k) (test_said true (is_glued_mark b) k (glued_mark_test b)) n (λ few. (tt, k, refl)))
     to to (λ u ls c. c)
   where
     to : (u : Unit {0}) (ls : List Lexeme) → SaysOne (IsLexeme (glued (mark b))) u ls → GluedMark b u ls
@@ -47,11 +47,11 @@ GluedName test name ls = (ls ≡ glued (word name) ∷ []) × (test name ≡ tru
 abbrev pub tested : (List ℕ → Bool) → List ℕ → Option (List ℕ)
 tested test w = some_if (test w) w
 
-pub glued_name_tells : (test : List ℕ → Bool) (n : ℕ) → (n < 2 ^ 32 → (name : List ℕ) × (test name ≡ true)) → Tells (glued_at (tested test)) (GluedName test) (GluedName test) n
+pub glued_name_tells : (test : List ℕ → Bool) (n : ℕ) → (n < 2 ^ 32 → (name : List ℕ) × (test name ≡ true)) → Tells true (glued_at (tested test)) (GluedName test) (GluedName test) n
 unfolding glued_at
 glued_name_tells test n some =
-    tells_as (λ s. glued_at (tested test) s) (SaysOne (SaysGluedWord (tested test))) (SaysOne (SaysGluedWord (tested test))) (GluedName test) (GluedName test) n
-    (one_tells (λ s. option_and_then (tested test) (glued_word s)) (SaysGluedWord (tested test)) (glued_word_said (tested test)) n
+    tells_as true (λ s. glued_at (tested test) s) (SaysOne (SaysGluedWord (tested test))) (SaysOne (SaysGluedWord (tested test))) (GluedName test) (GluedName test) n
+    (one_tells true (λ s. option_and_then (tested test) (glued_word s)) (SaysGluedWord (tested test)) (glued_word_said (tested test)) n
     (λ few. let c = some few in (c.0, glued (word c.0), (c.0, let goes_so = c.1 in rw goes_so refl, refl))))
     to to (λ w ls c. c)
   where
@@ -64,11 +64,11 @@ glued_name_tells test n some =
 abbrev pub GluedWord : {A : Type 0} → (List ℕ → Option A) → A → List Lexeme → Type 0
 GluedWord f x ls = (w : List ℕ) × (f w ≡ Some x) × (ls ≡ glued (word w) ∷ [])
 
-pub glued_word_tells : {A : Type 0} (f : List ℕ → Option A) (n : ℕ) → (x : A) (w : List ℕ) → f w ≡ Some x → Tells (glued_at f) (GluedWord f) (GluedWord f) n
+pub glued_word_tells : {A : Type 0} (f : List ℕ → Option A) (n : ℕ) → (x : A) (w : List ℕ) → f w ≡ Some x → Tells true (glued_at f) (GluedWord f) (GluedWord f) n
 unfolding glued_at
 glued_word_tells {A} f n x w says =
-    tells_as (λ s. glued_at f s) (SaysOne (SaysGluedWord f)) (SaysOne (SaysGluedWord f)) (GluedWord f) (GluedWord f) n
-    (one_tells (λ s. option_and_then f (glued_word s)) (SaysGluedWord f) (glued_word_said f) n (λ few. (x, glued (word w), (w, says, refl))))
+    tells_as true (λ s. glued_at f s) (SaysOne (SaysGluedWord f)) (SaysOne (SaysGluedWord f)) (GluedWord f) (GluedWord f) n
+    (one_tells true (λ s. option_and_then f (glued_word s)) (SaysGluedWord f) (glued_word_said f) n (λ few. (x, glued (word w), (w, says, refl))))
     to to (λ y ls c. c)
   where
     to : (y : A) (ls : List Lexeme) → SaysOne (SaysGluedWord f) y ls → GluedWord f y ls
@@ -87,14 +87,14 @@ two_says before = refl
 abbrev Closed : Dim → Dim → List Lexeme → Type 0
 Closed dim y ls = (y ≡ dim) × (ls ≡ glued (mark 93) ∷ [])
 
-closed_tells : (dim : Dim) (n : ℕ) → Tells (λ m. glued_mark_at 93 m >>= with_place (λ u. dim)) (Closed dim) (Closed dim) n
+closed_tells : (dim : Dim) (n : ℕ) → Tells true (λ m. glued_mark_at 93 m >>= with_place (λ u. dim)) (Closed dim) (Closed dim) n
 closed_tells dim n =
-    handed_tells (glued_mark_at 93) (λ u. dim) (GluedMark 93) (GluedMark 93) (Closed dim) (Closed dim) n (glued_mark_tells 93 n) (λ u ls c. (refl, c)) (λ u ls c. (refl, c)) (λ y ls c. c)
+    handed_tells true (glued_mark_at 93) (λ u. dim) (GluedMark 93) (GluedMark 93) (Closed dim) (Closed dim) n (glued_mark_tells 93 n) (λ u ls c. (refl, c)) (λ u ls c. (refl, c)) (λ y ls c. c)
 
-size_tells : (before : List Leaf) (n : ℕ) → Tells (leaf_size_at before) (Sized before) (Sized before) n
+size_tells : (before : List Leaf) (n : ℕ) → Tells true (leaf_size_at before) (Sized before) (Sized before) n
 size_tells before n =
-    tells_as (leaf_size_at before) (InTurn (GluedWord (leaf_dimension before)) Closed) (InTurn (GluedWord (leaf_dimension before)) Closed) (Sized before) (Sized before) n
-    (turn_tells (glued_at (leaf_dimension before)) (λ dim m. glued_mark_at 93 m >>= with_place (λ u. dim)) (GluedWord (leaf_dimension before)) (GluedWord (leaf_dimension before)) Closed Closed n (λ dim. n)
+    tells_as true (leaf_size_at before) (InTurn (GluedWord (leaf_dimension before)) Closed) (InTurn (GluedWord (leaf_dimension before)) Closed) (Sized before) (Sized before) n
+    (turn_tells true (glued_at (leaf_dimension before)) (λ dim m. glued_mark_at 93 m >>= with_place (λ u. dim)) (GluedWord (leaf_dimension before)) (GluedWord (leaf_dimension before)) Closed Closed n (λ dim. n)
     (glued_word_tells (leaf_dimension before) n (Fixed 2) (codes "2") (two_says before)) (λ dim. closed_tells dim n) (λ x own c. omega arith) (λ x few. (x, glued (mark 93) ∷ [], (refl, refl))))
     to to (λ y ls c. c)
   where
@@ -117,11 +117,11 @@ dim_spelled before dim ls (inr n) = subst (λ (d : Dim). SpellsDim before d ls) 
 dim_spelled before One ls (inl b) = absurd (never_one before b.2.0 b.2.1)
 dim_spelled before dim ls (inl b) = (b.2.0, b.2.1, b.1 ∙ ap (λ (o : List Lexeme). glued (mark 91) ∷ o) b.2.2)
 
-dim_tells : (before : List Leaf) (n : ℕ) → Tells (leaf_dim_at before) (SpellsDim before) (SpellsDim before) n
+dim_tells : (before : List Leaf) (n : ℕ) → Tells true (leaf_dim_at before) (SpellsDim before) (SpellsDim before) n
 unfolding leaf_dim_at
 dim_tells before n =
-    tells_as (λ s. leaf_dim_at before s) (EitherOf (Behind (glued (mark 91)) (Sized before)) (Nothing One)) (EitherOf (Behind (glued (mark 91)) (Sized before)) (Nothing One)) (SpellsDim before) (SpellsDim before) n
-    (choice_tells (is_glued_mark 91) (glued (mark 91)) (glued_mark_test 91) (leaf_size_at before) (λ s. Ok (One, s)) (Sized before) (Sized before) (Nothing One) (Nothing One) n (size_tells before n) (nothing_tells One n))
+    tells_as true (λ s. leaf_dim_at before s) (EitherOf (Behind (glued (mark 91)) (Sized before)) (Nothing One)) (EitherOf (Behind (glued (mark 91)) (Sized before)) (Nothing One)) (SpellsDim before) (SpellsDim before) n
+    (choice_tells true (is_glued_mark 91) (glued (mark 91)) (glued_mark_test 91) (leaf_size_at before) (λ s. Ok (One, s)) (Sized before) (Sized before) (Nothing One) (Nothing One) n (size_tells before n) (nothing_tells true One n))
     (dim_spelled before) (dim_spelled before) (λ y ls c. c)
 
 -- ---- leaves
@@ -137,9 +137,9 @@ letter_of_all One = refl
 letter_of_all (Fixed n) = refl
 letter_of_all (Counted counter times) = refl
 
-lettered_tells : (name : List ℕ) (dim : Dim) (n : ℕ) → Tells (λ m. glued_at (leaf_letter dim) m >>= with_place (leaf_with name dim)) (Lettered name dim) (Lettered name dim) n
+lettered_tells : (name : List ℕ) (dim : Dim) (n : ℕ) → Tells true (λ m. glued_at (leaf_letter dim) m >>= with_place (leaf_with name dim)) (Lettered name dim) (Lettered name dim) n
 lettered_tells name dim n =
-    handed_tells (glued_at (leaf_letter dim)) (leaf_with name dim) (GluedWord (leaf_letter dim)) (GluedWord (leaf_letter dim)) (Lettered name dim) (Lettered name dim) n
+    handed_tells true (glued_at (leaf_letter dim)) (leaf_with name dim) (GluedWord (leaf_letter dim)) (GluedWord (leaf_letter dim)) (Lettered name dim) (Lettered name dim) n
     (glued_word_tells (leaf_letter dim) n 73 (codes "I") (letter_of_all dim)) (λ x ls c. (c.0, x, c.1, refl, c.2)) (λ x ls c. (c.0, x, c.1, refl, c.2)) (λ y ls c. c)
 
 -- the slash and the letter
@@ -149,10 +149,10 @@ slashed_at name dim m = glued_mark_at 47 m >>= λ passed. glued_at (leaf_letter 
 abbrev pub Slashed : List ℕ → Dim → Leaf → List Lexeme → Type 0
 Slashed name dim = InTurn (GluedMark 47) (λ u. Lettered name dim)
 
-slashed_tells : (name : List ℕ) (dim : Dim) (n : ℕ) → Tells (slashed_at name dim) (Slashed name dim) (Slashed name dim) n
+slashed_tells : (name : List ℕ) (dim : Dim) (n : ℕ) → Tells true (slashed_at name dim) (Slashed name dim) (Slashed name dim) n
 unfolding slashed_at
 slashed_tells name dim n =
-    turn_tells (glued_mark_at 47) (λ u m. glued_at (leaf_letter dim) m >>= with_place (leaf_with name dim)) (GluedMark 47) (GluedMark 47) (λ u. Lettered name dim) (λ u. Lettered name dim) n (λ u. n)
+    turn_tells true (glued_mark_at 47) (λ u m. glued_at (leaf_letter dim) m >>= with_place (leaf_with name dim)) (GluedMark 47) (GluedMark 47) (λ u. Lettered name dim) (λ u. Lettered name dim) n (λ u. n)
     (glued_mark_tells 47 n) (λ u. lettered_tells name dim n) (λ x own c. omega arith)
     (λ u few. (leaf_with name dim 73, glued (word (codes "I")) ∷ [], (codes "I", 73, letter_of_all dim, refl, refl)))
 
@@ -166,10 +166,10 @@ BehindName before name = InTurn (SpellsDim before) (Slashed name)
 any_leaf : (name : List ℕ) (dim : Dim) → Slashed name dim (leaf_with name dim 73) (glued (mark 47) ∷ glued (word (codes "I")) ∷ [])
 any_leaf name dim = (tt, glued (mark 47) ∷ [], glued (word (codes "I")) ∷ [], refl, refl, (codes "I", 73, letter_of_all dim, refl, refl))
 
-pub behind_name_tells : (before : List Leaf) (name : List ℕ) (n : ℕ) → Tells (behind_name_at before name) (BehindName before name) (BehindName before name) n
+pub behind_name_tells : (before : List Leaf) (name : List ℕ) (n : ℕ) → Tells true (behind_name_at before name) (BehindName before name) (BehindName before name) n
 unfolding behind_name_at
 behind_name_tells before name n =
-    turn_tells (leaf_dim_at before) (λ dim m. slashed_at name dim m) (SpellsDim before) (SpellsDim before) (Slashed name) (Slashed name) n (λ dim. n)
+    turn_tells true (leaf_dim_at before) (λ dim m. slashed_at name dim m) (SpellsDim before) (SpellsDim before) (Slashed name) (Slashed name) n (λ dim. n)
     (dim_tells before n) (λ dim. slashed_tells name dim n) (λ x own c. omega arith)
     (λ dim few. (leaf_with name dim 73, glued (mark 47) ∷ glued (word (codes "I")) ∷ [], any_leaf name dim))
 
@@ -181,11 +181,11 @@ leaf_spelled before name leaf ls new c =
     let tokens : ls ≡ c.1 ++ glued (mark 47) ∷ glued (word e.0) ∷ [] = c.3 ∙ ap (λ (o : List Lexeme). c.1 ++ o) (s.3 ∙ ap (λ (o : List Lexeme). o ++ s.2) s.4 ∙ ap (λ (o : List Lexeme). glued (mark 47) ∷ o) e.4) in
     subst (λ (l : Leaf). SpellsLeaf before l (glued (word name) ∷ ls)) (sym e.3) (c.1, e.0, ap (λ (o : List Lexeme). glued (word name) ∷ o) tokens, new, c.4, e.2)
 
-leaf_tells : (before : List Leaf) (n : ℕ) → length before ≤ n → Tells (tree_leaf_at before) (SpellsLeaf before) (SpellsLeaf before) n
+leaf_tells : (before : List Leaf) (n : ℕ) → length before ≤ n → Tells true (tree_leaf_at before) (SpellsLeaf before) (SpellsLeaf before) n
 unfolding tree_leaf_at behind_name_at slashed_at
 leaf_tells before n le =
-    tells_as (λ s. tree_leaf_at before s) (InTurn (GluedName (is_new_leaf before)) (BehindName before)) (InTurn (GluedName (is_new_leaf before)) (BehindName before)) (SpellsLeaf before) (SpellsLeaf before) n
-    (turn_tells (glued_at (tested (is_new_leaf before))) (λ name m. behind_name_at before name m) (GluedName (is_new_leaf before)) (GluedName (is_new_leaf before)) (BehindName before) (BehindName before) n (λ name. n)
+    tells_as true (λ s. tree_leaf_at before s) (InTurn (GluedName (is_new_leaf before)) (BehindName before)) (InTurn (GluedName (is_new_leaf before)) (BehindName before)) (SpellsLeaf before) (SpellsLeaf before) n
+    (turn_tells true (glued_at (tested (is_new_leaf before))) (λ name m. behind_name_at before name m) (GluedName (is_new_leaf before)) (GluedName (is_new_leaf before)) (BehindName before) (BehindName before) n (λ name. n)
     (glued_name_tells (is_new_leaf before) n (λ few. new_leaf before (omega (arith, le, few)))) (λ name. behind_name_tells before name n) (λ x own c. omega arith)
     (λ name few. (leaf_with name One 73, glued (mark 47) ∷ glued (word (codes "I")) ∷ [], (One, [], glued (mark 47) ∷ glued (word (codes "I")) ∷ [], refl, refl, any_leaf name One))))
     to to (λ y ls c. c)
@@ -194,14 +194,14 @@ leaf_tells before n le =
     to leaf ls c = subst (SpellsLeaf before leaf) (sym (c.3 ∙ ap (λ (o : List Lexeme). o ++ c.2) c.4.0)) (leaf_spelled before c.0 leaf c.2 c.4.1 c.5)
 
 -- behind the other leaves of its branch
-next_leaf_tells : (before front : List Leaf) (n : ℕ) → length before ≤ n → Tells (branch_leaf_at before front) (SpellsNextLeaf before front) (SpellsNextLeaf before front) (n + length front)
+next_leaf_tells : (before front : List Leaf) (n : ℕ) → length before ≤ n → Tells true (branch_leaf_at before front) (SpellsNextLeaf before front) (SpellsNextLeaf before front) (n + length front)
 unfolding branch_leaf_at
 next_leaf_tells before [] n le = leaf_tells before (n + length {A = Leaf} []) (omega (arith, le))
 next_leaf_tells before (l ∷ own) n le =
     let all = n + length (l ∷ own) in
     let leaves = before ++ l ∷ own in
-    tells_as (λ s. branch_leaf_at before (l ∷ own) s) (InTurn (GluedMark 58) (λ u. SpellsLeaf leaves)) (InTurn (GluedMark 58) (λ u. SpellsLeaf leaves)) (SpellsNextLeaf before (l ∷ own)) (SpellsNextLeaf before (l ∷ own)) all
-    (turn_tells (glued_mark_at 58) (λ u m. tree_leaf_at leaves m) (GluedMark 58) (GluedMark 58) (λ u. SpellsLeaf leaves) (λ u. SpellsLeaf leaves) all (λ u. all)
+    tells_as true (λ s. branch_leaf_at before (l ∷ own) s) (InTurn (GluedMark 58) (λ u. SpellsLeaf leaves)) (InTurn (GluedMark 58) (λ u. SpellsLeaf leaves)) (SpellsNextLeaf before (l ∷ own)) (SpellsNextLeaf before (l ∷ own)) all
+    (turn_tells true (glued_mark_at 58) (λ u m. tree_leaf_at leaves m) (GluedMark 58) (GluedMark 58) (λ u. SpellsLeaf leaves) (λ u. SpellsLeaf leaves) all (λ u. all)
     (glued_mark_tells 58 all) (λ u. leaf_tells leaves all (omega (arith, le, length-append before (l ∷ own)))) (λ x tokens c. omega arith)
     (λ u few. let c = new_leaf leaves (omega (arith, few, le, length-append before (l ∷ own))) in
     (leaf_with c.0 One 73, glued (word c.0) ∷ glued (mark 47) ∷ glued (word (codes "I")) ∷ [], ([], codes "I", refl, c.1, refl, refl))))
@@ -224,7 +224,7 @@ mark_is_no_end b t h = by (is_glued t)
     by true = rw h refl
     by false = refl
 
-pub leaves_tell : (before : List Leaf) (n : ℕ) → length before ≤ n → ItemTells (is_glued_mark 58) (branch_leaf_at before) (SpellsNextLeaf before) (SpellsNextLeaf before) (λ own. length own) n
+pub leaves_tell : (before : List Leaf) (n : ℕ) → length before ≤ n → ItemTells true (is_glued_mark 58) (branch_leaf_at before) (SpellsNextLeaf before) (SpellsNextLeaf before) (λ own. length own) n
 leaves_tell before n le = record {
   one = λ front. next_leaf_tells before front n le;
   same = (glued_mark_test 58).same;
@@ -236,12 +236,12 @@ leaves_tell before n le = record {
 abbrev pub OfLeaves : List Leaf → Shape → List Lexeme → Type 0
 OfLeaves before shape ls = (leaves : List Leaf) × (shape ≡ Leaves leaves) × SpellsSome (SpellsNextLeaf before) leaves ls
 
-pub of_leaves_tell : (before : List Leaf) (n : ℕ) → length before ≤ n → Tells (branch_leaves_at before) (OfLeaves before) (OfLeaves before) n
+pub of_leaves_tell : (before : List Leaf) (n : ℕ) → length before ≤ n → Tells true (branch_leaves_at before) (OfLeaves before) (OfLeaves before) n
 unfolding branch_leaves_at
 of_leaves_tell before n le =
     let S = SpellsNextLeaf before in
-    handed_tells (items_at (is_glued_mark 58) (branch_leaf_at before)) Leaves (SpellsSome S) (SpellsSome S) (OfLeaves before) (OfLeaves before) n
-    (fewer (items_at (is_glued_mark 58) (branch_leaf_at before)) (SpellsSome S) (SpellsSome S) (n + length {A = Leaf} []) n (omega arith) (items_tell (is_glued_mark 58) (branch_leaf_at before) S S (λ own. length own) n (leaves_tell before n le)))
+    handed_tells true (items_at (is_glued_mark 58) (branch_leaf_at before)) Leaves (SpellsSome S) (SpellsSome S) (OfLeaves before) (OfLeaves before) n
+    (fewer true (items_at (is_glued_mark 58) (branch_leaf_at before)) (SpellsSome S) (SpellsSome S) (n + length {A = Leaf} []) n (omega arith) (items_tell true (is_glued_mark 58) (branch_leaf_at before) S S (λ own. length own) n (leaves_tell before n le)))
     (λ x ls c. (x, refl, c)) (λ x ls c. (x, refl, c)) (λ y ls c. c)
 
 -- ---- classes
@@ -252,16 +252,16 @@ OfClass shape ls = (class : List ℕ) × (shape ≡ Objects class) × (is_name_t
 abbrev ClassName : Shape → List Lexeme → Type 0
 ClassName shape ls = (class : List ℕ) × (shape ≡ Objects class) × (is_name_text class ≡ true) × (ls ≡ glued (word class) ∷ [])
 
-class_name_tells : (n : ℕ) → Tells (λ m. glued_at (tested is_name_text) m >>= with_place Objects) ClassName ClassName n
+class_name_tells : (n : ℕ) → Tells true (λ m. glued_at (tested is_name_text) m >>= with_place Objects) ClassName ClassName n
 class_name_tells n =
-    handed_tells (glued_at (tested is_name_text)) Objects (GluedName is_name_text) (GluedName is_name_text) ClassName ClassName n
+    handed_tells true (glued_at (tested is_name_text)) Objects (GluedName is_name_text) (GluedName is_name_text) ClassName ClassName n
     (glued_name_tells is_name_text n (λ few. (codes "A", refl))) (λ x ls c. (x, refl, c.1, c.0)) (λ x ls c. (x, refl, c.1, c.0)) (λ y ls c. c)
 
-pub of_class_tells : (n : ℕ) → Tells branch_class_at OfClass OfClass n
+pub of_class_tells : (n : ℕ) → Tells true branch_class_at OfClass OfClass n
 unfolding branch_class_at
 of_class_tells n =
-    tells_as (λ s. branch_class_at s) (InTurn (GluedMark 58) (λ u. ClassName)) (InTurn (GluedMark 58) (λ u. ClassName)) OfClass OfClass n
-    (turn_tells (glued_mark_at 58) (λ u m. glued_at (tested is_name_text) m >>= with_place Objects) (GluedMark 58) (GluedMark 58) (λ u. ClassName) (λ u. ClassName) n (λ u. n)
+    tells_as true (λ s. branch_class_at s) (InTurn (GluedMark 58) (λ u. ClassName)) (InTurn (GluedMark 58) (λ u. ClassName)) OfClass OfClass n
+    (turn_tells true (glued_mark_at 58) (λ u m. glued_at (tested is_name_text) m >>= with_place Objects) (GluedMark 58) (GluedMark 58) (λ u. ClassName) (λ u. ClassName) n (λ u. n)
     (glued_mark_tells 58 n) (λ u. class_name_tells n) (λ x own c. omega arith) (λ u few. (Objects (codes "A"), glued (word (codes "A")) ∷ [], (codes "A", refl, refl, refl))))
     to to (λ y ls c. c)
   where

@@ -1,5 +1,5 @@
 -- Values and rows in a command: what is read, and the first tokens that can't stand.
-use Rattle.std.proofs.Common.{◌≡◌, ℕ, suc, List, [], ◌∷◌, ◌++◌, true, not, refl, sym, ◌∙◌, ap}
+use Rattle.std.proofs.Common.{◌≡◌, ℕ, suc, List, [], ◌∷◌, ◌++◌, true, not, refl, sym, ◌∙◌, ap, Bool}
 use Rattle.rio_num.specs.At.{At}
 use Rattle.rio_value.specs.declared.value.Value.{Value, out-Value}
 use Rattle.rio_value.specs.declared.value.Value.TheOpen.{Value-F}
@@ -40,29 +40,30 @@ row_up levels (v ∷ vs) ls c =
     let d = c.2 in
     (c.0, c.1, (d.0, d.1, d.2, value_up levels v d.0 d.3, further_up levels vs (v ∷ []) d.1 d.4))
 
--- what can be begun needs no few names here
-surely : {A : Type 0} (r : At → Read A) (H : A → List Lexeme → Type 0) (n : ℕ) (s : At) (e : TextFault) → IsFirstBadToken r (Begin H) s e → IsFirstBadToken r (BeginBehind n H) s e
-surely r H n s e b = bad_there r r (Begin H) (BeginBehind n H) s e (λ t same g bad. bad) (λ ls c few. c) b
+module _ (strict : Bool) where
+  -- what can be begun needs no few names here
+  surely : {A : Type 0} (r : At → Read A) (H : A → List Lexeme → Type 0) (n : ℕ) (s : At) (e : TextFault) → IsFirstBadToken strict r (Begin H) s e → IsFirstBadToken strict r (BeginBehind n H) s e
+  surely r H n s e b = bad_there strict r r (Begin H) (BeginBehind n H) s e (λ t same g bad. bad) (λ ls c few. c) b
 
-pub value_tells : (levels n : ℕ) → Tells (value_in_text (enclosed_at levels)) (SpellsValue levels) (SpellsValue (suc levels)) n
-value_tells levels n = record {
-  known = λ s v m h.
-      let f = read_are_spelled.value levels v s m h in
-      record {
-        passed = f.0;
-        spelled = f.1;
-        stands = f.2;
-        again = λ u k st. spelled_are_read.value levels v f.0 u k f.1 (alike_stand f.0 s u k st) (ends_same (out-Value v) m k (alike_end f.0 s m u k f.2 st).next f.3);
-      };
-  up = value_up levels;
-  told = λ s e h. surely (value_in_text (enclosed_at levels)) (SpellsValue (suc levels)) n s e (bad_alike (value_in_text (enclosed_at levels)) (Begin (SpellsValue (suc levels))) s e (places_are_told.value levels s e h));
-}
+  pub value_tells : (levels n : ℕ) → Tells strict (value_in_text (enclosed_at levels)) (SpellsValue levels) (SpellsValue (suc levels)) n
+  value_tells levels n = record {
+    known = λ s v m h.
+        let f = read_are_spelled.value levels v s m h in
+        record {
+          passed = f.0;
+          spelled = f.1;
+          stands = f.2;
+          again = λ u k st. spelled_are_read.value levels v f.0 u k f.1 (alike_stand strict f.0 s u k st) (ends_same (out-Value v) m k (alike_end strict f.0 s m u k f.2 st).next f.3);
+        };
+    up = value_up levels;
+    told = λ s e h. surely (value_in_text (enclosed_at levels)) (SpellsValue (suc levels)) n s e (bad_alike strict (value_in_text (enclosed_at levels)) (Begin (SpellsValue (suc levels))) s e (places_are_told.value levels s e h));
+  }
 
-pub row_tells : (levels n : ℕ) → Tells (values_at (enclosed_at levels)) (SpellsRow levels) (SpellsRow (suc levels)) n
-row_tells levels n = record {
-  known = λ s v m h.
-      let f = read_are_spelled.row levels v s m h in
-      record { passed = f.0; spelled = f.1; stands = f.2; again = λ u k st. spelled_are_read.row levels v f.0 u k f.1 (alike_stand f.0 s u k st) };
-  up = row_up levels;
-  told = λ s e h. surely (values_at (enclosed_at levels)) (SpellsRow (suc levels)) n s e (bad_alike (values_at (enclosed_at levels)) (Begin (SpellsRow (suc levels))) s e (places_are_told.row levels s e h));
-}
+  pub row_tells : (levels n : ℕ) → Tells strict (values_at (enclosed_at levels)) (SpellsRow levels) (SpellsRow (suc levels)) n
+  row_tells levels n = record {
+    known = λ s v m h.
+        let f = read_are_spelled.row levels v s m h in
+        record { passed = f.0; spelled = f.1; stands = f.2; again = λ u k st. spelled_are_read.row levels v f.0 u k f.1 (alike_stand strict f.0 s u k st) };
+    up = row_up levels;
+    told = λ s e h. surely (values_at (enclosed_at levels)) (SpellsRow (suc levels)) n s e (bad_alike strict (values_at (enclosed_at levels)) (Begin (SpellsRow (suc levels))) s e (places_are_told.row levels s e h));
+  }
