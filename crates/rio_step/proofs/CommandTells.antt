@@ -6,7 +6,6 @@ use Rattle.rio_num.specs.Word.{is_item_text}
 use Rattle.rio_value.specs.declared.value.Value.{Value}
 use Rattle.rio_value.specs.declared.value.Value as value
 use Rattle.rio_value.specs.declared.value.Part.{Part}
-use Rattle.rio_value.specs.declared.value.Value.{out-Value}
 use Rattle.rio_value.specs.declared.value.Value.TheOpen.{Value-F}
 use Rattle.rio_value.specs.declared.value.Value.TheVariants.{outs-Null}
 use Rattle.rio_leaf.specs.declared.branch.Shape.TheVariants.{Class as Objects}

@@ -7,7 +7,7 @@ use Rattle.rio_token.specs.Tokens.{behind, standing_in}
 use Rattle.rio_model.specs.Lexemes.{Lexeme, Stand}
 use Rattle.rio_machine.specs.declared.command.Command.{Command}
 use Rattle.rio_machine.specs.declared.command.Command.TheVariants.{Bad, Class, Put, Delete, Tree as MakeTree, Fill, Save, Get, Scan, Ls}
-use Rattle.rio_step.specs.CommandLaws.{IsBadLine, IsLine, IsSpelled, LinesAreSpelled, StandAlike}
+use Rattle.rio_step.specs.CommandLaws.{IsBadLine, IsLine, IsSpelledLine, LinesAreSpelled, StandAlike}
 use Rattle.rio_step.specs.Script.{comes_next, command_at, line_command, or_bad_line}
 use Rattle.rio_step.proofs.CommandAgain.{spelled_commands_are_read}
 use Rattle.rio_step.proofs.CommandTells.{command_places_are_told, read_commands_are_spelled}
@@ -15,7 +15,7 @@ use Rattle.rio_step.proofs.CommandTells.{command_places_are_told, read_commands_
 -- ---- what is read
 
 abbrev Spelled : List ℕ → Command → Type 0
-Spelled line c = (new : At) × IsSpelled c (standing_in 0 line) new
+Spelled line c = (new : At) × IsSpelledLine c (standing_in 0 line) new
 
 spelled_line : (number : ℕ) (line : List ℕ) (c : Command) → Spelled line c → IsLine number line c
 spelled_line number line (Bad n place) d = absurd d.1.1

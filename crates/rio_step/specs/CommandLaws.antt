@@ -19,16 +19,16 @@ abbrev pub StandToEnd : List Lexeme → At → At → Type 0
 StandToEnd ls old new = (here : At) × Stand ls old here × ((next_at here).token ≡ End) × (new ≡ behind here)
 
 -- and they spell the command
-abbrev pub IsSpelled : Command → At → At → Type 0
-IsSpelled command old new = (ls : List Lexeme) × SpellsCommand bracket_limit command ls × StandToEnd ls old new
+abbrev pub IsSpelledLine : Command → At → At → Type 0
+IsSpelledLine command old new = (ls : List Lexeme) × SpellsCommand bracket_limit command ls × StandToEnd ls old new
 
 -- what is spelled is read, wherever it stands
 abbrev pub SpelledCommandsAreRead : Type 0
-SpelledCommandsAreRead = (command : Command) (old new : At) → IsSpelled command old new → command_at old ≡ Ok (command, new)
+SpelledCommandsAreRead = (command : Command) (old new : At) → IsSpelledLine command old new → command_at old ≡ Ok (command, new)
 
 -- what is read is spelled
 abbrev pub ReadCommandsAreSpelled : Type 0
-ReadCommandsAreSpelled = (command : Command) (old new : At) → command_at old ≡ Ok (command, new) → IsSpelled command old new
+ReadCommandsAreSpelled = (command : Command) (old new : At) → command_at old ≡ Ok (command, new) → IsSpelledLine command old new
 
 -- ---- the first token that can't stand
 
@@ -73,7 +73,7 @@ CommandPlacesAreTold = (old : At) (fault : TextFault) → command_at old ≡ Err
 -- the command that the line of this number is
 abbrev pub IsLine : ℕ → List ℕ → Command → Type 0
 IsLine number line (Bad n place) = (n ≡ number) × IsBadLine (standing_in 0 line) (BadText place)
-IsLine number line command = (new : At) × IsSpelled command (standing_in 0 line) new
+IsLine number line command = (new : At) × IsSpelledLine command (standing_in 0 line) new
 
 -- each line that counts is read as the command that it is, and is no other
 pub record LinesAreSpelled : Type 0 where
