@@ -47,7 +47,7 @@ module _ (w : List ℕ) (of : Primitive) where
   none_left : (let none : Option Primitive = None in none ≡ Some of) → w ≡ primitive_text of
   none_left h = absurd (cc)
 
-  primitive_is : primitive_of w ≡ Some of → w ≡ primitive_text of
+  pub primitive_is : primitive_of w ≡ Some of → w ≡ primitive_text of
   unfolding primitive_of
   primitive_is =
       or_this I8 _ (or_this I16 _ (or_this I32 _ (or_this I64 _ (or_this U8 _ (or_this U16 _ (or_this U32 _ (or_this U64 _ (or_this Truth _ (or_this F32 _ (or_this F64 _ none_left))))))))))
@@ -59,7 +59,7 @@ module _ (before : List Member) where
   KindFound s k t = (ls : List Lexeme) × SpellsKind before k ls × Stand ls s t × (ends_kind k t ≡ true)
 
   -- what a word in brackets says
-  abbrev Says : Primitive → List ℕ → Kind → Type 0
+  abbrev pub Says : Primitive → List ℕ → Kind → Type 0
   Says of w k = SpellsKind before k (word (primitive_text of) ∷ mark 91 ∷ word w ∷ mark 93 ∷ []) × ((s : At) → ends_kind k s ≡ true)
 
   fixed_by : (of : Primitive) (w : List ℕ) (k : Kind) (o : Option ℕ) → num_between_of 1 100000 w ≡ o → fixed_or of o (counted_by before of w) ≡ Some k → Says of w k
@@ -71,7 +71,7 @@ module _ (before : List Member) where
       let c = if_is (has_i32 before w) (Counted of w) k h in
       subst (λ (x : Kind). Says of w x) c.1 ((is, c.0, refl), λ s. refl)
 
-  says_found : (of : Primitive) (w : List ℕ) (k : Kind) → dimension_of before of w ≡ Some k → Says of w k
+  pub says_found : (of : Primitive) (w : List ℕ) (k : Kind) → dimension_of before of w ≡ Some k → Says of w k
   unfolding dimension_of
   says_found of w k h = fixed_by of w k (num_between_of 1 100000 w) refl h
 

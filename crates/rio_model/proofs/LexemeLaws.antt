@@ -13,7 +13,7 @@ use Rattle.rio_token.specs.Tokens.{behind, next_at}
 use Rattle.rio_token.specs.Words.{num_between_of, num_of}
 use Rattle.rio_token.specs.Further.{can_pass}
 use Rattle.rio_token.proofs.PassLaws.{passed_takes_some}
-use Rattle.rio_model.specs.Lexemes.{IsNext, Lexeme, Stand, chars, mark, word}
+use Rattle.rio_model.specs.Lexemes.{IsNext, Lexeme, Stand, chars, glued, mark, word}
 
 -- ---- what comes next is taken
 
@@ -188,6 +188,7 @@ next_passes : (l : Lexeme) (s : At) → IsNext l s → can_pass (next_at s).toke
 next_passes (word w) s h = rw h.0 refl
 next_passes (chars t) s h = rw h.0 refl
 next_passes (mark b) s h = rw h refl
+next_passes (glued l) s h = next_passes l s h.1
 
 pub takes_some : (l : Lexeme) (s : At) → IsNext l s → length (behind s).rest < length s.rest
 takes_some l s h = passed_takes_some s (next_passes l s h)

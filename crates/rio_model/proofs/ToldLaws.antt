@@ -9,7 +9,7 @@ use Rattle.rio_token.specs.declared.token.Token.TheVariants.{Word, Text, Mark, B
 use Rattle.rio_token.specs.Reading.{Read, bad_at, cut_at, end_at, is_end, is_mark, mark_at, marked, next_word, num_at, num_between_at, some_if, string_at, string_by, taken_at, word_at, word_that_at}
 use Rattle.rio_token.specs.Tokens.{next_at, token_place}
 use Rattle.rio_token.specs.Words.{num_between_of, num_of}
-use Rattle.rio_model.specs.Lexemes.{IsNext, Lexeme, Stand, chars, mark, word}
+use Rattle.rio_model.specs.Lexemes.{IsNext, Lexeme, Stand, chars, glued, mark, word}
 use Rattle.rio_model.specs.ToldPlaces.{HaveSameNext, TellsBadToken, told_place}
 use Rattle.rio_model.proofs.LexemeLaws.{next_word_is, stand_joined, stand_split, with_place}
 
@@ -19,6 +19,7 @@ pub is_same : (l : Lexeme) (s t : At) → IsNext l s → IsNext l t → HaveSame
 is_same (word w) s t h k = record { token = h.0 ∙ sym k.0; word = rw (h.0, h.1, k.0, k.1) refl }
 is_same (chars x) s t h k = record { token = h.0 ∙ sym k.0; word = rw (h.0, k.0) refl }
 is_same (mark b) s t h k = record { token = h ∙ sym k; word = rw (h, k) refl }
+is_same (glued l) s t h k = is_same l s t h.1 k.1
 
 pub next_same : (ls : List Lexeme) (s t s' t' : At) → Stand ls s s' → Stand ls t t' → HaveSameNext s' t' → HaveSameNext s t
 next_same [] s t s' t' h k same = subst (λ (x : At). HaveSameNext x t) h (subst (λ (x : At). HaveSameNext s' x) k same)

@@ -1,21 +1,23 @@
 -- Tokens with what they say, as they stand in a text one behind the other. Blanks before a token say nothing, and a string
--- says the bytes that it spells, with escapes or without.
-use Rattle.std.specs.Prelude.{◌≡◌, ℕ, List, [], ◌∷◌, ◌++◌}
+-- says the bytes that it spells, with escapes or without. Where no blank may stand before a token, it is glued.
+use Rattle.std.specs.Prelude.{◌≡◌, ℕ, List, [], ◌∷◌, ◌++◌, true}
 use Rattle.rio_num.specs.At.{At}
 use Rattle.rio_token.specs.declared.token.Token.TheVariants.{Word, Text, Mark}
 use Rattle.rio_token.specs.Marks.{comma}
-use Rattle.rio_token.specs.Tokens.{behind, next_at}
+use Rattle.rio_token.specs.Tokens.{behind, is_glued, next_at}
 
 pub data Lexeme : Type 0 where
   word : List ℕ → Lexeme
   chars : List ℕ → Lexeme
   mark : ℕ → Lexeme
+  glued : Lexeme → Lexeme
 
 -- this token comes next
 abbrev pub IsNext : Lexeme → At → Type 0
 IsNext (word bytes) s = ((next_at s).token ≡ Word) × ((next_at s).bytes ≡ bytes)
 IsNext (chars bytes) s = ((next_at s).token ≡ Text) × ((next_at s).bytes ≡ bytes)
 IsNext (mark b) s = (next_at s).token ≡ Mark b
+IsNext (glued l) s = (is_glued s ≡ true) × IsNext l s
 
 -- these tokens come next, up to the place at which reading goes on
 abbrev pub Stand : List Lexeme → At → At → Type 0

@@ -18,7 +18,7 @@ use Rattle.rio_machine.specs.declared.refusal.Refusal.TheVariants.{BadLine, Kind
 use Rattle.rio_step.specs.ReplyText.{text_of}
 use Rattle.rio_step.specs.Script.{asked_class_at, asked_version_at, command_at, commands_from, cycle_at, delete_command_at, get_command_at, line_command, put_command_at, save_command_at, scan_command_at, script_of, tree_command_at}
 use Rattle.rio_step.specs.Step.{object_listed, tree_listed, object_put, item_deleted, row_added, rows_saved, items_listed}
-use Rattle.rio_step.specs.TreeGrammar.{branch_at, branch_class_at, branch_leaves_at, branches_at, glued_at, glued_mark_at, leaf_dim_at, leaf_dimension, more_branches_at, more_leaves_at, tree_leaf_at}
+use Rattle.rio_step.specs.TreeGrammar.{branch_at, branch_class_at, branch_leaf_at, branch_leaves_at, further_at, glued_at, glued_mark_at, items_at, leaf_dim_at, leaf_dimension, tree_leaf_at}
 
 -- ---- scripts
 
@@ -47,13 +47,20 @@ branch name leaves = record { name = name; shape = Leaves leaves }
 trees : script_of (codes "tree V n=n/I v=v[n]/F:w[3]/B o=class:P") ≡
     MakeTree (codes "V") (branch (codes "n") (leaf (codes "n") 73 One ∷ []) ∷ branch (codes "v") (leaf (codes "v") 70 (Counted (codes "n") 1) ∷ leaf (codes "w") 66 (Fixed 3) ∷ [])
     ∷ record { name = codes "o"; shape = Objects (codes "P") } ∷ []) ∷ []
-unfolding scan_of commands_from line_command command_at tree_command_at branches_at more_branches_at branch_at branch_leaves_at branch_class_at more_leaves_at tree_leaf_at leaf_dim_at leaf_dimension glued_at glued_mark_at word_that_at end_at decimal written branch leaf
+unfolding scan_of commands_from line_command command_at tree_command_at items_at further_at branch_at branch_leaves_at branch_class_at branch_leaf_at tree_leaf_at leaf_dim_at leaf_dimension glued_at glued_mark_at word_that_at end_at decimal written branch leaf
 trees = refl
 
 -- no counter, a blank in a branch, a text with a dimension, a leaf twice, and no branch
 bad_trees : script_of (codes "tree V v=v[n]/F\ntree V v= v/F\ntree V c=c[3]/C\ntree V a=a/I b=a/I\ntree V") ≡ Bad 1 11 ∷ Bad 2 10 ∷ Bad 3 14 ∷ Bad 4 15 ∷ Bad 5 6 ∷ []
-unfolding scan_of commands_from line_command command_at tree_command_at branches_at more_branches_at branch_at branch_leaves_at branch_class_at more_leaves_at tree_leaf_at leaf_dim_at leaf_dimension glued_at glued_mark_at word_that_at end_at decimal written
+unfolding scan_of commands_from line_command command_at tree_command_at items_at further_at branch_at branch_leaves_at branch_class_at branch_leaf_at tree_leaf_at leaf_dim_at leaf_dimension glued_at glued_mark_at word_that_at end_at decimal written
 bad_trees = refl
+
+-- a leaf may be called `class`, but where one is, only a class can stand behind the word
+class_leaves : script_of (codes "tree V a=class/I\ntree V a=class/I b=class/I\ntree V a=class/I b=class:P") ≡
+    MakeTree (codes "V") (branch (codes "a") (leaf (codes "class") 73 One ∷ []) ∷ []) ∷ Bad 2 24
+    ∷ MakeTree (codes "V") (branch (codes "a") (leaf (codes "class") 73 One ∷ []) ∷ record { name = codes "b"; shape = Objects (codes "P") } ∷ []) ∷ []
+unfolding scan_of commands_from line_command command_at tree_command_at items_at further_at branch_at branch_leaves_at branch_class_at branch_leaf_at tree_leaf_at leaf_dim_at leaf_dimension glued_at glued_mark_at word_that_at end_at decimal written branch leaf
+class_leaves = refl
 
 -- ---- what is said
 

@@ -1,3 +1,5 @@
+pub mod CommandLaws
+pub mod CommandSpelling
 pub mod Costs
 pub mod ItemKeys
 pub mod Laws

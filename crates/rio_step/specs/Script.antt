@@ -1,14 +1,5 @@
 -- Scripts as texts are read: a command for each line that counts, a bad line with the place of the first token that can't
 -- stand.
---
---   put    = "put" ITEM value
---   delete = "delete" ITEM ";" NUM
---   tree   = "tree" ITEM branch {branch}
---   fill   = "fill" ITEM list
---   save   = "save" ITEM
---   get    = "get" ITEM [";" NUM] ["as" NUM]
---   scan   = "scan" ITEM ["as" NAME "#" NUM]
---   ls     = "ls"
 use Rattle.std.specs.Prelude.{◌≡◌, ℕ, ◌+◌, ℤ, pos, List, [], ◌∷◌, length, codes, Option, Some, None, Ok, Err, Bool, false, not, ◌==◌, if◌then◌else◌}
 use Rattle.std.specs.List.{filter}
 use Rattle.std.specs.Option.{option_map_or}

@@ -1,10 +1,5 @@
--- The branches of a tree as texts are read.
---
---   branch = NAME "=" ( leaf {":" leaf} | "class:" NAME )
---   leaf   = NAME ["[" (NUM | NAME) "]"] "/" LETTER
---
--- No blanks stand within a branch.
-use Rattle.std.specs.Prelude.{ℕ, zero, suc, List, [], ◌∷◌, ◌++◌, length, codes, Option, None, option_and_then, Ok, Bool, false, ◌&&◌, not, if◌then◌else◌}
+-- The branches of a tree as texts are read. No blanks stand within a branch.
+use Rattle.std.specs.Prelude.{ℕ, zero, suc, List, [], ◌∷◌, ◌++◌, length, codes, Option, None, option_and_then, Ok, Bool, false, ◌&&◌, ◌||◌, not, if◌then◌else◌}
 use Rattle.std.specs.Option.{option_map, option_map_or, option_or}
 use Rattle.std.specs.Str.{bytes_eq}
 use Rattle.rio_num.specs.At.{At}
@@ -40,11 +35,23 @@ is_glued_mark mark s = is_glued s && marked mark s
 unfoldable pub glued_mark_at : ℕ → At → Read (Unit {0})
 glued_mark_at mark s = taken_at (some_if (is_glued_mark mark s) tt) s
 
+-- ---- items one behind the other
+
+-- behind some items further ones, while one begins and so much of the text is left
+unfoldable pub further_at : {A : Type 0} → ℕ → (At → Bool) → (List A → At → Read A) → List A → At → Read (List A)
+further_at zero begins item items s = Ok (items, s)
+further_at (suc left) begins item items s =
+    if begins s then (item items s >>= λ next. further_at left begins item (items ++ next.0 ∷ []) next.1) else Ok (items, s)
+
+-- at least one item, each read in knowledge of those before it
+unfoldable pub items_at : {A : Type 0} → (At → Bool) → (List A → At → Read A) → At → Read (List A)
+items_at begins item s = item [] s >>= λ first. further_at (length first.1.rest) begins item (first.0 ∷ []) first.1
+
 -- ---- leaves, in knowledge of all leaves before them in the tree
 
 -- a name that no leaf has yet
-abbrev pub new_leaf_name : List Leaf → List ℕ → Option (List ℕ)
-new_leaf_name before word = some_if (is_name_text word && not (has_leaf before word)) word
+abbrev pub is_new_leaf : List Leaf → List ℕ → Bool
+is_new_leaf before word = is_name_text word && not (has_leaf before word)
 
 -- how many values there are, or which leaf before counts them
 unfoldable pub leaf_dimension : List Leaf → List ℕ → Option Dim
@@ -70,42 +77,43 @@ leaf_letter dim (letter ∷ other ∷ more) = None
 
 unfoldable pub tree_leaf_at : List Leaf → At → Read Leaf
 tree_leaf_at before s = do
-  name ← glued_at (new_leaf_name before) s
+  name ← glued_at (λ word. some_if (is_new_leaf before word) word) s
   dim ← leaf_dim_at before name.1
   passed ← glued_mark_at slash dim.1
   letter ← glued_at (leaf_letter dim.0) passed.1
   Ok (record { name = name.0; letter = letter.0; dim = dim.0 }, letter.1)
 
--- further leaves of a branch, each behind a colon, where so much of the text is left
-unfoldable pub more_leaves_at : ℕ → List Leaf → List Leaf → At → Read (List Leaf)
-more_leaves_at zero before own s = Ok (own, s)
-more_leaves_at (suc left) before own s =
-    if is_glued_mark colon s
-    then (tree_leaf_at (before ++ own) (behind s) >>= λ leaf. more_leaves_at left before (own ++ leaf.0 ∷ []) leaf.1)
-    else Ok (own, s)
+-- a leaf of a branch: behind others with a colon before it
+unfoldable pub branch_leaf_at : List Leaf → List Leaf → At → Read Leaf
+branch_leaf_at before [] s = tree_leaf_at before s
+branch_leaf_at before (leaf ∷ own) s = do
+  passed ← glued_mark_at colon s
+  tree_leaf_at (before ++ leaf ∷ own) passed.1
 
 unfoldable pub branch_leaves_at : List Leaf → At → Read Shape
 branch_leaves_at before s = do
-  first ← tree_leaf_at before s
-  leaves ← more_leaves_at (length first.1.rest) before (first.0 ∷ []) first.1
+  leaves ← items_at (is_glued_mark colon) (branch_leaf_at before) s
   Ok (Leaves leaves.0, leaves.1)
 
 -- ---- branches
 
--- class and a colon, which no leaf begins with
-abbrev pub opens_class : At → Bool
-opens_class s = option_map_or (λ word. bytes_eq word (codes "class")) (glued_word s) false && is_glued_mark colon (behind s)
+-- the word `class`
+abbrev pub comes_class : At → Bool
+comes_class s = option_map_or (λ word. bytes_eq word (codes "class")) (glued_word s) false
 
-abbrev pub class_name : List ℕ → Option (List ℕ)
-class_name word = some_if (is_name_text word) word
-
+-- the class of objects, behind the word `class`
 unfoldable pub branch_class_at : At → Read Shape
 branch_class_at s = do
-  class ← glued_at class_name s
+  passed ← glued_mark_at colon s
+  class ← glued_at (λ word. some_if (is_name_text word) word) passed.1
   Ok (Class class.0, class.1)
 
+-- A leaf may have the name `class`, if no colon stands behind it and no leaf before has the name.
+abbrev pub opens_class : List Leaf → At → Bool
+opens_class before s = comes_class s && (is_glued_mark colon (behind s) || has_leaf before (codes "class"))
+
 abbrev pub shape_at : List Leaf → At → Read Shape
-shape_at before s = if opens_class s then branch_class_at (behind (behind s)) else branch_leaves_at before s
+shape_at before s = if opens_class before s then branch_class_at (behind s) else branch_leaves_at before s
 
 -- a name that no branch has yet
 abbrev pub is_new_branch : List BranchDef → List ℕ → Bool
@@ -119,14 +127,10 @@ branch_at before s = do
   shape ← shape_at (all_leaves before) passed.1
   Ok (record { name = name.0; shape = shape.0 }, shape.1)
 
--- further branches up to the end, where so much of the text is left
-unfoldable pub more_branches_at : ℕ → List BranchDef → At → Read (List BranchDef)
-more_branches_at zero branches s = Ok (branches, s)
-more_branches_at (suc left) branches s =
-    if is_end (next_at s).token
-    then Ok (branches, s)
-    else (branch_at branches s >>= λ next. more_branches_at left (branches ++ next.0 ∷ []) next.1)
+-- the end doesn't come yet
+abbrev pub goes_on : At → Bool
+goes_on s = not (is_end (next_at s).token)
 
 -- at least one branch
-unfoldable pub branches_at : At → Read (List BranchDef)
-branches_at s = branch_at [] s >>= λ first. more_branches_at (length first.1.rest) (first.0 ∷ []) first.1
+abbrev pub branches_at : At → Read (List BranchDef)
+branches_at = items_at goes_on branch_at

@@ -3,9 +3,14 @@
 //! about them, and the fault that a version is refused for.
 #![tactic(auto)]
 
+mod command_laws;
 mod fault;
 mod laws;
 
+pub use command_laws::{
+    first_bad_command_tokens_are_told, lines_are_spelled, read_commands_are_spelled,
+    spelled_commands_are_read,
+};
 pub use fault::MapFault;
 pub use laws::{
     all_stay_fit, classes_stay_declared, each_says_its_reply, lowest_is_told, names_stay_apart,

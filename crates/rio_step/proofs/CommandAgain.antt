@@ -1,0 +1,218 @@
+-- What tokens spell as a command is read as it.
+use Rattle.std.proofs.Common.{◌≡◌, ℕ, ◌-◌, ℤ, pos, List, codes, true, false, Option, Some, None, Ok, refl, sym, ◌∙◌, ap, subst}
+use Rattle.rio_num.specs.At.{At}
+use Rattle.rio_num.specs.Word.{is_item_text, is_name_text}
+use Rattle.rio_types.specs.declared.class.Base.{Base}
+use Rattle.rio_types.specs.declared.class.ClassDef.{ClassDef}
+use Rattle.rio_value.specs.declared.value.Value.{Value, out-Value}
+use Rattle.rio_value.specs.declared.value.Value.TheOpen.{Value-F}
+use Rattle.rio_value.specs.declared.value.Value.TheOpen as layer
+use Rattle.rio_value.specs.declared.value.Part.{Part}
+use Rattle.rio_token.specs.declared.token.Token.TheVariants.{End}
+use Rattle.rio_token.specs.Reading.{Read, end_at, item_at, marked, next_word}
+use Rattle.rio_token.specs.Tokens.{behind, next_at}
+use Rattle.rio_leaf.specs.declared.branch.BranchDef.{BranchDef}
+use Rattle.rio_model.specs.Lexemes.{IsNext, Lexeme, Stand, word}
+use Rattle.rio_model.specs.ValueGrammar.{bracket_limit}
+use Rattle.rio_model.specs.ValueSpelling.{ends_here}
+use Rattle.rio_model.proofs.ClassAgain.{spelled_classes_are_read}
+use Rattle.rio_model.proofs.LexemeLaws.{bounded_again, mark_again, marked_again, num_again, stand_split, word_not_marked, word_that_again}
+use Rattle.rio_model.proofs.ValueAgain.{spelled_are_read}
+use Rattle.rio_machine.specs.declared.command.Command.{Command}
+use Rattle.rio_machine.specs.declared.command.Command.TheVariants.{Bad, Class, Put, Delete, Tree as MakeTree, Fill, Save, Get, Scan, Ls}
+use Rattle.rio_step.specs.CommandLaws.{SpelledCommandsAreRead}
+use Rattle.rio_step.specs.CommandSpelling.{SpellsAskedClass, SpellsAskedVersion, SpellsCommand, SpellsCycle, SpellsIfSome}
+use Rattle.rio_step.specs.Script.{asked_class_at, asked_version_at, command_at, comes_next, cycle_at, delete_command_at, ended_at, fill_command_at, get_command_at, in_version, put_command_at, save_command_at, scan_command_at, tree_command_at}
+use Rattle.rio_step.proofs.TellsLaws.{next_again}
+use Rattle.rio_step.proofs.TreeAgain.{branches_again}
+
+end_again : (s : At) → (next_at s).token ≡ End → end_at s ≡ Ok (tt, behind s)
+unfolding end_at
+end_again s h = rw h refl
+
+-- what follows a value at the end of a line
+value_ends : (y : Value-F Value Part) (t : At) → (next_at t).token ≡ End → ends_here y t ≡ true
+value_ends (layer.Bool b) t h = rw h refl
+value_ends layer.Null t h = rw h refl
+value_ends (layer.Back label) t h = rw h refl
+value_ends other t h = refl
+
+-- a command that stands behind its verb
+ended : (r : Read Command) (c : Command) (here : At) → r ≡ Ok (c, here) → (next_at here).token ≡ End → ended_at r ≡ Ok (c, behind here)
+ended r c here h end = let done = end_again here end in rw (h, done) refl
+
+no_mark_at_end : (b : ℕ) (t : At) → (next_at t).token ≡ End → marked b t ≡ false
+no_mark_at_end b t h = rw h refl
+
+no_word_at_end : (w : List ℕ) (t : At) → (next_at t).token ≡ End → comes_next w t ≡ false
+no_word_at_end w t h = rw h refl
+
+-- ---- what may stand behind a name
+
+cycle_again : (cycle : Option ℕ) (ls : List Lexeme) (s t : At) → SpellsIfSome SpellsCycle cycle ls → Stand ls s t → marked 59 t ≡ false → cycle_at s ≡ Ok (cycle, t)
+unfolding cycle_at
+cycle_again None ls s t c h not_so =
+    let e : t ≡ s = subst (λ (l : List Lexeme). Stand l s t) c h in
+    let here : marked 59 s ≡ false = subst (λ (a : At). marked 59 a ≡ false) e not_so in
+    rw (here, e) refl
+cycle_again (Some cycle) ls s t c h not_so =
+    let n = subst (λ (l : List Lexeme). Stand l s t) c.2 h in
+    let here : marked 59 s ≡ true = marked_again 59 59 s n.0 in
+    let one = num_again c.0 cycle (behind s) n.1.0 c.1 in
+    rw (here, one, n.1.1) refl
+
+comes_again : (w : List ℕ) (s : At) → IsNext (word w) s → next_word s ≡ Some w
+comes_again w s h = next_again w s h
+
+version_again : (version : Option ℤ) (ls : List Lexeme) (s t : At) → SpellsIfSome SpellsAskedVersion version ls → Stand ls s t → (next_at t).token ≡ End → asked_version_at s ≡ Ok (version, t)
+unfolding asked_version_at
+version_again None ls s t c h end =
+    let e : t ≡ s = subst (λ (l : List Lexeme). Stand l s t) c h in
+    let here : comes_next (codes "as") s ≡ false = subst (λ (a : At). comes_next (codes "as") a ≡ false) e (no_word_at_end (codes "as") t end) in
+    rw (here, e) refl
+version_again (Some version) ls s t c h end =
+    let n = subst (λ (l : List Lexeme). Stand l s t) c.2 h in
+    let v = c.1 in
+    let next = next_again (codes "as") s n.0 in
+    let one = bounded_again 1 32767 c.0 v.0 (behind s) n.1.0 v.2 in
+    let same : pos v.0 ≡ version = sym v.1 in
+    rw (next, one, n.1.1, same) refl
+
+class_is : (class : Base) (v : ℕ) → class.version ≡ pos v → in_version class.name v ≡ class
+class_is class v e = ap (λ (z : ℤ). let x : Base = record { name = class.name; version = z } in x) (sym e)
+
+class_again : (class : Option Base) (ls : List Lexeme) (s t : At) → SpellsIfSome SpellsAskedClass class ls → Stand ls s t → (next_at t).token ≡ End → asked_class_at s ≡ Ok (class, t)
+unfolding asked_class_at
+class_again None ls s t c h end =
+    let e : t ≡ s = subst (λ (l : List Lexeme). Stand l s t) c h in
+    let here : comes_next (codes "as") s ≡ false = subst (λ (a : At). comes_next (codes "as") a ≡ false) e (no_word_at_end (codes "as") t end) in
+    rw (here, e) refl
+class_again (Some class) ls s t c h end =
+    let n = subst (λ (l : List Lexeme). Stand l s t) c.3 h in
+    let v = c.1 in
+    let next = next_again (codes "as") s n.0 in
+    let name = word_that_again is_name_text class.name (behind s) n.1.0 c.2 in
+    let sign = mark_again 35 (behind (behind s)) n.1.1.0 in
+    let one = bounded_again 1 32767 c.0 v.0 (behind (behind (behind s))) n.1.1.1.0 v.2 in
+    let same = class_is class v.0 v.1 in
+    rw (next, name, sign, one, n.1.1.1.1, same) refl
+
+-- ---- verbs
+
+item_again : (name : List ℕ) (s : At) → IsNext (word name) s → is_item_text name ≡ true → item_at s ≡ Ok (name, behind s)
+item_again name s h item = word_that_again is_item_text name s h item
+
+put_again : (name : List ℕ) (v : Value) (ls : List Lexeme) (old here : At) → SpellsCommand bracket_limit (Put name v) ls → Stand ls old here → (next_at here).token ≡ End → command_at old ≡ Ok (Put name v, behind here)
+unfolding command_at put_command_at
+put_again name v ls old here c h end =
+    let n = subst (λ (l : List Lexeme). Stand l old here) c.1 h in
+    let verb = next_again (codes "put") old n.0 in
+    let item = item_again name (behind old) n.1.0 c.2 in
+    let one = spelled_are_read.value bracket_limit v c.0 (behind (behind old)) here c.3 n.1.1 (value_ends (out-Value v) here end) in
+    let done = end_again here end in
+    rw (verb, item, one, done) refl
+
+delete_again : (name : List ℕ) (cycle : ℕ) (ls : List Lexeme) (old here : At) → SpellsCommand bracket_limit (Delete name cycle) ls → Stand ls old here → (next_at here).token ≡ End → command_at old ≡ Ok (Delete name cycle, behind here)
+unfolding command_at delete_command_at
+delete_again name cycle ls old here c h end =
+    let n = subst (λ (l : List Lexeme). Stand l old here) c.1 h in
+    let d = c.3 in
+    let m = subst (λ (l : List Lexeme). Stand l (behind (behind old)) here) d.2 n.1.1 in
+    let verb = next_again (codes "delete") old n.0 in
+    let item = item_again name (behind old) n.1.0 c.2 in
+    let passed = mark_again 59 (behind (behind old)) m.0 in
+    let one = num_again d.0 cycle (behind (behind (behind old))) m.1.0 d.1 in
+    let done = subst (λ (a : At). end_at a ≡ Ok (tt, behind here)) m.1.1 (end_again here end) in
+    rw (verb, item, passed, one, done) refl
+
+tree_again : (name : List ℕ) (branches : List BranchDef) (ls : List Lexeme) (old here : At) → SpellsCommand bracket_limit (MakeTree name branches) ls → Stand ls old here → (next_at here).token ≡ End → command_at old ≡ Ok (MakeTree name branches, behind here)
+unfolding command_at tree_command_at
+tree_again name branches ls old here c h end =
+    let n = subst (λ (l : List Lexeme). Stand l old here) c.1 h in
+    let verb = next_again (codes "tree") old n.0 in
+    let item = item_again name (behind old) n.1.0 c.2 in
+    let one = branches_again branches c.0 (behind (behind old)) here c.3 n.1.1 end in
+    let done = end_again here end in
+    rw (verb, item, one, done) refl
+
+fill_again : (name : List ℕ) (row : List Value) (ls : List Lexeme) (old here : At) → SpellsCommand bracket_limit (Fill name row) ls → Stand ls old here → (next_at here).token ≡ End → command_at old ≡ Ok (Fill name row, behind here)
+unfolding command_at fill_command_at
+fill_again name row ls old here c h end =
+    let n = subst (λ (l : List Lexeme). Stand l old here) c.1 h in
+    let verb = next_again (codes "fill") old n.0 in
+    let item = item_again name (behind old) n.1.0 c.2 in
+    let one = spelled_are_read.row (bracket_limit - 1) row c.0 (behind (behind old)) here c.3 n.1.1 in
+    let done = end_again here end in
+    rw (verb, item, one, done) refl
+
+save_again : (name : List ℕ) (ls : List Lexeme) (old here : At) → SpellsCommand bracket_limit (Save name) ls → Stand ls old here → (next_at here).token ≡ End → command_at old ≡ Ok (Save name, behind here)
+unfolding command_at save_command_at
+save_again name ls old here c h end =
+    let n = subst (λ (l : List Lexeme). Stand l old here) c.1 h in
+    let e : here ≡ behind (behind old) = subst (λ (l : List Lexeme). Stand l (behind (behind old)) here) c.3 n.1.1 in
+    let verb = next_again (codes "save") old n.0 in
+    let item = item_again name (behind old) n.1.0 c.2 in
+    let done = subst (λ (a : At). end_at a ≡ Ok (tt, behind here)) e (end_again here end) in
+    rw (verb, item, done) refl
+
+get_again : (name : List ℕ) (cycle : Option ℕ) (version : Option ℤ) (ls : List Lexeme) (old here : At) → SpellsCommand bracket_limit (Get name cycle version) ls → Stand ls old here → (next_at here).token ≡ End
+    → command_at old ≡ Ok (Get name cycle version, behind here)
+unfolding command_at get_command_at
+get_again name cycle version ls old here c h end =
+    let n = subst (λ (l : List Lexeme). Stand l old here) c.1 h in
+    let d = c.3 in
+    let r = stand_split d.0 d.1 (behind (behind old)) here (subst (λ (l : List Lexeme). Stand l (behind (behind old)) here) d.2 n.1.1) in
+    let verb = next_again (codes "get") old n.0 in
+    let item = item_again name (behind old) n.1.0 c.2 in
+    let one = cycle_again cycle d.0 (behind (behind old)) r.0 d.3 r.1 (no_cycle version d.1 r.0 here d.4 r.2 end) in
+    let two = version_again version d.1 r.0 here d.4 r.2 end in
+    let done = end_again here end in
+    rw (verb, item, one, two, done) refl
+  where
+    no_cycle : (version : Option ℤ) (back : List Lexeme) (s t : At) → SpellsIfSome SpellsAskedVersion version back → Stand back s t → (next_at t).token ≡ End → marked 59 s ≡ false
+    no_cycle None back s t c h end =
+        let e : t ≡ s = subst (λ (l : List Lexeme). Stand l s t) c h in
+        subst (λ (a : At). marked 59 a ≡ false) e (no_mark_at_end 59 t end)
+    no_cycle (Some version) back s t c h end = word_not_marked (codes "as") 59 s (subst (λ (l : List Lexeme). Stand l s t) c.2 h).0
+
+scan_again : (name : List ℕ) (class : Option Base) (ls : List Lexeme) (old here : At) → SpellsCommand bracket_limit (Scan name class) ls → Stand ls old here → (next_at here).token ≡ End → command_at old ≡ Ok (Scan name class, behind here)
+unfolding command_at scan_command_at
+scan_again name class ls old here c h end =
+    let n = subst (λ (l : List Lexeme). Stand l old here) c.1 h in
+    let verb = next_again (codes "scan") old n.0 in
+    let item = item_again name (behind old) n.1.0 c.2 in
+    let one = class_again class c.0 (behind (behind old)) here c.3 n.1.1 end in
+    let done = end_again here end in
+    rw (verb, item, one, done) refl
+
+ls_again : (ls : List Lexeme) (old here : At) → SpellsCommand bracket_limit Ls ls → Stand ls old here → (next_at here).token ≡ End → command_at old ≡ Ok (Ls, behind here)
+unfolding command_at
+ls_again ls old here c h end =
+    let n = subst (λ (l : List Lexeme). Stand l old here) c h in
+    let verb = next_again (codes "ls") old n.0 in
+    let done = subst (λ (a : At). end_at a ≡ Ok (tt, behind here)) n.1 (end_again here end) in
+    rw (verb, done) refl
+
+declaration_again : (class : ClassDef) (ls : List Lexeme) (old here : At) → SpellsCommand bracket_limit (Class class) ls → Stand ls old here → (next_at here).token ≡ End → command_at old ≡ Ok (Class class, behind here)
+unfolding command_at
+declaration_again class ls old here c h end =
+    let verb = next_again (codes "class") old (subst (λ (l : List Lexeme). Stand l old here) c.tokens h).0 in
+    let one = spelled_classes_are_read class ls old here c h end in
+    rw (verb, one) refl
+
+stands_again : (c : Command) (ls : List Lexeme) (old here : At) → SpellsCommand bracket_limit c ls → Stand ls old here → (next_at here).token ≡ End → command_at old ≡ Ok (c, behind here)
+stands_again (Bad line place) ls old here c h end = absurd c
+stands_again (Class class) ls old here c h end = declaration_again class ls old here c h end
+stands_again (Put name v) ls old here c h end = put_again name v ls old here c h end
+stands_again (Delete name cycle) ls old here c h end = delete_again name cycle ls old here c h end
+stands_again (MakeTree name branches) ls old here c h end = tree_again name branches ls old here c h end
+stands_again (Fill name row) ls old here c h end = fill_again name row ls old here c h end
+stands_again (Save name) ls old here c h end = save_again name ls old here c h end
+stands_again (Get name cycle version) ls old here c h end = get_again name cycle version ls old here c h end
+stands_again (Scan name class) ls old here c h end = scan_again name class ls old here c h end
+stands_again Ls ls old here c h end = ls_again ls old here c h end
+
+pub spelled_commands_are_read : SpelledCommandsAreRead
+spelled_commands_are_read c old new d =
+    let e = d.2 in
+    stands_again c d.0 old e.0 d.1 e.1 e.2 ∙ ap (λ (a : At). let r : Read Command = Ok (c, a) in r) (sym e.3)

@@ -1,0 +1,108 @@
+-- Commands as tokens spell them, by cases on the command. What has several spellings has them in the blanks between its
+-- tokens, and in its value.
+use Rattle.std.specs.Prelude.{◌≡◌, ℕ, ◌-◌, ℤ, pos, List, [], ◌∷◌, ◌++◌, codes, Option, Some, None, true}
+use Rattle.rio_num.specs.Word.{is_item_text, is_name_text}
+use Rattle.rio_types.specs.declared.class.Base.{Base}
+use Rattle.rio_token.specs.Marks.{closing_bracket, colon, equals_sign, number_sign, opening_bracket, semicolon, slash}
+use Rattle.rio_token.specs.Words.{num_between_of, num_of}
+use Rattle.rio_leaf.specs.declared.branch.BranchDef.{BranchDef}
+use Rattle.rio_leaf.specs.declared.branch.Shape.{Shape}
+use Rattle.rio_leaf.specs.declared.branch.Shape.TheVariants.{Leaves, Class as Objects}
+use Rattle.rio_leaf.specs.declared.leaf.Dim.{Dim}
+use Rattle.rio_leaf.specs.declared.leaf.Dim.TheVariants.{One}
+use Rattle.rio_leaf.specs.declared.leaf.Leaf.{Leaf}
+use Rattle.rio_leaf.specs.Stated.{all_leaves}
+use Rattle.rio_model.specs.ClassSpelling.{SpellsDeclaration}
+use Rattle.rio_model.specs.Lexemes.{Lexeme, glued, mark, word}
+use Rattle.rio_model.specs.ValueSpelling.{SpellsRow, SpellsValue}
+use Rattle.rio_machine.specs.declared.command.Command.{Command}
+use Rattle.rio_machine.specs.declared.command.Command.TheVariants.{Bad, Class, Put, Delete, Tree as MakeTree, Fill, Save, Get, Scan, Ls}
+use Rattle.rio_step.specs.TreeGrammar.{is_new_branch, is_new_leaf, leaf_dimension, leaf_letter}
+
+-- ---- the branches of a tree
+
+-- items one behind the other, each spelled in knowledge of those before it
+abbrev pub SpellsEach : {A : Type 0} → (List A → A → List Lexeme → Type 0) → List A → List A → List Lexeme → Type 0
+SpellsEach Spells before [] ls = ls ≡ []
+SpellsEach Spells before (x ∷ xs) ls =
+    (own : List Lexeme) × (others : List Lexeme) × (ls ≡ own ++ others) × Spells before x own × SpellsEach Spells (before ++ x ∷ []) xs others
+
+-- at least one
+abbrev pub SpellsSome : {A : Type 0} → (List A → A → List Lexeme → Type 0) → List A → List Lexeme → Type 0
+SpellsSome Spells [] ls = ⊥
+SpellsSome Spells (x ∷ xs) ls = SpellsEach Spells [] (x ∷ xs) ls
+
+-- how many values a leaf has: a number or the name of a leaf that counts, in square brackets, or nothing for one value
+abbrev pub SpellsDim : List Leaf → Dim → List Lexeme → Type 0
+SpellsDim before One ls = ls ≡ []
+SpellsDim before dim ls =
+    (w : List ℕ) × (leaf_dimension before w ≡ Some dim)
+    × (ls ≡ glued (mark opening_bracket) ∷ glued (word w) ∷ glued (mark closing_bracket) ∷ [])
+
+-- NAME[..]/LETTER
+abbrev pub SpellsLeaf : List Leaf → Leaf → List Lexeme → Type 0
+SpellsLeaf before leaf ls =
+    (inside : List Lexeme) × (w : List ℕ) × (ls ≡ glued (word leaf.name) ∷ (inside ++ glued (mark slash) ∷ glued (word w) ∷ []))
+    × (is_new_leaf before leaf.name ≡ true) × SpellsDim before leaf.dim inside × (leaf_letter leaf.dim w ≡ Some leaf.letter)
+
+-- behind other leaves of its branch with a colon before it
+abbrev pub SpellsNextLeaf : List Leaf → List Leaf → Leaf → List Lexeme → Type 0
+SpellsNextLeaf before [] leaf ls = SpellsLeaf before leaf ls
+SpellsNextLeaf before (l ∷ own) leaf ls =
+    (inside : List Lexeme) × (ls ≡ glued (mark colon) ∷ inside) × SpellsLeaf (before ++ l ∷ own) leaf inside
+
+abbrev pub SpellsShape : List Leaf → Shape → List Lexeme → Type 0
+SpellsShape before (Leaves leaves) ls = SpellsSome (SpellsNextLeaf before) leaves ls
+SpellsShape before (Objects class) ls =
+    (is_name_text class ≡ true) × (ls ≡ glued (word (codes "class")) ∷ glued (mark colon) ∷ glued (word class) ∷ [])
+
+-- NAME=..
+abbrev pub SpellsBranch : List BranchDef → BranchDef → List Lexeme → Type 0
+SpellsBranch before b ls =
+    (inside : List Lexeme) × (ls ≡ word b.name ∷ glued (mark equals_sign) ∷ inside) × (is_new_branch before b.name ≡ true)
+    × SpellsShape (all_leaves before) b.shape inside
+
+-- ---- commands
+
+-- a verb and a name before something
+abbrev pub SpellsBehind : List ℕ → List ℕ → (List Lexeme → Type 0) → List Lexeme → Type 0
+SpellsBehind verb name Spells ls = (own : List Lexeme) × (ls ≡ word verb ∷ word name ∷ own) × (is_item_text name ≡ true) × Spells own
+
+abbrev pub SpellsCycle : ℕ → List Lexeme → Type 0
+SpellsCycle cycle ls = (digits : List ℕ) × (num_of digits ≡ Some cycle) × (ls ≡ mark semicolon ∷ word digits ∷ [])
+
+-- these digits tell a version of a class
+abbrev pub IsVersion : List ℕ → ℤ → Type 0
+IsVersion digits version = (n : ℕ) × (version ≡ pos n) × (num_between_of 1 32767 digits ≡ Some n)
+
+abbrev pub SpellsAskedVersion : ℤ → List Lexeme → Type 0
+SpellsAskedVersion version ls = (digits : List ℕ) × IsVersion digits version × (ls ≡ word (codes "as") ∷ word digits ∷ [])
+
+abbrev pub SpellsAskedClass : Base → List Lexeme → Type 0
+SpellsAskedClass class ls =
+    (digits : List ℕ) × IsVersion digits class.version × (is_name_text class.name ≡ true)
+    × (ls ≡ word (codes "as") ∷ word class.name ∷ mark number_sign ∷ word digits ∷ [])
+
+-- something, or nothing
+abbrev pub SpellsIfSome : {A : Type 0} → (A → List Lexeme → Type 0) → Option A → List Lexeme → Type 0
+SpellsIfSome Spells None ls = ls ≡ []
+SpellsIfSome Spells (Some x) ls = Spells x ls
+
+-- what may stand behind the name in a `get`
+abbrev pub SpellsAsked : Option ℕ → Option ℤ → List Lexeme → Type 0
+SpellsAsked cycle version ls =
+    (front : List Lexeme) × (back : List Lexeme) × (ls ≡ front ++ back) × SpellsIfSome SpellsCycle cycle front
+    × SpellsIfSome SpellsAskedVersion version back
+
+-- these tokens spell the command, with at most so many brackets of a value within one another
+abbrev pub SpellsCommand : ℕ → Command → List Lexeme → Type 0
+SpellsCommand levels (Bad line place) ls = ⊥
+SpellsCommand levels (Class class) ls = SpellsDeclaration class ls
+SpellsCommand levels (Put name value) ls = SpellsBehind (codes "put") name (SpellsValue levels value) ls
+SpellsCommand levels (Delete name cycle) ls = SpellsBehind (codes "delete") name (SpellsCycle cycle) ls
+SpellsCommand levels (MakeTree name branches) ls = SpellsBehind (codes "tree") name (SpellsSome SpellsBranch branches) ls
+SpellsCommand levels (Fill name row) ls = SpellsBehind (codes "fill") name (SpellsRow (levels - 1) row) ls
+SpellsCommand levels (Save name) ls = SpellsBehind (codes "save") name (λ own. own ≡ []) ls
+SpellsCommand levels (Get name cycle version) ls = SpellsBehind (codes "get") name (SpellsAsked cycle version) ls
+SpellsCommand levels (Scan name class) ls = SpellsBehind (codes "scan") name (SpellsIfSome SpellsAskedClass class) ls
+SpellsCommand levels Ls ls = ls ≡ word (codes "ls") ∷ []
