@@ -19,7 +19,7 @@ use Rattle.rio_leaf.proofs.FreshNames.{name_left}
 use Rattle.rio_leaf.proofs.LeafAgain.{dim_again, ends_dim, said_there}
 use Rattle.rio_leaf.proofs.LeafFound.{begins, byte_found, dim_found, dim_word, leaf_is, letter_one, said_found, where_true}
 use Rattle.rio_leaf.proofs.TokenLaws.{same_begins, same_length}
-use Rattle.rio_leaf.proofs.ToldLaws.{Known, NoWordGoesOn, Told, bind_told, byte_told, end_told, ends_behind, ends_in_word, handed_told, said_told, told_behind}
+use Rattle.rio_leaf.proofs.ToldLaws.{Known, NoWordRuns, Told, bind_told, byte_told, end_told, ends_behind, ends_in_word, handed_told, said_told, told_behind}
 
 -- ---- what was read
 
@@ -82,7 +82,7 @@ dim_known before name s dim m h =
 -- other bytes behind these make them the text of a leaf that may stand behind those before
 abbrev pub LeafBegins : List Leaf → List ℕ → Type 0
 LeafBegins before front =
-    length before < 2 ^ 32 → (more : List ℕ) × (leaf : Leaf) × NoWordGoesOn front more × (is_leaf_behind before leaf ≡ true) × (front ++ more ≡ text_of_leaf leaf)
+    length before < 2 ^ 32 → (more : List ℕ) × (leaf : Leaf) × NoWordRuns front more × (is_leaf_behind before leaf ≡ true) × (front ++ more ≡ text_of_leaf leaf)
 
 letter_i : (dim : Dim) → is_letter_of dim 73 ≡ true
 letter_i One = refl

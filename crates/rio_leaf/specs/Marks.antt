@@ -25,11 +25,8 @@ abbrev pub letter_of_counters : ℕ
 letter_of_counters = 73
 
 -- the letters of leaves
-abbrev pub leaf_letters : List ℕ
-leaf_letters = codes "BbSsIiLlFDOC"
-
 abbrev pub is_leaf_letter : ℕ → Bool
-is_leaf_letter b = list_any (λ letter. b == letter) leaf_letters
+is_leaf_letter b = list_any (λ letter. b == letter) (codes "BbSsIiLlFDOC")
 
 -- a space or a tab
 abbrev pub is_blank_byte : ℕ → Bool
