@@ -1,5 +1,5 @@
 -- Words that are no dimension.
-use Rattle.std.proofs.Common.{◌≡◌, ℕ, ◌+◌, ◌*◌, ◌<◌, ◌≤◌, List, [], ◌∷◌, length, drop, get_or, slice_index, Bool, true, false, ◌==◌, ◌&&◌, not, refl, sym, ap, ◌∙◌, arith, le_refl, le_trans}
+use Rattle.std.proofs.Common.{◌≡◌, ℕ, ◌+◌, ◌*◌, ◌<◌, ◌≤◌, List, [], ◌∷◌, length, drop, get_or, slice_index, false, ◌==◌, ◌&&◌, not, refl, sym, ap, ◌∙◌, arith, le_refl, le_trans}
 use Rattle.std.specs.Char.{is_ascii_digit, digit_value}
 use Rattle.std.specs.Str.{all_ascii_digits}
 use Rattle.std.specs.Str.Parse.{digits_value, digits_value_after}
