@@ -1,8 +1,8 @@
 -- A name is left where few leaves are.
-use Rattle.std.proofs.Common.{◌≡◌, inl, inr, ℕ, zero, suc, ◌+◌, ◌*◌, ◌^◌, ◌<◌, ◌≤◌, List, [], ◌∷◌, length, Bool, true, false, ◌==◌, ◌||◌, if◌then◌else◌, refl, arith}
+use Rattle.std.proofs.Common.{◌≡◌, inl, inr, ℕ, zero, suc, ◌+◌, ◌*◌, ◌^◌, ◌<◌, ◌≤◌, List, [], ◌∷◌, length, Bool, true, false, ◌==◌, if◌then◌else◌, refl, arith}
 use Rattle.std.specs.List.{list_all, list_any}
 use Rattle.std.specs.Str.{bytes_eq}
-use Rattle.std.proofs.lemmas.Bool.{cases_lt, eqb-true}
+use Rattle.std.proofs.lemmas.Bool.{cases_lt, eqb-true, or_from, or_parts}
 use Rattle.rio_num.specs.Word.{goes_on_name, is_name_text}
 use Rattle.rio_leaf.specs.declared.leaf.Dim.{Dim}
 use Rattle.rio_leaf.specs.declared.leaf.Dim.TheVariants.{One, Fixed, Counted}
@@ -33,14 +33,10 @@ few [] = omega arith
 few ([] ∷ names) = omega (arith, few names)
 few ((c ∷ cs) ∷ names) = few_by c cs names (c == 97) (c == 98) refl refl (few names)
 
-neither : (a b : Bool) → (a || b) ≡ false → (a ≡ false) × (b ≡ false)
-neither true b h = absurd (cc)
-neither false b h = (refl, h)
-
 new_by : (b c : ℕ) (cs name : List ℕ) (names : List (List ℕ)) (t : Bool) → (c == b) ≡ t
     → holds (if t then cs ∷ behind b names else behind b names) name ≡ false
     → (holds (behind b names) name ≡ false → holds names (b ∷ name) ≡ false) → holds ((c ∷ cs) ∷ names) (b ∷ name) ≡ false
-new_by b c cs name names true t h ih = let parts = neither (bytes_eq cs name) (holds (behind b names) name) h in rw (t, parts.0, ih parts.1) refl
+new_by b c cs name names true t h ih = let parts = or_parts (bytes_eq cs name) (holds (behind b names) name) h in rw (t, parts.0, ih parts.1) refl
 new_by b c cs name names false t h ih = rw (t, ih h) refl
 
 -- a name is new if what stands behind its first byte is
@@ -102,15 +98,15 @@ at_most_two (leaf ∷ leaves) = omega (arith, one_more leaf.dim (names_of leaves
 counter_new : (dim : Dim) (name : List ℕ) (names : List (List ℕ)) → holds (with_counter dim names) name ≡ false → (is_dim_by dim name ≡ false) × (holds names name ≡ false)
 counter_new One name names h = (refl, h)
 counter_new (Fixed n) name names h = (refl, h)
-counter_new (Counted counter times) name names h = neither (bytes_eq counter name) (holds names name) h
+counter_new (Counted counter times) name names h = or_parts (bytes_eq counter name) (holds names name) h
 
 both_new : (leaves : List Leaf) (name : List ℕ) → holds (names_of leaves) name ≡ false → (has_leaf leaves name ≡ false) × (has_counted_leaf leaves name ≡ false)
 both_new [] name h = (refl, refl)
 both_new (leaf ∷ leaves) name h =
-    let own = neither (bytes_eq leaf.name name) (holds (with_counter leaf.dim (names_of leaves)) name) h in
+    let own = or_parts (bytes_eq leaf.name name) (holds (with_counter leaf.dim (names_of leaves)) name) h in
     let counter = counter_new leaf.dim name (names_of leaves) own.1 in
     let others = both_new leaves name counter.1 in
-    (rw (own.0, others.0) refl, rw (counter.0, others.1) refl)
+    (or_from _ _ own.0 others.0, or_from _ _ counter.0 others.1)
 
 -- a name that a leaf behind these may have
 pub record IsLeft (before : List Leaf) : Type 0 where

@@ -19,7 +19,7 @@ use Rattle.rio_leaf.specs.Leaves.{counts_for, is_dim, is_leaf_count, is_letter_o
 use Rattle.rio_leaf.specs.Marks.{before_dimension, is_leaf_letter, letter_of_texts}
 use Rattle.rio_leaf.specs.Reading.{ReadLeaf, begins_with, byte_at, dim_at, dim_of, from_place, leaf_at, leaf_name_of, letter_in, no_more_at, said_at}
 use Rattle.rio_leaf.specs.Spelling.{is_leaf_behind, text_of_dim, text_of_leaf}
-use Rattle.rio_leaf.proofs.DigitLaws.{second_false}
+use Rattle.rio_leaf.proofs.DigitLaws.{not_digits}
 
 -- no byte of a word comes next
 abbrev pub Stops : List ℕ → Type 0
@@ -108,7 +108,7 @@ module _ (before : List Leaf) (name : List ℕ) where
 
   counter_again : (counter : List ℕ) → is_name_text counter ≡ true → counts_for before name counter ≡ true → dim_of before name counter ≡ Some (Counted counter 1)
   unfolding dim_of
-  counter_again counter named counts = rw (second_false (not (slice_index counter 0 == 48)) (all_ascii_digits counter) (is_leaf_count (digits_value 10 counter)) (name_no_digits counter named), named, counts) refl
+  counter_again counter named counts = rw (not_digits counter (name_no_digits counter named), named, counts) refl
 
   bracketed : (p : ℕ) (word rest : List ℕ) (dim : Dim) → IsOfWord word → dim_of before name word ≡ Some dim
       → dim_at before name (from_place p ((91 ∷ (word ++ 93 ∷ [])) ++ rest)) ≡ Ok (dim, from_place (p + length (91 ∷ (word ++ 93 ∷ []))) rest)

@@ -7,6 +7,7 @@ use Rattle.std.specs.Str.Parse.{digits_value}
 use Rattle.std.proofs.lemmas.Bool.{and_parts, eqb-true}
 use Rattle.std.proofs.lemmas.Fmt.{decimal-digits_value}
 use Rattle.std.proofs.lemmas.List.{take-append-drop}
+use Rattle.std.proofs.lemmas.List.Folds.{length-prefix_len}
 use Rattle.rio_num.specs.At.{At}
 use Rattle.rio_num.specs.Reading.{◌>>=◌, skip}
 use Rattle.rio_num.specs.Word.{is_item_byte, is_name_text}
@@ -19,7 +20,7 @@ use Rattle.rio_leaf.specs.Leaves.{counts_for, is_dim, is_leaf_count, is_letter_o
 use Rattle.rio_leaf.specs.Reading.{ReadLeaf, begins_with, bracketed_at, byte_at, dim_at, dim_of, found_at, is_dimension, leaf_at, leaf_name_of, letter_in, no_more_at, said_at, some_where, word_length}
 use Rattle.rio_leaf.specs.Spelling.{is_leaf_behind, text_of_dim, text_of_leaf}
 use Rattle.rio_leaf.proofs.LeafAgain.{count_bounds, ends_dim, own}
-use Rattle.rio_leaf.proofs.TokenLaws.{all_of_word, length_of_word, word_stops}
+use Rattle.rio_leaf.proofs.TokenLaws.{all_of_word, word_stops}
 
 -- a word was passed, which says this
 pub record Said {A : Type 0} (says : List ℕ → Option A) (x : A) (s s' : At) : Type 0 where
@@ -46,7 +47,7 @@ module _ {A : Type 0} (x : A) (s s' : At) where
         word = take n s.rest;
         is = both.0;
         parts = sym (take-append-drop n s.rest) ∙ ap (λ (t : At). take n s.rest ++ t.rest) both.1;
-        place = ap (λ (t : At). t.place) (sym both.1) ∙ ap (λ (k : ℕ). s.place + k) (sym (length_of_word s.rest));
+        place = ap (λ (t : At). t.place) (sym both.1) ∙ ap (λ (k : ℕ). s.place + k) (sym (length-prefix_len is_item_byte s.rest));
         all = all_of_word s.rest;
         ends = ap (λ (t : At). word_length t.rest) (sym both.1) ∙ word_stops s.rest;
       }
@@ -177,32 +178,30 @@ pub record LeafFound (before : List Leaf) (leaf : Leaf) (text : List ℕ) : Type
 abbrev pub leaf_is : List ℕ → Dim → ℕ → Leaf
 leaf_is name dim letter = record { name = name; letter = letter; dim = dim }
 
-abbrev to_leaf : List ℕ → Dim → ℕ → Unit {0} × At → ReadLeaf Leaf
-to_leaf name dim letter ended = Ok (leaf_is name dim letter, ended.1)
+-- how the reading of a leaf goes on
+abbrev pub to_leaf : List ℕ → Dim → ℕ → At → ReadLeaf Leaf
+to_leaf name dim letter m = no_more_at m >>= λ ended. Ok (leaf_is name dim letter, ended.1)
 
-abbrev to_end : List ℕ → Dim → ℕ × At → ReadLeaf Leaf
-to_end name dim letter = no_more_at letter.1 >>= to_leaf name dim letter.0
+abbrev pub to_letter : List ℕ → Dim → At → ReadLeaf Leaf
+to_letter name dim m = said_at (letter_in dim) m >>= λ letter. to_leaf name dim letter.0 letter.1
 
-abbrev to_letter : List ℕ → Dim → Unit {0} × At → ReadLeaf Leaf
-to_letter name dim passed = said_at (letter_in dim) passed.1 >>= to_end name dim
+abbrev pub to_slash : List ℕ → Dim → At → ReadLeaf Leaf
+to_slash name dim m = byte_at 47 m >>= λ passed. to_letter name dim passed.1
 
-abbrev to_slash : List ℕ → Dim × At → ReadLeaf Leaf
-to_slash name dim = byte_at 47 dim.1 >>= to_letter name dim.0
-
-abbrev to_dim : List Leaf → List ℕ × At → ReadLeaf Leaf
-to_dim before name = dim_at before name.0 name.1 >>= to_slash name.0
+abbrev pub to_dim : List Leaf → List ℕ → At → ReadLeaf Leaf
+to_dim before name m = dim_at before name m >>= λ dim. to_slash name dim.0 dim.1
 
 pub leaf_found : (before : List Leaf) (leaf : Leaf) (s s' : At) → leaf_at before s ≡ Ok (leaf, s') → LeafFound before leaf s.rest
 unfolding leaf_at
 leaf_found before leaf s s' e =
-    let one = bind_ok (said_at (leaf_name_of before) s) (to_dim before) (leaf, s') e in
+    let one = bind_ok (said_at (leaf_name_of before) s) (λ y. to_dim before y.0 y.1) (leaf, s') e in
     let name = one.0.0 in
-    let two = bind_ok (dim_at before name one.0.1) (to_slash name) (leaf, s') one.2 in
+    let two = bind_ok (dim_at before name one.0.1) (λ y. to_slash name y.0 y.1) (leaf, s') one.2 in
     let dim = two.0.0 in
-    let three = bind_ok (byte_at 47 two.0.1) (to_letter name dim) (leaf, s') two.2 in
-    let four = bind_ok (said_at (letter_in dim) three.0.1) (to_end name dim) (leaf, s') three.2 in
+    let three = bind_ok (byte_at 47 two.0.1) (λ y. to_letter name dim y.1) (leaf, s') two.2 in
+    let four = bind_ok (said_at (letter_in dim) three.0.1) (λ y. to_leaf name dim y.0 y.1) (leaf, s') three.2 in
     let letter = four.0.0 in
-    let five = bind_ok (no_more_at four.0.1) (to_leaf name dim letter) (leaf, s') four.2 in
+    let five = bind_ok (no_more_at four.0.1) (λ y. Ok (leaf_is name dim letter, y.1)) (leaf, s') four.2 in
     let named = said_found name s one.0.1 (leaf_name_of before) one.1 in
     let is_named = where_true (is_name_text named.word && not (is_taken before named.word)) named.word name named.is in
     let new : (is_name_text name && not (is_taken before name)) ≡ true = subst (λ (w : List ℕ). (is_name_text w && not (is_taken before w)) ≡ true) is_named.1 is_named.0 in

@@ -17,9 +17,9 @@ use Rattle.rio_leaf.specs.Spelling.{is_leaf_behind, text_of_dim, text_of_leaf}
 use Rattle.rio_leaf.specs.ToldPlaces.{next_token}
 use Rattle.rio_leaf.proofs.FreshNames.{name_left}
 use Rattle.rio_leaf.proofs.LeafAgain.{dim_again, ends_dim, said_there}
-use Rattle.rio_leaf.proofs.LeafFound.{begins, byte_found, dim_found, dim_word, leaf_is, letter_one, said_found, where_true}
+use Rattle.rio_leaf.proofs.LeafFound.{begins, byte_found, dim_found, dim_word, leaf_is, letter_one, said_found, to_dim, to_leaf, to_letter, to_slash, where_true}
 use Rattle.rio_leaf.proofs.TokenLaws.{same_begins, same_length}
-use Rattle.rio_leaf.proofs.ToldLaws.{Known, NoWordGoesOn, Told, bind_told, byte_told, end_told, ends_behind, ends_in_word, handed_told, said_told, told_behind}
+use Rattle.rio_leaf.proofs.ToldLaws.{Known, NoWordRuns, Told, bind_told, byte_told, end_told, ends_behind, ends_in_word, handed_told, said_told, told_behind}
 
 -- ---- what was read
 
@@ -82,7 +82,7 @@ dim_known before name s dim m h =
 -- other bytes behind these make them the text of a leaf that may stand behind those before
 abbrev pub LeafBegins : List Leaf → List ℕ → Type 0
 LeafBegins before front =
-    length before < 2 ^ 32 → (more : List ℕ) × (leaf : Leaf) × NoWordGoesOn front more × (is_leaf_behind before leaf ≡ true) × (front ++ more ≡ text_of_leaf leaf)
+    length before < 2 ^ 32 → (more : List ℕ) × (leaf : Leaf) × NoWordRuns front more × (is_leaf_behind before leaf ≡ true) × (front ++ more ≡ text_of_leaf leaf)
 
 letter_i : (dim : Dim) → is_letter_of dim 73 ≡ true
 letter_i One = refl
@@ -140,18 +140,6 @@ module _ (before : List Leaf) (name : List ℕ) (named : is_name_text name ≡ t
         ([], leaf_is name dim letter, inr refl, may_stand before name dim letter named free fits lettered, append-nil (text_of_leaf (leaf_is name dim letter)))
 
 -- ---- the first token that can't stand
-
-abbrev to_leaf : List ℕ → Dim → ℕ → At → ReadLeaf Leaf
-to_leaf name dim letter m = no_more_at m >>= λ ended. Ok (leaf_is name dim letter, ended.1)
-
-abbrev to_letter : List ℕ → Dim → At → ReadLeaf Leaf
-to_letter name dim m = said_at (letter_in dim) m >>= λ letter. to_leaf name dim letter.0 letter.1
-
-abbrev to_slash : List ℕ → Dim → At → ReadLeaf Leaf
-to_slash name dim m = byte_at 47 m >>= λ passed. to_letter name dim passed.1
-
-abbrev to_dim : List Leaf → List ℕ → At → ReadLeaf Leaf
-to_dim before name m = dim_at before name m >>= λ dim. to_slash name dim.0 dim.1
 
 module _ (before : List Leaf) (name : List ℕ) (named : is_name_text name ≡ true) (free : is_taken before name ≡ false) where
   bracket_told : (s : At) (e : LeafFault) → bracketed_at before name s ≡ Err e → Told (bracketed_at before name) (λ ms. LeafBegins before (name ++ 91 ∷ ms)) s e

@@ -2,8 +2,7 @@
 use Rattle.std.proofs.Common.{◌≡◌, ℕ, suc, ◌+◌, List, [], ◌∷◌, ◌++◌, length, take, drop, Bool, true, false, ◌==◌, refl, sym, ap, ◌∙◌, arith}
 use Rattle.std.specs.List.{list_all, prefix_len}
 use Rattle.std.proofs.lemmas.Bool.Decides.{nat_tests}
-use Rattle.std.proofs.lemmas.List.{length-take}
-use Rattle.std.proofs.lemmas.List.Sums.{prefix_len-le-length}
+use Rattle.std.proofs.lemmas.List.Folds.{length-prefix_len}
 use Rattle.rio_num.specs.Word.{is_item_byte}
 use Rattle.rio_leaf.specs.Marks.{is_blank_byte}
 use Rattle.rio_leaf.specs.Reading.{begins_with, word_length}
@@ -43,9 +42,6 @@ stops_by b bs false t ih = let none : word_length (b ∷ bs) ≡ 0 = rw t refl i
 pub word_stops : (bytes : List ℕ) → word_length (drop (word_length bytes) bytes) ≡ 0
 word_stops [] = refl
 word_stops (b ∷ bs) = stops_by b bs (is_item_byte b) refl (word_stops bs)
-
-pub length_of_word : (bytes : List ℕ) → length (word_of bytes) ≡ word_length bytes
-length_of_word bytes = omega (arith, length-take (word_length bytes) bytes, prefix_len-le-length is_item_byte bytes)
 
 again_by : (b : ℕ) (bs : List ℕ) (t : Bool) → is_item_byte b ≡ t → word_of (word_of bs) ≡ word_of bs → word_of (word_of (b ∷ bs)) ≡ word_of (b ∷ bs)
 again_by b bs true t ih = ap word_of (word_goes b bs t) ∙ word_goes b (word_of bs) t ∙ ap (λ (w : List ℕ). b ∷ w) ih ∙ sym (word_goes b bs t)
@@ -134,7 +130,7 @@ module _ (q r : List ℕ) (same : next_token q ≡ next_token r) where
   same_word = sym (token_word q) ∙ ap word_of same ∙ token_word r
 
   pub same_length : word_length q ≡ word_length r
-  same_length = sym (length_of_word q) ∙ ap length same_word ∙ length_of_word r
+  same_length = sym (length-prefix_len is_item_byte q) ∙ ap length same_word ∙ length-prefix_len is_item_byte r
 
   pub same_blanks : blanks q ≡ blanks r
   same_blanks = sym (token_blanks q) ∙ ap blanks same ∙ token_blanks r

@@ -1,6 +1,7 @@
 -- How first tokens that can't stand are found, one reading after the other.
-use Rattle.std.proofs.Common.{◌≡◌, ◌⊎◌, inl, inr, ℕ, suc, ◌+◌, ◌-◌, List, [], ◌∷◌, ◌++◌, length, slice_index, Bool, true, false, ◌==◌, ◌&&◌, Option, Some, None, Result, Ok, Err, refl, sym, ap, subst, ◌∙◌, arith, append_assoc, length-append}
+use Rattle.std.proofs.Common.{◌≡◌, ◌⊎◌, inl, inr, ℕ, suc, ◌+◌, ◌-◌, List, [], ◌∷◌, ◌++◌, length, slice_index, Bool, true, false, ◌==◌, Option, Some, None, Result, Ok, Err, refl, sym, ap, subst, ◌∙◌, arith, append_assoc, length-append}
 use Rattle.std.specs.List.{prefix_len}
+use Rattle.std.proofs.lemmas.Bool.{and_left, and_right}
 use Rattle.std.proofs.lemmas.List.{append-nil}
 use Rattle.rio_num.specs.At.{At}
 use Rattle.rio_num.specs.Reading.{◌>>=◌}
@@ -9,7 +10,7 @@ use Rattle.rio_leaf.specs.declared.fault.LeafFault.{LeafFault}
 use Rattle.rio_leaf.specs.declared.fault.LeafFault.TheVariants.{BadLeaf}
 use Rattle.rio_leaf.specs.Marks.{is_blank_byte}
 use Rattle.rio_leaf.specs.Reading.{ReadLeaf, bad_leaf_at, begins_with, byte_at, found_at, from_place, no_more_at, said_at, some_where, word_length}
-use Rattle.rio_leaf.specs.ToldPlaces.{AreApart, next_token}
+use Rattle.rio_leaf.specs.ToldPlaces.{NoWordGoesOn, next_token}
 use Rattle.rio_leaf.proofs.TokenLaws.{same_begins, same_behind, same_blanks, same_empty, same_word, word_of}
 
 -- ---- what is apart
@@ -20,8 +21,8 @@ ends_in_word [] = false
 ends_in_word (b ∷ []) = is_item_byte b
 ends_in_word (b ∷ c ∷ bs) = ends_in_word (c ∷ bs)
 
-abbrev pub NoWordGoesOn : List ℕ → List ℕ → Type 0
-NoWordGoesOn front behind = (ends_in_word front ≡ false) ⊎ (word_length behind ≡ 0)
+abbrev pub NoWordRuns : List ℕ → List ℕ → Type 0
+NoWordRuns front behind = (ends_in_word front ≡ false) ⊎ (word_length behind ≡ 0)
 
 last_is : (bs : List ℕ) → is_item_byte (slice_index bs (length bs - 1)) ≡ ends_in_word bs
 last_is [] = refl
@@ -38,13 +39,9 @@ first_is : (bs : List ℕ) → word_length bs ≡ 0 → is_item_byte (slice_inde
 first_is [] h = refl
 first_is (b ∷ bs) h = first_by b bs (is_item_byte b) refl h
 
-second_false : (a b : Bool) → b ≡ false → (a && b) ≡ false
-second_false true b h = h
-second_false false b h = refl
-
-pub apart_by : (front behind : List ℕ) → NoWordGoesOn front behind → AreApart front behind
-apart_by front behind (inl h) = ap (λ (t : Bool). t && is_item_byte (slice_index behind 0)) (last_is front ∙ h)
-apart_by front behind (inr h) = second_false (is_item_byte (slice_index front (length front - 1))) (is_item_byte (slice_index behind 0)) (first_is behind h)
+pub apart_by : (front behind : List ℕ) → NoWordRuns front behind → NoWordGoesOn front behind
+apart_by front behind (inl h) = and_left _ _ (last_is front ∙ h)
+apart_by front behind (inr h) = and_right _ _ (first_is behind h)
 
 pub ends_behind : (f : List ℕ) (b : ℕ) (bs : List ℕ) → ends_in_word (f ++ b ∷ bs) ≡ ends_in_word (b ∷ bs)
 ends_behind [] b bs = refl
@@ -55,8 +52,8 @@ pub ends_both : (f g : List ℕ) → ends_in_word f ≡ false → ends_in_word g
 ends_both f [] h k = ap ends_in_word (append-nil f) ∙ h
 ends_both f (b ∷ bs) h k = ends_behind f b bs ∙ k
 
-pub apart_behind : (f g rest : List ℕ) → NoWordGoesOn f (g ++ rest) → NoWordGoesOn g rest → NoWordGoesOn (f ++ g) rest
-apart_behind f [] rest here h = subst (λ (xs : List ℕ). NoWordGoesOn xs rest) (sym (append-nil f)) here
+pub apart_behind : (f g rest : List ℕ) → NoWordRuns f (g ++ rest) → NoWordRuns g rest → NoWordRuns (f ++ g) rest
+apart_behind f [] rest here h = subst (λ (xs : List ℕ). NoWordRuns xs rest) (sym (append-nil f)) here
 apart_behind f (b ∷ bs) rest here (inl h) = inl (ends_behind f b bs ∙ h)
 apart_behind f (b ∷ bs) rest here (inr h) = inr h
 
@@ -73,7 +70,7 @@ pub record Told {A : Type 0} (r : At → ReadLeaf A) (P : List ℕ → Type 0) (
   pub parts : s.rest ≡ front ++ behind
   pub told : e ≡ BadLeaf (place_behind s.place front behind)
   pub always : (p : ℕ) (q : List ℕ) → next_token q ≡ next_token behind → r (from_place p (front ++ q)) ≡ Err (BadLeaf (place_behind p front behind))
-  pub apart : NoWordGoesOn front behind
+  pub apart : NoWordRuns front behind
   pub begins : P front
 
 pub err_is : {A : Type 0} (d e : LeafFault) → (let x : Result A LeafFault = Err d in x ≡ Err e) → d ≡ e
@@ -133,7 +130,7 @@ module _ {A B : Type 0} (r : At → ReadLeaf A) (r2 : At → ReadLeaf B) (P : Li
   }
 
   -- some was passed, and then it fails
-  pub told_behind : (passed : List ℕ) (m : At) → s.rest ≡ passed ++ m.rest → m.place ≡ s.place + length passed → NoWordGoesOn passed m.rest
+  pub told_behind : (passed : List ℕ) (m : At) → s.rest ≡ passed ++ m.rest → m.place ≡ s.place + length passed → NoWordRuns passed m.rest
       → ((p : ℕ) (q : List ℕ) (g : LeafFault) → next_token q ≡ next_token m.rest → r2 (from_place (p + length passed) q) ≡ Err g → r (from_place p (passed ++ q)) ≡ Err g)
       → Told r2 (λ ms. P (passed ++ ms)) m e → Told r P s e
   told_behind passed m parts place apart pass b = record {
@@ -147,7 +144,7 @@ module _ {A B : Type 0} (r : At → ReadLeaf A) (r2 : At → ReadLeaf B) (P : Li
         ap (λ (bs : List ℕ). r (from_place p bs)) (append_assoc passed b.front q)
         ∙ pass p (b.front ++ q) _ next (b.always (p + length passed) q same)
         ∙ ap (λ (k : ℕ). let d : ReadLeaf A = Err (BadLeaf k) in d) n;
-    apart = apart_behind passed b.front b.behind (subst (NoWordGoesOn passed) b.parts apart) b.apart;
+    apart = apart_behind passed b.front b.behind (subst (NoWordRuns passed) b.parts apart) b.apart;
     begins = b.begins;
   }
 
@@ -161,7 +158,7 @@ pub record Known {A : Type 0} (Says : A → List ℕ → Type 0) (r : At → Rea
   pub is : Says x passed
   pub parts : s.rest ≡ passed ++ m.rest
   pub place : m.place ≡ s.place + length passed
-  pub apart : NoWordGoesOn passed m.rest
+  pub apart : NoWordRuns passed m.rest
   pub again : (p : ℕ) (q : List ℕ) → next_token q ≡ next_token m.rest → r (from_place p (passed ++ q)) ≡ Ok (x, from_place (p + length passed) q)
 
 fails_first : {A B : Type 0} (r : ReadLeaf A) (f : A × At → ReadLeaf B) (g : LeafFault) → r ≡ Err g → (r >>= f) ≡ Err g

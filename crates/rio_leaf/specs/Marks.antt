@@ -1,5 +1,5 @@
 -- The bytes that stand for something in a list of leaves, by their names.
-use Rattle.std.specs.Prelude.{ℕ, List, codes, Bool, ◌==◌, ◌||◌}
+use Rattle.std.specs.Prelude.{ℕ, codes, Bool, ◌==◌, ◌||◌}
 use Rattle.std.specs.List.{list_any}
 
 -- a colon
@@ -25,11 +25,8 @@ abbrev pub letter_of_counters : ℕ
 letter_of_counters = 73
 
 -- the letters of leaves
-abbrev pub leaf_letters : List ℕ
-leaf_letters = codes "BbSsIiLlFDOC"
-
 abbrev pub is_leaf_letter : ℕ → Bool
-is_leaf_letter b = list_any (λ letter. b == letter) leaf_letters
+is_leaf_letter b = list_any (λ letter. b == letter) (codes "BbSsIiLlFDOC")
 
 -- a space or a tab
 abbrev pub is_blank_byte : ℕ → Bool

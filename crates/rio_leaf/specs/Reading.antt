@@ -115,19 +115,15 @@ leaves_in text = leaves_at [] 0 (pieces text)
 
 -- ---- what a reader does
 
--- the fault is the one that reading gives, unless memory ran out
-abbrev pub FailsLeaf : {A : Type 0} → LeafFault → Result A LeafFault → Type 0
-FailsLeaf e read = e ≢ NoMemory → read ≡ Err e
-
 -- what a function returned is what reading gives, unless memory ran out
 abbrev pub GivesLeaf : {A : Type 0} → Result A LeafFault → Result A LeafFault → Type 0
 GivesLeaf (Ok x) read = read ≡ Ok x
-GivesLeaf (Err e) read = FailsLeaf e read
+GivesLeaf (Err e) read = e ≢ NoMemory → read ≡ Err e
 
 -- the same of a reader, which stands at new then
 abbrev pub GivesLeafAt : {X A : Type 0} → (X → A) → Result X LeafFault → ReadLeaf A → At → Type 0
-GivesLeafAt view (Ok x) read new = read ≡ Ok (view x, new)
-GivesLeafAt view (Err e) read new = FailsLeaf e read
+GivesLeafAt view (Ok x) read new = GivesLeaf (Ok (view x, new)) read
+GivesLeafAt view (Err e) read new = GivesLeaf (Err e) read
 
 -- a function returned this, unless memory ran out
 abbrev pub IsLeafReadAs : {A : Type 0} → Result A LeafFault → A → Type 0
