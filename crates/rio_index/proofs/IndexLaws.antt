@@ -3,8 +3,8 @@ use Rattle.std.proofs.Common.{◌≡◌, ℕ, zero, suc, ◌+◌, ◌-◌, ◌<�
 use Rattle.std.proofs.lemmas.Bool.{le-ltb, lt-ltb, le-leb, leb-true, leb-false}
 use Rattle.std.specs.Option.{option_map}
 use Rattle.std.specs.List.Sorted.{IsNonDecreasingBy}
-use Rattle.rio_tree.specs.declared.basket_at.BasketAt.{BasketAt}
-use Rattle.rio_tree.specs.Index.{IsIndex, RisesFrom, counts_from}
+use Rattle.rio_tree_head.specs.declared.basket_at.BasketAt.{BasketAt}
+use Rattle.rio_tree_head.specs.Index.{IsIndex, RisesFrom, counts_from}
 use Rattle.rio_index.specs.Index.{basket_holding, holder}
 
 -- how many baskets in front begin at the entry or before it

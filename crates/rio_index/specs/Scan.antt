@@ -6,11 +6,11 @@ use Rattle.rio_types.specs.declared.class.ClassDef.{ClassDef}
 use Rattle.rio_value.specs.declared.value.Value.{Value}
 use Rattle.rio_entry.specs.Rows.{broken_branch, row_in}
 use Rattle.rio_entry.specs.declared.fault.EntryFault.{EntryFault}
-use Rattle.rio_tree.specs.Index.{IsIndex, basket_counts}
-use Rattle.rio_tree.specs.declared.basket_at.BasketAt.{BasketAt}
-use Rattle.rio_tree.specs.declared.head.Branch.{Branch}
-use Rattle.rio_tree.specs.declared.head.TreeHead.{TreeHead}
-use Rattle.rio_tree.specs.declared.refusal.BranchRefusal.{BranchRefusal}
+use Rattle.rio_tree_head.specs.Index.{IsIndex, basket_counts}
+use Rattle.rio_tree_head.specs.declared.basket_at.BasketAt.{BasketAt}
+use Rattle.rio_tree_head.specs.declared.head.Branch.{Branch}
+use Rattle.rio_tree_head.specs.declared.head.TreeHead.{TreeHead}
+use Rattle.rio_tree_head.specs.declared.refusal.BranchRefusal.{BranchRefusal}
 use Rattle.rio_index.specs.Index.{basket_holding}
 use Rattle.rio_index.specs.declared.lane.Held.{Held}
 use Rattle.rio_index.specs.declared.lane.Lane.{Lane}

@@ -1,14 +1,14 @@
 //! Baskets of entries, and scans of a small tree.
 ghost use Rattle.std.specs.Prelude.{◌≡◌, IfOk};
 ghost use Rattle.rio_index.specs.Scan.{CanHold, CanScan};
-ghost use Rattle.rio_tree.specs.Index.{IsIndex};
+ghost use Rattle.rio_tree_head.specs.Index.{IsIndex};
 
 use crate::{Scanner, basket_of, entry_count};
 use rio_basket::StoredBasket;
 use rio_entry::EntryFault;
 use rio_leaf::{BranchDef, LeafFault, Leaves, Shape, read_leaves};
 use rio_num::{Bytes, Name, NoMemory};
-use rio_tree::{BasketAt, Baskets, Branch, BranchNumbers, BranchRefusal, Branches, TreeHead};
+use rio_tree_head::{BasketAt, Baskets, Branch, BranchNumbers, BranchRefusal, Branches, TreeHead};
 use rio_types::Classes;
 use rio_value::{Value, Values};
 use std::alloc::Global;

@@ -15,10 +15,10 @@ use Rattle.rio_buffer.specs.declared.fault.ObjFault.{ObjFault}
 use Rattle.rio_buffer.specs.declared.fault.ObjFault.TheVariants.{Short, BadCount, UnknownClassWord, UnknownRef, NoCount, BadFlag, CountMismatch, TooDeep, NoMemory}
 use Rattle.rio_model.specs.ValueText.{text_of_value}
 use Rattle.rio_model.specs.ClassText.{text_of_class}
-use Rattle.rio_tree.specs.declared.fault.TreeFault.{TreeFault}
-use Rattle.rio_tree.specs.declared.fault.TreeFault.TheVariants.{MissingMember, NoMemory as OutOfMemory}
-use Rattle.rio_tree.specs.declared.head.TreeHead.{TreeHead}
-use Rattle.rio_tree.specs.Header.{tree_head_in}
+use Rattle.rio_tree_head.specs.declared.fault.TreeFault.{TreeFault}
+use Rattle.rio_tree_head.specs.declared.fault.TreeFault.TheVariants.{MissingMember, NoMemory as OutOfMemory}
+use Rattle.rio_tree_head.specs.declared.head.TreeHead.{TreeHead}
+use Rattle.rio_tree_head.specs.Header.{tree_head_in}
 use Rattle.rio_meaning.specs.declared.described.Described.{Described}
 use Rattle.rio_meaning.specs.declared.item.Item.{Item}
 use Rattle.rio_meaning.specs.declared.item.Missing.{Missing}

@@ -2,9 +2,9 @@
 use Rattle.std.proofs.Common.{◌≡◌, true≢false, true, false, is_some, ℕ, List, Option, Some, None, refl, sym, ap, ◌∙◌}
 use Rattle.std.specs.Option.{option_or}
 use Rattle.rio_types.specs.declared.class.ClassDef.{ClassDef}
-use Rattle.rio_tree.specs.declared.head.Branch.{Branch}
-use Rattle.rio_tree.specs.declared.refusal.BranchRefusal.{BranchRefusal}
-use Rattle.rio_tree.specs.declared.refusal.BranchRefusal.TheVariants.{NoCounter}
+use Rattle.rio_tree_head.specs.declared.head.Branch.{Branch}
+use Rattle.rio_tree_head.specs.declared.refusal.BranchRefusal.{BranchRefusal}
+use Rattle.rio_tree_head.specs.declared.refusal.BranchRefusal.TheVariants.{NoCounter}
 use Rattle.rio_scan.specs.Counters.{counters_are_read}
 use Rattle.rio_scan.specs.Refusals.{branch_refusal, file_refusal, refused_first, refused_unless}
 use Rattle.rio_scan.specs.StoredEntries.{baskets_refusal}

@@ -3,10 +3,10 @@ use Rattle.std.proofs.Common.{◌≡◌, ◌++◌, ℕ, List, codes, true, false
 use Rattle.rio_types.specs.declared.class.ClassDef.{ClassDef}
 use Rattle.rio_key.specs.declared.head.KeyHead.{KeyHead}
 use Rattle.rio_key.specs.Key.{is_compressed}
-use Rattle.rio_tree.specs.declared.head.TreeHead.{TreeHead}
+use Rattle.rio_tree_head.specs.declared.head.TreeHead.{TreeHead}
 use Rattle.rio_meaning.specs.Dump.{stored_tree}
-use Rattle.rio_tree.specs.declared.head.Branch.{Branch}
-use Rattle.rio_tree.specs.declared.refusal.BranchRefusal.{BranchRefusal}
+use Rattle.rio_tree_head.specs.declared.head.Branch.{Branch}
+use Rattle.rio_tree_head.specs.declared.refusal.BranchRefusal.{BranchRefusal}
 use Rattle.rio_scan.specs.Refusals.{refusals_of}
 use Rattle.rio_scan.specs.Scan.{key_scan, lines_refusing, numbered_rows, refused_lines, scanned_count, tree_lines, unread_line}
 

@@ -4,10 +4,10 @@ use Rattle.std.specs.List.{prefix_len}
 use Rattle.std.proofs.lemmas.Bool.{le-leb, leb-true}
 use Rattle.std.proofs.lemmas.List.{drop-drop, drop_all, length-drop, take_all}
 use Rattle.rio_types.specs.declared.class.ClassDef.{ClassDef}
-use Rattle.rio_tree.specs.declared.basket_at.BasketAt.{BasketAt}
-use Rattle.rio_tree.specs.declared.head.Branch.{Branch}
-use Rattle.rio_tree.specs.declared.refusal.BranchRefusal.{BranchRefusal}
-use Rattle.rio_tree.specs.declared.refusal.BranchRefusal.TheVariants.{Compressed}
+use Rattle.rio_tree_head.specs.declared.basket_at.BasketAt.{BasketAt}
+use Rattle.rio_tree_head.specs.declared.head.Branch.{Branch}
+use Rattle.rio_tree_head.specs.declared.refusal.BranchRefusal.{BranchRefusal}
+use Rattle.rio_tree_head.specs.declared.refusal.BranchRefusal.TheVariants.{Compressed}
 use Rattle.rio_scan.specs.declared.row.Row.{Row}
 use Rattle.rio_scan.specs.Refusals.{branch_refusal, refusals_behind}
 use Rattle.rio_scan.specs.StoredEntries.{StoredEntries, are_filled, basket_number, entry_behind, has_compressed, is_compressed_basket, is_filled, refusal_by, stored_basket}

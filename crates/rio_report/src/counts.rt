@@ -10,7 +10,7 @@ ghost use Rattle.rio_report.specs.Lanes.{number_with, number_if_named};
 use rio_leaf::{Dim, Leaf, Shape};
 use rio_num::NoMemory;
 use rio_scan::{BranchRows, Refusals};
-use rio_tree::{Branch, BranchRefusal};
+use rio_tree_head::{Branch, BranchRefusal};
 use rio_value::{Value, Values};
 use std::alloc::Global;
 

@@ -12,7 +12,7 @@ use crate::stored::{FoundBasket, read_stored_basket};
 use rio_basket::BasketFault;
 use rio_close::ReportFault;
 use rio_host::Host;
-use rio_tree::{BasketAt, Branch};
+use rio_tree_head::{BasketAt, Branch};
 use std::alloc::Global;
 
 /// Why an entry of a branch isn't read: its basket, or the first part of it that breaks.

@@ -5,7 +5,7 @@ ghost use Rattle.rio_host.specs.Host.{IsLength};
 ghost use Rattle.rio_host.specs.OnlyReads.{OnlyReads};
 ghost use Rattle.rio_close.specs.Causes.{IsCallCause};
 ghost use Rattle.rio_scan.specs.Refusals.{branch_refusal, refusals_of};
-ghost use Rattle.rio_tree.specs.declared.head.Branch.{Branch as Branched};
+ghost use Rattle.rio_tree_head.specs.declared.head.Branch.{Branch as Branched};
 ghost use Rattle.rio_report.specs.Lanes.{AreLanes};
 
 use crate::lane::Lane;
@@ -15,7 +15,7 @@ use rio_close::ReportFault;
 use rio_host::Host;
 use rio_num::NoMemory;
 use rio_scan::Refusals;
-use rio_tree::BranchRefusal;
+use rio_tree_head::BranchRefusal;
 use std::alloc::Global;
 
 // Why the branch at `k` isn't read, behind those that are refused so, before any entry is looked at.

@@ -19,7 +19,7 @@ use rio_host::Host;
 use rio_leaf::BranchDef;
 use rio_num::NoMemory;
 use rio_scan::{Refusals, Row};
-use rio_tree::{Branch, BranchRefusal};
+use rio_tree_head::{Branch, BranchRefusal};
 use rio_types::Classes;
 use rio_value::Values;
 use std::alloc::Global;

@@ -25,7 +25,7 @@ use rio_key::KeyHead;
 use rio_meaning::Described;
 use rio_num::{Bytes, NoMemory};
 use rio_scan::NoTree;
-use rio_tree::TreeHead;
+use rio_tree_head::TreeHead;
 use rio_types::Classes;
 use std::alloc::Global;
 

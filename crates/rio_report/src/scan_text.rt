@@ -10,7 +10,7 @@ ghost use Rattle.rio_value.specs.declared.value.Value.{List as Listed};
 use crate::lane::{Lane, RowFault};
 use rio_basket::BasketFault;
 use rio_num::{Bytes, NoMemory};
-use rio_tree::{Branch, BranchRefusal};
+use rio_tree_head::{Branch, BranchRefusal};
 use rio_valtext::print_value;
 use rio_value::{Value, Values};
 

@@ -9,7 +9,7 @@ use rio_basket::{BasketFault, StoredBasket};
 use rio_close::{ReportFault, read_up_to};
 use rio_host::Host;
 use rio_num::Bytes;
-use rio_tree::{BasketAt, BranchRefusal};
+use rio_tree_head::{BasketAt, BranchRefusal};
 use std::alloc::Global;
 
 /// What a basket is, or why it isn't read.

@@ -3,9 +3,9 @@ use Rattle.std.proofs.Common.{◌≡◌, [], ◌∷◌, pos, true, false, Some, 
 use Rattle.std.specs.Fmt.{digits}
 use Rattle.rio_leaf.specs.declared.branch.Shape.TheVariants.{Class}
 use Rattle.rio_num.specs.Printed.{name_text}
-use Rattle.rio_tree.specs.declared.basket_at.BasketAt.{BasketAt}
-use Rattle.rio_tree.specs.declared.head.Branch.{Branch}
-use Rattle.rio_tree.specs.declared.refusal.BranchRefusal.TheVariants.{BadBasket, BadEntry, Compressed, EntryCount, NoCounter, SubBranches}
+use Rattle.rio_tree_head.specs.declared.basket_at.BasketAt.{BasketAt}
+use Rattle.rio_tree_head.specs.declared.head.Branch.{Branch}
+use Rattle.rio_tree_head.specs.declared.refusal.BranchRefusal.TheVariants.{BadBasket, BadEntry, Compressed, EntryCount, NoCounter, SubBranches}
 use Rattle.rio_scan.specs.Counters.{counters_are_read}
 use Rattle.rio_scan.specs.Refusals.{refused_first}
 use Rattle.rio_scan.specs.Scan.{no_tree_line, refused_lines, scanned_count}

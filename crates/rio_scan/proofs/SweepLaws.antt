@@ -8,8 +8,8 @@ use Rattle.rio_types.specs.declared.class.ClassDef.{ClassDef}
 use Rattle.rio_leaf.specs.declared.leaf.Dim.{Dim}
 use Rattle.rio_leaf.specs.declared.leaf.Dim.TheVariants.{One, Fixed, Counted}
 use Rattle.rio_leaf.specs.declared.leaf.Leaf.{Leaf}
-use Rattle.rio_tree.specs.declared.head.Branch.{Branch}
-use Rattle.rio_tree.specs.declared.refusal.BranchRefusal.TheVariants.{Compressed, BadBasket, BadEntry, NoCounter}
+use Rattle.rio_tree_head.specs.declared.head.Branch.{Branch}
+use Rattle.rio_tree_head.specs.declared.refusal.BranchRefusal.TheVariants.{Compressed, BadBasket, BadEntry, NoCounter}
 use Rattle.rio_value.specs.declared.value.Value.{Value}
 use Rattle.rio_scan.specs.Counters.{branch_leaves, counters_are_read, is_refused, leaf_count, number_in_branch, number_said, values_there}
 use Rattle.rio_scan.specs.Refusals.{branch_refusal, entries_are_read, is_entry_read, refusals_behind, refusals_of, refused_first, refused_unless}

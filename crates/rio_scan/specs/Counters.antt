@@ -5,8 +5,8 @@ use Rattle.rio_leaf.specs.declared.leaf.Dim.{Dim}
 use Rattle.rio_leaf.specs.declared.leaf.Dim.TheVariants.{One, Fixed, Counted}
 use Rattle.rio_leaf.specs.declared.leaf.Leaf.{Leaf}
 use Rattle.rio_leaf.specs.Stated.{leaves_of}
-use Rattle.rio_tree.specs.declared.head.Branch.{Branch}
-use Rattle.rio_tree.specs.declared.refusal.BranchRefusal.{BranchRefusal}
+use Rattle.rio_tree_head.specs.declared.head.Branch.{Branch}
+use Rattle.rio_tree_head.specs.declared.refusal.BranchRefusal.{BranchRefusal}
 use Rattle.rio_value.specs.declared.value.Value.{Value, Int}
 use Rattle.rio_entry.specs.Leaves.{last_number}
 

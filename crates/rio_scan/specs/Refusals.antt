@@ -3,9 +3,9 @@ use Rattle.std.specs.Prelude.{ℕ, List, [], ◌∷◌, ◌++◌, Option, Some, 
 use Rattle.std.specs.List.{list_all, range_with_len}
 use Rattle.std.specs.Option.{option_or}
 use Rattle.rio_types.specs.declared.class.ClassDef.{ClassDef}
-use Rattle.rio_tree.specs.declared.head.Branch.{Branch}
-use Rattle.rio_tree.specs.declared.refusal.BranchRefusal.{BranchRefusal}
-use Rattle.rio_tree.specs.declared.refusal.BranchRefusal.TheVariants.{BranchClass, SubBranches, EmbeddedBasket, LeafClass, NoCounter, EntryCount, BadBasketList, Compressed, BadBasket, BadEntry}
+use Rattle.rio_tree_head.specs.declared.head.Branch.{Branch}
+use Rattle.rio_tree_head.specs.declared.refusal.BranchRefusal.{BranchRefusal}
+use Rattle.rio_tree_head.specs.declared.refusal.BranchRefusal.TheVariants.{BranchClass, SubBranches, EmbeddedBasket, LeafClass, NoCounter, EntryCount, BadBasketList, Compressed, BadBasket, BadEntry}
 use Rattle.rio_scan.specs.Counters.{counters_are_read}
 use Rattle.rio_scan.specs.Rows.{values_of_branch, values_at_entry}
 use Rattle.rio_scan.specs.StoredEntries.{baskets_refusal}

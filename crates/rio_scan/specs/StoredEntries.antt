@@ -1,10 +1,10 @@
 -- What the baskets of a branch hold in a file: whether they are read, and the entries.
 use Rattle.std.specs.Prelude.{ℕ, ◌+◌, ◌-◌, List, [], ◌∷◌, length, take, drop, slice_get, nat_le, Option, Some, None, Result, Ok, Err, Bool, true, false, ◌==◌, ◌&&◌, not, if◌then◌else◌}
 use Rattle.std.specs.List.{list_any, prefix_len}
-use Rattle.rio_tree.specs.declared.basket_at.BasketAt.{BasketAt}
-use Rattle.rio_tree.specs.declared.head.Branch.{Branch}
-use Rattle.rio_tree.specs.declared.refusal.BranchRefusal.{BranchRefusal}
-use Rattle.rio_tree.specs.declared.refusal.BranchRefusal.TheVariants.{Compressed as IsCompressed, BadBasket}
+use Rattle.rio_tree_head.specs.declared.basket_at.BasketAt.{BasketAt}
+use Rattle.rio_tree_head.specs.declared.head.Branch.{Branch}
+use Rattle.rio_tree_head.specs.declared.refusal.BranchRefusal.{BranchRefusal}
+use Rattle.rio_tree_head.specs.declared.refusal.BranchRefusal.TheVariants.{Compressed as IsCompressed, BadBasket}
 use Rattle.rio_basket.specs.declared.fault.BasketFault.{BasketFault}
 use Rattle.rio_basket.specs.declared.fault.BasketFault.TheVariants.{BadLast, BadOffsets, Compressed, NoMemory}
 use Rattle.rio_basket.specs.Entries.{entries_in}

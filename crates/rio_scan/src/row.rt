@@ -1,6 +1,6 @@
 //! The row of a tree at an entry.
 use rio_num::{Items, NoMemory};
-use rio_tree::BranchRefusal;
+use rio_tree_head::BranchRefusal;
 use rio_value::Values;
 use std::alloc::Global;
 

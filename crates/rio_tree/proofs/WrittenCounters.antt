@@ -17,9 +17,9 @@ use Rattle.rio_leaf.specs.declared.leaf.Dim.{Dim}
 use Rattle.rio_leaf.specs.declared.leaf.Dim.TheVariants.{One, Fixed, Counted}
 use Rattle.rio_leaf.specs.declared.leaf.Leaf.{Leaf}
 use Rattle.rio_format.proofs.Tests.{both_true}
-use Rattle.rio_tree.specs.declared.head.Branch.{Branch}
-use Rattle.rio_tree.specs.declared.refusal.BranchRefusal.{BranchRefusal}
-use Rattle.rio_tree.specs.HeaderLeaves.{LeafMet, LeavesMet, counter_met, counter_of_label, is_plain_number, leaf_by, says_values, uncounted_dim, with_counter, with_leaf_met}
+use Rattle.rio_tree_head.specs.declared.head.Branch.{Branch}
+use Rattle.rio_tree_head.specs.declared.refusal.BranchRefusal.{BranchRefusal}
+use Rattle.rio_tree_head.specs.HeaderLeaves.{LeafMet, LeavesMet, counter_met, counter_of_label, is_plain_number, leaf_by, says_values, uncounted_dim, with_counter, with_leaf_met}
 use Rattle.rio_tree.specs.WrittenLaws.{branch_of_leaf, stated_defs, with_counting_branch}
 use Rattle.rio_tree.specs.WrittenTree.{LeafLabels}
 use Rattle.rio_tree.proofs.WrittenLeaves.{either_way}

@@ -23,9 +23,9 @@ use Rattle.rio_format.specs.TreeClasses.{tree_classes, tree_members, branch_memb
 use Rattle.rio_format.proofs.Tests.{both_true}
 use Rattle.rio_format.proofs.ValueCases.{Each, fold_Int}
 use Rattle.rio_format.proofs.WrittenValues.{fit_object}
-use Rattle.rio_tree.specs.declared.basket_at.BasketAt.{BasketAt}
-use Rattle.rio_tree.specs.declared.head.Branch.{Branch}
-use Rattle.rio_tree.specs.declared.head.TreeHead.{TreeHead}
+use Rattle.rio_tree_head.specs.declared.basket_at.BasketAt.{BasketAt}
+use Rattle.rio_tree_head.specs.declared.head.Branch.{Branch}
+use Rattle.rio_tree_head.specs.declared.head.TreeHead.{TreeHead}
 use Rattle.rio_tree.specs.WrittenLaws.{WrittenTreeFits, basket_fits_header, branch_fits_header, stated_defs}
 use Rattle.rio_tree.specs.WrittenTree.{LeafLabels, backs_from, branch_label_count, branch_object, branch_pointers, labels_behind, leaf_backs, leaf_pointers, leaves_in_branch, plain_branch_object, shaped_object, title_of_branch, tree_value_of, written_count}
 use Rattle.rio_tree.proofs.WrittenLeaves.{IsLeafAt, KnowsLeaves, count_fits, get_behind, leaf_back_fits, leaf_label, leaves_fit, knows_longer}

@@ -15,7 +15,7 @@ use Rattle.rio_format.specs.WrittenList.{array_object, plain_object}
 use Rattle.rio_format.proofs.Tests.{both_true}
 use Rattle.rio_format.proofs.ValueCases.{fold_Bool, fold_Int, fold_List, fold_Pointed, fold_Text}
 use Rattle.rio_format.proofs.WrittenValues.{fit_object, object_fitting}
-use Rattle.rio_tree.specs.declared.basket_at.BasketAt.{BasketAt}
+use Rattle.rio_tree_head.specs.declared.basket_at.BasketAt.{BasketAt}
 use Rattle.rio_tree.specs.WrittenTree.{basket_numbers, titled_object}
 
 -- how it fits

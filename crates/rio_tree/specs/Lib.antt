@@ -1,12 +1,3 @@
-pub mod BranchMembers
-pub mod Header
-pub mod HeaderLeaves
-pub mod Index
-pub mod Labels
-pub mod Members
-pub mod Refusals
-pub mod Stops
-pub mod Tables
 pub mod WrittenBaskets
 pub mod WrittenLabels
 pub mod WrittenLaws

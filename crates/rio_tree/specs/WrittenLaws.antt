@@ -12,12 +12,12 @@ use Rattle.rio_leaf.specs.declared.leaf.Dim.TheVariants.{Counted}
 use Rattle.rio_leaf.specs.declared.leaf.Leaf.{Leaf}
 use Rattle.rio_format.specs.Fits.{Fits, fits_signed}
 use Rattle.rio_format.specs.TreeClasses.{tree_classes}
-use Rattle.rio_tree.specs.declared.basket_at.BasketAt.{BasketAt}
-use Rattle.rio_tree.specs.declared.head.Branch.{Branch}
-use Rattle.rio_tree.specs.declared.head.TreeHead.{TreeHead}
-use Rattle.rio_tree.specs.Header.{has_offsets, tree_head_in}
-use Rattle.rio_tree.specs.HeaderLeaves.{with_branch_number}
-use Rattle.rio_tree.specs.Refusals.{are_in_order}
+use Rattle.rio_tree_head.specs.declared.basket_at.BasketAt.{BasketAt}
+use Rattle.rio_tree_head.specs.declared.head.Branch.{Branch}
+use Rattle.rio_tree_head.specs.declared.head.TreeHead.{TreeHead}
+use Rattle.rio_tree_head.specs.Header.{has_offsets, tree_head_in}
+use Rattle.rio_tree_head.specs.HeaderLeaves.{with_branch_number}
+use Rattle.rio_tree_head.specs.Refusals.{are_in_order}
 use Rattle.rio_tree.specs.WrittenTree.{leaves_in_branch, tree_value_of}
 
 -- ---- each number is one of those that its member may be

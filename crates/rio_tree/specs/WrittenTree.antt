@@ -14,9 +14,9 @@ use Rattle.rio_value.specs.declared.value.Part.{Part}
 use Rattle.rio_value.specs.declared.value.Value.{Value, Int, Bool as Truth, Text, List as Items, Object, Pointed, Null, Back}
 use Rattle.rio_format.specs.Bodies.{part}
 use Rattle.rio_format.specs.WrittenList.{array_object, number_part, plain_object}
-use Rattle.rio_tree.specs.declared.basket_at.BasketAt.{BasketAt}
-use Rattle.rio_tree.specs.declared.head.Branch.{Branch}
-use Rattle.rio_tree.specs.declared.head.TreeHead.{TreeHead}
+use Rattle.rio_tree_head.specs.declared.basket_at.BasketAt.{BasketAt}
+use Rattle.rio_tree_head.specs.declared.head.Branch.{Branch}
+use Rattle.rio_tree_head.specs.declared.head.TreeHead.{TreeHead}
 
 -- a TNamed with a title
 unfoldable pub titled_object : List ℕ → List ℕ → Value

@@ -9,9 +9,9 @@ use crate::written_baskets::{BasketNumber, basket_numbers};
 use crate::written_labels::{LeafLabels, label_behind};
 use crate::written_leaf::leaf_pointers;
 use crate::written_parts::{PartList, array_object, titled_object};
-use crate::{Branch, TreeHead};
 use rio_leaf::{Leaf, Shape, print_leaves};
 use rio_num::{Boxed, Bytes, Name, NoMemory};
+use rio_tree_head::{Branch, TreeHead};
 use rio_value::{Value, Values};
 use std::alloc::Global;
 

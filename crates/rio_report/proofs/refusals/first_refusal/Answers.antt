@@ -1,7 +1,7 @@
 use Rattle.std.proofs.Common.{List, get_or, take, sym, ap, ◌∙◌}
 use Rattle.std.proofs.lemmas.Option.{get_or_from_slice_get}
-use Rattle.rio_tree.specs.declared.basket_at.BasketAt.{BasketAt}
-use Rattle.rio_tree.specs.declared.head.Branch.{Branch}
+use Rattle.rio_tree_head.specs.declared.basket_at.BasketAt.{BasketAt}
+use Rattle.rio_tree_head.specs.declared.head.Branch.{Branch}
 use Rattle.rio_scan.specs.StoredEntries.{baskets_refusal, refusal_of_baskets}
 use Rattle.rio_scan.specs.Sweeps.{refusal_before}
 use Rattle.rio_report.proofs.FirstRefusals.{refusal_by_baskets, refusal_told_by}

@@ -1,7 +1,7 @@
 use Rattle.std.proofs.Common.{ℕ, List, ◌+◌, length, drop, is_none, Option, refl, sym, ap, subst, ◌∙◌, arith}
 use Rattle.std.specs.List.{list_any}
 use Rattle.rio_host.proofs.ReadsLaws.{reads_join, reads_none}
-use Rattle.rio_tree.specs.declared.refusal.BranchRefusal.{BranchRefusal}
+use Rattle.rio_tree_head.specs.declared.refusal.BranchRefusal.{BranchRefusal}
 use Rattle.rio_scan.specs.declared.row.Row.{Row}
 use Rattle.rio_scan.specs.Sweeps.{sweep}
 use Rattle.rio_scan.proofs.SweepLaws.{all_refused, next_refusals}

@@ -1,5 +1,5 @@
 use Rattle.std.proofs.Common.{List, Option, None, sym, ap, ◌∙◌}
-use Rattle.rio_tree.specs.declared.refusal.BranchRefusal.{BranchRefusal}
+use Rattle.rio_tree_head.specs.declared.refusal.BranchRefusal.{BranchRefusal}
 use Rattle.rio_value.specs.declared.value.Value.{Value}
 use Rattle.rio_scan.specs.Rows.{values_of_branch}
 use Rattle.rio_scan.specs.Sweeps.{with_branch}

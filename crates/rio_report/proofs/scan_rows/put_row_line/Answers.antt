@@ -1,6 +1,6 @@
 use Rattle.std.proofs.Common.{◌++◌, true≢false, List, Option, sym, ap, ◌∙◌}
 use Rattle.rio_num.specs.Room.{Room}
-use Rattle.rio_tree.specs.declared.refusal.BranchRefusal.{BranchRefusal}
+use Rattle.rio_tree_head.specs.declared.refusal.BranchRefusal.{BranchRefusal}
 use Rattle.rio_value.specs.declared.value.Value.{Value}
 use Rattle.rio_scan.specs.declared.row.Row.{Row}
 use Rattle.rio_scan.specs.Refusals.{refusals_of}
