@@ -5,8 +5,8 @@ ghost use Rattle.rio_head.specs.Head.{header_layout};
 ghost use Rattle.rio_head.specs.Laws.{DirInFront, HeadInFront, OneDir, OneHead};
 ghost use Rattle.rio_head.specs.Written.{WrittenDirIsRead, WrittenHeadIsRead};
 
-/// What is spelled is read, what breaks gives the fault, what is read is spelled, and what fails is broken: so it is with headers
-/// and with directory records.
+/// What is spelled is read, what breaks gives the fault, what is read is spelled, and what fails is broken: so it is with
+/// headers and with directory records.
 pub fn meanings_agree()
     ensures header { Agrees header_layout }
     ensures dir { Agrees dir_layout }

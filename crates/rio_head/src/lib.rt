@@ -1,5 +1,8 @@
 //! The header of a file, and the record of its directory: both are read and written, in both forms. Beside them stand the
 //! kinds of faults of a file, the reasons against writing to it, and the identifier that its name gives it.
+//!
+//! A header and a directory record stand once, as descriptions (`specs/Head.antt`, `specs/Dir.antt`), of which reading,
+//! spelling and the first fault are three meanings. `specs/Written.antt` has what is written.
 #![tactic(auto)]
 
 mod dir;

@@ -7,8 +7,8 @@ ghost use Rattle.rio_key.specs.Key.{SpellsKey, key_layout};
 ghost use Rattle.rio_key.specs.KeyList.{SpellsKeyList, key_list_layout};
 ghost use Rattle.rio_key.specs.Written.{WrittenKeyIsSpelled};
 
-/// What is spelled is read, what breaks gives the fault, what is read is spelled, and what fails is broken: so it is with keys,
-/// with lists of their heads, and with the heads of baskets.
+/// What is spelled is read, what breaks gives the fault, what is read is spelled, and what fails is broken: so it is with
+/// keys, with lists of their heads, and with the heads of baskets.
 pub fn meanings_agree()
     ensures key { Agrees key_layout }
     ensures list { Agrees key_list_layout }

@@ -11,7 +11,7 @@ use Rattle.rio_token.specs.declared.fault.TextFault.{TextFault}
 use Rattle.rio_token.specs.Reading.{Read, bad_at, is_mark, is_word, mark_at, marked, next_word, num_at, num_between_at, some_if, string_at, string_by, taken_at, word_at, word_that_at}
 use Rattle.rio_token.specs.Tokens.{behind, next_at}
 use Rattle.rio_token.specs.Words.{num_between_of, num_of}
-use Rattle.rio_token.specs.Further.{can_pass}
+use Rattle.rio_token.specs.Further.{can_be_passed}
 use Rattle.rio_token.proofs.PassLaws.{passed_takes_some}
 use Rattle.rio_model.specs.Lexemes.{IsNext, Lexeme, Stand, chars, glued, mark, word}
 
@@ -184,7 +184,7 @@ string_found s text t h = let p = string_by_found (next_at s).token s text t h i
 
 -- ---- each token takes some of the text
 
-next_passes : (l : Lexeme) (s : At) → IsNext l s → can_pass (next_at s).token ≡ true
+next_passes : (l : Lexeme) (s : At) → IsNext l s → can_be_passed (next_at s).token ≡ true
 next_passes (word w) s h = rw h.0 refl
 next_passes (chars t) s h = rw h.0 refl
 next_passes (mark b) s h = rw h refl

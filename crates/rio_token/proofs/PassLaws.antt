@@ -7,30 +7,30 @@ use Rattle.rio_token.specs.declared.token.Token.TheVariants.{Mark}
 use Rattle.rio_token.specs.declared.quoted.Ending.{Ending}
 use Rattle.rio_token.specs.declared.quoted.Ending.TheVariants.{Closed, Broken, Unended}
 use Rattle.rio_token.specs.declared.quoted.Within.TheVariants.{Between}
-use Rattle.rio_token.specs.Further.{PassedTakesSome, can_pass}
+use Rattle.rio_token.specs.Further.{PassedTakesSome, can_be_passed}
 use Rattle.rio_token.specs.Quoted.{quoted}
 use Rattle.rio_token.specs.Tokens.{is_blank, next_at, scan_from, scan_of, string_scan, word_scan}
 use Rattle.rio_token.proofs.FurtherLaws.{scan_within}
 
-string_some : (start : ℕ) (text : List ℕ) (e : Ending) → can_pass (string_scan start text e).token ≡ true → 1 ≤ (string_scan start text e).stop
+string_some : (start : ℕ) (text : List ℕ) (e : Ending) → can_be_passed (string_scan start text e).token ≡ true → 1 ≤ (string_scan start text e).stop
 string_some start text (Closed n) h = omega arith
 string_some start text Broken h = absurd (cc)
 string_some start text Unended h = absurd (cc)
 
 chosen_some : (start b : ℕ) (bs : List ℕ) (item quote : Bool) → is_item_byte b ≡ item →
     (let scan = (if item then word_scan start (prefix_len is_item_byte (b ∷ bs)) (b ∷ bs) else if quote then (let q = quoted Between bs in string_scan start q.text q.ending) else record { token = Mark b; start = start; stop = start + 1; bytes = [] }) in
-    can_pass scan.token ≡ true → 1 ≤ scan.stop)
+    can_be_passed scan.token ≡ true → 1 ≤ scan.stop)
 chosen_some start b bs true quote e h =
     let run : prefix_len is_item_byte (b ∷ bs) ≡ 1 + prefix_len is_item_byte bs = rw e refl in
     omega (arith, run)
 chosen_some start b bs false true e h = string_some start (quoted Between bs).text (quoted Between bs).ending h
 chosen_some start b bs false false e h = omega arith
 
-from_some : (start : ℕ) (bs : List ℕ) → can_pass (scan_from start bs).token ≡ true → 1 ≤ (scan_from start bs).stop
+from_some : (start : ℕ) (bs : List ℕ) → can_be_passed (scan_from start bs).token ≡ true → 1 ≤ (scan_from start bs).stop
 from_some start [] h = absurd (cc)
 from_some start (b ∷ bs) h = chosen_some start b bs (is_item_byte b) (b == 34) refl h
 
-scan_some : (bs : List ℕ) → can_pass (scan_of bs).token ≡ true → 1 ≤ (scan_of bs).stop
+scan_some : (bs : List ℕ) → can_be_passed (scan_of bs).token ≡ true → 1 ≤ (scan_of bs).stop
 unfolding scan_of
 scan_some bs h = from_some (prefix_len is_blank bs) (drop (prefix_len is_blank bs) bs) h
 

@@ -35,12 +35,12 @@ abbrev pub FurtherGoesOn : Type 0
 FurtherGoesOn = (old new : At) → IsFurther old new → GoesOn old new
 
 -- a token that can be passed: a word, a string or a byte of punctuation
-abbrev pub can_pass : Token → Bool
-can_pass Word = true
-can_pass Text = true
-can_pass (Mark b) = true
-can_pass other = false
+abbrev pub can_be_passed : Token → Bool
+can_be_passed Word = true
+can_be_passed Text = true
+can_be_passed (Mark b) = true
+can_be_passed other = false
 
 -- it takes some of the text
 abbrev pub PassedTakesSome : Type 0
-PassedTakesSome = (s : At) → can_pass (next_at s).token ≡ true → length (behind s).rest < length s.rest
+PassedTakesSome = (s : At) → can_be_passed (next_at s).token ≡ true → length (behind s).rest < length s.rest

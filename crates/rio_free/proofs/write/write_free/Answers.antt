@@ -2,7 +2,8 @@ use Rattle.std.proofs.Common.{◌+◌, ◌*◌, ◌<◌, length, ap, arith}
 use Rattle.rio_num.specs.Room.{Room}
 use Rattle.rio_free.specs.Record.{end_entry, entry_bytes, free_bytes, gaps_bytes}
 use Rattle.rio_free.proofs.Order.{all_some}
-use Rattle.rio_free.proofs.Puts.{puts_then, puts_reserved, refuses}
+use Rattle.rio_num.proofs.Puts.{puts_then, puts_reserved}
+use Rattle.rio_free.proofs.Puts.{refuses}
 use Rattle.rio_free.proofs.Written.{length-free, length-gaps}
 use Rattle.rio_free.proofs.write.write_free.Goals as goal
 
