@@ -85,7 +85,7 @@ record_word place bytes r =
 pub record_long : (bytes : List ℕ) → Word bytes → 4 ≤ length bytes
 record_long bytes w = omega (arith, ap length w.spelled, length-append (big_bytes 4 (length bytes)) w.others, length-bytes_high_first 4 (length bytes))
 
--- a whole record has at least four bytes, and fewer than a gap's word tells
+-- a whole record has at least four bytes, and fewer than 2 ^ 31
 pub whole_long : (place : ℕ) (bytes : List ℕ) → IsRecord place bytes → 4 ≤ length bytes
 whole_long place bytes r = record_long bytes (record_word place bytes r)
 

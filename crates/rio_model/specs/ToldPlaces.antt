@@ -41,7 +41,7 @@ abbrev pub Begin : {A : Type 0} → (A → List Lexeme → Type 0) → List Lexe
 Begin {A} Spells ls = (more : List Lexeme) × (x : A) × Spells x (ls ++ more)
 
 -- A text that isn't read has a token whose place is told. With others behind them the tokens before it spell something, in
--- which one bracket more than may be open may be open.
+-- which one bracket more may stand within another than a text may have.
 pub record PlacesAreTold : Type 0 where
   pub value :
       (levels : ℕ) (old : At) (fault : TextFault) → value_in_text (enclosed_at levels) old ≡ Err fault

@@ -13,9 +13,9 @@ pub fn read_values_are_spelled()
     ensures { ReadAreSpelled }
 {}
 
-/// The place that is told of a text that isn't read as a value or a row is that of a token. With others behind them the
-/// tokens before it spell a value or a row, in which one bracket more than may be open may be open, and whatever stands
-/// behind that token the place is the same.
+/// The place that is told of a text that isn't read as a value or a row is that of a token, or the text's end where a
+/// string isn't ended. With others behind them the tokens before it spell a value or a row, in which 1,025 brackets may
+/// stand within one another, and whatever stands behind that token the place is the same.
 pub fn first_bad_tokens_are_told()
     ensures { PlacesAreTold }
 {}

@@ -109,7 +109,10 @@ impl Bytes {
         if self.spare as u64 >= n {
             return Ok(());
         }
-        self.items.reserve((n as usize).max(FIRST_ROOM))?;
+        let room = self.items.capacity() - self.items.len();
+        if (room as u64) < n {
+            self.items.reserve((n as usize).max(FIRST_ROOM))?;
+        }
         self.spare = n as usize;
         Ok(())
     }

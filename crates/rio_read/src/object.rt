@@ -321,7 +321,7 @@ fn read_links(
         (read (times count (link (object_of levels classes.now))) reader.old) reader.new }
     ensures goes { GoesOn reader.old.at reader.new.at }
 {
-    let mut links = Values::with_capacity(alloc, count as usize)?;
+    let mut links = Values::new(alloc);
     for _done in 0..count {
         links.push(read_link(alloc, classes, reader, levels)?)?;
     }
@@ -379,7 +379,7 @@ fn read_pointers(
         (read (times count (pointer (object_of levels classes.now))) reader.old) reader.new }
     ensures goes { GoesOn reader.old.at reader.new.at }
 {
-    let mut pointers = Values::with_capacity(alloc, count as usize)?;
+    let mut pointers = Values::new(alloc);
     for _done in 0..count {
         pointers.push(read_pointer(alloc, classes, reader, levels)?)?;
     }

@@ -210,7 +210,7 @@ impl Row {
         }
     }
 
-    fn is_of(&self, alloc: Global, branch: &BranchDef) -> bool {
+    fn is_read_in(&self, alloc: Global, branch: &BranchDef) -> bool {
         match counts_of(alloc, self.counts) {
             Ok(counts) => self.is_read(alloc, branch, &counts),
             Err(_) => false,
@@ -219,7 +219,7 @@ impl Row {
 
     fn holds(&self, alloc: Global) -> bool {
         match branch_of_row(alloc, "", self.leaves) {
-            Ok(branch) => self.is_of(alloc, &branch),
+            Ok(branch) => self.is_read_in(alloc, &branch),
             Err(_) => false,
         }
     }

@@ -19,7 +19,7 @@ read_bases-returns-clause-exact t c =
 
 pub read_links-returns-in_err-read_link-clause-exact : goal.read_links-returns-in_err-read_link-clause-exact
 read_links-returns-in_err-read_link-clause-exact t c =
-    let p = err_from_is_err_and c.from_residual-in_err-read_link.result c.from_residual-in_err-read_link.ensures.1 in
+    let p = err_from_is_err_and c.from_residual.result c.from_residual.ensures.1 in
     rw (p.1, p.2) (λ ne. times_fails (link (object_of c.args.levels c.args.classes.now)) c.args.count c.loop-done._done c.loop-done.links c.loop-done.reader _ c.in_err-read_link.field-0.0 c.loop-done-test.true (c.in_err-read_link.ensures.exact ne) c.loop-done.invariant.0)
 
 pub read_links-loop-done-preserved : goal.read_links-loop-done-preserved
@@ -32,7 +32,7 @@ read_links-returns-clause-exact t c =
 
 pub read_pointers-returns-in_err-read_pointer-clause-exact : goal.read_pointers-returns-in_err-read_pointer-clause-exact
 read_pointers-returns-in_err-read_pointer-clause-exact t c =
-    let p = err_from_is_err_and c.from_residual-in_err-read_pointer.result c.from_residual-in_err-read_pointer.ensures.1 in
+    let p = err_from_is_err_and c.from_residual.result c.from_residual.ensures.1 in
     rw (p.1, p.2) (λ ne. times_fails (pointer (object_of c.args.levels c.args.classes.now)) c.args.count c.loop-done._done c.loop-done.pointers c.loop-done.reader _ c.in_err-read_pointer.field-0.0 c.loop-done-test.true (c.in_err-read_pointer.ensures.exact ne) c.loop-done.invariant.0)
 
 pub read_pointers-loop-done-preserved : goal.read_pointers-loop-done-preserved
