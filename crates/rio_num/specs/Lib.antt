@@ -4,6 +4,7 @@ pub mod Reading
 pub mod Room
 pub mod Text
 pub mod Word
+pub mod Holding
 pub mod formers
 pub mod Books
 pub mod Laws

@@ -10,23 +10,17 @@ use denote.Sharing.{nothing}
 use denote.HoleLaws.{Alike}
 use denote.HolePlaces.{Recodes, struct_places, laid, one_value}
 use denote.Hole.Fix.{over}
-use denote.Param.Weighed.{Weighed}
 use denote.Model.Placed.{view_places}
 use Rattle.std.specs.declared.boxed.Box.{Box}
 use Rattle.std.specs.contracts.boxed.Box as box
 use Rattle.std.specs.declared.alloc.Global.{Global}
 use Rattle.std.specs.contracts.alloc.Global as heap
 use Rattle.std.specs.contracts.impls.GlobalAllocator.TheImpl.{ghosts}
+pub use Rattle.rio_num.specs.Holding.{boxed_shape as the_former, boxed_measure as the_weighed}
 use Rattle.rio_num.specs.declared.boxed.Boxed.TheInside.{Inside}
 use Rattle.rio_num.specs.declared.boxed.Boxed.TheView.{view, invariant}
 use Rattle.rio_num.specs.contracts.boxed.Boxed as C
 use Rattle.rio_num.specs.contracts.boxed.Boxed.TheInside as I
-
-abbrev pub the_former : Former {0} → Former {0}
-the_former g = g
-
-abbrev pub the_weighed : {g : Former {0}} → Weighed g → Weighed (the_former g)
-the_weighed w = w
 
 abbrev fields : Former {0}
 fields = via (pair (const (Ptr × Global)) this) Inside (λ X a. ((a.inner.ptr, a.inner.alloc), a.inner.value))

@@ -8,22 +8,16 @@ use denote.HoleLaws.{Alike}
 use denote.HolePlaces.{Recodes, struct_places, laid}
 use denote.Hole.Carrier.{listed, list-listed}
 use denote.Hole.Fix.{over}
-use denote.Param.Weighed.{Weighed, w_list}
 use denote.Model.Placed.{view_places}
 use Rattle.std.specs.formers.vec.Vec as vec
 use Rattle.std.specs.declared.alloc.Global.{Global}
 use Rattle.std.specs.contracts.alloc.Global as heap
 use Rattle.std.specs.contracts.impls.GlobalAllocator.TheImpl.{ghosts}
+pub use Rattle.rio_num.specs.Holding.{listed_shape as the_former, listed_measure as the_weighed}
 use Rattle.rio_num.specs.declared.items.Items.TheInside.{Inside}
 use Rattle.rio_num.specs.declared.items.Items.TheView.{view, invariant}
 use Rattle.rio_num.specs.contracts.items.Items as C
 use Rattle.rio_num.specs.contracts.items.Items.TheInside as I
-
-abbrev pub the_former : Former {0} → Former {0}
-the_former g = list g
-
-abbrev pub the_weighed : {g : Former {0}} → Weighed g → Weighed (the_former g)
-the_weighed w = w_list w
 
 pub the_empty : List ⊥
 the_empty = []
