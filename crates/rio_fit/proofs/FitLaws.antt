@@ -1,11 +1,12 @@
 -- Whether the parts of an object fit, one after the other.
 use Rattle.std.proofs.Common.{◌≡◌, ◌≤◌, ◌<◌, ℕ, ◌+◌, List, [], ◌∷◌, length, drop, map, Bool, true, false, Option, Some, None, if◌then◌else◌, not, refl, sym, ap, ◌∙◌, slice_index_or, Ok, arith, inl, inr, length-drop}
-use Rattle.std.specs.Prelude.{ℤ, nat_le, option_and_then, unwrap_or}
+use Rattle.std.specs.Prelude.{ℤ, is_none, option_and_then, slice_get, unwrap_or}
 use Rattle.std.specs.Option.{option_map}
 use Rattle.std.specs.Str.{bytes_eq}
-use Rattle.std.proofs.lemmas.Bool.Decides.{leb_tells}
+use Rattle.std.proofs.lemmas.Option.{slice_get_cases}
 use Rattle.std.proofs.lemmas.List.{drop_more, drop_all}
 use Rattle.rio_types.specs.declared.kind.Kind.TheVariants.{Counter}
+use Rattle.rio_format.proofs.FieldLaws.{found_first, none_left}
 use Rattle.rio_format.specs.Bodies.{Counters}
 use Rattle.rio_format.specs.Fits.{Fitting, Labels, counted_slot, counted_so_far, fields_fit}
 use Rattle.rio_format.specs.Slots.{Field, kinded}
@@ -78,36 +79,36 @@ no_part [] met labels lt = absurd (omega arith)
 no_part (f ∷ fs) met labels lt = refl
 
 module _ {Y : Type 0} (h : Y → List ℕ × Fitting) (fields : List Field) (parts : List Y) (k : ℕ) (met : Counters) (labels : Labels) (total : Option Labels) where
-  pub part_goes_on : (field : Field) (part : Y) (after : Labels) (met' : Counters) → k < length fields → k < length parts → field ≡ slice_index_or fields k field → part ≡ slice_index_or parts k part → part_fits field (h part) met labels ≡ Some (after, met') → fields_fit (drop k fields) (map h (drop k parts)) met labels ≡ total → fields_fit (drop (k + 1) fields) (map h (drop (k + 1) parts)) met' after ≡ total
-  part_goes_on field part after met' lf lp f e fit so_far =
-      let sf : drop k fields ≡ field ∷ drop (k + 1) fields = drop_more fields k field lf ∙ ap (λ (z : Field). z ∷ drop (k + 1) fields) (sym f) in
+  pub part_goes_on : (field : Field) (part : Y) (after : Labels) (met' : Counters) → slice_get fields k ≡ Some field → k < length parts → part ≡ slice_index_or parts k part → part_fits field (h part) met labels ≡ Some (after, met') → fields_fit (drop k fields) (map h (drop k parts)) met labels ≡ total → fields_fit (drop (k + 1) fields) (map h (drop (k + 1) parts)) met' after ≡ total
+  part_goes_on field part after met' found lp e fit so_far =
+      let sf = found_first fields k field found in
       let sp : drop k parts ≡ part ∷ drop (k + 1) parts = drop_more parts k part lp ∙ ap (λ (z : Y). z ∷ drop (k + 1) parts) (sym e) in
       let one : fields_fit (drop k fields) (map h (drop k parts)) met labels ≡ fields_fit (drop (k + 1) fields) (map h (drop (k + 1) parts)) met' after =
       rw (sf, sp) (one_more field (h part) (drop (k + 1) fields) (map h (drop (k + 1) parts)) met labels after met' fit) in
       sym one ∙ so_far
 
 module _ {Y : Type 0} (h : Y → List ℕ × Fitting) (fields : List Field) (parts : List Y) (k : ℕ) (met : Counters) (labels : Labels) (total : Option Labels) where
-  pub part_missing : k < length fields → length parts ≤ k → fields_fit (drop k fields) (map h (drop k parts)) met labels ≡ total → total ≡ None
-  part_missing lf lp so_far =
-      let some : 0 < length (drop k fields) = simp length-drop (omega arith) in
-      let none : drop k parts ≡ [] = drop_all k parts lp in
-      let one : fields_fit (drop k fields) (map h (drop k parts)) met labels ≡ None = rw none (no_part (drop k fields) met labels some) in
+  pub part_too_many : slice_get fields k ≡ None → k < length parts → fields_fit (drop k fields) (map h (drop k parts)) met labels ≡ total → total ≡ None
+  part_too_many none lt so_far =
+      let some : 0 < length (drop k parts) = simp length-drop (omega arith) in
+      let one : fields_fit (drop k fields) (map h (drop k parts)) met labels ≡ None =
+      rw (none_left fields k none) (no_more h (drop k parts) met labels some) in
       sym so_far ∙ one
 
-  pub parts_done : length fields ≤ k → k ≤ length fields → fields_fit (drop k fields) (map h (drop k parts)) met labels ≡ total → Tells (Ok (nat_le (length parts) (length fields))) total labels
-  parts_done le ge so_far = elim (leb_tells (length parts) (length fields)) [ inl w ↦ enough w.0 w.1 | inr w ↦ too_many w.0 w.1 ]
+  -- where no part is left, no field must be
+  pub parts_done : length parts ≤ k → fields_fit (drop k fields) (map h (drop k parts)) met labels ≡ total → Tells (Ok (is_none (slice_get fields k))) total labels
+  parts_done le so_far = elim (slice_get_cases fields k).1 [ inl w ↦ missing w.0 w.1.0 w.1.1.0 | inr w ↦ enough w.1 ]
     where
-      none : drop k fields ≡ []
-      none = drop_all k fields le
+      sp : drop k parts ≡ []
+      sp = drop_all k parts le
 
-      enough : nat_le (length parts) (length fields) ≡ true → length parts ≤ length fields → Tells (Ok (nat_le (length parts) (length fields))) total labels
-      enough e lp =
-          let sp : drop k parts ≡ [] = drop_all k parts (omega arith) in
-          let one : fields_fit (drop k fields) (map h (drop k parts)) met labels ≡ Some labels = rw (none, sp) refl in
-          rw e (sym so_far ∙ one)
+      missing : (field : Field) → k < length fields → slice_get fields k ≡ Some field → Tells (Ok (is_none (slice_get fields k))) total labels
+      missing field lf found =
+          let some : 0 < length (drop k fields) = simp length-drop (omega arith) in
+          let one : fields_fit (drop k fields) (map h (drop k parts)) met labels ≡ None = rw sp (no_part (drop k fields) met labels some) in
+          rw found (sym so_far ∙ one)
 
-      too_many : nat_le (length parts) (length fields) ≡ false → length fields < length parts → Tells (Ok (nat_le (length parts) (length fields))) total labels
-      too_many e lt =
-          let some : 0 < length (drop k parts) = simp length-drop (omega arith) in
-          let one : fields_fit (drop k fields) (map h (drop k parts)) met labels ≡ None = rw none (no_more h (drop k parts) met labels some) in
-          rw e (sym so_far ∙ one)
+      enough : slice_get fields k ≡ None → Tells (Ok (is_none (slice_get fields k))) total labels
+      enough none =
+          let one : fields_fit (drop k fields) (map h (drop k parts)) met labels ≡ Some labels = rw (none_left fields k none, sp) refl in
+          rw none (sym so_far ∙ one)

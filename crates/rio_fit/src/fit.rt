@@ -11,7 +11,7 @@ ghost use Rattle.rio_fit.specs.Fitting.{IsCounterValue, counter_fits, Tells, par
 
 use crate::derive::{Owner, is_pointer, may_point};
 use crate::fit_numbers::{bits32_fits, bits64_fits, int_fits, text_fits, truth_fits};
-use rio_format::{Counters, Field, Slot, SlotKind, fields_of};
+use rio_format::{Counters, Field, Fields, Slot, SlotKind, fields_of};
 use rio_num::{Items, Name, NoMemory};
 use rio_types::Classes;
 use rio_value::{Part, Value};
@@ -119,7 +119,7 @@ fn part_fits<'a>(
 fn parts_fit<'a>(
     alloc: Global,
     classes: &Classes,
-    fields: &[Field],
+    fields: &Fields,
     parts: &'a [Part],
     owners: &mut Owners<'a>,
 ) -> Result<bool, NoMemory>
@@ -128,15 +128,15 @@ fn parts_fit<'a>(
         owners.new }
 {
     let mut counters = Counters::new(alloc);
-    for (k, field) in fields.iter().enumerate() {
-        let Some(part) = parts.get(k) else {
+    for (k, part) in parts.iter().enumerate() {
+        let Some(field) = fields.get(k) else {
             return Ok(false);
         };
-        if !part_fits(alloc, classes, field, part, &mut counters, owners)? {
+        if !part_fits(alloc, classes, &field, part, &mut counters, owners)? {
             return Ok(false);
         }
     }
-    Ok(parts.len() <= fields.len())
+    Ok(fields.get(parts.len()).is_none())
 }
 
 #[cycle(fit)]
@@ -152,8 +152,8 @@ fn object_fits<'a>(
         (parts_fit (fields_of classes.now class.now version)
         (map (part_fitting classes.now) parts.now) owners.old) owners.new }
 {
-    match fields_of(alloc, classes, class, version)? {
-        Some(fields) => parts_fit(alloc, classes, fields.as_slice(), parts, owners),
+    match fields_of(classes, class, version) {
+        Some(fields) => parts_fit(alloc, classes, &fields, parts, owners),
         None => Ok(false),
     }
 }

@@ -6,6 +6,7 @@ pub mod ComposedLengths
 pub mod ComposedSpells
 pub mod Examples
 pub mod FaultExamples
+pub mod FieldLaws
 mod ListLaws
 pub mod ObjectLaws
 pub mod Tests

@@ -6,6 +6,7 @@ pub mod ClassList
 pub mod Counts
 pub mod Descriptions
 pub mod Elements
+pub mod FieldKinds
 pub mod Fits
 pub mod Laws
 pub mod Lists

@@ -10,6 +10,7 @@ use Rattle.rio_types.specs.declared.class.ClassDef.{ClassDef}
 use Rattle.rio_types.specs.declared.class.Member.{Member}
 use Rattle.rio_types.specs.declared.kind.Kind.{Kind}
 use Rattle.rio_types.specs.declared.kind.Kind.TheVariants.{Plain, Text}
+use Rattle.rio_types.specs.declared.kind.Primitive.{Primitive}
 use Rattle.rio_types.specs.declared.kind.Primitive.TheVariants.{I32, U32}
 use Rattle.rio_format.specs.Bodies.{Form, bare, numbers, headed, form_of, Body, described, listed, arrayed, opaque, built_in, t_object_base}
 
@@ -49,18 +50,35 @@ declared_body classes class version = first (built_in class version)
     first (Some body) = Some body
     first None = option_map described (find_in classes class version)
 
--- the parts of an object behind a header, in order
+-- ---- the parts of objects, in order
+
+abbrev pub described_fields : ClassDef → List Field
+described_fields c = map base_field c.bases ++ map member_field c.members
+
+abbrev pub listed_fields : List Field
+listed_fields = base_field t_object_base ∷ field (codes "fName") (kinded Text) ∷ field (codes "items") (many link) ∷ []
+
+abbrev pub arrayed_fields : List Field
+arrayed_fields =
+    base_field t_object_base ∷ field (codes "fName") (kinded Text) ∷ field (codes "fLowerBound") (kinded (Plain I32)) ∷ field (codes "items") (many any_pointer) ∷ []
+
+abbrev pub bare_fields : List Field
+bare_fields = field (codes "fUniqueID") (kinded (Plain U32)) ∷ field (codes "fBits") flags ∷ []
+
+abbrev pub number_fields : Primitive → List Field
+number_fields of = field (codes "items") (many (kinded (Plain of))) ∷ []
+
+-- the parts behind a header; none where its bytes aren't read
 abbrev pub body_fields : Option Body → Option (List Field)
 body_fields None = None
-body_fields (Some (described c)) = Some (map base_field c.bases ++ map member_field c.members)
-body_fields (Some listed) = Some (base_field t_object_base ∷ field (codes "fName") (kinded Text) ∷ field (codes "items") (many link) ∷ [])
-body_fields (Some arrayed) = Some (base_field t_object_base ∷ field (codes "fName") (kinded Text) ∷ field (codes "fLowerBound") (kinded (Plain I32)) ∷ field (codes "items") (many any_pointer) ∷ [])
+body_fields (Some (described c)) = Some (described_fields c)
+body_fields (Some listed) = Some listed_fields
+body_fields (Some arrayed) = Some arrayed_fields
 body_fields (Some opaque) = None
 
 abbrev pub form_fields : List ClassDef → List ℕ → ℤ → Form → Option (List Field)
-form_fields classes class version bare =
-    if int_eq version (pos 1) then Some (field (codes "fUniqueID") (kinded (Plain U32)) ∷ field (codes "fBits") flags ∷ []) else None
-form_fields classes class version (numbers of) = if int_eq version (pos 1) then Some (field (codes "items") (many (kinded (Plain of))) ∷ []) else None
+form_fields classes class version bare = if int_eq version (pos 1) then Some bare_fields else None
+form_fields classes class version (numbers of) = if int_eq version (pos 1) then Some (number_fields of) else None
 form_fields classes class version headed = body_fields (declared_body classes class version)
 
 -- the parts of an object of a class in a version, in order; none where the version isn't known

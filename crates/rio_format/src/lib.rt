@@ -24,5 +24,5 @@ pub use laws::{
 pub use lists::ClassLists;
 pub use rio_buffer::{Header, ObjFault, PointerWord};
 pub use shape::{Shape, shape_of};
-pub use slot::{Field, Fields, Slot, SlotKind, body_fields, fields_of};
+pub use slot::{Field, Fields, FieldsKind, Slot, SlotKind, body_fields, fields_of};
 pub use width::width_of;

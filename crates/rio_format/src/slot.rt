@@ -1,16 +1,12 @@
 //! The parts of objects, and what may stand there.
-ghost use Rattle.std.specs.Prelude.{◌≡◌, ◌∷◌, ◌++◌, [], map, codes, Some, IfOk};
-ghost use Rattle.rio_format.specs.Bodies.{arrayed, described, listed, t_named, t_obj_string, t_object_base};
-ghost use Rattle.rio_format.specs.Slots.{base_field, member_field, body_fields, declared_body, form_fields, fields_of, field, flags, kinded};
-ghost use Rattle.rio_types.specs.declared.kind.Kind.TheVariants.{Plain};
-ghost use Rattle.rio_types.specs.declared.kind.Primitive.TheVariants.{U32};
+ghost use Rattle.std.specs.Prelude.{◌≡◌, Some, slice_get};
+ghost use Rattle.rio_format.specs.Bodies.{t_named, t_obj_string, t_object_base};
+ghost use Rattle.rio_format.specs.Slots.{arrayed_fields, bare_fields, base_field, body_fields, declared_body, described_fields, field, fields_of, form_fields, kinded, listed_fields, member_field, number_fields};
 ghost use Rattle.rio_format.specs.Bodies.{form_of};
 
 use crate::body::{Body, BodyKind, declared_body};
 use crate::shape::{Shape, shape_of};
-use rio_num::{Items, NoMemory};
 use rio_types::{Base, ClassDef, Classes, Kind, Member, Prim};
-use std::alloc::Global;
 use std::marker::Model;
 
 /// What may stand at a place within a value.
@@ -85,8 +81,62 @@ impl<'a> Model for Field<'a> {
     ghost view = { λ field. record { name = field.name.now; slot = field.slot } };
 }
 
-/// The parts of an object, in order.
-pub type Fields<'a> = Items<Field<'a>>;
+/// The parts of an object, in order, told from its class where that stands: no list is made of them.
+#[derive(Drop)]
+pub struct Fields<'a>(pub FieldsKind<'a>);
+
+impl<'a> Model for Fields<'a> {
+    ghost use Rattle.std.specs.Prelude.{List};
+    ghost use Rattle.std.specs.Coded.{coded_list};
+    ghost use Rattle.rio_format.specs.Slots.{Field as PartField};
+    ghost use Rattle.rio_format.specs.SlotCode.{field_code};
+
+    ghost Value = { List PartField };
+
+    ghost coded = { coded_list field_code };
+
+    ghost use Rattle.rio_format.specs.FieldKinds.{fields_of_kind};
+
+    ghost view = { λ fields. fields_of_kind fields.0 };
+}
+
+/// Whose parts they are.
+#[derive(Clone, Copy)]
+pub enum FieldsKind<'a> {
+    /// An object's of this class, which is described.
+    Described(&'a ClassDef),
+    /// A TNamed's.
+    Named,
+    /// A TObjString's.
+    ObjString,
+    /// A TList's.
+    Listed,
+    /// A TObjArray's.
+    Arrayed,
+    /// A TObject's.
+    Bare,
+    /// A TArray's, of numbers of this kind.
+    Numbers(Prim),
+}
+
+impl<'a> Fields<'a> {
+    ghost use Rattle.std.specs.Prelude.{◌≡◌, slice_get};
+
+    /// The part of this number, counted from 0, or `None` where there are no more.
+    pub fn get(&self, number: usize) -> Option<Field<'a>>
+        ensures { result ≡ slice_get self.now number }
+    {
+        match self.0 {
+            FieldsKind::Described(class) => described_field(class, number),
+            FieldsKind::Named => named_field(number),
+            FieldsKind::ObjString => obj_string_field(number),
+            FieldsKind::Listed => listed_field(number),
+            FieldsKind::Arrayed => arrayed_field(number),
+            FieldsKind::Bare => bare_field(number),
+            FieldsKind::Numbers(of) => number_field(of, number),
+        }
+    }
+}
 
 fn slot_of<'a>(kind: &'a Kind) -> Slot<'a>
     ensures { result ≡ kinded kind.now }
@@ -122,32 +172,17 @@ fn member_field<'a>(member: &'a Member) -> Field<'a>
     }
 }
 
-fn base_fields<'a>(alloc: Global, bases: &'a [Base]) -> Result<Fields<'a>, NoMemory>
-    ensures { IfOk result (λ fs. fs ≡ map base_field bases.now) }
+fn described_field<'a>(class: &'a ClassDef, number: usize) -> Option<Field<'a>>
+    ensures { result ≡ slice_get (described_fields class.now) number }
 {
-    let mut fields = Fields::new(alloc);
-    for base in bases {
-        fields.push(base_field(base))?;
+    let bases = class.bases.as_slice();
+    if number < bases.len() {
+        return Some(base_field(&bases[number]));
     }
-    Ok(fields)
-}
-
-// The members, behind the fields that are given.
-fn with_members<'a>(mut fields: Fields<'a>, members: &'a [Member]) -> Result<Fields<'a>, NoMemory>
-    ensures { IfOk result (λ fs. fs ≡ fields.entry ++ map member_field members.now) }
-{
-    for member in members {
-        fields.push(member_field(member))?;
+    match class.members.as_slice().get(number - bases.len()) {
+        Some(member) => Some(member_field(member)),
+        None => None,
     }
-    Ok(fields)
-}
-
-fn described_fields<'a>(alloc: Global, class: &'a ClassDef) -> Result<Fields<'a>, NoMemory>
-    ensures { IfOk result
-        (λ fs. fs ≡ map base_field class.now.bases ++ map member_field class.now.members) }
-{
-    let bases = base_fields(alloc, class.bases.as_slice())?;
-    with_members(bases, class.members.as_slice())
 }
 
 fn field_of<'a>(name: &'a [u8], slot: Slot<'a>) -> Field<'a>
@@ -156,99 +191,102 @@ fn field_of<'a>(name: &'a [u8], slot: Slot<'a>) -> Field<'a>
     Field { name, slot }
 }
 
-fn one_field<'a>(alloc: Global, name: &'a [u8], slot: Slot<'a>) -> Result<Fields<'a>, NoMemory>
-    ensures { IfOk result (λ fs. fs ≡ field name.now slot.entry ∷ []) }
-{
-    let mut fields = Fields::new(alloc);
-    fields.push(field_of(name, slot))?;
-    Ok(fields)
-}
-
 // The TObject that the built-in classes have as their base.
-fn built_in_base<'a>(alloc: Global) -> Result<Fields<'a>, NoMemory>
-    ensures { IfOk result (λ fs. fs ≡ base_field t_object_base ∷ []) }
+fn object_field<'a>() -> Field<'a>
+    ensures { result ≡ base_field t_object_base }
 {
-    one_field(alloc, b"", Slot(SlotKind::Based(b"TObject", 1)))
+    field_of(b"", Slot(SlotKind::Based(b"TObject", 1)))
 }
 
-fn named_fields<'a>(alloc: Global) -> Result<Fields<'a>, NoMemory>
-    ensures { IfOk result (λ fs. Some fs ≡ body_fields (Some (described t_named))) }
+fn named_field<'a>(number: usize) -> Option<Field<'a>>
+    ensures { result ≡ slice_get (described_fields t_named) number }
 {
-    let mut fields = built_in_base(alloc)?;
-    fields.push(field_of(b"fName", Slot(SlotKind::Text)))?;
-    fields.push(field_of(b"fTitle", Slot(SlotKind::Text)))?;
-    Ok(fields)
-}
-
-fn obj_string_fields<'a>(alloc: Global) -> Result<Fields<'a>, NoMemory>
-    ensures { IfOk result (λ fs. Some fs ≡ body_fields (Some (described t_obj_string))) }
-{
-    let mut fields = built_in_base(alloc)?;
-    fields.push(field_of(b"fString", Slot(SlotKind::Text)))?;
-    Ok(fields)
-}
-
-fn listed_fields<'a>(alloc: Global) -> Result<Fields<'a>, NoMemory>
-    ensures { IfOk result (λ fs. Some fs ≡ body_fields (Some listed)) }
-{
-    let mut fields = built_in_base(alloc)?;
-    fields.push(field_of(b"fName", Slot(SlotKind::Text)))?;
-    fields.push(field_of(b"items", Slot(SlotKind::Links)))?;
-    Ok(fields)
-}
-
-fn arrayed_fields<'a>(alloc: Global) -> Result<Fields<'a>, NoMemory>
-    ensures { IfOk result (λ fs. Some fs ≡ body_fields (Some arrayed)) }
-{
-    let mut fields = built_in_base(alloc)?;
-    fields.push(field_of(b"fName", Slot(SlotKind::Text)))?;
-    fields.push(field_of(b"fLowerBound", Slot(SlotKind::Plain(Prim::I32))))?;
-    fields.push(field_of(b"items", Slot(SlotKind::Pointers)))?;
-    Ok(fields)
-}
-
-/// The parts of an object that has this body, in order, or `None` where its bytes aren't read.
-pub fn body_fields<'a>(alloc: Global, body: &Body<'a>) -> Result<Option<Fields<'a>>, NoMemory>
-    ensures { IfOk result (λ fs. fs ≡ body_fields (Some body.now)) }
-{
-    match body.0 {
-        BodyKind::Described(class) => Ok(Some(described_fields(alloc, class)?)),
-        BodyKind::Named => Ok(Some(named_fields(alloc)?)),
-        BodyKind::ObjString => Ok(Some(obj_string_fields(alloc)?)),
-        BodyKind::Listed => Ok(Some(listed_fields(alloc)?)),
-        BodyKind::Arrayed => Ok(Some(arrayed_fields(alloc)?)),
-        BodyKind::Opaque => Ok(None),
+    match number {
+        0 => Some(object_field()),
+        1 => Some(field_of(b"fName", Slot(SlotKind::Text))),
+        2 => Some(field_of(b"fTitle", Slot(SlotKind::Text))),
+        _ => None,
     }
 }
 
-fn bare_fields<'a>(alloc: Global) -> Result<Fields<'a>, NoMemory>
-    ensures { IfOk result
-        (λ fs. fs ≡ field (codes "fUniqueID") (kinded (Plain U32)) ∷ field (codes "fBits") flags
-        ∷ []) }
+fn obj_string_field<'a>(number: usize) -> Option<Field<'a>>
+    ensures { result ≡ slice_get (described_fields t_obj_string) number }
 {
-    let mut fields = one_field(alloc, b"fUniqueID", Slot(SlotKind::Plain(Prim::U32)))?;
-    fields.push(field_of(b"fBits", Slot(SlotKind::Flags)))?;
-    Ok(fields)
+    match number {
+        0 => Some(object_field()),
+        1 => Some(field_of(b"fString", Slot(SlotKind::Text))),
+        _ => None,
+    }
 }
 
-/// The parts of an object of a class in a version, in order, or `None` where the version isn't known.
-pub fn fields_of<'a>(
-    alloc: Global,
-    classes: &'a Classes,
-    class: &[u8],
-    version: i32,
-) -> Result<Option<Fields<'a>>, NoMemory>
-    ensures { IfOk result (λ o. o ≡ fields_of classes.now class.now version) }
+fn listed_field<'a>(number: usize) -> Option<Field<'a>>
+    ensures { result ≡ slice_get listed_fields number }
+{
+    match number {
+        0 => Some(object_field()),
+        1 => Some(field_of(b"fName", Slot(SlotKind::Text))),
+        2 => Some(field_of(b"items", Slot(SlotKind::Links))),
+        _ => None,
+    }
+}
+
+fn arrayed_field<'a>(number: usize) -> Option<Field<'a>>
+    ensures { result ≡ slice_get arrayed_fields number }
+{
+    match number {
+        0 => Some(object_field()),
+        1 => Some(field_of(b"fName", Slot(SlotKind::Text))),
+        2 => Some(field_of(b"fLowerBound", Slot(SlotKind::Plain(Prim::I32)))),
+        3 => Some(field_of(b"items", Slot(SlotKind::Pointers))),
+        _ => None,
+    }
+}
+
+fn bare_field<'a>(number: usize) -> Option<Field<'a>>
+    ensures { result ≡ slice_get bare_fields number }
+{
+    match number {
+        0 => Some(field_of(b"fUniqueID", Slot(SlotKind::Plain(Prim::U32)))),
+        1 => Some(field_of(b"fBits", Slot(SlotKind::Flags))),
+        _ => None,
+    }
+}
+
+fn number_field<'a>(of: Prim, number: usize) -> Option<Field<'a>>
+    ensures { result ≡ slice_get (number_fields of) number }
+{
+    match number {
+        0 => Some(field_of(b"items", Slot(SlotKind::Numbers(of)))),
+        _ => None,
+    }
+}
+
+/// The parts of an object that has this body, or `None` where its bytes aren't read.
+pub fn body_fields<'a>(body: &Body<'a>) -> Option<Fields<'a>>
+    ensures { result ≡ body_fields (Some body.now) }
+{
+    let kind = match body.0 {
+        BodyKind::Described(class) => FieldsKind::Described(class),
+        BodyKind::Named => FieldsKind::Named,
+        BodyKind::ObjString => FieldsKind::ObjString,
+        BodyKind::Listed => FieldsKind::Listed,
+        BodyKind::Arrayed => FieldsKind::Arrayed,
+        BodyKind::Opaque => return None,
+    };
+    Some(Fields(kind))
+}
+
+/// The parts of an object of a class in a version, or `None` where the version isn't known.
+pub fn fields_of<'a>(classes: &'a Classes, class: &[u8], version: i32) -> Option<Fields<'a>>
+    ensures { result ≡ fields_of classes.now class.now version }
 {
     match shape_of(class) {
-        Shape::Bare if version == 1 => Ok(Some(bare_fields(alloc)?)),
-        Shape::Numbers(of) if version == 1 => {
-            Ok(Some(one_field(alloc, b"items", Slot(SlotKind::Numbers(of)))?))
-        }
+        Shape::Bare if version == 1 => Some(Fields(FieldsKind::Bare)),
+        Shape::Numbers(of) if version == 1 => Some(Fields(FieldsKind::Numbers(of))),
         Shape::Headed => match declared_body(classes, class, version) {
-            Some(body) => body_fields(alloc, &body),
-            None => Ok(None),
+            Some(body) => body_fields(&body),
+            None => None,
         },
-        _ => Ok(None),
+        _ => None,
     }
 }

@@ -1,5 +1,5 @@
 -- What a sink took, one thing behind the other.
-use Rattle.std.proofs.Common.{◌≡◌, ◌<◌, ◌≤◌, ◌^◌, ℕ, ◌+◌, ◌-◌, ◌++◌, List, [], Bool, IsTrue, length, map, drop, slice_index_or, Some, Option, Result, Ok, Err, refl, sym, ap, subst, ◌∙◌}
+use Rattle.std.proofs.Common.{◌≡◌, ◌<◌, ◌≤◌, ◌^◌, ℕ, ◌+◌, ◌-◌, ◌++◌, List, [], Bool, IsTrue, length, map, drop, slice_get, slice_index_or, None, Some, Option, Result, Ok, Err, refl, sym, ap, subst, ◌∙◌}
 use Rattle.std.specs.Prelude.{ℤ}
 use Rattle.std.specs.Int.{w16, cast_unsigned}
 use Rattle.byteorder.specs.Endian.{big_bytes}
@@ -94,21 +94,21 @@ module _ {K Y : Type 0} (stands : K → WriterState → Type 0) (bounded : Bool)
   abbrev pub parts_from : ℕ → Writer
   parts_from i = fields_bytes (drop i fields) (map h (drop i parts))
 
-  module _ (field : Field) (slot : Slot) (y : Y) (lf : i < length fields) (lp : i < length parts) (f : field ≡ slice_index_or fields i field) (same : slot ≡ field.slot) (e : y ≡ slice_index_or parts i y) (k : K) where
+  module _ (field : Field) (slot : Slot) (y : Y) (f : slice_get fields i ≡ Some field) (lp : i < length parts) (same : slot ≡ field.slot) (e : y ≡ slice_index_or parts i y) (k : K) where
     abbrev part : Writer
     part = (h y).bytes slot
 
     pub part_fits : RoomFor stands bounded (parts_from i) k → RoomFor stands bounded part k
-    part_fits = holds_so stands bounded (HasRoom (parts_from i)) (HasRoom part) k (λ s. part_room h fields parts i s field slot y lf lp f same e)
+    part_fits = holds_so stands bounded (HasRoom (parts_from i)) (HasRoom part) k (λ s. part_room h fields parts i s field slot y f lp same e)
 
     pub parts_go : (whole : Writer) (first k1 : K) → Accepted stands part k k1 → Leads stands whole (parts_from i) first k × RoomFor stands bounded (parts_from i) k → Leads stands whole (parts_from (i + 1)) first k1 × RoomFor stands bounded (parts_from (i + 1)) k1
     parts_go whole first k1 one so_far = (
-      leads_on stands whole (parts_from i) part (parts_from (i + 1)) first k k1 (λ s total so. parts_go_on h fields parts i s field slot y lf lp f same e (with_written part s) total refl so) one so_far.0,
-      holds_then stands bounded part (HasRoom (parts_from i)) (HasRoom (parts_from (i + 1))) k k1 (λ s room. parts_room h fields parts i s field slot y lf lp f same e (with_written part s) refl room) one so_far.1,
+      leads_on stands whole (parts_from i) part (parts_from (i + 1)) first k k1 (λ s total so. parts_go_on h fields parts i s field slot y f lp same e (with_written part s) total refl so) one so_far.0,
+      holds_then stands bounded part (HasRoom (parts_from i)) (HasRoom (parts_from (i + 1))) k k1 (λ s room. parts_room h fields parts i s field slot y f lp same e (with_written part s) refl room) one so_far.1,
     )
 
-  pub fields_end : (whole : Writer) (first k : K) → length fields ≤ i → Leads stands whole (parts_from i) first k → Accepted stands whole first k
-  fields_end whole first k le = leads_end stands whole (parts_from i) first k (λ s total so. parts_done h fields parts i s total le so)
+  pub fields_end : (whole : Writer) (first k : K) → slice_get fields i ≡ None → Leads stands whole (parts_from i) first k → Accepted stands whole first k
+  fields_end whole first k none = leads_end stands whole (parts_from i) first k (λ s total so. parts_done h fields parts i s total none so)
 
   pub parts_end : (whole : Writer) (first k : K) → length parts ≤ i → Leads stands whole (parts_from i) first k → Accepted stands whole first k
   parts_end whole first k le = leads_end stands whole (parts_from i) first k (λ s total so. parts_missing h fields parts i s total le so)

@@ -1,5 +1,5 @@
 -- What is written, one thing behind the other.
-use Rattle.std.proofs.Common.{◌≡◌, ◌<◌, ◌≤◌, ◌^◌, ℕ, ◌+◌, ◌-◌, List, [], ◌∷◌, ◌++◌, Bool, true, false, cond, ltb, length, drop, map, slice_index_or, Some, Result, Ok, Err, refl, sym, ap, subst, ◌∙◌, append_assoc, arith}
+use Rattle.std.proofs.Common.{◌≡◌, ◌<◌, ◌≤◌, ◌^◌, ℕ, ◌+◌, ◌-◌, List, [], ◌∷◌, ◌++◌, Bool, true, false, cond, ltb, length, drop, map, slice_get, slice_index_or, None, Some, Result, Ok, Err, refl, sym, ap, subst, ◌∙◌, append_assoc, arith}
 use Rattle.std.proofs.Math.Seq.{drop-append-add, take-append_seam}
 use Rattle.std.proofs.lemmas.List.{append-nil, drop_more, drop_all, length-append}
 use Rattle.std.specs.Prelude.{ℤ}
@@ -8,6 +8,7 @@ use Rattle.byteorder.specs.Endian.{big_bytes}
 use Rattle.rio_num.specs.Text.{text_bytes, short_form, long_form}
 use Rattle.rio_num.specs.declared.no_memory.NoMemory.{NoMemory}
 use Rattle.rio_buffer.specs.ReaderState.{WordsMet, no_words, with_label}
+use Rattle.rio_format.proofs.FieldLaws.{found_first, none_left}
 use Rattle.rio_format.specs.Slots.{Slot, Field}
 use Rattle.rio_buffer.specs.Writer.{Writer, class_bytes, Puts, WriterState, next_place, nothing_written, ended, with_count, counted_from, innermost}
 use Rattle.rio_format.specs.Written.{Writing, just, both, all, counted, fields_bytes, headed_bytes}
@@ -89,10 +90,10 @@ module _ {Y : Type 0} (h : Y → Writing) (fields : List Field) (parts : List Y)
   abbrev left_from : ℕ → Writer
   left_from k = fields_bytes (drop k fields) (map h (drop k parts))
 
-  module _ (field : Field) (slot : Slot) (y : Y) (lf : k < length fields) (lp : k < length parts) (f : field ≡ slice_index_or fields k field) (same : slot ≡ field.slot) (e : y ≡ slice_index_or parts k y) where
+  module _ (field : Field) (slot : Slot) (y : Y) (f : slice_get fields k ≡ Some field) (lp : k < length parts) (same : slot ≡ field.slot) (e : y ≡ slice_index_or parts k y) where
     cut : left_from k ≡ both ((h y).bytes slot) (left_from (k + 1))
     cut =
-        let sf : drop k fields ≡ field ∷ drop (k + 1) fields = drop_more fields k field lf ∙ ap (λ (z : Field). z ∷ drop (k + 1) fields) (sym f) in
+        let sf = found_first fields k field f in
         let sp : drop k parts ≡ y ∷ drop (k + 1) parts = drop_more parts k y lp ∙ ap (λ (z : Y). z ∷ drop (k + 1) parts) (sym e) in
         rw (sf, sp, same) refl
 
@@ -117,10 +118,10 @@ module _ {Y : Type 0} (h : Y → Writing) (fields : List Field) (parts : List Y)
       let one : with_written (left_from k) s ≡ s = rw none (no_part (drop k fields)) in
       sym one ∙ so_far
 
-  pub parts_done : (total : WriterState) → length fields ≤ k → with_written (left_from k) s ≡ total → s ≡ total
+  pub parts_done : (total : WriterState) → slice_get fields k ≡ None → with_written (left_from k) s ≡ total → s ≡ total
   unfolding with_written
-  parts_done total lf so_far =
-      let none : drop k fields ≡ [] = drop_all k fields lf in
+  parts_done total f so_far =
+      let none = none_left fields k f in
       let one : with_written (left_from k) s ≡ s = rw (none, append-nil) refl in
       sym one ∙ so_far
 

@@ -10,7 +10,7 @@ ghost use Rattle.rio_write.specs.Writing.{part_writing};
 use crate::numbers::{bits_16, write_bool, write_count, write_int};
 use crate::sink::Sink;
 use rio_format::{
-    Body, BodyKind, Field, Shape, Slot, SlotKind, body_fields, declared_body, shape_of,
+    Body, BodyKind, Fields, Shape, Slot, SlotKind, body_fields, declared_body, shape_of,
 };
 use rio_num::{Names, NoMemory};
 use rio_types::{Classes, Prim};
@@ -165,7 +165,7 @@ fn write_fields<'a, S: Sink>(
     classes: &Classes,
     sink: &mut S,
     names: &mut Names<'a>,
-    fields: &[Field],
+    fields: &Fields,
     parts: &'a [Part],
 ) -> Result<(), NoMemory>
     requires { RoomFor S.stands S.bounded (fields_bytes fields.now (map (part_writing classes.now)
@@ -173,8 +173,8 @@ fn write_fields<'a, S: Sink>(
     ensures { Accepts S.stands (fields_bytes fields.now (map (part_writing classes.now) parts.now))
         result (sink.old, names.old) (sink.new, names.new) }
 {
-    for (k, field) in fields.iter().enumerate() {
-        let Some(part) = parts.get(k) else {
+    for (k, part) in parts.iter().enumerate() {
+        let Some(field) = fields.get(k) else {
             return Ok(());
         };
         write_value(alloc, classes, sink, names, &part.value, &field.slot)?;
@@ -310,8 +310,8 @@ fn write_described<'a, S: Sink>(
     ensures { Accepts S.stands (described_bytes (body_fields (Some body.now)) (map (part_writing
         classes.now) parts.now)) result (sink.old, names.old) (sink.new, names.new) }
 {
-    match body_fields(alloc, body)? {
-        Some(fields) => write_fields(alloc, classes, sink, names, fields.as_slice(), parts),
+    match body_fields(body) {
+        Some(fields) => write_fields(alloc, classes, sink, names, &fields, parts),
         None => Ok(()),
     }
 }

@@ -3,7 +3,7 @@ use Rattle.rio_types.specs.declared.kind.Kind.TheVariants.{Counter}
 use Rattle.rio_format.specs.Slots.{Field, kinded}
 use Rattle.rio_format.specs.SlotKinds.{slot_of_kind}
 use Rattle.rio_fit.specs.Fitting.{part_fitting}
-use Rattle.rio_fit.proofs.FitLaws.{part_counts, part_goes_on, part_missing, parts_done, same_names}
+use Rattle.rio_fit.proofs.FitLaws.{part_counts, part_goes_on, part_too_many, parts_done, same_names}
 use Rattle.rio_fit.proofs.fit.+fit.Goals as goal
 
 pub part_fits-returns-in-Counter : goal.part_fits-returns-in-Counter
@@ -16,16 +16,16 @@ part_fits-returns-in-Counter t c =
 
 pub parts_fit-returns-in_default : goal.parts_fit-returns-in_default
 parts_fit-returns-in_default t c =
-    part_missing (part_fitting c.args.classes.now) c.args.fields.now c.args.parts.now c.loop-k.k c.loop-k.counters c.loop-k.owners _ c.loop-k-test.true c.in_default.ensures.lookup.3 c.loop-k.invariant
+    part_too_many (part_fitting c.args.classes.now) c.args.fields.now c.args.parts.now c.loop-k.k c.loop-k.counters c.loop-k.owners _ (sym c.get.ensures ∙ c.in_default.is) c.loop-k-test.true c.loop-k.invariant
 
 pub parts_fit-loop-k-preserved : goal.parts_fit-loop-k-preserved
 parts_fit-loop-k-preserved t c =
     let fit = rw c.if-not-branch.false at c.in_ok-part_fits.ensures in
-    part_goes_on (part_fitting c.args.classes.now) c.args.fields.now c.args.parts.now c.loop-k.k c.loop-k.counters c.loop-k.owners _ c.index-fields-k.result c.in-Some.part.now c.part_fits.new.owners c.part_fits.new.counters c.loop-k-test.true c.in-Some.ensures.lookup.3.0 c.index-fields-k.is c.in-Some.ensures.lookup.1 fit c.loop-k.invariant
+    part_goes_on (part_fitting c.args.classes.now) c.args.fields.now c.args.parts.now c.loop-k.k c.loop-k.counters c.loop-k.owners _ c.in-Some.field c.index-parts-k.result c.part_fits.new.owners c.part_fits.new.counters (sym c.get.ensures ∙ c.in-Some.is) c.loop-k-test.true c.index-parts-k.is fit c.loop-k.invariant
 
 pub parts_fit-returns : goal.parts_fit-returns
 parts_fit-returns t c =
-    parts_done (part_fitting c.args.classes.now) c.args.fields.now c.args.parts.now c.loop-k.k c.loop-k.counters c.loop-k.owners _ c.loop-k-test.false c.loop-k.auto.k-end c.loop-k.invariant
+    parts_done (part_fitting c.args.classes.now) c.args.fields.now c.args.parts.now c.loop-k.k c.loop-k.counters c.loop-k.owners _ c.loop-k-test.false c.loop-k.invariant
 
 pub pointed_fits-returns-in-Some : goal.pointed_fits-returns-in-Some
 pointed_fits-returns-in-Some t c = rw (← (sym c.in-Some.is ∙ c.owner_of.ensures c.args.classes.now)) c.labelled_fits.ensures

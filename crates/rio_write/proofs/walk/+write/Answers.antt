@@ -164,20 +164,20 @@ write_all-returns g t c = items_end g.S.Sink.stands g.S.Sink.bounded (writing_of
 
 pub write_fields-write_value-requires : goal.write_fields-write_value-requires
 write_fields-write_value-requires g t c κs lives =
-    let room = part_fits g.S.Sink.stands g.S.Sink.bounded (part_writing c.args.classes.now) c.args.fields.now c.args.parts.now c.loop-k.k c.index-fields-k.result c.field.inside.slot c.in-Some.part.now c.loop-k-test.true c.in-Some.ensures.lookup.3.0 c.index-fields-k.is (ap (λ (f : Field). f.slot) c.field.view_is) c.in-Some.ensures.lookup.1 (c.loop-k.sink, c.loop-k.names) c.loop-k.invariant.1 in
+    let room = part_fits g.S.Sink.stands g.S.Sink.bounded (part_writing c.args.classes.now) c.args.fields.now c.args.parts.now c.loop-k.k c.in-Some.field c.field.inside.slot c.index-parts-k.result (sym c.get.ensures ∙ c.in-Some.is) c.loop-k-test.true (ap (λ (f : Field). f.slot) c.field.view_is) c.index-parts-k.is (c.loop-k.sink, c.loop-k.names) c.loop-k.invariant.1 in
     search (rules, the_lemmas)
 
 pub write_fields-loop-k-init : goal.write_fields-loop-k-init
 write_fields-loop-k-init g t c = (leads_first g.S.Sink.stands _ (c.args.sink.now, c.args.names.now), c.requires)
 
 pub write_fields-loop-k-preserved : goal.write_fields-loop-k-preserved
-write_fields-loop-k-preserved g t c = parts_go g.S.Sink.stands g.S.Sink.bounded (part_writing c.args.classes.now) c.args.fields.now c.args.parts.now c.loop-k.k c.index-fields-k.result c.field.inside.slot c.in-Some.part.now c.loop-k-test.true c.in-Some.ensures.lookup.3.0 c.index-fields-k.is (ap (λ (f : Field). f.slot) c.field.view_is) c.in-Some.ensures.lookup.1 (c.loop-k.sink, c.loop-k.names) _ (c.args.sink.now, c.args.names.now) (c.write_value.new.sink, c.write_value.new.names) c.in_ok-write_value.ensures c.loop-k.invariant
+write_fields-loop-k-preserved g t c = parts_go g.S.Sink.stands g.S.Sink.bounded (part_writing c.args.classes.now) c.args.fields.now c.args.parts.now c.loop-k.k c.in-Some.field c.field.inside.slot c.index-parts-k.result (sym c.get.ensures ∙ c.in-Some.is) c.loop-k-test.true (ap (λ (f : Field). f.slot) c.field.view_is) c.index-parts-k.is (c.loop-k.sink, c.loop-k.names) _ (c.args.sink.now, c.args.names.now) (c.write_value.new.sink, c.write_value.new.names) c.in_ok-write_value.ensures c.loop-k.invariant
 
 pub write_fields-returns-in_default : goal.write_fields-returns-in_default
-write_fields-returns-in_default g t c = parts_end g.S.Sink.stands g.S.Sink.bounded (part_writing c.args.classes.now) c.args.fields.now c.args.parts.now c.loop-k.k _ (c.args.sink.now, c.args.names.now) (c.loop-k.sink, c.loop-k.names) c.in_default.ensures.lookup.3 c.loop-k.invariant.0
+write_fields-returns-in_default g t c = fields_end g.S.Sink.stands g.S.Sink.bounded (part_writing c.args.classes.now) c.args.fields.now c.args.parts.now c.loop-k.k _ (c.args.sink.now, c.args.names.now) (c.loop-k.sink, c.loop-k.names) (sym c.get.ensures ∙ c.in_default.is) c.loop-k.invariant.0
 
 pub write_fields-returns : goal.write_fields-returns
-write_fields-returns g t c = fields_end g.S.Sink.stands g.S.Sink.bounded (part_writing c.args.classes.now) c.args.fields.now c.args.parts.now c.loop-k.k _ (c.args.sink.now, c.args.names.now) (c.loop-k.sink, c.loop-k.names) c.loop-k-test.false c.loop-k.invariant.0
+write_fields-returns g t c = parts_end g.S.Sink.stands g.S.Sink.bounded (part_writing c.args.classes.now) c.args.fields.now c.args.parts.now c.loop-k.k _ (c.args.sink.now, c.args.names.now) (c.loop-k.sink, c.loop-k.names) c.loop-k-test.false c.loop-k.invariant.0
 
 pub write_headed-write_declared-requires : goal.write_headed-write_declared-requires
 write_headed-write_declared-requires g t c κs lives =
