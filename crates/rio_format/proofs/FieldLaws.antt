@@ -1,6 +1,6 @@
 -- The parts that are left from a number on, by what is found at that number.
 use Rattle.std.proofs.Common.{◌≡◌, ◌<◌, ℕ, zero, suc, ◌+◌, List, [], ◌∷◌, length, drop, Some, None, slice_get, refl, ap, ◌∙◌, arith}
-use Rattle.std.proofs.lemmas.List.{drop_more, drop_all}
+use Rattle.std.proofs.lemmas.List.{drop_more}
 use Rattle.std.proofs.lemmas.Option.{get_or_from_slice_get, slice_get_within}
 
 module _ {X : Type 0} where
@@ -9,7 +9,8 @@ module _ {X : Type 0} where
       drop_more xs k x (slice_get_within xs k x found) ∙ ap (λ (y : X). y ∷ drop (k + 1) xs) (get_or_from_slice_get xs k x x found)
 
   pub none_left : (xs : List X) (k : ℕ) → slice_get xs k ≡ None → drop k xs ≡ []
-  none_left [] k none = drop_all {X} [] k (omega arith)
+  none_left [] zero none = refl
+  none_left [] (suc k) none = refl
   none_left (x ∷ xs) zero none = absurd cc
   none_left (x ∷ xs) (suc k) none = none_left xs k none
 
