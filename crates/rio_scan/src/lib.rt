@@ -3,13 +3,13 @@
 //! branches count), `Rows`, `Refusals`, `Scan`, and
 //! `Sweeps` (how a walk over the rows finds the branches that aren't read).
 //!
-//! `tests` has rows of what stands below: leaf lists, baskets, entries and the headers of trees.
+//! `rows` has rows of what stands below: leaf lists, baskets, entries and the headers of trees.
 #![tactic(auto)]
 
 mod no_tree;
 mod row;
 #[cfg(test)]
-mod tests;
+mod rows;
 
 pub use no_tree::NoTree;
 pub use row::{BranchRows, Refusals, Row};
