@@ -2,7 +2,7 @@
 
 mod written;
 
-use crate::tests::printed::printed_classes;
+use crate::rows::printed::printed_classes;
 use rio_buffer::ObjFault;
 use rio_info::read_info;
 use rio_num::{Bytes, NoMemory};

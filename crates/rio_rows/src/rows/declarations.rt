@@ -3,7 +3,7 @@
 mod read;
 mod stated;
 
-use crate::tests::classes::{ClassRow, Holds, is_text};
+use crate::rows::classes::{ClassRow, Holds, is_text};
 use rio_decl::print_class;
 use rio_num::{Bytes, NoMemory};
 use rio_types::{ClassDef, Prim};

@@ -2,7 +2,7 @@
 
 mod printed;
 
-use crate::tests::classes::{ClassRow, Holds, base_of, classes_of, is_text, member_of};
+use crate::rows::classes::{ClassRow, Holds, base_of, classes_of, is_text, member_of};
 use printed::printed_element;
 use rio_describe::{JudgedLists, base_element, member_element, tree_classes};
 use rio_format::ClassLists;

@@ -1,5 +1,5 @@
 //! Declarations, and what each of them is answered.
-use crate::tests::classes::{bare_class, name_of};
+use crate::rows::classes::{bare_class, name_of};
 use rio_num::{Name, NoMemory};
 use rio_registry::{DeclareFault, Registry, is_reserved_name};
 use rio_types::{Base, ClassDef, Kind, Member, Members};

@@ -3,7 +3,7 @@
 mod read;
 mod resolved;
 
-use crate::tests::classes::{is_text, name_of};
+use crate::rows::classes::{is_text, name_of};
 use rio_num::{Boxed, Bytes, Name, NoMemory};
 use rio_valtext::print_value;
 use rio_value::{Part, Parts, Value, Values};

@@ -1,7 +1,7 @@
 //! Entries of branches of leaves.
 mod objects;
 
-use crate::tests::leaf_lists::branch_of_row;
+use crate::rows::leaf_lists::branch_of_row;
 use rio_entry::{read_entry, write_entry};
 use rio_leaf::BranchDef;
 use rio_num::NoMemory;

@@ -1,5 +1,5 @@
 //! The header that is written for a tree, member by member.
-use crate::tests::trees::value_of_v;
+use crate::rows::trees::value_of_v;
 use rio_num::{Bytes, NoMemory};
 use rio_value::{Part, Value};
 use std::alloc::Global;

@@ -1,5 +1,5 @@
 //! The header of a tree, made and read.
-use crate::tests::leaf_lists::{are_listed, leaves_of_row};
+use crate::rows::leaf_lists::{are_listed, leaves_of_row};
 use rio_leaf::{BranchDef, LeafFault, Shape};
 use rio_num::Name;
 use rio_tree::{

@@ -1,6 +1,6 @@
 //! Declarations that are read, and the first token that can't stand in others.
-use crate::tests::classes::is_text;
-use crate::tests::printed::printed_members;
+use crate::rows::classes::is_text;
+use crate::rows::printed::printed_members;
 use rio_decl::{TextFault, checksum, print_class, read_class, take_class};
 use rio_num::{Bytes, NoMemory};
 use rio_token::Tokens;

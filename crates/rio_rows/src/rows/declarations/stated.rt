@@ -1,6 +1,6 @@
 //! Which classes declarations can give.
-use crate::tests::classes::{Holds, base_of, member_of};
-use crate::tests::declarations::read::class_in;
+use crate::rows::classes::{Holds, base_of, member_of};
+use crate::rows::declarations::read::class_in;
 use rio_decl::{TextFault, checksum, is_stated};
 use rio_num::NoMemory;
 use rio_types::{ClassDef, Prim};

@@ -1,5 +1,5 @@
 //! Values with the versions that their text leaves open.
-use crate::tests::classes::{ClassRow, classes_of, is_text};
+use crate::rows::classes::{ClassRow, classes_of, is_text};
 use rio_num::{Bytes, NoMemory};
 use rio_token::Tokens;
 use rio_types::Classes;
