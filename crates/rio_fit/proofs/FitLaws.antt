@@ -3,10 +3,11 @@ use Rattle.std.proofs.Common.{◌≡◌, ◌≤◌, ◌<◌, ℕ, ◌+◌, List,
 use Rattle.std.specs.Prelude.{ℤ, is_none, option_and_then, slice_get, unwrap_or}
 use Rattle.std.specs.Option.{option_map}
 use Rattle.std.specs.Str.{bytes_eq}
-use Rattle.std.proofs.lemmas.Option.{slice_get_cases}
+use Rattle.std.proofs.lemmas.Bool.Decides.{leb_tells}
+use Rattle.std.proofs.lemmas.Option.{slice_get_past}
 use Rattle.std.proofs.lemmas.List.{drop_more, drop_all}
 use Rattle.rio_types.specs.declared.kind.Kind.TheVariants.{Counter}
-use Rattle.rio_format.proofs.FieldLaws.{found_first, none_left}
+use Rattle.rio_format.proofs.FieldLaws.{found_first, none_left, some_left}
 use Rattle.rio_format.specs.Bodies.{Counters}
 use Rattle.rio_format.specs.Fits.{Fitting, Labels, counted_slot, counted_so_far, fields_fit}
 use Rattle.rio_format.specs.Slots.{Field, kinded}
@@ -79,13 +80,21 @@ no_part [] met labels lt = absurd (omega arith)
 no_part (f ∷ fs) met labels lt = refl
 
 module _ {Y : Type 0} (h : Y → List ℕ × Fitting) (fields : List Field) (parts : List Y) (k : ℕ) (met : Counters) (labels : Labels) (total : Option Labels) where
-  pub part_goes_on : (field : Field) (part : Y) (after : Labels) (met' : Counters) → slice_get fields k ≡ Some field → k < length parts → part ≡ slice_index_or parts k part → part_fits field (h part) met labels ≡ Some (after, met') → fields_fit (drop k fields) (map h (drop k parts)) met labels ≡ total → fields_fit (drop (k + 1) fields) (map h (drop (k + 1) parts)) met' after ≡ total
-  part_goes_on field part after met' found lp e fit so_far =
-      let sf = found_first fields k field found in
-      let sp : drop k parts ≡ part ∷ drop (k + 1) parts = drop_more parts k part lp ∙ ap (λ (z : Y). z ∷ drop (k + 1) parts) (sym e) in
-      let one : fields_fit (drop k fields) (map h (drop k parts)) met labels ≡ fields_fit (drop (k + 1) fields) (map h (drop (k + 1) parts)) met' after =
-      rw (sf, sp) (one_more field (h part) (drop (k + 1) fields) (map h (drop (k + 1) parts)) met labels after met' fit) in
-      sym one ∙ so_far
+  module _ (field : Field) (part : Y) (found : slice_get fields k ≡ Some field) (lp : k < length parts) (e : part ≡ slice_index_or parts k part) where
+    first : drop k parts ≡ part ∷ drop (k + 1) parts
+    first = drop_more parts k part lp ∙ ap (λ (z : Y). z ∷ drop (k + 1) parts) (sym e)
+
+    pub part_goes_on : (after : Labels) (met' : Counters) → part_fits field (h part) met labels ≡ Some (after, met') → fields_fit (drop k fields) (map h (drop k parts)) met labels ≡ total → fields_fit (drop (k + 1) fields) (map h (drop (k + 1) parts)) met' after ≡ total
+    part_goes_on after met' fit so_far =
+        let one : fields_fit (drop k fields) (map h (drop k parts)) met labels ≡ fields_fit (drop (k + 1) fields) (map h (drop (k + 1) parts)) met' after =
+        rw (found_first fields k field found, first) (one_more field (h part) (drop (k + 1) fields) (map h (drop (k + 1) parts)) met labels after met' fit) in
+        sym one ∙ so_far
+
+    pub part_stops : part_fits field (h part) met labels ≡ None → fields_fit (drop k fields) (map h (drop k parts)) met labels ≡ total → total ≡ None
+    part_stops fit so_far =
+        let one : fields_fit (drop k fields) (map h (drop k parts)) met labels ≡ None =
+        rw (found_first fields k field found, first) (one_less field (h part) (drop (k + 1) fields) (map h (drop (k + 1) parts)) met labels fit) in
+        sym so_far ∙ one
 
 module _ {Y : Type 0} (h : Y → List ℕ × Fitting) (fields : List Field) (parts : List Y) (k : ℕ) (met : Counters) (labels : Labels) (total : Option Labels) where
   pub part_too_many : slice_get fields k ≡ None → k < length parts → fields_fit (drop k fields) (map h (drop k parts)) met labels ≡ total → total ≡ None
@@ -96,17 +105,18 @@ module _ {Y : Type 0} (h : Y → List ℕ × Fitting) (fields : List Field) (par
       sym so_far ∙ one
 
   -- where no part is left, no field must be
-  pub parts_done : length parts ≤ k → fields_fit (drop k fields) (map h (drop k parts)) met labels ≡ total → Tells (Ok (is_none (slice_get fields k))) total labels
-  parts_done le so_far = elim (slice_get_cases fields k).1 [ inl w ↦ missing w.0 w.1.0 w.1.1.0 | inr w ↦ enough w.1 ]
+  pub parts_done : (done : Bool) → length parts ≤ k → done ≡ is_none (slice_get fields k) → fields_fit (drop k fields) (map h (drop k parts)) met labels ≡ total → Tells (Ok done) total labels
+  parts_done done le is so_far = rw is (elim (leb_tells (length fields) k) [ inl w ↦ enough (slice_get_past fields k w.1) | inr w ↦ missing w.1 ])
     where
       sp : drop k parts ≡ []
       sp = drop_all k parts le
 
-      missing : (field : Field) → k < length fields → slice_get fields k ≡ Some field → Tells (Ok (is_none (slice_get fields k))) total labels
-      missing field lf found =
+      missing : k < length fields → Tells (Ok (is_none (slice_get fields k))) total labels
+      missing lf =
+          let found = some_left fields k lf in
           let some : 0 < length (drop k fields) = simp length-drop (omega arith) in
           let one : fields_fit (drop k fields) (map h (drop k parts)) met labels ≡ None = rw sp (no_part (drop k fields) met labels some) in
-          rw found (sym so_far ∙ one)
+          rw found.1 (sym so_far ∙ one)
 
       enough : slice_get fields k ≡ None → Tells (Ok (is_none (slice_get fields k))) total labels
       enough none =
