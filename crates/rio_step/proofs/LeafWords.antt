@@ -10,8 +10,7 @@ use Rattle.rio_token.specs.Words.{decimal, num_between_of, num_of, written}
 use Rattle.rio_leaf.specs.declared.leaf.Dim.{Dim}
 use Rattle.rio_leaf.specs.declared.leaf.Dim.TheVariants.{One, Fixed, Counted}
 use Rattle.rio_leaf.specs.declared.leaf.Leaf.{Leaf}
-use Rattle.rio_leaf.specs.Leaves.{has_counting_leaf, has_leaf, is_dim, is_leaf_count, is_letter_of}
-use Rattle.rio_leaf.specs.Stated.{is_stated_leaf}
+use Rattle.rio_leaf.specs.Leaves.{has_counting_leaf, is_dim, is_leaf_count, is_letter_of}
 use Rattle.rio_model.specs.Lexemes.{Lexeme, glued, mark, word}
 use Rattle.rio_model.proofs.ReadWords.{no_digit}
 use Rattle.rio_step.specs.CommandSpelling.{SpellsDim, SpellsLeaf, in_square_brackets}

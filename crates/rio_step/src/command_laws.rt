@@ -11,8 +11,9 @@ pub fn read_commands_are_spelled()
     ensures { ReadCommandsAreSpelled }
 {}
 
-/// The place that is told of a line that isn't read is that of its first token that can't stand. The text before it can be
-/// completed, and whatever stands behind that token the place is the same.
+/// The place that is told of a line that isn't read is that of its first token that can't stand. Wherever the same tokens
+/// stand, in the line of a tree with blanks before the same ones, it is told, whatever stands behind it. The tokens before
+/// it, if they are fewer than 2^32, begin a command, in which one bracket more may be open than in a line.
 pub fn first_bad_command_tokens_are_told()
     ensures { CommandPlacesAreTold }
 {}

@@ -1,6 +1,7 @@
 //! What commands do: the state after a command and what is said of it, or the first rule that refuses it; the states and the
-//! texts of a run; objects as their class has them in another version. Definitions that contracts cite, in `specs/`, laws
-//! about them, and the fault that a version is refused for.
+//! texts of a run; objects as their class has them in another version. Scripts as they are read, line by line (`Script`, of
+//! trees `TreeGrammar`), and which tokens spell a command (`CommandSpelling`, `CommandLaws`). Definitions that contracts cite,
+//! in `specs/`, laws about them, and the fault that a version is refused for.
 #![tactic(auto)]
 
 mod command_laws;
