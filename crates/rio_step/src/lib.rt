@@ -9,8 +9,8 @@ mod fault;
 mod laws;
 
 pub use command_laws::{
-    first_bad_command_tokens_are_told, lines_are_spelled, read_commands_are_spelled,
-    spelled_commands_are_read,
+    first_bad_class_tokens_are_told, first_bad_command_tokens_are_told, lines_are_spelled,
+    read_commands_are_spelled, spelled_commands_are_read,
 };
 pub use fault::MapFault;
 pub use laws::{
