@@ -1,5 +1,5 @@
 -- Declarations: what is read, and the first tokens that can't stand.
-use Rattle.std.proofs.Common.{◌≡◌, ℕ, List, [], ◌∷◌, ◌++◌, codes, Bool, Ok, Err, refl, sym, ◌∙◌, ap, subst, arith}
+use Rattle.std.proofs.Common.{◌≡◌, ℕ, List, [], ◌∷◌, ◌++◌, codes, Bool, false, Ok, Err, refl, sym, ◌∙◌, ap, subst, arith}
 use Rattle.std.specs.Str.{bytes_eq}
 use Rattle.std.proofs.lemmas.Slice.Eq.{bytes_eq-Decides}
 use Rattle.rio_num.specs.At.{At}
@@ -8,6 +8,7 @@ use Rattle.rio_num.specs.Word.{is_name_text}
 use Rattle.rio_types.specs.declared.class.Base.{Base}
 use Rattle.rio_types.specs.declared.class.ClassDef.{ClassDef}
 use Rattle.rio_types.specs.declared.class.Member.{Member}
+use Rattle.rio_token.specs.declared.fault.TextFault.{TextFault}
 use Rattle.rio_token.specs.Reading.{Read, end_at, keyword_at, list_at, name_at, version_at}
 use Rattle.rio_model.specs.ClassGrammar.{bases_at, class_at, class_of, member_at}
 use Rattle.rio_model.specs.ClassSpelling.{SpellsBases, SpellsDeclaration}
@@ -15,6 +16,7 @@ use Rattle.rio_model.specs.Lexemes.{Lexeme, mark, word}
 use Rattle.rio_model.proofs.LexemeLaws.{with_place}
 use Rattle.rio_machine.specs.declared.command.Command.{Command}
 use Rattle.rio_machine.specs.declared.command.Command.TheVariants.{Class}
+use Rattle.rio_step.specs.CommandLaws.{DeclarationPlacesAreTold}
 use Rattle.rio_step.specs.CommandSpelling.{SpellsCommand}
 use Rattle.rio_step.specs.Script.{class_command_at}
 use Rattle.rio_step.proofs.AlikeLaws.{Tells}
@@ -26,6 +28,10 @@ use Rattle.rio_step.proofs.TurnLaws.{InTurn, handed_tells, tells_as, turn_tells}
 
 abbrev made : List ℕ → ℕ → List Base → List Member → Command
 made name version bases members = Class (class_of name version bases members)
+
+-- a command for the class that these tokens declare
+abbrev pub Declares : Command → List Lexeme → Type 0
+Declares c ls = (class : ClassDef) × (c ≡ Class class) × SpellsDeclaration class ls
 
 abbrev is_keyword : List ℕ → Bool
 is_keyword w = bytes_eq w (codes "class")
@@ -105,8 +111,8 @@ module _ (strict : Bool) where
 
   -- ---- the declaration that is spelled
 
-  declared : (levels : ℕ) (c : Command) (ls : List Lexeme) → OfKeyword c ls → SpellsCommand levels c ls
-  declared levels c ls d =
+  declared : (c : Command) (ls : List Lexeme) → OfKeyword c ls → Declares c ls
+  declared c ls d =
       let n = d.5 in
       let v = n.5 in
       let b = v.5 in
@@ -133,12 +139,12 @@ module _ (strict : Bool) where
         listed = l.2;
         whole = refl;
       } in
-      subst (λ (e : Command). SpellsCommand levels e ls) (sym m.1) whole
+      (class_of n.0 v.0 b.0 m.0, m.1, whole)
 
-  declared_tells : (levels above : ℕ) → ((c : Command) (ls : List Lexeme) → SpellsCommand levels c ls → SpellsCommand above c ls) → Tells strict declared_at (SpellsCommand levels) (SpellsCommand above) 0
+  declared_tells : Tells strict declared_at Declares Declares 0
   unfolding declared_at
-  declared_tells levels above up =
-      tells_as strict (λ s. declared_at s) OfKeyword OfKeyword (SpellsCommand levels) (SpellsCommand above) 0
+  declared_tells =
+      tells_as strict (λ s. declared_at s) OfKeyword OfKeyword Declares Declares 0
       (turn_tells strict (keyword_at (codes "class")) (λ w m. name_for m) (Named is_keyword) (Named is_keyword) (λ w. OfName) (λ w. OfName) 0 (λ w. 0)
       (named_tells strict is_keyword 0 (λ few. (codes "class", refl))) (λ w. name_for_tells) (λ x own c. omega arith)
       (λ w few. (
@@ -146,7 +152,7 @@ module _ (strict : Bool) where
         word (codes "A") ∷ word (codes "1") ∷ mark 123 ∷ mark 125 ∷ [],
         (codes "A", word (codes "A") ∷ [], word (codes "1") ∷ mark 123 ∷ mark 125 ∷ [], refl, (refl, refl), first_version (codes "A")),
       )))
-      (declared levels) (declared above) up
+      declared declared (λ c ls d. d)
 
   -- ---- the end of the line
 
@@ -160,7 +166,39 @@ module _ (strict : Bool) where
       step (list_at 125 member_at bases.1) (λ members. end_at members.1 >>= λ done. Ok (class_of name.0 version.0 bases.0 members.0, done.1)) (with_place (made name.0 version.0 bases.0)) (λ members.
       at_end (class_of name.0 version.0 bases.0 members.0) (end_at members.1))))))
 
+  declares_line : TellsLine strict class_command_at Declares Declares
+  declares_line =
+      line_equal strict (λ s. declared_at s >>= to_end) class_command_at Declares Declares reads_alike
+      (line_tells strict declared_at Declares Declares declared_tells)
+
+  as_command : (levels : ℕ) (c : Command) (ls : List Lexeme) → Declares c ls → SpellsCommand levels c ls
+  as_command levels c ls d = subst (λ (e : Command). SpellsCommand levels e ls) (sym d.1) d.2
+
   pub class_line : (levels above : ℕ) → ((c : Command) (ls : List Lexeme) → SpellsCommand levels c ls → SpellsCommand above c ls) → TellsLine strict class_command_at (SpellsCommand levels) (SpellsCommand above)
   class_line levels above up =
       line_equal strict (λ s. declared_at s >>= to_end) class_command_at (SpellsCommand levels) (SpellsCommand above) reads_alike
-      (line_tells strict declared_at (SpellsCommand levels) (SpellsCommand above) (declared_tells levels above up))
+      (line_tells strict declared_at (SpellsCommand levels) (SpellsCommand above)
+      (tells_as strict (λ s. declared_at s) Declares Declares (SpellsCommand levels) (SpellsCommand above) 0 declared_tells (as_command levels) (as_command above) up))
+
+-- ---- declarations by themselves
+
+fails_so : (r : Read ClassDef) (e : TextFault) → r ≡ Err e → (r >>= to_class) ≡ Err e
+fails_so r e h = rw h refl
+
+failed_so : (r : Read ClassDef) (e : TextFault) → (r >>= to_class) ≡ Err e → r ≡ Err e
+failed_so (Ok x) e h = absurd cc
+failed_so (Err f) e h = cc
+
+pub declaration_places_are_told : DeclarationPlacesAreTold
+declaration_places_are_told old fault h =
+    let t = (declares_line false).told old fault (fails_so (class_at old) fault h) in
+    record {
+      before = t.before;
+      here = t.here;
+      cut = t.cut;
+      stands = t.stands;
+      unended = t.unended;
+      told = t.told;
+      always = λ s u st. failed_so (class_at s) _ (t.always s u st);
+      begins = λ last is few. let b = t.begins last is (omega (arith, few)) in (b.0, b.2.0, b.2.2);
+    }

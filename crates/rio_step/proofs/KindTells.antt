@@ -1,6 +1,5 @@
 -- Members and bases of a declaration: what is read, and the first tokens that can't stand.
-use Rattle.std.proofs.Common.{◌≡◌, inl, inr, ℕ, suc, ◌+◌, ◌<◌, ◌≤◌, ◌^◌, List, [], ◌∷◌, ◌++◌, length, codes, Bool, true, false, ◌||◌, if◌then◌else◌, Option, Some, None, option_and_then, Ok, refl, sym, ◌∙◌, ap, subst, arith}
-use Rattle.std.specs.Prelude.{map}
+use Rattle.std.proofs.Common.{◌≡◌, inl, inr, ℕ, ◌+◌, ◌<◌, ◌≤◌, ◌^◌, List, [], ◌∷◌, ◌++◌, length, codes, Bool, true, false, if◌then◌else◌, Option, Some, None, option_and_then, Ok, refl, sym, ◌∙◌, ap, subst, arith}
 use Rattle.std.specs.Str.{bytes_eq}
 use Rattle.std.proofs.lemmas.Slice.Eq.{bytes_eq-Decides}
 use Rattle.rio_num.specs.Reading.{◌>>=◌}
@@ -14,7 +13,7 @@ use Rattle.rio_token.specs.Reading.{list_at, mark_at, marked, name_at, next_word
 use Rattle.rio_token.specs.Tokens.{behind}
 use Rattle.rio_token.specs.Words.{decimal, written}
 use Rattle.rio_format.specs.Bodies.{member}
-use Rattle.rio_model.specs.ClassGrammar.{base, base_at, bases_at, dimension_at, dimension_of, has_base_named, has_member, is_new_base, is_new_member, kind_at, member_at, plain_at, primitive_at, primitive_of, sized_at}
+use Rattle.rio_model.specs.ClassGrammar.{base, base_at, bases_at, dimension_at, dimension_of, is_new_base, is_new_member, kind_at, member_at, plain_at, primitive_at, primitive_of, sized_at}
 use Rattle.rio_model.specs.ClassSpelling.{SpellsBase, SpellsBases, SpellsKind, SpellsMember}
 use Rattle.rio_model.specs.ClassText.{primitive_text}
 use Rattle.rio_model.specs.Lexemes.{Lexeme, mark, word}
@@ -24,24 +23,17 @@ use Rattle.rio_model.proofs.LexemeLaws.{with_place}
 use Rattle.rio_step.proofs.AlikeLaws.{Tells}
 use Rattle.rio_step.proofs.AskedTells.{MarkOf, WordOf, mark_tells, word_of}
 use Rattle.rio_step.proofs.NamedTells.{Named, named_tells}
-use Rattle.rio_step.proofs.FreshNames.{has_name, new_name}
+use Rattle.rio_step.proofs.FreshNames.{new_among}
 use Rattle.rio_step.proofs.ListTells.{ListOf, SomeOf, list_tells, some_tells}
 use Rattle.rio_step.proofs.TellsLaws.{SaysOne, SaysWord, mark_test, one_tells, word_said}
 use Rattle.rio_step.proofs.TurnLaws.{Behind, EitherOf, InTurn, Nothing, choice_tells, handed_tells, nothing_tells, tells_as, turn_tells}
 
-member_names : (members : List Member) (name : List ℕ) → has_member members name ≡ has_name (map (λ m. m.name) members) name
-member_names [] name = refl
-member_names (m ∷ ms) name = ap (λ (b : Bool). bytes_eq m.name name || b) (member_names ms name)
-
-as_many_members : (members : List Member) → length (map (λ m. m.name) members) ≡ length members
-as_many_members [] = refl
-as_many_members (m ∷ ms) = ap suc (as_many_members ms)
-
 new_member : (members : List Member) → length members < 2 ^ 32 → (name : List ℕ) × (is_new_member members name ≡ true)
 new_member members few =
-    let n = new_name (map (λ m. m.name) members) (let same = as_many_members members in omega (arith, same, few)) in
-    let free : has_member members n.0 ≡ false = member_names members n.0 ∙ n.2 in
-    (n.0, let named = n.1 in rw (named, free) refl)
+    let n = new_among (λ (m : Member). m.name) members few in
+    let named = n.1 in
+    let free = n.2 in
+    (n.0, rw (named, free) refl)
 
 abbrev OfKind : List Member → List ℕ → Member → List Lexeme → Type 0
 OfKind before name m ls = (kind : Kind) × (m ≡ member name kind) × SpellsKind before kind ls
@@ -67,19 +59,12 @@ some_member front few =
     let c = new_member front (omega (arith, few)) in
     (member c.0 (Pointer (codes "A")), word c.0 ∷ mark 58 ∷ word (codes "A") ∷ mark 42 ∷ [], (word (codes "A") ∷ mark 42 ∷ [], refl, c.1, refl, (refl, refl)))
 
-base_names : (bases : List Base) (name : List ℕ) → has_base_named bases name ≡ has_name (map (λ b. b.name) bases) name
-base_names [] name = refl
-base_names (b ∷ bs) name = ap (λ (t : Bool). bytes_eq b.name name || t) (base_names bs name)
-
-as_many_bases : (bases : List Base) → length (map (λ b. b.name) bases) ≡ length bases
-as_many_bases [] = refl
-as_many_bases (b ∷ bs) = ap suc (as_many_bases bs)
-
 new_base : (bases : List Base) → length bases < 2 ^ 32 → (name : List ℕ) × (is_new_base bases name ≡ true)
 new_base bases few =
-    let n = new_name (map (λ b. b.name) bases) (let same = as_many_bases bases in omega (arith, same, few)) in
-    let free : has_base_named bases n.0 ≡ false = base_names bases n.0 ∙ n.2 in
-    (n.0, let named = n.1 in rw (named, free) refl)
+    let n = new_among (λ (b : Base). b.name) bases few in
+    let named = n.1 in
+    let free = n.2 in
+    (n.0, rw (named, free) refl)
 
 base_takes : (front : List Base) (b : Base) (own : List Lexeme) → SpellsBase front b own → 0 < length own
 base_takes front b own c = let e = ap (λ (l : List Lexeme). length l) c.0 in omega (arith, e)

@@ -17,6 +17,7 @@ pub mod GivenLaws
 pub mod GrowthLaws
 pub mod KeptLaws
 pub mod KindTells
+pub mod LeafWords
 pub mod LineTells
 pub mod ListTells
 pub mod LowestLaws

@@ -20,9 +20,10 @@ use Rattle.rio_leaf.specs.Leaves.{has_leaf}
 use Rattle.rio_leaf.specs.Stated.{all_leaves}
 use Rattle.rio_model.specs.Lexemes.{IsNext, Lexeme, Stand, glued, mark, word}
 use Rattle.rio_model.proofs.LexemeLaws.{marked_again, stand_split, stand_within, word_not_marked, word_that_again}
-use Rattle.rio_step.specs.CommandSpelling.{SpellsBranch, SpellsDim, SpellsEach, SpellsLeaf, SpellsNextLeaf, SpellsShape, SpellsSome}
+use Rattle.rio_step.specs.CommandSpelling.{SpellsBranch, SpellsEach, SpellsNextLeaf, SpellsShape, SpellsSome, in_square_brackets}
 use Rattle.rio_step.specs.TreeGrammar.{branch_at, branch_class_at, branch_leaf_at, branch_leaves_at, branches_at, further_at, glued_at, glued_mark_at, goes_on, is_glued_mark, is_new_branch, is_new_leaf, items_at, leaf_dim_at, leaf_dimension, leaf_letter, opens_class, shape_at, tree_leaf_at}
 use Rattle.rio_step.proofs.BranchTells.{comes_again}
+use Rattle.rio_step.proofs.LeafWords.{ReadsDim, ReadsLeaf, spelled_leaf_is_read}
 use Rattle.rio_step.proofs.TellsLaws.{glued_again, glued_mark_test}
 use Rattle.rio_step.proofs.TreeTells.{next_leaf_takes}
 
@@ -100,10 +101,7 @@ no_mark w k s h = by (is_glued s) (word_not_marked w k s h)
 name_given : (test : List ℕ → Bool) (name : List ℕ) → test name ≡ true → (let o : Option (List ℕ) = some_if (test name) name in o ≡ Some name)
 name_given test name h = rw h refl
 
-abbrev size_tokens : List ℕ → List Lexeme
-size_tokens w = glued (mark 91) ∷ glued (word w) ∷ glued (mark 93) ∷ []
-
-size_again : (before : List Leaf) (w : List ℕ) (dim : Dim) (inside : List Lexeme) (s t : At) → inside ≡ size_tokens w → leaf_dimension before w ≡ Some dim → Stand inside s t → leaf_dim_at before s ≡ Ok (dim, t)
+size_again : (before : List Leaf) (w : List ℕ) (dim : Dim) (inside : List Lexeme) (s t : At) → inside ≡ in_square_brackets w → leaf_dimension before w ≡ Some dim → Stand inside s t → leaf_dim_at before s ≡ Ok (dim, t)
 unfolding leaf_dim_at
 size_again before w dim inside s t e says h =
     let n = subst (λ (l : List Lexeme). Stand l s t) e h in
@@ -112,7 +110,7 @@ size_again before w dim inside s t e says h =
     let closed = glued_mark_again 93 (behind (behind s)) n.1.1.0 in
     rw (opens, size, closed, n.1.1.1) refl
 
-dim_again : (before : List Leaf) (dim : Dim) (inside : List Lexeme) (s t : At) → SpellsDim before dim inside → Stand inside s t → is_glued_mark 91 t ≡ false → leaf_dim_at before s ≡ Ok (dim, t)
+dim_again : (before : List Leaf) (dim : Dim) (inside : List Lexeme) (s t : At) → ReadsDim before dim inside → Stand inside s t → is_glued_mark 91 t ≡ false → leaf_dim_at before s ≡ Ok (dim, t)
 unfolding leaf_dim_at
 dim_again before One inside s t c h not_so =
     let e : t ≡ s = subst (λ (l : List Lexeme). Stand l s t) c h in
@@ -120,7 +118,7 @@ dim_again before One inside s t c h not_so =
     rw (here, e) refl
 dim_again before dim inside s t c h not_so = size_again before c.0 dim inside s t c.2 c.1 h
 
-leaf_again : (before : List Leaf) (leaf : Leaf) (ls : List Lexeme) (s t : At) → SpellsLeaf before leaf ls → Stand ls s t → tree_leaf_at before s ≡ Ok (leaf, t)
+leaf_again : (before : List Leaf) (leaf : Leaf) (ls : List Lexeme) (s t : At) → ReadsLeaf before leaf ls → Stand ls s t → tree_leaf_at before s ≡ Ok (leaf, t)
 unfolding tree_leaf_at
 leaf_again before leaf ls s t c h =
     let n = subst (λ (l : List Lexeme). Stand l s t) c.2 h in
@@ -134,11 +132,11 @@ leaf_again before leaf ls s t c h =
 
 next_leaf_again : (before front : List Leaf) (leaf : Leaf) (ls : List Lexeme) (s t : At) → SpellsNextLeaf before front leaf ls → Stand ls s t → branch_leaf_at before front s ≡ Ok (leaf, t)
 unfolding branch_leaf_at
-next_leaf_again before [] leaf ls s t c h = leaf_again before leaf ls s t c h
+next_leaf_again before [] leaf ls s t c h = leaf_again before leaf ls s t (spelled_leaf_is_read before leaf ls c) h
 next_leaf_again before (l ∷ own) leaf ls s t c h =
     let n = subst (λ (k : List Lexeme). Stand k s t) c.1 h in
     let passed = glued_mark_again 58 s n.0 in
-    let one = leaf_again (before ++ l ∷ own) leaf c.0 (behind s) t c.2 n.1 in
+    let one = leaf_again (before ++ l ∷ own) leaf c.0 (behind s) t (spelled_leaf_is_read (before ++ l ∷ own) leaf c.0 c.2) n.1 in
     rw (passed, one) refl
 
 leaf_row : (before : List Leaf) → RowAgain (is_glued_mark 58) (branch_leaf_at before) (SpellsNextLeaf before) (λ leaf t. true)
@@ -153,11 +151,11 @@ leaf_row before = record {
 -- ---- branches
 
 -- behind the name of a leaf no colon comes next
-behind_name : (before : List Leaf) (dim : Dim) (inside : List Lexeme) (w : List ℕ) (s t : At) → SpellsDim before dim inside → Stand (inside ++ glued (mark 47) ∷ glued (word w) ∷ []) s t → is_glued_mark 58 s ≡ false
+behind_name : (before : List Leaf) (dim : Dim) (inside : List Lexeme) (w : List ℕ) (s t : At) → ReadsDim before dim inside → Stand (inside ++ glued (mark 47) ∷ glued (word w) ∷ []) s t → is_glued_mark 58 s ≡ false
 behind_name before One inside w s t c h = other_mark 47 58 s (subst (λ (k : List Lexeme). Stand (k ++ glued (mark 47) ∷ glued (word w) ∷ []) s t) c h).0 refl
 behind_name before dim inside w s t c h = other_mark 91 58 s (subst (λ (k : List Lexeme). Stand (k ++ glued (mark 47) ∷ glued (word w) ∷ []) s t) c.2 h).0 refl
 
-leaf_opens_none : (before : List Leaf) (leaf : Leaf) (ls : List Lexeme) (s t : At) → SpellsLeaf before leaf ls → Stand ls s t → opens_class before s ≡ false
+leaf_opens_none : (before : List Leaf) (leaf : Leaf) (ls : List Lexeme) (s t : At) → ReadsLeaf before leaf ls → Stand ls s t → opens_class before s ≡ false
 leaf_opens_none before leaf ls s t c h = by (bytes_eq leaf.name (codes "class")) refl
   where
     n : IsNext (glued (word leaf.name)) s × Stand (c.0 ++ glued (mark 47) ∷ glued (word c.1) ∷ []) (behind s) t
@@ -196,7 +194,7 @@ shape_again before (Objects class) ls s t c h stop =
 shape_again before (Leaves []) ls s t c h stop = absurd c
 shape_again before (Leaves (l ∷ more)) ls s t c h stop =
     let r = stand_split c.0 c.1 s t (subst (λ (k : List Lexeme). Stand k s t) c.2 h) in
-    let not_so = leaf_opens_none before l c.0 s r.0 c.3 r.1 in
+    let not_so = leaf_opens_none before l c.0 s r.0 (spelled_leaf_is_read before l c.0 c.3) r.1 in
     let all = leaves_again before (l ∷ more) ls s t c h stop in
     rw not_so all
 

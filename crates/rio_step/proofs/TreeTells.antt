@@ -16,11 +16,12 @@ use Rattle.rio_leaf.specs.declared.leaf.Leaf.{Leaf}
 use Rattle.rio_leaf.specs.Leaves.{has_counting_leaf}
 use Rattle.rio_model.specs.Lexemes.{Lexeme, glued, mark, word}
 use Rattle.rio_model.proofs.LexemeLaws.{if_is, with_place}
-use Rattle.rio_step.specs.CommandSpelling.{SpellsDim, SpellsLeaf, SpellsNextLeaf, SpellsSome}
+use Rattle.rio_step.specs.CommandSpelling.{SpellsLeaf, SpellsNextLeaf, SpellsSome}
 use Rattle.rio_step.specs.TreeGrammar.{branch_class_at, branch_leaf_at, branch_leaves_at, glued_at, glued_mark_at, glued_word, is_glued_mark, is_new_leaf, items_at, leaf_dim_at, leaf_dimension, leaf_letter, leaf_size_at, tree_leaf_at}
 use Rattle.rio_step.proofs.AlikeLaws.{Tells}
 use Rattle.rio_step.proofs.FreshNames.{new_leaf}
 use Rattle.rio_step.proofs.FurtherTells.{ItemTells, items_tell}
+use Rattle.rio_step.proofs.LeafWords.{ReadsDim, leaf_read_is_spelled}
 use Rattle.rio_step.proofs.TellsLaws.{IsLexeme, SaysGluedWord, SaysOne, glued_mark_test, glued_word_said, one_tells, test_said}
 use Rattle.rio_step.proofs.TurnLaws.{Behind, EitherOf, InTurn, Nothing, choice_tells, handed_tells, fewer, nothing_tells, tells_as, turn_tells}
 
@@ -112,15 +113,15 @@ never_one before w h = by (num_between_of 2 100000 w) (is_name_text w && has_cou
     by None true e = cc
     by None false e = cc
 
-dim_spelled : (before : List Leaf) (dim : Dim) (ls : List Lexeme) → EitherOf (Behind (glued (mark 91)) (Sized before)) (Nothing One) dim ls → SpellsDim before dim ls
-dim_spelled before dim ls (inr n) = subst (λ (d : Dim). SpellsDim before d ls) (sym n.0) n.1
+dim_spelled : (before : List Leaf) (dim : Dim) (ls : List Lexeme) → EitherOf (Behind (glued (mark 91)) (Sized before)) (Nothing One) dim ls → ReadsDim before dim ls
+dim_spelled before dim ls (inr n) = subst (λ (d : Dim). ReadsDim before d ls) (sym n.0) n.1
 dim_spelled before One ls (inl b) = absurd (never_one before b.2.0 b.2.1)
 dim_spelled before dim ls (inl b) = (b.2.0, b.2.1, b.1 ∙ ap (λ (o : List Lexeme). glued (mark 91) ∷ o) b.2.2)
 
-dim_tells : (before : List Leaf) (n : ℕ) → Tells true (leaf_dim_at before) (SpellsDim before) (SpellsDim before) n
+dim_tells : (before : List Leaf) (n : ℕ) → Tells true (leaf_dim_at before) (ReadsDim before) (ReadsDim before) n
 unfolding leaf_dim_at
 dim_tells before n =
-    tells_as true (λ s. leaf_dim_at before s) (EitherOf (Behind (glued (mark 91)) (Sized before)) (Nothing One)) (EitherOf (Behind (glued (mark 91)) (Sized before)) (Nothing One)) (SpellsDim before) (SpellsDim before) n
+    tells_as true (λ s. leaf_dim_at before s) (EitherOf (Behind (glued (mark 91)) (Sized before)) (Nothing One)) (EitherOf (Behind (glued (mark 91)) (Sized before)) (Nothing One)) (ReadsDim before) (ReadsDim before) n
     (choice_tells true (is_glued_mark 91) (glued (mark 91)) (glued_mark_test 91) (leaf_size_at before) (λ s. Ok (One, s)) (Sized before) (Sized before) (Nothing One) (Nothing One) n (size_tells before n) (nothing_tells true One n))
     (dim_spelled before) (dim_spelled before) (λ y ls c. c)
 
@@ -161,7 +162,7 @@ unfoldable pub behind_name_at : List Leaf → List ℕ → At → Read Leaf
 behind_name_at before name m = leaf_dim_at before m >>= λ dim. slashed_at name dim.0 dim.1
 
 abbrev pub BehindName : List Leaf → List ℕ → Leaf → List Lexeme → Type 0
-BehindName before name = InTurn (SpellsDim before) (Slashed name)
+BehindName before name = InTurn (ReadsDim before) (Slashed name)
 
 any_leaf : (name : List ℕ) (dim : Dim) → Slashed name dim (leaf_with name dim 73) (glued (mark 47) ∷ glued (word (codes "I")) ∷ [])
 any_leaf name dim = (tt, glued (mark 47) ∷ [], glued (word (codes "I")) ∷ [], refl, refl, (codes "I", 73, letter_of_all dim, refl, refl))
@@ -169,7 +170,7 @@ any_leaf name dim = (tt, glued (mark 47) ∷ [], glued (word (codes "I")) ∷ []
 pub behind_name_tells : (before : List Leaf) (name : List ℕ) (n : ℕ) → Tells true (behind_name_at before name) (BehindName before name) (BehindName before name) n
 unfolding behind_name_at
 behind_name_tells before name n =
-    turn_tells true (leaf_dim_at before) (λ dim m. slashed_at name dim m) (SpellsDim before) (SpellsDim before) (Slashed name) (Slashed name) n (λ dim. n)
+    turn_tells true (leaf_dim_at before) (λ dim m. slashed_at name dim m) (ReadsDim before) (ReadsDim before) (Slashed name) (Slashed name) n (λ dim. n)
     (dim_tells before n) (λ dim. slashed_tells name dim n) (λ x own c. omega arith)
     (λ dim few. (leaf_with name dim 73, glued (mark 47) ∷ glued (word (codes "I")) ∷ [], any_leaf name dim))
 
@@ -179,7 +180,8 @@ leaf_spelled before name leaf ls new c =
     let s = c.5 in
     let e = s.5 in
     let tokens : ls ≡ c.1 ++ glued (mark 47) ∷ glued (word e.0) ∷ [] = c.3 ∙ ap (λ (o : List Lexeme). c.1 ++ o) (s.3 ∙ ap (λ (o : List Lexeme). o ++ s.2) s.4 ∙ ap (λ (o : List Lexeme). glued (mark 47) ∷ o) e.4) in
-    subst (λ (l : Leaf). SpellsLeaf before l (glued (word name) ∷ ls)) (sym e.3) (c.1, e.0, ap (λ (o : List Lexeme). glued (word name) ∷ o) tokens, new, c.4, e.2)
+    subst (λ (l : Leaf). SpellsLeaf before l (glued (word name) ∷ ls)) (sym e.3)
+    (leaf_read_is_spelled before (leaf_with name c.0 e.1) (glued (word name) ∷ ls) (c.1, e.0, ap (λ (o : List Lexeme). glued (word name) ∷ o) tokens, new, c.4, e.2))
 
 leaf_tells : (before : List Leaf) (n : ℕ) → length before ≤ n → Tells true (tree_leaf_at before) (SpellsLeaf before) (SpellsLeaf before) n
 unfolding tree_leaf_at behind_name_at slashed_at
@@ -204,14 +206,16 @@ next_leaf_tells before (l ∷ own) n le =
     (turn_tells true (glued_mark_at 58) (λ u m. tree_leaf_at leaves m) (GluedMark 58) (GluedMark 58) (λ u. SpellsLeaf leaves) (λ u. SpellsLeaf leaves) all (λ u. all)
     (glued_mark_tells 58 all) (λ u. leaf_tells leaves all (omega (arith, le, length-append before (l ∷ own)))) (λ x tokens c. omega arith)
     (λ u few. let c = new_leaf leaves (omega (arith, few, le, length-append before (l ∷ own))) in
-    (leaf_with c.0 One 73, glued (word c.0) ∷ glued (mark 47) ∷ glued (word (codes "I")) ∷ [], ([], codes "I", refl, c.1, refl, refl))))
+    let leaf = leaf_with c.0 One 73 in
+    let tokens = glued (word c.0) ∷ glued (mark 47) ∷ glued (word (codes "I")) ∷ [] in
+    (leaf, tokens, leaf_read_is_spelled leaves leaf tokens ([], codes "I", refl, c.1, refl, refl))))
     to to (λ y ls c. c)
   where
     to : (leaf : Leaf) (ls : List Lexeme) → InTurn (GluedMark 58) (λ u. SpellsLeaf (before ++ l ∷ own)) leaf ls → SpellsNextLeaf before (l ∷ own) leaf ls
     to leaf ls c = (c.2, c.3 ∙ ap (λ (o : List Lexeme). o ++ c.2) c.4, c.5)
 
 leaf_takes : (before : List Leaf) (leaf : Leaf) (ls : List Lexeme) → SpellsLeaf before leaf ls → 0 < length ls
-leaf_takes before leaf ls c = let e = ap (λ (l : List Lexeme). length l) c.2 in omega (arith, e)
+leaf_takes before leaf ls c = let e = ap (λ (l : List Lexeme). length l) c.1 in omega (arith, e)
 
 pub next_leaf_takes : (before front : List Leaf) (leaf : Leaf) (ls : List Lexeme) → SpellsNextLeaf before front leaf ls → 0 < length ls
 next_leaf_takes before [] leaf ls c = leaf_takes before leaf ls c

@@ -1,11 +1,13 @@
 -- The grammar of commands and their reading belong together.
-use Rattle.std.specs.Prelude.{◌≡◌, ℕ, suc, ◌^◌, ◌<◌, List, [], ◌∷◌, ◌++◌, codes, length, Ok, Err, Bool, true}
+use Rattle.std.specs.Prelude.{◌≡◌, ℕ, suc, ◌^◌, ◌<◌, List, [], ◌∷◌, ◌++◌, codes, length, Ok, Err, Bool, true, false}
 use Rattle.rio_num.specs.At.{At}
 use Rattle.rio_token.specs.declared.fault.TextFault.{TextFault}
 use Rattle.rio_token.specs.declared.fault.TextFault.TheVariants.{BadText}
 use Rattle.rio_token.specs.declared.token.Token.TheVariants.{Cut, End}
 use Rattle.rio_token.specs.Reading.{Read}
 use Rattle.rio_token.specs.Tokens.{behind, is_glued, next_at, standing_in}
+use Rattle.rio_model.specs.ClassGrammar.{class_at}
+use Rattle.rio_model.specs.ClassSpelling.{SpellsDeclaration}
 use Rattle.rio_model.specs.Lexemes.{IsNext, Lexeme, Stand}
 use Rattle.rio_model.specs.ToldPlaces.{Begin, HaveSameNext, IsLast, told_place}
 use Rattle.rio_model.specs.ValueGrammar.{bracket_limit}
@@ -67,6 +69,12 @@ IsBadLine old = IsFirstBadToken (comes_next (codes "tree") old) command_at (Begi
 -- a line that isn't read has a first token that can't stand
 abbrev pub CommandPlacesAreTold : Type 0
 CommandPlacesAreTold = (old : At) (fault : TextFault) → command_at old ≡ Err fault → IsBadLine old fault
+
+-- A text that isn't read as a declaration has a first token that can't stand.
+abbrev pub DeclarationPlacesAreTold : Type 0
+DeclarationPlacesAreTold =
+    (old : At) (fault : TextFault) → class_at old ≡ Err fault
+    → IsFirstBadToken false class_at (BeginIfFew SpellsDeclaration) old fault
 
 -- ---- the lines of a script
 

@@ -9,15 +9,15 @@ use Rattle.rio_leaf.specs.declared.branch.BranchDef.{BranchDef}
 use Rattle.rio_leaf.specs.declared.branch.Shape.{Shape}
 use Rattle.rio_leaf.specs.declared.branch.Shape.TheVariants.{Leaves, Class as Objects}
 use Rattle.rio_leaf.specs.declared.leaf.Dim.{Dim}
-use Rattle.rio_leaf.specs.declared.leaf.Dim.TheVariants.{One}
+use Rattle.rio_leaf.specs.declared.leaf.Dim.TheVariants.{One, Fixed, Counted}
 use Rattle.rio_leaf.specs.declared.leaf.Leaf.{Leaf}
-use Rattle.rio_leaf.specs.Stated.{all_leaves}
+use Rattle.rio_leaf.specs.Stated.{all_leaves, is_stated_leaf}
 use Rattle.rio_model.specs.ClassSpelling.{SpellsDeclaration}
 use Rattle.rio_model.specs.Lexemes.{Lexeme, glued, mark, word}
 use Rattle.rio_model.specs.ValueSpelling.{SpellsRow, SpellsValue}
 use Rattle.rio_machine.specs.declared.command.Command.{Command}
 use Rattle.rio_machine.specs.declared.command.Command.TheVariants.{Bad, Class, Put, Delete, Tree as MakeTree, Fill, Save, Get, Scan, Ls}
-use Rattle.rio_step.specs.TreeGrammar.{is_new_branch, is_new_leaf, leaf_dimension, leaf_letter}
+use Rattle.rio_step.specs.TreeGrammar.{is_new_branch}
 
 -- ---- the branches of a tree
 
@@ -32,18 +32,20 @@ abbrev pub SpellsSome : {A : Type 0} → (List A → A → List Lexeme → Type 
 SpellsSome Spells [] ls = ⊥
 SpellsSome Spells (x ∷ xs) ls = SpellsEach Spells [] (x ∷ xs) ls
 
--- how many values a leaf has: a number or the name of a leaf that counts, in square brackets, or nothing for one value
-abbrev pub SpellsDim : List Leaf → Dim → List Lexeme → Type 0
-SpellsDim before One ls = ls ≡ []
-SpellsDim before dim ls =
-    (w : List ℕ) × (leaf_dimension before w ≡ Some dim)
-    × (ls ≡ glued (mark opening_bracket) ∷ glued (word w) ∷ glued (mark closing_bracket) ∷ [])
+abbrev pub in_square_brackets : List ℕ → List Lexeme
+in_square_brackets w = glued (mark opening_bracket) ∷ glued (word w) ∷ glued (mark closing_bracket) ∷ []
 
--- NAME[..]/LETTER
+-- how many values a leaf has: a number or the name of a leaf that counts, in square brackets, or nothing for one value
+abbrev pub SpellsDim : Dim → List Lexeme → Type 0
+SpellsDim One ls = ls ≡ []
+SpellsDim (Fixed n) ls = (digits : List ℕ) × (num_of digits ≡ Some n) × (ls ≡ in_square_brackets digits)
+SpellsDim (Counted counter times) ls = ls ≡ in_square_brackets counter
+
+-- NAME[..]/LETTER, which the tree may have behind the leaves before
 abbrev pub SpellsLeaf : List Leaf → Leaf → List Lexeme → Type 0
 SpellsLeaf before leaf ls =
-    (inside : List Lexeme) × (w : List ℕ) × (ls ≡ glued (word leaf.name) ∷ (inside ++ glued (mark slash) ∷ glued (word w) ∷ []))
-    × (is_new_leaf before leaf.name ≡ true) × SpellsDim before leaf.dim inside × (leaf_letter leaf.dim w ≡ Some leaf.letter)
+    (inside : List Lexeme) × (ls ≡ glued (word leaf.name) ∷ (inside ++ glued (mark slash) ∷ glued (word (leaf.letter ∷ [])) ∷ []))
+    × (is_stated_leaf before leaf ≡ true) × SpellsDim leaf.dim inside
 
 -- behind other leaves of its branch with a colon before it
 abbrev pub SpellsNextLeaf : List Leaf → List Leaf → Leaf → List Lexeme → Type 0
