@@ -3,7 +3,6 @@ use crate::BasketFault;
 use crate::entries::laid_entry;
 use crate::layout::Layout;
 use crate::offsets::read_sound_layout;
-use rio_num::Bytes;
 use std::alloc::Global;
 use std::marker::Model;
 
@@ -11,7 +10,7 @@ use std::marker::Model;
 /// a scan that holds one makes no copy of it.
 #[derive(Drop)]
 pub struct StoredBasket {
-    bytes: Bytes,
+    bytes: Vec<u8>,
     offsets: bool,
     layout: Layout,
 }
@@ -23,9 +22,9 @@ impl Model for StoredBasket {
 
     ghost Value = { List (List ℕ) };
 
-    ghost view = { λ basket. laid_entries basket.offsets basket.layout basket.bytes.bytes };
+    ghost view = { λ basket. laid_entries basket.offsets basket.layout basket.bytes.items };
 
-    ghost invariant = { λ basket. IsLaid basket.offsets basket.layout basket.bytes.bytes };
+    ghost invariant = { λ basket. IsLaid basket.offsets basket.layout basket.bytes.items };
 }
 
 impl StoredBasket {
@@ -36,8 +35,8 @@ impl StoredBasket {
 
     /// The basket that these bytes begin with, with the faults of `read_basket`.
     #[tactic(auto, unfolding(crate::specs::Entries::entries_in))]
-    pub fn read(alloc: Global, bytes: Bytes, offsets: bool) -> Result<StoredBasket, BasketFault>
-        ensures { GivesBasket result (entries_in offsets bytes.bytes) }
+    pub fn read(alloc: Global, bytes: Vec<u8>, offsets: bool) -> Result<StoredBasket, BasketFault>
+        ensures { GivesBasket result (entries_in offsets bytes.items) }
     {
         let layout = read_sound_layout(alloc, bytes.as_slice(), offsets)?;
         Ok(StoredBasket {

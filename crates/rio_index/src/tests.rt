@@ -7,7 +7,7 @@ use crate::{Scanner, basket_of, entry_count};
 use rio_basket::StoredBasket;
 use rio_entry::EntryFault;
 use rio_leaf::{BranchDef, LeafFault, Leaves, Shape, read_leaves};
-use rio_num::{Bytes, Name, NoMemory};
+use rio_num::{Name, NoMemory};
 use rio_tree_head::{BasketAt, Baskets, Branch, BranchNumbers, BranchRefusal, Branches, TreeHead};
 use rio_types::Classes;
 use rio_value::{Value, Values};
@@ -204,7 +204,7 @@ enum Step {
 use Step::{Broken, Check, End, Give, Refuse, Rewind, Row, Skip, Wants};
 
 fn stored(alloc: Global, bytes: &[u8], offsets: bool) -> Option<StoredBasket> {
-    let bytes = Bytes::from_slice(alloc, bytes).ok()?;
+    let bytes = Vec::from_slice(alloc, bytes).ok()?;
     StoredBasket::read(alloc, bytes, offsets).ok()
 }
 

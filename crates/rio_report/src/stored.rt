@@ -8,7 +8,6 @@ ghost use Rattle.rio_scan.specs.StoredEntries.{entry_behind, is_compressed_baske
 use rio_basket::{BasketFault, StoredBasket};
 use rio_close::{ReportFault, read_up_to};
 use rio_host::Host;
-use rio_num::Bytes;
 use rio_tree_head::{BasketAt, BranchRefusal};
 use std::alloc::Global;
 
@@ -30,7 +29,6 @@ pub(crate) fn read_stored_basket<H: Host>(
     ensures cause { IsCallCause (H.view host.old) (H.view host.new) result }
 {
     let bytes = read_up_to(alloc, host, file_length, at.seek, at.bytes)?;
-    let bytes = Bytes::from_slice(alloc, &bytes)?;
     match StoredBasket::read(alloc, bytes, offsets) {
         Ok(basket) => Ok(Ok(basket)),
         Err(BasketFault::NoMemory) => Err(ReportFault::NoMemory),

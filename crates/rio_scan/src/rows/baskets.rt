@@ -69,7 +69,7 @@ impl Row {
     }
 
     fn stored(&self, alloc: Global) -> Result<StoredBasket, BasketFault> {
-        StoredBasket::read(alloc, Bytes::from_slice(alloc, self.bytes)?, self.offsets)
+        StoredBasket::read(alloc, copied(alloc, self.bytes)?, self.offsets)
     }
 
     fn is_shown(&self, alloc: Global) -> bool {
@@ -94,6 +94,10 @@ fn fault_of(alloc: Global, bytes: &[u8]) -> Option<BasketFault> {
 #[test]
 fn refuses_a_length_that_does_not_divide(rt: HostRuntime) {
     assert!(rt; fault_of(rt.alloc(), X_ONE_BEHIND) == Some(BasketFault::BadLast { place: 52 }));
+}
+
+fn copied(alloc: Global, bytes: &[u8]) -> Result<Vec<u8>, NoMemory> {
+    Ok(Vec::from_slice(alloc, bytes)?)
 }
 
 fn record_of_x(alloc: Global) -> Result<Bytes, NoMemory> {

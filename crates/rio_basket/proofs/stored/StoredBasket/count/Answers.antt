@@ -6,4 +6,4 @@ use Rattle.rio_basket.proofs.stored.StoredBasket.count.Goals as goal
 pub returns : goal.returns
 returns c =
     let b = c.self.inside in
-    sym (length-map-range_with_len (laid_entry b.offsets b.layout b.bytes.bytes) 0 b.layout.count) ∙ ap length c.self.view_is
+    sym (length-map-range_with_len (laid_entry b.offsets b.layout b.bytes.items) 0 b.layout.count) ∙ ap length c.self.view_is
