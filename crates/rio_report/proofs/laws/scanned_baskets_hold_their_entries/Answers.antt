@@ -1,10 +1,9 @@
-use Rattle.std.proofs.Common.{◌≡◌, ◌<◌, ◌+◌, ◌-◌, ℕ, List, [], ◌∷◌, Bool, true, false, cond, leb, Option, Some, refl, sym, ap, ◌∙◌, arith}
+use Rattle.std.proofs.Common.{◌≡◌, ◌<◌, ◌+◌, ◌-◌, ℕ, List, [], ◌∷◌, Bool, true, false, cond, leb, Option, Some, refl, ap, ◌∙◌, arith}
 use Rattle.std.specs.List.{prefix_len}
 use Rattle.std.proofs.lemmas.Bool.{le-leb}
 use Rattle.std.specs.Prelude.{nat_le}
 use Rattle.rio_tree_head.specs.Index.{IsIndex}
 use Rattle.rio_tree_head.specs.declared.basket_at.BasketAt.{BasketAt}
-use Rattle.rio_index.specs.Index.{basket_holding}
 use Rattle.rio_index.proofs.IndexLaws.{holds, passed}
 use Rattle.rio_scan.specs.StoredEntries.{basket_number}
 use Rattle.rio_report.proofs.laws.scanned_baskets_hold_their_entries.Goals as goal
@@ -12,14 +11,11 @@ use Rattle.rio_report.proofs.laws.scanned_baskets_hold_their_entries.Goals as go
 -- how many begin at the entry or before it is counted the same
 as_many : (baskets : List BasketAt) (entry : ℕ) → passed baskets entry ≡ prefix_len (λ at. nat_le at.first entry) baskets
 as_many [] entry = refl
-as_many (b ∷ bs) entry = by (leb b.first entry)
+as_many (b ∷ bs) entry = by (as_many bs entry) (leb b.first entry)
   where
-    rest : passed bs entry ≡ prefix_len (λ at. nat_le at.first entry) bs
-    rest = as_many bs entry
-
-    by : (c : Bool) → cond c (passed bs entry + 1) 0 ≡ cond c (prefix_len (λ at. nat_le at.first entry) bs + 1) 0
-    by true = ap (λ n. n + 1) rest
-    by false = refl
+    by : passed bs entry ≡ prefix_len (λ at. nat_le at.first entry) bs → (c : Bool) → cond c (passed bs entry + 1) 0 ≡ cond c (1 + prefix_len (λ at. nat_le at.first entry) bs) 0
+    by rest true = omega (arith, rest)
+    by rest false = refl
 
 numbered : (baskets : List BasketAt) (entries entry : ℕ) → IsIndex baskets entries → entry < entries → passed baskets entry - 1 ≡ basket_number entry baskets
 numbered [] entries entry index lt = absurd (omega (arith, index, lt))
