@@ -8,6 +8,6 @@ ghost use Rattle.rio_scan.specs.StoredEntries.{basket_number};
 /// Where the baskets of a branch are an index, the basket in which a scan looks for an entry is the one that holds it, by
 /// the number of entries that the header gives each basket.
 pub fn scanned_baskets_hold_their_entries()
-    ensures { (baskets : List StoredAt) (entries entry : ℕ) → IsIndex baskets entries → entry < entries
-        → basket_holding baskets entries entry ≡ Some (basket_number entry baskets) }
+    ensures { (baskets : List StoredAt) (count entry : ℕ) → IsIndex baskets count → entry < count
+        → basket_holding baskets count entry ≡ Some (basket_number entry baskets) }
 {}
