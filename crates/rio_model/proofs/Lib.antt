@@ -3,7 +3,6 @@ pub mod ClassAgain
 pub mod ClassFound
 pub mod ClassFurther
 pub mod ClassLines
-pub mod ClassTold
 pub mod DescribedBases
 pub mod DescribedClasses
 pub mod DescribedElements

@@ -1,6 +1,6 @@
 -- Declarations of classes as tokens spell them, by cases on what is declared. Texts that declare the same class differ in
 -- the blanks between their tokens.
-use Rattle.std.specs.Prelude.{◌≡◌, ℕ, pos, List, [], ◌∷◌, ◌++◌, codes, Ok, Err, Some, None, Bool, true, not, ◌&&◌}
+use Rattle.std.specs.Prelude.{◌≡◌, ℕ, pos, List, [], ◌∷◌, ◌++◌, codes, Ok, Some, None, Bool, true, not, ◌&&◌}
 use Rattle.rio_num.specs.At.{At}
 use Rattle.rio_num.specs.Word.{is_name_text}
 use Rattle.rio_types.specs.declared.class.Base.{Base}
@@ -8,7 +8,6 @@ use Rattle.rio_types.specs.declared.class.ClassDef.{ClassDef}
 use Rattle.rio_types.specs.declared.class.Member.{Member}
 use Rattle.rio_types.specs.declared.kind.Kind.{Kind}
 use Rattle.rio_types.specs.declared.kind.Kind.TheVariants.{Plain, Fixed, Counted, Text, Inline, Pointer}
-use Rattle.rio_token.specs.declared.fault.TextFault.{TextFault}
 use Rattle.rio_token.specs.declared.token.Token.TheVariants.{End}
 use Rattle.rio_token.specs.Marks.{asterisk, closing_brace, closing_bracket, colon, opening_brace, opening_bracket}
 use Rattle.rio_token.specs.Reading.{marked}
@@ -18,7 +17,6 @@ use Rattle.rio_model.specs.ClassGrammar.{class_at, class_of, has_i32, is_new_bas
 use Rattle.rio_model.specs.ClassText.{primitive_text}
 use Rattle.rio_model.specs.Lexemes.{Lexeme, SpellsItems, Stand, mark, word}
 use Rattle.rio_model.specs.Stated.{is_class_word}
-use Rattle.rio_model.specs.ToldPlaces.{TellsBadToken}
 use Rattle.rio_model.specs.ValueSpelling.{in_brackets}
 
 -- ---- kinds
@@ -88,7 +86,3 @@ abbrev pub ReadClassesAreSpelled : Type 0
 ReadClassesAreSpelled =
     (class : ClassDef) (old new : At) → class_at old ≡ Ok (class, new)
     → (ls : List Lexeme) × (here : At) × SpellsDeclaration class ls × Stand ls old here × ((next_at here).token ≡ End) × (new ≡ behind here)
-
--- A text that isn't read has a token whose place is told, wherever it comes next behind the same tokens.
-abbrev pub ClassPlacesAreTold : Type 0
-ClassPlacesAreTold = (old : At) (fault : TextFault) → class_at old ≡ Err fault → TellsBadToken class_at (λ ls. Unit {0}) old fault

@@ -10,9 +10,7 @@ mod list_laws;
 mod read_laws;
 mod spelling_laws;
 
-pub use class_laws::{
-    bad_class_tokens_are_told, read_classes_are_spelled, spelled_classes_are_read,
-};
+pub use class_laws::{read_classes_are_spelled, spelled_classes_are_read};
 pub use declare::{DeclareFault, holding_is_reaching};
 pub use laws::texts_are_one_line;
 pub use list_laws::{

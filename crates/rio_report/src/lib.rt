@@ -1,6 +1,7 @@
 //! The verbs that read a file: what they say of it, by calls of the host that only read. `say_ls` lists the keys, `say_dump`
-//! each object with its value, a line at a time, and `say_scan` the rows of a tree: a first pass over the rows finds which
-//! branches can't be read, a second says those of the others. One record is held at a time, or one basket of each branch.
+//! the classes and each object with its value, and `say_scan` the rows of a tree: it goes over the baskets and then over the
+//! entries to find which branches can't be read, and over the entries again to say the others. Beside the key list and the
+//! classes one record is held, or one basket of each branch.
 #![tactic(auto)]
 
 mod content;

@@ -3,8 +3,9 @@ use Rattle.std.proofs.Common.{◌≡◌, ℕ, List, [], ◌∷◌, ◌++◌, len
 use Rattle.std.specs.Prelude.{nat_le, option_and_then, unwrap_or, if◌then◌else◌}
 use Rattle.std.specs.List.{list_all}
 use Rattle.std.specs.Option.{option_map, option_or}
-use Rattle.std.proofs.lemmas.Bool.{and_parts, eqb-true}
+use Rattle.std.proofs.lemmas.Bool.{and_from, and_parts, eqb-true}
 use Rattle.rio_num.specs.Word.{begins_name, goes_on_name, is_name_text}
+use Rattle.rio_token.specs.Marks.{slash}
 use Rattle.rio_token.specs.Reading.{some_if}
 use Rattle.rio_token.specs.Words.{decimal, num_between_of, num_of, written}
 use Rattle.rio_leaf.specs.declared.leaf.Dim.{Dim}
@@ -17,10 +18,6 @@ use Rattle.rio_step.specs.CommandSpelling.{SpellsDim, SpellsLeaf, in_square_brac
 use Rattle.rio_step.specs.TreeGrammar.{is_new_leaf, leaf_dimension, leaf_letter}
 use Rattle.rio_step.proofs.GivenLaws.{some_if_given}
 
-pub both : (a b : Bool) → a ≡ true → b ≡ true → (a && b) ≡ true
-both true b h k = k
-both false b h k = absurd cc
-
 -- ---- as they are read
 
 abbrev pub ReadsDim : List Leaf → Dim → List Lexeme → Type 0
@@ -29,7 +26,7 @@ ReadsDim before dim ls = (w : List ℕ) × (leaf_dimension before w ≡ Some dim
 
 abbrev pub ReadsLeaf : List Leaf → Leaf → List Lexeme → Type 0
 ReadsLeaf before leaf ls =
-    (inside : List Lexeme) × (w : List ℕ) × (ls ≡ glued (word leaf.name) ∷ (inside ++ glued (mark 47) ∷ glued (word w) ∷ []))
+    (inside : List Lexeme) × (w : List ℕ) × (ls ≡ glued (word leaf.name) ∷ (inside ++ glued (mark slash) ∷ glued (word w) ∷ []))
     × (is_new_leaf before leaf.name ≡ true) × ReadsDim before leaf.dim inside × (leaf_letter leaf.dim w ≡ Some leaf.letter)
 
 -- ---- what is read is spelled
@@ -55,7 +52,7 @@ module _ (before : List Leaf) where
   size_by w None dim is e =
       let given = some_if_given (is_name_text w && has_counting_leaf before w) (Counted w 1) dim e in
       subst (λ (d : Dim). IsDim d × SpellsDim d (in_square_brackets w)) given.1
-      (both (is_name_text w && has_counting_leaf before w) true given.0 refl, refl)
+      (and_from (is_name_text w && has_counting_leaf before w) true given.0 refl, refl)
 
   size_spelled : (w : List ℕ) (dim : Dim) → leaf_dimension before w ≡ Some dim → IsDim dim × SpellsDim dim (in_square_brackets w)
   unfolding leaf_dimension
@@ -80,8 +77,8 @@ module _ (before : List Leaf) where
       let dim = dim_spelled leaf.dim c.0 c.4 in
       let letter = letter_spelled leaf.dim c.1 leaf.letter c.5 in (
         c.0,
-        c.2 ∙ ap (λ (w : List ℕ). glued (word leaf.name) ∷ (c.0 ++ glued (mark 47) ∷ glued (word w) ∷ [])) letter.0,
-        both _ _ (both _ _ c.3 dim.0) letter.1,
+        c.2 ∙ ap (λ (w : List ℕ). glued (word leaf.name) ∷ (c.0 ++ glued (mark slash) ∷ glued (word w) ∷ [])) letter.0,
+        and_from _ _ (and_from _ _ c.3 dim.0) letter.1,
         dim.1,
       )
 

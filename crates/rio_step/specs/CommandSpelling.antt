@@ -1,6 +1,6 @@
 -- Commands as tokens spell them, by cases on the command. What has several spellings has them in the blanks between its
 -- tokens, and in its value.
-use Rattle.std.specs.Prelude.{◌≡◌, ℕ, ◌-◌, ℤ, pos, List, [], ◌∷◌, ◌++◌, codes, Option, Some, None, true}
+use Rattle.std.specs.Prelude.{◌≡◌, ℕ, ◌-◌, ℤ, pos, List, [], ◌∷◌, ◌++◌, codes, Option, Some, None, true, not, ◌&&◌}
 use Rattle.rio_num.specs.Word.{is_item_text, is_name_text}
 use Rattle.rio_types.specs.declared.class.Base.{Base}
 use Rattle.rio_token.specs.Marks.{closing_bracket, colon, equals_sign, number_sign, opening_bracket, semicolon, slash}
@@ -11,13 +11,12 @@ use Rattle.rio_leaf.specs.declared.branch.Shape.TheVariants.{Leaves, Class as Ob
 use Rattle.rio_leaf.specs.declared.leaf.Dim.{Dim}
 use Rattle.rio_leaf.specs.declared.leaf.Dim.TheVariants.{One, Fixed, Counted}
 use Rattle.rio_leaf.specs.declared.leaf.Leaf.{Leaf}
-use Rattle.rio_leaf.specs.Stated.{all_leaves, is_stated_leaf}
+use Rattle.rio_leaf.specs.Stated.{all_leaves, has_branch, is_stated_leaf}
 use Rattle.rio_model.specs.ClassSpelling.{SpellsDeclaration}
 use Rattle.rio_model.specs.Lexemes.{Lexeme, glued, mark, word}
 use Rattle.rio_model.specs.ValueSpelling.{SpellsRow, SpellsValue}
 use Rattle.rio_machine.specs.declared.command.Command.{Command}
 use Rattle.rio_machine.specs.declared.command.Command.TheVariants.{Bad, Class, Put, Delete, Tree as MakeTree, Fill, Save, Get, Scan, Ls}
-use Rattle.rio_step.specs.TreeGrammar.{is_new_branch}
 
 -- ---- the branches of a tree
 
@@ -61,7 +60,7 @@ SpellsShape before (Objects class) ls =
 -- NAME=..
 abbrev pub SpellsBranch : List BranchDef → BranchDef → List Lexeme → Type 0
 SpellsBranch before b ls =
-    (inside : List Lexeme) × (ls ≡ word b.name ∷ glued (mark equals_sign) ∷ inside) × (is_new_branch before b.name ≡ true)
+    (inside : List Lexeme) × (ls ≡ word b.name ∷ glued (mark equals_sign) ∷ inside) × ((is_name_text b.name && not (has_branch before b.name)) ≡ true)
     × SpellsShape (all_leaves before) b.shape inside
 
 -- ---- commands
