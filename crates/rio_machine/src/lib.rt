@@ -2,7 +2,7 @@
 //! change. A state has declared classes, objects by name and cycle, and trees by name, and nothing of keys, records or
 //! places. What a command does to it is defined above, where the texts of classes and values are.
 //!
-//! A `Command` ends in an `Outcome`: done, or refused for a `Refusal`, which `print_refusal` says with its `number` and
+//! A `Command` ends in an `Outcome`: accepted, or refused for a `Refusal`, which `print_refusal` says with its `number` and
 //! `name`. `specs/State.antt` has the state (law: `orders_are_total`), `Rows.antt` which rows fit a tree, `Limits.antt`
 //! what is too large, too deep or too many.
 #![tactic(auto)]
