@@ -1,4 +1,11 @@
 //! Classes as the text of their declarations. Its tests stand in `rio_rows`.
+//!
+//! `print_class` prints a class as its declaration, `read_class` reads a text as one, and `take_class` what stands next
+//! among some tokens; both answer a `TextFault` at the first token that can't stand. `is_stated` tells whether a
+//! declaration can give a class, and `checksum` is the sum over its declaration by which a file names it.
+//!
+//! The definitions stand in `rio_model`: `ClassText` (printed), `ClassGrammar` (read), `ClassSpelling` (as tokens spell
+//! it) and `Stated`, with the laws that tie them.
 #![tactic(auto)]
 
 mod known;

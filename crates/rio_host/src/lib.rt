@@ -1,4 +1,12 @@
 //! The outside of the program: one file with one text output, and one input.
+//!
+//! `Host` is the file and the text, by calls that read, write, sync and say, each of which may fail; `Source` is the
+//! input. `specs/Host.antt` has what callers see of a host, its `View`: what reads give, what was said, and what a stop at
+//! any moment may leave of both; it says what a call may do to that. `specs/Source.antt` is the same for an input.
+//!
+//! `FileHost` and `StdSource` are those of the system, which tell nothing of what they hold. `MemHost`, `MemSource` and
+//! `SureSource` are in memory and tell all; `left` of a `MemHost` gives what a stop leaves, by a choice of what `Remains`
+//! of each write. `specs/Image.antt`, `Replay.antt` and `Stops.antt` say what that is.
 #![tactic(auto)]
 
 mod call;

@@ -19,7 +19,8 @@ pub fn read_leaves_are_spelled()
 {}
 
 /// A text that isn't read as leaves has a first token that can't stand, and the place that is told is its place: the
-/// text before it can be completed, and whatever stands behind that token the place is the same.
+/// text before it can be completed, if it has fewer than 2^32 bytes, and whatever stands behind that token the place is
+/// the same.
 pub fn first_bad_leaf_tokens_are_told()
     ensures { (text : List ℕ) → (fault : LeafFault)
         → leaves_in text ≡ Err fault → IsFirstBadLeaf text fault }

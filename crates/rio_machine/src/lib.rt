@@ -1,6 +1,10 @@
 //! The machine that a file is: the commands that change its state, why one of them is refused, and the state that they
 //! change. A state has declared classes, objects by name and cycle, and trees by name, and nothing of keys, records or
 //! places. What a command does to it is defined above, where the texts of classes and values are.
+//!
+//! A `Command` ends in an `Outcome`: accepted, or refused for a `Refusal`, which `print_refusal` says with its `number` and
+//! `name`. `specs/State.antt` has the state (law: `orders_are_total`), `Rows.antt` which rows fit a tree, `Limits.antt`
+//! what is too large, too deep or too many.
 #![tactic(auto)]
 
 mod command;

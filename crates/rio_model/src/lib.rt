@@ -1,6 +1,12 @@
 //! The texts of values and of classes, printed and read, which classes may be declared, which lists of classes class
 //! commands can make, and the written class list, read again. Definitions that contracts cite, in `specs/`, laws about
-//! them, and the fault that a declaration is refused for.
+//! them, and the fault that a declaration is refused for, `DeclareFault`.
+//!
+//! A text has three files: how it is printed (`ValueText`, `ClassText`), how it is read (`ValueGrammar`, `ClassGrammar`)
+//! and which tokens spell it (`ValueSpelling`, `ClassSpelling`). `printed_values_are_read`, `spelled_values_are_read`,
+//! `read_values_are_spelled` and `first_bad_tokens_are_told` tie those of values, and four like them those of classes.
+//! `Declaring` has what may be declared, `StateClasses` the lists that come of it, and `Described` the written class
+//! list, of which `written_bytes_are_read` and `written_list_is_spelled` tell.
 #![tactic(auto)]
 
 mod class_laws;

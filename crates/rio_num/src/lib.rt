@@ -1,4 +1,12 @@
 //! Numbers, texts, names and bytes: what every other crate reads, holds and writes.
+//!
+//! `Cursor` takes numbers and texts from the front of some bytes, or answers `Short`; `Bytes` grows by puts, which find
+//! memory where room was reserved. `Name`, `Items`, `Boxed` and `Names` are seen by contracts as what they hold, and
+//! `NoMemory` is the one word for want of memory. `is_name` and `is_item` tell which words name something.
+//!
+//! `specs/Layout.antt` says how a format is described: as data, of which reading, spelling and the first fault are three
+//! meanings (`Meanings.antt`) that agree (`Laws.antt`, told by `meanings_agree`). The other files of `specs/` have the
+//! words of contracts: where reading stands (`At`), what it gives (`Reading`), room (`Room`), texts, and what is printed.
 #![tactic(auto)]
 
 mod boxed;

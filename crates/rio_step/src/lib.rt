@@ -1,7 +1,13 @@
-//! What commands do: the state after a command and what is said of it, or the first rule that refuses it; the states and the
-//! texts of a run; objects as their class has them in another version. Scripts as they are read, line by line (`Script`, of
-//! trees `TreeGrammar`), and which tokens spell a command (`CommandSpelling`, `CommandLaws`). Definitions that contracts cite,
-//! in `specs/`, laws about them, and the fault that a version is refused for.
+//! What commands do. Definitions that contracts cite, in `specs/`, laws about them, and the fault that a version is
+//! refused for, `MapFault`.
+//!
+//! `Refusing` has the first rule that refuses a command, `Step` the state behind it and its reply, `ReplyText` what is said
+//! of it, `Runs` the states and the texts of a run, `Mapping` objects as their class has them in another version. Of these
+//! the main laws are `steps_change_one_thing`, `nothing_is_lost`, `all_stay_fit` and `stays_storable`.
+//!
+//! `Script` says how a script is read, line by line, with `TreeGrammar` for trees, and `CommandSpelling` which tokens spell
+//! a command. `lines_are_spelled` and `first_bad_command_tokens_are_told` tie the two: a line is the command that its
+//! tokens spell, or it is bad, with the place of the first token that can't stand.
 #![tactic(auto)]
 
 mod command_laws;

@@ -30,12 +30,14 @@ struct Row {
 static READ: [Row; 24] = [
     Row {
         class: "Node",
-        bytes: "40000033 0001 00000001 40000029 FFFFFFFF 4E6F646500 4000001C 0001 00000002 40000012 80000032 4000000A 0001 00000003 00000000 000000",
+        bytes: "40000033 0001 00000001 40000029 FFFFFFFF 4E6F646500 4000001C 0001 00000002 \
+                40000012 80000032 4000000A 0001 00000003 00000000 000000",
         text: "Node#1{val: 1, next: @0=Node#1{val: 2, next: @1=Node#1{val: 3, next: null}}}",
     },
     Row {
         class: "Node",
-        bytes: "40000021 0001 00000001 40000017 FFFFFFFF 4E6F646500 4000000A 0001 00000002 0000002E 00",
+        bytes: "40000021 0001 00000001 40000017 FFFFFFFF 4E6F646500 4000000A 0001 00000002 \
+                0000002E 00",
         text: "Node#1{val: 1, next: @0=Node#1{val: 2, next: @0}}",
     },
     Row {
@@ -55,8 +57,10 @@ static READ: [Row; 24] = [
     },
     Row {
         class: "All",
-        bytes: "4000002B 0001 40000007 0001 00000002 00 02 FFFE 8000000000000000 FFFFFFFFFFFFFFFF 3F800000 0001 0002 02 6869",
-        text: "All#1{Counts#1{n: 2, w: []}, b: true, i: -2, l: -9223372036854775808, u: 18446744073709551615, f: 0x3f800000, p: [1, 2], t: \"hi\"}",
+        bytes: "4000002B 0001 40000007 0001 00000002 00 02 FFFE 8000000000000000 FFFFFFFFFFFFFFFF \
+                3F800000 0001 0002 02 6869",
+        text: "All#1{Counts#1{n: 2, w: []}, b: true, i: -2, l: -9223372036854775808, u: \
+               18446744073709551615, f: 0x3f800000, p: [1, 2], t: \"hi\"}",
     },
     Row {
         class: "TObject",
@@ -80,8 +84,12 @@ static READ: [Row; 24] = [
     },
     Row {
         class: "Holds",
-        bytes: "4000005D 0001 40000057 FFFFFFFF 544C69737400 40000049 0005 0001 00000000 00000000 00 00000001 40000033 FFFFFFFF 544F626A417272617900 40000021 0003 0001 00000000 00000000 00 00000003 00000000 0000002A 0000004D 00000000 00",
-        text: "Holds#1{p: @0=TList#5{TObject#1{fUniqueID: 0, fBits: 0}, fName: \"\", items: [[@1=TObjArray#3{TObject#1{fUniqueID: 0, fBits: 0}, fName: \"\", fLowerBound: 0, items: [@0, @1, null]}, \"\"]]}}",
+        bytes: "4000005D 0001 40000057 FFFFFFFF 544C69737400 40000049 0005 0001 00000000 00000000 \
+                00 00000001 40000033 FFFFFFFF 544F626A417272617900 40000021 0003 0001 00000000 \
+                00000000 00 00000003 00000000 0000002A 0000004D 00000000 00",
+        text: "Holds#1{p: @0=TList#5{TObject#1{fUniqueID: 0, fBits: 0}, fName: \"\", items: \
+               [[@1=TObjArray#3{TObject#1{fUniqueID: 0, fBits: 0}, fName: \"\", fLowerBound: 0, \
+               items: [@0, @1, null]}, \"\"]]}}",
     },
     Row {
         class: "TArrayC",
@@ -134,8 +142,10 @@ static READ: [Row; 24] = [
     // An object behind a pointer that isn't read, and another pointer.
     Row {
         class: "TObjArray",
-        bytes: "4000002E 0003 0001 00000000 00000000 00 00000002 00000000 40000011 FFFFFFFF 4E6F626F647900 40000002 0001 00000000",
-        text: "TObjArray#3{TObject#1{fUniqueID: 0, fBits: 0}, fName: \"\", fLowerBound: 0, items: [@0=opaque(Nobody, 2), null]}",
+        bytes: "4000002E 0003 0001 00000000 00000000 00 00000002 00000000 40000011 FFFFFFFF \
+                4E6F626F647900 40000002 0001 00000000",
+        text: "TObjArray#3{TObject#1{fUniqueID: 0, fBits: 0}, fName: \"\", fLowerBound: 0, items: \
+               [@0=opaque(Nobody, 2), null]}",
     },
     // The class isn't.
     Row {
@@ -193,7 +203,8 @@ static REFUSED: [(&str, &str, ObjFault); 23] = [
     // A class word between the words that there are.
     (
         "Node",
-        "40000033 0001 00000001 40000029 FFFFFFFF 4E6F646500 4000001C 0001 00000002 40000012 80000033 4000000A 0001 00000003 00000000",
+        "40000033 0001 00000001 40000029 FFFFFFFF 4E6F646500 4000001C 0001 00000002 40000012 \
+         80000033 4000000A 0001 00000003 00000000",
         ObjFault::UnknownClassWord {
             place: 71,
             word: 2_147_483_699,
@@ -360,7 +371,8 @@ fn refuses(rt: HostRuntime) -> Result<(), Fail> {
 static FIT: [(&str, &str, &str, bool); 13] = [
     (
         "Node",
-        "40000033 0001 00000001 40000029 FFFFFFFF 4E6F646500 4000001C 0001 00000002 40000012 80000032 4000000A 0001 00000003 00000000",
+        "40000033 0001 00000001 40000029 FFFFFFFF 4E6F646500 4000001C 0001 00000002 40000012 \
+         80000032 4000000A 0001 00000003 00000000",
         "Node",
         true,
     ),
@@ -384,7 +396,9 @@ static FIT: [(&str, &str, &str, bool); 13] = [
     ),
     (
         "Holds",
-        "4000005D 0001 40000057 FFFFFFFF 544C69737400 40000049 0005 0001 00000000 00000000 00 00000001 40000033 FFFFFFFF 544F626A417272617900 40000021 0003 0001 00000000 00000000 00 00000003 00000000 0000002A 0000004D 00000000 00",
+        "4000005D 0001 40000057 FFFFFFFF 544C69737400 40000049 0005 0001 00000000 00000000 00 \
+         00000001 40000033 FFFFFFFF 544F626A417272617900 40000021 0003 0001 00000000 00000000 00 \
+         00000003 00000000 0000002A 0000004D 00000000 00",
         "Holds",
         true,
     ),
@@ -398,7 +412,8 @@ static FIT: [(&str, &str, &str, bool); 13] = [
     // The same class is among the bases.
     (
         "Points",
-        "40000028 0001 40000022 FFFFFFFF 544F626A537472696E6700 4000000F 0001 0001 00000000 00000000 02 6869",
+        "40000028 0001 40000022 FFFFFFFF 544F626A537472696E6700 4000000F 0001 0001 00000000 \
+         00000000 02 6869",
         "Points",
         true,
     ),

@@ -1,4 +1,12 @@
 //! Values as text. Its tests stand in `rio_rows`.
+//!
+//! `print_value` prints a value on one line. `read_value` reads the value that a text spells at a place, `take_value` and
+//! `take_values` what stands next among some tokens, or they answer a `TextFault` at the first token that can't stand. A
+//! text may leave versions of objects open: `resolve`, `resolved` and `resolved_row` fill them in by the known classes,
+//! or answer a `ResolveFault`.
+//!
+//! The definitions stand in `rio_model`: `ValueText` (printed), `ValueGrammar` (read), `ValueSpelling` (as tokens spell
+//! it) and `Resolving`. `specs/Stored.antt` says what a file stores, of which `stored_values_are_read` tells.
 #![tactic(auto)]
 
 mod laws;

@@ -1,4 +1,11 @@
 //! Values: what an object in a file, or a row of a tree, is read as.
+//!
+//! A `Value` is an integer, the bits of a floating-point number, a truth value, a text, a list, an object with its
+//! `Part`s, what a pointer leads to, or an object that isn't read. It is the value of contracts too: two are equal where
+//! they hold the same. `copy` makes an equal one.
+//!
+//! `depth` tells how deep objects stand in one another (`specs/Depth.antt`), `longest_list` how many items the longest
+//! list has (`specs/LongestList.antt`).
 #![tactic(auto)]
 
 mod longest;

@@ -1,4 +1,12 @@
 //! Reads and writes CERN's ROOT files: `rootio VERB FILE ARG...`.
+//!
+//! `run` does what the words ask for, over any host and input. `form_of_words` tells which form they have, `say_file`
+//! says a listing by the calls of `rio_report`, and `run_script` opens the file as a session of `rio_session`, does the
+//! commands of the script and closes it. How it ended is a `Status`, from which `code` and `told_line` make the exit
+//! status and the line that is told. `main` gives `run` the file and the streams of the process.
+//!
+//! `specs/Words.antt` has the forms, `Headline.antt` what a run leaves wherever it is stopped, `Causes.antt` why it ended
+//! so, `Complete.antt` that all is done where nothing fails; the other files say what verbs and scripts answer.
 #![tactic(auto)]
 
 mod input;
