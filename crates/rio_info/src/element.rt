@@ -8,7 +8,7 @@ ghost use Rattle.rio_format.specs.Elements.{element_of, element_with, layer_elem
 ghost use Rattle.rio_value.specs.declared.value.Value.{out-Value};
 
 use crate::parts::{base_parts, signed_in, signed_of, text_in, text_of};
-use rio_value::{Part, Value};
+use rio_value::{Part, Value, part_of};
 use std::marker::Model;
 
 /// What an element of a class says: the name and title, the code of its type, how many values an array
