@@ -9,7 +9,8 @@ use Rattle.rio_value.specs.declared.value.Value.{Value}
 use Rattle.rio_format.specs.Descriptions.{description_classes}
 use Rattle.rio_format.specs.Elements.{Element, element_of, bases_of, members_of}
 use Rattle.rio_format.specs.Objects.{value_at}
-use Rattle.rio_format.specs.ValueParts.{items_in, list_of, text_in_part, signed_of, unsigned_of, part_of, parts_of, parts_behind, base_parts}
+use Rattle.rio_format.specs.ValueParts.{items_in, list_of, text_in_part, signed_of, unsigned_of, parts_behind, base_parts}
+use Rattle.rio_value.specs.Accessors.{part_of, parts_of}
 use Rattle.rio_buffer.specs.declared.fault.ObjFault.{ObjFault}
 
 -- The items behind the pointer to a class's elements. There are none where it isn't a pointer to a TObjArray that begins there.

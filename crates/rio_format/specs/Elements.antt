@@ -15,7 +15,8 @@ use Rattle.rio_value.specs.declared.value.Part.{Part}
 use Rattle.rio_value.specs.declared.value.Value.{Value, out-Value}
 use Rattle.rio_value.specs.declared.value.Value.TheOpen.{Value-F, Object}
 use Rattle.rio_format.specs.Descriptions.{is_element}
-use Rattle.rio_format.specs.ValueParts.{layer_object, base_parts, part_of, text_in, signed_in, text_in_part, signed_of}
+use Rattle.rio_format.specs.ValueParts.{base_parts, text_in, signed_in, text_in_part, signed_of}
+use Rattle.rio_value.specs.Accessors.{pointed_object, part_of}
 
 -- ---- what an element says
 
@@ -49,7 +50,7 @@ layer_element other = None
 
 -- the parts of an object of one of the classes of elements, where it begins behind a pointer
 abbrev pub pointed_element_parts : Value → Option (List Part)
-pointed_element_parts pointer = option_and_then (λ v. layer_element (out-Value v)) (layer_object (out-Value pointer))
+pointed_element_parts pointer = option_and_then (λ v. layer_element (out-Value v)) (pointed_object pointer)
 
 -- What an item of a class's elements says. Null, a reference, an object of another class or version, and one whose
 -- TStreamerElement or TNamed is of another version say nothing.

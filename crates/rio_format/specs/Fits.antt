@@ -1,5 +1,5 @@
 -- Which values fit a class. Labels are counted in one walk through the value.
-use Rattle.std.specs.Prelude.{ℕ, ◌-◌, ◌^◌, ℤ, pos, neg_ℤ, List, [], ◌∷◌, ◌++◌, length, slice_get, bit_and, Bool, true, false, ◌==◌, ◌&&◌, nat_lt, int_le, int_lt, Option, Some, None, is_some, IsTrue, option_and_then, if◌then◌else◌}
+use Rattle.std.specs.Prelude.{ℕ, ◌^◌, ℤ, pos, List, [], ◌∷◌, ◌++◌, length, slice_get, bit_and, Bool, true, false, ◌==◌, ◌&&◌, nat_lt, Option, Some, None, is_some, IsTrue, option_and_then, if◌then◌else◌}
 use Rattle.std.specs.Map.{lookup}
 use Rattle.std.specs.Str.{bytes_eq}
 use Rattle.std.specs.Ordering.{int_eq}
@@ -7,6 +7,7 @@ use Rattle.rio_types.specs.declared.class.ClassDef.{ClassDef}
 use Rattle.rio_types.specs.declared.kind.Kind.TheVariants.{Plain, Counter, Fixed, Counted, Text as Texted, Inline, Pointer, Other}
 use Rattle.rio_types.specs.declared.kind.Primitive.{Primitive}
 use Rattle.rio_types.specs.declared.kind.Primitive.TheVariants.{I8, I16, I32, I64, U8, U16, U32, U64, Bool as Boolean, F32, F64}
+pub use Rattle.rio_value.specs.Integers.{fits_signed, fits_unsigned}
 use Rattle.rio_value.specs.declared.value.Value.{Value}
 use Rattle.rio_value.specs.declared.value.Value.TheOpen.{Value-F, Int, Bits32, Bits64, Bool as Truth, Text, List as Items, Object, Pointed, Null, Back, Opaque}
 use Rattle.rio_value.specs.declared.value.Value.TheFolds.{fold-Value}
@@ -29,13 +30,6 @@ abbrev pub pass : Bool → Labels → Option Labels
 pass b labels = if b then Some labels else None
 
 -- ---- numbers
-
--- within the integers of so many bits, with and without a sign
-abbrev pub fits_signed : ℕ → ℤ → Bool
-fits_signed bits z = int_le (neg_ℤ (pos (2 ^ (bits - 1)))) z && int_lt z (pos (2 ^ (bits - 1)))
-
-abbrev pub fits_unsigned : ℕ → ℤ → Bool
-fits_unsigned bits z = int_le (pos 0) z && int_lt z (pos (2 ^ bits))
 
 abbrev pub fits_prim : Primitive → ℤ → Bool
 fits_prim I8 z = fits_signed 8 z

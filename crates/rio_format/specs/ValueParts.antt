@@ -1,68 +1,34 @@
--- What stands in a value that was read: the parts of an object by their names, and texts, numbers and lists.
-use Rattle.std.specs.Prelude.{ℕ, ℤ, pos, ◌^◌, List, [], ◌&&◌, nat_lt, find, Option, Some, None, option_map, option_and_then, if◌then◌else◌}
+-- What a class list says in the parts of its objects, by their names. A list or text is empty, and a number 0, where there is
+-- none.
+use Rattle.std.specs.Prelude.{ℕ, ℤ, pos, List, [], Option, option_and_then, unwrap_or}
 use Rattle.std.specs.Option.{option_map_or}
-use Rattle.std.specs.Ordering.{int_eq}
-use Rattle.std.specs.Str.{bytes_eq}
+use Rattle.rio_value.specs.Accessors.{integer_in, list_in, pointed_object, part_of, parts_of, text_bytes_in, unsigned_integer_in}
 use Rattle.rio_value.specs.declared.value.Part.{Part}
-use Rattle.rio_value.specs.declared.value.Value.{Value, out-Value}
-use Rattle.rio_value.specs.declared.value.Value.TheOpen.{Value-F, Int, Text, List as Items, Object, Pointed}
-use Rattle.rio_format.specs.Fits.{fits_signed}
+use Rattle.rio_value.specs.declared.value.Value.{Value}
 
 -- ---- one value
 
-abbrev pub layer_parts : List ℕ → ℤ → Value-F Value Part → Option (List Part)
-layer_parts class version (Object c v parts) = if bytes_eq c class && int_eq v version then Some parts else None
-layer_parts class version other = None
-
--- the parts of an object of the class in the version
-abbrev pub parts_of : List ℕ → ℤ → Value → Option (List Part)
-parts_of class version v = layer_parts class version (out-Value v)
-
-abbrev pub layer_object : Value-F Value Part → Option Value
-layer_object (Pointed label object) = Some object
-layer_object other = None
-
--- the parts of such an object, where it begins behind a pointer
+-- the parts of an object of the class in the version, where it begins behind a pointer
 abbrev pub parts_behind : List ℕ → ℤ → Value → Option (List Part)
-parts_behind class version pointer = option_and_then (parts_of class version) (layer_object (out-Value pointer))
-
-abbrev pub layer_items : Value-F Value Part → List Value
-layer_items (Items items) = items
-layer_items other = []
+parts_behind class version pointer = option_and_then (parts_of class version) (pointed_object pointer)
 
 -- the values in a list
 abbrev pub items_in : Value → List Value
-items_in v = layer_items (out-Value v)
-
-abbrev pub layer_text : Value-F Value Part → List ℕ
-layer_text (Text text) = text
-layer_text other = []
+items_in v = unwrap_or (list_in v) []
 
 abbrev pub text_in : Value → List ℕ
-text_in v = layer_text (out-Value v)
+text_in v = unwrap_or (text_bytes_in v) []
 
 -- Numbers of 32 bits. Another number counts as 0; it is never read where one of 32 bits stands.
-abbrev pub layer_signed : Value-F Value Part → ℤ
-layer_signed (Int z) = if fits_signed 32 z then z else pos 0
-layer_signed other = pos 0
-
 abbrev pub signed_in : Value → ℤ
-signed_in v = layer_signed (out-Value v)
-
-abbrev pub layer_unsigned : Value-F Value Part → ℕ
-layer_unsigned (Int (pos n)) = if nat_lt n (2 ^ 32) then n else 0
-layer_unsigned other = 0
+signed_in v = unwrap_or (integer_in 32 v) (pos 0)
 
 abbrev pub unsigned_in : Value → ℕ
-unsigned_in v = layer_unsigned (out-Value v)
+unsigned_in v = unwrap_or (unsigned_integer_in 32 v) 0
 
 -- ---- the parts of an object
 
--- the value of the first part of that name
-abbrev pub part_of : List ℕ → List Part → Option Value
-part_of name parts = option_map (λ p. p.value) (find (λ p. bytes_eq p.name name) parts)
-
--- what stands in that part; empty or 0 where there is none
+-- what stands in the part of that name
 abbrev pub list_of : List ℕ → List Part → List Value
 list_of name parts = option_map_or items_in (part_of name parts) []
 

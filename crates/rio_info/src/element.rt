@@ -7,8 +7,8 @@ ghost use Rattle.rio_format.specs.Descriptions.{is_element};
 ghost use Rattle.rio_format.specs.Elements.{element_of, element_with, layer_element, pointed_element_parts};
 ghost use Rattle.rio_value.specs.declared.value.Value.{out-Value};
 
-use crate::parts::{base_parts, object_behind, part_of, signed_in, signed_of, text_in, text_of};
-use rio_value::{Part, Value};
+use crate::parts::{base_parts, signed_in, signed_of, text_in, text_of};
+use rio_value::{Part, Value, part_of};
 use std::marker::Model;
 
 /// What an element of a class says: the name and title, the code of its type, how many values an array
@@ -86,7 +86,7 @@ fn parts_of_element(value: &Value) -> Option<&[Part]>
 fn pointed_element_parts(pointer: &Value) -> Option<&[Part]>
     ensures { option_copied result ≡ pointed_element_parts pointer.now }
 {
-    parts_of_element(object_behind(pointer)?)
+    parts_of_element(pointer.pointed_object()?)
 }
 
 fn element_with<'a>(own: &'a [Part], stated: &'a [Part], named: &'a [Part]) -> Element<'a>

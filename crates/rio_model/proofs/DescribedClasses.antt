@@ -14,7 +14,8 @@ use Rattle.rio_format.specs.Bodies.{part}
 use Rattle.rio_format.specs.ClassList.{class_with, classes_of, described_class, element_items, elements_of, item_class, list_items}
 use Rattle.rio_format.specs.Elements.{Element, bases_of, element_of, members_of}
 use Rattle.rio_format.specs.Fits.{fits_signed}
-use Rattle.rio_format.specs.ValueParts.{parts_behind, parts_of}
+use Rattle.rio_format.specs.ValueParts.{parts_behind}
+use Rattle.rio_value.specs.Accessors.{parts_of}
 use Rattle.rio_model.specs.Stated.{are_stated_bases, are_stated_members, has_stated_parts, is_class_version}
 use Rattle.rio_model.specs.Described.{has_class_numbers, is_base_number, is_described, WrittenListIsRead}
 use Rattle.rio_format.specs.WrittenElements.{base_element, member_element, written_elements}

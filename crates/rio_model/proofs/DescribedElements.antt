@@ -6,7 +6,8 @@ use Rattle.rio_format.specs.Bodies.{part}
 use Rattle.rio_format.specs.Descriptions.{is_element}
 use Rattle.rio_format.specs.Elements.{Element, element_of, element_with, layer_element, pointed_element_parts as parts_behind_element}
 use Rattle.rio_format.specs.Fits.{fits_signed}
-use Rattle.rio_format.specs.ValueParts.{base_parts, part_of, signed_in, text_in}
+use Rattle.rio_format.specs.ValueParts.{base_parts, signed_in, text_in}
+use Rattle.rio_value.specs.Accessors.{part_of}
 use Rattle.rio_format.specs.WrittenList.{element_object, element_parts, named_object, plain_object}
 use Rattle.rio_format.specs.WrittenElements.{WrittenElement as Written}
 use Rattle.rio_model.proofs.DescribedValues.{element_back, object_back, pointer_back, signed_back, text_back}

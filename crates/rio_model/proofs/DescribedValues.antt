@@ -1,5 +1,5 @@
 -- Values taken apart: what stands in each.
-use Rattle.std.proofs.Common.{◌≡◌, ◌∙◌, ℤ, ℕ, ◌^◌, pos, List, true, ltb, ◌&&◌, Some, refl, ap, sym}
+use Rattle.std.proofs.Common.{◌≡◌, ◌∙◌, ℤ, ℕ, ◌^◌, pos, List, true, ltb, ◌&&◌, Some, unwrap_or, refl, ap, sym}
 use Rattle.std.specs.Ordering.{int_eq}
 use Rattle.std.specs.Str.{bytes_eq}
 use Rattle.rio_value.specs.declared.value.Part.{Part}
@@ -8,7 +8,8 @@ use Rattle.rio_value.specs.declared.value.Value.TheOpen as layer
 use Rattle.rio_value.specs.declared.value.Value.TheVariants.{rolls-Int, rolls-Text, rolls-List, rolls-Object, rolls-Pointed}
 use Rattle.rio_format.specs.Elements.{layer_element}
 use Rattle.rio_format.specs.Fits.{fits_signed}
-use Rattle.rio_format.specs.ValueParts.{items_in, layer_items, layer_object, layer_parts, layer_signed, layer_text, layer_unsigned, parts_of, signed_in, text_in, unsigned_in}
+use Rattle.rio_format.specs.ValueParts.{items_in, signed_in, text_in, unsigned_in}
+use Rattle.rio_value.specs.Accessors.{layer_integer, layer_list, layer_object, layer_parts, layer_text_bytes, layer_unsigned_integer, pointed_object, parts_of}
 
 -- ---- by cases
 
@@ -30,18 +31,18 @@ out_pointed label object = ap out-Value (sym (rolls-Pointed label object)) ∙ o
 -- ---- what stands in them
 
 pub items_back : (vs : List Value) → items_in (Items vs) ≡ vs
-items_back vs = ap layer_items (out_list vs)
+items_back vs = ap (λ y. unwrap_or (layer_list y) []) (out_list vs)
 
 pub text_back : (text : List ℕ) → text_in (Text text) ≡ text
-text_back text = ap layer_text (out_text text)
+text_back text = ap (λ y. unwrap_or (layer_text_bytes y) []) (out_text text)
 
 pub signed_back : (z : ℤ) → fits_signed 32 z ≡ true → signed_in (Int z) ≡ z
-signed_back z h = ap layer_signed (out_int z) ∙ rw h refl
+signed_back z h = ap (λ y. unwrap_or (layer_integer 32 y) (pos 0)) (out_int z) ∙ rw h refl
 
 pub unsigned_back : (n : ℕ) → ltb n (2 ^ 32) ≡ true → unsigned_in (Int (pos n)) ≡ n
-unsigned_back n h = ap layer_unsigned (out_int (pos n)) ∙ rw h refl
+unsigned_back n h = ap (λ y. unwrap_or (layer_unsigned_integer 32 y) 0) (out_int (pos n)) ∙ rw h refl
 
-pub pointer_back : (label : ℕ) (object : Value) → layer_object (out-Value (Pointed label object)) ≡ Some object
+pub pointer_back : (label : ℕ) (object : Value) → pointed_object (Pointed label object) ≡ Some object
 pointer_back label object = ap layer_object (out_pointed label object)
 
 pub object_back : (class : List ℕ) (version : ℤ) (c : List ℕ) (v : ℤ) (parts : List Part) → (bytes_eq c class && int_eq v version) ≡ true → parts_of class version (Object c v parts) ≡ Some parts

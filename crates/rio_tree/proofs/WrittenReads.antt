@@ -30,7 +30,8 @@ use Rattle.rio_tree_head.specs.declared.head.TreeHead.{TreeHead}
 use Rattle.rio_tree_head.specs.declared.refusal.BranchRefusal.{BranchRefusal}
 use Rattle.rio_tree_head.specs.Header.{branch_in, branches_from, entries_member, has_offsets, known_branch, met_behind, shape_said, tree_head_in}
 use Rattle.rio_tree_head.specs.Labels.{ObjectLabels, labels_in}
-use Rattle.rio_tree_head.specs.Members.{parts_with_bases, pointers_member}
+use Rattle.rio_tree_head.specs.Members.{pointers_member}
+use Rattle.rio_value.specs.PartsWithBases.{parts_with_bases}
 use Rattle.rio_tree_head.specs.HeaderLeaves.{LeafMet, LeavesMet, LeavesSaid, is_leafy, is_plain_number, leaf_by, leaf_met, leaves_met, no_leaves_met, says_values, with_counter, with_leaf_met}
 use Rattle.rio_tree_head.specs.Refusals.{are_in_order, basket_numbered, basket_said, baskets_from, has_leaf_class, leaf_behind, leaves_from, listed_baskets, natural_in, no_leaves, readable_branch}
 use Rattle.rio_tree.specs.WrittenLaws.{AreReadableBranches, IsReadableBranch, WrittenTreeIsRead, branch_fits_header, branch_of_leaf, counting_branches_behind, stated_defs}

@@ -23,7 +23,9 @@ use Rattle.rio_tree_head.specs.declared.basket_at.BasketAt.{BasketAt}
 use Rattle.rio_tree_head.specs.declared.head.Branch.{Branch}
 use Rattle.rio_tree_head.specs.BranchMembers.{BranchSaid, branch_said, entry_class, leaf_items}
 use Rattle.rio_tree_head.specs.HeaderLeaves.{LeafSaid, counter_in, leaf_said, letter_of_class}
-use Rattle.rio_tree_head.specs.Members.{class_of_object, integer_member, integers_in, integers_member, is_integer, member_in, name_member, parts_with_bases, pointers_member, truth_member}
+use Rattle.rio_tree_head.specs.Members.{integer_member, integers_in, integers_member, is_integer, name_member, pointers_member, truth_member}
+use Rattle.rio_value.specs.Accessors.{class_of_object}
+use Rattle.rio_value.specs.PartsWithBases.{member_in, parts_with_bases}
 use Rattle.rio_tree.specs.WrittenLaws.{IsVersionFor}
 use Rattle.rio_tree.specs.WrittenTree.{LeafLabels, back_or_null, basket_numbers, branch_object, class_of_letter, counter_pointer, is_unsigned_letter, leaf_object, leaf_pointers, leaves_in_branch, plain_branch_object, plain_leaf_object, shaped_object, title_of_branch, titled_object, width_of_letter, written_count}
 use Rattle.rio_tree.proofs.WrittenMembers.{object_parts, pointers_written, titled_parts}

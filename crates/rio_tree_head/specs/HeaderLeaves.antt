@@ -16,7 +16,9 @@ use Rattle.rio_tree_head.specs.declared.head.Branch.{Branch}
 use Rattle.rio_tree_head.specs.declared.refusal.BranchRefusal.{BranchRefusal}
 use Rattle.rio_tree_head.specs.declared.refusal.BranchRefusal.TheVariants.{NoCounter}
 use Rattle.rio_tree_head.specs.Labels.{ObjectLabels, label_in, object_behind}
-use Rattle.rio_tree_head.specs.Members.{◌>>=◌, class_of_object, integer_member, member_in, name_member, kept_if, truth_member}
+use Rattle.rio_tree_head.specs.Members.{◌>>=◌, integer_member, name_member, kept_if, truth_member}
+use Rattle.rio_value.specs.Accessors.{class_of_object}
+use Rattle.rio_value.specs.PartsWithBases.{member_in}
 
 -- ---- one leaf
 

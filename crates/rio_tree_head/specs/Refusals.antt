@@ -14,7 +14,8 @@ use Rattle.rio_tree_head.specs.declared.refusal.BranchRefusal.TheVariants.{Branc
 use Rattle.rio_tree_head.specs.BranchMembers.{BranchSaid, branch_said}
 use Rattle.rio_tree_head.specs.HeaderLeaves.{LeavesMet, LeavesSaid, counter_met, leaf_at_pointer, leaf_met, with_leaf, with_leaf_met}
 use Rattle.rio_tree_head.specs.Labels.{ObjectLabels, object_behind}
-use Rattle.rio_tree_head.specs.Members.{integer_in, natural}
+use Rattle.rio_tree_head.specs.Members.{natural}
+use Rattle.rio_value.specs.Accessors.{integer_in}
 
 -- passed, if this holds, or else refused so
 abbrev pub unless_refused : Bool → BranchRefusal → Result (Unit {0}) BranchRefusal

@@ -11,8 +11,7 @@ use crate::BranchRefusal;
 use crate::labels::LabelTable;
 use crate::leaf::leaf_at_pointer;
 use crate::members::{
-    class_of_object, i32_member, i32s_member, i64_member, i64s_member, name_member,
-    pointers_member, version_of_object,
+    i32_member, i32s_member, i64_member, i64s_member, name_member, pointers_member,
 };
 use rio_value::Value;
 
@@ -36,10 +35,10 @@ pub(crate) struct BranchSaid<'a> {
 fn entry_class(value: &Value) -> Option<Option<&[u8]>>
     ensures { option_map option_copied result ≡ entry_class value.now }
 {
-    let class = class_of_object(value);
+    let class = value.class();
     if class == b"TBranch".as_slice() {
         Some(None)
-    } else if class == b"TBranchElement".as_slice() && version_of_object(value) == 110 {
+    } else if class == b"TBranchElement".as_slice() && value.version() == 110 {
         match name_member(b"fClassName", value) {
             Some(class) => Some(Some(class)),
             None => None,

@@ -5,7 +5,7 @@ ghost use Rattle.rio_tree_head.specs.HeaderLeaves.{counter_member, is_plain_numb
 ghost use Rattle.rio_tree_head.specs.Tables.{labels_of};
 
 use crate::labels::LabelTable;
-use crate::members::{class_of_object, i32_member, member, name_member, truth_member};
+use crate::members::{i32_member, name_member, truth_member};
 use rio_leaf::Dim;
 use rio_value::Value;
 use std::marker::Model;
@@ -65,7 +65,7 @@ fn letter_of_class(class: &[u8], unsigned: bool) -> Option<u8>
 fn counter_member(name: &[u8], value: &Value) -> Option<Option<u32>>
     ensures { result ≡ counter_member name.now value.now }
 {
-    match member(name, value)? {
+    match value.member(name)? {
         Value::Null => Some(None),
         Value::Pointed { label, .. } => Some(Some(*label)),
         Value::Back(label) => Some(Some(*label)),
@@ -82,7 +82,7 @@ pub(crate) fn leaf_said(value: &Value) -> Option<LeafSaid<'_>>
     let len = i32_member(b"fLen", value)?;
     let unsigned = truth_member(b"fIsUnsigned", value)?;
     let counter = counter_member(b"fLeafCount", value)?;
-    let letter = letter_of_class(class_of_object(value), unsigned)?;
+    let letter = letter_of_class(value.class(), unsigned)?;
     Some(LeafSaid {
         name,
         letter,

@@ -3,7 +3,7 @@
 //! A tree is stored as a header, an object of the class TTree, and baskets that the header's branches name.
 //! A [`TreeHead`] has what the header says of its branches: their leaves or class, where their baskets stand, and why a
 //! branch can't be read. [`read_tree`] reads it from any value, and tells the first member that a tree lacks.
-//! `specs/Header.antt` has what a value says, `specs/Members.antt` where members stand, `specs/Labels.antt` what pointers
+//! `specs/Header.antt` has what a value says, `specs/Members.antt` what members say, `specs/Labels.antt` what pointers
 //! lead to, `specs/HeaderLeaves.antt` the leaves and what counts them, `specs/Refusals.antt` the refusals in order, and
 //! `specs/Index.antt` which lists of baskets are an index. `specs/Tables.antt` and `specs/Stops.antt` speak of the code.
 #![tactic(auto)]

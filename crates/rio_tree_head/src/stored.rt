@@ -8,7 +8,6 @@ ghost use Rattle.rio_tree_head.specs.Tables.{branch_of};
 ghost use Rattle.rio_tree_head.specs.declared.refusal.BranchRefusal.TheVariants.{BadBasketList as NoList};
 
 use crate::branch_members::BranchSaid;
-use crate::members::{i32_in, i64_in};
 use crate::stop::Stop;
 use crate::{BasketAt, Baskets, BranchRefusal};
 use rio_value::Value;
@@ -17,13 +16,13 @@ use std::alloc::Global;
 fn u32_in(value: &Value) -> Option<u32>
     ensures { result ≡ natural_in 32 value.now }
 {
-    u32::try_from(i32_in(value)?).ok()
+    u32::try_from(value.as_i32()?).ok()
 }
 
 fn u64_in(value: &Value) -> Option<u64>
     ensures { result ≡ natural_in 64 value.now }
 {
-    u64::try_from(i64_in(value)?).ok()
+    u64::try_from(value.as_i64()?).ok()
 }
 
 // The basket of this number. None where a list is shorter or a number below 0.

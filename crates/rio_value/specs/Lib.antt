@@ -1,2 +1,5 @@
+pub mod Accessors
 pub mod Depth
+pub mod Integers
 pub mod LongestList
+pub mod PartsWithBases

@@ -4,12 +4,16 @@
 //! `Part`s, what a pointer leads to, or an object that isn't read. It is the value of contracts too: two are equal where
 //! they hold the same. `copy` makes an equal one.
 //!
-//! `depth` tells how deep objects stand in one another (`specs/Depth.antt`), `longest_list` how many items the longest
-//! list has (`specs/LongestList.antt`).
+//! What stands in a value is told by the methods of `Value`: `as_i32` and its like for numbers, texts and lists, `class`,
+//! `version`, `part` and `member` for objects (`specs/Accessors.antt`, `PartsWithBases.antt`). `depth` tells how deep objects
+//! stand in one another (`Depth.antt`), `longest_list` how many items the longest list has (`LongestList.antt`).
 #![tactic(auto)]
 
+mod accessors;
 mod longest;
+mod member;
 mod value;
 
+pub use accessors::part_of;
 pub use longest::longest_list;
 pub use value::{Part, Parts, Rows, Value, Values, copy, depth};

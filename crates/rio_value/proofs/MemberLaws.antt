@@ -4,7 +4,7 @@ use Rattle.std.proofs.lemmas.List.{at_drop_more}
 use Rattle.std.specs.Prelude.{find}
 use Rattle.std.specs.Option.{option_map, option_or}
 use Rattle.std.specs.Str.{bytes_eq}
-use Rattle.rio_format.specs.ValueParts.{part_of}
+use Rattle.rio_value.specs.Accessors.{part_of}
 use Rattle.std.specs.List.{flat_map}
 use Rattle.rio_value.specs.declared.value.Part.{Part}
 use Rattle.rio_value.specs.declared.value.Value.{Value, Object, out-Value, roll-Value, roll-out-Value}
@@ -13,7 +13,7 @@ use Rattle.rio_value.specs.declared.value.Value.TheOpen.{Value-F}
 use Rattle.rio_value.specs.declared.value.Value.TheOpen as layer
 use Rattle.rio_value.specs.declared.value.Value.TheFolds.{para-Part, para-roll-Value, para-roll-Part}
 use Rattle.rio_value.specs.declared.value.Value.TheViews.{out-Part, roll-out-Part}
-use Rattle.rio_tree_head.specs.Members.{kept_parts, member_in, parts_of_base, parts_step, parts_with_bases}
+use Rattle.rio_value.specs.PartsWithBases.{kept_parts, member_in, parts_of_base, parts_step, parts_with_bases}
 
 abbrev Parts : Type 0
 Parts = List Part

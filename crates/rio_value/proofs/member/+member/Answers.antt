@@ -1,11 +1,11 @@
 use Rattle.std.proofs.Common.{◌+◌, ◌∙◌, Option, Some, None, ap, drop, refl, sym, rules}
 use Rattle.std.specs.List.{flat_map}
 use Rattle.std.specs.Option.{option_or}
-use Rattle.rio_format.specs.ValueParts.{part_of}
+use Rattle.rio_value.specs.Accessors.{part_of}
 use Rattle.rio_value.specs.declared.value.Value.{Value}
-use Rattle.rio_tree_head.specs.Members.{member_in, parts_of_base}
-use Rattle.rio_tree_head.proofs.MemberLaws.{bases-drop, member-Object, member_by_layer}
-use Rattle.rio_tree_head.proofs.members.+member.Goals as goal
+use Rattle.rio_value.specs.PartsWithBases.{member_in, parts_of_base}
+use Rattle.rio_value.proofs.MemberLaws.{bases-drop, member-Object, member_by_layer}
+use Rattle.rio_value.proofs.member.+member.Goals as goal
 
 pub base_member-returns-in-Some : goal.base_member-returns-in-Some
 base_member-returns-in-Some t c =
