@@ -1,5 +1,5 @@
 -- How the entries of a basket are laid out in its bytes: the numbers of its head, or the first fault.
-use Rattle.std.specs.Prelude.{◌≡◌, ◌≢◌, ℕ, ◌+◌, ◌-◌, ◌%◌, ℤ, pos, List, length, Result, Ok, Err, Bool, int_lt, int_le, nat_lt, ◌==◌, ◌||◌, ◌&&◌, not, unsigned_abs, if◌then◌else◌}
+use Rattle.std.specs.Prelude.{ℕ, ◌+◌, ◌-◌, ◌%◌, ℤ, pos, List, length, Result, Ok, Err, Bool, int_lt, int_le, nat_lt, ◌==◌, ◌||◌, ◌&&◌, not, unsigned_abs, if◌then◌else◌}
 use Rattle.rio_num.specs.At.{At}
 use Rattle.rio_key.specs.BasketFront.{basket_front_at}
 use Rattle.rio_key.specs.Key.{is_compressed}
@@ -7,7 +7,7 @@ use Rattle.rio_key.specs.declared.basket_head.BasketFront.{BasketFront}
 use Rattle.rio_key.specs.declared.basket_head.BasketHead.{BasketHead}
 use Rattle.rio_key.specs.declared.fault.KeyFault.{KeyFault}
 use Rattle.rio_basket.specs.declared.fault.BasketFault.{BasketFault}
-use Rattle.rio_basket.specs.declared.fault.BasketFault.TheVariants.{BadLast, Compressed, NoMemory}
+use Rattle.rio_basket.specs.declared.fault.BasketFault.TheVariants.{BadLast, Compressed}
 use Rattle.rio_basket.specs.declared.layout.Layout.{Layout}
 
 -- A number is so many times another; of those of 0 there is 0 alone.
@@ -59,12 +59,3 @@ from_first bytes = record { place = 0; rest = bytes }
 -- what the key and the head of a basket say, or their first fault
 abbrev pub layout_in : Bool → List ℕ → Result Layout BasketFault
 layout_in offsets bytes = layout_by offsets (length bytes) (basket_front_at (from_first bytes))
-
--- the fault is the one that reading gives, unless memory ran out
-abbrev pub FailsBasket : {A : Type 0} → BasketFault → Result A BasketFault → Type 0
-FailsBasket e read = e ≢ NoMemory → read ≡ Err e
-
--- what a function returned is what reading gives, unless memory ran out
-abbrev pub GivesBasket : {A : Type 0} → Result A BasketFault → Result A BasketFault → Type 0
-GivesBasket (Ok x) read = read ≡ Ok x
-GivesBasket (Err e) read = FailsBasket e read

@@ -1,8 +1,9 @@
 //! The entries of a basket that is read.
 ghost use Rattle.std.specs.Prelude.{◌≡◌, ◌+◌, ◌<◌, ◌≤◌, ◌^◌, length, true, false, slice_range};
+ghost use Rattle.rio_num.specs.Answers.{GivesUnless};
 ghost use Rattle.rio_basket.specs.Entries.{entry_length, laid_entry, entries_in, laid_entries, offset_at, offset_behind, offset_place};
 ghost use Rattle.rio_basket.specs.Laid.{AreOffsets, IsLaid, IsLayoutWithin};
-ghost use Rattle.rio_basket.specs.Stored.{GivesBasket};
+ghost use Rattle.rio_basket.specs.declared.fault.BasketFault.TheVariants.{NoMemory as OutOfMemory};
 
 use crate::BasketFault;
 use crate::layout::Layout;
@@ -162,7 +163,7 @@ impl Entries {
 /// offset that isn't whole or can't stand. Places count from the first byte.
 #[tactic(auto, unfolding(crate::specs::Entries::entries_in))]
 pub fn read_basket(alloc: Global, bytes: &[u8], offsets: bool) -> Result<Entries, BasketFault>
-    ensures { GivesBasket result (entries_in offsets bytes.now) }
+    ensures { GivesUnless OutOfMemory (λ x. x) result (entries_in offsets bytes.now) }
 {
     let layout = read_sound_layout(alloc, bytes, offsets)?;
     let mut entries = Entries::new(alloc);

@@ -1,7 +1,9 @@
 //! How the entries of a basket are laid out in its bytes.
 ghost use Rattle.std.specs.Prelude.{◌≡◌, ◌≢◌, ◌+◌, ◌<◌, ◌≤◌, ◌^◌, length, Ok, IfOk};
+ghost use Rattle.rio_num.specs.Answers.{GivesUnless};
 ghost use Rattle.rio_basket.specs.Laid.{IsLayoutWithin};
-ghost use Rattle.rio_basket.specs.Stored.{GivesBasket, ends_within, has_negative, has_one_length, is_multiple, is_sound, layout_by, layout_in, layout_of};
+ghost use Rattle.rio_basket.specs.Stored.{ends_within, has_negative, has_one_length, is_multiple, is_sound, layout_by, layout_in, layout_of};
+ghost use Rattle.rio_basket.specs.declared.fault.BasketFault.TheVariants.{NoMemory as OutOfMemory};
 
 use crate::BasketFault;
 use rio_key::{BasketFront, BasketHead, KeyFault, read_basket_front};
@@ -82,7 +84,7 @@ fn layout_by(offsets: bool, bytes: &[u8], front: &BasketFront) -> Result<Layout,
 
 /// What the key and the head of a basket say, which these bytes begin with, or their first fault.
 pub(crate) fn read_layout(alloc: Global, bytes: &[u8], offsets: bool) -> Result<Layout, BasketFault>
-    ensures exact { GivesBasket result (layout_in offsets bytes.now) }
+    ensures exact { GivesUnless OutOfMemory (λ x. x) result (layout_in offsets bytes.now) }
     ensures within { IfOk result (λ layout. IsLayoutWithin layout bytes.now) }
 {
     match read_basket_front(alloc, bytes, 0) {

@@ -1,8 +1,9 @@
 //! The offsets of a basket's entries, and the entries.
 ghost use Rattle.std.specs.Prelude.{◌≡◌, ◌+◌, ◌<◌, ◌≤◌, ◌^◌, ◌==◌, ◌||◌, drop, length, nat_lt, not, IfOk};
+ghost use Rattle.rio_num.specs.Answers.{GivesUnless};
 ghost use Rattle.rio_basket.specs.Entries.{has_count, is_whole_at, laid_entry, number_there, offset_at, offset_before, offset_place, offsets_from, offsets_in, sound_layout_in, sound_offset, spare_offset};
 ghost use Rattle.rio_basket.specs.Laid.{IsLaid};
-ghost use Rattle.rio_basket.specs.Stored.{GivesBasket};
+ghost use Rattle.rio_basket.specs.declared.fault.BasketFault.TheVariants.{NoMemory as OutOfMemory};
 
 use crate::BasketFault;
 use crate::layout::{Layout, read_layout};
@@ -132,7 +133,7 @@ pub(crate) fn read_sound_layout(
     bytes: &[u8],
     offsets: bool,
 ) -> Result<Layout, BasketFault>
-    ensures exact { GivesBasket result (sound_layout_in offsets bytes.now) }
+    ensures exact { GivesUnless OutOfMemory (λ x. x) result (sound_layout_in offsets bytes.now) }
     ensures laid { IfOk result (λ layout. IsLaid offsets layout bytes.now) }
 {
     let layout = read_layout(alloc, bytes, offsets)?;

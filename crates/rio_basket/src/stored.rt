@@ -30,13 +30,14 @@ impl Model for StoredBasket {
 impl StoredBasket {
     ghost use Rattle.std.specs.Prelude.{◌≡◌, ◌<◌, ◌^◌, length, slice_get, IfSome};
     ghost use Rattle.std.specs.Option.{option_copied};
+    ghost use Rattle.rio_num.specs.Answers.{GivesUnless};
     ghost use Rattle.rio_basket.specs.Entries.{entries_in};
-    ghost use Rattle.rio_basket.specs.Stored.{GivesBasket};
+    ghost use Rattle.rio_basket.specs.declared.fault.BasketFault.TheVariants.{NoMemory as OutOfMemory};
 
     /// The basket that these bytes begin with, with the faults of `read_basket`.
     #[tactic(auto, unfolding(crate::specs::Entries::entries_in))]
     pub fn read(alloc: Global, bytes: Vec<u8>, offsets: bool) -> Result<StoredBasket, BasketFault>
-        ensures { GivesBasket result (entries_in offsets bytes.items) }
+        ensures { GivesUnless OutOfMemory (λ x. x) result (entries_in offsets bytes.items) }
     {
         let layout = read_sound_layout(alloc, bytes.as_slice(), offsets)?;
         Ok(StoredBasket {

@@ -1,7 +1,8 @@
 -- What stands around objects: byte counts, headers and the words of pointers. Each rule stands here once; the meanings of
 -- descriptions say how it is read, spelled and broken.
-use Rattle.std.specs.Prelude.{◌≡◌, ◌≢◌, ◌==◌, ◌&&◌, ℕ, ◌+◌, ◌-◌, ◌*◌, ◌^◌, pos, List, length, Option, Some, None, Result, Ok, Err, nat_eq, nat_lt, nat_le, Bool, if◌then◌else◌, position}
+use Rattle.std.specs.Prelude.{◌==◌, ◌&&◌, ℕ, ◌+◌, ◌-◌, ◌*◌, ◌^◌, pos, List, length, Option, Some, None, Result, nat_eq, nat_lt, nat_le, Bool, if◌then◌else◌, position}
 use Rattle.std.specs.Map.{lookup}
+use Rattle.rio_num.specs.Answers.{ReadsUnless}
 use Rattle.rio_num.specs.At.{end_place}
 use Rattle.rio_num.specs.Layout.{Layout, done, broken, number, name, here, reaches, met, note, must, known, ◌>>=◌, when◌then◌else◌}
 use Rattle.rio_num.specs.Meanings.{Reading}
@@ -112,11 +113,6 @@ pointer_word = do
 
 -- ---- what a reader does
 
--- the fault is the one that reading gives, unless memory ran out
-abbrev pub Fails : {Y : Type 0} → ObjFault → Result Y ObjFault → Type 0
-Fails e read = e ≢ NoMemory → read ≡ Err e
-
 -- what was returned is what reading gives, and the reader stands at new then
 abbrev pub ReadsAs : {X Y : Type 0} → (X → Y) → Result X ObjFault → Step Y → ReaderState → Type 0
-ReadsAs view (Ok x) read new = read ≡ Ok (view x, new)
-ReadsAs view (Err e) read new = Fails e read
+ReadsAs view = ReadsUnless NoMemory view

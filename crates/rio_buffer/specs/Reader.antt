@@ -1,8 +1,10 @@
 -- What a call of a reader of objects did.
 use Rattle.std.specs.Prelude.{◌≡◌, ◌≤◌, ◌<◌, ◌^◌, ℕ, ◌+◌, List, Result, Ok, Err}
-use Rattle.rio_buffer.specs.Frames.{Step, Fails, data_end}
+use Rattle.rio_num.specs.Answers.{TakesUnless}
+use Rattle.rio_buffer.specs.Frames.{Step, data_end}
 use Rattle.rio_buffer.specs.ReaderState.{ReaderState, with_name}
 use Rattle.rio_buffer.specs.declared.fault.ObjFault.{ObjFault}
+use Rattle.rio_buffer.specs.declared.fault.ObjFault.TheVariants.{NoMemory}
 use Rattle.rio_buffer.specs.declared.words.PointerWord.{PointerWord}
 use Rattle.rio_buffer.specs.declared.words.PointerWord.TheVariants.{Null, New, Back}
 use Rattle.rio_buffer.specs.declared.reader.ClassWord.{ClassWord}
@@ -15,8 +17,7 @@ TakesStep view (Err e) read old new = (read ≡ Err e) × (new ≡ old)
 
 -- The same, and memory may have run out: nothing changed then either.
 abbrev pub MayTake : {X Y : Type 0} → (X → Y) → Result X ObjFault → Step Y → ReaderState → ReaderState → Type 0
-MayTake view (Ok x) read old new = read ≡ Ok (view x, new)
-MayTake view (Err e) read old new = Fails e read × (new ≡ old)
+MayTake view = TakesUnless NoMemory view
 
 -- The bytes that a count word at the place counts end within the data, reading stands behind the word, and the data are as
 -- short as a reader's are.

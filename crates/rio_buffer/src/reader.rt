@@ -38,11 +38,13 @@ enum ClassWord {
 
 impl<'a> ObjReader<'a> {
     ghost use Rattle.std.specs.Prelude.{◌≡◌, ◌+◌, ◌<◌, ◌≤◌, ◌^◌, length, IsTrue, IfOk, IfErr, OnErr, Ok, Err};
+    ghost use Rattle.rio_num.specs.Answers.{FailsUnless};
     ghost use Rattle.rio_num.specs.At.{AreBytes, GoesOn};
     ghost use Rattle.rio_num.specs.Layout.{any, name, number, text};
     ghost use Rattle.rio_num.specs.Meanings.{read};
     ghost use Rattle.rio_buffer.specs.ReaderState.{standing, no_words, with_label, with_name};
-    ghost use Rattle.rio_buffer.specs.Frames.{ReadsAs, Fails, is_count, data_end, end_of, finish, header_end, header, class_word, known_class, new_word, reference, pointer_word};
+    ghost use Rattle.rio_buffer.specs.Frames.{ReadsAs, is_count, data_end, end_of, finish, header_end, header, class_word, known_class, new_word, reference, pointer_word};
+    ghost use Rattle.rio_buffer.specs.declared.fault.ObjFault.TheVariants.{NoMemory as OutOfMemory};
     ghost use Rattle.rio_buffer.specs.Reader.{TakesStep, MayTake, IsCounted, IsPointerWithin, name_of, noted};
 
     /// Reads data whose first byte has the place `start`.
@@ -273,7 +275,7 @@ impl<'a> ObjReader<'a> {
     fn class_word(&mut self) -> Result<ClassWord, ObjFault>
         ensures ok { IfOk result (λ c. read class_word self.old
             ≡ Ok (name_of c, noted self.old.at.place c self.new)) }
-        ensures err { IfErr result (λ e. Fails e (read class_word self.old)) }
+        ensures err { IfErr result (λ e. FailsUnless OutOfMemory e (read class_word self.old)) }
         ensures words { self.new.words ≡ self.old.words }
         ensures goes { GoesOn self.old.at self.new.at }
     {

@@ -1,8 +1,10 @@
 //! The key list of a file.
 ghost use Rattle.std.specs.Prelude.{◌≡◌, ◌+◌, ◌<◌, ◌^◌, ◌++◌, ℕ, List, length, IfOk};
+ghost use Rattle.rio_num.specs.Answers.{GivesUnless};
 ghost use Rattle.rio_num.specs.Plain.{IsSpelledIn};
-ghost use Rattle.rio_key.specs.Key.{Gives, IsReadAs};
+ghost use Rattle.rio_key.specs.Key.{IsReadAs};
 ghost use Rattle.rio_key.specs.KeyList.{SpellsKeyList, key_list_at};
+ghost use Rattle.rio_key.specs.declared.fault.KeyFault.TheVariants.{NoMemory as OutOfMemory};
 ghost use Rattle.rio_dir.specs.KeyList.{heads_in};
 
 use rio_key::{Heads, KeyFault, read_heads};
@@ -14,7 +16,7 @@ use std::alloc::Global;
 /// readable.
 pub fn read_key_list(alloc: Global, bytes: &[u8], base: u64) -> Result<Heads, KeyFault>
     requires { base + length bytes.now < 2 ^ 64 }
-    ensures exact { Gives result
+    ensures exact { GivesUnless OutOfMemory (λ heads. heads) result
         (heads_in (key_list_at (record { place = base; rest = bytes.now }))) }
     // What is read is spelled so by a front of the bytes, and what is spelled so is read.
     ensures found { IfOk result (λ heads. IsSpelledIn (SpellsKeyList heads) bytes.now) }

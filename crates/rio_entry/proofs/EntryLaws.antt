@@ -26,7 +26,9 @@ use Rattle.rio_types.specs.declared.class.ClassDef.{ClassDef}
 use Rattle.rio_value.specs.Depth.{depth_of}
 use Rattle.rio_value.specs.declared.value.Value.{Value}
 use Rattle.rio_entry.specs.Entries.{branch_entry_bytes, entry_fits}
-use Rattle.rio_entry.specs.Faults.{GivesEntry, entry_fault}
+use Rattle.rio_num.specs.Answers.{GivesUnless}
+use Rattle.rio_entry.specs.Faults.{entry_fault}
+use Rattle.rio_entry.specs.declared.fault.EntryFault.TheVariants.{NoMemory}
 use Rattle.rio_entry.specs.Laws.{EntriesHaveOneAnswer, WrittenEntriesAreRead, can_be_read_back}
 use Rattle.rio_entry.specs.Leaves.{leaves_bytes, leaves_fit}
 use Rattle.rio_entry.specs.Reading.{BreaksEntry, HasMore, SpellsEntry, columns_values, entry_in, entry_values, only_values}
@@ -128,19 +130,19 @@ module _ (classes : List ClassDef) (shape : Shape) (counts : List Value) (bytes 
 
 -- ---- what a call that reads returns
 
-module _ (classes : List ClassDef) (shape : Shape) (counts : List Value) (bytes : List ℕ) (result : Result (List Value) EntryFault) (given : GivesEntry result (entry_in classes shape counts bytes)) where
+module _ (classes : List ClassDef) (shape : Shape) (counts : List Value) (bytes : List ℕ) (result : Result (List Value) EntryFault) (given : GivesUnless NoMemory (λ row. row) result (entry_in classes shape counts bytes)) where
   pub is_found : AreBytes bytes → IfOk result (λ row. SpellsEntry classes shape counts row bytes)
   is_found fits = by result given
     where
-      by : (r : Result (List Value) EntryFault) → GivesEntry r (entry_in classes shape counts bytes) → IfOk r (λ row. SpellsEntry classes shape counts row bytes)
+      by : (r : Result (List Value) EntryFault) → GivesUnless NoMemory (λ row. row) r (entry_in classes shape counts bytes) → IfOk r (λ row. SpellsEntry classes shape counts row bytes)
       by (Ok row) e = read_is_spelled classes shape counts bytes fits row e
       by (Err fault) e = tt
 
-  pub is_only : (row : List Value) → SpellsEntry classes shape counts row bytes → GivesEntry result (Ok row)
-  is_only row spelled = subst (GivesEntry result) (spelled_is_read classes shape counts bytes row spelled) given
+  pub is_only : (row : List Value) → SpellsEntry classes shape counts row bytes → GivesUnless NoMemory (λ row. row) result (Ok row)
+  is_only row spelled = subst (GivesUnless NoMemory (λ row. row) result) (spelled_is_read classes shape counts bytes row spelled) given
 
-  pub is_broken : (e : EntryFault) → BreaksEntry classes shape counts bytes e → GivesEntry result (Err e)
-  is_broken e breaks = subst (GivesEntry result) (broken_is_fault classes shape counts bytes e breaks) given
+  pub is_broken : (e : EntryFault) → BreaksEntry classes shape counts bytes e → GivesUnless NoMemory (λ row. row) result (Err e)
+  is_broken e breaks = subst (GivesUnless NoMemory (λ row. row) result) (broken_is_fault classes shape counts bytes e breaks) given
 
 -- ---- one answer
 

@@ -6,7 +6,8 @@ ghost use Rattle.rio_buffer.specs.Frames.{ReadsAs};
 ghost use Rattle.rio_leaf.specs.declared.branch.Shape.TheVariants.{Leaves as Leafy, Class as Classed};
 ghost use Rattle.rio_types.specs.declared.class.ClassDef.{ClassDef as Class};
 ghost use Rattle.rio_value.specs.declared.value.Value.{Value as Given};
-ghost use Rattle.rio_entry.specs.Faults.{GivesEntry};
+ghost use Rattle.rio_num.specs.Answers.{GivesUnless};
+ghost use Rattle.rio_entry.specs.declared.fault.EntryFault.TheVariants.{NoMemory as OutOfMemory};
 ghost use Rattle.rio_entry.specs.declared.fault.EntryFault.{EntryFault as Fault};
 ghost use Rattle.rio_entry.specs.Reading.{BreaksEntry, SpellsEntry, entry_in, entry_values, only_values};
 
@@ -57,7 +58,7 @@ fn read_class(
     bytes: &[u8],
 ) -> Result<Values, EntryFault>
     requires { length bytes.now < 2 ^ 32 }
-    ensures { (counts : List Given) → GivesEntry result
+    ensures { (counts : List Given) → GivesUnless OutOfMemory (λ row. row) result
         (entry_in classes.now (Classed class.now) counts bytes.now) }
 {
     let mut reader = ObjReader::new(alloc, bytes, 0);
@@ -73,7 +74,7 @@ fn read_values(
     bytes: &[u8],
 ) -> Result<Values, EntryFault>
     requires { length bytes.now < 2 ^ 32 }
-    ensures { (classes : List Class) → GivesEntry result
+    ensures { (classes : List Class) → GivesUnless OutOfMemory (λ row. row) result
         (entry_in classes (Leafy leaves.now) counts.now bytes.now) }
 {
     let mut reader = ObjReader::new(alloc, bytes, 0);
@@ -90,7 +91,8 @@ fn read_shape(
     bytes: &[u8],
 ) -> Result<Values, EntryFault>
     requires { length bytes.now < 2 ^ 32 }
-    ensures { GivesEntry result (entry_in classes.now shape.now counts.now bytes.now) }
+    ensures { GivesUnless OutOfMemory (λ row. row) result
+        (entry_in classes.now shape.now counts.now bytes.now) }
 {
     match shape {
         Shape::Leaves(leaves) => read_values(alloc, leaves.as_slice(), counts, bytes),
@@ -117,13 +119,13 @@ pub fn read_entry(
     // What the bytes spell is read, unless memory runs out.
     ensures only { (row : List Given)
         → SpellsEntry classes.now branch.now.shape counts.now row bytes.now
-        → GivesEntry result (Ok row) }
+        → GivesUnless OutOfMemory (λ row. row) result (Ok row) }
     // The fault with which the bytes break is told, unless memory runs out.
     ensures broken { (e : Fault)
         → BreaksEntry classes.now branch.now.shape counts.now bytes.now e
-        → GivesEntry result (Err e) }
+        → GivesUnless OutOfMemory (λ row. row) result (Err e) }
     // Which values, or which place, as reading from left to right gives them.
-    ensures exact { GivesEntry result
+    ensures exact { GivesUnless OutOfMemory (λ row. row) result
         (entry_in classes.now branch.now.shape counts.now bytes.now) }
 {
     read_shape(alloc, classes, &branch.shape, counts.as_slice(), bytes)

@@ -2,7 +2,8 @@
 ghost use Rattle.std.specs.Prelude.{◌≡◌, ◌++◌, map, IfOk, OnOk};
 ghost use Rattle.rio_format.specs.Bodies.{Counters};
 ghost use Rattle.rio_format.specs.Counts.{SaysAsFirst};
-ghost use Rattle.rio_entry.specs.Faults.{GivesEntry};
+ghost use Rattle.rio_num.specs.Answers.{GivesUnless};
+ghost use Rattle.rio_entry.specs.declared.fault.EntryFault.TheVariants.{NoMemory as OutOfMemory};
 ghost use Rattle.rio_entry.specs.Rows.{branch_values, broken_branch, row_in};
 
 use crate::EntryFault;
@@ -22,7 +23,7 @@ fn read_part(
     numbers: &Numbers,
 ) -> Result<Values, EntryFault>
     ensures { (before : Counters) → SaysAsFirst numbers.now before
-        → GivesEntry result
+        → GivesUnless OutOfMemory (λ row. row) result
         (branch_values classes.now part.now.branch.now part.now.entry.now before) }
 {
     let counts = counts_beside(alloc, &part.branch.shape, numbers)?;
@@ -43,7 +44,7 @@ fn append(alloc: Global, row: &mut Values, values: &[Value]) -> Result<(), NoMem
 ///
 /// The first branch whose entry breaks tells BadEntry, as [`crate::read_entry`] does.
 pub fn read_row(alloc: Global, classes: &Classes, parts: &[RowPart]) -> Result<Values, EntryFault>
-    ensures { GivesEntry result
+    ensures { GivesUnless OutOfMemory (λ row. row) result
         (row_in classes.now (map (λ part. part.branch.now) parts.now)
         (map (λ part. part.entry.now) parts.now)) }
 {

@@ -2,7 +2,8 @@
 ghost use Rattle.std.specs.Prelude.{List, [], ◌∷◌};
 ghost use Rattle.rio_leaf.specs.declared.branch.Shape.TheVariants.{Leaves as Leafy, Class as Classed};
 ghost use Rattle.rio_entry.specs.Entries.{entry_written};
-ghost use Rattle.rio_entry.specs.Faults.{GivesBytes};
+ghost use Rattle.rio_num.specs.Answers.{GivesUnless};
+ghost use Rattle.rio_entry.specs.declared.fault.EntryFault.TheVariants.{NoMemory as OutOfMemory};
 ghost use Rattle.rio_types.specs.declared.class.ClassDef.{ClassDef as Class};
 ghost use Rattle.rio_value.specs.declared.value.Value.{Value as Given};
 
@@ -27,7 +28,8 @@ fn write_leaves(
     row: &[Value],
 ) -> Result<Bytes, EntryFault>
     ensures { (classes : List Class)
-        → GivesBytes result (entry_written classes (Leafy leaves.now) counts.now row.now) }
+        → GivesUnless OutOfMemory (λ room. room.bytes) result
+        (entry_written classes (Leafy leaves.now) counts.now row.now) }
 {
     if !leaves_fit(leaves, counts, row) {
         return Err(EntryFault::BadRow);
@@ -44,7 +46,7 @@ fn write_value(
     class: &[u8],
     value: &Value,
 ) -> Result<Bytes, EntryFault>
-    ensures { (counts : List Given) → GivesBytes result
+    ensures { (counts : List Given) → GivesUnless OutOfMemory (λ room. room.bytes) result
         (entry_written classes.now (Classed class.now) counts (value.now ∷ [])) }
 {
     if !fits(alloc, classes, class, value)? {
@@ -62,7 +64,7 @@ fn write_class(
     class: &[u8],
     row: &[Value],
 ) -> Result<Bytes, EntryFault>
-    ensures { (counts : List Given) → GivesBytes result
+    ensures { (counts : List Given) → GivesUnless OutOfMemory (λ room. room.bytes) result
         (entry_written classes.now (Classed class.now) counts row.now) }
 {
     match row {
@@ -86,7 +88,7 @@ pub fn write_entry(
     counts: &Values,
     row: &Values,
 ) -> Result<Bytes, EntryFault>
-    ensures exact { GivesBytes result
+    ensures exact { GivesUnless OutOfMemory (λ room. room.bytes) result
         (entry_written classes.now branch.now.shape counts.now row.now) }
 {
     match &branch.shape {

@@ -1,12 +1,11 @@
 -- The data of a free record, read: its entries up to the end of the list, and the gaps that they give.
-use Rattle.std.specs.Prelude.{◌≡◌, ◌≢◌, ◌==◌, ◌&&◌, ◌<◌, ◌≤◌, ℕ, zero, suc, ◌+◌, ◌-◌, ◌^◌, Bool, true, List, [], ◌∷◌, length, take, Option, None, Some, Result, Ok, Err, nat_lt, if◌then◌else◌}
+use Rattle.std.specs.Prelude.{◌≡◌, ◌==◌, ◌&&◌, ◌<◌, ◌≤◌, ℕ, zero, suc, ◌+◌, ◌-◌, ◌^◌, Bool, true, List, [], ◌∷◌, length, take, Option, None, Some, Result, Ok, Err, nat_lt, if◌then◌else◌}
 use Rattle.std.specs.List.{list_all}
 use Rattle.rio_num.specs.At.{At}
 use Rattle.rio_num.specs.Meanings.{Standing, read, stand}
 use Rattle.rio_num.specs.Reading.{◌>>=◌}
 use Rattle.rio_free.specs.declared.entry.FreeEntry.{FreeEntry}
 use Rattle.rio_free.specs.declared.fault.FreeFault.{FreeFault}
-use Rattle.rio_free.specs.declared.fault.FreeFault.TheVariants.{NoMemory}
 use Rattle.rio_free.specs.declared.gap.Gap.{Gap}
 use Rattle.rio_free.specs.Entry.{is_above, next_entry}
 use Rattle.rio_free.specs.Gaps.{gap_of, joined}
@@ -57,15 +56,6 @@ free_gaps_in bytes = do
   Ok (gaps_of (inner_entries entries))
 
 -- ---- answers
-
--- the fault is the one that reading gives, unless memory ran out
-abbrev pub FailsFree : {A : Type 0} → FreeFault → Result A FreeFault → Type 0
-FailsFree e read = e ≢ NoMemory → read ≡ Err e
-
--- what a function returned is what reading gives, unless memory ran out
-abbrev pub GivesFree : {A B : Type 0} → (A → B) → Result A FreeFault → Result B FreeFault → Type 0
-GivesFree view (Ok x) read = read ≡ Ok (view x)
-GivesFree view (Err e) read = FailsFree e read
 
 -- what a reader did that stood at old: it took the entry that reading gives there and stands behind it, at new, or it gives
 -- that fault

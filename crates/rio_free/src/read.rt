@@ -1,11 +1,13 @@
 //! The free record is read.
 ghost use Rattle.std.specs.Prelude.{◌≡◌, ◌+◌, ◌-◌, ◌<◌, ◌≤◌, ◌^◌, [], None, true, length, take, IfOk};
 ghost use Rattle.std.specs.List.{All};
+ghost use Rattle.rio_num.specs.Answers.{GivesUnless};
 ghost use Rattle.rio_num.specs.At.{GoesOn};
 ghost use Rattle.rio_num.specs.Reading.{Takes, number_at};
 ghost use Rattle.rio_free.specs.Entry.{is_above};
-ghost use Rattle.rio_free.specs.EntryList.{AreEntriesAbove, GivesFree, TakesEntry, ends_entries, free_entries_in, free_gaps_in, gaps_of, inner_entries};
+ghost use Rattle.rio_free.specs.EntryList.{AreEntriesAbove, TakesEntry, ends_entries, free_entries_in, free_gaps_in, gaps_of, inner_entries};
 ghost use Rattle.rio_free.specs.Record.{entry_place_len};
+ghost use Rattle.rio_free.specs.declared.fault.FreeFault.TheVariants.{NoMemory as OutOfMemory};
 
 use crate::{FreeEntry, FreeFault, FreeList};
 use rio_num::{Cursor, Items, NoMemory, Short};
@@ -61,7 +63,7 @@ fn ends_entries(rest: &[u8]) -> bool
 
 // The entries up to the end of the list.
 fn read_entries(alloc: Global, bytes: &[u8]) -> Result<Items<FreeEntry>, FreeFault>
-    ensures exact { GivesFree (λ entries. entries) result (free_entries_in bytes.now) }
+    ensures exact { GivesUnless OutOfMemory (λ list. list) result (free_entries_in bytes.now) }
     ensures rise { IfOk result (λ entries. AreEntriesAbove None entries) }
 {
     let mut cursor = Cursor::new(bytes, 0);
@@ -103,7 +105,7 @@ fn gaps_of(alloc: Global, entries: &[FreeEntry]) -> Result<FreeList, NoMemory>
 /// no room for more.
 #[tactic(auto, unfolding(crate::specs::EntryList::free_gaps_in))]
 pub fn read_free(alloc: Global, bytes: &[u8]) -> Result<FreeList, FreeFault>
-    ensures exact { GivesFree (λ list. list.gaps) result (free_gaps_in bytes.now) }
+    ensures exact { GivesUnless OutOfMemory (λ list. list.gaps) result (free_gaps_in bytes.now) }
     ensures spare { IfOk result (λ list. list.spare ≡ 0) }
 {
     let entries = read_entries(alloc, bytes)?;

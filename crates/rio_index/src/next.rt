@@ -1,6 +1,7 @@
 //! The next row of a scan.
 ghost use Rattle.std.specs.Prelude.{◌≡◌, ◌<◌, ◌^◌, IfOk, IsTrue, length, map, slice_get, Err, ◌↔◌};
-ghost use Rattle.rio_entry.specs.Faults.{GivesEntry};
+ghost use Rattle.rio_num.specs.Answers.{GivesUnless};
+ghost use Rattle.rio_entry.specs.declared.fault.EntryFault.TheVariants.{NoMemory as OutOfMemory};
 ghost use Rattle.rio_entry.specs.Rows.{row_in};
 ghost use Rattle.rio_index.specs.Scan.{broken_at, entry_among, held_entry, read_branches, read_entries, read_numbers};
 
@@ -72,8 +73,8 @@ pub(crate) fn read_next(
     lanes: &[Lane],
 ) -> Result<Values, EntryFault>
     requires { length branches.now ≡ length lanes.now }
-    ensures { GivesEntry result (row_in classes.now (read_branches branches.now lanes.now)
-        (read_entries entry lanes.now)) }
+    ensures { GivesUnless OutOfMemory (λ row. row) result
+        (row_in classes.now (read_branches branches.now lanes.now) (read_entries entry lanes.now)) }
 {
     let parts = row_parts(alloc, entry, branches, lanes)?;
     read_row(alloc, classes, parts.as_slice())

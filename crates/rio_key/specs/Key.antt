@@ -1,5 +1,5 @@
 -- A key. Each rule stands here once; the meanings of descriptions say how it is read, spelled and broken.
-use Rattle.std.specs.Prelude.{◌≡◌, ◌≢◌, ℕ, ◌-◌, pos, List, Result, Ok, Err, nat_lt, if◌then◌else◌, int_lt, ◌-ℤ◌, Bool}
+use Rattle.std.specs.Prelude.{◌≡◌, ℕ, ◌-◌, pos, List, Result, Ok, Err, nat_lt, if◌then◌else◌, int_lt, ◌-ℤ◌, Bool}
 use Rattle.std.specs.Int.{w32, cast_signed}
 use Rattle.rio_num.specs.At.{At}
 use Rattle.rio_num.specs.Layout.{done, broken, number, text, here, ◌>>=◌, when◌then◌else◌}
@@ -58,20 +58,6 @@ unfoldable pub BreaksKey : At → KeyFault → Type 0
 BreaksKey s fault = Breaks key_layout s.place tt s.rest fault
 
 -- ---- what a reader does
-
--- a fault is the one that reading gives, unless memory ran out
-abbrev pub FailsKey : {X : Type 0} → KeyFault → Result X KeyFault → Type 0
-FailsKey e read = e ≢ NoMemory → read ≡ Err e
-
--- what a function returned is what reading gives
-abbrev pub Gives : {X : Type 0} → Result X KeyFault → Result X KeyFault → Type 0
-Gives (Ok x) read = read ≡ Ok x
-Gives (Err e) read = FailsKey e read
-
--- the same of a reader, which stands at new then
-abbrev pub GivesAt : {X : Type 0} → Result X KeyFault → Reading (Unit {0}) KeyFault X → At → Type 0
-GivesAt (Ok x) read new = read ≡ Ok (x, plain new)
-GivesAt (Err e) read new = FailsKey e read
 
 -- a function returned this, unless memory ran out
 abbrev pub IsReadAs : {X : Type 0} → Result X KeyFault → X → Type 0

@@ -1,10 +1,11 @@
 //! What the key of a basket has behind its title.
 ghost use Rattle.std.specs.Prelude.{◌≡◌, ◌+◌, ◌<◌, ◌≤◌, ◌^◌, ◌++◌, ℕ, List, length, take, Ok, IfErr, IfOk, OnOk, OnErr};
+ghost use Rattle.rio_num.specs.Answers.{GivesUnless};
 ghost use Rattle.rio_num.specs.Room.{with_more};
 ghost use Rattle.rio_key.specs.BasketFront.{basket_front_at, within};
 ghost use Rattle.rio_key.specs.BasketHead.{AreInRange, BreaksBasketHead, basket_head_at, basket_head_bytes, integer_bytes, sizes_bytes};
 ghost use Rattle.rio_num.specs.Plain.{value_of};
-ghost use Rattle.rio_key.specs.Key.{Gives};
+ghost use Rattle.rio_key.specs.declared.fault.KeyFault.TheVariants.{NoMemory as OutOfMemory};
 ghost use Rattle.rio_key.specs.declared.basket_head.BasketHead.{BasketHead as Head};
 
 use crate::read::take_key;
@@ -90,7 +91,8 @@ fn within<'a>(cursor: &Cursor<'a>, n: u64) -> Cursor<'a>
 #[tactic(auto, unfolding(crate::specs::BasketFront::basket_front_at))]
 pub fn read_basket_front(alloc: Global, bytes: &[u8], base: u64) -> Result<BasketFront, KeyFault>
     requires { base + length bytes.now < 2 ^ 64 }
-    ensures exact { Gives result (basket_front_at (record { place = base; rest = bytes.now })) }
+    ensures exact { GivesUnless OutOfMemory (λ front. front) result
+        (basket_front_at (record { place = base; rest = bytes.now })) }
     ensures within { IfOk result (λ front. front.place ≤ base + length bytes.now) }
 {
     let mut cursor = Cursor::new(bytes, base);

@@ -1,10 +1,11 @@
 //! A key is read at its place.
 ghost use Rattle.std.specs.Prelude.{◌≡◌, ◌≢◌, ◌+◌, ◌<◌, ◌^◌, ◌++◌, ℕ, List, length, IfErr, IfOk};
+ghost use Rattle.rio_num.specs.Answers.{GivesUnless, ReadsUnless};
 ghost use Rattle.rio_num.specs.At.{GoesOn, standing_at};
 ghost use Rattle.rio_num.specs.Reading.{Takes, number_at};
 ghost use Rattle.rio_num.specs.Meanings.{read};
 ghost use Rattle.rio_num.specs.Plain.{IsSpelledIn, plain};
-ghost use Rattle.rio_key.specs.Key.{BreaksKey, Gives, GivesAt, IsReadAs, SpellsKey, key_at, key_fields, key_head_at, key_place_len};
+ghost use Rattle.rio_key.specs.Key.{BreaksKey, IsReadAs, SpellsKey, key_at, key_fields, key_head_at, key_place_len};
 ghost use Rattle.rio_key.specs.declared.fault.KeyFault.TheVariants.{NoMemory as OutOfMemory};
 
 use crate::{KeyFault, KeyHead};
@@ -26,7 +27,8 @@ fn take_place(cursor: &mut Cursor, version: u16) -> Result<u64, Short>
 
 #[tactic(auto, unfolding(crate::specs::Key::key_fields))]
 fn read_fields(alloc: Global, cursor: &mut Cursor) -> Result<KeyHead, KeyFault>
-    ensures { GivesAt result (read key_fields (plain cursor.old)) cursor.new }
+    ensures { ReadsUnless OutOfMemory (λ x. x) result (read key_fields (plain cursor.old))
+        (plain cursor.new) }
 {
     let nbytes = cursor.take_u32()?.cast_signed();
     let version = cursor.take_u16()?;
@@ -57,7 +59,7 @@ fn read_fields(alloc: Global, cursor: &mut Cursor) -> Result<KeyHead, KeyFault>
 // The next key, which takes the bytes up to its title's end.
 #[tactic(auto, unfolding(crate::specs::Key::key_layout))]
 pub(crate) fn take_key(alloc: Global, cursor: &mut Cursor) -> Result<KeyHead, KeyFault>
-    ensures { GivesAt result (key_head_at cursor.old) cursor.new }
+    ensures { ReadsUnless OutOfMemory (λ x. x) result (key_head_at cursor.old) (plain cursor.new) }
 {
     let place = cursor.place();
     let head = read_fields(alloc, cursor)?;
@@ -75,7 +77,8 @@ pub(crate) fn take_key(alloc: Global, cursor: &mut Cursor) -> Result<KeyHead, Ke
 /// ends before its title, both at the key's place. Outside the bytes nothing is left.
 pub fn read_key(alloc: Global, bytes: &[u8], base: u64, place: u64) -> Result<KeyHead, KeyFault>
     requires { base + length bytes.now < 2 ^ 64 }
-    ensures exact { Gives result (key_at (standing_at base place bytes.now)) }
+    ensures exact { GivesUnless OutOfMemory (λ head. head) result
+        (key_at (standing_at base place bytes.now)) }
     ensures found { IfOk result (λ head.
         IsSpelledIn (SpellsKey head) (standing_at base place bytes.now).rest) }
     ensures broken { IfErr result (λ fault. fault ≢ OutOfMemory

@@ -1,6 +1,6 @@
 -- Lists of leaves as texts are read: the leaves, or the place of the first token that can't stand.
 -- A token is a word, a longest run of letters, digits and _ . - +, or another single byte. No blanks stand in the list.
-use Rattle.std.specs.Prelude.{◌≡◌, ◌≢◌, ℕ, ◌+◌, List, [], ◌∷◌, ◌++◌, length, take, slice_index, Result, Ok, Err, Option, Some, None, Bool, false, ◌==◌, ◌&&◌, not, if◌then◌else◌}
+use Rattle.std.specs.Prelude.{◌≡◌, ℕ, ◌+◌, List, [], ◌∷◌, ◌++◌, length, take, slice_index, Result, Ok, Err, Option, Some, None, Bool, false, ◌==◌, ◌&&◌, not, if◌then◌else◌}
 use Rattle.std.specs.List.{prefix_len, slice_split}
 use Rattle.std.specs.Str.{all_ascii_digits}
 use Rattle.std.specs.Str.Parse.{digits_value}
@@ -112,18 +112,6 @@ pieces text = slice_split (λ b. b == between_leaves) text
 -- the leaves that a text lists, with colons between them
 abbrev pub leaves_in : List ℕ → Result (List Leaf) LeafFault
 leaves_in text = leaves_at [] 0 (pieces text)
-
--- ---- what a reader does
-
--- what a function returned is what reading gives, unless memory ran out
-abbrev pub GivesLeaf : {A : Type 0} → Result A LeafFault → Result A LeafFault → Type 0
-GivesLeaf (Ok x) read = read ≡ Ok x
-GivesLeaf (Err e) read = e ≢ NoMemory → read ≡ Err e
-
--- the same of a reader, which stands at new then
-abbrev pub GivesLeafAt : {X A : Type 0} → (X → A) → Result X LeafFault → ReadLeaf A → At → Type 0
-GivesLeafAt view (Ok x) read new = GivesLeaf (Ok (view x, new)) read
-GivesLeafAt view (Err e) read new = GivesLeaf (Err e) read
 
 -- a function returned this, unless memory ran out
 abbrev pub IsLeafReadAs : {A : Type 0} → Result A LeafFault → A → Type 0

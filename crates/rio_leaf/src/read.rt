@@ -2,10 +2,12 @@
 ghost use Rattle.std.specs.Prelude.{◌≡◌, ◌+◌, ◌<◌, ◌≤◌, ◌^◌, ◌==◌, List, [], ◌∷◌, length, IfOk, IsTrue};
 ghost use Rattle.std.specs.List.{position_or_len};
 ghost use Rattle.std.specs.Option.{option_copied, option_map_or};
+ghost use Rattle.rio_num.specs.Answers.{GivesUnless, ReadsUnless};
 ghost use Rattle.rio_leaf.specs.Spelling.{is_leaf_list, text_of_leaves};
+ghost use Rattle.rio_leaf.specs.declared.fault.LeafFault.TheVariants.{NoMemory};
 ghost use Rattle.rio_leaf.specs.declared.leaf.Leaf.{Leaf};
 ghost use Rattle.rio_leaf.specs.Marks.{between_leaves};
-ghost use Rattle.rio_leaf.specs.Reading.{GivesLeaf, GivesLeafAt, IsLeafReadAs, dim_at, dim_of, leaf_at, leaf_name_of, leaves_in, letter_in, pieces, said_at};
+ghost use Rattle.rio_leaf.specs.Reading.{IsLeafReadAs, dim_at, dim_of, leaf_at, leaf_name_of, leaves_in, letter_in, pieces, said_at};
 
 use crate::dim::{dim_in, letter_in};
 use crate::rules::is_taken;
@@ -16,8 +18,8 @@ use std::alloc::Global;
 
 #[tactic(auto, unfolding(crate::specs::Reading::said_at))]
 fn take_name<'a>(before: &[Leaf], scan: &mut Scan<'a>) -> Result<&'a [u8], LeafFault>
-    ensures { GivesLeafAt (λ name. name.now) result (said_at (leaf_name_of before.now) scan.old)
-        scan.new }
+    ensures { ReadsUnless NoMemory (λ name. name.now) result
+        (said_at (leaf_name_of before.now) scan.old) scan.new }
 {
     let word = scan.word();
     if is_name(word) && !is_taken(before, word) {
@@ -30,8 +32,8 @@ fn take_name<'a>(before: &[Leaf], scan: &mut Scan<'a>) -> Result<&'a [u8], LeafF
 
 #[tactic(auto, unfolding(crate::specs::Reading::said_at))]
 fn take_dim(alloc: Global, before: &[Leaf], own: &[u8], scan: &mut Scan) -> Result<Dim, LeafFault>
-    ensures { GivesLeafAt (λ dim. dim) result (said_at (dim_of before.now own.now) scan.old)
-        scan.new }
+    ensures { ReadsUnless NoMemory (λ dim. dim) result
+        (said_at (dim_of before.now own.now) scan.old) scan.new }
 {
     match dim_in(alloc, before, own, scan.word())? {
         Some(dim) => {
@@ -44,8 +46,8 @@ fn take_dim(alloc: Global, before: &[Leaf], own: &[u8], scan: &mut Scan) -> Resu
 
 #[tactic(auto, unfolding(crate::specs::Reading::said_at))]
 fn take_letter(dim: &Dim, scan: &mut Scan) -> Result<u8, LeafFault>
-    ensures { GivesLeafAt (λ letter. letter) result (said_at (letter_in dim.now) scan.old)
-        scan.new }
+    ensures { ReadsUnless NoMemory (λ letter. letter) result
+        (said_at (letter_in dim.now) scan.old) scan.new }
 {
     match letter_in(dim, scan.word()) {
         Some(letter) => {
@@ -59,7 +61,8 @@ fn take_letter(dim: &Dim, scan: &mut Scan) -> Result<u8, LeafFault>
 // What stands in square brackets, if they stand there.
 #[tactic(auto, unfolding(crate::specs::Reading::dim_at))]
 fn read_dim(alloc: Global, before: &[Leaf], own: &[u8], scan: &mut Scan) -> Result<Dim, LeafFault>
-    ensures { GivesLeafAt (λ dim. dim) result (dim_at before.now own.now scan.old) scan.new }
+    ensures { ReadsUnless NoMemory (λ dim. dim) result
+        (dim_at before.now own.now scan.old) scan.new }
 {
     if !scan.take(b'[') {
         return Ok(Dim::One);
@@ -72,7 +75,7 @@ fn read_dim(alloc: Global, before: &[Leaf], own: &[u8], scan: &mut Scan) -> Resu
 // A leaf behind others, which is all that is left.
 #[tactic(auto, unfolding(crate::specs::Reading::leaf_at))]
 fn read_leaf(alloc: Global, before: &[Leaf], scan: &mut Scan) -> Result<Leaf, LeafFault>
-    ensures { GivesLeafAt (λ leaf. leaf) result (leaf_at before.now scan.old) scan.new }
+    ensures { ReadsUnless NoMemory (λ leaf. leaf) result (leaf_at before.now scan.old) scan.new }
 {
     let name = take_name(before, scan)?;
     let dim = read_dim(alloc, before, name, scan)?;
@@ -110,7 +113,7 @@ fn first_piece(text: &[u8]) -> (&[u8], Option<&[u8]>)
 #[tactic(auto, unfolding(crate::specs::Reading::leaves_at))]
 fn take_leaves(alloc: Global, text: &[u8]) -> Result<Leaves, LeafFault>
     requires { length text.now < 2 ^ 32 }
-    ensures { GivesLeaf result (leaves_in text.now) }
+    ensures { GivesUnless NoMemory (λ leaves. leaves) result (leaves_in text.now) }
 {
     let mut leaves = Leaves::new(alloc);
     let mut rest = text;
@@ -130,7 +133,7 @@ fn take_leaves(alloc: Global, text: &[u8]) -> Result<Leaves, LeafFault>
 /// The counter of a leaf may be one of an earlier branch, which the text doesn't show.
 pub fn read_leaves(alloc: Global, text: &[u8]) -> Result<Leaves, LeafFault>
     requires { length text.now < 2 ^ 32 }
-    ensures exact { GivesLeaf result (leaves_in text.now) }
+    ensures exact { GivesUnless NoMemory (λ leaves. leaves) result (leaves_in text.now) }
     ensures found { IfOk result (λ leaves.
         IsTrue (is_leaf_list leaves) × (text.now ≡ text_of_leaves leaves)) }
     ensures only { (leaves : List Leaf) → IsTrue (is_leaf_list leaves)

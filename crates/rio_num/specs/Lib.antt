@@ -1,3 +1,4 @@
+pub mod Answers
 pub mod At
 pub mod Printed
 pub mod Reading

@@ -1,17 +1,18 @@
 -- What the readers of objects answer.
-use Rattle.std.specs.Prelude.{◌≡◌, ℕ, ◌+◌, List, ◌++◌, length, Result, Ok, Err}
+use Rattle.std.specs.Prelude.{◌≡◌, ℕ, ◌+◌, List, ◌++◌, length, Result, Ok}
 use Rattle.rio_types.specs.declared.class.ClassDef.{ClassDef}
 use Rattle.rio_value.specs.declared.value.Value.{Value}
-use Rattle.rio_buffer.specs.Frames.{Fails, ReadsAs}
+use Rattle.rio_buffer.specs.Frames.{ReadsAs}
+use Rattle.rio_num.specs.Answers.{GivesUnless}
 use Rattle.rio_num.specs.Meanings.{HasTaken, Spells, read}
 use Rattle.rio_format.specs.Objects.{SpellsObject, depth_limit, object_of}
 use Rattle.rio_buffer.specs.ReaderState.{ReaderState, WordsMet, standing}
 use Rattle.rio_buffer.specs.declared.fault.ObjFault.{ObjFault}
+use Rattle.rio_buffer.specs.declared.fault.ObjFault.TheVariants.{NoMemory}
 
 -- The answer is this one, unless memory ran out.
 abbrev pub Answers : {Y : Type 0} → Result Y ObjFault → Result Y ObjFault → Type 0
-Answers (Ok v) answer = answer ≡ Ok v
-Answers (Err e) answer = Fails e answer
+Answers = GivesUnless NoMemory (λ v. v)
 
 -- A front of the bytes, whose first one has the place, spells the object.
 abbrev pub HasFront : List ClassDef → ℕ → List ℕ → Value → List ℕ → Type 0

@@ -1,6 +1,7 @@
 -- Reading texts from left to right, token after token, up to the first token that can't stand.
-use Rattle.std.specs.Prelude.{◌≡◌, ◌≢◌, ℕ, zero, suc, List, [], ◌∷◌, ◌++◌, length, Result, Ok, Err, Option, Some, None, option_and_then, Bool, true, false, ◌==◌, if◌then◌else◌}
+use Rattle.std.specs.Prelude.{ℕ, zero, suc, List, [], ◌∷◌, ◌++◌, length, Result, Ok, Err, Option, Some, None, option_and_then, Bool, true, false, ◌==◌, if◌then◌else◌}
 use Rattle.std.specs.Str.{bytes_eq}
+use Rattle.rio_num.specs.Answers.{GivesUnless, ReadsUnless, TakesUnless}
 use Rattle.rio_num.specs.At.{At, end_place}
 use Rattle.rio_num.specs.Reading.{◌>>=◌}
 use Rattle.rio_num.specs.Word.{is_name_text, is_item_text}
@@ -121,21 +122,14 @@ list_at close item s = if marked close s then Ok ([], behind s) else some_at clo
 
 -- ---- what a reader does
 
--- the fault is the one that reading gives, unless memory ran out
-abbrev pub FailsText : {Y : Type 0} → TextFault → Result Y TextFault → Type 0
-FailsText e read = e ≢ NoMemory → read ≡ Err e
-
 -- what was returned is what reading gives, and reading stands at new then
 abbrev pub Reads : {X Y : Type 0} → (X → Y) → Result X TextFault → Read Y → At → Type 0
-Reads view (Ok x) read new = read ≡ Ok (view x, new)
-Reads view (Err e) read new = FailsText e read
+Reads view = ReadsUnless NoMemory view
 
 -- the same, of a reader that stays where it was when it refuses
 abbrev pub TakesInMemory : {X Y : Type 0} → (X → Y) → Result X TextFault → Read Y → At → At → Type 0
-TakesInMemory view (Ok x) read old new = read ≡ Ok (view x, new)
-TakesInMemory view (Err e) read old new = FailsText e read × (new ≡ old)
+TakesInMemory view = TakesUnless NoMemory view
 
 -- The answer is this one, unless memory ran out.
 abbrev pub AnswersText : {Y : Type 0} → Result Y TextFault → Result Y TextFault → Type 0
-AnswersText (Ok v) read = read ≡ Ok v
-AnswersText (Err e) read = FailsText e read
+AnswersText = GivesUnless NoMemory (λ x. x)

@@ -1,5 +1,5 @@
 -- The header of a tree: what the value of its record says.
-use Rattle.std.specs.Prelude.{◌≡◌, ◌≢◌, ℕ, ℤ, pos, negsuc, List, [], ◌∷◌, ◌++◌, length, codes, Bool, true, false, ◌==◌, ◌||◌, Option, Some, None, option_and_then, Result, Ok, Err}
+use Rattle.std.specs.Prelude.{ℕ, ℤ, pos, negsuc, List, [], ◌∷◌, ◌++◌, length, codes, Bool, true, false, ◌==◌, ◌||◌, Option, Some, None, option_and_then, Result, Ok, Err}
 use Rattle.std.specs.List.{list_any}
 use Rattle.std.specs.Option.{ok_or}
 use Rattle.std.specs.Result.{result_err, result_unwrap_or}
@@ -13,7 +13,7 @@ use Rattle.rio_leaf.specs.Marks.{letter_of_texts}
 use Rattle.rio_value.specs.declared.value.Value.{Value}
 use Rattle.rio_tree_head.specs.declared.basket_at.BasketAt.{BasketAt}
 use Rattle.rio_tree_head.specs.declared.fault.TreeFault.{TreeFault}
-use Rattle.rio_tree_head.specs.declared.fault.TreeFault.TheVariants.{MissingMember, NoMemory as OutOfMemory}
+use Rattle.rio_tree_head.specs.declared.fault.TreeFault.TheVariants.{MissingMember}
 use Rattle.rio_tree_head.specs.declared.head.Branch.{Branch}
 use Rattle.rio_tree_head.specs.declared.head.TreeHead.{TreeHead}
 use Rattle.rio_tree_head.specs.declared.refusal.BranchRefusal.{BranchRefusal}
@@ -115,8 +115,3 @@ tree_head_in v = do
   entries ← ok_or (entries_member v) (MissingMember (codes "fEntries"))
   items ← ok_or (pointers_member (codes "fBranches") v) (MissingMember (codes "fBranches"))
   Ok (record { entries = entries; branches = branches_from entries (labels_in v) items [] no_leaves_met })
-
--- what was returned is this answer, unless memory ran out
-abbrev pub GivesTree : {A : Type 0} → Result A TreeFault → Result A TreeFault → Type 0
-GivesTree (Ok x) answer = answer ≡ Ok x
-GivesTree (Err e) answer = e ≢ OutOfMemory → answer ≡ Err e

@@ -1,6 +1,7 @@
 //! The header of a tree is read.
 ghost use Rattle.std.specs.Prelude.{◌≡◌, ◌≢◌, [], IfOk};
-ghost use Rattle.rio_tree_head.specs.Header.{GivesTree, branches_from, entries_member, tree_head_in};
+ghost use Rattle.rio_num.specs.Answers.{GivesUnless};
+ghost use Rattle.rio_tree_head.specs.Header.{branches_from, entries_member, tree_head_in};
 ghost use Rattle.rio_tree_head.specs.HeaderLeaves.{no_leaves_met};
 ghost use Rattle.rio_tree_head.specs.Tables.{labels_of};
 ghost use Rattle.rio_tree_head.specs.declared.fault.TreeFault.TheVariants.{MissingMember as Lacks, NoMemory as OutOfMemory};
@@ -54,7 +55,7 @@ fn read_branches<'a>(
 /// first needed member that the tree lacks: fEntries, which must not be below 0, or fBranches.
 #[tactic(auto, unfolding(crate::specs::Header::tree_head_in))]
 pub fn read_tree(alloc: Global, value: &Value) -> Result<TreeHead, TreeFault>
-    ensures { GivesTree result (tree_head_in value.now) }
+    ensures { GivesUnless OutOfMemory (λ tree. tree) result (tree_head_in value.now) }
 {
     let Some(entries) = entries_member(value) else {
         return Err(missing(alloc, b"fEntries"));

@@ -1,18 +1,19 @@
 use Rattle.std.proofs.Common.{◌≡◌, ℕ, List, true, Result, Ok, Err, IfOk, IsTrue, refl, sym, ap, ◌∙◌}
 use Rattle.rio_num.proofs.ReadLaws.{ok_is}
+use Rattle.rio_num.specs.Answers.{GivesUnless}
 use Rattle.rio_leaf.specs.declared.fault.LeafFault.{LeafFault}
 use Rattle.rio_leaf.specs.declared.fault.LeafFault.TheVariants.{NoMemory, BadLeaf}
 use Rattle.rio_leaf.specs.declared.leaf.Leaf.{Leaf}
 use Rattle.rio_leaf.specs.Spelling.{is_leaf_list, text_of_leaves}
-use Rattle.rio_leaf.specs.Reading.{GivesLeaf, IsLeafReadAs, leaves_in}
+use Rattle.rio_leaf.specs.Reading.{IsLeafReadAs, leaves_in}
 use Rattle.rio_leaf.proofs.ListLaws.{list_again, list_found}
 use Rattle.rio_leaf.proofs.read.read_leaves.Goals as goal
 
-found : (text : List ℕ) (r : Result (List Leaf) LeafFault) → GivesLeaf r (leaves_in text) → IfOk r (λ leaves. IsTrue (is_leaf_list leaves) × (text ≡ text_of_leaves leaves))
+found : (text : List ℕ) (r : Result (List Leaf) LeafFault) → GivesUnless NoMemory (λ ls. ls) r (leaves_in text) → IfOk r (λ leaves. IsTrue (is_leaf_list leaves) × (text ≡ text_of_leaves leaves))
 found text (Ok leaves) h = let f = list_found text leaves h in (f.is, f.parts)
 found text (Err e) h = tt
 
-only : (text : List ℕ) (leaves : List Leaf) (r : Result (List Leaf) LeafFault) → GivesLeaf r (leaves_in text) → is_leaf_list leaves ≡ true → text ≡ text_of_leaves leaves → IsLeafReadAs r leaves
+only : (text : List ℕ) (leaves : List Leaf) (r : Result (List Leaf) LeafFault) → GivesUnless NoMemory (λ ls. ls) r (leaves_in text) → is_leaf_list leaves ≡ true → text ≡ text_of_leaves leaves → IsLeafReadAs r leaves
 only text leaves (Ok others) h is parts = ok_is {E = LeafFault} others leaves (sym h ∙ ap leaves_in parts ∙ list_again leaves is)
 only text leaves (Err NoMemory) h is parts = refl
 only text leaves (Err (BadLeaf place)) h is parts =
