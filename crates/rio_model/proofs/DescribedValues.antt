@@ -1,5 +1,5 @@
 -- Values taken apart: what stands in each.
-use Rattle.std.proofs.Common.{◌≡◌, ◌∙◌, ℤ, ℕ, ◌^◌, pos, List, true, ltb, ◌&&◌, Some, unwrap_or, refl, ap, sym}
+use Rattle.std.proofs.Common.{◌≡◌, [], ◌∙◌, ℤ, ℕ, ◌^◌, pos, List, true, ltb, ◌&&◌, Some, unwrap_or, refl, ap, sym}
 use Rattle.std.specs.Ordering.{int_eq}
 use Rattle.std.specs.Str.{bytes_eq}
 use Rattle.rio_value.specs.declared.value.Part.{Part}
