@@ -4,6 +4,9 @@ use Rattle.std.specs.Prelude.{ℕ}
 abbrev pub tab : ℕ
 tab = 9
 
+abbrev pub line_feed : ℕ
+line_feed = 10
+
 abbrev pub space : ℕ
 space = 32
 
@@ -19,8 +22,14 @@ asterisk = 42
 abbrev pub comma : ℕ
 comma = 44
 
+abbrev pub minus_sign : ℕ
+minus_sign = 45
+
 abbrev pub slash : ℕ
 slash = 47
+
+abbrev pub digit_zero : ℕ
+digit_zero = 48
 
 abbrev pub colon : ℕ
 colon = 58
@@ -42,6 +51,15 @@ backslash = 92
 
 abbrev pub closing_bracket : ℕ
 closing_bracket = 93
+
+abbrev pub letter_n : ℕ
+letter_n = 110
+
+abbrev pub letter_t : ℕ
+letter_t = 116
+
+abbrev pub letter_x : ℕ
+letter_x = 120
 
 abbrev pub opening_brace : ℕ
 opening_brace = 123

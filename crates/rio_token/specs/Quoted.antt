@@ -1,6 +1,6 @@
 -- Strings: in double quotes, with bytes 0x20 to 0x7E and the escapes \" \\ \n \t \xHH.
 use Rattle.std.specs.Prelude.{ℕ, ◌+◌, ◌-◌, ◌*◌, List, [], ◌∷◌, Option, Some, None, nat_le, ◌==◌, ◌&&◌, ◌||◌, if◌then◌else◌}
-use Rattle.rio_token.specs.Marks.{backslash, double_quote}
+use Rattle.rio_token.specs.Marks.{backslash, double_quote, letter_n, letter_t, letter_x, line_feed, tab}
 use Rattle.rio_token.specs.declared.quoted.Within.{Within}
 use Rattle.rio_token.specs.declared.quoted.Within.TheVariants.{Between, Escape, High, Low}
 use Rattle.rio_token.specs.declared.quoted.Step.{Step}
@@ -34,9 +34,9 @@ step_of Between b =
     else Breaks
 step_of Escape b =
     if (b == double_quote) || (b == backslash) then Spells b
-    else if b == 110 then Spells 10
-    else if b == 116 then Spells 9
-    else if b == 120 then Goes High
+    else if b == letter_n then Spells line_feed
+    else if b == letter_t then Spells tab
+    else if b == letter_x then Goes High
     else Breaks
 step_of High b = first_digit b (hex_value b)
 step_of (Low h) b = second_digit (hex_value h) (hex_value b)

@@ -2,6 +2,7 @@
 use Rattle.std.specs.Prelude.{ℕ, suc, ◌+◌, ◌-◌, ◌*◌, ◌^◌, ℤ, pos, negsuc, List, [], ◌∷◌, length, Option, Some, None, option_map, option_and_then, Bool, false, nat_lt, nat_le, not, ◌==◌, ◌&&◌, ◌||◌, if◌then◌else◌}
 use Rattle.rio_token.specs.declared.words.Bits.{Bits}
 use Rattle.rio_token.specs.declared.words.Bits.TheVariants.{Four, Eight}
+use Rattle.rio_token.specs.Marks.{digit_zero, letter_x, minus_sign}
 use Rattle.rio_token.specs.Quoted.{hex_value}
 
 -- the value of a digit in a base up to 16
@@ -24,7 +25,7 @@ written base most digits = at_most most (number_after base 0 digits)
 -- it doesn't begin with a 0 that isn't all
 abbrev pub has_no_leading_zero : List ℕ → Bool
 has_no_leading_zero [] = false
-has_no_leading_zero (b ∷ bs) = not (b == 48) || (length bs == 0)
+has_no_leading_zero (b ∷ bs) = not (b == digit_zero) || (length bs == 0)
 
 -- the number that the word writes without a leading 0, up to the greatest
 unfoldable pub decimal : ℕ → List ℕ → Option ℕ
@@ -46,7 +47,7 @@ negated n = None
 -- an integer from -2^63 to 2^64 - 1
 unfoldable pub number_of : List ℕ → Option ℤ
 number_of [] = None
-number_of (b ∷ bs) = if b == 45 then negated (decimal (2 ^ 63) bs) else option_map pos (decimal (2 ^ 64 - 1) (b ∷ bs))
+number_of (b ∷ bs) = if b == minus_sign then negated (decimal (2 ^ 63) bs) else option_map pos (decimal (2 ^ 64 - 1) (b ∷ bs))
 
 -- 8 digits or 16
 abbrev pub bits_from : List ℕ → Option Bits
@@ -59,4 +60,4 @@ bits_from digits =
 unfoldable pub bits_of : List ℕ → Option Bits
 bits_of [] = None
 bits_of (a ∷ []) = None
-bits_of (a ∷ x ∷ digits) = if (a == 48) && (x == 120) then bits_from digits else None
+bits_of (a ∷ x ∷ digits) = if (a == digit_zero) && (x == letter_x) then bits_from digits else None
