@@ -17,29 +17,10 @@ use crate::leaf::{given_count, letter_kind, said_count};
 use rio_buffer::{ObjFault, ObjReader};
 use rio_leaf::{Dim, Leaf};
 use rio_num::Name;
+use rio_read::read_number;
 use rio_types::Prim;
 use rio_value::{Value, Values};
 use std::alloc::Global;
-
-#[tactic(auto, unfolding(rio_format::specs::Objects::number_value))]
-fn read_single(reader: &mut ObjReader, of: Prim) -> Result<Value, ObjFault>
-    ensures exact { ReadsAs (λ x. x) result (read (number_value of) reader.old) reader.new }
-    ensures goes { GoesOn reader.old.at reader.new.at }
-{
-    match of {
-        Prim::I8 => Ok(Value::Int(i128::from(reader.take_u8()?.cast_signed()))),
-        Prim::I16 => Ok(Value::Int(i128::from(reader.take_u16()?.cast_signed()))),
-        Prim::I32 => Ok(Value::Int(i128::from(reader.take_u32()?.cast_signed()))),
-        Prim::I64 => Ok(Value::Int(i128::from(reader.take_u64()?.cast_signed()))),
-        Prim::U8 => Ok(Value::Int(i128::from(reader.take_u8()?))),
-        Prim::U16 => Ok(Value::Int(i128::from(reader.take_u16()?))),
-        Prim::U32 => Ok(Value::Int(i128::from(reader.take_u32()?))),
-        Prim::U64 => Ok(Value::Int(i128::from(reader.take_u64()?))),
-        Prim::Bool => Ok(Value::Bool(reader.take_u8()? != 0)),
-        Prim::F32 => Ok(Value::Bits32(reader.take_u32()?)),
-        Prim::F64 => Ok(Value::Bits64(reader.take_u64()?)),
-    }
-}
 
 fn read_times(alloc: Global, reader: &mut ObjReader, of: Prim, n: u64) -> Result<Values, ObjFault>
     ensures exact { ReadsAs (λ x. x) result (read (times n (number_value of)) reader.old)
@@ -48,7 +29,7 @@ fn read_times(alloc: Global, reader: &mut ObjReader, of: Prim, n: u64) -> Result
 {
     let mut values = Values::new(alloc);
     for _done in 0..n {
-        values.push(read_single(reader, of)?)?;
+        values.push(read_number(reader, of)?)?;
     }
     Ok(values)
 }
@@ -98,7 +79,7 @@ fn read_sized(
     ensures goes { GoesOn reader.old.at reader.new.at }
 {
     match dim {
-        Dim::One => read_single(reader, of),
+        Dim::One => read_number(reader, of),
         Dim::Fixed(n) => read_list(alloc, reader, of, u128::from(*n)),
         Dim::Counted { times, .. } => read_counted(alloc, reader, of, *times, count),
     }

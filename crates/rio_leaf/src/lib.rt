@@ -27,6 +27,6 @@ pub use branch::{BranchDef, BranchDefs, Shape};
 pub use fault::LeafFault;
 pub use laws::{first_bad_leaf_tokens_are_told, read_leaves_are_spelled, spelled_leaves_are_read};
 pub use leaf::{Dim, Leaf, Leaves};
-pub use print::print_leaves;
+pub use print::{print_leaves, put_dim};
 pub use read::read_leaves;
 pub use stated::are_stated;

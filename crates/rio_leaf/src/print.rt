@@ -8,7 +8,9 @@ ghost use Rattle.rio_leaf.specs.Spelling.{text_of_dim, text_of_leaf, text_of_lea
 use crate::{Dim, Leaf, Leaves};
 use rio_num::{Bytes, NoMemory};
 
-fn put_dim(dim: &Dim, into: &mut Bytes) -> Result<(), NoMemory>
+/// Puts the dimension of a leaf at the end as it is listed: nothing, or a number or a counter in brackets. Where there is
+/// no memory, a part of it may have been put.
+pub fn put_dim(dim: &Dim, into: &mut Bytes) -> Result<(), NoMemory>
     ensures { OnOk result (into.new.bytes ≡ into.old.bytes ++ text_of_dim dim.now) }
 {
     match dim {

@@ -3,7 +3,7 @@ use Rattle.std.proofs.Common.{◌≡◌, ◌≤◌, ◌<◌, ℕ, zero, suc, Lis
 use Rattle.std.specs.List.{AllByRecursion, IsDistinct, list_any}
 use Rattle.std.specs.Cmp.Lexicographic.{same_text}
 use Rattle.std.specs.Str.{bytes_eq}
-use Rattle.std.proofs.Math.Bool.{or-true}
+use Rattle.std.proofs.lemmas.Bool.{and_from, and_parts, or_left, or_right}
 use Rattle.std.proofs.lemmas.Cmp.{nat_list_eq_equiv}
 use Rattle.std.proofs.lemmas.List.{length-map}
 use Rattle.std.proofs.lemmas.Map.Keys.{IsDistinct-cons, IsDistinct-tail}
@@ -20,19 +20,6 @@ use Rattle.rio_model.specs.Declaring.{IsWay, Reaches, any_inline, any_within, ha
 or_cases : {P : Type 0} (a b : Bool) → (a ≡ true → P) → (b ≡ true → P) → (a || b) ≡ true → P
 or_cases true b f g e = f refl
 or_cases false b f g e = g e
-
-or_left : (a b : Bool) → a ≡ true → (a || b) ≡ true
-or_left a b e = rw e refl
-
-or_right : (a b : Bool) → b ≡ true → (a || b) ≡ true
-or_right a b e = rw e (or-true a)
-
-and_both : (a b : Bool) → a ≡ true → b ≡ true → (a && b) ≡ true
-and_both a b e h = rw (e, h) refl
-
-and_parts : (a b : Bool) → (a && b) ≡ true → (a ≡ true) × (b ≡ true)
-and_parts true b e = (refl, e)
-and_parts false b e = absurd cc
 
 same : (a b : List ℕ) → bytes_eq a b ≡ true → a ≡ b
 same a b e = same_text a b (sym e)
@@ -78,7 +65,7 @@ module _ (test : List ℕ → Bool) where
       (λ t.
       let parts = and_parts (bytes_eq c.name a) (any_within test c) t in
       let own = within_some c parts.1 in
-      (own.0, or_left _ _ (and_both _ _ parts.0 own.1), own.2))
+      (own.0, or_left _ _ (and_from _ _ parts.0 own.1), own.2))
       (λ t. let rest = held_some cs a t in (rest.0, or_right (bytes_eq c.name a && has_within c rest.0) _ rest.1, rest.2))
       e
 
@@ -118,7 +105,7 @@ module _ (test : List ℕ → Bool) where
     some_held [] a e = absurd cc
     some_held (c ∷ cs) a e =
         or_cases (bytes_eq c.name a && has_within c n) (holds cs a n)
-        (λ t. let parts = and_parts (bytes_eq c.name a) (has_within c n) t in or_left _ _ (and_both _ _ parts.0 (some_within c parts.1)))
+        (λ t. let parts = and_parts (bytes_eq c.name a) (has_within c n) t in or_left _ _ (and_from _ _ parts.0 (some_within c parts.1)))
         (λ t. or_right (bytes_eq c.name a && any_within test c) _ (some_held cs a t))
         e
 

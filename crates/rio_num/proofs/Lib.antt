@@ -3,6 +3,7 @@ pub mod Apart
 pub mod BytesEq
 pub mod Cut
 pub mod Examples
+pub mod FreshNames
 pub mod Front
 pub mod InOrder
 pub mod Intro

@@ -16,4 +16,5 @@ mod object;
 mod read;
 mod whole;
 
+pub use numbers::read_number;
 pub use read::{read_builtin, read_next, read_object};

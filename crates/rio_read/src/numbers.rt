@@ -13,8 +13,9 @@ use rio_types::Prim;
 use rio_value::{Value, Values};
 use std::alloc::Global;
 
+/// The next number, or truth value, of this kind.
 #[tactic(auto, unfolding(rio_format::specs::Objects::number_value))]
-pub(crate) fn read_number(reader: &mut ObjReader, of: Prim) -> Result<Value, ObjFault>
+pub fn read_number(reader: &mut ObjReader, of: Prim) -> Result<Value, ObjFault>
     ensures exact { ReadsAs (λ x. x) result (read (number_value of) reader.old) reader.new }
     ensures goes { GoesOn reader.old.at reader.new.at }
 {

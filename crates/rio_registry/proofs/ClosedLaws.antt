@@ -5,7 +5,7 @@ use Rattle.std.specs.List.{list_all, list_any}
 use Rattle.std.specs.Option.{option_or}
 use Rattle.std.specs.Cmp.Lexicographic.{same_text}
 use Rattle.std.specs.Str.{bytes_eq}
-use Rattle.std.proofs.Math.Bool.{or-true}
+use Rattle.std.proofs.lemmas.Bool.{and_parts, or_left, or_right}
 use Rattle.std.proofs.lemmas.Cmp.{nat_list_eq_equiv}
 use Rattle.std.proofs.lemmas.List.Folds.{list_any-append}
 use Rattle.rio_types.specs.Classes.{find_in}
@@ -19,22 +19,9 @@ use Rattle.rio_model.specs.declared.declare.DeclareFault.{DeclareFault}
 use Rattle.rio_model.specs.declared.declare.DeclareFault.TheVariants.{HoldsItself, NoSuchClass, SameVersion}
 use Rattle.rio_model.proofs.ReachLaws.{reaching_is_a_way}
 use Rattle.rio_registry.specs.Fronts.{AreClosed}
+use Rattle.rio_registry.proofs.Ways.{or_cases}
 
 -- ---- tests
-
-or_cases : {P : Type 0} (a b : Bool) → (a ≡ true → P) → (b ≡ true → P) → (a || b) ≡ true → P
-or_cases true b f g e = f refl
-or_cases false b f g e = g e
-
-or_left : (a b : Bool) → a ≡ true → (a || b) ≡ true
-or_left a b e = rw e refl
-
-or_right : (a b : Bool) → b ≡ true → (a || b) ≡ true
-or_right a b e = rw e (or-true a)
-
-and_parts : (a b : Bool) → (a && b) ≡ true → (a ≡ true) × (b ≡ true)
-and_parts true b e = (refl, e)
-and_parts false b e = absurd cc
 
 same : (a b : List ℕ) → bytes_eq a b ≡ true → a ≡ b
 same a b e = same_text a b (sym e)

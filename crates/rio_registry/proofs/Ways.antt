@@ -4,8 +4,8 @@ use Rattle.std.specs.Prelude.{Some, None, slice_get}
 use Rattle.std.specs.List.{IsDistinct, list_any}
 use Rattle.std.specs.Cmp.Lexicographic.{same_text}
 use Rattle.std.specs.Str.{bytes_eq}
-use Rattle.std.proofs.Math.Bool.{or-false, or-true}
-use Rattle.std.proofs.lemmas.Bool.{or_from}
+use Rattle.std.proofs.Math.Bool.{or-false}
+use Rattle.std.proofs.lemmas.Bool.{and_from, and_parts, or_from, or_left, or_right}
 use Rattle.std.proofs.lemmas.Cmp.{nat_list_eq_equiv}
 use Rattle.std.proofs.lemmas.List.{take-append-le, take_all}
 use Rattle.std.proofs.lemmas.List.Folds.{list_any-append, list_any_at, list_any_more}
@@ -21,23 +21,9 @@ use Rattle.rio_registry.specs.Reaching.{ComesTo, IsGrown, is_among}
 
 -- ---- tests
 
-or_cases : {P : Type 0} (a b : Bool) → (a ≡ true → P) → (b ≡ true → P) → (a || b) ≡ true → P
+pub or_cases : {P : Type 0} (a b : Bool) → (a ≡ true → P) → (b ≡ true → P) → (a || b) ≡ true → P
 or_cases true b f g e = f refl
 or_cases false b f g e = g e
-
-or_left : (a b : Bool) → a ≡ true → (a || b) ≡ true
-or_left a b e = rw e refl
-
-or_right : (a b : Bool) → b ≡ true → (a || b) ≡ true
-or_right a b e = rw e (or-true a)
-
-and_both : (a b : Bool) → a ≡ true → b ≡ true → (a && b) ≡ true
-and_both a b e h = rw (e, h) refl
-
-and_parts : (a b : Bool) → (a && b) ≡ true → (a ≡ true) × (b ≡ true)
-and_parts true true e = (refl, refl)
-and_parts true false e = absurd cc
-and_parts false b e = absurd cc
 
 same : (a b : List ℕ) → bytes_eq a b ≡ true → a ≡ b
 same a b e = same_text a b (sym e)
@@ -226,7 +212,7 @@ module _ (classes : List ClassDef) (class : ClassDef) where
   holds_still a b h = holds-more a b ∙ or_left _ _ h
 
   holds_own : (b : List ℕ) → has_within class b ≡ true → holds (classes ++ class ∷ []) class.name b ≡ true
-  holds_own b h = holds-more class.name b ∙ or_right _ _ (and_both _ _ (itself class.name) h)
+  holds_own b h = holds-more class.name b ∙ or_right _ _ (and_from _ _ (itself class.name) h)
 
   way_still : (a b : List ℕ) (between : List (List ℕ)) → IsWay classes a between b → IsWay (classes ++ class ∷ []) a between b
   way_still a b [] way = holds_still a b way

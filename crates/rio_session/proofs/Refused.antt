@@ -1,37 +1,18 @@
 -- Refusals with a mark and without one.
-use Rattle.std.proofs.Common.{◌≡◌, List, [], ◌∷◌, ◌++◌, Option, Some, None, cond, refl, sym, ap, ◌∙◌}
+use Rattle.std.proofs.Common.{◌≡◌, List, [], ◌∷◌, ◌++◌, take, Option, Some, None, cond, refl, sym, ap, ◌∙◌}
 use Rattle.std.specs.Prelude.{is_some}
 use Rattle.std.specs.Option.{option_or}
 use Rattle.rio_machine.specs.State.{State}
 use Rattle.rio_machine.specs.declared.command.Command.{Command}
 use Rattle.rio_machine.specs.declared.refusal.Refusal.{Refusal}
-use Rattle.rio_machine.specs.declared.refusal.Refusal.TheVariants.{Full, BadName, NoSuchName, NoSuchCycle, NameIsTree, NotATree, NameInUse, NoSuchClass, SameVersion, HoldsItself, DoesNotFit, BadRow, NoVersion, CycleLimit, TooLarge, TooDeep, TooMany}
+use Rattle.rio_machine.specs.declared.refusal.Refusal.TheVariants.{Full}
 use Rattle.rio_step.specs.Costs.{accepted_cost, cost_of}
-use Rattle.rio_step.specs.Refusing.{FullMark, bad_line, first_of, goes_too_deep, has_bad_name, has_too_many, is_at_last_cycle, is_bad_row, is_name_in_use, is_object_name, is_same_version, is_too_large, is_tree_name, is_unfit, kind_change, lacks_class, lacks_cycle, lacks_name, lacks_version, marked_full, refusal_of, refusals, refused_if, would_hold_itself}
+use Rattle.rio_step.specs.Refusing.{FullMark, first_of, marked_full, refusal_of, refusals}
 use Rattle.rio_step.specs.Step.{by_refusal, refused, reply_to, state_behind, step}
 
 -- all tests but that of room
 abbrev pub own_refusals : State → Command → List (Option Refusal)
-own_refusals m c =
-    bad_line c
-    ∷ refused_if (has_bad_name c) BadName
-    ∷ refused_if (lacks_name m c) NoSuchName
-    ∷ refused_if (lacks_cycle m c) NoSuchCycle
-    ∷ refused_if (is_tree_name m c) NameIsTree
-    ∷ refused_if (is_object_name m c) NotATree
-    ∷ refused_if (is_name_in_use m c) NameInUse
-    ∷ refused_if (lacks_class m c) NoSuchClass
-    ∷ refused_if (is_same_version m c) SameVersion
-    ∷ refused_if (would_hold_itself m c) HoldsItself
-    ∷ refused_if (is_unfit m c) DoesNotFit
-    ∷ refused_if (is_bad_row m c) BadRow
-    ∷ kind_change m c
-    ∷ refused_if (lacks_version m c) NoVersion
-    ∷ refused_if (is_at_last_cycle m c) CycleLimit
-    ∷ refused_if (is_too_large m c) TooLarge
-    ∷ refused_if (goes_too_deep m c) TooDeep
-    ∷ refused_if (has_too_many m c) TooMany
-    ∷ []
+own_refusals m c = take 18 (refusals m c None)
 
 or_none : {A : Type 0} (x : Option A) → option_or x None ≡ x
 or_none None = refl

@@ -6,9 +6,9 @@ use Rattle.std.specs.Prelude.{map}
 use Rattle.std.proofs.lemmas.Bool.{or_parts}
 use Rattle.std.proofs.lemmas.List.{length-map}
 use Rattle.rio_num.specs.Word.{is_name_text}
+use Rattle.rio_num.proofs.FreshNames.{new_name}
 use Rattle.rio_num.proofs.NameSets.{any_map}
 use Rattle.rio_leaf.specs.declared.branch.BranchDef.{BranchDef}
-use Rattle.rio_leaf.specs.declared.leaf.Dim.TheVariants.{One}
 use Rattle.rio_leaf.specs.declared.leaf.Leaf.{Leaf}
 use Rattle.rio_leaf.specs.Leaves.{has_counted_leaf, has_leaf}
 use Rattle.rio_leaf.proofs.FreshNames.{name_left}
@@ -21,18 +21,12 @@ new_leaf leaves few =
     let free = (or_parts (has_leaf leaves n.name) (has_counted_leaf leaves n.name) n.free).0 in
     (n.name, rw (named, free) refl)
 
--- a leaf of the name
-abbrev leaf_called : List ℕ → Leaf
-leaf_called name = record { name = name; letter = 73; dim = One }
-
 -- a name that none of these has
 pub new_among : {A : Type 0} (name_of : A → List ℕ) (xs : List A) → length xs < 2 ^ 32
     → (name : List ℕ) × (is_name_text name ≡ true) × (list_any (λ x. bytes_eq (name_of x) name) xs ≡ false)
 new_among {A} name_of xs few =
-    let leaves = map (λ (x : A). leaf_called (name_of x)) xs in
-    let n = name_left leaves (let same = length-map xs (λ (x : A). leaf_called (name_of x)) in omega (arith, same, few)) in
-    let free = or_parts (has_leaf leaves n.name) (has_counted_leaf leaves n.name) n.free in
-    (n.name, n.named, sym (any_map (λ (x : A). leaf_called (name_of x)) (λ (l : Leaf). bytes_eq l.name n.name) xs) ∙ free.0)
+    let n = new_name (map name_of xs) (let same = length-map xs name_of in omega (arith, same, few)) in
+    (n.name, n.named, sym (any_map name_of (λ other. bytes_eq other n.name) xs) ∙ n.new)
 
 pub new_branch : (branches : List BranchDef) → length branches < 2 ^ 32 → (name : List ℕ) × (is_new_branch branches name ≡ true)
 new_branch branches few =

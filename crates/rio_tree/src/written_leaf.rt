@@ -5,7 +5,7 @@ ghost use Rattle.rio_tree.specs.WrittenTree.{class_of_letter, counter_pointer, i
 
 use crate::written_labels::{LeafLabels, label_behind};
 use crate::written_parts::{PartList, titled_object};
-use rio_leaf::{Dim, Leaf};
+use rio_leaf::{Dim, Leaf, put_dim};
 use rio_num::{Boxed, Bytes, Name, NoMemory};
 use rio_value::{Value, Values};
 use std::alloc::Global;
@@ -60,24 +60,6 @@ fn counter_pointer(known: &LeafLabels, dim: &Dim) -> Value
             None => Value::Null,
         },
         _ => Value::Null,
-    }
-}
-
-fn put_dim(dim: &Dim, into: &mut Bytes) -> Result<(), NoMemory>
-    ensures { OnOk result (into.new.bytes ≡ into.old.bytes ++ text_of_dim dim.now) }
-{
-    match dim {
-        Dim::One => Ok(()),
-        Dim::Fixed(count) => {
-            into.push(b'[')?;
-            into.put_decimal(u64::from(*count))?;
-            into.push(b']')
-        }
-        Dim::Counted { counter, .. } => {
-            into.push(b'[')?;
-            into.put(counter.as_slice())?;
-            into.push(b']')
-        }
     }
 }
 
