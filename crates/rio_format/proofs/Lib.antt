@@ -1,5 +1,6 @@
 pub mod BaseDepth
 pub mod BaseLaws
+pub mod BuiltInLaws
 pub mod Closed
 pub mod Composed
 pub mod ComposedLengths

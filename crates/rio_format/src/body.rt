@@ -3,11 +3,12 @@ ghost use Rattle.std.specs.Prelude.{◌≡◌, ℤ, pos, Option, Some, None};
 ghost use Rattle.std.specs.Option.{option_copied, option_map, option_map_or};
 ghost use Rattle.rio_format.specs.Bodies.{body_of, built_in, by_description, described};
 ghost use Rattle.rio_format.specs.Slots.{declared_body};
-ghost use Rattle.rio_format.specs.BuiltIn.{headed_version};
+ghost use Rattle.rio_format.specs.BuiltIn.{headed_version, own_body};
 ghost use Rattle.rio_format.specs.Lists.{listed};
 ghost use Rattle.rio_types.specs.Classes.{judged};
 ghost use Rattle.rio_types.specs.declared.class.ClassDef.{ClassDef as Class};
 
+use crate::built_in::BuiltIn;
 use crate::lists::ClassLists;
 use rio_buffer::Header;
 use rio_types::{ClassDef, Classes};
@@ -55,19 +56,26 @@ fn by_description<'a>(found: Option<(&'a ClassDef, bool)>) -> Body<'a>
     }
 }
 
+// The body of a built-in class, behind its header.
+fn own_body<'a>(class: BuiltIn) -> Option<Body<'a>>
+    ensures { result ≡ own_body class }
+{
+    match class {
+        BuiltIn::Named => Some(Body(BodyKind::Named)),
+        BuiltIn::ObjString => Some(Body(BodyKind::ObjString)),
+        BuiltIn::Listed => Some(Body(BodyKind::Listed)),
+        BuiltIn::Arrayed => Some(Body(BodyKind::Arrayed)),
+        _ => None,
+    }
+}
+
+#[tactic(auto, using(crate::proofs::BuiltInLaws::body_is))]
 fn built_in<'a>(class: &[u8], version: i32) -> Option<Body<'a>>
     ensures { result ≡ built_in class.now version }
 {
-    if class == b"TNamed".as_slice() && version == 1 {
-        Some(Body(BodyKind::Named))
-    } else if class == b"TObjString".as_slice() && version == 1 {
-        Some(Body(BodyKind::ObjString))
-    } else if class == b"TList".as_slice() && version == 5 {
-        Some(Body(BodyKind::Listed))
-    } else if class == b"TObjArray".as_slice() && version == 3 {
-        Some(Body(BodyKind::Arrayed))
-    } else {
-        None
+    match BuiltIn::of_name(class) {
+        Some(class) if version == class.version() => own_body(class),
+        _ => None,
     }
 }
 
@@ -146,16 +154,12 @@ pub(crate) fn listed_body<'a>(
 }
 
 /// The one version of a built-in class with a header.
+#[tactic(auto, using(crate::proofs::BuiltInLaws::version_is))]
 pub fn headed_version(class: &[u8]) -> Option<i32>
     ensures { result ≡ headed_version class.now }
 {
-    if class == b"TNamed".as_slice() || class == b"TObjString".as_slice() {
-        Some(1)
-    } else if class == b"TList".as_slice() {
-        Some(5)
-    } else if class == b"TObjArray".as_slice() {
-        Some(3)
-    } else {
-        None
+    match BuiltIn::of_name(class) {
+        Some(class) if class.has_header() => Some(class.version()),
+        _ => None,
     }
 }

@@ -6,6 +6,7 @@
 mod base_set;
 mod bases;
 mod body;
+mod built_in;
 mod counters;
 mod laws;
 mod lists;
@@ -16,6 +17,7 @@ mod width;
 pub use base_set::BaseSet;
 pub use bases::{derives_from, is_headed};
 pub use body::{Body, BodyKind, body_of, declared_body, headed_version};
+pub use built_in::BuiltIn;
 pub use counters::Counters;
 pub use laws::{
     broken_is_fault, fault_is_broken, fault_is_not_spelled, is_spelled_once, no_base_is_deeper,

@@ -2,6 +2,7 @@
 ghost use Rattle.std.specs.Prelude.{◌≡◌};
 ghost use Rattle.rio_format.specs.Bodies.{form_of};
 
+use crate::built_in::BuiltIn;
 use rio_types::Prim;
 
 /// How an object of a class begins.
@@ -16,24 +17,12 @@ pub enum Shape {
 }
 
 /// How an object of the class begins: TObject and the TArrays have shapes of their own.
+#[tactic(auto, using(crate::proofs::BuiltInLaws::form_is))]
 pub fn shape_of(class: &[u8]) -> Shape
     ensures { result ≡ form_of class.now }
 {
-    if class == b"TObject".as_slice() {
-        Shape::Bare
-    } else if class == b"TArrayC".as_slice() {
-        Shape::Numbers(Prim::I8)
-    } else if class == b"TArrayS".as_slice() {
-        Shape::Numbers(Prim::I16)
-    } else if class == b"TArrayI".as_slice() {
-        Shape::Numbers(Prim::I32)
-    } else if class == b"TArrayL64".as_slice() {
-        Shape::Numbers(Prim::I64)
-    } else if class == b"TArrayF".as_slice() {
-        Shape::Numbers(Prim::F32)
-    } else if class == b"TArrayD".as_slice() {
-        Shape::Numbers(Prim::F64)
-    } else {
-        Shape::Headed
+    match BuiltIn::of_name(class) {
+        Some(class) => class.shape(),
+        None => Shape::Headed,
     }
 }
