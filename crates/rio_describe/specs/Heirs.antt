@@ -1,10 +1,11 @@
 -- The classes that have a TObject among their bases, and how they are found.
-use Rattle.std.specs.Prelude.{◌≡◌, ℕ, ◌+◌, ℤ, pos, List, [], ◌∷◌, ◌++◌, length, map, codes, Bool, true, ◌||◌}
+use Rattle.std.specs.Prelude.{◌≡◌, ℕ, ◌+◌, ℤ, List, [], ◌∷◌, ◌++◌, length, map, codes, Bool, true, ◌||◌}
 use Rattle.std.specs.List.{All, list_any}
 use Rattle.std.specs.Str.{bytes_eq}
 use Rattle.rio_types.specs.declared.class.Base.{Base}
 use Rattle.rio_types.specs.declared.class.ClassDef.{ClassDef}
 use Rattle.rio_format.specs.Bases.{visit_bases}
+use Rattle.rio_format.specs.BuiltIn.{BuiltIn, built_in_name, headed_classes, own_version}
 use Rattle.rio_format.specs.Slots.{has_base}
 use Rattle.rio_format.specs.Visits.{base_of, is_visited}
 
@@ -41,10 +42,13 @@ pub record Judged (classes : List ClassDef) (candidates old new : List Base) : T
 abbrev pub class_base : ClassDef → Base
 class_base c = base_of c.name c.version
 
+-- a built-in class in its version
+abbrev pub built_in_base : BuiltIn → Base
+built_in_base b = base_of (built_in_name b) (own_version b)
+
 -- the built-in classes that have a base
 abbrev pub built_in_bases : List Base
-built_in_bases =
-    base_of (codes "TNamed") (pos 1) ∷ base_of (codes "TObjString") (pos 1) ∷ base_of (codes "TList") (pos 5) ∷ base_of (codes "TObjArray") (pos 3) ∷ []
+built_in_bases = map built_in_base headed_classes
 
 -- all that may have bases
 abbrev pub candidates_of : List ClassDef → List Base

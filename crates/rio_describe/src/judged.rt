@@ -4,9 +4,9 @@ ghost use Rattle.rio_format.specs.Bases.{visit_bases};
 ghost use Rattle.rio_format.specs.Bodies.{built_in};
 ghost use Rattle.rio_format.specs.Lists.{listed};
 ghost use Rattle.rio_format.specs.Visits.{base_of};
-ghost use Rattle.rio_describe.specs.Heirs.{AreTheHeirs, Judged, built_in_bases, candidates_of, class_base, has_reaching, is_heir};
+ghost use Rattle.rio_describe.specs.Heirs.{AreTheHeirs, Judged, built_in_base, built_in_bases, candidates_of, class_base, has_reaching, is_heir};
 
-use rio_format::{BaseSet, ClassLists, headed_version, is_headed};
+use rio_format::{BaseSet, BuiltIn, ClassLists, headed_version, is_headed};
 use rio_num::NoMemory;
 use rio_types::{Base, ClassDef, Classes};
 use std::alloc::Global;
@@ -112,13 +112,24 @@ fn judge<'a>(
     Ok(())
 }
 
+fn judge_own<'a>(
+    lists: &ClassLists<'a>,
+    heirs: &mut BaseSet<'a>,
+    class: BuiltIn,
+) -> Result<(), NoMemory>
+    ensures { OnOk result
+        (Judged (listed lists.now) (built_in_base class ∷ []) heirs.old heirs.new) }
+{
+    judge(lists, heirs, class.name(), class.version())
+}
+
 fn judge_built_in<'a>(lists: &ClassLists<'a>, heirs: &mut BaseSet<'a>) -> Result<(), NoMemory>
     ensures { OnOk result (Judged (listed lists.now) built_in_bases heirs.old heirs.new) }
 {
-    judge(lists, heirs, b"TNamed", 1)?;
-    judge(lists, heirs, b"TObjString", 1)?;
-    judge(lists, heirs, b"TList", 5)?;
-    judge(lists, heirs, b"TObjArray", 3)
+    judge_own(lists, heirs, BuiltIn::Named)?;
+    judge_own(lists, heirs, BuiltIn::ObjString)?;
+    judge_own(lists, heirs, BuiltIn::Listed)?;
+    judge_own(lists, heirs, BuiltIn::Arrayed)
 }
 
 fn judge_part<'a>(

@@ -1,13 +1,13 @@
 //! Which classes have a TObject among their bases.
 ghost use Rattle.std.specs.Prelude.{◌≡◌};
 ghost use Rattle.rio_format.specs.Lists.{listed};
-ghost use Rattle.rio_format.specs.WrittenElements.{newest_or_built_in, reaches_object};
+ghost use Rattle.rio_format.specs.WrittenElements.{built_in_or_newest, reaches_object};
 
 use crate::judged::JudgedLists;
 use rio_format::{ClassLists, headed_version};
 
-fn newest_or_built_in(classes: &ClassLists, class: &[u8]) -> Option<i32>
-    ensures { result ≡ newest_or_built_in (listed classes.now) class.now }
+fn built_in_or_newest(classes: &ClassLists, class: &[u8]) -> Option<i32>
+    ensures { result ≡ built_in_or_newest (listed classes.now) class.now }
 {
     match headed_version(class) {
         Some(version) => Some(version),
@@ -26,7 +26,7 @@ pub(crate) fn reaches_object(classes: &JudgedLists, class: &[u8]) -> bool
     if class == b"TObject".as_slice() {
         return true;
     }
-    match newest_or_built_in(classes.lists(), class) {
+    match built_in_or_newest(classes.lists(), class) {
         Some(version) => classes.is_heir(class, version),
         None => false,
     }

@@ -118,13 +118,14 @@ counted_element owner name of counter =
 abbrev pub text_element : List ℕ → WrittenElement
 text_element name = element (codes "TStreamerString") (pos 2) name (pos 65) 0 (codes "TString")
 
-abbrev pub newest_or_built_in : List ClassDef → List ℕ → Option ℤ
-newest_or_built_in classes class = option_or (headed_version class) (option_map (λ c. c.version) (newest_in classes class))
+-- the built-in version of a class, or else the newest one that is declared: a list may describe a built-in class too
+abbrev pub built_in_or_newest : List ClassDef → List ℕ → Option ℤ
+built_in_or_newest classes class = option_or (headed_version class) (option_map (λ c. c.version) (newest_in classes class))
 
 -- whether the class is TObject, or has it among its bases in its newest version
 unfoldable pub reaches_object : List ClassDef → List ℕ → Bool
 reaches_object classes class =
-    bytes_eq class (codes "TObject") || option_map_or (λ version. has_base (length classes + 1) classes (codes "TObject") class version) (newest_or_built_in classes class) false
+    bytes_eq class (codes "TObject") || option_map_or (λ version. has_base (length classes + 1) classes (codes "TObject") class version) (built_in_or_newest classes class) false
 
 -- an object within the object, by whether it reaches TObject
 abbrev pub inline_element : Bool → List ℕ → List ℕ → WrittenElement

@@ -3,6 +3,7 @@ ghost use Rattle.std.specs.Prelude.{◌≡◌};
 ghost use Rattle.rio_model.specs.Declaring.{is_built_in_base, is_built_in_target, is_declared, is_known, is_reserved_name, knows_all, knows_base, knows_kind};
 ghost use Rattle.std.specs.List.{list_all};
 
+use rio_format::BuiltIn;
 use rio_types::{Base, ClassDef, Classes, Kind, Member};
 
 /// Whether the name begins with T and an upper-case letter. Such names are left to the classes that come with the
@@ -31,19 +32,25 @@ fn is_known(classes: &Classes, class: &ClassDef, name: &[u8]) -> bool
 }
 
 /// Whether the name is that of a built-in class that may be a base.
+#[tactic(auto, using(rio_format::proofs::BuiltInLaws::base_is))]
 pub(crate) fn is_built_in_base(name: &[u8]) -> bool
     ensures { result ≡ is_built_in_base name.now }
 {
-    name == b"TObject".as_slice() || name == b"TNamed".as_slice()
+    match BuiltIn::of_name(name) {
+        Some(class) => class.can_be_base(),
+        None => false,
+    }
 }
 
+// Whether it is that of a built-in class that a pointer may name: one that may be a base, or that has a header.
+#[tactic(auto, using(rio_format::proofs::BuiltInLaws::target_is))]
 fn is_built_in_target(name: &[u8]) -> bool
     ensures { result ≡ is_built_in_target name.now }
 {
-    is_built_in_base(name)
-        || name == b"TObjString".as_slice()
-        || name == b"TList".as_slice()
-        || name == b"TObjArray".as_slice()
+    match BuiltIn::of_name(name) {
+        Some(class) => class.can_be_base() || class.has_header(),
+        None => false,
+    }
 }
 
 fn knows_base(classes: &Classes, class: &ClassDef, base: &Base) -> bool
