@@ -1,5 +1,7 @@
 //! Names: short texts that contracts see as their bytes.
-ghost use Rattle.std.specs.Prelude.{◌≡◌, [], ◌∷◌, ◌++◌, ◌↔◌, length, slice_get, IsTrue, IfOk, OnOk, OnErr};
+ghost use Rattle.std.specs.Prelude.{◌≡◌, [], ◌∷◌, ◌++◌, ◌↔◌, length, nat_eq, slice_get, IsTrue, IfOk, OnOk, OnErr};
+ghost use Rattle.std.specs.Cmp.{partial_equiv_from_equiv};
+ghost use Rattle.std.specs.Cmp.Lexicographic.{nat_list_eq_equiv, pointwise};
 ghost use Rattle.std.specs.Option.{option_copied};
 
 use crate::NoMemory;
@@ -82,5 +84,15 @@ impl Name {
         ensures { IfOk result (λ name. name ≡ self.now) }
     {
         Name::from_slice(*self.bytes.allocator(), self.bytes.as_slice())
+    }
+}
+
+impl PartialEq for Name {
+    ghost eq = { λ a b. pointwise nat_eq a b };
+
+    ghost laws = { partial_equiv_from_equiv nat_list_eq_equiv };
+
+    fn eq(&self, other: &Name) -> bool {
+        self.as_slice() == other.as_slice()
     }
 }
