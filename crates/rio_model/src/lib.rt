@@ -4,7 +4,8 @@
 //!
 //! A text has three files: how it is printed (`ValueText`, `ClassText`), how it is read (`ValueGrammar`, `ClassGrammar`)
 //! and which tokens spell it (`ValueSpelling`, `ClassSpelling`). `printed_values_are_read`, `spelled_values_are_read`,
-//! `read_values_are_spelled` and `first_bad_tokens_are_told` tie those of values, and four like them those of classes.
+//! `read_values_are_spelled` and `first_bad_tokens_are_told` tie those of values, and three like the first
+//! three those of classes (the fourth, `first_bad_class_tokens_are_told`, stands in `rio_step`).
 //! `Declaring` has what may be declared, `StateClasses` the lists that come of it, and `Described` the written class
 //! list, of which `written_bytes_are_read` and `written_list_is_spelled` tell.
 #![tactic(auto)]

@@ -6,7 +6,8 @@
 //!
 //! `specs/Layout.antt` says how a format is described: as data, of which reading, spelling and the first fault are three
 //! meanings (`Meanings.antt`) that agree (`Laws.antt`, told by `meanings_agree`). The other files of `specs/` have the
-//! words of contracts: where reading stands (`At`), what it gives (`Reading`), room (`Room`), texts, and what is printed.
+//! words of contracts: where reading stands (`At`), what it gives (`Reading`), what a call answers, unless memory ran out
+//! (`Answers`), room (`Room`), texts, and what is printed.
 #![tactic(auto)]
 
 mod boxed;

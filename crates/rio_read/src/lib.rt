@@ -5,7 +5,8 @@
 //! TObjString or TArray. An object may be 256 deep.
 //!
 //! The rules of objects stand once, as descriptions, in `Objects` and `Bodies` of `rio_format`; the files of `specs/` say
-//! what the readers of this crate answer by them. `rio_stream` has the same calls with what breaks beside what is read.
+//! what the readers of this crate answer by them. `rio_stream` has `read_object` and
+//! `read_builtin` with what breaks beside what is read.
 #![tactic(auto)]
 
 mod bare;

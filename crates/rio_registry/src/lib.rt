@@ -1,11 +1,12 @@
 //! The classes that are declared, and which may follow them. Its tests stand in `rio_rows`.
 //!
 //! A `Registry` holds the declared `classes` in their order. `declare` adds one with the versions of its bases, or answers
-//! the first `DeclareFault`: a class that isn't known, a version that is there, or an object that would hold one of its
-//! own class. `judge` tells the same and adds nothing; `forget_last` takes the last one out again.
+//! the first `DeclareFault`: a class that isn't known, a version that is there, an object that would hold one of its
+//! own class, or one class too many. `judge` tells the same and adds nothing; `forget_last` takes the last one out again.
 //!
 //! What may be declared stands in `Declaring` of `rio_model`; `specs/Fronts.antt` and `Reaching.antt` say how a class is
-//! judged without a look at all the others. `is_reserved_name` tells which names come with the format.
+//! judged without a look at all the others. `is_reserved_name` tells which names are left to the
+//! classes that come with the format.
 #![tactic(auto)]
 
 mod judge;
