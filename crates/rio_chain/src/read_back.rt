@@ -27,6 +27,6 @@ impl Chain {
         let n = self.segments[at].length();
         let mut bytes = vec![in alloc; 0u8; n as usize]?;
         host.read(place, &mut bytes)?;
-        Ok(Bytes::from_slice(alloc, &bytes)?)
+        Ok(Bytes::from(bytes))
     }
 }

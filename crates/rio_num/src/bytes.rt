@@ -29,6 +29,18 @@ impl Model for Bytes {
     ghost invariant = { λ b. vec_len b.items + b.spare ≤ vec_capacity b.items };
 }
 
+impl From<Vec<u8>> for Bytes {
+    ghost use Rattle.std.specs.Prelude.{◌≡◌};
+    ghost use Rattle.rio_num.specs.Room.{room_of};
+
+    ghost from_gives = { λ items bytes. bytes ≡ room_of items.items };
+
+    /// The bytes of a list, which isn't copied.
+    fn from(items: Vec<u8>) -> Bytes {
+        Bytes { items, spare: 0 }
+    }
+}
+
 impl Bytes {
     ghost use Rattle.std.specs.Prelude.{◌≡◌, ◌+◌, ◌<◌, ◌≤◌, ◌^◌, ◌↔◌, [], ◌∷◌, ◌++◌, max, length, slice_get, IsTrue, OnOk, OnErr, IfOk};
     ghost use Rattle.std.specs.Option.{option_copied};
