@@ -1,5 +1,5 @@
 -- The classes that have a TObject among their bases, and how they are found.
-use Rattle.std.specs.Prelude.{◌≡◌, ℕ, ◌+◌, ℤ, List, [], ◌∷◌, ◌++◌, length, map, codes, Bool, true, ◌||◌}
+use Rattle.std.specs.Prelude.{◌≡◌, ℕ, ◌+◌, ℤ, List, ◌++◌, length, map, codes, Bool, true, ◌||◌}
 use Rattle.std.specs.List.{All, list_any}
 use Rattle.std.specs.Str.{bytes_eq}
 use Rattle.rio_types.specs.declared.class.Base.{Base}

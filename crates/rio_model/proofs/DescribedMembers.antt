@@ -1,9 +1,9 @@
 -- The elements of members are read as these members.
-use Rattle.std.proofs.Common.{◌≡◌, ◌⊎◌, inl, inr, ◌∙◌, ℕ, ◌+◌, pos, List, [], ◌∷◌, ◌++◌, codes, length, map, Bool, true, false, ◌==◌, ◌&&◌, ◌||◌, not, leb, Option, Some, None, refl, sym, ap, arith, suc, eqb-true, if◌then◌else◌}
+use Rattle.std.proofs.Common.{◌≡◌, inl, inr, ◌∙◌, ℕ, ◌+◌, pos, List, [], ◌∷◌, ◌++◌, codes, length, map, Bool, true, false, ◌==◌, ◌&&◌, ◌||◌, not, leb, Option, Some, None, refl, sym, ap, arith, suc, eqb-true, if◌then◌else◌}
 use Rattle.std.specs.List.{list_any}
 use Rattle.std.specs.Ordering.{int_eq}
 use Rattle.std.specs.Str.{bytes_eq}
-use Rattle.std.proofs.lemmas.Bool.{and_parts}
+use Rattle.std.proofs.lemmas.Bool.{and_parts, or_cases, or_left, or_right}
 use Rattle.std.proofs.lemmas.Bool.Decides.{nat_tests}
 use Rattle.std.proofs.lemmas.List.Folds.{list_any-append}
 use Rattle.rio_num.specs.Word.{is_name_text}
@@ -107,29 +107,17 @@ kind_read context owner before after counters name (Other code) counts h = absur
 
 -- ---- the counters so far
 
-or_cases : (a b : Bool) → (a || b) ≡ true → (a ≡ true) ⊎ (b ≡ true)
-or_cases true b h = inl refl
-or_cases false b h = inr h
-
 or_none : (a : Bool) → (a || false) ≡ true → a ≡ true
 or_none true h = refl
 or_none false h = h
 
-or_behind : (a b : Bool) → b ≡ true → (a || b) ≡ true
-or_behind true b h = refl
-or_behind false b h = h
-
-or_front : (a b : Bool) → a ≡ true → (a || b) ≡ true
-or_front true b h = refl
-or_front false b h = absurd (cc)
-
 still_counts : (counts : Bool) (name new : List ℕ) (counters : List (List ℕ)) → list_any (bytes_eq name) counters ≡ true → list_any (bytes_eq name) (with_counter counts new counters) ≡ true
-still_counts true name new counters h = or_behind (bytes_eq name new) (list_any (bytes_eq name) counters) h
+still_counts true name new counters h = or_right (bytes_eq name new) (list_any (bytes_eq name) counters) h
 still_counts false name new counters h = h
 
 newly_counts : (counts : Bool) (name new : List ℕ) (counters : List (List ℕ)) → (bytes_eq new name && counts) ≡ true → list_any (bytes_eq name) (with_counter counts new counters) ≡ true
 newly_counts true name new counters h =
-    or_front (bytes_eq name new) (list_any (bytes_eq name) counters) (bytes_eq-sym name new ∙ (and_parts (bytes_eq new name) true h).0)
+    or_left (bytes_eq name new) (list_any (bytes_eq name) counters) (bytes_eq-sym name new ∙ (and_parts (bytes_eq new name) true h).0)
 newly_counts false name new counters h = absurd (let bad = (and_parts (bytes_eq new name) false h).1 in cc)
 
 counts_more : (before : List Member) (m : Member) (counters : List (List ℕ)) → Counts before counters → Counts (before ++ m ∷ []) (with_counter (is_counter m.kind) m.name counters)

@@ -1,9 +1,10 @@
 -- What is printed of a value is read as the value, by induction on the value.
-use Rattle.std.proofs.Common.{◌≡◌, ◌⊎◌, inl, inr, ℕ, suc, ◌+◌, ◌^◌, ◌<◌, ◌≤◌, ℤ, pos, List, [], ◌∷◌, ◌++◌, codes, map, length, Bool, true, false, ◌==◌, ◌&&◌, if◌then◌else◌, Ok, refl, ◌∙◌, ap, arith, subst, append_assoc, length-append}
+use Rattle.std.proofs.Common.{◌≡◌, ◌⊎◌, inl, inr, ℕ, suc, ◌+◌, ◌^◌, ◌<◌, ◌≤◌, ℤ, pos, List, [], ◌∷◌, ◌++◌, codes, map, length, Bool, true, false, ◌==◌, if◌then◌else◌, Ok, refl, ◌∙◌, ap, arith, subst, append_assoc, length-append}
 use Rattle.std.specs.Fmt.{decimal}
 use Rattle.std.specs.List.{list_all}
 use Rattle.std.proofs.lemmas.Bool.{and_parts, eqb-true}
 use Rattle.std.proofs.lemmas.Bool.Decides.{nat_tests}
+use Rattle.std.proofs.Math.Bool.{and-false}
 use Rattle.rio_num.specs.At.{AreBytes, At}
 use Rattle.rio_num.specs.Reading.{◌>>=◌}
 use Rattle.rio_num.specs.Printed.{name_text, string_text}
@@ -292,9 +293,6 @@ readable_texts levels front (e ∷ es) h first =
     let is = and_parts (if length e.0.name == 0 then front else true) (are_bases_first (length e.0.name == 0) (map (λ (p : Part). p.name) (map (λ (e : KnownPart). e.0) es))) first in
     by (length e.0.name == 0) refl is.0 own.1 (e.1 levels own.0) (readable_texts levels (length e.0.name == 0) es all.1 is.1)
   where
-    never : (b : Bool) → (b && false) ≡ false
-    never true = refl
-    never false = refl
 
     by : (b : Bool) → (length e.0.name == 0) ≡ b → (if b then front else true) ≡ true → (if b then (readability_of e.0.value).object else is_name_text e.0.name) ≡ true
         → ValueBack levels e.0.value → part_texts b (map printed_part (map (λ e. e.0) es)) ≡ map text_of_part (map (λ e. e.0) es)
@@ -303,7 +301,7 @@ readable_texts levels front (e ∷ es) h first =
         let lone = (back.object own).lone in
         rw (stands, b, lone) (ap (λ (ts : List (List ℕ)). text_of_value e.0.value ∷ ts) rest)
     by false b stands own back rest =
-        rw (b, never front) (ap (λ (ts : List (List ℕ)). (name_text e.0.name ++ codes ": " ++ text_of_value e.0.value) ∷ ts) rest)
+        rw (b, and-false front) (ap (λ (ts : List (List ℕ)). (name_text e.0.name ++ codes ": " ++ text_of_value e.0.value) ∷ ts) rest)
 
 part_back : (levels : ℕ) (e : KnownPart) → part_within e.0.name (readability_of e.0.value) levels ≡ true → (p q : ℕ) (rest : List ℕ) → Follows rest → q ≡ p + length (text_of_part e.0)
     → part_at (enclosed_at levels) (at p (text_of_part e.0 ++ rest)) ≡ Ok (e.0, at q rest)
