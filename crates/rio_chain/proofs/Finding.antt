@@ -8,7 +8,7 @@ use Rattle.rio_chain.specs.Segments.{IsRecord, IsFirst, HasWord}
 use Rattle.rio_chain.specs.Found.{FindsKey, FindsKeyAt, FindsRecord, FindsWord, IsKeyOf, IsFirstBy}
 use Rattle.rio_chain.proofs.Words.{word_one, word_within}
 
-some_same : (a b : KeyHead) → Some a ≡ Some b → a ≡ b
+pub some_same : (a b : KeyHead) → Some a ≡ Some b → a ≡ b
 some_same a b e = cc
 
 -- ---- a whole record

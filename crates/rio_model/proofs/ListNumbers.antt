@@ -1,5 +1,5 @@
 -- Which classes have numbers that their elements can hold.
-use Rattle.std.proofs.Common.{◌≡◌, ◌≤◌, ◌<◌, ◌∙◌, ◌&&◌, ◌==◌, ◌^◌, ◌*◌, not, ℕ, ℤ, pos, negsuc, true, List, [], ◌∷◌, ◌++◌, length, refl, arith, nat_lt, nat_le, int_le}
+use Rattle.std.proofs.Common.{◌≡◌, ◌≤◌, ◌<◌, ◌∙◌, ◌&&◌, ◌==◌, ◌^◌, ◌*◌, not, ℕ, true, List, [], ◌∷◌, ◌++◌, length, refl, arith, nat_lt, nat_le}
 use Rattle.std.proofs.lemmas.Bool.{and_from, leb-true, lt-ltb}
 use Rattle.std.proofs.lemmas.List.Folds.{list_all-append}
 use Rattle.std.specs.List.{list_all}
@@ -16,16 +16,10 @@ use Rattle.rio_format.proofs.Tests.{both_true}
 use Rattle.rio_model.specs.ClassGrammar.{has_member, primitive_of}
 use Rattle.rio_model.specs.Stated.{has_stated_parts, are_stated_bases, are_stated_members, is_class_version, is_stated_kind, is_stated_member}
 use Rattle.rio_model.specs.Described.{DescribedHaveNumbers, HaveNumbers, WrittenAreDescribed, WrittenHaveNumbers, has_class_numbers, has_numbers, is_base_number, is_described, kind_has_numbers, member_has_numbers}
+use Rattle.rio_model.proofs.DescribedClasses.{version_fits}
 use Rattle.rio_format.specs.TreeClasses.{branch_members, leaf_members, object_branch_members, tree_classes, tree_members}
 
 -- ---- classes that a declaration can give
-
-version_fits : (version : ℤ) → is_class_version version ≡ true → fits_signed 32 version ≡ true
-version_fits (pos n) e =
-    let h = both_true (int_le (pos 1) (pos n)) (int_le (pos n) (pos 32767)) e in
-    let low : n ≤ 32767 = leb-true n 32767 h.1 in
-    lt-ltb n (2 ^ 31) (omega (arith, low))
-version_fits (negsuc n) e = absurd cc
 
 size_low : (of : Primitive) (count : ℕ) → count ≤ 100000 → width_of of * count < 2 ^ 31
 size_low I8 count low = omega (arith, low)

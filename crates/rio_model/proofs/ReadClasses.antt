@@ -161,17 +161,17 @@ readable_kind before (Pointer class) name after known h = h
 readable_kind before (Other code) name after known h = absurd (cc)
 
 -- what a stated member keeps to
-record Stated (before : List Member) (m : Member) (after : List Member) : Type 0 where
-  named : is_name_text m.name ≡ true
-  new : has_member before m.name ≡ false
-  kind : is_stated_kind before m.name after m.kind ≡ true
-  title : m.title ≡ []
+pub record Stated (before : List Member) (m : Member) (after : List Member) : Type 0 where
+  pub named : is_name_text m.name ≡ true
+  pub new : has_member before m.name ≡ false
+  pub kind : is_stated_kind before m.name after m.kind ≡ true
+  pub title : m.title ≡ []
 
-empty_title : (t : List ℕ) → (length t == 0) ≡ true → t ≡ []
+pub empty_title : (t : List ℕ) → (length t == 0) ≡ true → t ≡ []
 empty_title [] h = refl
 empty_title (b ∷ bs) h = absurd (let e : suc (length bs) ≡ 0 = eqb-true (suc (length bs)) 0 h in omega (arith, e))
 
-stated_parts : (before : List Member) (m : Member) (after : List Member) → is_stated_member before m after ≡ true → Stated before m after
+pub stated_parts : (before : List Member) (m : Member) (after : List Member) → is_stated_member before m after ≡ true → Stated before m after
 stated_parts before m after h =
     let outer = and_parts (is_name_text m.name && not (has_member before m.name) && is_stated_kind before m.name after m.kind) (length m.title == 0) h in
     let middle = and_parts (is_name_text m.name && not (has_member before m.name)) (is_stated_kind before m.name after m.kind) outer.0 in

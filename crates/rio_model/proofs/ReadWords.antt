@@ -147,7 +147,7 @@ hex_back k n h =
 abbrev pub bits_word : ℕ → ℕ → List ℕ
 bits_word k n = codes "0x" ++ hex_text (big_bytes k n)
 
-not_empty : (b : ℕ) (bs : List ℕ) → (length (b ∷ bs) == 0) ≡ false
+pub not_empty : (b : ℕ) (bs : List ℕ) → (length (b ∷ bs) == 0) ≡ false
 not_empty b bs = grind (arith, nat_tests)
 
 bits_no_number : (ds : List ℕ) → number_of (48 ∷ 120 ∷ ds) ≡ None

@@ -1,8 +1,8 @@
 -- The names of a file's objects and trees, kept in two tables.
-use Rattle.std.proofs.Common.{◌≡◌, ◌∙◌, ℕ, ◌+◌, List, [], ◌∷◌, ◌++◌, Bool, true, false, cond, not, ◌&&◌, ◌||◌, ltb, Option, Some, None, Bor, refl, sym, ap, arith}
+use Rattle.std.proofs.Common.{◌≡◌, ◌∙◌, ℕ, ◌+◌, List, [], ◌∷◌, ◌++◌, Bool, true, false, cond, not, ◌&&◌, ◌||◌, ltb, refl, sym, ap, arith}
 use Rattle.std.proofs.lemmas.Bool.Decides.{nat_tests}
 use Rattle.std.specs.List.{find, list_any}
-use Rattle.std.specs.Option.{is_some, option_copied}
+use Rattle.std.specs.Option.{is_some}
 use Rattle.std.specs.Str.{bytes_eq}
 use Rattle.std.proofs.Math.Bool.{and-false, and-true, or-false}
 use Rattle.rio_key.specs.declared.head.KeyHead.{KeyHead}
@@ -13,10 +13,6 @@ use Rattle.rio_recover.specs.Keys.{keyed}
 use Rattle.rio_recover.specs.Names.{IndexesNames}
 use Rattle.rio_recover.specs.declared.names.NameIndex.{NameIndex}
 use Rattle.rio_recover.proofs.Tables.{any-append, any_put, any_same, greatest_above, or_turned, some_found}
-
-pub some_copied : {X : Type 0} (o : Option (Bor X)) → is_some (option_copied o) ≡ is_some o
-some_copied None = refl
-some_copied (Some x) = refl
 
 -- ---- one key more
 

@@ -103,7 +103,7 @@ module _ (tops new : List KeyedRecord) (r : KeyedRecord) (h : HasOneMoreIn tops 
 
 -- ---- objects
 
-any_filter : (p q : KeyedRecord → Bool) (rs : List KeyedRecord) → list_any p rs ≡ false → list_any p (filter q rs) ≡ false
+pub any_filter : (p q : KeyedRecord → Bool) (rs : List KeyedRecord) → list_any p rs ≡ false → list_any p (filter q rs) ≡ false
 any_filter p q rs none = none_from p (filter q rs) (λ s i e. none_at p s rs none (filter_in q s rs i).0 e)
 
 objects_hold : (classes : List ClassDef) (m : State) (tops new : List KeyedRecord) (r : KeyedRecord) (v : Value) → HasOneMoreIn tops new r → IsNewObject classes tops r v
