@@ -30,6 +30,7 @@ use Rattle.rio_effect.specs.Laws.{KeysNameObjects, KeysStandForState}
 use Rattle.rio_state.proofs.KeyRecords.{ObjectOf, TreeOf, holder, key_record, object_of, record_key}
 use Rattle.rio_state.proofs.Members.{In, all_at, any_from, in_contained, in_map, map_in}
 use Rattle.rio_effect.proofs.ReadClasses.{object_is_read}
+use Rattle.rio_effect.proofs.NextCycles.{some_of}
 
 -- ---- one order
 
@@ -207,10 +208,6 @@ pub keys_stand_for_state : KeysStandForState
 keys_stand_for_state records heads m are is = keys_stand records heads m are is
 
 -- ---- the object of a key
-
-some_of : {A : Type 0} (o : Option A) → is_some o ≡ true → (x : A) × (o ≡ Some x)
-some_of None e = absurd cc
-some_of (Some x) e = (x, refl)
 
 pub keys_name_objects : KeysNameObjects
 keys_name_objects heads m head are c =

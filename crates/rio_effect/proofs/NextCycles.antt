@@ -58,7 +58,7 @@ greatest_high (y ∷ ys) x (inr i) = let rest = greatest_high ys x i in omega (a
 
 -- ---- items of a state
 
-some_of : {A : Type 0} (o : Option A) → is_some o ≡ true → (x : A) × (o ≡ Some x)
+pub some_of : {A : Type 0} (o : Option A) → is_some o ≡ true → (x : A) × (o ≡ Some x)
 some_of None e = absurd cc
 some_of (Some x) e = (x, refl)
 

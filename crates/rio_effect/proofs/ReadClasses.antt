@@ -1,6 +1,6 @@
 -- The class of an object that a record holds is that of the record's key.
 use Rattle.std.proofs.Common.{◌≡◌, ℕ, ℤ, ◌==◌, ◌∙◌, List, [], ◌∷◌, ◌++◌, length, slice_get, Bool, true, false, cond, ◌&&◌, Option, Some, None, Ok, Err, refl, sym, ap, subst}
-use Rattle.std.specs.Prelude.{if◌then◌else◌, is_some, unwrap_or}
+use Rattle.std.specs.Prelude.{if◌then◌else◌, unwrap_or}
 use Rattle.std.specs.Str.{bytes_eq}
 use Rattle.std.proofs.lemmas.Bool.{and_parts}
 use Rattle.std.proofs.lemmas.Slice.Eq.{bytes_eq-Decides}
@@ -18,6 +18,7 @@ use Rattle.rio_format.specs.Slots.{kinded}
 use Rattle.rio_state.specs.Contents.{can_be_stored, is_padding, object_in, stored_in}
 use Rattle.rio_state.specs.KeyedRecords.{KeyedRecord, record_data}
 use Rattle.rio_step.specs.Refusing.{object_class}
+use Rattle.rio_effect.proofs.NextCycles.{some_of}
 
 abbrev fit_layer : List ClassDef → Value-F Value Part → Fitting
 fit_layer classes x =
@@ -61,14 +62,10 @@ layer_class classes layer.Null class labels after e = absurd cc
 layer_class classes (layer.Back label) class labels after e = absurd (no_reference classes (slice_get labels label) class labels after e)
 layer_class classes (layer.Opaque own len) class labels after e = absurd cc
 
-some_there : {A : Type 0} (x : Option A) → is_some x ≡ true → (a : A) × (x ≡ Some a)
-some_there None e = absurd cc
-some_there (Some a) e = (a, refl)
-
 -- what fits a class is an object of it
 pub fits_class : (classes : List ClassDef) (class : List ℕ) (v : Value) → fits classes class v ≡ true → object_class v ≡ Some class
 fits_class classes class v e =
-    let there = some_there ((fitting_of classes v).fits (kinded (Inline class)) []) e in
+    let there = some_of ((fitting_of classes v).fits (kinded (Inline class)) []) e in
     let fit = fold_out-Value Fitting (List ℕ × Fitting) (fitting_step classes) (λ p. (p.name, p.value)) v in
     layer_class classes (out-Value v) class [] there.0 (subst (λ (f : Fitting). f.fits (kinded (Inline class)) [] ≡ Some there.0) fit there.1)
 

@@ -17,7 +17,7 @@ use Rattle.rio_model.specs.Declaring.{IsWay, Reaches, any_inline, any_within, ha
 
 -- ---- tests
 
-or_cases : {P : Type 0} (a b : Bool) → (a ≡ true → P) → (b ≡ true → P) → (a || b) ≡ true → P
+pub or_cases : {P : Type 0} (a b : Bool) → (a ≡ true → P) → (b ≡ true → P) → (a || b) ≡ true → P
 or_cases true b f g e = f refl
 or_cases false b f g e = g e
 

@@ -17,9 +17,8 @@ use Rattle.rio_types.specs.declared.kind.Kind.TheVariants.{Inline}
 use Rattle.rio_model.specs.Declaring.{IsClosed, IsWay, Reaches, base_declared, declare_fault, declared, has_within, holds, holds_itself, is_built_in_base, is_declared, is_inline, is_known, knows_all, knows_base, knows_kind, limit_fault}
 use Rattle.rio_model.specs.declared.declare.DeclareFault.{DeclareFault}
 use Rattle.rio_model.specs.declared.declare.DeclareFault.TheVariants.{HoldsItself, NoSuchClass, SameVersion}
-use Rattle.rio_model.proofs.ReachLaws.{reaching_is_a_way}
+use Rattle.rio_model.proofs.ReachLaws.{or_cases, reaching_is_a_way}
 use Rattle.rio_registry.specs.Fronts.{AreClosed}
-use Rattle.rio_registry.proofs.Ways.{or_cases}
 
 -- ---- tests
 

@@ -17,13 +17,10 @@ use Rattle.rio_types.specs.declared.class.Member.{Member}
 use Rattle.rio_types.specs.declared.kind.Kind.{Kind}
 use Rattle.rio_types.specs.declared.kind.Kind.TheVariants.{Plain, Counter, Fixed, Counted, Text, Inline, Pointer, Other}
 use Rattle.rio_model.specs.Declaring.{IsWay, Reaches, has_within, holds, is_inline}
+use Rattle.rio_model.proofs.ReachLaws.{or_cases}
 use Rattle.rio_registry.specs.Reaching.{ComesTo, IsGrown, is_among}
 
 -- ---- tests
-
-pub or_cases : {P : Type 0} (a b : Bool) → (a ≡ true → P) → (b ≡ true → P) → (a || b) ≡ true → P
-or_cases true b f g e = f refl
-or_cases false b f g e = g e
 
 past : {X : Type 0} (xs : List X) (i : ℕ) → None ≡ slice_get xs i → length xs ≤ i
 past xs i e = elim (slice_get_cases xs i).1 [ inl w ↦ absurd (cc (e, w.2)) | inr w ↦ w.0 ]

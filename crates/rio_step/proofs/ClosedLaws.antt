@@ -2,7 +2,7 @@
 use Rattle.std.proofs.Common.{◌≡◌, ℕ, List, [], ◌∷◌, map, Bool, true, false, cond, not, ◌||◌, ◌⊎◌, inl, inr, Option, Some, None, refl, sym, ap, ◌∙◌}
 use Rattle.std.specs.FinMap.{entries, find, get, get-entries, get-from_entries, get-insert, insert}
 use Rattle.std.specs.List.{filter, fold, list_any}
-use Rattle.std.specs.Option.{option_map, option_map_or, unwrap_or}
+use Rattle.std.specs.Option.{option_map, option_map_or}
 use Rattle.std.specs.Ordering.{eq_by_cmp}
 use Rattle.std.proofs.lemmas.Bool.{eqb-true, false_from_ne_true, not-false, or_from, or_right}
 use Rattle.std.proofs.lemmas.List.{nil_from_length}
@@ -14,6 +14,7 @@ use Rattle.rio_machine.specs.declared.command.Command.TheVariants.{Save}
 use Rattle.rio_step.specs.Laws.{ClosedHasNonePending, SavedKeepsTheRest}
 use Rattle.rio_step.specs.Runs.{closed_of, closing_saves, has_pending, saved_of, saved_tree}
 use Rattle.rio_step.specs.Step.{state_behind, tree_saved, with_tree}
+use Rattle.rio_step.proofs.FitStays.{same_some}
 
 abbrev Named : Type 0
 Named = List ℕ × Tree
@@ -21,9 +22,6 @@ Named = List ℕ × Tree
 -- the tree is saved, or it is as it was and isn't among the saved ones
 abbrev Closes : State → List Named → List ℕ → Tree → Type 0
 Closes m es name t = (t.pending ≡ []) ⊎ ((get m.trees name ≡ Some t) × (list_any (λ e. eq_by_cmp name_order name e.0) es ≡ false))
-
-same_some : {A : Type 0} (x y : A) → Some x ≡ Some y → x ≡ y
-same_some x y e = ap (λ o. unwrap_or o x) e
 
 abbrev saves : List Named → List Command
 saves es = map (λ e. Save e.0) es

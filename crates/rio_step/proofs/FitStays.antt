@@ -28,7 +28,7 @@ use Rattle.rio_step.specs.Laws.{AllFit, AllStayFit, FitsStay}
 use Rattle.rio_step.specs.Refusing.{FullMark, fill_row, is_bad_row, is_fit, is_unfit, object_class, put_value, refusal_of, refusals, rows_of_tree}
 use Rattle.rio_step.specs.Step.{by_refusal, new_tree, state_behind, step, tree_filled, tree_saved, with_tree, without_item}
 
-same_some : {A : Type 0} (x y : A) → Some x ≡ Some y → x ≡ y
+pub same_some : {A : Type 0} (x y : A) → Some x ≡ Some y → x ≡ y
 same_some x y e = ap (λ o. unwrap_or o x) e
 
 -- ---- one class more
@@ -68,7 +68,7 @@ module _ (classes : List ClassDef) (class : ClassDef) where
 pub fits_stay : FitsStay
 fits_stay classes class own v e = stands_more classes class (kinded (Inline own)) v e
 
-all_pushed : (p : Row → Bool) (rows : List Row) (row : Row) → list_all p rows ≡ true → p row ≡ true → list_all p (rows ++ row ∷ []) ≡ true
+pub all_pushed : (p : Row → Bool) (rows : List Row) (row : Row) → list_all p rows ≡ true → p row ≡ true → list_all p (rows ++ row ∷ []) ≡ true
 all_pushed p [] row all e = and_from _ _ e refl
 all_pushed p (r ∷ rs) row all e = let parts = and_parts (p r) (list_all p rs) all in and_from _ _ parts.0 (all_pushed p rs row parts.1 e)
 

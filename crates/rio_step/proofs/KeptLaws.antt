@@ -1,7 +1,7 @@
 -- No command but a delete takes an object or a row away.
 use Rattle.std.proofs.Common.{◌≡◌, ℕ, List, [], ◌∷◌, Bool, true, false, cond, Option, Some, None, refl, sym, ap, ◌∙◌, append_assoc}
 use Rattle.std.specs.FinMap.{get, get-insert, insert}
-use Rattle.std.specs.Option.{is_some, option_map_or, unwrap_or}
+use Rattle.std.specs.Option.{is_some, option_map_or}
 use Rattle.std.specs.Ordering.{eq_by_cmp}
 use Rattle.std.proofs.lemmas.List.{append-nil}
 use Rattle.std.proofs.lemmas.Map.Views.{tells_apart}
@@ -17,9 +17,7 @@ use Rattle.rio_step.proofs.StepLaws.{next_is_free}
 use Rattle.rio_step.specs.Laws.{HasRowsOf, Keeps, KeepsRows, NothingIsLost, is_delete}
 use Rattle.rio_step.specs.Refusing.{FullMark, fill_row, put_value, refusal_of, rows_of_tree}
 use Rattle.rio_step.specs.Step.{by_refusal, new_tree, state_behind, step, tree_filled, tree_saved, with_tree}
-
-same_some : {A : Type 0} (x y : A) → Some x ≡ Some y → x ≡ y
-same_some x y e = ap (λ o. unwrap_or o x) e
+use Rattle.rio_step.proofs.FitStays.{same_some}
 
 -- ---- objects
 

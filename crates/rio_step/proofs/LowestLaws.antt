@@ -1,7 +1,6 @@
 -- The refusal that is told is the one of the lowest number.
 use Rattle.std.proofs.Common.{◌≡◌, ◌<◌, ◌≤◌, ℕ, zero, suc, ◌+◌, ◌-◌, List, [], ◌∷◌, length, Bool, true, false, Option, Some, None, Ok, Err, refl, sym, ap, subst, ◌∙◌, arith}
 use Rattle.std.specs.List.{slice_get}
-use Rattle.std.specs.Prelude.{unwrap_or}
 use Rattle.rio_machine.specs.RefusalText.{refusal_number}
 use Rattle.rio_machine.specs.State.{State}
 use Rattle.rio_machine.specs.declared.command.Command.{Command}
@@ -11,6 +10,7 @@ use Rattle.rio_step.specs.Laws.{LowestIsTold}
 use Rattle.rio_step.specs.Mapping.{Mapped}
 use Rattle.rio_step.specs.Refusing.{FullMark, bad_line, change_in, first_of, kind_change, marked_full, meant_object, refusal_of, refusals, refused_if, rows_of_tree, rows_seen_in, seen_in}
 use Rattle.rio_step.specs.declared.fault.MapFault.TheVariants.{KindChanged as Changed, NoVersion, NoMemory}
+use Rattle.rio_step.proofs.FitStays.{same_some}
 use Rattle.std.specs.FinMap.{get}
 use Rattle.std.specs.Prelude.{option_and_then}
 
@@ -23,9 +23,6 @@ AreNumbered : ℕ → List (Option Refusal) → Type 0
 unfolding HasNumber
 AreNumbered n [] = Unit {0}
 AreNumbered n (x ∷ xs) = HasNumber n x × AreNumbered (suc n) xs
-
-same_some : {A : Type 0} (x y : A) → Some x ≡ Some y → x ≡ y
-same_some x y e = ap (λ o. unwrap_or o x) e
 
 Told : ℕ → List (Option Refusal) → Refusal → Type 0
 Told n xs r = (n ≤ refusal_number r) × (slice_get xs (refusal_number r - n) ≡ Some (Some r)) × ((k : ℕ) → k + n < refusal_number r → slice_get xs k ≡ Some None)

@@ -32,7 +32,7 @@ use Rattle.rio_step.proofs.DeclaredLaws.{classes_stay_declared}
 use Rattle.rio_step.specs.Statable.{is_statable}
 use Rattle.rio_step.specs.Refusing.{FullMark, fill_row, goes_too_deep, has_too_many, is_at_last_cycle, is_list_name, is_too_large, lacks_class, put_value, refusal_of, refusals}
 use Rattle.rio_step.proofs.FitLaws.{put_more}
-use Rattle.rio_step.proofs.FitStays.{columns_more, object_more, unrefused_fit, unrefused_row}
+use Rattle.rio_step.proofs.FitStays.{all_pushed, columns_more, object_more, same_some, unrefused_fit, unrefused_row}
 use Rattle.rio_step.proofs.WritingLaws.{slot_written, written_same}
 use Rattle.std.specs.Str.{bytes_eq}
 use Rattle.std.proofs.lemmas.Map.Views.{tells_apart}
@@ -139,9 +139,6 @@ record Holds (m : State) : Type 0 where
   tree_names : (name : List ℕ) (t : Tree) → get m.trees name ≡ Some t → IsStoredName name t.cycle
   trees : (name : List ℕ) (t : Tree) → get m.trees name ≡ Some t → IsStoredTree m.classes t
 
-same_some : {A : Type 0} (x y : A) → Some x ≡ Some y → x ≡ y
-same_some x y e = ap (λ o. unwrap_or o x) e
-
 -- what holds of the entries of a map, and of one that is put into it or taken out of it
 object_put_in : (m : State) (item : NameAndCycle) (v : Value) (P : NameAndCycle → Value → Type 0) → ((k : NameAndCycle) (w : Value) → get m.objects k ≡ Some w → P k w) → P item v
     → (k : NameAndCycle) (w : Value) → get (insert m.objects item v) k ≡ Some w → P k w
@@ -247,10 +244,6 @@ tree_made_in m name branches mark stated e h =
     let many = not_refused (has_too_many m (MakeTree name branches)) TooMany (none_at tests 17 e) in
     tree_in m name (new_tree branches) (record { item = parts.0; free = free; first = omega arith; last = omega arith })
     (record { stated = parts.1; few = (or_parts _ _ many).1; known = classes; rows = refl }) h
-
-all_pushed : (p : Row → Bool) (rows : List Row) (row : Row) → list_all p rows ≡ true → p row ≡ true → list_all p (rows ++ row ∷ []) ≡ true
-all_pushed p [] row all e = and_from _ _ e refl
-all_pushed p (r ∷ rs) row all e = let parts = and_parts (p r) (list_all p rs) all in and_from _ _ parts.0 (all_pushed p rs row parts.1 e)
 
 row_in : (m : State) (name : List ℕ) (row : Row) (mark : Option FullMark) → refusal_of m (Fill name row) mark ≡ None → Holds m → Holds (state_behind m (Fill name row))
 unfolding refusal_of
