@@ -3,7 +3,7 @@ use Rattle.std.proofs.Common.{◌≡◌, ◌≢◌, ◌⊎◌, inl, inr, ℕ, ze
 use Rattle.std.specs.Prelude.{MatchBool}
 use Rattle.std.specs.Cmp.Lexicographic.{told_text}
 use Rattle.std.proofs.lemmas.Bool.{cases_lt}
-use Rattle.std.proofs.lemmas.Option.{none-some}
+use Rattle.std.proofs.lemmas.Option.{none-some, same_Some}
 use Rattle.byteorder.specs.Endian.{big_number}
 use Rattle.byteorder.specs.Numbers.{big_from-lt}
 use Rattle.rio_num.specs.At.{At, AreBytes}
@@ -25,7 +25,6 @@ use Rattle.rio_chain.proofs.Links.{IsBadLength, bad_length, large_length, no_fir
 use Rattle.rio_chain.proofs.Chains.{end-append}
 use Rattle.rio_chain.proofs.SoFar.{links-append}
 use Rattle.rio_chain.proofs.OneChain.{IsStuck}
-use Rattle.rio_chain.proofs.Finding.{some_same}
 
 -- it holds, or it doesn't
 abbrev Either : Type 0 → Type 0
@@ -89,7 +88,7 @@ record_or_not place bytes fits = by (key_or_none bytes fits).0 (key_or_none byte
         elim tests [
           | inl t ↦ inl (record { head = h; key = key; small = t.0; seek = t.1.0; nbytes = nbytes ∙ ap (λ (k : ℕ). pos k) t.1.1.0; parts = t.1.1.1.0; aligned = t.1.1.1.1 })
           | inr t ↦ inr (λ r.
-              let same = some_same h r.head (f.only r.head r.key) in
+              let same = same_Some h r.head (f.only r.head r.key) in
               let as_h : IsRecordOf h place bytes = subst (λ (k : KeyHead). IsRecordOf k place bytes) (sym same) (r.small, (r.seek, (r.nbytes, (r.parts, r.aligned)))) in
               t (as_h.0, (as_h.1.0, (pos_same parts.fields.nbytes (length bytes) (sym nbytes ∙ as_h.1.1.0), (as_h.1.1.1.0, as_h.1.1.1.1)))))
         ]
@@ -116,14 +115,14 @@ first_or_not file bytes fits = by (key_or_none bytes fits).0 (key_or_none bytes 
       where
         at : (r : Result At Short) → texts_end_at h.keylen bytes ≡ r → Either (IsFirst file bytes)
         at (Err e) is = inr (λ r.
-            let same = some_same h r.head (f.only r.head r.key) in
+            let same = same_Some h r.head (f.only r.head r.key) in
             let texts = ap (λ (k : KeyHead). texts_end_at k.keylen bytes) same ∙ r.texts in
             let clash = sym is ∙ texts in cc)
         at (Ok d) is =
             elim (both (text_or_not h.class (codes "TFile")) (both (low_or_not 60 (length d.rest)) (both (low_or_not (big_number 2 d.rest) 1000) (word_or_not file 28 d.place)))) [
               | inl t ↦ inl (record { head = h; key = f.found_is; class = t.0; directory = d; texts = is; room = t.1.0; small = t.1.1.0; nbytes_name = t.1.1.1 })
               | inr t ↦ inr (λ r.
-                  let same = some_same h r.head (f.only r.head r.key) in
+                  let same = same_Some h r.head (f.only r.head r.key) in
                   let texts = ap (λ (k : KeyHead). texts_end_at k.keylen bytes) same ∙ r.texts in
                   let there : d ≡ r.directory = ok_is {E = Short} d r.directory (sym is ∙ texts) in
                   t (ap (λ (k : KeyHead). k.class) same ∙ r.class, (omega (arith, r.room, ap (λ (s : At). length s.rest) there), (omega (arith, r.small, ap (λ (s : At). big_number 2 s.rest) there), subst (λ (s : At). HasWord file 28 s.place) (sym there) r.nbytes_name))))

@@ -20,7 +20,11 @@ use Rattle.rio_format.specs.Bodies.{Body, described, listed, arrayed, built_in, 
 use Rattle.rio_format.specs.Slots.{body_bases, declared_body, has_base, headed_body, is_headed}
 use Rattle.rio_format.specs.Visits.{base_of, is_visited, same_base, with_visit}
 use Rattle.rio_format.proofs.BaseDepth.{no_base_is_deeper}
-use Rattle.rio_describe.specs.Heirs.{AreHeirs, AreKnown, AreTheHeirs, IsTaken, Judged, built_in_bases, candidates_of, class_base, has_reaching, is_heir}
+use Rattle.rio_describe.specs.Heirs.{AreHeirs, AreTheHeirs, IsTaken, Judged, built_in_bases, candidates_of, class_base, has_reaching, is_heir}
+
+-- what has a TObject among its bases at most so many levels deep is known
+abbrev pub AreKnown : List ClassDef → List Base → ℕ → Type 0
+AreKnown classes heirs levels = (class : List ℕ) (version : ℤ) → has_base levels classes (codes "TObject") class version ≡ true → is_visited heirs (base_of class version) ≡ true
 
 either : {P : Type 0} (a b : Bool) → (a ≡ true → P) → (b ≡ true → P) → (a || b) ≡ true → P
 either true b f g e = f refl

@@ -1,9 +1,10 @@
 -- The class of an object that a record holds is that of the record's key.
 use Rattle.std.proofs.Common.{◌≡◌, ℕ, ℤ, ◌==◌, ◌∙◌, List, [], ◌∷◌, ◌++◌, length, slice_get, Bool, true, false, cond, ◌&&◌, Option, Some, None, Ok, Err, refl, sym, ap, subst}
-use Rattle.std.specs.Prelude.{if◌then◌else◌, unwrap_or}
+use Rattle.std.specs.Prelude.{if◌then◌else◌}
 use Rattle.std.specs.Str.{bytes_eq}
 use Rattle.std.proofs.lemmas.Bool.{and_parts}
 use Rattle.std.proofs.lemmas.Slice.Eq.{bytes_eq-Decides}
+use Rattle.std.proofs.lemmas.Option.{same_Some}
 use Rattle.rio_types.specs.declared.class.ClassDef.{ClassDef}
 use Rattle.rio_types.specs.declared.kind.Kind.TheVariants.{Inline}
 use Rattle.rio_value.specs.declared.value.Part.{Part}
@@ -77,10 +78,7 @@ pub record IsReadAs (classes : List ClassDef) (r : KeyedRecord) (v : Value) : Ty
   pub class : object_class v ≡ Some r.head.class
 
 kept_value : (b : Bool) (w v : Value) → (if b then Some w else None) ≡ Some v → (b ≡ true) × (w ≡ v)
-kept_value true w v e = (refl, same w v e)
-  where
-    same : (w v : Value) → Some w ≡ Some v → w ≡ v
-    same w v e = ap (λ (o : Option Value). unwrap_or o w) e
+kept_value true w v e = (refl, same_Some w v e)
 kept_value false w v e = absurd cc
 
 stored_read : (classes : List ClassDef) (r : KeyedRecord) (v : Value) (step : Step Value) → stored_in classes r step ≡ Some v → (only_value step ≡ Ok v) × (object_class v ≡ Some r.head.class)

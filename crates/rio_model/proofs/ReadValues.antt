@@ -289,7 +289,6 @@ readable_texts levels front (e ∷ es) h first =
     let is = and_parts (if length e.0.name == 0 then front else true) (are_bases_first (length e.0.name == 0) (map (λ (p : Part). p.name) (map (λ (e : KnownPart). e.0) es))) first in
     by (length e.0.name == 0) refl is.0 own.1 (e.1 levels own.0) (readable_texts levels (length e.0.name == 0) es all.1 is.1)
   where
-
     by : (b : Bool) → (length e.0.name == 0) ≡ b → (if b then front else true) ≡ true → (if b then (readability_of e.0.value).object else is_name_text e.0.name) ≡ true
         → ValueBack levels e.0.value → part_texts b (map printed_part (map (λ e. e.0) es)) ≡ map text_of_part (map (λ e. e.0) es)
         → part_texts front (map printed_part (e.0 ∷ map (λ e. e.0) es)) ≡ map text_of_part (e.0 ∷ map (λ e. e.0) es)

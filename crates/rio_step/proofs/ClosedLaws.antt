@@ -7,6 +7,7 @@ use Rattle.std.specs.Ordering.{eq_by_cmp}
 use Rattle.std.proofs.lemmas.Bool.{eqb-true, false_from_ne_true, not-false, or_from, or_right}
 use Rattle.std.proofs.lemmas.List.{nil_from_length}
 use Rattle.std.proofs.lemmas.Map.Views.{tells_apart}
+use Rattle.std.proofs.lemmas.Option.{same_Some}
 use Rattle.rio_machine.proofs.OrderLaws.{names_tie, names_total}
 use Rattle.rio_machine.specs.State.{State, Tree, name_order}
 use Rattle.rio_machine.specs.declared.command.Command.{Command}
@@ -14,7 +15,6 @@ use Rattle.rio_machine.specs.declared.command.Command.TheVariants.{Save}
 use Rattle.rio_step.specs.Laws.{ClosedHasNonePending, SavedKeepsTheRest}
 use Rattle.rio_step.specs.Runs.{closed_of, closing_saves, has_pending, saved_of, saved_tree}
 use Rattle.rio_step.specs.Step.{state_behind, tree_saved, with_tree}
-use Rattle.rio_step.proofs.FitStays.{same_some}
 
 abbrev Named : Type 0
 Named = List ℕ × Tree
@@ -31,7 +31,7 @@ among es name = list_any (λ e. eq_by_cmp name_order name e.0) es
 
 first_known : (m : State) (first : Named) (es : List Named) (name : List ℕ) (t s : Tree) (b : Bool) → eq_by_cmp name_order name first.0 ≡ b
     → cond b (Some (tree_saved s)) (get m.trees name) ≡ Some t → list_any (λ e. eq_by_cmp name_order name e.0) es ≡ false → Closes m (first ∷ es) name t
-first_known m first es name t s true tie f none = inl (ap (λ x. x.pending) (sym (same_some (tree_saved s) t f)))
+first_known m first es name t s true tie f none = inl (ap (λ x. x.pending) (sym (same_Some (tree_saved s) t f)))
 first_known m first es name t s false tie f none = inr (f, or_from _ _ tie none)
 
 first_unknown : (m : State) (first : Named) (es : List Named) (name : List ℕ) (t : Tree) (b : Bool) → eq_by_cmp name_order name first.0 ≡ b
@@ -70,7 +70,7 @@ pending_among (first ∷ es) name t e p = by (eq_by_cmp name_order name first.0)
         → (find name_order name es ≡ Some t → has_pending t ≡ true → list_any (λ e. eq_by_cmp name_order name e.0) (filter (λ e. has_pending e.1) es) ≡ true)
         → list_any (λ e. eq_by_cmp name_order name e.0) (filter (λ e. has_pending e.1) (first ∷ es)) ≡ true
     by true tie f later =
-        let pending : has_pending first.1 ≡ true = ap has_pending (same_some first.1 t f) ∙ p in
+        let pending : has_pending first.1 ≡ true = ap has_pending (same_Some first.1 t f) ∙ p in
         ap (λ b. list_any (λ e. eq_by_cmp name_order name e.0) (cond b (first ∷ filter (λ e. has_pending e.1) es) (filter (λ e. has_pending e.1) es))) pending
         ∙ ap (λ b. b || list_any (λ e. eq_by_cmp name_order name e.0) (filter (λ e. has_pending e.1) es)) tie
     by false tie f later = filtered_more (has_pending first.1) first (filter (λ e. has_pending e.1) es) name (later f p)

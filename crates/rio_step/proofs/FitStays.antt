@@ -1,12 +1,13 @@
 -- No command makes an object or a row one that doesn't fit.
 use Rattle.std.proofs.Common.{◌≡◌, ℕ, List, [], ◌∷◌, ◌++◌, Bool, true, false, cond, not, Option, Some, None, refl, sym, ap, subst, ◌∙◌, append_assoc}
-use Rattle.std.specs.Prelude.{is_some, unwrap_or}
+use Rattle.std.specs.Prelude.{is_some}
 use Rattle.std.specs.FinMap.{get, get-insert, get-remove, insert, remove}
 use Rattle.std.specs.List.{list_all}
 use Rattle.std.specs.Option.{option_map_or}
 use Rattle.std.specs.Ordering.{eq_by_cmp}
 use Rattle.std.proofs.lemmas.Bool.{and_from, and_parts, not-false}
 use Rattle.std.proofs.lemmas.List.{append-nil}
+use Rattle.std.proofs.lemmas.Option.{same_Some}
 use Rattle.rio_leaf.specs.declared.branch.BranchDef.{BranchDef}
 use Rattle.rio_types.specs.declared.class.ClassDef.{ClassDef}
 use Rattle.rio_value.specs.declared.value.Value.{Value}
@@ -27,9 +28,6 @@ use Rattle.rio_step.proofs.GrowthLaws.{slot_more}
 use Rattle.rio_step.specs.Laws.{AllFit, AllStayFit, FitsStay}
 use Rattle.rio_step.specs.Refusing.{FullMark, fill_row, is_bad_row, is_fit, is_unfit, object_class, put_value, refusal_of, refusals, rows_of_tree}
 use Rattle.rio_step.specs.Step.{by_refusal, new_tree, state_behind, step, tree_filled, tree_saved, with_tree, without_item}
-
-pub same_some : {A : Type 0} (x y : A) → Some x ≡ Some y → x ≡ y
-same_some x y e = ap (λ o. unwrap_or o x) e
 
 -- ---- one class more
 
@@ -81,7 +79,7 @@ put_fit m item v new all = record {
 }
   where
     by : (k : NameAndCycle) (w : Value) (b : Bool) → cond b (Some v) (get m.objects k) ≡ Some w → is_fit m.classes w ≡ true
-    by k w true e = ap (is_fit m.classes) (sym (same_some v w e)) ∙ new
+    by k w true e = ap (is_fit m.classes) (sym (same_Some v w e)) ∙ new
     by k w false e = all.objects k w e
 
 delete_fit : (m : State) (item : NameAndCycle) → AllFit m → AllFit (record m { objects = remove m.objects item })
@@ -105,7 +103,7 @@ tree_fit m name t new all = record {
 }
   where
     by : (k : List ℕ) (u : Tree) (b : Bool) → cond b (Some t) (get m.trees k) ≡ Some u → RowsFit m u
-    by k u true e = subst (λ (x : Tree). RowsFit m x) (same_some t u e) new
+    by k u true e = subst (λ (x : Tree). RowsFit m x) (same_Some t u e) new
     by k u false e = all.rows k u e
 
 tree_gone_fit : (m : State) (name : List ℕ) → AllFit m → AllFit (record m { trees = remove m.trees name })
@@ -140,7 +138,7 @@ unrefused_fit m name v mark e = not-false _ (not_refused (is_unfit m (Put name v
 
 passed_row : (m : State) (row : Row) (t : Option Tree) (u : Tree) → t ≡ Some u → option_map_or (λ t. not (row_fits m.classes t.branches row)) t false ≡ false → row_fits m.classes u.branches row ≡ true
 passed_row m row None u is e = absurd cc
-passed_row m row (Some t) u is e = ap (λ x. row_fits m.classes x.branches row) (sym (same_some t u is)) ∙ not-false _ e
+passed_row m row (Some t) u is e = ap (λ x. row_fits m.classes x.branches row) (sym (same_Some t u is)) ∙ not-false _ e
 
 pub unrefused_row : (m : State) (name : List ℕ) (row : Row) (mark : Option FullMark) → refusal_of m (Fill name row) mark ≡ None → (t : Tree) → get m.trees name ≡ Some t → row_fits m.classes t.branches (fill_row m row) ≡ true
 unfolding refusal_of

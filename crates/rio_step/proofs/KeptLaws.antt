@@ -6,6 +6,7 @@ use Rattle.std.specs.Ordering.{eq_by_cmp}
 use Rattle.std.proofs.lemmas.List.{append-nil}
 use Rattle.std.proofs.lemmas.Map.Views.{tells_apart}
 use Rattle.std.proofs.lemmas.Bool.{or_parts}
+use Rattle.std.proofs.lemmas.Option.{same_Some}
 use Rattle.rio_value.specs.declared.value.Value.{Value}
 use Rattle.rio_machine.proofs.OrderLaws.{items_tie, items_total, names_tie, names_total}
 use Rattle.rio_machine.specs.State.{NameAndCycle, Row, State, Tree, item_order, name_order, names_object, names_tree, next_cycle}
@@ -17,7 +18,6 @@ use Rattle.rio_step.proofs.StepLaws.{next_is_free}
 use Rattle.rio_step.specs.Laws.{HasRowsOf, Keeps, KeepsRows, NothingIsLost, is_delete}
 use Rattle.rio_step.specs.Refusing.{FullMark, fill_row, put_value, refusal_of, rows_of_tree}
 use Rattle.rio_step.specs.Step.{by_refusal, new_tree, state_behind, step, tree_filled, tree_saved, with_tree}
-use Rattle.rio_step.proofs.FitStays.{same_some}
 
 -- ---- objects
 
@@ -67,7 +67,7 @@ changed_rows m name change keeps k t e = by_tree (get m.trees name) refl
   where
     by_key : (s : Tree) → get m.trees name ≡ Some s → (b : Bool) → eq_by_cmp name_order k name ≡ b → Rows t (cond b (Some (change s)) (get m.trees k))
     by_key s is true tie =
-        let same = same_some s t (sym is ∙ ap (get m.trees) (sym (tells_apart names_tie k name tie)) ∙ e) in
+        let same = same_Some s t (sym is ∙ ap (get m.trees) (sym (tells_apart names_tie k name tie)) ∙ e) in
         (change t, ap (λ u. Some (change u)) same, keeps t)
     by_key s is false tie = (t, e, same_rows t)
 

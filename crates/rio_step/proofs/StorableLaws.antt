@@ -32,10 +32,11 @@ use Rattle.rio_step.proofs.DeclaredLaws.{classes_stay_declared}
 use Rattle.rio_step.specs.Statable.{is_statable}
 use Rattle.rio_step.specs.Refusing.{FullMark, fill_row, goes_too_deep, has_too_many, is_at_last_cycle, is_list_name, is_too_large, lacks_class, put_value, refusal_of, refusals}
 use Rattle.rio_step.proofs.FitLaws.{put_more}
-use Rattle.rio_step.proofs.FitStays.{all_pushed, columns_more, object_more, same_some, unrefused_fit, unrefused_row}
+use Rattle.rio_step.proofs.FitStays.{all_pushed, columns_more, object_more, unrefused_fit, unrefused_row}
 use Rattle.rio_step.proofs.WritingLaws.{slot_written, written_same}
 use Rattle.std.specs.Str.{bytes_eq}
 use Rattle.std.proofs.lemmas.Map.Views.{tells_apart}
+use Rattle.std.proofs.lemmas.Option.{same_Some}
 use Rattle.rio_machine.proofs.OrderLaws.{items_tie, items_total, names_tie, names_total}
 use Rattle.rio_step.specs.Step.{by_refusal, new_tree, state_behind, step, tree_filled, tree_saved, with_tree, without_item}
 use Rattle.rio_machine.specs.Limits.{has_long_list, is_too_deep}
@@ -145,7 +146,7 @@ object_put_in : (m : State) (item : NameAndCycle) (v : Value) (P : NameAndCycle 
 object_put_in m item v P all new k w e = by (eq_by_cmp item_order k item) refl (sym (get-insert items_total m.objects item v k) ∙ e)
   where
     by : (b : Bool) → eq_by_cmp item_order k item ≡ b → cond b (Some v) (get m.objects k) ≡ Some w → P k w
-    by true is f = let key = tells_apart items_tie k item is in subst (λ (x : NameAndCycle). P x w) (sym key) (subst (λ (y : Value). P item y) (same_some v w f) new)
+    by true is f = let key = tells_apart items_tie k item is in subst (λ (x : NameAndCycle). P x w) (sym key) (subst (λ (y : Value). P item y) (same_Some v w f) new)
     by false is f = all k w f
 
 object_out : (m : State) (item : NameAndCycle) (P : NameAndCycle → Value → Type 0) → ((k : NameAndCycle) (w : Value) → get m.objects k ≡ Some w → P k w)
@@ -161,7 +162,7 @@ tree_put_in : (m : State) (name : List ℕ) (t : Tree) (P : List ℕ → Tree �
 tree_put_in m name t P all new k w e = by (eq_by_cmp name_order k name) refl (sym (get-insert names_total m.trees name t k) ∙ e)
   where
     by : (b : Bool) → eq_by_cmp name_order k name ≡ b → cond b (Some t) (get m.trees k) ≡ Some w → P k w
-    by true is f = let key = tells_apart names_tie k name is in subst (λ (x : List ℕ). P x w) (sym key) (subst (λ (y : Tree). P name y) (same_some t w f) new)
+    by true is f = let key = tells_apart names_tie k name is in subst (λ (x : List ℕ). P x w) (sym key) (subst (λ (y : Tree). P name y) (same_Some t w f) new)
     by false is f = all k w f
 
 tree_out : (m : State) (name : List ℕ) (P : List ℕ → Tree → Type 0) → ((k : List ℕ) (w : Tree) → get m.trees k ≡ Some w → P k w)
@@ -199,7 +200,7 @@ item_out m name cycle h = by (names_tree m name)
 -- a test of the tree that didn't hold
 not_passed : (p : Tree → Bool) (t : Option Tree) (u : Tree) → t ≡ Some u → option_map_or p t false ≡ false → p u ≡ false
 not_passed p None u is e = absurd cc
-not_passed p (Some t) u is e = ap p (sym (same_some t u is)) ∙ e
+not_passed p (Some t) u is e = ap p (sym (same_Some t u is)) ∙ e
 
 class_in : (m : State) (c : ClassDef) → Holds m → Holds (record m { classes = m.classes ++ c ∷ [] })
 class_in m c h = record {
