@@ -1,5 +1,5 @@
 -- What is built agrees with the whole language.
-use Rattle.std.proofs.Common.{◌≡◌, ℕ, zero, suc, ◌+◌, List, [], ◌∷◌, length, Bool, true, false, ◌&&◌, Option, Some, None, Ok, Err, refl, sym, ◌∙◌, ap, codes}
+use Rattle.std.proofs.Common.{◌≡◌, ℕ, zero, suc, ◌+◌, List, [], ◌∷◌, length, Bool, true, false, Option, Some, None, Ok, Err, refl, sym, ◌∙◌, ap, codes}
 use Rattle.std.specs.List.{list_all}
 use Rattle.std.specs.Option.{option_map_or}
 use Rattle.std.specs.Prelude.{if◌then◌else◌, pos, slice_get, ℤ}
@@ -312,10 +312,6 @@ line_stated number line stated = by (is_bad_line (built_line number line)) refl
 
 -- ---- scripts
 
-second_of_both : (a b : Bool) → (a && b) ≡ true → b ≡ true
-second_of_both true b h = h
-second_of_both false b h = absurd cc
-
 as_many : (number : ℕ) (ls : List (List ℕ)) → length (built_from number ls) ≡ length (commands_from number ls)
 unfolding built_from commands_from
 as_many number [] = refl
@@ -364,7 +360,7 @@ all_stated number (line ∷ rest) stated = by (is_command_line line) (all_stated
         → list_all is_statable (if b then built_line number line ∷ built_from (number + 1) rest else built_from (number + 1) rest) ≡ true
     by true later stated =
         and_from _ _ (line_stated number line ((and_parts (is_statable (line_command number line)) (list_all is_statable (commands_from (number + 1) rest)) stated).0))
-        (later (second_of_both (is_statable (line_command number line)) (list_all is_statable (commands_from (number + 1) rest)) stated))
+        (later (and_parts (is_statable (line_command number line)) (list_all is_statable (commands_from (number + 1) rest)) stated).1)
     by false later stated = later stated
 
 all_have : (number : ℕ) (ls : List (List ℕ)) → list_all is_built (built_from number ls) ≡ true
