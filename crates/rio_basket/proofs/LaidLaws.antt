@@ -1,6 +1,6 @@
 -- What is known of a basket's places once its layout is read.
 use Rattle.std.proofs.Common.{◌≡◌, ◌⊎◌, inl, inr, ℕ, zero, suc, ◌+◌, ◌<◌, ◌≤◌, ℤ, pos, List, length, Bool, true, false, cond, ◌&&◌, ◌||◌, not, nat_lt, int_le, unsigned_abs, Result, Ok, Err, refl, sym, subst, arith}
-use Rattle.std.proofs.lemmas.Bool.{and_parts, cases_lt}
+use Rattle.std.proofs.lemmas.Bool.{and_parts, cases_lt, not-false}
 use Rattle.std.proofs.lemmas.Bool.Decides.{nat_tests}
 use Rattle.std.proofs.lemmas.Int.{ints}
 use Rattle.rio_num.specs.Reading.{◌>>=◌}
@@ -19,10 +19,6 @@ use Rattle.rio_basket.proofs.OffsetLaws.{before_next}
 
 -- ---- the numbers of the head
 
-not_true : (t : Bool) → not t ≡ false → t ≡ true
-not_true true e = refl
-not_true false e = absurd cc
-
 abbrev sound_or : Bool → BasketFront → Result Layout BasketFault
 sound_or t front = cond t (Err (BadLast (last_place front))) (Ok (layout_of front))
 
@@ -34,7 +30,7 @@ layout_bounds offsets n front true packed wrong a b c layout e = absurd cc
 layout_bounds offsets n front false true wrong a b c layout e = absurd cc
 layout_bounds offsets n front false false true a b c layout e = absurd cc
 layout_bounds offsets n front false false false a b c layout e =
-    (sym (ok_is {E = BasketFault} (layout_of front) layout e), not_true (is_sound offsets front) c, grind (arith, nat_tests))
+    (sym (ok_is {E = BasketFault} (layout_of front) layout e), not-false (is_sound offsets front) c, grind (arith, nat_tests))
 
 sound_bounds : (front : BasketFront) → ends_within front ≡ true → (front.key.keylen ≤ unsigned_abs front.head.last) × (unsigned_abs front.head.last ≤ unsigned_abs front.key.nbytes)
 sound_bounds front h =

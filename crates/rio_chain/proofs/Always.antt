@@ -3,7 +3,7 @@ use Rattle.std.proofs.Common.{◌≡◌, ◌≢◌, ◌⊎◌, inl, inr, ℕ, ze
 use Rattle.std.specs.Prelude.{MatchBool}
 use Rattle.std.specs.Cmp.Lexicographic.{told_text}
 use Rattle.std.proofs.lemmas.Bool.{cases_lt}
-use Rattle.std.proofs.lemmas.Option.{none-some}
+use Rattle.std.proofs.lemmas.Option.{none-some, same_Some}
 use Rattle.byteorder.specs.Endian.{big_number}
 use Rattle.byteorder.specs.Numbers.{big_from-lt}
 use Rattle.rio_num.specs.At.{At, AreBytes}
@@ -20,7 +20,7 @@ use Rattle.rio_key.proofs.KeyParts.{parts_of_key}
 use Rattle.rio_key.proofs.KeyRead.{is_found}
 use Rattle.rio_chain.specs.Segments.{Link, RecordAt, GapAt, link_length, chain_end, texts_end_at, BreaksAt, HasWord, HoldsEnd, HoldsLink, HoldsLinks, IsChain, IsFirst, IsPositive, IsRecord}
 use Rattle.rio_chain.specs.Found.{FindsKey, segment_length_of}
-use Rattle.rio_chain.proofs.Words.{has_own, has_same, held_long, held_positive, held_word, word_one, word_some, word_within}
+use Rattle.rio_chain.proofs.Words.{has_own, has_same, held_long, held_positive, held_word, pos_same, word_one, word_some, word_within}
 use Rattle.rio_chain.proofs.Links.{IsBadLength, bad_length, large_length, no_first_gap, small_length}
 use Rattle.rio_chain.proofs.Chains.{end-append}
 use Rattle.rio_chain.proofs.SoFar.{links-append}
@@ -71,12 +71,6 @@ key_or_none bytes fits = by (key_head_at (standing 0 bytes)) refl
 
 -- ---- a record
 
-same_head : (a b : KeyHead) → Some a ≡ Some b → a ≡ b
-same_head a b e = cc
-
-same_pos : (m n : ℕ) → pos m ≡ pos n → m ≡ n
-same_pos m n e = cc
-
 -- what a record asks of its key
 abbrev IsRecordOf : KeyHead → ℕ → List ℕ → Type 0
 IsRecordOf h place bytes = (h.version ≤ 1000) × ((h.seek ≡ place) × ((h.nbytes ≡ pos (length bytes)) × ((h.keylen + h.objlen ≡ length bytes) × (length bytes % 4 ≡ 0))))
@@ -94,9 +88,9 @@ record_or_not place bytes fits = by (key_or_none bytes fits).0 (key_or_none byte
         elim tests [
           | inl t ↦ inl (record { head = h; key = key; small = t.0; seek = t.1.0; nbytes = nbytes ∙ ap (λ (k : ℕ). pos k) t.1.1.0; parts = t.1.1.1.0; aligned = t.1.1.1.1 })
           | inr t ↦ inr (λ r.
-              let same = same_head h r.head (f.only r.head r.key) in
+              let same = same_Some h r.head (f.only r.head r.key) in
               let as_h : IsRecordOf h place bytes = subst (λ (k : KeyHead). IsRecordOf k place bytes) (sym same) (r.small, (r.seek, (r.nbytes, (r.parts, r.aligned)))) in
-              t (as_h.0, (as_h.1.0, (same_pos parts.fields.nbytes (length bytes) (sym nbytes ∙ as_h.1.1.0), (as_h.1.1.1.0, as_h.1.1.1.1)))))
+              t (as_h.0, (as_h.1.0, (pos_same parts.fields.nbytes (length bytes) (sym nbytes ∙ as_h.1.1.0), (as_h.1.1.1.0, as_h.1.1.1.1)))))
         ]
 
 -- ---- a first record
@@ -121,14 +115,14 @@ first_or_not file bytes fits = by (key_or_none bytes fits).0 (key_or_none bytes 
       where
         at : (r : Result At Short) → texts_end_at h.keylen bytes ≡ r → Either (IsFirst file bytes)
         at (Err e) is = inr (λ r.
-            let same = same_head h r.head (f.only r.head r.key) in
+            let same = same_Some h r.head (f.only r.head r.key) in
             let texts = ap (λ (k : KeyHead). texts_end_at k.keylen bytes) same ∙ r.texts in
             let clash = sym is ∙ texts in cc)
         at (Ok d) is =
             elim (both (text_or_not h.class (codes "TFile")) (both (low_or_not 60 (length d.rest)) (both (low_or_not (big_number 2 d.rest) 1000) (word_or_not file 28 d.place)))) [
               | inl t ↦ inl (record { head = h; key = f.found_is; class = t.0; directory = d; texts = is; room = t.1.0; small = t.1.1.0; nbytes_name = t.1.1.1 })
               | inr t ↦ inr (λ r.
-                  let same = same_head h r.head (f.only r.head r.key) in
+                  let same = same_Some h r.head (f.only r.head r.key) in
                   let texts = ap (λ (k : KeyHead). texts_end_at k.keylen bytes) same ∙ r.texts in
                   let there : d ≡ r.directory = ok_is {E = Short} d r.directory (sym is ∙ texts) in
                   t (ap (λ (k : KeyHead). k.class) same ∙ r.class, (omega (arith, r.room, ap (λ (s : At). length s.rest) there), (omega (arith, r.small, ap (λ (s : At). big_number 2 s.rest) there), subst (λ (s : At). HasWord file 28 s.place) (sym there) r.nbytes_name))))

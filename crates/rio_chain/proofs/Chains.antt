@@ -122,20 +122,23 @@ first_keeps old new bytes keeps f = record {
   nbytes_name = word_keeps old new 28 f.directory.place (λ i x low high was. keeps i x (omega (arith, high)) was) f.nbytes_name;
 }
 
-pub record_keeps : (old new : List ℕ) (place : ℕ) (bytes : List ℕ) → KeepsFront old new → KeepsIn place (place + length bytes) old new → HoldsRecord old place bytes → HoldsRecord new place bytes
-record_keeps old new place bytes front keeps r = record {
-  there = has_keeps old new place bytes (λ i x low high was. keeps i x low high was) r.there;
-  whole = r.whole;
-  first = λ is. first_keeps old new bytes front (r.first is);
-}
-
-pub plain_keeps : (old new : List ℕ) (place : ℕ) (links : List Link) → KeepsFront old new → KeepsIn place (end_from place links) old new → PlainLinks old place links → PlainLinks new place links
-plain_keeps old new place [] front keeps plain = tt
-plain_keeps old new place (RecordAt p bytes ∷ links) front keeps plain = (
-  (plain.0.0, record_keeps old new place bytes front (λ i x low high was. keeps i x low (omega (arith, high, end-le (place + length bytes) links)) was) plain.0.1),
-  plain_keeps old new (place + length bytes) links front (λ i x low high was. keeps i x (omega (arith, low)) high was) plain.1,
-)
-plain_keeps old new place (GapAt p n ∷ links) front keeps plain =
+-- links stay where their bytes do, and what makes a record the first one
+pub plain_held : (old new : List ℕ) (place : ℕ) (links : List Link) → ((bytes : List ℕ) → place ≤ 100 → IsFirst old bytes → IsFirst new bytes) → KeepsIn place (end_from place links) old new
+    → PlainLinks old place links → PlainLinks new place links
+plain_held old new place [] first keeps plain = tt
+plain_held old new place (RecordAt p bytes ∷ links) first keeps plain =
+    let record_there = plain.0.1 in (
+      (
+        plain.0.0,
+        record {
+          there = has_keeps old new place bytes (λ i x low high was. keeps i x low (omega (arith, high, end-le (place + length bytes) links)) was) record_there.there;
+          whole = record_there.whole;
+          first = λ is. first bytes (omega (arith, is)) (record_there.first is);
+        },
+      ),
+      plain_held old new (place + length bytes) links (λ own low. first own (omega (arith, low))) (λ i x low high was. keeps i x (omega (arith, low)) high was) plain.1,
+    )
+plain_held old new place (GapAt p n ∷ links) first keeps plain =
     let gap = plain.0.1 in (
       (
         plain.0.0,
@@ -147,8 +150,11 @@ plain_keeps old new place (GapAt p n ∷ links) front keeps plain =
           aligned = gap.aligned;
         },
       ),
-      plain_keeps old new (place + n) links front (λ i x low high was. keeps i x (omega (arith, low)) high was) plain.1,
+      plain_held old new (place + n) links (λ own low. first own (omega (arith, low))) (λ i x low high was. keeps i x (omega (arith, low)) high was) plain.1,
     )
+
+pub plain_keeps : (old new : List ℕ) (place : ℕ) (links : List Link) → KeepsFront old new → KeepsIn place (end_from place links) old new → PlainLinks old place links → PlainLinks new place links
+plain_keeps old new place links front = plain_held old new place links (λ bytes low. first_keeps old new bytes front)
 
 pub end_keeps : (old new : List ℕ) (place : ℕ) → KeepsIn place (place + 4) old new → HoldsEnd old place → HoldsEnd new place
 end_keeps old new place keeps e = record { later = e.later; zero_word = word_keeps old new place 0 keeps e.zero_word }

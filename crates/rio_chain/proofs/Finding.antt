@@ -2,14 +2,11 @@
 use Rattle.std.proofs.Common.{◌≡◌, ◌↔◌, ℕ, ◌%◌, Bool, true, false, pos, List, length, Option, Some, None, sym, ap, subst, ◌∙◌, arith}
 use Rattle.std.specs.Prelude.{IsTrue, MatchBool}
 use Rattle.std.proofs.lemmas.Bool.{cases_from_iff}
-use Rattle.std.proofs.lemmas.Option.{none-some}
+use Rattle.std.proofs.lemmas.Option.{none-some, same_Some}
 use Rattle.rio_key.specs.declared.head.KeyHead.{KeyHead}
 use Rattle.rio_chain.specs.Segments.{IsRecord, IsFirst, HasWord}
 use Rattle.rio_chain.specs.Found.{FindsKey, FindsKeyAt, FindsRecord, FindsWord, IsKeyOf, IsFirstBy}
 use Rattle.rio_chain.proofs.Words.{word_one, word_within}
-
-some_same : (a b : KeyHead) → Some a ≡ Some b → a ≡ b
-some_same a b e = cc
 
 -- ---- a whole record
 
@@ -26,7 +23,7 @@ record_of_key place n head bytes aligned long f is = record {
 
 key_of_record : (place n : ℕ) (head : KeyHead) (bytes : List ℕ) → length bytes ≡ n → FindsKey bytes (Some head) → IsRecord place bytes → IsKeyOf place n head
 key_of_record place n head bytes long f r =
-    let same : head ≡ r.head = some_same head r.head (f.only r.head r.key) in
+    let same : head ≡ r.head = same_Some head r.head (f.only r.head r.key) in
     subst (IsKeyOf place n) (sym same) (r.small, r.seek, r.nbytes ∙ ap (λ (k : ℕ). pos k) long, r.parts ∙ long)
 
 pub finds_record : (file : List ℕ) (place n : ℕ) (head : KeyHead) (b : Bool) → n % 4 ≡ 0 → FindsKeyAt place n (Some head) file → IsTrue b ↔ IsKeyOf place n head → FindsRecord place n b file
@@ -65,7 +62,7 @@ word_is file None n w is = absurd (let le = word_within file 28 n is in omega (a
 
 pub by_first : (file bytes : List ℕ) (word : Option ℕ) (head : KeyHead) → FindsWord 28 word file → FindsKey bytes (Some head) → IsFirst file bytes → IsFirstBy word head bytes
 by_first file bytes word head w f r =
-    let same : head ≡ r.head = some_same head r.head (f.only r.head r.key) in
+    let same : head ≡ r.head = same_Some head r.head (f.only r.head r.key) in
     subst (λ (h : KeyHead). IsFirstBy word h bytes) (sym same) (r.class, (r.directory, r.texts, (r.room, r.small, word_is file word r.directory.place w r.nbytes_name)))
 
 pub finds_first : (file bytes : List ℕ) (word : Option ℕ) (head : KeyHead) (b : Bool) → FindsWord 28 word file → FindsKey bytes (Some head) → IsTrue b ↔ IsFirstBy word head bytes → MatchBool b (IsFirst file bytes) (¬ IsFirst file bytes)

@@ -10,12 +10,7 @@ use Rattle.rio_chain.specs.declared.segment.Segment.{Segment}
 use Rattle.rio_chain.specs.declared.segment.Segment.TheVariants.{Record, Gap}
 use Rattle.rio_chain.specs.Adjoining.{AreAdjacent, AreGapsApart, AreSegments, BeginsAt, segment_length, segment_place, segments_end}
 use Rattle.rio_chain.specs.Placing.{file_end, gaps_in}
-use Rattle.rio_chain.proofs.Placed.{adjacent_cut, end-append, end-le}
-
-gaps-append : (xs ys : List Segment) → gaps_in (xs ++ ys) ≡ gaps_in xs ++ gaps_in ys
-gaps-append [] ys = refl
-gaps-append (Record p m ∷ xs) ys = gaps-append xs ys
-gaps-append (Gap p m ∷ xs) ys = ap (λ (l : List FreeGap). gap_of p m ∷ l) (gaps-append xs ys)
+use Rattle.rio_chain.proofs.Placed.{adjacent_cut, end-append, end-le, gaps_append}
 
 -- all gaps begin behind a place
 abbrev Behind : ℕ → List FreeGap → Type 0
@@ -88,7 +83,7 @@ gathering segments k x d shape lt read = record {
     whole = sym (take-append-drop (suc k) segments) ∙ ap (λ (l : List Segment). l ++ drop (suc k) segments) next ∙ append_assoc (take k segments) (x ∷ []) (drop (suc k) segments)
 
     more : gaps_in (take (suc k) segments) ≡ gaps_in (take k segments) ++ gaps_in (x ∷ [])
-    more = ap gaps_in next ∙ gaps-append (take k segments) (x ∷ [])
+    more = ap gaps_in next ∙ gaps_append (take k segments) (x ∷ [])
 
     cut : AreAdjacent 100 (take k segments) × AreAdjacent (segments_end 100 (take k segments)) (x ∷ drop (suc k) segments)
     cut = adjacent_cut 100 (take k segments) (x ∷ drop (suc k) segments) (subst (AreAdjacent 100) whole shape.adjacent)

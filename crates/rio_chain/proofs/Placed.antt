@@ -114,7 +114,7 @@ gaps_with place n (Gap p m ∷ segments) = by (eqb p place) (gaps_with place n s
     by true ih = rest (eqb (m - n) 0) (m - n)
     by false ih = ap (λ (l : List FreeGap). gap_of p m ∷ l) ih
 
-gaps_append : (xs ys : List Segment) → gaps_in (xs ++ ys) ≡ gaps_in xs ++ gaps_in ys
+pub gaps_append : (xs ys : List Segment) → gaps_in (xs ++ ys) ≡ gaps_in xs ++ gaps_in ys
 gaps_append [] ys = refl
 gaps_append (Record p m ∷ xs) ys = gaps_append xs ys
 gaps_append (Gap p m ∷ xs) ys = ap (λ (l : List FreeGap). gap_of p m ∷ l) (gaps_append xs ys)

@@ -21,7 +21,7 @@ use Rattle.rio_chain.proofs.Puts.{IsRest, Tail, gap_plain, end_later, end_put, e
 
 -- ---- segments of links
 
-segment_of-length : (l : Link) → segment_length (segment_of l) ≡ link_length l
+pub segment_of-length : (l : Link) → segment_length (segment_of l) ≡ link_length l
 segment_of-length (RecordAt p bytes) = refl
 segment_of-length (GapAt p n) = refl
 

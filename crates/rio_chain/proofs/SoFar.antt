@@ -14,6 +14,7 @@ use Rattle.rio_chain.specs.declared.fault.WalkFault.{WalkFault}
 use Rattle.rio_chain.specs.declared.fault.WalkFault.TheVariants.{NoChain, NoMemory, HostFault}
 use Rattle.rio_chain.proofs.Chains.{end-append}
 use Rattle.rio_chain.proofs.Words.{held_word, word_one, word_within}
+use Rattle.rio_chain.proofs.PutChain.{segment_of-length}
 
 -- ---- links up to a place
 
@@ -30,10 +31,6 @@ pub record UpTo (place : ℕ) (segments : List Segment) (file : List ℕ) : Type
 
 pub up_to_none : (file : List ℕ) → UpTo 100 [] file
 up_to_none file = record { links = []; stand = tt; reached = refl; segments_are = refl }
-
-segment_of-length : (l : Link) → segment_length (segment_of l) ≡ link_length l
-segment_of-length (RecordAt p bytes) = refl
-segment_of-length (GapAt p n) = refl
 
 pub up_to_more : (file : List ℕ) (place : ℕ) (segments more : List Segment) (segment : Segment) (behind : Option ℕ) → UpTo place segments file → FindsLink place segment behind file → more ≡ segments ++ segment ∷ []
     → UpTo (place + segment_length segment) more file × FindsWord (place + segment_length segment) behind file

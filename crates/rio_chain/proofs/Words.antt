@@ -61,7 +61,7 @@ pub record Word (bytes : List ℕ) : Type 0 where
   pub spelled : bytes ≡ big_bytes 4 (length bytes) ++ others
   pub small : length bytes < 2 ^ 31
 
-pos_same : (m n : ℕ) → pos m ≡ pos n → m ≡ n
+pub pos_same : (m n : ℕ) → pos m ≡ pos n → m ≡ n
 pos_same m n e = cc
 
 pub record_word : (place : ℕ) (bytes : List ℕ) → IsRecord place bytes → Word bytes

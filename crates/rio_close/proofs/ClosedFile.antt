@@ -4,7 +4,7 @@ use Rattle.std.specs.List.{All, Contains, flat_map, slice_get}
 use Rattle.std.specs.Int.{w32, cast_unsigned}
 use Rattle.std.proofs.lemmas.Bool.{le-ltb}
 use Rattle.std.proofs.lemmas.List.Elements.{All-cons, All-nil}
-use Rattle.std.proofs.lemmas.Option.{slice_get_within}
+use Rattle.std.proofs.lemmas.Option.{same_Some, slice_get_within}
 use Rattle.std.proofs.lemmas.List.Sums.{sum_by-cons}
 use Rattle.byteorder.specs.Endian.{big_bytes, big_number}
 use Rattle.byteorder.specs.Numbers.{length-bytes_high_first}
@@ -54,7 +54,7 @@ use Rattle.rio_close.proofs.FieldsChain.{FirstLink, OtherFields, first_link, oth
 use Rattle.rio_close.proofs.FirstBytes.{first_internal, first_keyed, info_changes, records_change, tops_change}
 use Rattle.rio_close.proofs.LeftImages.{reads_made}
 use Rattle.rio_close.proofs.ListRead.{Writable, all_writable, list_read, writable}
-use Rattle.rio_close.proofs.ListedRecords.{Listing, in_records, listed_stand, listed_tops, listing, some_is}
+use Rattle.rio_close.proofs.ListedRecords.{Listing, in_records, listed_stand, listed_tops, listing}
 use Rattle.rio_close.proofs.Numbers.{HasNumber, any_number, number_of_bytes, word_of_number}
 use Rattle.rio_close.proofs.OwnRecords.{own_data, own_info, own_keys, own_link, own_nbytes, own_padding, own_spelled, own_stays, own_whole, own_zeros}
 use Rattle.rio_close.proofs.RecordPlaces.{in_keyed, in_put, in_with, stands_there, whole_records}
@@ -113,12 +113,12 @@ info_among [] r e = absurd cc
 info_among (s ∷ rs) r e = by (is_info_key s.head) (info_key rs) refl e (info_among rs r)
   where
     chosen : (c : Bool) (t : KeyedRecord) → info_key rs ≡ Some t → cond c (Some s) (Some t) ≡ Some r → (info_key rs ≡ Some r → In r rs) → In r (s ∷ rs)
-    chosen true t is e rest = inl (some_is s r e)
+    chosen true t is e rest = inl (same_Some s r e)
     chosen false t is e rest = inr (rest (is ∙ e))
 
     by : (b : Bool) (o : Option KeyedRecord) → info_key rs ≡ o → cond b (later_info s o) o ≡ Some r → (info_key rs ≡ Some r → In r rs) → In r (s ∷ rs)
     by false o is e rest = inr (rest (is ∙ e))
-    by true None is e rest = inl (some_is s r e)
+    by true None is e rest = inl (same_Some s r e)
     by true (Some t) is e rest = chosen (nat_lt t.head.cycle s.head.cycle) t is e rest
 
 info_number : (file : List ℕ) (o : Option KeyHead) → seek_of o < 2 ^ 32 → Has file 37 (info_field_bytes o) → HasNumber 4 file 37 (seek_of o)

@@ -11,7 +11,7 @@ use Rattle.rio_chain.specs.Chains.{HasChain}
 use Rattle.rio_chain.specs.Changes.{with_record}
 use Rattle.rio_chain.specs.Placing.{FreeSpace, file_end, gaps_in, space_of, with_segment}
 use Rattle.rio_chain.specs.Segments.{HasWord, IsChain, IsRecord, Link, RecordAt, chain_end}
-use Rattle.rio_chain.proofs.Chains.{end-le}
+use Rattle.rio_chain.proofs.Chains.{KeepsIn, end-le}
 use Rattle.rio_chain.specs.declared.segment.Segment.{Segment}
 use Rattle.rio_chain.proofs.PutChain.{map_end}
 use Rattle.rio_chain.specs.Stops.{IsEither, KeepsFront}
@@ -29,14 +29,14 @@ use Rattle.rio_close.proofs.ClosedFile.{last_closed, last_reads, last_written, r
 use Rattle.rio_close.proofs.OwnRecords.{own_whole}
 use Rattle.rio_close.proofs.LeftImages.{keeps_head, left_fields, left_open, open_head}
 use Rattle.rio_close.proofs.FieldsChain.{first_link, other_fields}
-use Rattle.rio_close.proofs.Numbers.{KeepsRange, bytes_keep, number_keeps, within_keeps, word_of_number}
+use Rattle.rio_close.proofs.Numbers.{bytes_keep, number_keeps, within_keeps, word_of_number}
 use Rattle.rio_close.proofs.SmallHead.{SmallHead}
 
 -- ---- the header stays in front of what is put
 
 pub head_stays : (old new : List ℕ) (h : FileHead) → KeepsFront old new → SmallHead old h → SmallHead new h
 head_stays old new h keeps s =
-    let range : (from to : ℕ) → to ≤ 100 → KeepsRange from to old new = λ from to le i x low high was. keeps i x (omega (arith, high, le)) was in
+    let range : (from to : ℕ) → to ≤ 100 → KeepsIn from to old new = λ from to le i x low high was. keeps i x (omega (arith, high, le)) was in
     record {
       root = number_keeps 3 old new 0 _ (range 0 4 (omega arith)) s.root;
       version = number_keeps 3 old new 4 _ (range 4 8 (omega arith)) s.version;

@@ -1,23 +1,22 @@
 -- The fields of the header and of the directory record may be anything: a file still has its chain.
-use Rattle.std.proofs.Common.{◌≡◌, inl, inr, ℕ, suc, ◌+◌, ◌-◌, ◌%◌, ◌^◌, ◌<◌, ◌≤◌, pos, List, [], ◌∷◌, ◌++◌, length, length-append, length-take, length-drop, take, drop, Some, refl, sym, ap, subst, ◌∙◌, arith}
+use Rattle.std.proofs.Common.{◌≡◌, inl, inr, ℕ, suc, ◌+◌, ◌-◌, ◌%◌, ◌<◌, ◌≤◌, pos, List, [], ◌∷◌, ◌++◌, length, length-append, length-take, length-drop, take, drop, Some, refl, sym, ap, subst, ◌∙◌, arith}
 use Rattle.std.specs.List.{slice_get}
 use Rattle.std.proofs.lemmas.List.{drop-append-le, drop-drop, drop-take, take-append-drop, take-take, take_at}
 use Rattle.std.proofs.Math.Seq.{drop-append_seam, take-append-add}
 use Rattle.byteorder.specs.Endian.{big_number}
 use Rattle.rio_host.specs.ImageLaws.{slice_get-drop, slice_get-take}
-use Rattle.rio_host.proofs.Images.{has_keeps}
 use Rattle.std.proofs.lemmas.Option.{slice_get_within}
 use Rattle.rio_num.specs.Plain.{IsSpelledIn}
 use Rattle.rio_key.specs.Key.{SpellsKey}
 use Rattle.rio_key.specs.declared.head.KeyHead.{KeyHead}
 use Rattle.rio_key.proofs.KeyParts.{parts_of_key}
 use Rattle.rio_chain.specs.Segments.{GapAt, HasWord, HoldsEnd, HoldsRecord, IsChain, IsFirst, IsRecord, Link, RecordAt, chain_end, end_from}
-use Rattle.rio_chain.proofs.Chains.{Parts, PlainLinks, chain_of, end-le, end_keeps, parts_of}
+use Rattle.rio_chain.proofs.Chains.{KeepsIn, Parts, PlainLinks, chain_of, end-le, end_keeps, parts_of, plain_held}
 use Rattle.rio_chain.proofs.Keys.{spelled_in_whole, spelled_one}
 use Rattle.rio_chain.proofs.Words.{has_own, word_keeps, word_one, word_within}
 use Rattle.rio_close.specs.Fields.{IsOutsideFields}
 use Rattle.rio_close.proofs.FirstTexts.{HasTexts, has_texts}
-use Rattle.rio_close.proofs.Numbers.{HasNumber, KeepsRange, any_number, bytes_keep, number_keeps, number_within, standing}
+use Rattle.rio_close.proofs.Numbers.{HasNumber, any_number, bytes_keep, number_keeps, number_within, standing}
 
 -- ---- the first link
 
@@ -41,33 +40,8 @@ first_link (GapAt p n ∷ others) file chain = let late = chain.links_are.0.1.la
 
 -- ---- the links behind
 
-record_behind : (old new : List ℕ) (place : ℕ) (bytes : List ℕ) → 100 < place → KeepsRange place (place + length bytes) old new → HoldsRecord old place bytes → HoldsRecord new place bytes
-record_behind old new place bytes later keeps r = record {
-  there = has_keeps old new place bytes keeps r.there;
-  whole = r.whole;
-  first = λ is. absurd (omega (arith, is, later));
-}
-
-pub plain_behind : (old new : List ℕ) (place : ℕ) (links : List Link) → 100 < place → KeepsRange place (end_from place links) old new → PlainLinks old place links → PlainLinks new place links
-plain_behind old new place [] later keeps plain = tt
-plain_behind old new place (RecordAt p bytes ∷ links) later keeps plain = (
-  (plain.0.0, record_behind old new place bytes later (λ i x low high was. keeps i x low (omega (arith, high, end-le (place + length bytes) links)) was) plain.0.1),
-  plain_behind old new (place + length bytes) links (omega (arith, later)) (λ i x low high was. keeps i x (omega (arith, low)) high was) plain.1,
-)
-plain_behind old new place (GapAt p n ∷ links) later keeps plain =
-    let gap = plain.0.1 in (
-      (
-        plain.0.0,
-        record {
-          later = gap.later;
-          word = word_keeps old new place (2 ^ 32 - n) (λ i x low high was. keeps i x low (omega (arith, high, gap.some, end-le (place + n) links)) was) gap.word;
-          some = gap.some;
-          small = gap.small;
-          aligned = gap.aligned;
-        },
-      ),
-      plain_behind old new (place + n) links (omega (arith, later)) (λ i x low high was. keeps i x (omega (arith, low)) high was) plain.1,
-    )
+pub plain_behind : (old new : List ℕ) (place : ℕ) (links : List Link) → 100 < place → KeepsIn place (end_from place links) old new → PlainLinks old place links → PlainLinks new place links
+plain_behind old new place links later = plain_held old new place links (λ bytes low. absurd (omega (arith, later, low)))
 
 -- a key that is held by a front is spelled in it
 spelled_front : (h : KeyHead) (bytes : List ℕ) (k : ℕ) → h.keylen ≤ k → IsSpelledIn (SpellsKey h) bytes → IsSpelledIn (SpellsKey h) (take k bytes)
@@ -90,8 +64,8 @@ pub record OtherFields (file image bytes : List ℕ) (others : List Link) (head 
   pub whole : IsRecord 100 new
   pub head_is : whole.head ≡ head
   -- its bytes are as before, but for the fields of the directory record
-  pub front : KeepsRange 0 (n + 6) bytes new
-  pub back : KeepsRange (n + 30) (length bytes) bytes new
+  pub front : KeepsIn 0 (n + 6) bytes new
+  pub back : KeepsIn (n + 30) (length bytes) bytes new
   -- the directory record stands in the first record, and has the version of before, a small one
   pub room : n + 60 ≤ length bytes
   pub version : ℕ
@@ -128,10 +102,10 @@ module _ (file image bytes : List ℕ) (others : List Link) (chain : IsChain (Re
   end_low = end-le (100 + length bytes) others
 
   -- what stands in the first record in front of the fields, and all behind it, stays
-  front_keeps : KeepsRange 45 (n + 106) file image
+  front_keeps : KeepsIn 45 (n + 106) file image
   front_keeps i x low high was = keeps i x (omega (arith, low)) (inr (omega (arith, low)), inr low, inl (omega (arith, high, at))) was
 
-  behind_keeps : (to : ℕ) → KeepsRange (100 + length bytes) to file image
+  behind_keeps : (to : ℕ) → KeepsIn (100 + length bytes) to file image
   behind_keeps to i x low high was = keeps i x (omega (arith, low)) (inr (omega (arith, low)), inr (omega (arith, low)), inr (omega (arith, low, room, at))) was
 
   ends : HoldsEnd image end
@@ -147,14 +121,14 @@ module _ (file image bytes : List ℕ) (others : List Link) (chain : IsChain (Re
   new_long = omega (arith, length-take (length bytes) (drop 100 image), length-drop 100 image, within, end_low)
 
   -- a byte in front of the fields
-  new_front : KeepsRange 0 (n + 6) bytes new
+  new_front : KeepsIn 0 (n + 6) bytes new
   new_front i x low high was =
       let lt : i < length bytes = slice_get_within bytes i x was in
       slice_get-take (length bytes) i (drop 100 image) lt ∙ slice_get-drop 100 i (100 + i) image refl
       ∙ front_keeps (100 + i) x (omega arith) (omega (arith, high)) (held.there i x was)
 
   -- and one behind them
-  new_back : KeepsRange (n + 30) (length bytes) bytes new
+  new_back : KeepsIn (n + 30) (length bytes) bytes new
   new_back i x low high was =
       slice_get-take (length bytes) i (drop 100 image) high ∙ slice_get-drop 100 i (100 + i) image refl
       ∙ keeps (100 + i) x (omega arith) (inr (omega arith), inr (omega arith), inr (omega (arith, low, at))) (held.there i x was)

@@ -4,6 +4,7 @@ use Rattle.std.specs.Prelude.{is_some, option_and_then}
 use Rattle.std.specs.List.{find, list_all, list_any}
 use Rattle.std.specs.Str.{bytes_eq}
 use Rattle.std.proofs.lemmas.Bool.{and_from, and_parts}
+use Rattle.std.proofs.lemmas.Option.{same_Some}
 use Rattle.rio_types.specs.declared.class.ClassDef.{ClassDef}
 use Rattle.rio_key.specs.declared.head.KeyHead.{KeyHead}
 use Rattle.rio_dir.specs.Table.{AreBehind, AreOrdered, comes_before}
@@ -21,9 +22,6 @@ use Rattle.rio_state.proofs.Members.{In, all_at, filter_in, found, in_filter, ma
 pub all_from : {A : Type 0} (p : A → Bool) (xs : List A) → ((x : A) → In x xs → p x ≡ true) → list_all p xs ≡ true
 all_from p [] all = refl
 all_from p (x ∷ xs) all = and_from (p x) (list_all p xs) (all x (inl refl)) (all_from p xs (λ y i. all y (inr i)))
-
-pub some_is : {A : Type 0} (x y : A) → Some x ≡ Some y → x ≡ y
-some_is x y e = cc
 
 -- ---- no trees are read
 
@@ -119,7 +117,7 @@ module _ (records : List KeyedRecord) (m : State) (is : AreRecordsOf records m) 
         let all = distinct_filter (λ s. not (is_tree_key s.head)) tops is.stand.distinct in
         let one = distinct_found (item_of_key r.head) at.0 (object_records tops) all (l.objects at.0 at.1) item in
         let two = distinct_found (item_of_key r.head) r (object_records tops) all i (own_item r) in
-        subst (λ (t : KeyedRecord). In t l.listed) (some_is at.0 r (sym one ∙ two)) at.1
+        subst (λ (t : KeyedRecord). In t l.listed) (same_Some at.0 r (sym one ∙ two)) at.1
 
     in_objects : (r : KeyedRecord) → In r l.listed → In r (object_records l.listed)
     in_objects r i = in_filter (λ s. not (is_tree_key s.head)) r l.listed i (is_object r i)

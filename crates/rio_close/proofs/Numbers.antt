@@ -15,6 +15,7 @@ use Rattle.rio_host.proofs.Images.{has_keeps, has_length}
 use Rattle.std.proofs.lemmas.Option.{slice_get_within}
 use Rattle.rio_chain.specs.Segments.{HasWord}
 use Rattle.rio_chain.proofs.Words.{has_own, has_same, word_of_bytes, word_within}
+use Rattle.rio_chain.proofs.Chains.{KeepsIn}
 
 abbrev pub standing : ℕ → List ℕ → At
 standing place rest = record { place = place; rest = rest }
@@ -23,10 +24,6 @@ standing place rest = record { place = place; rest = rest }
 pub record HasNumber (n : ℕ) (file : List ℕ) (place w : ℕ) : Type 0 where
   pub within : place + n ≤ length file
   pub number : big_number n (drop place file) ≡ w
-
--- bytes from one place up to another stay
-abbrev pub KeepsRange : ℕ → ℕ → List ℕ → List ℕ → Type 0
-KeepsRange from to old new = (i x : ℕ) → from ≤ i → i < to → slice_get old i ≡ Some x → slice_get new i ≡ Some x
 
 own_long : (n place : ℕ) (file : List ℕ) → place + n ≤ length file → length (take n (drop place file)) ≡ n
 own_long n place file le = omega (arith, le, length-take n (drop place file), length-drop place file)
@@ -60,7 +57,7 @@ pub any_number : (n : ℕ) (file : List ℕ) (place : ℕ) → place + n ≤ len
 any_number n file place le = record { within = le; number = refl }
 
 -- the bytes at a place of a file that are kept are those of the other
-pub bytes_keep : (k : ℕ) (old new : List ℕ) (place : ℕ) → place + suc k ≤ length old → KeepsRange place (place + suc k) old new → take (suc k) (drop place new) ≡ take (suc k) (drop place old)
+pub bytes_keep : (k : ℕ) (old new : List ℕ) (place : ℕ) → place + suc k ≤ length old → KeepsIn place (place + suc k) old new → take (suc k) (drop place new) ≡ take (suc k) (drop place old)
 bytes_keep k old new place le keeps =
     let n = suc k in
     let was : length (take n (drop place old)) ≡ n = own_long n place old le in
@@ -68,14 +65,14 @@ bytes_keep k old new place le keeps =
     let long = has_length new place (take n (drop place old)) k (omega (arith, was)) has in
     has_same new place (take n (drop place new)) (take n (drop place old)) (own_long n place new (omega (arith, long, was)) ∙ sym was) (has_own new place n) has
 
-pub within_keeps : (k : ℕ) (old new : List ℕ) (place : ℕ) → place + suc k ≤ length old → KeepsRange place (place + suc k) old new → place + suc k ≤ length new
+pub within_keeps : (k : ℕ) (old new : List ℕ) (place : ℕ) → place + suc k ≤ length old → KeepsIn place (place + suc k) old new → place + suc k ≤ length new
 within_keeps k old new place le keeps =
     let n = suc k in
     let was : length (take n (drop place old)) ≡ n = own_long n place old le in
     let has : Has new place (take n (drop place old)) = has_keeps old new place (take n (drop place old)) (λ i x low high at. keeps i x low (omega (arith, high, was)) at) (has_own old place n) in
     omega (arith, was, has_length new place (take n (drop place old)) k (omega (arith, was)) has)
 
-pub number_keeps : (k : ℕ) (old new : List ℕ) (place w : ℕ) → KeepsRange place (place + suc k) old new → HasNumber (suc k) old place w → HasNumber (suc k) new place w
+pub number_keeps : (k : ℕ) (old new : List ℕ) (place w : ℕ) → KeepsIn place (place + suc k) old new → HasNumber (suc k) old place w → HasNumber (suc k) new place w
 number_keeps k old new place w keeps a = record {
   within = within_keeps k old new place a.within keeps;
   number = sym (taken_number (suc k) place new) ∙ ap (big_number (suc k)) (bytes_keep k old new place a.within keeps) ∙ taken_number (suc k) place old ∙ a.number;

@@ -15,7 +15,8 @@ use Rattle.rio_head.specs.Form.{is_large_head, place_len}
 use Rattle.rio_head.specs.Head.{behind_layout, head_at, header_layout, root_number, short_head}
 use Rattle.rio_head.specs.declared.head.FileHead.{FileHead}
 use Rattle.rio_head.specs.declared.fault.HeadFault.{HeadFault}
-use Rattle.rio_close.proofs.Numbers.{HasNumber, KeepsRange, bytes_keep, bytes_read, number_keeps, number_read, number_was_read, standing, within_keeps}
+use Rattle.rio_close.proofs.Numbers.{HasNumber, bytes_keep, bytes_read, number_keeps, number_read, number_was_read, standing, within_keeps}
+use Rattle.rio_chain.proofs.Chains.{KeepsIn}
 
 -- the header's numbers in the file
 pub record SmallHead (b : List ℕ) (h : FileHead) : Type 0 where
@@ -165,13 +166,13 @@ module _ (old new : List ℕ) (h : FileHead) (s : SmallHead old h) (keeps : (i x
   abbrev pub changed : FileHead
   changed = record h { end = end; seek_free = seek_free; nbytes_free = nbytes_free; nfree = nfree; seek_info = seek_info; nbytes_info = nbytes_info }
 
-  front : (from to : ℕ) → to ≤ 12 → KeepsRange from to old new
+  front : (from to : ℕ) → to ≤ 12 → KeepsIn from to old new
   front from to le i x low high was = keeps i x (inl (omega (arith, high, le))) was
 
-  middle : (from to : ℕ) → 28 ≤ from → to ≤ 37 → KeepsRange from to old new
+  middle : (from to : ℕ) → 28 ≤ from → to ≤ 37 → KeepsIn from to old new
   middle from to ge le i x low high was = keeps i x (inr (inl (omega (arith, low, ge), omega (arith, high, le)))) was
 
-  last : KeepsRange 45 63 old new
+  last : KeepsIn 45 63 old new
   last i x low high was = keeps i x (inr (inr (low, high))) was
 
   pub head_changes : SmallHead new changed

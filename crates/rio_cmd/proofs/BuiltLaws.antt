@@ -1,11 +1,12 @@
 -- What is built agrees with the whole language.
-use Rattle.std.proofs.Common.{◌≡◌, ℕ, zero, suc, ◌+◌, List, [], ◌∷◌, length, Bool, true, false, ◌&&◌, Option, Some, None, Ok, Err, refl, sym, ◌∙◌, ap, codes}
+use Rattle.std.proofs.Common.{◌≡◌, ℕ, zero, suc, ◌+◌, List, [], ◌∷◌, length, Bool, true, false, Option, Some, None, Ok, Err, refl, sym, ◌∙◌, ap, codes}
 use Rattle.std.specs.List.{list_all}
 use Rattle.std.specs.Option.{option_map_or}
 use Rattle.std.specs.Prelude.{if◌then◌else◌, pos, slice_get, ℤ}
 use Rattle.std.specs.Str.{bytes_eq}
 use Rattle.std.specs.Str.Lines.{lines}
 use Rattle.std.proofs.lemmas.Slice.Eq.{bytes_eq-Decides}
+use Rattle.std.proofs.lemmas.Bool.{and_from, and_parts}
 use Rattle.rio_num.specs.At.{At}
 use Rattle.rio_num.specs.Reading.{◌>>=◌}
 use Rattle.rio_token.specs.declared.fault.TextFault.TheVariants.{BadText, NoMemory}
@@ -311,18 +312,6 @@ line_stated number line stated = by (is_bad_line (built_line number line)) refl
 
 -- ---- scripts
 
-both : (a b : Bool) → a ≡ true → b ≡ true → (a && b) ≡ true
-both true b h k = k
-both false b h k = absurd cc
-
-first_of_both : (a b : Bool) → (a && b) ≡ true → a ≡ true
-first_of_both true b h = refl
-first_of_both false b h = h
-
-second_of_both : (a b : Bool) → (a && b) ≡ true → b ≡ true
-second_of_both true b h = h
-second_of_both false b h = absurd cc
-
 as_many : (number : ℕ) (ls : List (List ℕ)) → length (built_from number ls) ≡ length (commands_from number ls)
 unfolding built_from commands_from
 as_many number [] = refl
@@ -370,8 +359,8 @@ all_stated number (line ∷ rest) stated = by (is_command_line line) (all_stated
         → list_all is_statable (if b then line_command number line ∷ commands_from (number + 1) rest else commands_from (number + 1) rest) ≡ true
         → list_all is_statable (if b then built_line number line ∷ built_from (number + 1) rest else built_from (number + 1) rest) ≡ true
     by true later stated =
-        both _ _ (line_stated number line (first_of_both (is_statable (line_command number line)) (list_all is_statable (commands_from (number + 1) rest)) stated))
-        (later (second_of_both (is_statable (line_command number line)) (list_all is_statable (commands_from (number + 1) rest)) stated))
+        and_from _ _ (line_stated number line ((and_parts (is_statable (line_command number line)) (list_all is_statable (commands_from (number + 1) rest)) stated).0))
+        (later (and_parts (is_statable (line_command number line)) (list_all is_statable (commands_from (number + 1) rest)) stated).1)
     by false later stated = later stated
 
 all_have : (number : ℕ) (ls : List (List ℕ)) → list_all is_built (built_from number ls) ≡ true
@@ -380,7 +369,7 @@ all_have number [] = refl
 all_have number (line ∷ rest) = by (is_command_line line) (all_have (number + 1) rest)
   where
     by : (b : Bool) → list_all is_built (built_from (number + 1) rest) ≡ true → list_all is_built (if b then built_line number line ∷ built_from (number + 1) rest else built_from (number + 1) rest) ≡ true
-    by true later = both _ _ (line_has number line) later
+    by true later = and_from _ _ (line_has number line) later
     by false later = later
 
 pub built_scripts_have_all_lines : BuiltScriptsHaveAllLines

@@ -3,6 +3,7 @@ use Rattle.std.proofs.Common.{◌≡◌, true≢false, ℕ, ◌≤◌, ◌||◌,
 use Rattle.std.specs.Prelude.{MatchBool}
 use Rattle.std.proofs.lemmas.Bool.{le-ltb}
 use Rattle.std.proofs.lemmas.List.{take-append-drop}
+use Rattle.std.proofs.Math.Bool.{or-true}
 use Rattle.byteorder.specs.Endian.{big_bytes}
 use Rattle.rio_host.specs.Image.{Has}
 use Rattle.rio_host.proofs.Images.{has_length}
@@ -19,12 +20,8 @@ begins_with file bytes within has =
     let same : take n file ≡ bytes = has_same file 0 (take n file) bytes (omega (arith, within, length-take n file)) (has_own file 0 n) has in
     sym (take-append-drop n file) ∙ ap (λ (b : List ℕ). b ++ drop n file) same
 
-or_true : (b : Bool) → (b || true) ≡ true
-or_true true = refl
-or_true false = refl
-
 zero_first : (rest : List ℕ) → is_unborn (big_bytes 4 0 ++ rest) ≡ true
-zero_first rest = or_true _
+zero_first rest = or-true _
 
 root_first : (rest : List ℕ) → is_unborn (codes "root" ++ rest) ≡ false
 root_first rest = ap (λ (b : Bool). b || false) (le-ltb (length (codes "root" ++ rest)) 4 (omega arith))

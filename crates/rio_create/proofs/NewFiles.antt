@@ -1,6 +1,5 @@
 -- What a new file's bytes stand for.
 use Rattle.std.proofs.Common.{◌≡◌, ℕ, ◌+◌, ◌^◌, ◌<◌, ◌≤◌, List, [], ◌∷◌, length, Result, None, refl, sym, ap, subst, ◌∙◌, arith}
-use Rattle.std.specs.FinMap.{get-empty}
 use Rattle.std.specs.List.{cons_option, sum_by}
 use Rattle.rio_key.specs.declared.head.KeyHead.{KeyHead}
 use Rattle.rio_key.specs.declared.fault.KeyFault.{KeyFault}
@@ -8,11 +7,12 @@ use Rattle.rio_chain.specs.Segments.{Link, RecordAt}
 use Rattle.rio_record.specs.Laws.{IsNewRecord}
 use Rattle.rio_record.specs.Record.{new_key}
 use Rattle.rio_record.proofs.Records.{are_new_records}
-use Rattle.rio_machine.specs.State.{empty_state, item_order, name_order}
+use Rattle.rio_machine.specs.State.{empty_state}
 use Rattle.rio_state.specs.Closing.{KeptRecords, closing_lengths, free_length, held_of, item_heads, kept_count, kept_in, list_length, name_in}
 use Rattle.rio_state.specs.DirectoryKeys.{AreKeysOf}
 use Rattle.rio_state.specs.KeyedRecords.{KeyedRecord, info_key, keyed_records, record_with_head, top_keys}
 use Rattle.rio_state.specs.Reads.{AreRecordsOf}
+use Rattle.rio_state.proofs.EmptyState.{none_counts}
 use Rattle.rio_create.specs.NewFile.{first_data, first_length, first_record, first_words}
 use Rattle.rio_create.proofs.Lengths.{first_low, key_long, size_is, words_fit}
 
@@ -32,20 +32,7 @@ module _ (name : List ℕ) (datime n : ℕ) (bytes : List ℕ) where
   first_key = new_key (first_words name datime) n
 
   only_stands : AreRecordsOf (first_only first_key bytes) empty_state
-  only_stands = record {
-    here = refl;
-    stand = record {
-      listed = tt;
-      classes = refl;
-      named = refl;
-      distinct = refl;
-      apart = refl;
-      readable = refl;
-      objects = λ item. get-empty item_order item;
-      tree_readable = refl;
-      trees = λ key. get-empty name_order key;
-    };
-  }
+  only_stands = none_counts (first_only first_key bytes) refl refl refl
 
   only_keys : AreKeysOf (first_only first_key bytes) []
   only_keys = record { ordered = tt; each = λ head. (λ c. c, λ c. c) }

@@ -1,7 +1,7 @@
 -- What is known by name of the members before a member, and of what counts, decides whether it can be declared.
 use Rattle.std.proofs.Common.{◌≡◌, ℕ, ◌+◌, ◌<◌, List, [], ◌∷◌, ◌++◌, length, get_or, drop, Bool, true, false, ◌==◌, ◌&&◌, ◌||◌, not, refl, sym, ap, ◌∙◌, append_assoc}
 use Rattle.std.specs.List.{list_any}
-use Rattle.std.proofs.lemmas.Bool.{and_parts, false_from_ne_true}
+use Rattle.std.proofs.lemmas.Bool.{and_parts, false_from_ne_true, not-true}
 use Rattle.std.proofs.lemmas.List.{drop_more}
 use Rattle.std.proofs.lemmas.List.Folds.{list_any-append}
 use Rattle.rio_num.specs.Word.{is_name_text}
@@ -10,7 +10,6 @@ use Rattle.rio_types.specs.declared.kind.Kind.{Kind}
 use Rattle.rio_types.specs.declared.kind.Kind.TheVariants.{Plain, Counter, Fixed, Counted, Text, Inline, Pointer, Other}
 use Rattle.rio_model.specs.ClassGrammar.{counts_by, has_member, is_counted_by, is_i32_of}
 use Rattle.rio_model.specs.Stated.{are_stated_members, has_counter, is_stated_kind, is_stated_member}
-use Rattle.rio_model.proofs.ReadKinds.{not_true}
 use Rattle.rio_model.proofs.ReadClasses.{Known, known_more}
 use Rattle.rio_decl.specs.Known.{KnowsCounters, KnowsPassed, has_name, is_known_kind, is_known_member}
 
@@ -32,7 +31,7 @@ same_kind before name after (Other code) counters counts has e = refl
 module _ (before : List Member) (m : Member) (after all : List Member) (parts : before ++ m ∷ after ≡ all) (known : Known before) (passed counters counting : List (List ℕ)) (knows : KnowsPassed before passed counters) (counts : KnowsCounters all counting) where
   counted_behind : not (has_member before m.name) ≡ true → has_name counting m.name ≡ (counts_by m.kind m.name || is_counted_by after m.name)
   counted_behind new =
-      let none : is_counted_by before m.name ≡ false = false_from_ne_true (is_counted_by before m.name) (λ t. let clash : true ≡ false = sym (known.counted m.name t) ∙ not_true (has_member before m.name) new in cc) in
+      let none : is_counted_by before m.name ≡ false = false_from_ne_true (is_counted_by before m.name) (λ t. let clash : true ≡ false = sym (known.counted m.name t) ∙ not-true (has_member before m.name) new in cc) in
       counts m.name
       ∙ ap (λ (l : List Member). is_counted_by l m.name) (sym parts)
       ∙ list_any-append (λ (c : Member). counts_by c.kind m.name) before (m ∷ after)

@@ -11,6 +11,7 @@ use Rattle.std.proofs.lemmas.List.{append-nil, map-append, take_more}
 use Rattle.std.proofs.lemmas.List.Elements.{All-append, All-cons, All-head, All-nil, All-tail, All-weaker}
 use Rattle.std.proofs.lemmas.List.Folds.{list_any-append}
 use Rattle.std.proofs.lemmas.Slice.Eq.{bytes_eq-Decides}
+use Rattle.std.proofs.lemmas.Bool.{and_parts, or_left, or_right}
 use Rattle.rio_types.specs.Classes.{find_in}
 use Rattle.rio_types.specs.declared.class.Base.{Base}
 use Rattle.rio_types.specs.declared.class.ClassDef.{ClassDef}
@@ -19,18 +20,11 @@ use Rattle.rio_format.specs.Bodies.{Body, described, listed, arrayed, built_in, 
 use Rattle.rio_format.specs.Slots.{body_bases, declared_body, has_base, headed_body, is_headed}
 use Rattle.rio_format.specs.Visits.{base_of, is_visited, same_base, with_visit}
 use Rattle.rio_format.proofs.BaseDepth.{no_base_is_deeper}
-use Rattle.rio_describe.specs.Heirs.{AreHeirs, AreKnown, AreTheHeirs, IsTaken, Judged, built_in_bases, candidates_of, class_base, has_reaching, is_heir}
+use Rattle.rio_describe.specs.Heirs.{AreHeirs, AreTheHeirs, IsTaken, Judged, built_in_bases, candidates_of, class_base, has_reaching, is_heir}
 
-or_left : (a b : Bool) → a ≡ true → (a || b) ≡ true
-or_left a b e = rw e refl
-
-or_right : (a b : Bool) → b ≡ true → (a || b) ≡ true
-or_right true b e = refl
-or_right false b e = e
-
-and_parts : (a b : Bool) → (a && b) ≡ true → (a ≡ true) × (b ≡ true)
-and_parts true b e = (refl, e)
-and_parts false b e = absurd cc
+-- what has a TObject among its bases at most so many levels deep is known
+abbrev pub AreKnown : List ClassDef → List Base → ℕ → Type 0
+AreKnown classes heirs levels = (class : List ℕ) (version : ℤ) → has_base levels classes (codes "TObject") class version ≡ true → is_visited heirs (base_of class version) ≡ true
 
 either : {P : Type 0} (a b : Bool) → (a ≡ true → P) → (b ≡ true → P) → (a || b) ≡ true → P
 either true b f g e = f refl

@@ -1,5 +1,5 @@
 -- The classes that have a TObject among their bases, and how they are found.
-use Rattle.std.specs.Prelude.{◌≡◌, ℕ, ◌+◌, ℤ, List, [], ◌∷◌, ◌++◌, length, map, codes, Bool, true, ◌||◌}
+use Rattle.std.specs.Prelude.{◌≡◌, ℕ, ◌+◌, ℤ, List, ◌++◌, length, map, codes, Bool, true, ◌||◌}
 use Rattle.std.specs.List.{All, list_any}
 use Rattle.std.specs.Str.{bytes_eq}
 use Rattle.rio_types.specs.declared.class.Base.{Base}
@@ -53,7 +53,3 @@ built_in_bases = map built_in_base headed_classes
 -- all that may have bases
 abbrev pub candidates_of : List ClassDef → List Base
 candidates_of classes = built_in_bases ++ map class_base classes
-
--- what has a TObject among its bases at most so many levels deep is known
-abbrev pub AreKnown : List ClassDef → List Base → ℕ → Type 0
-AreKnown classes heirs levels = (class : List ℕ) (version : ℤ) → has_base levels classes (codes "TObject") class version ≡ true → is_visited heirs (base_of class version) ≡ true

@@ -5,10 +5,11 @@ use Rattle.std.specs.Option.{option_map_or}
 use Rattle.std.specs.Set.{remove_key}
 use Rattle.std.specs.Str.{bytes_eq}
 use Rattle.std.proofs.lemmas.Bool.{eqb-true}
+use Rattle.std.proofs.lemmas.Slice.Eq.{bytes_eq-Decides}
 use Rattle.rio_key.specs.declared.head.KeyHead.{KeyHead}
 use Rattle.rio_dir.specs.Table.{AreBehind, AreOrdered, is_at_cycle, is_before, is_of_name, with_head}
 use Rattle.rio_dir.specs.TableMap.{GreatestIsFound, PutInIsFound, TakenOutIsGone}
-use Rattle.rio_dir.proofs.TableOrder.{at_is, bytes_same}
+use Rattle.rio_dir.proofs.TableOrder.{at_is}
 use Rattle.rio_dir.proofs.TableLists.{cycle_of, greatest_is, none_behind}
 
 -- ---- one more
@@ -81,7 +82,7 @@ taken_out_gone heads are taken at name cycle = by (bytes_eq name taken) (eqb cyc
   where
     by : (b c : Bool) → bytes_eq name taken ≡ b → eqb cycle at ≡ c → find (is_at_cycle name cycle) (remove_key (is_at_cycle taken at) heads) ≡ cond (b && c) None (find (is_at_cycle name cycle) heads)
     by true true e f =
-        subst (λ (n : List ℕ). find (is_at_cycle name cycle) (remove_key (is_at_cycle n at) heads) ≡ None) (bytes_same name taken e)
+        subst (λ (n : List ℕ). find (is_at_cycle name cycle) (remove_key (is_at_cycle n at) heads) ≡ None) ((bytes_eq-Decides name taken).0 e)
         (subst (λ (c : ℕ). find (is_at_cycle name cycle) (remove_key (is_at_cycle name c) heads) ≡ None) (eqb-true _ _ f) (gone name cycle heads are))
     by true false e f = others taken at name cycle heads (rw (e, f) refl)
     by false c e f = others taken at name cycle heads (rw e refl)

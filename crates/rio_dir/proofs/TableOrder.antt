@@ -16,18 +16,12 @@ use Rattle.rio_key.specs.declared.head.KeyHead.{KeyHead}
 abbrev compared : List ℕ → List ℕ → Ordering
 compared = slice_cmp nat_cmp
 
-pub bytes_same : (a b : List ℕ) → bytes_eq a b ≡ true → a ≡ b
-bytes_same a b e = (bytes_eq-Decides a b).0 e
-
-bytes_self : (a : List ℕ) → bytes_eq a a ≡ true
-bytes_self a = (bytes_eq-Decides a a).1 refl
-
 equal_right : (a b c : List ℕ) → compared b c ≡ Equal → compared a c ≡ compared a b
 equal_right a b c e =
     nat_list_cmp_total.antisymm a c ∙ ap ordering_reverse (sym (nat_list_cmp_total.congr b c a e)) ∙ sym (nat_list_cmp_total.antisymm a b)
 
 equal_names : (a b : List ℕ) → compared a b ≡ Equal → a ≡ b
-equal_names a b e = bytes_same a b (sym (is_eq-slice_cmp a b) ∙ ap is_eq e)
+equal_names a b e = (bytes_eq-Decides a b).0 (sym (is_eq-slice_cmp a b) ∙ ap is_eq e)
 
 same_names : (a b : List ℕ) → bytes_eq a b ≡ true → compared a b ≡ Equal
 same_names a b e = by (compared a b) refl
@@ -55,7 +49,7 @@ before_trans a m b n c k one two = by (compared a b) (compared b c) refl refl on
     by Greater s p q x y = absurd cc
 
 pub before_itself : (a : List ℕ) (m : ℕ) → comes_before a m a m ≡ false
-before_itself a m = ap (λ (o : Ordering). first_by o (ltb m m)) (same_names a a (bytes_self a)) ∙ le-ltb m m (omega arith)
+before_itself a m = ap (λ (o : Ordering). first_by o (ltb m m)) (same_names a a ((bytes_eq-Decides a a).1 refl)) ∙ le-ltb m m (omega arith)
 
 -- ---- one head and a name and cycle
 
@@ -64,7 +58,7 @@ module _ (name : List ℕ) (cycle : ℕ) (h : KeyHead) where
   at_is e = by (bytes_eq h.name name) refl e
     where
       by : (b : Bool) → bytes_eq h.name name ≡ b → (b && eqb h.cycle cycle) ≡ true → (h.name ≡ name) × (h.cycle ≡ cycle)
-      by true is e = (bytes_same h.name name is, eqb-true _ _ e)
+      by true is e = ((bytes_eq-Decides h.name name).0 is, eqb-true _ _ e)
       by false is e = absurd cc
 
   -- what comes before it isn't it
@@ -150,6 +144,6 @@ name_before_too name h k e f = by (compared h.name k.name) (compared k.name name
 -- of one name, the greater cycle comes first
 pub same_name_lower : (name : List ℕ) (h k : KeyHead) → comes_before h.name h.cycle k.name k.cycle ≡ true → is_of_name name h ≡ true → is_of_name name k ≡ true → k.cycle < h.cycle
 same_name_lower name h k e one two =
-    let same : h.name ≡ k.name = bytes_same h.name name one ∙ sym (bytes_same k.name name two) in
-    let is : compared h.name k.name ≡ Equal = subst (λ (n : List ℕ). compared h.name n ≡ Equal) same (same_names h.name h.name (bytes_self h.name)) in
+    let same : h.name ≡ k.name = (bytes_eq-Decides h.name name).0 one ∙ sym ((bytes_eq-Decides k.name name).0 two) in
+    let is : compared h.name k.name ≡ Equal = subst (λ (n : List ℕ). compared h.name n ≡ Equal) same (same_names h.name h.name ((bytes_eq-Decides h.name h.name).1 refl)) in
     ltb-true _ _ (rw is at e)

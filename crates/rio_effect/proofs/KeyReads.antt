@@ -1,8 +1,8 @@
 -- The record of an object is found at the place that its key says, and read back as the object.
 use Rattle.std.proofs.Common.{◌≡◌, ◌⊎◌, inl, inr, ℕ, ◌+◌, ◌∙◌, List, [], ◌∷◌, drop, length, not, Option, Some, Result, Ok, refl, sym, ap, subst}
-use Rattle.std.specs.Prelude.{unwrap_or}
 use Rattle.std.specs.FinMap.{get}
 use Rattle.std.specs.List.{Contains, cons_option}
+use Rattle.std.proofs.lemmas.Option.{same_Some}
 use Rattle.rio_value.specs.declared.value.Value.{Value}
 use Rattle.rio_buffer.specs.declared.fault.ObjFault.{ObjFault}
 use Rattle.rio_format.specs.Objects.{value_at}
@@ -57,16 +57,13 @@ module _ (file : List ℕ) (links : List Link) (heads : List KeyHead) (m : State
   abbrev records : List KeyedRecord
   records = keyed_records links
 
-  same_value : (x y : Value) → Some x ≡ Some y → x ≡ y
-  same_value x y e = ap (λ (o : Option Value). unwrap_or o x) e
-
   of_object : ObjectOf records m is head → HasRecordOf links m head v
   of_object o =
       let x = object_of records m is o.r o.among in
       let among = (filter_in (λ t. is_top_key t.head) o.r records (filter_in (λ t. not (is_tree_key t.head)) o.r (top_keys records) o.among).0).0 in
       let p = placed file 100 links chain.links_are o.r among in
       let key : item_of_key o.r.head ≡ (head.name, head.cycle) = ap (λ (k : KeyHead). item_of_key k) o.head_is in
-      let same = same_value x.v v (sym x.object ∙ ap (get m.objects) key ∙ held) in
+      let same = same_Some x.v v (sym x.object ∙ ap (get m.objects) key ∙ held) in
       let read = (object_is_read m.classes o.r x.v x.read).read in
       let there = subst (λ (k : KeyHead). Contains links (RecordAt k.seek o.r.bytes)) o.head_is (contains_in (RecordAt o.r.head.seek o.r.bytes) links p.there) in
       record {

@@ -12,6 +12,7 @@ use Rattle.std.specs.declared.cmp.Ordering.{Ordering}
 use Rattle.std.specs.declared.cmp.Ordering.TheVariants.{Less, Equal, Greater}
 use Rattle.std.proofs.lemmas.Bool.{and_from}
 use Rattle.std.proofs.lemmas.Map.Views.{tells_apart}
+use Rattle.std.proofs.lemmas.Option.{same_Some}
 use Rattle.rio_types.specs.declared.class.ClassDef.{ClassDef}
 use Rattle.rio_value.specs.declared.value.Value.{Value}
 use Rattle.rio_key.specs.declared.head.KeyHead.{KeyHead}
@@ -30,6 +31,7 @@ use Rattle.rio_effect.specs.Laws.{KeysNameObjects, KeysStandForState}
 use Rattle.rio_state.proofs.KeyRecords.{ObjectOf, TreeOf, holder, key_record, object_of, record_key}
 use Rattle.rio_state.proofs.Members.{In, all_at, any_from, in_contained, in_map, map_in}
 use Rattle.rio_effect.proofs.ReadClasses.{object_is_read}
+use Rattle.rio_effect.proofs.NextCycles.{some_of}
 
 -- ---- one order
 
@@ -156,16 +158,13 @@ module _ (records : List KeyedRecord) (heads : List KeyHead) (m : State) (are : 
       let x = holder records m is item v e in
       (x.r.head, record_key records m is heads are x.r x.among, item_same item x.r ∙ x.has)
 
-  same_value : {A : Type 0} (x y : A) → Some x ≡ Some y → x ≡ y
-  same_value x y e = ap (λ o. unwrap_or o x) e
-
   told_same : (item : NameAndCycle) → find_key item_order item (map told_by_key heads) ≡ option_map told_of (get m.objects item)
   told_same item = by (found_in item heads) (get m.objects item) refl
     where
       by : FoundKey item heads → (o : Option Value) → get m.objects item ≡ o → find_key item_order item (map told_by_key heads) ≡ option_map told_of o
       by (key_found h i e there) (Some v) held =
           let x = key_told item h i e in
-          let same = same_value x.0 v (sym x.1 ∙ held) in
+          let same = same_Some x.0 v (sym x.1 ∙ held) in
           there ∙ ap (λ (l : Listed). let o : Option Listed = Some l in o) (sym x.2 ∙ ap told_of same)
       by (key_found h i e there) None held = let x = key_told item h i e in let f = sym x.1 ∙ held in absurd cc
       by (no_key none there) (Some v) held = let x = object_key item v held in absurd (none x.0 x.1 x.2)
@@ -207,10 +206,6 @@ pub keys_stand_for_state : KeysStandForState
 keys_stand_for_state records heads m are is = keys_stand records heads m are is
 
 -- ---- the object of a key
-
-some_of : {A : Type 0} (o : Option A) → is_some o ≡ true → (x : A) × (o ≡ Some x)
-some_of None e = absurd cc
-some_of (Some x) e = (x, refl)
 
 pub keys_name_objects : KeysNameObjects
 keys_name_objects heads m head are c =

@@ -58,7 +58,7 @@ greatest_high (y ∷ ys) x (inr i) = let rest = greatest_high ys x i in omega (a
 
 -- ---- items of a state
 
-some_of : {A : Type 0} (o : Option A) → is_some o ≡ true → (x : A) × (o ≡ Some x)
+pub some_of : {A : Type 0} (o : Option A) → is_some o ≡ true → (x : A) × (o ≡ Some x)
 some_of None e = absurd cc
 some_of (Some x) e = (x, refl)
 
@@ -72,9 +72,6 @@ module _ (m : State) (item : NameAndCycle) where
       let there : list_any (eq_by_cmp item_order item) (keys m.objects) ≡ true = sym (contains_key-keys m.objects item) ∙ ap is_some e in
       let p = passing (eq_by_cmp item_order item) (keys m.objects) there in
       subst (λ (k : NameAndCycle). In k (keys m.objects)) (sym (tells_apart items_tie item p.x p.passes)) p.among
-
-same_name : (a b : List ℕ) → bytes_eq a b ≡ true → a ≡ b
-same_name a b e = (bytes_eq-Decides a b).0 e
 
 own_name : (a b : List ℕ) → a ≡ b → bytes_eq a b ≡ true
 own_name a b e = (bytes_eq-Decides a b).1 e
@@ -107,14 +104,14 @@ module _ (records : List KeyedRecord) (heads : List KeyHead) (m : State) (name :
       let held = key_held m from.0 kept.0 in
       let x = holder records m is from.0 held.0 held.1 in
       let own = item_is from.0 x.r x.has in
-      let high = heads_high name heads x.r.head (record_key records m is heads are x.r x.among) (own_name x.r.head.name name (own.0 ∙ same_name from.0.0 name kept.1)) in
+      let high = heads_high name heads x.r.head (record_key records m is heads are x.r x.among) (own_name x.r.head.name name (own.0 ∙ (bytes_eq-Decides from.0.0 name).0 kept.1)) in
       let same : x.r.head.cycle ≡ cycle = own.1 ∙ from.2 in
       omega (arith, high, same)
 
   told : next_cycle m name ≡ greatest_cycle name heads + 1
   told =
       let low = greatest_low (greatest_cycle name heads) (cycles_of m name) cycle_key in
-      let high = heads_low name (last_cycle m name) heads (λ h i e. greatest_high (cycles_of m name) h.cycle (key_cycle h i (same_name h.name name e))) in
+      let high = heads_low name (last_cycle m name) heads (λ h i e. greatest_high (cycles_of m name) h.cycle (key_cycle h i ((bytes_eq-Decides h.name name).0 e))) in
       omega (arith, low, high)
 
   not_there : (h : KeyHead) → In h heads → is_at_cycle name (next_cycle m name) h ≡ true → ⊥

@@ -1,9 +1,9 @@
 -- The record of an object that a put adds holds the object.
-use Rattle.std.proofs.Common.{◌≡◌, ℕ, zero, suc, ◌^◌, ◌<◌, ◌≤◌, ◌∙◌, List, [], ◌++◌, length, replicate, Bool, true, false, cond, not, ltb, ◌||◌, ◌==◌, Option, Some, None, Ok, refl, ap, arith}
+use Rattle.std.proofs.Common.{◌≡◌, ℕ, zero, suc, ◌^◌, ◌<◌, ◌≤◌, ◌∙◌, List, [], ◌++◌, length, replicate, Bool, true, false, cond, not, ltb, ◌==◌, Option, Some, None, Ok, refl, ap, arith}
 use Rattle.std.specs.Prelude.{if◌then◌else◌, unwrap_or}
 use Rattle.std.specs.List.{list_all}
 use Rattle.std.specs.Option.{option_map_or}
-use Rattle.std.proofs.lemmas.Bool.{and_from, lt-ltb, ltb-false}
+use Rattle.std.proofs.lemmas.Bool.{and_from, lt-ltb, ltb-false, not-false, or_parts}
 use Rattle.std.proofs.lemmas.List.{length-replicate}
 use Rattle.rio_num.specs.Text.{long_form, short_form, text_bytes}
 use Rattle.rio_num.specs.Word.{is_item_text}
@@ -29,7 +29,7 @@ use Rattle.rio_record.specs.declared.words.KeyWords.{KeyWords}
 use Rattle.rio_state.specs.Contents.{can_be_stored, is_padding, object_in, stored_in}
 use Rattle.rio_state.specs.KeyedRecords.{KeyedRecord, record_data}
 use Rattle.rio_step.proofs.ApartLaws.{none_at, not_refused}
-use Rattle.rio_step.proofs.FitStays.{true_from_not, unrefused_fit}
+use Rattle.rio_step.proofs.FitStays.{unrefused_fit}
 use Rattle.rio_step.specs.Refusing.{FullMark, goes_too_deep, has_too_many, is_at_last_cycle, is_list_name, is_too_large, is_tree_name, lacks_class, object_class, put_value, refusal_of, refusals}
 use Rattle.rio_effect.specs.ObjectRecord.{data_of_put, words_of_put}
 use Rattle.rio_effect.proofs.PutClasses.{IsObjectClass, object_class_is, short_item, versions_in_range}
@@ -37,14 +37,6 @@ use Rattle.rio_effect.proofs.Versions.{fits_in_versions}
 use Rattle.rio_effect.proofs.WrittenLengths.{written_length}
 
 -- ---- what an accepted put knows
-
-second : (a b : Bool) → (a || b) ≡ false → b ≡ false
-second true b e = absurd cc
-second false b e = e
-
-first : (a b : Bool) → (a || b) ≡ false → a ≡ false
-first true b e = absurd cc
-first false b e = refl
 
 -- the class of an object, none of another value
 abbrev pub class_of : Value → List ℕ
@@ -69,7 +61,7 @@ module _ (classes : List ClassDef) (v : Value) where
   taken_class : (own : Option (List ℕ)) → option_map_or (λ c. fits classes c v) own false ≡ true → option_map_or (λ c. not (can_be_put classes c)) own false ≡ false
       → can_be_put classes (unwrap_or own []) ≡ true
   taken_class None fit e = absurd cc
-  taken_class (Some c) fit e = true_from_not _ e
+  taken_class (Some c) fit e = not-false _ e
 
 pub accepted : (m : State) (name : List ℕ) (v : Value) (mark : Option FullMark) → refusal_of m (Put name v) mark ≡ None → IsAccepted m name (put_value m v)
 unfolding refusal_of
@@ -88,11 +80,11 @@ accepted m name v mark e =
       free = free;
       no_tree = tree;
       fit = fit_class m.classes w (object_class w) fit;
-      taken = taken_class m.classes w (object_class w) fit (second _ _ lacks);
+      taken = taken_class m.classes w (object_class w) fit ((or_parts _ _ lacks).1);
       cycle = ltb-false cycle_limit (next_cycle m name) last;
       short = large;
       shallow = deep;
-      few = first _ _ many;
+      few = (or_parts _ _ many).0;
     }
 
 -- ---- the record

@@ -1,9 +1,10 @@
 -- The class of an object that a record holds is that of the record's key.
 use Rattle.std.proofs.Common.{◌≡◌, ℕ, ℤ, ◌==◌, ◌∙◌, List, [], ◌∷◌, ◌++◌, length, slice_get, Bool, true, false, cond, ◌&&◌, Option, Some, None, Ok, Err, refl, sym, ap, subst}
-use Rattle.std.specs.Prelude.{if◌then◌else◌, is_some, unwrap_or}
+use Rattle.std.specs.Prelude.{if◌then◌else◌}
 use Rattle.std.specs.Str.{bytes_eq}
 use Rattle.std.proofs.lemmas.Bool.{and_parts}
 use Rattle.std.proofs.lemmas.Slice.Eq.{bytes_eq-Decides}
+use Rattle.std.proofs.lemmas.Option.{same_Some}
 use Rattle.rio_types.specs.declared.class.ClassDef.{ClassDef}
 use Rattle.rio_types.specs.declared.kind.Kind.TheVariants.{Inline}
 use Rattle.rio_value.specs.declared.value.Part.{Part}
@@ -18,6 +19,7 @@ use Rattle.rio_format.specs.Slots.{kinded}
 use Rattle.rio_state.specs.Contents.{can_be_stored, is_padding, object_in, stored_in}
 use Rattle.rio_state.specs.KeyedRecords.{KeyedRecord, record_data}
 use Rattle.rio_step.specs.Refusing.{object_class}
+use Rattle.rio_effect.proofs.NextCycles.{some_of}
 
 abbrev fit_layer : List ClassDef → Value-F Value Part → Fitting
 fit_layer classes x =
@@ -61,14 +63,10 @@ layer_class classes layer.Null class labels after e = absurd cc
 layer_class classes (layer.Back label) class labels after e = absurd (no_reference classes (slice_get labels label) class labels after e)
 layer_class classes (layer.Opaque own len) class labels after e = absurd cc
 
-some_there : {A : Type 0} (x : Option A) → is_some x ≡ true → (a : A) × (x ≡ Some a)
-some_there None e = absurd cc
-some_there (Some a) e = (a, refl)
-
 -- what fits a class is an object of it
 pub fits_class : (classes : List ClassDef) (class : List ℕ) (v : Value) → fits classes class v ≡ true → object_class v ≡ Some class
 fits_class classes class v e =
-    let there = some_there ((fitting_of classes v).fits (kinded (Inline class)) []) e in
+    let there = some_of ((fitting_of classes v).fits (kinded (Inline class)) []) e in
     let fit = fold_out-Value Fitting (List ℕ × Fitting) (fitting_step classes) (λ p. (p.name, p.value)) v in
     layer_class classes (out-Value v) class [] there.0 (subst (λ (f : Fitting). f.fits (kinded (Inline class)) [] ≡ Some there.0) fit there.1)
 
@@ -80,10 +78,7 @@ pub record IsReadAs (classes : List ClassDef) (r : KeyedRecord) (v : Value) : Ty
   pub class : object_class v ≡ Some r.head.class
 
 kept_value : (b : Bool) (w v : Value) → (if b then Some w else None) ≡ Some v → (b ≡ true) × (w ≡ v)
-kept_value true w v e = (refl, same w v e)
-  where
-    same : (w v : Value) → Some w ≡ Some v → w ≡ v
-    same w v e = ap (λ (o : Option Value). unwrap_or o w) e
+kept_value true w v e = (refl, same_Some w v e)
 kept_value false w v e = absurd cc
 
 stored_read : (classes : List ClassDef) (r : KeyedRecord) (v : Value) (step : Step Value) → stored_in classes r step ≡ Some v → (only_value step ≡ Ok v) × (object_class v ≡ Some r.head.class)

@@ -11,7 +11,7 @@ use Rattle.rio_host.specs.declared.call.Call.TheVariants.{Sync, Saying, Said}
 use Rattle.rio_host.specs.declared.change.Change.{Change}
 use Rattle.rio_host.specs.declared.disk.Disk.{Disk}
 use Rattle.rio_host.specs.Replay.{Makes, Flown, at_first, disk_behind, replay, MayLeave, Memory, and_then, disk_of, IsStill}
-use Rattle.rio_host.specs.ReplayLaws.{flown_push, flown_back, sound, left_now, now_left}
+use Rattle.rio_host.specs.ReplayLaws.{flown_push, sound, left_now, now_left}
 use Rattle.rio_host.specs.Memory.{mem_view, text_now}
 use Rattle.rio_host.proofs.Kept.{disk_of-and_then}
 use Rattle.rio_host.proofs.Moments.{elapses_join}
@@ -34,6 +34,11 @@ elapses_call m call m' d s r d' s' r' R is has = subst (λ (x : Memory). Elapses
     long = length-append m.calls (call ∷ [])
 
 -- ---- a call that sets a change in flight
+
+flown_back : (base : List ℕ) (changes : List Change) (change : Change) (image : List ℕ) → Flown base (changes ++ change ∷ []) image → (next : List ℕ) × Flown base changes next × Makes change next image
+flown_back base [] change image flown = (base, refl, subst (λ (l : List ℕ). Makes change base l) (sym flown.2) flown.1)
+flown_back base (c ∷ changes) change image flown =
+    let rest = flown_back flown.0 changes change image flown.2 in (rest.0, (flown.0, flown.1, rest.1), rest.2)
 
 module _ (m : Memory) (call : Call) (change : Change) (contents : List ℕ)
     (adds : disk_behind (disk_of m) call ≡ record (disk_of m) { flight = (disk_of m).flight ++ change ∷ []; contents = contents })

@@ -1,12 +1,15 @@
 -- One call more joins those that are recorded, and what is kept is again that of the disk.
-use Rattle.std.proofs.Common.{◌≡◌, ℕ, List, [], ◌∷◌, ◌++◌, sym, ◌∙◌, ap}
+use Rattle.std.proofs.Common.{◌≡◌, ℕ, List, [], ◌∷◌, ◌++◌, refl, sym, ◌∙◌, ap}
 use Rattle.byteorder.specs.Endian.{big_bytes}
 use Rattle.rio_host.specs.declared.call.Call.{Call}
 use Rattle.rio_host.specs.declared.call.Call.TheVariants.{Write, Word, FailedWrite, FailedWord, Sync, Saying, Said}
 use Rattle.rio_host.specs.declared.disk.Disk.{Disk}
 use Rattle.rio_host.specs.Replay.{put_at, at_first, disk_behind, replay, Memory, and_then, disk_of}
-use Rattle.rio_host.specs.ReplayLaws.{replay_push}
 use Rattle.rio_host.specs.Memory.{IsKept}
+
+replay_push : (d : Disk) (calls : List Call) (call : Call) → replay d (calls ++ call ∷ []) ≡ disk_behind (replay d calls) call
+replay_push d [] call = refl
+replay_push d (c ∷ calls) call = replay_push (disk_behind d c) calls call
 
 pub disk_of-and_then : (m : Memory) (call : Call) → disk_of (and_then m call) ≡ disk_behind (disk_of m) call
 disk_of-and_then m call = replay_push (at_first m.first) m.calls call

@@ -19,15 +19,6 @@ pub flown_push : (base : List ℕ) (changes : List Change) (change : Change) (ne
 flown_push base [] change next image flown makes = (image, subst (λ (l : List ℕ). Makes change l image) flown makes, refl)
 flown_push base (c ∷ changes) change next image flown makes = (flown.0, flown.1, flown_push flown.0 changes change next image flown.2 makes)
 
-pub flown_back : (base : List ℕ) (changes : List Change) (change : Change) (image : List ℕ) → Flown base (changes ++ change ∷ []) image → (next : List ℕ) × Flown base changes next × Makes change next image
-flown_back base [] change image flown = (base, refl, subst (λ (l : List ℕ). Makes change base l) (sym flown.2) flown.1)
-flown_back base (c ∷ changes) change image flown =
-    let rest = flown_back flown.0 changes change image flown.2 in (rest.0, (flown.0, flown.1, rest.1), rest.2)
-
-pub replay_push : (d : Disk) (calls : List Call) (call : Call) → replay d (calls ++ call ∷ []) ≡ disk_behind (replay d calls) call
-replay_push d [] call = refl
-replay_push d (c ∷ calls) call = replay_push (disk_behind d c) calls call
-
 put_at_is : (file : List ℕ) (place : ℕ) (bytes : List ℕ) → place ≤ length file → put_at file place bytes ≡ spliced file place bytes
 put_at_is file place bytes le = grind (arith, nat_tests)
 

@@ -12,9 +12,9 @@ use Rattle.rio_format.specs.Written.{all, both, just}
 use Rattle.rio_buffer.specs.Writer.{Writer}
 use Rattle.rio_format.specs.WrittenElements.{WrittenElement, base_element, inline_element, kind_element, member_element, pointer_element, primitive_name, reaches_object, starred, written_elements}
 use Rattle.rio_write.specs.Writing.{pointer_to}
-use Rattle.rio_info.specs.WrittenParts.{array_front, array_writer, class_front, class_writing, counted_added, element_bytes, element_numbers, element_writing, elements_writer, four_bytes, info_writer, list_front, list_writer, named_bytes, stated_bytes}
+use Rattle.rio_info.specs.WrittenParts.{array_front, array_writer, class_front, class_writing, counted_added, element_numbers, element_writing, elements_writer, four_bytes, info_writer, list_front, list_writer, named_bytes, stated_bytes}
 use Rattle.rio_info.proofs.ClassForms.{bases_writer, elements_are, members_writer}
-use Rattle.rio_info.proofs.ListForms.{IsWritten, any_object_is_behind, any_object_is_inside, base_is, basic_type_is, class_written, counted_is, object_is_behind, object_is_inside, string_is}
+use Rattle.rio_info.proofs.ListForms.{IsWritten, any_object_is_behind, any_object_is_inside, base_is, basic_type_is, class_written, counted_is, element_bytes, object_is_behind, object_is_inside, string_is}
 use Rattle.rio_info.proofs.NamedAmounts.{Amounts, all_amounts, all_used, both_amounts, headed_amounts, just_amounts, pointed_classes, pointer_amounts, stands_once, total}
 
 -- ---- elements

@@ -23,7 +23,7 @@ use Rattle.rio_write.specs.Writing.{part_writing, pointer_to}
 use Rattle.rio_format.specs.WrittenBytes.{class_list_bytes}
 use Rattle.rio_format.specs.WrittenElements.{WrittenElement, base_element, count_parts, member_element, written_elements}
 use Rattle.rio_format.specs.WrittenList.{array_object, class_links, class_list_value, class_pointer, element_object, element_parts, index_list, info_object, label_count, linked, list_object, named_object, plain_object, pointers_from}
-use Rattle.rio_info.specs.WrittenParts.{array_front, class_front, class_writer, class_writing, counted_added, element_bytes, element_writing, elements_writer, four_bytes, index_bytes, list_front, list_writer, named_bytes, plain_bytes, stated_bytes}
+use Rattle.rio_info.specs.WrittenParts.{array_front, class_front, class_writing, counted_added, element_writing, elements_writer, four_bytes, headed_object, index_bytes, info_writer, list_front, list_writer, named_bytes, plain_bytes, stated_bytes}
 
 -- ---- one behind the other
 
@@ -163,6 +163,10 @@ record IsElementClass (class : List ℕ) (version : ℤ) (members : List Member)
 -- what stands behind the TStreamerElement is written so
 abbrev Adds : List Part → List Member → List ℕ → Type 0
 Adds parts members added = fields_bytes (map member_field members) (map (part_writing description_classes) parts) ≡ just added
+
+-- the object of an element that adds these bytes
+abbrev pub element_bytes : WrittenElement → List ℕ → List ℕ
+element_bytes e added = headed_object e.version (stated_bytes e ++ added)
 
 -- a pointer to its object, with these bytes behind the TStreamerElement
 abbrev pub IsWritten : WrittenElement → List ℕ → Type 0
@@ -329,7 +333,7 @@ module _ (classes : List ClassDef) (c : ClassDef) where
       ap (λ (f : Writer). pointer_to (codes "TObjArray") (headed_bytes (pos 3) f)) (array_body elements)
       ∙ ap (λ (n : ℕ). pointer_to (codes "TObjArray") (headed_bytes (pos 3) (both (just (array_front n)) (all any_pointer elements)))) elements_counted
 
-  pub class_written : (class_writing classes c).bytes link ≡ class_writer classes c
+  pub class_written : (class_writing classes c).bytes link ≡ both (pointer_to (codes "TStreamerInfo") (info_writer classes c)) (just (text_bytes []))
   class_written =
       let object = λ (f : Writer). pointer_to (codes "TStreamerInfo") (headed_bytes (pos 9) f) in
       ap (λ (w : Writing). w.bytes link) (link_is 0)

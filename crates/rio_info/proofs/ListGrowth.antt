@@ -4,6 +4,7 @@ use Rattle.std.proofs.lemmas.List.{append-nil}
 use Rattle.std.proofs.lemmas.List.Folds.{list_any-append}
 use Rattle.std.specs.Prelude.{if◌then◌else◌}
 use Rattle.std.specs.Str.{bytes_eq}
+use Rattle.std.proofs.Math.Bool.{or-true}
 use Rattle.rio_types.specs.declared.class.ClassDef.{ClassDef}
 use Rattle.rio_buffer.specs.ReaderState.{WordsMet, no_words}
 use Rattle.rio_format.specs.TreeClasses.{array_member, branch_class, leaf_class, leaf_members, object_branch_class, object_branch_members, tree_class, tree_classes, tree_members, written_classes}
@@ -119,14 +120,10 @@ module _ (classes : List ClassDef) where
   first_uses class c more e =
       list_any-append (λ k. bytes_eq k class) (class_names classes c) (all_used (class_names classes) more) ∙ ap (λ (b : Bool). b || uses more class) e
 
-  or_true : (b : Bool) → (b || true) ≡ true
-  or_true true = refl
-  or_true false = refl
-
   rest_uses : (class : List ℕ) (c : ClassDef) (more : List ClassDef) → uses more class ≡ true → uses (c ∷ more) class ≡ true
   rest_uses class c more e =
       list_any-append (λ k. bytes_eq k class) (class_names classes c) (all_used (class_names classes) more)
-      ∙ ap (λ (b : Bool). is_among (class_names classes c) class || b) e ∙ or_true (is_among (class_names classes c) class)
+      ∙ ap (λ (b : Bool). is_among (class_names classes c) class || b) e ∙ or-true (is_among (class_names classes c) class)
 
   inline_used : (reaches : Bool) (name class : List ℕ) (more : List (List ℕ)) → EitherMet (is_among ((inline_element reaches name class).class ∷ more)) (codes "TStreamerObject") (codes "TStreamerObjectAny")
   inline_used true name class more = inl refl

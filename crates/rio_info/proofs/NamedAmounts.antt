@@ -7,6 +7,7 @@ use Rattle.std.specs.Prelude.{if◌then◌else◌, not}
 use Rattle.std.specs.Int.{w16, cast_unsigned}
 use Rattle.std.specs.List.{find, list_any}
 use Rattle.std.specs.Str.{bytes_eq}
+use Rattle.std.proofs.lemmas.Bool.{not-true, or_parts}
 use Rattle.byteorder.specs.Endian.{big_bytes}
 use Rattle.rio_buffer.specs.ReaderState.{WordsMet, with_label, with_name}
 use Rattle.rio_format.specs.Slots.{Slot}
@@ -36,14 +37,6 @@ abbrev pub stands_once : List ℕ → List (List ℕ) → Bool
 stands_once class [] = false
 stands_once class (k ∷ ks) = if bytes_eq class k then not (list_any (bytes_eq class) ks) else stands_once class ks
 
-neither : (a b : Bool) → (a || b) ≡ false → (a ≡ false) × (b ≡ false)
-neither true b h = absurd cc
-neither false b h = (refl, h)
-
-negated : (b : Bool) → not b ≡ true → b ≡ false
-negated true h = absurd cc
-negated false h = refl
-
 module _ (class : List ℕ) (met more : List ℕ → Bool) (one : (k : List ℕ) → more k ≡ (bytes_eq class k || met k)) where
   -- a name other than the one that is met now
   other_met : (k : List ℕ) → bytes_eq class k ≡ false → more k ≡ met k
@@ -55,7 +48,7 @@ module _ (class : List ℕ) (met more : List ℕ → Bool) (one : (k : List ℕ)
   others_met : (ks : List (List ℕ)) → list_any (bytes_eq class) ks ≡ false → bytes_met more ks ≡ bytes_met met ks
   others_met [] none = refl
   others_met (k ∷ ks) none =
-      let parts = neither (bytes_eq class k) (list_any (bytes_eq class) ks) none in
+      let parts = or_parts (bytes_eq class k) (list_any (bytes_eq class) ks) none in
       both_met k (bytes_met more ks) (bytes_met met ks) (more k) (met k) (other_met k parts.0) (others_met ks parts.1)
 
   module _ (unmet : met class ≡ false) where
@@ -74,7 +67,7 @@ module _ (class : List ℕ) (met more : List ℕ → Bool) (one : (k : List ℕ)
       where
         at : (b : Bool) → bytes_eq class k ≡ b → (if b then not (list_any (bytes_eq class) ks) else stands_once class ks) ≡ true
             → (stands_once class ks ≡ true → bytes_met more ks ≡ bytes_met met ks + (length class + 1)) → bytes_met more (k ∷ ks) ≡ bytes_met met (k ∷ ks) + (length class + 1)
-        at true e h rest = this_met k (bytes_met more ks) (bytes_met met ks) e (others_met ks (negated (list_any (bytes_eq class) ks) h))
+        at true e h rest = this_met k (bytes_met more ks) (bytes_met met ks) e (others_met ks (not-true (list_any (bytes_eq class) ks) h))
         at false e h rest =
             let here = both_met k (bytes_met more ks) (bytes_met more ks) (more k) (met k) (other_met k e) refl in
             let behind = rest h in

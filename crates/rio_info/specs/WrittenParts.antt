@@ -59,10 +59,6 @@ stated_bytes e = headed_object (pos 4) (named_bytes e.name ++ (element_numbers e
 abbrev pub counted_added : ClassDef → List ℕ → List ℕ
 counted_added owner counter = four_bytes owner.version ++ (text_bytes counter ++ text_bytes owner.name)
 
--- the object of an element that adds these bytes
-abbrev pub element_bytes : WrittenElement → List ℕ → List ℕ
-element_bytes e added = headed_object e.version (stated_bytes e ++ added)
-
 -- what the class of an element adds
 abbrev pub own_bytes : ElementClass → List ℕ
 own_bytes (BaseElement version) = four_bytes version
@@ -117,10 +113,6 @@ class_front c = named_bytes c.name ++ (four_bytes (pos c.sum) ++ four_bytes c.ve
 -- the object of a class
 abbrev pub info_writer : List ClassDef → ClassDef → Writer
 info_writer classes c = headed_bytes (pos 9) (both (just (class_front c)) (elements_writer classes c))
-
--- a pointer to the object of a class, and the empty option
-abbrev pub class_writer : List ClassDef → ClassDef → Writer
-class_writer classes c = both (pointer_to (codes "TStreamerInfo") (info_writer classes c)) (just (text_bytes []))
 
 -- what stands in a list before so many classes: no name
 abbrev pub list_front : ℕ → List ℕ

@@ -193,9 +193,10 @@ none_above_first heads m name h cycle are found above =
     let first : greatest_cycle name heads ≡ h.cycle = greatest_is name heads (keys_are_ordered heads m are) ∙ ap cycle_of found in
     above_none name cycle heads (omega (arith, first, above))
 
-named_at : (name : List ℕ) (heads : List KeyHead) (h : KeyHead) → head_of name None heads ≡ Some h → is_some (head_of name (Some h.cycle) heads) ≡ true
-named_at name [] h found = absurd cc
-named_at name (k ∷ ks) h found = by (bytes_eq k.name name) found (named_at name ks h)
+-- the first key of a name is found by its cycle
+pub first_is_there : (name : List ℕ) (heads : List KeyHead) (h : KeyHead) → head_of name None heads ≡ Some h → is_some (head_of name (Some h.cycle) heads) ≡ true
+first_is_there name [] h found = absurd cc
+first_is_there name (k ∷ ks) h found = by (bytes_eq k.name name) found (first_is_there name ks h)
   where
     by : (b : Bool) → cond b (Some k) (find (is_of_name name) ks) ≡ Some h
         → (find (is_of_name name) ks ≡ Some h → is_some (find (is_at_cycle name h.cycle) ks) ≡ true)
@@ -204,7 +205,3 @@ named_at name (k ∷ ks) h found = by (bytes_eq k.name name) found (named_at nam
         let same : k ≡ h = cc in
         ap (λ b. is_some (cond b (Some k) (find (is_at_cycle name h.cycle) ks))) (eq-eqb k.cycle h.cycle (ap (λ (x : KeyHead). x.cycle) same))
     by false found ih = ih found
-
--- the first key of a name is found by its cycle
-pub first_is_there : (name : List ℕ) (heads : List KeyHead) (h : KeyHead) → head_of name None heads ≡ Some h → is_some (head_of name (Some h.cycle) heads) ≡ true
-first_is_there name heads h found = named_at name heads h found

@@ -8,6 +8,7 @@ use Rattle.std.proofs.lemmas.Bool.{and_parts, eqb-true}
 use Rattle.std.proofs.lemmas.Fmt.{decimal-digits_value}
 use Rattle.std.proofs.lemmas.List.{take-append-drop}
 use Rattle.std.proofs.lemmas.List.Folds.{length-prefix_len}
+use Rattle.std.proofs.lemmas.Option.{same_Some}
 use Rattle.rio_num.specs.At.{At}
 use Rattle.rio_num.specs.Reading.{◌>>=◌, skip}
 use Rattle.rio_num.specs.Word.{is_item_byte, is_name_text}
@@ -102,15 +103,12 @@ pub record IsDimOf (before : List Leaf) (name : List ℕ) (dim : Dim) (bytes : L
 abbrev gives : Dim × At → ReadLeaf Dim
 gives x = Ok x
 
-some_is : {A : Type 0} (x y : A) → Some x ≡ Some y → x ≡ y
-some_is x y e = cc
-
 module _ (before : List Leaf) (name word : List ℕ) (dim : Dim) where
   is_fixed : is_dimension word ≡ true → Some (Fixed (digits_value 10 word)) ≡ Some dim → IsDimOf before name dim (91 ∷ (word ++ 93 ∷ []))
   is_fixed test e =
       let outer = and_parts (not (slice_index word 0 == 48) && all_ascii_digits word) (is_leaf_count (digits_value 10 word)) test in
       let made : IsDimOf before name (Fixed (digits_value 10 word)) (91 ∷ (word ++ 93 ∷ [])) = record { fits = outer.1; text = ap (λ (w : List ℕ). 91 ∷ (w ++ 93 ∷ [])) (sym (number_back word test)); ends = λ rest. refl } in
-      subst (λ (d : Dim). IsDimOf before name d (91 ∷ (word ++ 93 ∷ []))) (some_is (Fixed (digits_value 10 word)) dim e) made
+      subst (λ (d : Dim). IsDimOf before name d (91 ∷ (word ++ 93 ∷ []))) (same_Some (Fixed (digits_value 10 word)) dim e) made
 
   is_counted : some_where (is_name_text word && counts_for before name word) (Counted word 1) ≡ Some dim → IsDimOf before name dim (91 ∷ (word ++ 93 ∷ []))
   is_counted e =

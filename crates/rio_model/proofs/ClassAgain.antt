@@ -190,7 +190,7 @@ bases_again (b ∷ bs) ls s t c h =
 
 -- ---- classes
 
-end_again : (s : At) → (next_at s).token ≡ End → end_at s ≡ Ok (tt, behind s)
+pub end_again : (s : At) → (next_at s).token ≡ End → end_at s ≡ Ok (tt, behind s)
 unfolding end_at
 end_again s h = rw h refl
 

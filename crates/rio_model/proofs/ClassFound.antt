@@ -196,7 +196,7 @@ bases_found bases s t h = bases_by (marked 58 s) bases s t refl h
 
 -- ---- classes
 
-is_end_is : (token : Token) → is_end token ≡ true → token ≡ End
+pub is_end_is : (token : Token) → is_end token ≡ true → token ≡ End
 is_end_is End h = refl
 is_end_is Word h = absurd (cc)
 is_end_is (Mark k) h = absurd (cc)
@@ -204,7 +204,7 @@ is_end_is Chars h = absurd (cc)
 is_end_is Bad h = absurd (cc)
 is_end_is Cut h = absurd (cc)
 
-end_found : (s : At) (x : Unit {0}) (t : At) → end_at s ≡ Ok (x, t) → ((next_at s).token ≡ End) × (t ≡ behind s)
+pub end_found : (s : At) (x : Unit {0}) (t : At) → end_at s ≡ Ok (x, t) → ((next_at s).token ≡ End) × (t ≡ behind s)
 unfolding end_at
 end_found s x t h =
     let w = taken_is (some_if (is_end (next_at s).token) tt) s x t h in

@@ -34,7 +34,7 @@ record Described (c : ClassDef) : Type 0 where
   bases : list_all is_base_number c.bases ≡ true
   members : are_stated_members [] c.members ≡ true
 
-version_fits : (version : ℤ) → is_class_version version ≡ true → fits_signed 32 version ≡ true
+pub version_fits : (version : ℤ) → is_class_version version ≡ true → fits_signed 32 version ≡ true
 version_fits (pos n) h = let less = (and_parts (leb 1 n) (leb n 32767) h).1 in grind (arith, nat_tests)
 version_fits (negsuc n) h = absurd (cc)
 

@@ -1,9 +1,9 @@
 -- The elements of members are read as these members.
-use Rattle.std.proofs.Common.{◌≡◌, ◌⊎◌, inl, inr, ◌∙◌, ℕ, ◌+◌, pos, List, [], ◌∷◌, ◌++◌, codes, length, map, Bool, true, false, ◌==◌, ◌&&◌, ◌||◌, not, leb, Option, Some, None, refl, sym, ap, arith, suc, eqb-true, if◌then◌else◌}
+use Rattle.std.proofs.Common.{◌≡◌, inl, inr, ◌∙◌, ℕ, ◌+◌, pos, List, [], ◌∷◌, ◌++◌, codes, map, Bool, true, false, ◌&&◌, ◌||◌, not, leb, Option, Some, None, refl, sym, ap, arith, if◌then◌else◌}
 use Rattle.std.specs.List.{list_any}
 use Rattle.std.specs.Ordering.{int_eq}
 use Rattle.std.specs.Str.{bytes_eq}
-use Rattle.std.proofs.lemmas.Bool.{and_parts}
+use Rattle.std.proofs.lemmas.Bool.{and_parts, or_cases, or_left, or_right}
 use Rattle.std.proofs.lemmas.Bool.Decides.{nat_tests}
 use Rattle.std.proofs.lemmas.List.Folds.{list_any-append}
 use Rattle.rio_num.specs.Word.{is_name_text}
@@ -19,12 +19,13 @@ use Rattle.rio_format.specs.Descriptions.{is_element}
 use Rattle.rio_format.specs.Elements.{Element, base_of_element, bases_of, counters_behind, element_of, kind_of, member_of, members_of}
 use Rattle.rio_format.specs.Fits.{fits_signed}
 use Rattle.rio_model.specs.Stated.{are_stated_members, has_counter, is_none, is_stated_kind, is_stated_member}
-use Rattle.rio_model.specs.ClassGrammar.{has_member, primitive_of}
+use Rattle.rio_model.specs.ClassGrammar.{primitive_of}
 use Rattle.rio_format.specs.WrittenElements.{counted_element, fixed_element, inline_element, kind_element, member_element, plain_element, pointer_element, primitive_code, reaches_object}
 use Rattle.rio_format.specs.WrittenList.{element_object, pointers_from}
 use Rattle.rio_format.specs.WrittenElements.{WrittenElement as Written}
 use Rattle.rio_model.proofs.DescribedElements.{element_said, said}
 use Rattle.rio_model.proofs.DescribedKinds.{counted_kind_back, counter_kind, fixed_kind_back, inline_kind, plain_kind, pointer_kind, text_kind}
+use Rattle.rio_model.proofs.ReadClasses.{stated_parts}
 
 -- ---- one element
 
@@ -107,29 +108,17 @@ kind_read context owner before after counters name (Other code) counts h = absur
 
 -- ---- the counters so far
 
-or_cases : (a b : Bool) → (a || b) ≡ true → (a ≡ true) ⊎ (b ≡ true)
-or_cases true b h = inl refl
-or_cases false b h = inr h
-
 or_none : (a : Bool) → (a || false) ≡ true → a ≡ true
 or_none true h = refl
 or_none false h = h
 
-or_behind : (a b : Bool) → b ≡ true → (a || b) ≡ true
-or_behind true b h = refl
-or_behind false b h = h
-
-or_front : (a b : Bool) → a ≡ true → (a || b) ≡ true
-or_front true b h = refl
-or_front false b h = absurd (cc)
-
 still_counts : (counts : Bool) (name new : List ℕ) (counters : List (List ℕ)) → list_any (bytes_eq name) counters ≡ true → list_any (bytes_eq name) (with_counter counts new counters) ≡ true
-still_counts true name new counters h = or_behind (bytes_eq name new) (list_any (bytes_eq name) counters) h
+still_counts true name new counters h = or_right (bytes_eq name new) (list_any (bytes_eq name) counters) h
 still_counts false name new counters h = h
 
 newly_counts : (counts : Bool) (name new : List ℕ) (counters : List (List ℕ)) → (bytes_eq new name && counts) ≡ true → list_any (bytes_eq name) (with_counter counts new counters) ≡ true
 newly_counts true name new counters h =
-    or_front (bytes_eq name new) (list_any (bytes_eq name) counters) (bytes_eq-sym name new ∙ (and_parts (bytes_eq new name) true h).0)
+    or_left (bytes_eq name new) (list_any (bytes_eq name) counters) (bytes_eq-sym name new ∙ (and_parts (bytes_eq new name) true h).0)
 newly_counts false name new counters h = absurd (let bad = (and_parts (bytes_eq new name) false h).1 in cc)
 
 counts_more : (before : List Member) (m : Member) (counters : List (List ℕ)) → Counts before counters → Counts (before ++ m ∷ []) (with_counter (is_counter m.kind) m.name counters)
@@ -146,20 +135,6 @@ counts_more before m counters counts name h =
 -- what the elements of members say
 abbrev pub members_said : List ClassDef → ClassDef → List Member → List (Option Element)
 members_said context owner ms = map (λ m. Some (said (member_element context owner m))) ms
-
-empty_title : (t : List ℕ) → (length t == 0) ≡ true → t ≡ []
-empty_title [] h = refl
-empty_title (b ∷ bs) h = absurd (let e : suc (length bs) ≡ 0 = eqb-true (suc (length bs)) 0 h in omega (arith, e))
-
-record Stated (before : List Member) (m : Member) (after : List Member) : Type 0 where
-  kind : is_stated_kind before m.name after m.kind ≡ true
-  title : m.title ≡ []
-
-stated_parts : (before : List Member) (m : Member) (after : List Member) → is_stated_member before m after ≡ true → Stated before m after
-stated_parts before m after h =
-    let outer = and_parts (is_name_text m.name && not (has_member before m.name) && is_stated_kind before m.name after m.kind) (length m.title == 0) h in
-    let middle = and_parts (is_name_text m.name && not (has_member before m.name)) (is_stated_kind before m.name after m.kind) outer.0 in
-    record { kind = middle.1; title = empty_title m.title outer.1 }
 
 pub member_passes : (counters : List (List ℕ)) (e : Element) (es : List (Option Element)) → base_of_element e ≡ None → members_of counters (Some e ∷ es) ≡ member_of counters (Some e) ∷ members_of (counters_behind (Some e) counters) es
 unfolding members_of

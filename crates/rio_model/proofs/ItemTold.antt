@@ -15,7 +15,7 @@ use Rattle.rio_model.proofs.ToldLaws.{bad_here, bad_is, bind_bad, err_is, mark_b
 
 -- ---- how far reading may go, by the bytes that are left
 
-end_of_rest : (rest : List ℕ) → length rest ≤ 0 → (scan_of rest).token ≡ End
+pub end_of_rest : (rest : List ℕ) → length rest ≤ 0 → (scan_of rest).token ≡ End
 unfolding scan_of
 end_of_rest [] h = refl
 end_of_rest (b ∷ bs) h = absurd (omega (arith, h))

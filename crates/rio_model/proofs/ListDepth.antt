@@ -1,6 +1,7 @@
 -- The class list isn't too deep, and the versions of its objects can be written.
 use Rattle.std.proofs.Common.{◌≡◌, ◌≤◌, ◌∙◌, ◌&&◌, ℕ, ◌+◌, ℤ, pos, int_le, Bool, true, false, List, [], ◌∷◌, ◌++◌, map, codes, refl, ap, arith}
 use Rattle.std.specs.List.{list_all}
+use Rattle.std.proofs.lemmas.Bool.{and_from}
 use Rattle.rio_types.specs.declared.class.Base.{Base}
 use Rattle.rio_types.specs.declared.class.ClassDef.{ClassDef}
 use Rattle.rio_types.specs.declared.class.Member.{Member}
@@ -35,16 +36,13 @@ int_within n z = let d : depth_of (Int z) ≡ 0 = fold_Int depth_step (λ p. p.v
 text_within : (n : ℕ) (text : List ℕ) → IsWithin n (Text text)
 text_within n text = let d : depth_of (Text text) ≡ 0 = fold_Text depth_step (λ p. p.value) text in (rw d (omega arith), fold_Text versions_step (λ p. p.value) text)
 
-both : (a b : Bool) → a ≡ true → b ≡ true → (a && b) ≡ true
-both a b e f = rw e f
-
 greatest_within : (n : ℕ) (vs : List Value) → Each (IsWithin n) vs → greatest (map depth_of vs) ≤ n
 greatest_within n [] each = omega arith
 greatest_within n (v ∷ vs) each = omega (arith, each.0.0, greatest_within n vs each.1)
 
 all_have_versions : (n : ℕ) (vs : List Value) → Each (IsWithin n) vs → list_all (λ b. b) (map has_versions vs) ≡ true
 all_have_versions n [] each = refl
-all_have_versions n (v ∷ vs) each = both (has_versions v) (list_all (λ b. b) (map has_versions vs)) each.0.1 (all_have_versions n vs each.1)
+all_have_versions n (v ∷ vs) each = and_from (has_versions v) (list_all (λ b. b) (map has_versions vs)) each.0.1 (all_have_versions n vs each.1)
 
 list_within : (n : ℕ) (vs : List Value) → Each (IsWithin n) vs → IsWithin n (Items vs)
 list_within n vs each =
@@ -78,11 +76,11 @@ greatest_part n (p ∷ ps) each = omega (arith, each.0.0, greatest_part n ps eac
 
 parts_have_versions : (n : ℕ) (ps : List Part) → AreWithin n ps → list_all (λ b. b) (map (λ (p : Part). has_versions p.value) ps) ≡ true
 parts_have_versions n [] each = refl
-parts_have_versions n (p ∷ ps) each = both (has_versions p.value) (list_all (λ b. b) (map (λ (p : Part). has_versions p.value) ps)) each.0.1 (parts_have_versions n ps each.1)
+parts_have_versions n (p ∷ ps) each = and_from (has_versions p.value) (list_all (λ b. b) (map (λ (p : Part). has_versions p.value) ps)) each.0.1 (parts_have_versions n ps each.1)
 
 object_within : (n : ℕ) (class : List ℕ) (version : ℤ) (parts : List Part) → is_version version ≡ true → AreWithin n parts → IsWithin (n + 1) (Object class version parts)
 object_within n class version parts stated each =
-    (rw (object_depth class version parts) (omega (arith, greatest_part n parts each)), object_versions class version parts ∙ both (is_version version) (list_all (λ b. b) (map (λ (p : Part). has_versions p.value) parts)) stated (parts_have_versions n parts each))
+    (rw (object_depth class version parts) (omega (arith, greatest_part n parts each)), object_versions class version parts ∙ and_from (is_version version) (list_all (λ b. b) (map (λ (p : Part). has_versions p.value) parts)) stated (parts_have_versions n parts each))
 
 -- ---- elements
 

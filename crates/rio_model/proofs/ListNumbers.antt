@@ -1,6 +1,6 @@
 -- Which classes have numbers that their elements can hold.
-use Rattle.std.proofs.Common.{◌≡◌, ◌≤◌, ◌<◌, ◌∙◌, ◌&&◌, ◌==◌, ◌^◌, ◌*◌, not, ℕ, ℤ, pos, negsuc, Bool, true, List, [], ◌∷◌, ◌++◌, length, refl, arith, nat_lt, nat_le, int_le}
-use Rattle.std.proofs.lemmas.Bool.{leb-true, lt-ltb}
+use Rattle.std.proofs.Common.{◌≡◌, ◌≤◌, ◌<◌, ◌∙◌, ◌&&◌, ◌==◌, ◌^◌, ◌*◌, not, ℕ, true, List, [], ◌∷◌, ◌++◌, length, refl, arith, nat_lt, nat_le}
+use Rattle.std.proofs.lemmas.Bool.{and_from, leb-true, lt-ltb}
 use Rattle.std.proofs.lemmas.List.Folds.{list_all-append}
 use Rattle.std.specs.List.{list_all}
 use Rattle.rio_num.specs.Word.{is_name_text}
@@ -16,19 +16,10 @@ use Rattle.rio_format.proofs.Tests.{both_true}
 use Rattle.rio_model.specs.ClassGrammar.{has_member, primitive_of}
 use Rattle.rio_model.specs.Stated.{has_stated_parts, are_stated_bases, are_stated_members, is_class_version, is_stated_kind, is_stated_member}
 use Rattle.rio_model.specs.Described.{DescribedHaveNumbers, HaveNumbers, WrittenAreDescribed, WrittenHaveNumbers, has_class_numbers, has_numbers, is_base_number, is_described, kind_has_numbers, member_has_numbers}
+use Rattle.rio_model.proofs.DescribedClasses.{version_fits}
 use Rattle.rio_format.specs.TreeClasses.{branch_members, leaf_members, object_branch_members, tree_classes, tree_members}
 
-both : (a b : Bool) → a ≡ true → b ≡ true → (a && b) ≡ true
-both a b e f = rw e f
-
 -- ---- classes that a declaration can give
-
-version_fits : (version : ℤ) → is_class_version version ≡ true → fits_signed 32 version ≡ true
-version_fits (pos n) e =
-    let h = both_true (int_le (pos 1) (pos n)) (int_le (pos n) (pos 32767)) e in
-    let low : n ≤ 32767 = leb-true n 32767 h.1 in
-    lt-ltb n (2 ^ 31) (omega (arith, low))
-version_fits (negsuc n) e = absurd cc
 
 size_low : (of : Primitive) (count : ℕ) → count ≤ 100000 → width_of of * count < 2 ^ 31
 size_low I8 count low = omega (arith, low)
@@ -61,7 +52,7 @@ members_hold (m ∷ after) before e =
     let h = both_true (is_stated_member before m after) (are_stated_members (before ++ m ∷ []) after) e in
     let titled = both_true (is_name_text m.name && not (has_member before m.name) && is_stated_kind before m.name after m.kind) (length m.title == 0) h.0 in
     let stated = both_true (is_name_text m.name && not (has_member before m.name)) (is_stated_kind before m.name after m.kind) titled.0 in
-    both (member_has_numbers m) (list_all member_has_numbers after) (kind_holds before m.name after m.kind stated.1) (members_hold after (before ++ m ∷ []) h.1)
+    and_from (member_has_numbers m) (list_all member_has_numbers after) (kind_holds before m.name after m.kind stated.1) (members_hold after (before ++ m ∷ []) h.1)
 
 class_holds : (c : ClassDef) → is_described c ≡ true → has_numbers c ≡ true
 class_holds c e =
@@ -70,15 +61,15 @@ class_holds c e =
     let members = both_true (is_name_text c.name && is_class_version c.version && are_stated_bases [] c.bases) (are_stated_members [] c.members) parts.0 in
     let bases = both_true (is_name_text c.name && is_class_version c.version) (are_stated_bases [] c.bases) members.0 in
     let version = both_true (is_name_text c.name) (is_class_version c.version) bases.0 in
-    both (nat_lt c.sum (2 ^ 32) && fits_signed 32 c.version && list_all is_base_number c.bases) (list_all member_has_numbers c.members)
-    (both (nat_lt c.sum (2 ^ 32) && fits_signed 32 c.version) (list_all is_base_number c.bases) (both (nat_lt c.sum (2 ^ 32)) (fits_signed 32 c.version) numbers.0 (version_fits c.version version.1)) numbers.1)
+    and_from (nat_lt c.sum (2 ^ 32) && fits_signed 32 c.version && list_all is_base_number c.bases) (list_all member_has_numbers c.members)
+    (and_from (nat_lt c.sum (2 ^ 32) && fits_signed 32 c.version) (list_all is_base_number c.bases) (and_from (nat_lt c.sum (2 ^ 32)) (fits_signed 32 c.version) numbers.0 (version_fits c.version version.1)) numbers.1)
     (members_hold c.members [] members.1)
 
 pub described_have_numbers : DescribedHaveNumbers
 described_have_numbers [] e = refl
 described_have_numbers (c ∷ cs) e =
     let h = both_true (is_described c) (list_all is_described cs) e in
-    both (has_numbers c) (list_all has_numbers cs) (class_holds c h.0) (described_have_numbers cs h.1)
+    and_from (has_numbers c) (list_all has_numbers cs) (class_holds c h.0) (described_have_numbers cs h.1)
 
 -- ---- the classes of trees
 
@@ -87,11 +78,11 @@ unfolding tree_classes tree_members branch_members object_branch_members leaf_me
 trees_hold = refl
 
 pub written_have_numbers : WrittenHaveNumbers
-written_have_numbers declared numbers = list_all-append has_numbers tree_classes declared ∙ both (list_all has_numbers tree_classes) (list_all has_numbers declared) trees_hold numbers
+written_have_numbers declared numbers = list_all-append has_numbers tree_classes declared ∙ and_from (list_all has_numbers tree_classes) (list_all has_numbers declared) trees_hold numbers
 
 trees_described : list_all is_described tree_classes ≡ true
 unfolding tree_classes tree_members branch_members object_branch_members leaf_members primitive_of
 trees_described = refl
 
 pub written_are_described : WrittenAreDescribed
-written_are_described declared described = list_all-append is_described tree_classes declared ∙ both (list_all is_described tree_classes) (list_all is_described declared) trees_described described
+written_are_described declared described = list_all-append is_described tree_classes declared ∙ and_from (list_all is_described tree_classes) (list_all is_described declared) trees_described described

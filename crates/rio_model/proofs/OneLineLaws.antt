@@ -2,7 +2,7 @@
 use Rattle.std.proofs.Common.{◌≡◌, ℕ, zero, suc, ◌+◌, ◌/◌, ◌%◌, ◌≤◌, Bool, true, false, cond, nat_lt, nat_le, nat_eq, ◌&&◌, not, length, ℤ, pos, negsuc, List, [], ◌∷◌, ◌++◌, codes, map, refl, ◌∙◌, arith}
 use Rattle.std.specs.List.{flat_map, list_all, All}
 use Rattle.std.specs.Fmt.{decimal, digits, digits_onto, digit_glyph, signed_decimal}
-use Rattle.std.proofs.lemmas.Bool.{le-leb, leb-true}
+use Rattle.std.proofs.lemmas.Bool.{and_parts, le-leb, leb-true}
 use Rattle.std.proofs.lemmas.List.Folds.{list_all-append}
 use Rattle.std.proofs.lemmas.List.Sums.{AllPass-from_list_all}
 use Rattle.rio_num.specs.Printed.{escaped, hex_digit, hex_text, is_bare, is_bare_name, name_text, string_text}
@@ -60,16 +60,8 @@ hex_line bytes = each (λ b. hex_digit (b / 16) ∷ hex_digit (b % 16) ∷ []) b
 
 -- ---- strings and names
 
-first_true : (a b : Bool) → a && b ≡ true → a ≡ true
-first_true true b is = refl
-first_true false b is = is
-
-second_true : (a b : Bool) → a && b ≡ true → b ≡ true
-second_true true b is = is
-second_true false b is = absurd cc
-
 own_line : (b : ℕ) (test : Bool) → nat_le 32 b && nat_le b 126 ≡ test → Line (cond test (b ∷ []) (92 ∷ 120 ∷ hex_digit (b / 16) ∷ hex_digit (b % 16) ∷ []))
-own_line b true is = shown_before b [] (first_true (nat_le 32 b) (nat_le b 126) is) refl
+own_line b true is = shown_before b [] ((and_parts (nat_le 32 b) (nat_le b 126) is).0) refl
 own_line b false is = digit_pair b
 
 escaped_line : (b : ℕ) → Line (escaped b)
@@ -87,13 +79,13 @@ string_line text = both (flat_map escaped text) (34 ∷ []) (each escaped text e
 bare_line : (name : List ℕ) → list_all is_bare name ≡ true → Line name
 bare_line [] is = refl
 bare_line (b ∷ bs) is =
-    let bare : is_bare b ≡ true = first_true (is_bare b) (list_all is_bare bs) is in
-    let above : nat_le 33 b ≡ true = first_true _ _ (first_true _ _ (first_true _ _ bare)) in
+    let bare : is_bare b ≡ true = (and_parts (is_bare b) (list_all is_bare bs) is).0 in
+    let above : nat_le 33 b ≡ true = (and_parts _ _ (and_parts _ _ (and_parts _ _ bare).0).0).0 in
     let le : 33 ≤ b = leb-true 33 b above in
-    shown_before b bs (le-leb 32 b (omega arith)) (bare_line bs (second_true (is_bare b) (list_all is_bare bs) is))
+    shown_before b bs (le-leb 32 b (omega arith)) (bare_line bs ((and_parts (is_bare b) (list_all is_bare bs) is).1))
 
 name_by : (name : List ℕ) (test : Bool) → is_bare_name name ≡ test → Line (cond test name (string_text name))
-name_by name true is = bare_line name (second_true (not (nat_eq (length name) 0)) (list_all is_bare name) is)
+name_by name true is = bare_line name (and_parts (not (nat_eq (length name) 0)) (list_all is_bare name) is).1
 name_by name false is = string_line name
 
 pub name_line : (name : List ℕ) → Line (name_text name)

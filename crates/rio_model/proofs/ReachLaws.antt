@@ -1,13 +1,13 @@
 -- A name reaches another within so many steps exactly where there is a way, which needn't meet a class twice.
-use Rattle.std.proofs.Common.{◌≡◌, ◌≤◌, ◌<◌, ℕ, zero, suc, List, [], ◌∷◌, length, map, Bool, true, false, ◌||◌, ◌&&◌, ◌⊎◌, inl, inr, refl, sym, subst, arith}
+use Rattle.std.proofs.Common.{◌≡◌, ◌≤◌, ◌<◌, ℕ, zero, suc, List, [], ◌∷◌, length, map, Bool, true, false, ◌||◌, ◌&&◌, inl, inr, refl, sym, subst, arith}
 use Rattle.std.specs.List.{AllByRecursion, IsDistinct, list_any}
-use Rattle.std.specs.Cmp.Lexicographic.{same_text}
 use Rattle.std.specs.Str.{bytes_eq}
-use Rattle.std.proofs.lemmas.Bool.{and_from, and_parts, or_left, or_right}
+use Rattle.std.proofs.lemmas.Bool.{and_from, and_parts, cases_Bool, or_left, or_parts, or_right}
 use Rattle.std.proofs.lemmas.Cmp.{nat_list_eq_equiv}
 use Rattle.std.proofs.lemmas.List.{length-map}
 use Rattle.std.proofs.lemmas.Map.Keys.{IsDistinct-cons, IsDistinct-tail}
 use Rattle.std.proofs.lemmas.Map.Made.{length-le_from_is_member}
+use Rattle.std.proofs.lemmas.Slice.Eq.{bytes_eq-Decides}
 use Rattle.rio_types.specs.declared.class.Base.{Base}
 use Rattle.rio_types.specs.declared.class.ClassDef.{ClassDef}
 use Rattle.rio_types.specs.declared.class.Member.{Member}
@@ -17,15 +17,9 @@ use Rattle.rio_model.specs.Declaring.{IsWay, Reaches, any_inline, any_within, ha
 
 -- ---- tests
 
-or_cases : {P : Type 0} (a b : Bool) → (a ≡ true → P) → (b ≡ true → P) → (a || b) ≡ true → P
+pub or_cases : {P : Type 0} (a b : Bool) → (a ≡ true → P) → (b ≡ true → P) → (a || b) ≡ true → P
 or_cases true b f g e = f refl
 or_cases false b f g e = g e
-
-same : (a b : List ℕ) → bytes_eq a b ≡ true → a ≡ b
-same a b e = same_text a b (sym e)
-
-itself : (a : List ℕ) → bytes_eq a a ≡ true
-itself a = nat_list_eq_equiv.refl a
 
 -- ---- what a class has within
 
@@ -34,12 +28,12 @@ module _ (test : List ℕ → Bool) where
   base_some [] e = absurd cc
   base_some (b ∷ bs) e =
       or_cases (test b.name) (list_any (λ b. test b.name) bs)
-      (λ t. (b.name, or_left _ _ (itself b.name), t))
+      (λ t. (b.name, or_left _ _ ((bytes_eq-Decides b.name b.name).1 refl), t))
       (λ t. let rest = base_some bs t in (rest.0, or_right (bytes_eq rest.0 b.name) _ rest.1, rest.2))
       e
 
   inline_some : (kind : Kind) → any_inline test kind ≡ true → (n : List ℕ) × (is_inline n kind ≡ true) × (test n ≡ true)
-  inline_some (Inline class) e = (class, itself class, e)
+  inline_some (Inline class) e = (class, (bytes_eq-Decides class class).1 refl, e)
   inline_some other e = absurd cc
 
   member_some : (ms : List Member) → list_any (λ m. any_inline test m.kind) ms ≡ true → (n : List ℕ) × (list_any (λ m. is_inline n m.kind) ms ≡ true) × (test n ≡ true)
@@ -72,7 +66,7 @@ module _ (test : List ℕ → Bool) where
   -- and the other way round, of one name
   module _ (n : List ℕ) (passes : test n ≡ true) where
     for_same : (m : List ℕ) → bytes_eq n m ≡ true → test m ≡ true
-    for_same m e = subst (λ (k : List ℕ). test k ≡ true) (same n m e) passes
+    for_same m e = subst (λ (k : List ℕ). test k ≡ true) ((bytes_eq-Decides n m).0 e) passes
 
     some_base : (bs : List Base) → list_any (λ b. bytes_eq n b.name) bs ≡ true → list_any (λ b. test b.name) bs ≡ true
     some_base [] e = absurd cc
@@ -117,32 +111,20 @@ names_of classes = map (λ c. c.name) classes
 among : List (List ℕ) → List ℕ → Bool
 among names name = list_any (bytes_eq name) names
 
-is_true_or : (b : Bool) → (b ≡ true) ⊎ (b ≡ false)
-is_true_or true = inl refl
-is_true_or false = inr refl
-
 -- a name that holds one is that of a class
 holder_is_named : (cs : List ClassDef) (a n : List ℕ) → holds cs a n ≡ true → among (names_of cs) a ≡ true
 unfolding among names_of
 holder_is_named [] a n e = absurd cc
 holder_is_named (c ∷ cs) a n e =
     or_cases (bytes_eq c.name a && has_within c n) (holds cs a n)
-    (λ t. let is = same c.name a (and_parts (bytes_eq c.name a) (has_within c n) t).0 in or_left _ _ (subst (λ (m : List ℕ). bytes_eq a m ≡ true) (sym is) (itself a)))
+    (λ t. let is = (bytes_eq-Decides c.name a).0 (and_parts (bytes_eq c.name a) (has_within c n) t).0 in or_left _ _ (subst (λ (m : List ℕ). bytes_eq a m ≡ true) (sym is) ((bytes_eq-Decides a a).1 refl)))
     (λ t. or_right (bytes_eq a c.name) _ (holder_is_named cs a n t))
     e
 
 none_among : (names : List (List ℕ)) (a : List ℕ) → among names a ≡ false → AllByRecursion (λ n. bytes_eq a n ≡ false) names
 unfolding among
 none_among [] a e = tt
-none_among (n ∷ ns) a e = (apart (bytes_eq a n) (list_any (bytes_eq a) ns) e, none_among ns a (apart_too (bytes_eq a n) (list_any (bytes_eq a) ns) e))
-  where
-    apart : (x y : Bool) → (x || y) ≡ false → x ≡ false
-    apart true y h = absurd cc
-    apart false y h = refl
-
-    apart_too : (x y : Bool) → (x || y) ≡ false → y ≡ false
-    apart_too true y h = absurd cc
-    apart_too false y h = h
+none_among (n ∷ ns) a e = ((or_parts (bytes_eq a n) (list_any (bytes_eq a) ns) e).0, none_among ns a ((or_parts (bytes_eq a n) (list_any (bytes_eq a) ns) e).1))
 
 module _ (classes : List ClassDef) where
   found_way : (levels : ℕ) (a b : List ℕ) → reaches levels classes a b ≡ true → Reaches classes a b
@@ -151,7 +133,7 @@ module _ (classes : List ClassDef) where
   found_way (suc levels) a b e =
       let next = held_some (λ n. bytes_eq b n || reaches levels classes n b) classes a e in
       or_cases (bytes_eq b next.0) (reaches levels classes next.0 b)
-      (λ t. ([], subst (λ (n : List ℕ). holds classes a n ≡ true) (sym (same b next.0 t)) next.1))
+      (λ t. ([], subst (λ (n : List ℕ). holds classes a n ≡ true) (sym ((bytes_eq-Decides b next.0).0 t)) next.1))
       (λ t. let way = found_way levels next.0 b t in (next.0 ∷ way.0, (next.1, way.1)))
       next.2
 
@@ -159,7 +141,7 @@ module _ (classes : List ClassDef) where
   unfolding reaches
   way_is_found zero a b between few way = absurd (omega arith)
   way_is_found (suc levels) a b [] few way =
-      some_held (λ n. bytes_eq b n || reaches levels classes n b) b (or_left _ _ (itself b)) classes a way
+      some_held (λ n. bytes_eq b n || reaches levels classes n b) b (or_left _ _ ((bytes_eq-Decides b b).1 refl)) classes a way
   way_is_found (suc levels) a b (n ∷ ns) few way =
       some_held (λ n. bytes_eq b n || reaches levels classes n b) n (or_right (bytes_eq b n) _ (way_is_found levels n b ns (omega arith) way.1)) classes a way.0
 
@@ -172,12 +154,12 @@ module _ (classes : List ClassDef) where
   unfolding among Straight
   rest_of a b n [] way distinct there =
       or_cases (bytes_eq a n) false
-      (λ t. subst (λ (m : List ℕ). Straight m b) (sym (same a n t)) ([], way, distinct))
+      (λ t. subst (λ (m : List ℕ). Straight m b) (sym ((bytes_eq-Decides a n).0 t)) ([], way, distinct))
       (λ t. absurd cc)
       there
   rest_of a b n (m ∷ ms) way distinct there =
       or_cases (bytes_eq a n) (among (m ∷ ms) a)
-      (λ t. subst (λ (m : List ℕ). Straight m b) (sym (same a n t)) (m ∷ ms, way, distinct))
+      (λ t. subst (λ (m : List ℕ). Straight m b) (sym ((bytes_eq-Decides a n).0 t)) (m ∷ ms, way, distinct))
       (λ t. rest_of a b m ms way.1 (IsDistinct-tail bytes_eq n (m ∷ ms) distinct) t)
       there
 
@@ -192,7 +174,7 @@ module _ (classes : List ClassDef) where
     where
       joined : Straight n b → Straight a b
       joined rest =
-          elim (is_true_or (among (n ∷ rest.0) a)) [
+          elim (cases_Bool (among (n ∷ rest.0) a)) [
             | inl there ↦ rest_of a b n rest.0 rest.1 rest.2 there
             | inr new ↦ (n ∷ rest.0, (way.0, rest.1), IsDistinct-cons bytes_eq a (n ∷ rest.0) (none_among (n ∷ rest.0) a new) rest.2)
           ]
@@ -202,12 +184,12 @@ module _ (classes : List ClassDef) where
   unfolding among
   way_is_named a b [] way q e =
       or_cases (bytes_eq q a) false
-      (λ t. subst (λ (m : List ℕ). among (names_of classes) m ≡ true) (sym (same q a t)) (holder_is_named classes a b way))
+      (λ t. subst (λ (m : List ℕ). among (names_of classes) m ≡ true) (sym ((bytes_eq-Decides q a).0 t)) (holder_is_named classes a b way))
       (λ t. absurd cc)
       e
   way_is_named a b (n ∷ ns) way q e =
       or_cases (bytes_eq q a) (among (n ∷ ns) q)
-      (λ t. subst (λ (m : List ℕ). among (names_of classes) m ≡ true) (sym (same q a t)) (holder_is_named classes a n way.0))
+      (λ t. subst (λ (m : List ℕ). among (names_of classes) m ≡ true) (sym ((bytes_eq-Decides q a).0 t)) (holder_is_named classes a n way.0))
       (λ t. way_is_named n b ns way.1 q t)
       e
 

@@ -2,10 +2,11 @@
 use Rattle.std.proofs.Common.{◌≡◌, ◌⊎◌, inl, inr, ℕ, suc, List, [], ◌∷◌, ◌++◌, map, length, Bool, true, false, ◌==◌, ◌&&◌, ◌||◌, not, if◌then◌else◌, refl, sym, ◌∙◌, ap, arith, subst, append_assoc}
 use Rattle.std.specs.List.{list_any}
 use Rattle.std.specs.Str.{bytes_eq}
-use Rattle.std.proofs.lemmas.Bool.{and_parts, eqb-true, false_from_ne_true}
+use Rattle.std.proofs.lemmas.Bool.{and_parts, eqb-true, false_from_ne_true, not-true, or_cases, or_left, or_right}
 use Rattle.std.proofs.lemmas.List.{map-append}
 use Rattle.std.proofs.lemmas.List.Folds.{list_any-append}
 use Rattle.std.proofs.lemmas.Slice.Eq.{bytes_eq-Decides}
+use Rattle.std.proofs.Math.Bool.{or-false}
 use Rattle.rio_num.specs.Word.{is_name_text}
 use Rattle.rio_types.specs.declared.class.Base.{Base}
 use Rattle.rio_types.specs.declared.class.Member.{Member}
@@ -18,7 +19,7 @@ use Rattle.rio_format.specs.Bodies.{member}
 use Rattle.rio_model.specs.ClassGrammar.{base, base_at, counting, counts_by, has_base_named, has_i32, has_member, is_counted_by, is_i32, is_i32_of, member_at, with_counters}
 use Rattle.rio_model.specs.ClassText.{base_text, kind_text, member_text}
 use Rattle.rio_model.specs.Stated.{are_stated_bases, are_stated_members, has_counter, is_stated_base, is_stated_kind, is_stated_member}
-use Rattle.rio_model.proofs.ReadKinds.{IsEnd, is_read_kind, not_true}
+use Rattle.rio_model.proofs.ReadKinds.{IsEnd, is_read_kind}
 use Rattle.rio_model.proofs.ReadMembers.{base_back, member_back}
 
 -- ---- members as they are read, before it is known which count
@@ -70,18 +71,6 @@ same_counted (m ∷ ms) name = rw (same_counting m.kind name, same_counted ms na
 
 -- ---- tests
 
-or_true : (a b : Bool) → b ≡ true → (a || b) ≡ true
-or_true true b h = refl
-or_true false b h = h
-
-or_cases : (a b : Bool) → (a || b) ≡ true → (a ≡ true) ⊎ (b ≡ true)
-or_cases true b h = inl refl
-or_cases false b h = inr h
-
-or_left : (a b : Bool) → a ≡ true → (a || b) ≡ true
-or_left true b h = refl
-or_left false b h = absurd (cc)
-
 -- ---- what the members before are known to keep to
 
 pub record Known (before : List Member) : Type 0 where
@@ -104,17 +93,14 @@ counter_is_member [] name h = absurd (cc)
 counter_is_member (m ∷ ms) name h =
     elim (or_cases (bytes_eq m.name name && is_counter m.kind) (has_counter ms name) h) [
       | inl here ↦ or_left (bytes_eq m.name name) (has_member ms name) (and_parts (bytes_eq m.name name) (is_counter m.kind) here).0
-      | inr there ↦ or_true (bytes_eq m.name name) (has_member ms name) (counter_is_member ms name there)
+      | inr there ↦ or_right (bytes_eq m.name name) (has_member ms name) (counter_is_member ms name there)
     ]
-
-same_name : (a b : List ℕ) → bytes_eq a b ≡ true → a ≡ b
-same_name a b h = (bytes_eq-Decides a b).0 h
 
 counted_name : (k : Kind) (name : List ℕ) (before : List Member) (m : List ℕ) (after : List Member) → is_stated_kind before m after k ≡ true → counts_by k name ≡ true → has_counter before name ≡ true
 counted_name (Plain of) name before m after s h = absurd (cc)
 counted_name Counter name before m after s h = absurd (cc)
 counted_name (Fixed of count) name before m after s h = absurd (cc)
-counted_name (Counted of counter) name before m after s h = subst (λ (n : List ℕ). has_counter before n ≡ true) (same_name counter name h) s
+counted_name (Counted of counter) name before m after s h = subst (λ (n : List ℕ). has_counter before n ≡ true) ((bytes_eq-Decides counter name).0 h) s
 counted_name Text name before m after s h = absurd (cc)
 counted_name (Inline class) name before m after s h = absurd (cc)
 counted_name (Pointer class) name before m after s h = absurd (cc)
@@ -123,21 +109,17 @@ counted_name (Other code) name before m after s h = absurd (cc)
 pub known_none : Known []
 known_none = record { counters = λ name h. absurd (cc); names = λ name h. absurd (cc); counted = λ name h. absurd (cc) }
 
-or_none : (a : Bool) → (a || false) ≡ a
-or_none true = refl
-or_none false = refl
-
 module _ {X : Type 0} (p : X → Bool) (xs : List X) (x : X) where
   any_last : list_any p (xs ++ x ∷ []) ≡ true → (list_any p xs ≡ true) ⊎ (p x ≡ true)
   any_last h =
       let split : (list_any p xs || (p x || false)) ≡ true = sym (list_any-append p xs (x ∷ [])) ∙ h in
-      elim (or_cases (list_any p xs) (p x || false) split) [ inl there ↦ inl there | inr here ↦ inr (sym (or_none (p x)) ∙ here) ]
+      elim (or_cases (list_any p xs) (p x || false) split) [ inl there ↦ inl there | inr here ↦ inr (sym (or-false (p x)) ∙ here) ]
 
   any_before : list_any p xs ≡ true → list_any p (xs ++ x ∷ []) ≡ true
   any_before h = list_any-append p xs (x ∷ []) ∙ or_left (list_any p xs) (p x || false) h
 
   any_here : p x ≡ true → list_any p (xs ++ x ∷ []) ≡ true
-  any_here h = list_any-append p xs (x ∷ []) ∙ or_true (list_any p xs) (p x || false) (or_none (p x) ∙ h)
+  any_here h = list_any-append p xs (x ∷ []) ∙ or_right (list_any p xs) (p x || false) (or-false (p x) ∙ h)
 
 module _ (before : List Member) (m : Member) (after : List Member) (known : Known before) (named : is_name_text m.name ≡ true) (stated : is_stated_kind before m.name after m.kind ≡ true) where
   counters_more : (name : List ℕ) → has_counter (before ++ m ∷ []) name ≡ true → has_i32 (map as_read (before ++ m ∷ [])) name ≡ true
@@ -153,7 +135,7 @@ module _ (before : List Member) (m : Member) (after : List Member) (known : Know
   names_more name h =
       elim (any_last (λ (c : Member). bytes_eq c.name name && is_counter c.kind) before m h) [
         | inl there ↦ known.names name there
-        | inr here ↦ subst (λ (n : List ℕ). is_name_text n ≡ true) (same_name m.name name (and_parts (bytes_eq m.name name) (is_counter m.kind) here).0) named
+        | inr here ↦ subst (λ (n : List ℕ). is_name_text n ≡ true) ((bytes_eq-Decides m.name name).0 (and_parts (bytes_eq m.name name) (is_counter m.kind) here).0) named
       ]
 
   counted_more : (name : List ℕ) → is_counted_by (before ++ m ∷ []) name ≡ true → has_member (before ++ m ∷ []) name ≡ true
@@ -179,22 +161,22 @@ readable_kind before (Pointer class) name after known h = h
 readable_kind before (Other code) name after known h = absurd (cc)
 
 -- what a stated member keeps to
-record Stated (before : List Member) (m : Member) (after : List Member) : Type 0 where
-  named : is_name_text m.name ≡ true
-  new : has_member before m.name ≡ false
-  kind : is_stated_kind before m.name after m.kind ≡ true
-  title : m.title ≡ []
+pub record Stated (before : List Member) (m : Member) (after : List Member) : Type 0 where
+  pub named : is_name_text m.name ≡ true
+  pub new : has_member before m.name ≡ false
+  pub kind : is_stated_kind before m.name after m.kind ≡ true
+  pub title : m.title ≡ []
 
-empty_title : (t : List ℕ) → (length t == 0) ≡ true → t ≡ []
+pub empty_title : (t : List ℕ) → (length t == 0) ≡ true → t ≡ []
 empty_title [] h = refl
 empty_title (b ∷ bs) h = absurd (let e : suc (length bs) ≡ 0 = eqb-true (suc (length bs)) 0 h in omega (arith, e))
 
-stated_parts : (before : List Member) (m : Member) (after : List Member) → is_stated_member before m after ≡ true → Stated before m after
+pub stated_parts : (before : List Member) (m : Member) (after : List Member) → is_stated_member before m after ≡ true → Stated before m after
 stated_parts before m after h =
     let outer = and_parts (is_name_text m.name && not (has_member before m.name) && is_stated_kind before m.name after m.kind) (length m.title == 0) h in
     let middle = and_parts (is_name_text m.name && not (has_member before m.name)) (is_stated_kind before m.name after m.kind) outer.0 in
     let inner = and_parts (is_name_text m.name) (not (has_member before m.name)) middle.0 in
-    record { named = inner.0; new = not_true (has_member before m.name) inner.1; kind = middle.1; title = empty_title m.title outer.1 }
+    record { named = inner.0; new = not-true (has_member before m.name) inner.1; kind = middle.1; title = empty_title m.title outer.1 }
 
 pub members_back : (before ms : List Member) → Known before → are_stated_members before ms ≡ true → AllBack 125 member_at member_text IsEnd (map as_read before) (map as_read ms)
 members_back before [] known h = tt
@@ -210,7 +192,7 @@ members_back before (m ∷ ms) known h =
 
 kind_again : (before : List Member) (k : Kind) (name : List ℕ) (after : List Member) (counted : Bool) → counted ≡ (is_counted_by before name || (counts_by k name || is_counted_by after name)) → is_counted_by before name ≡ false → is_stated_kind before name after k ≡ true
     → (if is_i32 (as_read_kind k) && counted then Counter else as_read_kind k) ≡ k
-kind_again before (Plain of) name after counted e none h = rw (e, none, not_true (is_i32_of of && is_counted_by after name) h) refl
+kind_again before (Plain of) name after counted e none h = rw (e, none, not-true (is_i32_of of && is_counted_by after name) h) refl
 kind_again before Counter name after counted e none h = rw (e, none, h) refl
 kind_again before (Fixed of count) name after counted e none h = refl
 kind_again before (Counted of counter) name after counted e none h = refl
@@ -248,4 +230,4 @@ bases_back before (b ∷ bs) h =
     let more = bases_back (before ++ b ∷ []) bs parts.1 in
     let split : map plain (before ++ b ∷ []) ≡ map plain before ++ base b.name ∷ [] = map-append plain before (b ∷ []) in
     let P : List Base → Type 0 = λ front. AllBack 123 base_at base_text IsEnd front (map plain bs) in
-    (base_back (map plain before) b.name inner.0 (same_bases before b.name ∙ not_true (has_base_named before b.name) inner.1), subst P split more)
+    (base_back (map plain before) b.name inner.0 (same_bases before b.name ∙ not-true (has_base_named before b.name) inner.1), subst P split more)

@@ -3,7 +3,7 @@ use Rattle.std.proofs.Common.{◌≡◌, ℕ, ◌+◌, ◌≤◌, List, [], ◌�
 use Rattle.std.specs.Fmt.{decimal}
 use Rattle.std.specs.List.{list_all}
 use Rattle.std.specs.Str.{bytes_eq}
-use Rattle.std.proofs.lemmas.Bool.{and_parts, leb-true}
+use Rattle.std.proofs.lemmas.Bool.{and_parts, leb-true, not-true}
 use Rattle.std.proofs.lemmas.Bool.Decides.{nat_tests}
 use Rattle.rio_num.specs.At.{At}
 use Rattle.rio_num.specs.Word.{begins_name, goes_on_name, is_name_text}
@@ -154,17 +154,13 @@ plain_inline : (before : List Member) (class : List ℕ) (of : Option Primitive)
 plain_inline before class None s none other = rw other refl
 plain_inline before class (Some of) s none other = absurd (cc)
 
-pub not_true : (b : Bool) → not b ≡ true → b ≡ false
-not_true true h = absurd (cc)
-not_true false h = refl
-
 inline_back : (before : List Member) (class : List ℕ) → is_class_word class ≡ true → (p q : ℕ) (rest : List ℕ) → IsEnd rest → q ≡ p + length class → kind_at before (at p (class ++ rest)) ≡ Ok (Inline class, at q rest)
 unfolding kind_at
 inline_back before class is p q rest f e =
     let outer = and_parts (is_name_text class && is_none (primitive_of class)) (not (bytes_eq class (codes "text"))) is in
     let inner = and_parts (is_name_text class) (is_none (primitive_of class)) outer.0 in
     let word = word_that_back p q class rest (name_is_word class inner.0) f.stops e is_name_text inner.0 in
-    rw (word, f.no_star q) (plain_inline before class (primitive_of class) (at q rest) inner.1 (not_true (bytes_eq class (codes "text")) outer.1))
+    rw (word, f.no_star q) (plain_inline before class (primitive_of class) (at q rest) inner.1 (not-true (bytes_eq class (codes "text")) outer.1))
 
 pointer_back : (before : List Member) (class : List ℕ) → is_name_text class ≡ true → (p q : ℕ) (rest : List ℕ) → q ≡ p + length class + 1 → kind_at before (at p (class ++ 42 ∷ rest)) ≡ Ok (Pointer class, at q rest)
 unfolding kind_at

@@ -1,9 +1,9 @@
 -- What is printed of a value is read as the value, by induction on the value.
-use Rattle.std.proofs.Common.{◌≡◌, ◌⊎◌, inl, inr, ℕ, suc, ◌+◌, ◌^◌, ◌<◌, ◌≤◌, ℤ, pos, List, [], ◌∷◌, ◌++◌, codes, map, length, Bool, true, false, ◌==◌, ◌&&◌, if◌then◌else◌, Ok, refl, ◌∙◌, ap, arith, subst, append_assoc, length-append}
+use Rattle.std.proofs.Common.{◌≡◌, ◌⊎◌, inl, inr, ℕ, suc, ◌+◌, ◌^◌, ◌<◌, ◌≤◌, ℤ, pos, List, [], ◌∷◌, ◌++◌, codes, map, length, Bool, true, false, ◌==◌, if◌then◌else◌, Ok, refl, ◌∙◌, ap, arith, subst, append_assoc, length-append}
 use Rattle.std.specs.Fmt.{decimal}
 use Rattle.std.specs.List.{list_all}
 use Rattle.std.proofs.lemmas.Bool.{and_parts, eqb-true}
-use Rattle.std.proofs.lemmas.Bool.Decides.{nat_tests}
+use Rattle.std.proofs.Math.Bool.{and-false}
 use Rattle.rio_num.specs.At.{AreBytes, At}
 use Rattle.rio_num.specs.Reading.{◌>>=◌}
 use Rattle.rio_num.specs.Printed.{name_text, string_text}
@@ -24,7 +24,7 @@ use Rattle.rio_format.specs.Bodies.{part}
 use Rattle.rio_model.specs.ValueGrammar.{Reader, class_version_at, enclosed_at, enclosed_by, named_object_at, object_at, object_of, opens_object, part_at, pointer_at, text_value_at, value_by, value_in_text, values_at, word_value, word_value_at}
 use Rattle.rio_model.specs.ValueText.{PrintedValue, between_braces, label_text, part_texts, printed_part, printed_value, text_of_value}
 use Rattle.rio_model.proofs.ReadAlike.{part_behind_blank, value_behind_blank}
-use Rattle.rio_model.proofs.ReadWords.{decimal_word, is_behind, name_as_it_is, plain_word_back}
+use Rattle.rio_model.proofs.ReadWords.{decimal_word, is_behind, name_as_it_is, not_empty, plain_word_back}
 use Rattle.rio_model.proofs.ValueTextLaws.{printed-Object, separated-map, text_of-List, text_of-Object, text_of-Pointed}
 
 -- ---- values of one token
@@ -260,14 +260,11 @@ member_back levels name v named b p q rest f e =
     let value : value_in_text (enclosed_at levels) (at (name_end + 1) (32 ∷ (t ++ rest))) ≡ Ok (v, at q rest) = value_behind_blank levels (name_end + 1) (t ++ rest) ∙ b.value (name_end + 1 + 1) q rest f place in
     rw (text, word, colon_marked name_end (32 ∷ (t ++ rest)), behind_colon name_end (32 ∷ (t ++ rest)), value) refl
 
-some_length : (b : ℕ) (bs : List ℕ) → (length (b ∷ bs) == 0) ≡ false
-some_length b bs = grind (arith, nat_tests)
-
 named_part_back : (levels : ℕ) (name : List ℕ) (v : Value) → (if length name == 0 then (readability_of v).object else is_name_text name) ≡ true → ValueBack levels v → (p q : ℕ) (rest : List ℕ) → Follows rest
     → q ≡ p + length (part_alone name (text_of_value v)) → part_at (enclosed_at levels) (at p (part_alone name (text_of_value v) ++ rest)) ≡ Ok (part name v, at q rest)
 named_part_back levels [] v h b p q rest f e = base_back levels v (b.object h) p q rest f e
 named_part_back levels (c ∷ cs) v h b p q rest f e =
-    let some = some_length c cs in
+    let some = not_empty c cs in
     let named : is_name_text (c ∷ cs) ≡ true = rw some at h in
     let plain = name_as_it_is (c ∷ cs) named in
     let text : part_alone (c ∷ cs) (text_of_value v) ≡ ((c ∷ cs) ++ codes ": ") ++ text_of_value v = rw (some, plain) refl in
@@ -292,10 +289,6 @@ readable_texts levels front (e ∷ es) h first =
     let is = and_parts (if length e.0.name == 0 then front else true) (are_bases_first (length e.0.name == 0) (map (λ (p : Part). p.name) (map (λ (e : KnownPart). e.0) es))) first in
     by (length e.0.name == 0) refl is.0 own.1 (e.1 levels own.0) (readable_texts levels (length e.0.name == 0) es all.1 is.1)
   where
-    never : (b : Bool) → (b && false) ≡ false
-    never true = refl
-    never false = refl
-
     by : (b : Bool) → (length e.0.name == 0) ≡ b → (if b then front else true) ≡ true → (if b then (readability_of e.0.value).object else is_name_text e.0.name) ≡ true
         → ValueBack levels e.0.value → part_texts b (map printed_part (map (λ e. e.0) es)) ≡ map text_of_part (map (λ e. e.0) es)
         → part_texts front (map printed_part (e.0 ∷ map (λ e. e.0) es)) ≡ map text_of_part (e.0 ∷ map (λ e. e.0) es)
@@ -303,7 +296,7 @@ readable_texts levels front (e ∷ es) h first =
         let lone = (back.object own).lone in
         rw (stands, b, lone) (ap (λ (ts : List (List ℕ)). text_of_value e.0.value ∷ ts) rest)
     by false b stands own back rest =
-        rw (b, never front) (ap (λ (ts : List (List ℕ)). (name_text e.0.name ++ codes ": " ++ text_of_value e.0.value) ∷ ts) rest)
+        rw (b, and-false front) (ap (λ (ts : List (List ℕ)). (name_text e.0.name ++ codes ": " ++ text_of_value e.0.value) ∷ ts) rest)
 
 part_back : (levels : ℕ) (e : KnownPart) → part_within e.0.name (readability_of e.0.value) levels ≡ true → (p q : ℕ) (rest : List ℕ) → Follows rest → q ≡ p + length (text_of_part e.0)
     → part_at (enclosed_at levels) (at p (text_of_part e.0 ++ rest)) ≡ Ok (e.0, at q rest)

@@ -1,5 +1,5 @@
 -- Words that values are printed as.
-use Rattle.std.proofs.Common.{◌≡◌, inl, inr, ℕ, zero, suc, ◌+◌, ◌-◌, ◌*◌, ◌/◌, ◌%◌, ◌^◌, ◌<◌, ℤ, pos, negsuc, List, [], ◌∷◌, ◌++◌, codes, length, Bool, true, false, ◌==◌, ◌&&◌, nat_le, nat_lt, Option, Some, None, Ok, refl, sym, ◌∙◌, ap, arith, subst}
+use Rattle.std.proofs.Common.{◌≡◌, inl, inr, ℕ, zero, suc, ◌+◌, ◌-◌, ◌*◌, ◌/◌, ◌%◌, ◌^◌, ◌<◌, ℤ, pos, negsuc, List, [], ◌∷◌, ◌++◌, codes, length, true, false, ◌==◌, ◌&&◌, nat_le, nat_lt, Option, Some, None, Ok, refl, sym, ◌∙◌, ap, arith, subst}
 use Rattle.std.specs.Fmt.{decimal, signed_decimal}
 use Rattle.std.specs.Int.{byte_at}
 use Rattle.std.specs.List.{list_all}
@@ -9,6 +9,7 @@ use Rattle.std.proofs.lemmas.Bool.Decides.{nat_tests}
 use Rattle.std.proofs.lemmas.List.{append-nil}
 use Rattle.std.proofs.lemmas.Slice.Eq.{bytes_eq-Decides}
 use Rattle.std.proofs.Math.Nat.{pow-succ'}
+use Rattle.std.proofs.Math.Bool.{and-false}
 use Rattle.byteorder.specs.Endian.{big_bytes, big_from}
 use Rattle.byteorder.specs.Numbers.{big_from-cons, big_number-reads_back, length-bytes_high_first}
 use Rattle.rio_num.specs.Word.{is_name_text, begins_name, goes_on_name}
@@ -45,10 +46,6 @@ is_behind (b ∷ bs) (inr (inr e)) = behind_mark b 125 bs e (record { stops = re
 
 -- ---- a word that is a value
 
-and_not : (b : Bool) → (b && false) ≡ false
-and_not true = refl
-and_not false = refl
-
 module _ (E : Reader) (p q : ℕ) (w rest : List ℕ) (is : IsWord w) (follows : Follows rest) (count : q ≡ p + length w) where
   pub plain_word_back : (v : Value) → word_value w ≡ Some v → value_in_text E (at p (w ++ rest)) ≡ Ok (v, at q rest)
   unfolding value_in_text word_value_at
@@ -56,7 +53,7 @@ module _ (E : Reader) (p q : ℕ) (w rest : List ℕ) (is : IsWord w) (follows :
       let b = is_behind rest follows in
       let next = next_is_word p q w rest is b.stops count in
       let word = word_back p q w rest is b.stops count in
-      rw (next, word, b.no_brace q, b.no_version q, and_not (is_name_text w), h) refl
+      rw (next, word, b.no_brace q, b.no_version q, and-false (is_name_text w), h) refl
 
 -- ---- integers
 
@@ -150,7 +147,7 @@ hex_back k n h =
 abbrev pub bits_word : ℕ → ℕ → List ℕ
 bits_word k n = codes "0x" ++ hex_text (big_bytes k n)
 
-not_empty : (b : ℕ) (bs : List ℕ) → (length (b ∷ bs) == 0) ≡ false
+pub not_empty : (b : ℕ) (bs : List ℕ) → (length (b ∷ bs) == 0) ≡ false
 not_empty b bs = grind (arith, nat_tests)
 
 bits_no_number : (ds : List ℕ) → number_of (48 ∷ 120 ∷ ds) ≡ None

@@ -1,6 +1,6 @@
 -- What a text declares is a class that a declaration can give.
-use Rattle.std.proofs.Common.{◌≡◌, ℕ, pos, List, [], codes, Bool, true, false, ◌==◌, ◌&&◌, Ok, Err, refl, ap, subst}
-use Rattle.std.proofs.lemmas.Bool.{eq-eqb}
+use Rattle.std.proofs.Common.{◌≡◌, ℕ, pos, List, [], codes, true, ◌==◌, ◌&&◌, Ok, Err, refl, ap, subst}
+use Rattle.std.proofs.lemmas.Bool.{and_from, eq-eqb}
 use Rattle.rio_num.specs.At.{At}
 use Rattle.rio_num.specs.Reading.{◌>>=◌}
 use Rattle.rio_num.specs.Word.{is_name_text}
@@ -16,10 +16,6 @@ use Rattle.rio_model.specs.Stated.{ReadClassesAreStated, are_stated_bases, are_s
 use Rattle.rio_model.proofs.StatedKinds.{version_ok, word_that_ok}
 use Rattle.rio_model.proofs.StatedMembers.{bases_plain, bases_stated, members_stated}
 use Rattle.rio_model.proofs.StatedParts.{AllKeep, RawBase, RawMember, bases_ok, members_ok}
-
-both : (a b : Bool) → a ≡ true → b ≡ true → (a && b) ≡ true
-both true b h k = k
-both false b h k = absurd (cc)
 
 -- what is true of a class that is read
 record Declared (class : ClassDef) : Type 0 where
@@ -37,12 +33,12 @@ module _ (name : List ℕ) (version : ℕ) (bases : List Base) (members : List M
   declared : is_name_text name ≡ true → is_class_version (pos version) ≡ true → AllKeep RawBase [] bases → AllKeep RawMember [] members → Declared (class_of name version bases members)
   unfolding is_stated_class
   declared named numbered raw_bases raw_members =
-      let words = both (is_name_text name) (is_class_version (pos version)) named numbered in
-      let based = both (is_name_text name && is_class_version (pos version)) (are_stated_bases [] bases) words (bases_stated [] bases raw_bases) in
-      let parts : has_stated_parts (class_of name version bases members) ≡ true = both (is_name_text name && is_class_version (pos version) && are_stated_bases [] bases) (are_stated_members [] (with_counters members)) based (members_stated members raw_members) in
+      let words = and_from (is_name_text name) (is_class_version (pos version)) named numbered in
+      let based = and_from (is_name_text name && is_class_version (pos version)) (are_stated_bases [] bases) words (bases_stated [] bases raw_bases) in
+      let parts : has_stated_parts (class_of name version bases members) ≡ true = and_from (is_name_text name && is_class_version (pos version) && are_stated_bases [] bases) (are_stated_members [] (with_counters members)) based (members_stated members raw_members) in
       let summed : (checksum_of unsummed == checksum_of (with_sum unsummed)) ≡ true = eq-eqb (checksum_of unsummed) (checksum_of (with_sum unsummed)) same_sum in
       record {
-        stated = both (has_stated_parts (class_of name version bases members)) (checksum_of unsummed == checksum_of (with_sum unsummed)) parts summed;
+        stated = and_from (has_stated_parts (class_of name version bases members)) (checksum_of unsummed == checksum_of (with_sum unsummed)) parts summed;
         plain = ap (λ (bs : List Base). let c : ClassDef = record { name = name; version = pos version; sum = checksum_of unsummed; bases = bs; members = with_counters members } in c) (bases_plain [] bases raw_bases);
       }
 

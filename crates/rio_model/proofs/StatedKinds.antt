@@ -14,6 +14,7 @@ use Rattle.rio_token.specs.Reading.{mark_at, marked, name_at, next_word, num_bet
 use Rattle.rio_token.specs.Words.{num_between_of, num_of}
 use Rattle.rio_model.specs.ClassGrammar.{counted_by, dimension_of, fixed_or, has_i32, kind_at, plain_at, primitive_at, primitive_of, sized_at}
 use Rattle.rio_model.specs.Stated.{is_class_version, is_class_word}
+use Rattle.rio_model.proofs.LexemeLaws.{if_is}
 
 -- ---- single tokens
 
@@ -21,14 +22,10 @@ pub taken_ok : {A : Type 0} (o : Option A) (s : At) (y : A × At) → taken_at o
 taken_ok None s y h = absurd (cc)
 taken_ok {A} (Some x) s y h = ap (λ (q : A × At). Some q.0) (ok_is (x, behind s) y h)
 
-some_if_ok : {A : Type 0} (b : Bool) (x w : A) → some_if b x ≡ Some w → (b ≡ true) × (x ≡ w)
-some_if_ok true x w h = (refl, cc)
-some_if_ok false x w h = absurd (cc)
-
 passed : (test : List ℕ → Bool) (o : Option (List ℕ)) (w : List ℕ) → option_and_then (λ word. some_if (test word) word) o ≡ Some w → test w ≡ true
 passed test None w h = absurd (cc)
 passed test (Some v) w h =
-    let p = some_if_ok (test v) v w h in
+    let p = if_is (test v) v w h in
     subst (λ (u : List ℕ). test u ≡ true) p.1 p.0
 
 -- a word that is taken passed the test
@@ -39,7 +36,7 @@ word_that_ok test s y h = passed test (next_word s) y.0 (taken_ok (option_and_th
 bounded : (low high : ℕ) (o : Option ℕ) (n : ℕ) → option_and_then (λ m. if nat_le low m && nat_le m high then Some m else None) o ≡ Some n → (nat_le low n && nat_le n high) ≡ true
 bounded low high None n h = absurd (cc)
 bounded low high (Some m) n h =
-    let p = some_if_ok (nat_le low m && nat_le m high) m n h in
+    let p = if_is (nat_le low m && nat_le m high) m n h in
     subst (λ (k : ℕ). (nat_le low k && nat_le k high) ≡ true) p.1 p.0
 
 between_ok : (low high : ℕ) (word : List ℕ) (n : ℕ) → num_between_of low high word ≡ Some n → (nat_le low n && nat_le n high) ≡ true
@@ -82,7 +79,7 @@ module _ (before : List Member) where
       let same : Fixed of n ≡ k = cc in
       other (Fixed of n) k same (between_ok 1 100000 word n e)
   fixed_ok of word None k e h =
-      let p = some_if_ok (has_i32 before word) (Counted of word) k h in
+      let p = if_is (has_i32 before word) (Counted of word) k h in
       other (Counted of word) k p.1 p.0
 
   dimension_ok : (of : Primitive) (word : List ℕ) (k : Kind) → dimension_of before of word ≡ Some k → is_raw_kind before k ≡ true

@@ -1,10 +1,11 @@
 -- Members that are read, with those that count as counters, and bases that are read can be declared.
-use Rattle.std.proofs.Common.{◌≡◌, ◌⊎◌, inl, inr, ℕ, List, [], ◌∷◌, ◌++◌, map, length, Bool, true, false, ◌==◌, ◌&&◌, ◌||◌, not, if◌then◌else◌, refl, sym, ◌∙◌, ap, subst, append_assoc}
+use Rattle.std.proofs.Common.{◌≡◌, inl, inr, ℕ, List, [], ◌∷◌, ◌++◌, map, length, Bool, true, false, ◌==◌, ◌&&◌, ◌||◌, not, if◌then◌else◌, refl, sym, ◌∙◌, ap, subst, append_assoc}
 use Rattle.std.specs.Str.{bytes_eq}
-use Rattle.std.proofs.lemmas.Bool.{and_parts, false_from_ne_true}
+use Rattle.std.proofs.lemmas.Bool.{and_from, and_parts, false_from_ne_true, or_cases, or_left, or_right}
 use Rattle.std.proofs.lemmas.List.{map-append}
 use Rattle.std.proofs.lemmas.List.Folds.{list_any-append}
 use Rattle.std.proofs.lemmas.Slice.Eq.{bytes_eq-Decides}
+use Rattle.std.proofs.Math.Bool.{or-false}
 use Rattle.rio_num.specs.Word.{is_name_text}
 use Rattle.rio_types.specs.declared.class.Base.{Base}
 use Rattle.rio_types.specs.declared.class.Member.{Member}
@@ -18,36 +19,13 @@ use Rattle.rio_model.proofs.StatedParts.{AllKeep, RawBase, RawMember}
 
 -- ---- tests
 
-both : (a b : Bool) → a ≡ true → b ≡ true → (a && b) ≡ true
-both true b h k = k
-both false b h k = absurd (cc)
-
-or_cases : (a b : Bool) → (a || b) ≡ true → (a ≡ true) ⊎ (b ≡ true)
-or_cases true b h = inl refl
-or_cases false b h = inr h
-
-or_left : (a b : Bool) → a ≡ true → (a || b) ≡ true
-or_left true b h = refl
-or_left false b h = absurd (cc)
-
-or_right : (a b : Bool) → b ≡ true → (a || b) ≡ true
-or_right true b h = refl
-or_right false b h = h
-
-or_none : (a : Bool) → (a || false) ≡ a
-or_none true = refl
-or_none false = refl
-
-same_name : (a b : List ℕ) → bytes_eq a b ≡ true → a ≡ b
-same_name a b h = (bytes_eq-Decides a b).0 h
-
 -- ---- what counts among the members that are read
 
 raw_counts : (before : List Member) (k : Kind) (name : List ℕ) → is_raw_kind before k ≡ true → counts_by k name ≡ true → has_i32 before name ≡ true
 raw_counts before (Plain of) name r h = absurd (cc)
 raw_counts before Counter name r h = absurd (cc)
 raw_counts before (Fixed of count) name r h = absurd (cc)
-raw_counts before (Counted of counter) name r h = subst (λ (n : List ℕ). has_i32 before n ≡ true) (same_name counter name h) r
+raw_counts before (Counted of counter) name r h = subst (λ (n : List ℕ). has_i32 before n ≡ true) ((bytes_eq-Decides counter name).0 h) r
 raw_counts before Text name r h = absurd (cc)
 raw_counts before (Inline class) name r h = absurd (cc)
 raw_counts before (Pointer class) name r h = absurd (cc)
@@ -70,7 +48,7 @@ counters_stand_more before m stand raw name h =
     let split : (is_counted_by before name || (counts_by m.kind name || false)) ≡ true = sym (list_any-append (λ (c : Member). counts_by c.kind name) before (m ∷ [])) ∙ h in
     let member : has_member before name ≡ true = elim (or_cases (is_counted_by before name) (counts_by m.kind name || false) split) [
       | inl there ↦ stand name there
-      | inr here ↦ i32_is_member before name (raw_counts before m.kind name raw (sym (or_none (counts_by m.kind name)) ∙ here))
+      | inr here ↦ i32_is_member before name (raw_counts before m.kind name raw (sym (or-false (counts_by m.kind name)) ∙ here))
     ] in
     list_any-append (λ (c : Member). bytes_eq c.name name) before (m ∷ []) ∙ or_left (has_member before name) (bytes_eq m.name name || false) member
 
@@ -107,7 +85,7 @@ module _ (all : List Member) where
 
   is_counter_now : (m : Member) (ms : List Member) (name : List ℕ) → bytes_eq m.name name ≡ true → is_i32 m.kind ≡ true → is_counted_by all name ≡ true → has_counter (counting all m ∷ ms) name ≡ true
   is_counter_now m ms name named i32 counted =
-      let counts : is_counted_by all m.name ≡ true = ap (is_counted_by all) (same_name m.name name named) ∙ counted in
+      let counts : is_counted_by all m.name ≡ true = ap (is_counted_by all) ((bytes_eq-Decides m.name name).0 named) ∙ counted in
       rw (named, i32, counts) refl
 
   counter_stands : (ms : List Member) (name : List ℕ) → is_counted_by all name ≡ true → has_i32 ms name ≡ true → has_counter (map (counting all) ms) name ≡ true
@@ -146,14 +124,14 @@ module _ (all : List Member) where
         let kind = kind_stated before after m.name m.kind raw.raw counted counts_all in
         let new : not (has_member (map (counting all) before) m.name) ≡ true = ap not (same_members before m.name ∙ raw.new) in
         let title : (length m.title == 0) ≡ true = ap (λ (t : List ℕ). length t == 0) raw.untitled in
-        both _ (length m.title == 0) (both _ _ (both (is_name_text m.name) (not (has_member (map (counting all) before) m.name)) raw.named new) kind) title
+        and_from _ (length m.title == 0) (and_from _ _ (and_from (is_name_text m.name) (not (has_member (map (counting all) before) m.name)) raw.named new) kind) title
 
   all_stated : (before ms : List Member) → CountersStand before → AllKeep RawMember before ms → before ++ ms ≡ all → are_stated_members (map (counting all) before) (map (counting all) ms) ≡ true
   all_stated before [] stand raw e = refl
   all_stated before (m ∷ ms) stand raw e =
       let more = all_stated (before ++ m ∷ []) ms (counters_stand_more before m stand raw.0.raw) raw.1 (append_assoc before (m ∷ []) ms ∙ e) in
       let split : map (counting all) (before ++ m ∷ []) ≡ map (counting all) before ++ counting all m ∷ [] = map-append (counting all) before (m ∷ []) in
-      both (is_stated_member (map (counting all) before) (counting all m) (map (counting all) ms)) (are_stated_members (map (counting all) before ++ counting all m ∷ []) (map (counting all) ms)) (member_stated before m ms stand raw.0 e) (subst (λ (front : List Member). are_stated_members front (map (counting all) ms) ≡ true) split more)
+      and_from (is_stated_member (map (counting all) before) (counting all m) (map (counting all) ms)) (are_stated_members (map (counting all) before ++ counting all m ∷ []) (map (counting all) ms)) (member_stated before m ms stand raw.0 e) (subst (λ (front : List Member). are_stated_members front (map (counting all) ms) ≡ true) split more)
 
 pub members_stated : (ms : List Member) → AllKeep RawMember [] ms → are_stated_members [] (with_counters ms) ≡ true
 unfolding with_counters
@@ -164,7 +142,7 @@ members_stated ms raw = all_stated ms [] ms (λ name h. absurd (cc)) raw refl
 pub bases_stated : (before bs : List Base) → AllKeep RawBase before bs → are_stated_bases before bs ≡ true
 bases_stated before [] raw = refl
 bases_stated before (b ∷ bs) raw =
-    both (is_stated_base before b) (are_stated_bases (before ++ b ∷ []) bs) (both (is_name_text b.name) (not (has_base_named before b.name)) raw.0.named (ap not raw.0.new)) (bases_stated (before ++ b ∷ []) bs raw.1)
+    and_from (is_stated_base before b) (are_stated_bases (before ++ b ∷ []) bs) (and_from (is_name_text b.name) (not (has_base_named before b.name)) raw.0.named (ap not raw.0.new)) (bases_stated (before ++ b ∷ []) bs raw.1)
 
 pub bases_plain : (before bs : List Base) → AllKeep RawBase before bs → map (λ b. base b.name) bs ≡ bs
 bases_plain before [] raw = refl

@@ -1,6 +1,6 @@
 -- What is read of members and bases, and of lists of them.
 use Rattle.std.proofs.Common.{◌≡◌, inl, inr, ℕ, zero, suc, List, [], ◌∷◌, ◌++◌, length, true, false, ◌&&◌, not, Ok, refl, sym, ap, subst, append_assoc}
-use Rattle.std.proofs.lemmas.Bool.{and_parts}
+use Rattle.std.proofs.lemmas.Bool.{and_parts, not-true}
 use Rattle.std.proofs.lemmas.List.{append-nil}
 use Rattle.rio_num.specs.At.{At}
 use Rattle.rio_num.specs.Reading.{◌>>=◌}
@@ -12,7 +12,6 @@ use Rattle.rio_token.specs.Tokens.{behind}
 use Rattle.rio_token.specs.Reading.{Read, list_at, mark_at, marked, more_at, some_at, word_that_at}
 use Rattle.rio_format.specs.Bodies.{member}
 use Rattle.rio_model.specs.ClassGrammar.{base, base_at, bases_at, has_base_named, has_member, kind_at, member_at}
-use Rattle.rio_model.proofs.ReadKinds.{not_true}
 use Rattle.rio_model.proofs.StatedKinds.{is_raw_kind, kind_ok, word_that_ok}
 
 -- ---- lists
@@ -71,7 +70,7 @@ member_ok before s y h =
     let c = bind_ok (kind_at before b.0.1) (λ kind. Ok (member a.0.0 kind.0, kind.1)) y b.2 in
     let parts = and_parts (is_name_text a.0.0) (not (has_member before a.0.0)) (word_that_ok (λ word. is_name_text word && not (has_member before word)) s a.0 a.1) in
     let same : member a.0.0 c.0.0 ≡ y.0 = ap (λ (q : Member × At). q.0) (ok_is (member a.0.0 c.0.0, c.0.1) y c.2) in
-    let raw : RawMember before (member a.0.0 c.0.0) = record { named = parts.0; new = not_true (has_member before a.0.0) parts.1; raw = kind_ok before b.0.1 c.0 c.1; untitled = refl } in
+    let raw : RawMember before (member a.0.0 c.0.0) = record { named = parts.0; new = not-true (has_member before a.0.0) parts.1; raw = kind_ok before b.0.1 c.0 c.1; untitled = refl } in
     subst (λ (m : Member). RawMember before m) same raw
 
 pub members_ok : (s : At) (y : List Member × At) → list_at 125 member_at s ≡ Ok y → AllKeep RawMember [] y.0
@@ -91,7 +90,7 @@ base_ok before s y h =
     let a = bind_ok (word_that_at (λ word. is_name_text word && not (has_base_named before word)) s) (λ name. Ok (base name.0, name.1)) y h in
     let parts = and_parts (is_name_text a.0.0) (not (has_base_named before a.0.0)) (word_that_ok (λ word. is_name_text word && not (has_base_named before word)) s a.0 a.1) in
     let same : base a.0.0 ≡ y.0 = ap (λ (q : Base × At). q.0) (ok_is (base a.0.0, a.0.1) y a.2) in
-    let raw : RawBase before (base a.0.0) = record { named = parts.0; new = not_true (has_base_named before a.0.0) parts.1; plain = refl } in
+    let raw : RawBase before (base a.0.0) = record { named = parts.0; new = not-true (has_base_named before a.0.0) parts.1; plain = refl } in
     subst (λ (b : Base). RawBase before b) same raw
 
 pub bases_ok : (s : At) (y : List Base × At) → bases_at s ≡ Ok y → AllKeep RawBase [] y.0

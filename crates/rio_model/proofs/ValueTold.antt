@@ -40,7 +40,7 @@ version_ends_same : (z : ℤ) (s t : At) → HaveSameNext s t → ends_version z
 version_ends_same (pos zero) s t same h = ap not (sym (marked_same 35 s t same)) ∙ h
 version_ends_same other s t same h = refl
 
-value_ends_same : (y : Value-F Value Part) (s t : At) → HaveSameNext s t → ends_here y s ≡ true → ends_here y t ≡ true
+pub value_ends_same : (y : Value-F Value Part) (s t : At) → HaveSameNext s t → ends_here y s ≡ true → ends_here y t ≡ true
 value_ends_same (layer.Bool b) s t same h = ap not (sym (opens_same s t same)) ∙ h
 value_ends_same layer.Null s t same h = ap not (sym (opens_same s t same)) ∙ h
 value_ends_same (layer.Back label) s t same h = ap not (sym (marked_same 61 s t same)) ∙ h
@@ -52,7 +52,7 @@ part_ends_same (b ∷ bs) v s t same h = value_ends_same (out-Value v) s t same 
 
 -- ---- versions
 
-one_is_number : num_of (codes "1") ≡ Some 1
+pub one_is_number : num_of (codes "1") ≡ Some 1
 unfolding decimal_of written
 one_is_number = refl
 

@@ -7,6 +7,8 @@ use Rattle.std.proofs.lemmas.List.Sorted.{IsPermutation-cons, IsPermutation-refl
 use Rattle.std.specs.List.{All, find, list_any, sum_by}
 use Rattle.std.specs.List.Sorted.{IsPermutation}
 use Rattle.std.specs.Option.{is_some}
+use Rattle.std.proofs.Math.Bool.{and-false, and-true}
+use Rattle.std.proofs.lemmas.Bool.{not-false, not-true}
 use Rattle.rio_num.specs.Word.{is_item_text}
 use Rattle.rio_types.specs.declared.class.ClassDef.{ClassDef}
 use Rattle.rio_host.specs.Host.{View}
@@ -55,24 +57,8 @@ any_heads p (r ∷ rs) = ap (λ (b : Bool). p r.head || b) (any_heads p rs)
 
 -- ---- one key
 
-and_true : (b : Bool) → (b && true) ≡ b
-and_true true = refl
-and_true false = refl
-
 abbrev some_of : ReasonAt → Option ReasonAt
 some_of x = Some x
-
-and_false : (b : Bool) → (b && false) ≡ false
-and_false true = refl
-and_false false = refl
-
-not_false_is : (b : Bool) → not b ≡ false → b ≡ true
-not_false_is true e = refl
-not_false_is false e = absurd cc
-
-not_true_is : (b : Bool) → not b ≡ true → b ≡ false
-not_true_is true e = absurd cc
-not_true_is false e = refl
 
 -- what was put, where it was
 pub put_there : (put : Bool) (a b new : List KeyHead) → put ≡ true → new ≡ cond put a b → new ≡ a
@@ -82,7 +68,7 @@ module _ (beside : Beside) (before : List KeyedRecord) (r : KeyedRecord) (head :
   -- no record stands for a tree yet
   pub bad_tree : is_bad_tree beside r ≡ (is_tree_key head && not (is_outdated beside.tops (keyed head)))
   unfolding tree_of
-  bad_tree = and_true (is_tree_record beside.tops r) ∙ ap (λ (h : KeyHead). is_tree_key h && not (is_outdated beside.tops (keyed h))) same
+  bad_tree = and-true (is_tree_record beside.tops r) ∙ ap (λ (h : KeyHead). is_tree_key h && not (is_outdated beside.tops (keyed h))) same
 
   pub double : (passed : List KeyHead) → IsPermutation (record_heads before) passed → is_some (find (is_at_cycle head.name head.cycle) passed) ≡ list_any (has_item (item_of_key r.head)) before
   double passed moved =
@@ -141,16 +127,16 @@ module _ (beside : Beside) (before : List KeyedRecord) (r : KeyedRecord) (head :
   other_kind tree t isnt = bad_tree ∙ (λ i. (sym t ∙ isnt) i && not (is_outdated beside.tops (keyed head)))
 
   pub old_tree : (out : Bool) → out ≡ is_outdated beside.tops (keyed head) → out ≡ true → is_bad_tree beside r ≡ false
-  old_tree out o is = bad_tree ∙ (λ i. is_tree_key head && not ((sym o ∙ is) i)) ∙ and_false (is_tree_key head)
+  old_tree out o is = bad_tree ∙ (λ i. is_tree_key head && not ((sym o ∙ is) i)) ∙ and-false (is_tree_key head)
 
   pub double_told : (put : Bool) (passed : List KeyHead) → IsPermutation (record_heads before) passed → put ≡ not (is_some (find (is_at_cycle head.name head.cycle) passed)) → put ≡ false
       → is_bad_tree beside r ≡ false → slice_get (item_reasons beside before r) 0 ≡ Some (reason_at head.seek DoubleKey)
   double_told put passed moved told fails good =
-      double_first good (sym (double passed moved) ∙ not_false_is (is_some (find (is_at_cycle head.name head.cycle) passed)) (sym told ∙ fails)) ∙ ap (λ (h : KeyHead). some_of (reason_at h.seek DoubleKey)) same
+      double_first good (sym (double passed moved) ∙ not-false (is_some (find (is_at_cycle head.name head.cycle) passed)) (sym told ∙ fails)) ∙ ap (λ (h : KeyHead). some_of (reason_at h.seek DoubleKey)) same
 
   pub single : (put : Bool) (passed : List KeyHead) → IsPermutation (record_heads before) passed → put ≡ not (is_some (find (is_at_cycle head.name head.cycle) passed)) → put ≡ true
       → list_any (has_item (item_of_key r.head)) before ≡ false
-  single put passed moved told passes = sym (double passed moved) ∙ not_true_is (is_some (find (is_at_cycle head.name head.cycle) passed)) (sym told ∙ passes)
+  single put passed moved told passes = sym (double passed moved) ∙ not-true (is_some (find (is_at_cycle head.name head.cycle) passed)) (sym told ∙ passes)
 
   pub mixed_is : (name : List ℕ) (b : Bool) → name ≡ head.name → b ≡ is_mixed_name beside.tops name → is_mixed_name beside.tops r.head.name ≡ b
   mixed_is name b named told = mixed ∙ ap (is_mixed_name beside.tops) (sym named) ∙ sym told

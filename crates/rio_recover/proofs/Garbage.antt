@@ -1,8 +1,8 @@
 -- The records that nothing refers to, by their keys.
 use Rattle.std.proofs.Common.{◌≡◌, ◌∙◌, ℕ, List, [], ◌∷◌, map, Bool, true, false, cond, not, ◌&&◌, ◌||◌, ◌==◌, Option, Some, None, refl, sym, ap}
 use Rattle.std.specs.List.{filter, list_all}
+use Rattle.std.proofs.lemmas.Bool.{and_parts, not-true}
 use Rattle.rio_key.specs.declared.head.KeyHead.{KeyHead}
-use Rattle.rio_state.proofs.NoReason.{both}
 use Rattle.rio_state.specs.KeyedRecords.{KeyedRecord, first_place, info_key, is_top_key, is_tree_key, is_tree_record, top_keys}
 use Rattle.rio_state.specs.Reads.{info_place}
 use Rattle.rio_recover.specs.Keys.{record_heads}
@@ -16,10 +16,6 @@ no_tree_item true true other e = let z : true ≡ false = e refl in absurd cc
 no_tree_item true false other e = refl
 no_tree_item false kind other e = refl
 
-not_true : (b : Bool) → not b ≡ true → b ≡ false
-not_true true e = absurd cc
-not_true false e = refl
-
 kept_by : (r : KeyedRecord) (xs : List KeyedRecord) (ys : List KeyHead) (b : Bool) → map (λ s. s.head.seek) xs ≡ map (λ k. k.seek) ys
     → map (λ s. s.head.seek) (cond b (r ∷ xs) xs) ≡ map (λ k. k.seek) (cond b (r.head ∷ ys) ys)
 kept_by r xs ys true e = ap (λ (ps : List ℕ). r.head.seek ∷ ps) e
@@ -29,7 +25,7 @@ abbrev pub no_trees : List KeyedRecord → Bool
 no_trees tops = list_all (λ r. not (is_tree_key r.head)) tops
 
 head_by : (r : KeyedRecord) (tops : List KeyedRecord) (b : Bool) → is_top_key r.head ≡ b → no_trees (cond b (r ∷ tops) tops) ≡ true → (is_top_key r.head ≡ true → is_tree_key r.head ≡ false) × (no_trees tops ≡ true)
-head_by r tops true is all = let x = both (not (is_tree_key r.head)) (no_trees tops) all in (λ top. not_true (is_tree_key r.head) x.0, x.1)
+head_by r tops true is all = let x = and_parts (not (is_tree_key r.head)) (no_trees tops) all in (λ top. not-true (is_tree_key r.head) x.0, x.1)
 head_by r tops false is all = (λ top. absurd (let z : false ≡ true = sym is ∙ top in cc), all)
 
 module _ (tops : List KeyedRecord) (info : ℕ) where

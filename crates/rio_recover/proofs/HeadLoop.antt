@@ -14,20 +14,20 @@ use Rattle.rio_chain.specs.Segments.{HoldsRecord, Link, RecordAt, chain_end, seg
 use Rattle.rio_chain.specs.declared.segment.Segment.{Segment}
 use Rattle.rio_chain.specs.declared.segment.Segment.TheVariants.{Record, Gap}
 use Rattle.rio_chain.proofs.Words.{word_within}
+use Rattle.rio_chain.proofs.PutChain.{map_end}
 use Rattle.rio_state.specs.KeyedRecords.{KeyedRecord, keyed_records, record_in_link}
 use Rattle.rio_recover.specs.Causes.{Obtains}
 use Rattle.rio_recover.specs.Keys.{record_heads}
 use Rattle.rio_recover.specs.declared.fault.RecoverFault.{RecoverFault}
 use Rattle.rio_recover.proofs.Judging.{obtains_on}
 use Rattle.rio_recover.proofs.LinkRecords.{NextLink, NextRecord, next_gap, next_link, next_record, record_next, within_end}
-use Rattle.rio_recover.proofs.Rooms.{ends_same}
 use Rattle.rio_recover.proofs.Walking.{HeadsSoFar, heads_more}
 
 -- segments end within the file
 pub end_within : (links : List Link) (segments : List Segment) (file : List ℕ) → HasChain links segments file → file_end segments ≤ length file
 end_within links segments file chain =
     let end : file_end segments ≡ file_end (map segment_of links) = ap file_end chain.same in
-    let same = ends_same 100 links in
+    let same = map_end 100 links in
     let le = word_within file (chain_end links) 0 chain.chain.ends.zero_word in
     omega (arith, end, same, le)
 

@@ -3,6 +3,7 @@ use Rattle.std.proofs.Common.{◌≡◌, ◌∙◌, ℕ, List, [], ◌∷◌, �
 use Rattle.std.specs.List.{All}
 use Rattle.std.specs.Option.{is_some}
 use Rattle.std.proofs.lemmas.List.Elements.{All-cons, All-head, All-tail}
+use Rattle.std.proofs.Math.Bool.{and-false}
 use Rattle.rio_num.specs.Word.{is_item_text}
 use Rattle.rio_key.specs.declared.head.KeyHead.{KeyHead}
 use Rattle.rio_head.specs.declared.reason.Reason.TheVariants.{BadKey, BadName, BadObject}
@@ -49,11 +50,7 @@ module _ (beside : Beside) (r : KeyedRecord) (head : KeyHead) (same : r.head ≡
       some x = Some x
 
   pub object_good : is_some (object_in beside.classes r) ≡ true → object_reasons ≡ []
-  object_good s = none_if (is_bad_object beside r) r.head.seek BadObject (bad_by (is_tree_key head) true refl s ∙ and_false (not (is_tree_key head)))
-    where
-      and_false : (b : Bool) → (b && false) ≡ false
-      and_false true = refl
-      and_false false = refl
+  object_good s = none_if (is_bad_object beside r) r.head.seek BadObject (bad_by (is_tree_key head) true refl s ∙ and-false (not (is_tree_key head)))
 
   pub tree_passed : is_tree_key head ≡ true → object_reasons ≡ []
   tree_passed t = none_if (is_bad_object beside r) r.head.seek BadObject (bad_by true (is_some (object_in beside.classes r)) t refl)

@@ -1,9 +1,10 @@
 -- The names of a file's objects and trees, kept in two tables.
-use Rattle.std.proofs.Common.{◌≡◌, ◌∙◌, ℕ, ◌+◌, List, [], ◌∷◌, ◌++◌, Bool, true, false, cond, not, ◌&&◌, ◌||◌, ltb, Option, Some, None, Bor, refl, sym, ap, arith}
+use Rattle.std.proofs.Common.{◌≡◌, ◌∙◌, ℕ, ◌+◌, List, [], ◌∷◌, ◌++◌, Bool, true, false, cond, not, ◌&&◌, ◌||◌, ltb, refl, sym, ap, arith}
 use Rattle.std.proofs.lemmas.Bool.Decides.{nat_tests}
 use Rattle.std.specs.List.{find, list_any}
-use Rattle.std.specs.Option.{is_some, option_copied}
+use Rattle.std.specs.Option.{is_some}
 use Rattle.std.specs.Str.{bytes_eq}
+use Rattle.std.proofs.Math.Bool.{and-false, and-true, or-false}
 use Rattle.rio_key.specs.declared.head.KeyHead.{KeyHead}
 use Rattle.rio_dir.specs.Table.{TableRoom, greatest_cycle, is_at_cycle, is_of_name, with_head}
 use Rattle.rio_machine.specs.State.{NameAndCycle}
@@ -11,11 +12,7 @@ use Rattle.rio_state.specs.KeyedRecords.{KeyedRecord, is_mixed_name, is_outdated
 use Rattle.rio_recover.specs.Keys.{keyed}
 use Rattle.rio_recover.specs.Names.{IndexesNames}
 use Rattle.rio_recover.specs.declared.names.NameIndex.{NameIndex}
-use Rattle.rio_recover.proofs.Tables.{any-append, any_put, any_same, greatest_above, or_none, or_turned, some_found}
-
-pub some_copied : {X : Type 0} (o : Option (Bor X)) → is_some (option_copied o) ≡ is_some o
-some_copied None = refl
-some_copied (Some x) = refl
+use Rattle.rio_recover.proofs.Tables.{any-append, any_put, any_same, greatest_above, or_turned, some_found}
 
 -- ---- one key more
 
@@ -30,16 +27,12 @@ noted : (test : NameAndCycle → Bool) (kind : KeyHead → Bool) (tops : List Ke
 noted test kind tops head old new put is told table before =
     let t = test (item_of_key head) in
     let rest = list_any (λ r. test (item_of_key r.head) && kind r.head) tops in
-    let here : (t && kind head) ≡ t = ap (λ (b : Bool). t && b) is ∙ and_true t in
+    let here : (t && kind head) ≡ t = ap (λ (b : Bool). t && b) is ∙ and-true t in
     any_put test head old new put told table
     ∙ ap (λ (b : Bool). t || b) before
     ∙ or_turned t rest
     ∙ ap (λ (b : Bool). rest || (b || false)) (sym here)
     ∙ sym (any_last (λ r. test (item_of_key r.head) && kind r.head) tops (keyed head))
-  where
-    and_true : (b : Bool) → (b && true) ≡ b
-    and_true true = refl
-    and_true false = refl
 
 -- and where it is of another, they stay
 left : (test : NameAndCycle → Bool) (kind : KeyHead → Bool) (tops : List KeyedRecord) (head : KeyHead) (old : List KeyHead) → kind head ≡ false
@@ -48,12 +41,8 @@ left : (test : NameAndCycle → Bool) (kind : KeyHead → Bool) (tops : List Key
 left test kind tops head old is before =
     let t = test (item_of_key head) in
     let rest = list_any (λ r. test (item_of_key r.head) && kind r.head) tops in
-    let here : (t && kind head) ≡ false = ap (λ (b : Bool). t && b) is ∙ and_false t in
-    before ∙ sym (or_none rest) ∙ ap (λ (b : Bool). rest || (b || false)) (sym here) ∙ sym (any_last (λ r. test (item_of_key r.head) && kind r.head) tops (keyed head))
-  where
-    and_false : (b : Bool) → (b && false) ≡ false
-    and_false true = refl
-    and_false false = refl
+    let here : (t && kind head) ≡ false = ap (λ (b : Bool). t && b) is ∙ and-false t in
+    before ∙ sym (or-false rest) ∙ ap (λ (b : Bool). rest || (b || false)) (sym here) ∙ sym (any_last (λ r. test (item_of_key r.head) && kind r.head) tops (keyed head))
 
 pub note_tree : (tops : List KeyedRecord) (names : NameIndex) (head : KeyHead) (new : TableRoom) (put : Bool) → is_tree_key head ≡ true
     → put ≡ not (is_some (find (is_at_cycle head.name head.cycle) names.trees.heads)) → new.heads ≡ cond put (with_head head names.trees.heads) names.trees.heads

@@ -1,6 +1,6 @@
 -- Where nothing is against the keys of objects and trees, none is a tree's, since no tree is read yet.
 use Rattle.std.proofs.Common.{◌≡◌, ◌⊎◌, inl, inr, ◌∙◌, ℕ, zero, suc, ◌+◌, ◌<◌, ◌≤◌, List, [], ◌∷◌, ◌++◌, length, Bool, true, false, cond, not, ◌&&◌, ◌||◌, ltb, refl, sym, ap, subst, arith}
-use Rattle.std.proofs.lemmas.Bool.{ltb-true}
+use Rattle.std.proofs.lemmas.Bool.{and_parts, ltb-true}
 use Rattle.std.proofs.lemmas.List.{append-nil}
 use Rattle.std.proofs.lemmas.List.Sorted.{Contains-permutation, IsPermutation-sym}
 use Rattle.std.proofs.lemmas.List.Sums.{sum_by-cons}
@@ -9,7 +9,7 @@ use Rattle.std.specs.Str.{bytes_eq}
 use Rattle.rio_types.specs.declared.class.ClassDef.{ClassDef}
 use Rattle.rio_key.specs.declared.head.KeyHead.{KeyHead}
 use Rattle.rio_dir.specs.Table.{AreOrdered}
-use Rattle.rio_state.proofs.NoReason.{beside_of, both, is_tree_read}
+use Rattle.rio_state.proofs.NoReason.{beside_of, is_tree_read}
 use Rattle.rio_state.proofs.Unreasoned.{keys_kept, nil_two}
 use Rattle.rio_state.specs.Closing.{item_heads}
 use Rattle.rio_state.specs.Contents.{tree_of}
@@ -27,8 +27,8 @@ Among (y ∷ ys) x = (y ≡ x) ⊎ Among ys x
 
 all_among : {X : Type 0} (q : X → Bool) (xs : List X) (x : X) → list_all q xs ≡ true → Among xs x → q x ≡ true
 all_among q [] x e a = absurd a
-all_among q (y ∷ ys) x e (inl is) = ap q (sym is) ∙ (both (q y) (list_all q ys) e).0
-all_among q (y ∷ ys) x e (inr a) = all_among q ys x (both (q y) (list_all q ys) e).1 a
+all_among q (y ∷ ys) x e (inl is) = ap q (sym is) ∙ (and_parts (q y) (list_all q ys) e).0
+all_among q (y ∷ ys) x e (inr a) = all_among q ys x (and_parts (q y) (list_all q ys) e).1 a
 
 all_from : {X : Type 0} (q : X → Bool) (xs : List X) → ((x : X) → Among xs x → q x ≡ true) → list_all q xs ≡ true
 all_from q [] f = refl
@@ -55,7 +55,7 @@ within_sum f (y ∷ ys) x (inr a) = let le = within_sum f ys x a in omega (arith
 kept_all : {X : Type 0} (p : X → Bool) (xs : List X) → list_all p xs ≡ true → filter p xs ≡ xs
 kept_all p [] e = refl
 kept_all p (x ∷ xs) e =
-    let b = both (p x) (list_all p xs) e in
+    let b = and_parts (p x) (list_all p xs) e in
     λ i. cond (b.0 i) (x ∷ kept_all p xs b.1 i) (kept_all p xs b.1 i)
 
 -- ---- no tree is read
@@ -93,8 +93,8 @@ module _ (tops : List KeyedRecord) (none : filter (is_tree_record tops) tops ≡
       let test : KeyedRecord → Bool = λ s. is_tree_key s.head && bytes_eq s.head.name r.head.name && ltb r.head.cycle s.head.cycle in
       let w = witness test tops out in
       let s = w.item in
-      let x = both (is_tree_key s.head && bytes_eq s.head.name r.head.name) (ltb r.head.cycle s.head.cycle) w.passes in
-      let t = both (is_tree_key s.head) (bytes_eq s.head.name r.head.name) x.0 in
+      let x = and_parts (is_tree_key s.head && bytes_eq s.head.name r.head.name) (ltb r.head.cycle s.head.cycle) w.passes in
+      let t = and_parts (is_tree_key s.head) (bytes_eq s.head.name r.head.name) x.0 in
       let higher = ltb-true r.head.cycle s.head.cycle x.1 in
       climb n s w.among t.0 (omega (arith, low, higher))
 

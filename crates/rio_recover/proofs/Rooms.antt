@@ -10,8 +10,9 @@ use Rattle.rio_key.specs.declared.head.KeyHead.{KeyHead}
 use Rattle.rio_head.specs.declared.reason.Reason.TheVariants.{NoRoom, TooMany}
 use Rattle.rio_chain.specs.Adjoining.{segment_length, segments_end}
 use Rattle.rio_chain.specs.Placing.{file_end}
-use Rattle.rio_chain.specs.Segments.{GapAt, Link, RecordAt, chain_end, end_from, link_length, segment_of}
+use Rattle.rio_chain.specs.Segments.{GapAt, Link, RecordAt, chain_end, link_length, segment_of}
 use Rattle.rio_chain.specs.declared.segment.Segment.{Segment}
+use Rattle.rio_chain.proofs.PutChain.{map_end}
 use Rattle.rio_dir.specs.Table.{heads_size}
 use Rattle.rio_machine.specs.Limits.{head_length, item_limit}
 use Rattle.rio_state.specs.Closing.{KeptRecords, close_need, end_limit, item_heads, kept_count, kept_in, name_in, padded_length}
@@ -36,11 +37,6 @@ length_same : (l : Link) → segment_length (segment_of l) ≡ link_length l
 length_same (RecordAt p bytes) = refl
 length_same (GapAt p n) = refl
 
-pub ends_same : (p : ℕ) (links : List Link) → segments_end p (map segment_of links) ≡ end_from p links
-ends_same p [] = refl
-ends_same p (l ∷ links) =
-    ap (λ (n : ℕ). segments_end (p + n) (map segment_of links)) (length_same l) ∙ ends_same (p + link_length l) links
-
 -- ---- reasons
 
 pub room_same : (links : List Link) (segments : List Segment) (classes : List ClassDef) (heads : List KeyHead) (name : List ℕ) (others : ℕ) → segments ≡ map segment_of links
@@ -53,7 +49,7 @@ room_same links segments classes heads name others same items named kept =
     let has = objects_alone records items.none in
     let few : length heads ≡ length tops = length_permutation (record_heads tops) heads items.heads_are ∙ length-map tops (λ r. r.head) in
     let count : length heads ≡ items_among tops = few ∙ sym (items_are records has) in
-    let end : file_end segments ≡ chain_end links = ap (segments_end 100) same ∙ ends_same 100 links in
+    let end : file_end segments ≡ chain_end links = ap (segments_end 100) same ∙ map_end 100 links in
     let heads_are = item_heads_are records has in
     let size : heads_size heads ≡ heads_size (item_heads tops) = sum_by-IsPermutation (λ h. length (written_key h)) (record_heads tops) heads items.heads_are ∙ ap heads_size (sym heads_are) in
     let long : length heads ≡ length (item_heads tops) = length_permutation (record_heads tops) heads items.heads_are ∙ ap length (sym heads_are) in

@@ -1,6 +1,6 @@
 -- Names and cycles in a key table.
 use Rattle.std.proofs.Common.{◌≡◌, ◌∙◌, ℕ, List, [], ◌∷◌, ◌++◌, Bool, true, false, cond, not, ◌&&◌, ◌||◌, ◌==◌, ltb, max, Some, refl, sym, ap, arith}
-use Rattle.std.proofs.lemmas.Bool.{eqb-true}
+use Rattle.std.proofs.lemmas.Bool.{and_parts, eqb-true}
 use Rattle.std.proofs.lemmas.Bool.Decides.{nat_tests}
 use Rattle.std.proofs.lemmas.Slice.Eq.{bytes_eq-Decides}
 use Rattle.std.proofs.lemmas.List.Sorted.{IsPermutation-cons, IsPermutation-middle, IsPermutation-refl, IsPermutation-trans}
@@ -11,7 +11,6 @@ use Rattle.std.specs.Str.{bytes_eq}
 use Rattle.rio_key.specs.declared.head.KeyHead.{KeyHead}
 use Rattle.rio_dir.specs.Table.{greatest_cycle, is_at_cycle, is_before, is_of_name, with_head}
 use Rattle.rio_machine.specs.State.{NameAndCycle}
-use Rattle.rio_state.proofs.NoReason.{both}
 use Rattle.rio_state.specs.KeyedRecords.{item_of_key}
 
 -- ---- truth values
@@ -30,10 +29,6 @@ or_turned true true = refl
 or_turned true false = refl
 or_turned false true = refl
 or_turned false false = refl
-
-pub or_none : (a : Bool) → (a || false) ≡ a
-or_none true = refl
-or_none false = refl
 
 pub any_same : {X : Type 0} (p q : X → Bool) → ((x : X) → p x ≡ q x) → (xs : List X) → list_any p xs ≡ list_any q xs
 any_same p q e [] = refl
@@ -79,7 +74,7 @@ with_moved h (k ∷ ks) = with_moved_by h k ks (with_head h ks) (is_before h.nam
 
 same_item : (name : List ℕ) (cycle : ℕ) (k : KeyHead) → is_at_cycle name cycle k ≡ true → item_of_key k ≡ (name, cycle)
 same_item name cycle k e =
-    let x = both (bytes_eq k.name name) (k.cycle == cycle) e in
+    let x = and_parts (bytes_eq k.name name) (k.cycle == cycle) e in
     let n : k.name ≡ name = (bytes_eq-Decides k.name name).0 x.0 in
     let c : k.cycle ≡ cycle = eqb-true k.cycle cycle x.1 in
     λ i. (n i, c i)

@@ -3,11 +3,11 @@ use Rattle.std.proofs.Common.{◌≡◌, ℕ, zero, suc, ◌+◌, List, [], ◌�
 use Rattle.std.specs.Prelude.{is_some}
 use Rattle.std.specs.List.{list_all, list_any}
 use Rattle.std.specs.Option.{option_or}
-use Rattle.std.specs.Cmp.Lexicographic.{same_text}
 use Rattle.std.specs.Str.{bytes_eq}
 use Rattle.std.proofs.lemmas.Bool.{and_parts, or_left, or_right}
 use Rattle.std.proofs.lemmas.Cmp.{nat_list_eq_equiv}
 use Rattle.std.proofs.lemmas.List.Folds.{list_any-append}
+use Rattle.std.proofs.lemmas.Slice.Eq.{bytes_eq-Decides}
 use Rattle.rio_types.specs.Classes.{find_in}
 use Rattle.rio_types.specs.declared.class.Base.{Base}
 use Rattle.rio_types.specs.declared.class.ClassDef.{ClassDef}
@@ -17,14 +17,10 @@ use Rattle.rio_types.specs.declared.kind.Kind.TheVariants.{Inline}
 use Rattle.rio_model.specs.Declaring.{IsClosed, IsWay, Reaches, base_declared, declare_fault, declared, has_within, holds, holds_itself, is_built_in_base, is_declared, is_inline, is_known, knows_all, knows_base, knows_kind, limit_fault}
 use Rattle.rio_model.specs.declared.declare.DeclareFault.{DeclareFault}
 use Rattle.rio_model.specs.declared.declare.DeclareFault.TheVariants.{HoldsItself, NoSuchClass, SameVersion}
-use Rattle.rio_model.proofs.ReachLaws.{reaching_is_a_way}
+use Rattle.rio_model.proofs.ReachLaws.{or_cases, reaching_is_a_way}
 use Rattle.rio_registry.specs.Fronts.{AreClosed}
-use Rattle.rio_registry.proofs.Ways.{or_cases}
 
 -- ---- tests
-
-same : (a b : List ℕ) → bytes_eq a b ≡ true → a ≡ b
-same a b e = same_text a b (sym e)
 
 pub both_ways : (a b : Bool) → (a ≡ true → b ≡ true) → (b ≡ true → a ≡ true) → a ≡ b
 both_ways true b f g = sym (f refl)
@@ -43,12 +39,12 @@ module _ (cs : List ClassDef) (c : ClassDef) where
   base_known (b ∷ bs) n known e =
       let parts = and_parts (knows_base cs c b) (list_all (knows_base cs c) bs) known in
       or_cases (bytes_eq n b.name) (list_any (λ b. bytes_eq n b.name) bs)
-      (λ t. subst (λ (m : List ℕ). (is_known cs c m || is_built_in_base m) ≡ true) (sym (same n b.name t)) parts.0)
+      (λ t. subst (λ (m : List ℕ). (is_known cs c m || is_built_in_base m) ≡ true) (sym ((bytes_eq-Decides n b.name).0 t)) parts.0)
       (λ t. base_known bs n parts.1 t)
       e
 
   kind_known : (kind : Kind) (n : List ℕ) → knows_kind cs c kind ≡ true → is_inline n kind ≡ true → is_known cs c n ≡ true
-  kind_known (Inline class) n known e = subst (λ (m : List ℕ). is_known cs c m ≡ true) (sym (same n class e)) known
+  kind_known (Inline class) n known e = subst (λ (m : List ℕ). is_known cs c m ≡ true) (sym ((bytes_eq-Decides n class).0 e)) known
   kind_known other n known e = absurd cc
 
   member_known : (ms : List Member) (n : List ℕ) → list_all (λ m. knows_kind cs c m.kind) ms ≡ true → list_any (λ m. is_inline n m.kind) ms ≡ true → is_known cs c n ≡ true

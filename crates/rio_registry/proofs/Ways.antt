@@ -2,7 +2,6 @@
 use Rattle.std.proofs.Common.{◌≡◌, ◌≤◌, ◌<◌, ℕ, ◌+◌, List, [], ◌∷◌, ◌++◌, length, take, get_or, map, Bool, true, false, ◌||◌, ◌&&◌, ◌⊎◌, inl, inr, refl, sym, ap, subst, ◌∙◌, arith, length-append}
 use Rattle.std.specs.Prelude.{Some, None, slice_get}
 use Rattle.std.specs.List.{IsDistinct, list_any}
-use Rattle.std.specs.Cmp.Lexicographic.{same_text}
 use Rattle.std.specs.Str.{bytes_eq}
 use Rattle.std.proofs.Math.Bool.{or-false}
 use Rattle.std.proofs.lemmas.Bool.{and_from, and_parts, or_from, or_left, or_right}
@@ -11,25 +10,17 @@ use Rattle.std.proofs.lemmas.List.{take-append-le, take_all}
 use Rattle.std.proofs.lemmas.List.Folds.{list_any-append, list_any_at, list_any_more}
 use Rattle.std.proofs.lemmas.Map.Made.{length-le_from_is_member}
 use Rattle.std.proofs.lemmas.Option.{get_or_from_slice_get, slice_get_cases, slice_get_within}
+use Rattle.std.proofs.lemmas.Slice.Eq.{bytes_eq-Decides}
 use Rattle.rio_types.specs.declared.class.Base.{Base}
 use Rattle.rio_types.specs.declared.class.ClassDef.{ClassDef}
 use Rattle.rio_types.specs.declared.class.Member.{Member}
 use Rattle.rio_types.specs.declared.kind.Kind.{Kind}
 use Rattle.rio_types.specs.declared.kind.Kind.TheVariants.{Plain, Counter, Fixed, Counted, Text, Inline, Pointer, Other}
 use Rattle.rio_model.specs.Declaring.{IsWay, Reaches, has_within, holds, is_inline}
+use Rattle.rio_model.proofs.ReachLaws.{or_cases}
 use Rattle.rio_registry.specs.Reaching.{ComesTo, IsGrown, is_among}
 
 -- ---- tests
-
-pub or_cases : {P : Type 0} (a b : Bool) → (a ≡ true → P) → (b ≡ true → P) → (a || b) ≡ true → P
-or_cases true b f g e = f refl
-or_cases false b f g e = g e
-
-same : (a b : List ℕ) → bytes_eq a b ≡ true → a ≡ b
-same a b e = same_text a b (sym e)
-
-itself : (a : List ℕ) → bytes_eq a a ≡ true
-itself a = nat_list_eq_equiv.refl a
 
 past : {X : Type 0} (xs : List X) (i : ℕ) → None ≡ slice_get xs i → length xs ≤ i
 past xs i e = elim (slice_get_cases xs i).1 [ inl w ↦ absurd (cc (e, w.2)) | inr w ↦ w.0 ]
@@ -140,7 +131,7 @@ module _ (classes : List ClassDef) where
   followed_more start names new last index name f at other grown =
       let lt : index < length names = slice_get_within names index name (sym at) in
       let is : name ≡ get_or names index name = sym (get_or_from_slice_get names index name name (sym at)) in
-      let there : is_among names name ≡ true = list_any_at (bytes_eq name) names index name lt (rw (sym is) (itself name)) in
+      let there : is_among names name ≡ true = list_any_at (bytes_eq name) names index name lt (rw (sym is) ((bytes_eq-Decides name name).1 refl)) in
       let stays : (n : List ℕ) → is_among names n ≡ true → is_among new n ≡ true = λ n h. grown.names n ∙ or_left _ _ h in
       let front : take (index + 1) new ≡ take (index + 1) names =
       ap (take (index + 1)) grown.kept.1 ∙ take-append-le (index + 1) names grown.kept.0 (omega arith) in
@@ -154,7 +145,7 @@ module _ (classes : List ClassDef) where
         closed = λ outer inner h e.
             or_cases (is_among (take index names) outer) (bytes_eq outer name)
             (λ among. stays inner (f.closed outer inner among e))
-            (λ alike. grown.names inner ∙ or_right _ _ (subst (λ (n : List ℕ). holds classes n inner ≡ true) (same outer name alike) e))
+            (λ alike. grown.names inner ∙ or_right _ _ (subst (λ (n : List ℕ). holds classes n inner ≡ true) ((bytes_eq-Decides outer name).0 alike) e))
             (sym (more outer) ∙ h);
         apart = more last ∙ or_from _ _ f.apart other;
       }
@@ -212,7 +203,7 @@ module _ (classes : List ClassDef) (class : ClassDef) where
   holds_still a b h = holds-more a b ∙ or_left _ _ h
 
   holds_own : (b : List ℕ) → has_within class b ≡ true → holds (classes ++ class ∷ []) class.name b ≡ true
-  holds_own b h = holds-more class.name b ∙ or_right _ _ (and_from _ _ (itself class.name) h)
+  holds_own b h = holds-more class.name b ∙ or_right _ _ (and_from _ _ ((bytes_eq-Decides class.name class.name).1 refl) h)
 
   way_still : (a b : List ℕ) (between : List (List ℕ)) → IsWay classes a between b → IsWay (classes ++ class ∷ []) a between b
   way_still a b [] way = holds_still a b way

@@ -1,10 +1,9 @@
 -- What a close needs, of what a session keeps.
 use Rattle.std.proofs.Common.{◌≡◌, ◌≤◌, ◌+◌, ◌-◌, ◌==◌, ◌^◌, true≢false, ℕ, Bool, true, false, leb, ltb, List, [], ◌∷◌, length, refl, sym, ap, subst, ◌∙◌, arith}
 use Rattle.std.specs.Prelude.{if◌then◌else◌, slice_index_or}
-use Rattle.std.specs.List.{All, list_all, sum_by}
+use Rattle.std.specs.List.{All, list_all}
 use Rattle.std.proofs.lemmas.Bool.{and_parts, eqb-true, leb-true, ltb-true}
 use Rattle.std.proofs.lemmas.List.Folds.{list_all_at}
-use Rattle.std.proofs.lemmas.List.Sums.{sum_by-cons}
 use Rattle.rio_key.specs.Key.{key_place_len}
 use Rattle.rio_key.specs.Written.{FitsKey}
 use Rattle.rio_key.specs.declared.head.KeyHead.{KeyHead}
@@ -13,9 +12,9 @@ use Rattle.rio_chain.specs.Adjoining.{segments_end}
 use Rattle.rio_chain.specs.Placing.{file_end, record_count, rest_of_gap, with_segment}
 use Rattle.rio_chain.specs.declared.segment.Segment.{Segment}
 use Rattle.rio_chain.specs.declared.segment.Segment.TheVariants.{Record, Gap}
-use Rattle.rio_state.specs.Closing.{KeptRecords, close_need, free_length, list_length, padded_length}
-use Rattle.rio_close.specs.Sizes.{close_size, headless}
+use Rattle.rio_close.specs.Sizes.{close_size}
 use Rattle.rio_session.specs.Kept.{IsClosable, is_fit_key, kept_with}
+use Rattle.rio_session.proofs.Needs.{close_size_is_need}
 
 -- ---- keys
 
@@ -43,19 +42,12 @@ fits_all heads all k d lt = by (is_fit_key (slice_index_or heads k d)) refl
 
 -- ---- room
 
-need_is : (k : KeptRecords) → close_need k ≡ close_size k.name (heads_size k.heads) k.count
-unfolding close_need close_size
-need_is k =
-    let list : list_length k ≡ list_length (headless k.name k.count) + heads_size k.heads = omega arith in
-    ap (λ n. sum_by padded_length (n ∷ free_length k ∷ [])) list
-    ∙ omega (arith, sum_by-cons padded_length (list_length (headless k.name k.count) + heads_size k.heads) (free_length k ∷ []), sum_by-cons padded_length (free_length k) [])
-
 -- there is room for the records of a close
 pub need_low : (segments segments' : List Segment) (heads : List KeyHead) (name name' : List ℕ) → IsClosable segments heads name → segments' ≡ segments → name' ≡ name
     → file_end segments' + close_size name' (heads_size heads) (record_count segments') ≤ 1999999996
 need_low segments segments' heads name name' kept same own =
     subst (λ (x : List Segment × List ℕ). file_end x.0 + close_size x.1 (heads_size heads) (record_count x.0) ≤ 1999999996) (λ i. (sym same i, sym own i))
-    (omega (arith, kept.room, need_is (kept_with name heads (record_count segments))))
+    (omega (arith, kept.room, close_size_is_need (kept_with name heads (record_count segments))))
 
 -- ---- END
 

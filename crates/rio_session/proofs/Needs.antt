@@ -76,7 +76,7 @@ need_by_keys name heads m keys sized none =
 
 -- ---- by lengths
 
-close_size_is_need : (kept : KeptRecords) → close_need kept ≡ close_size kept.name (heads_size kept.heads) kept.count
+pub close_size_is_need : (kept : KeptRecords) → close_need kept ≡ close_size kept.name (heads_size kept.heads) kept.count
 unfolding close_need close_size
 close_size_is_need kept =
     let list : list_length kept ≡ list_length (headless kept.name kept.count) + heads_size kept.heads = omega arith in

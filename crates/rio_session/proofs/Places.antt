@@ -2,9 +2,9 @@
 use Rattle.std.proofs.Common.{◌≡◌, inl, ℕ, ◌+◌, ◌-◌, ◌%◌, ◌<◌, ◌≤◌, true, false, List, [], ◌∷◌, sum, Option, Some, None, refl, subst, ap, ◌∙◌, arith}
 use Rattle.std.proofs.lemmas.Bool.{le-ltb, lt-ltb, ltb-false, ltb-true}
 use Rattle.rio_free.specs.Gaps.{best_place}
-use Rattle.rio_chain.specs.Adjoining.{AreSegments, segment_length, segments_end}
+use Rattle.rio_chain.specs.Adjoining.{AreSegments}
 use Rattle.rio_chain.proofs.Laying.{laid_put}
-use Rattle.rio_chain.proofs.Placed.{low_place, place_free}
+use Rattle.rio_chain.proofs.Placed.{end-le, low_place, place_free}
 use Rattle.rio_chain.specs.Placing.{FreeSpace, end_after, file_end, laid_at, place_of, space_of, with_segment}
 use Rattle.rio_chain.specs.Plans.{IsFull}
 use Rattle.rio_chain.specs.declared.fault.PlanFault.{PlanFault}
@@ -12,10 +12,6 @@ use Rattle.rio_chain.specs.declared.fault.PlanFault.TheVariants.{Full, NoMemory}
 use Rattle.rio_chain.specs.declared.segment.Segment.{Segment}
 use Rattle.rio_state.specs.Closing.{end_limit, is_full, lay_all}
 use Rattle.rio_session.specs.Puts.{IsFullFor}
-
-end_least : (p : ℕ) (segments : List Segment) → p ≤ segments_end p segments
-end_least p [] = omega arith
-end_least p (s ∷ segments) = omega (arith, end_least (p + segment_length s) segments)
 
 laid_least : (n : ℕ) (found : Option ℕ) (space : FreeSpace) → space.end ≤ (laid_at found n space).end
 laid_least n (Some place) space = omega arith
@@ -33,7 +29,7 @@ pub end_most : (n : ℕ) (segments : List Segment) → end_after (n ∷ []) (spa
 end_most n segments = laid_most n (best_place n (space_of segments).gaps) (space_of segments)
 
 some_end : (n : ℕ) (segments : List Segment) → 100 ≤ end_after (n ∷ []) (space_of segments)
-some_end n segments = omega (arith, end_least 100 segments, end_stays n segments)
+some_end n segments = omega (arith, end-le 100 segments, end_stays n segments)
 
 pub has_room : (segments : List Segment) (n need limit : ℕ) → limit ≡ end_limit - need → end_after (n ∷ []) (space_of segments) ≤ limit → is_full segments (n ∷ []) need ≡ false
 unfolding is_full lay_all

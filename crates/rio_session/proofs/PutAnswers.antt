@@ -4,6 +4,7 @@ use Rattle.std.proofs.lemmas.Option.{same_Some}
 use Rattle.rio_host.specs.Host.{Elapses, IsLawful, Longer, View}
 use Rattle.rio_host.proofs.Images.{becomes_some, told_before}
 use Rattle.rio_host.proofs.Moments.{elapses_as}
+use Rattle.rio_host.proofs.ReadsLaws.{said_grows}
 use Rattle.rio_key.specs.declared.head.KeyHead.{KeyHead}
 use Rattle.rio_value.specs.declared.value.Value.{Value}
 use Rattle.rio_dir.specs.Table.{with_head}
@@ -38,7 +39,7 @@ use Rattle.rio_session.specs.declared.fault.SessionFault.{SessionFault}
 use Rattle.rio_session.specs.declared.fault.SessionFault.TheVariants.{HostFault, SayFault, NoMemory}
 use Rattle.rio_session.proofs.Opened.{open_image}
 use Rattle.rio_session.proofs.Replies.{read_steps, told_same}
-use Rattle.rio_session.proofs.Spoken.{front_none, front_part, front_whole, grows_none, grows_part, grows_whole, reads_stay}
+use Rattle.rio_session.proofs.Spoken.{front_none, front_part, front_whole, grows_none, grows_whole, reads_stay}
 
 -- the put as the session does it, and as the law of puts has it
 pub record IsPutOf (m : State) (name : List ℕ) (v : Value) (place datime : ℕ) (p : Putting) : Type 0 where
@@ -244,7 +245,7 @@ module _ (p : Putting) (old new : View) (before after : SessionState) (lawful : 
     goes = tt;
     puts = tt;
     unwritten = λ m keys none. absurd (never_nothing m name v (step m keys) none);
-    said = grows_part p.text old.said new.said is.says;
+    said = said_grows p.text old.said new.said is.says;
     silent = λ none. absurd none;
     part = λ m said s. front_part old new said p.text (text_of (next_of before m (Put name v)).reply) s.said (putting m said s).text_is is.says;
     lacks = λ spoken m said s. accepted_lacks m name v (putting m said s).accepted;

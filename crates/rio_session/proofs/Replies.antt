@@ -5,6 +5,7 @@ use Rattle.rio_host.specs.Host.{Becomes, Elapses, IsLawful, Leaves, Longer, Long
 use Rattle.rio_host.specs.OnlyReads.{OnlyReads}
 use Rattle.rio_host.proofs.Images.{becomes_some}
 use Rattle.rio_host.proofs.Moments.{elapses_as, elapses_join, leaves_back, says_quiet}
+use Rattle.rio_host.proofs.ReadsLaws.{reads_none, said_grows}
 use Rattle.rio_value.specs.declared.value.Value.{Value}
 use Rattle.rio_chain.specs.Chains.{HasChain}
 use Rattle.rio_chain.specs.Segments.{Link}
@@ -27,7 +28,7 @@ use Rattle.rio_session.specs.Session.{FollowsCommand, HoldsState, IsOpenAs, IsRe
 use Rattle.rio_session.specs.declared.fault.SessionFault.{SessionFault}
 use Rattle.rio_session.specs.declared.fault.SessionFault.TheVariants.{HostFault, SayFault, NoMemory}
 use Rattle.rio_session.proofs.Opened.{reads_open}
-use Rattle.rio_session.proofs.Spoken.{front_none, front_part, front_whole, grows_none, grows_part, grows_whole, reads_stay, speaking_stays}
+use Rattle.rio_session.proofs.Spoken.{front_none, front_part, front_whole, grows_none, grows_whole, reads_stay, speaking_stays}
 use Rattle.rio_session.proofs.States.{of_keys}
 
 -- ---- what is told
@@ -229,7 +230,7 @@ module _ (old new : View) (before after : SessionState) (text : List ℕ) (cost 
     goes = tt;
     puts = tt;
     unwritten = λ m keys none. speaking_stays text old new is.holds is.time;
-    said = grows_part text old.said new.said is.says;
+    said = said_grows text old.said new.said is.says;
     silent = λ none. absurd none;
     part = λ m said s. front_part old new said text (text_of (next_of before m c).reply) s.said (told tt m said s) is.says;
     lacks = λ spoken m said s. costs_so c (Err SayFault) still told tt m said s (full tt m said s);
@@ -285,16 +286,6 @@ module _ (text : List ℕ) (old mid new : View) (law : IsLawful mid) (calls : On
 
 -- ---- nothing done
 
-stays_so : (v : View) → OnlyReads v v
-stays_so v = record {
-  time = record { later = omega arith; nothing_else = λ t i s le left. inl left; keeps = λ t i s le left. left };
-  holds = refl;
-  said = refl;
-  reads = omega arith;
-  disk_faults = omega arith;
-  say_faults = refl;
-}
-
 pub does_nothing : (v : View) (s : SessionState) (c : Command) → IsLawful v → IsReady v s → s.failed ≡ false → Does v v s s c (Err NoMemory)
 does_nothing v s c law ready fresh =
-    does_says v v s s [] 0 law law ready c (Err NoMemory) fresh (record { calls = stays_so v; faults = (refl, refl); kept = refl }) (λ said. absurd said) (λ said. absurd said) tt (λ said. absurd said) tt
+    does_says v v s s [] 0 law law ready c (Err NoMemory) fresh (record { calls = reads_none v; faults = (refl, refl); kept = refl }) (λ said. absurd said) (λ said. absurd said) tt (λ said. absurd said) tt

@@ -13,9 +13,6 @@ use Rattle.rio_session.specs.Behind.{SaysPart, Stays}
 pub grows_whole : (text : List ℕ) (a b : Option (List ℕ)) → Becomes (Longer text) a b → Becomes Grown a b
 grows_whole text a b is = becomes_as (Longer text) Grown a b (λ x y same. (text, same)) is
 
-pub grows_part : (text : List ℕ) (a b : Option (List ℕ)) → Becomes (LongerByPart text) a b → Becomes Grown a b
-grows_part text a b is = becomes_as (LongerByPart text) Grown a b (λ x y part. (take part.0 text, part.1)) is
-
 pub grows_none : (a b : Option (List ℕ)) → b ≡ a → Becomes Grown a b
 grows_none (Some x) b same = (x, same, ([], sym (append-nil x)))
 grows_none None b same = same

@@ -2,7 +2,7 @@
 use Rattle.std.proofs.Common.{◌≡◌, ℕ, ◌+◌, ◌^◌, ◌<◌, ◌≤◌, List, [], length, Option, Result, Ok, Err, IfOk, Bool, true, false, cond, not, ltb, refl, sym, ap, subst, ◌∷◌, ◌∙◌, arith}
 use Rattle.std.specs.Prelude.{unwrap_or}
 use Rattle.std.specs.Option.{option_map_or}
-use Rattle.std.proofs.lemmas.Bool.{ltb-false}
+use Rattle.std.proofs.lemmas.Bool.{ltb-false, not-false}
 use Rattle.rio_num.specs.Text.{long_form, short_form, text_bytes}
 use Rattle.rio_num.specs.Word.{is_item_text}
 use Rattle.rio_types.specs.declared.class.ClassDef.{ClassDef}
@@ -19,7 +19,6 @@ use Rattle.rio_record.specs.declared.record.NewRecord.{NewRecord}
 use Rattle.rio_record.specs.declared.words.KeyWords.{KeyWords}
 use Rattle.rio_record.proofs.Records.{are_new_records}
 use Rattle.rio_state.specs.Closing.{padded_length}
-use Rattle.rio_step.proofs.FitStays.{true_from_not}
 use Rattle.rio_step.specs.Refusing.{object_class}
 use Rattle.rio_effect.specs.ObjectRecord.{object_data, object_words}
 use Rattle.rio_effect.proofs.PutClasses.{IsObjectClass, object_class_is, short_item}
@@ -48,7 +47,7 @@ module _ (classes : List ClassDef) (heads : List KeyHead) (name : List ℕ) (v s
 
   pub own_class : IsObjectClass own
   own_class = object_class_is classes own (no_classes classes none)
-      (true_from_not (can_be_put classes own) (ap (λ (o : Option (List ℕ)). option_map_or (λ c. not (can_be_put classes c)) o false) (sym can.class) ∙ can.object.taken))
+      (not-false (can_be_put classes own) (ap (λ (o : Option (List ℕ)). option_map_or (λ c. not (can_be_put classes c)) o false) (sym can.class) ∙ can.object.taken))
 
   pub short_key : head_length own name ≤ 229
   short_key = omega (arith, text_long own own_class.short, text_long name (short_item name named))

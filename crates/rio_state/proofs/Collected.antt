@@ -1,6 +1,6 @@
 -- A map of what records hold, by their keys.
 use Rattle.std.proofs.Common.{◌≡◌, ◌∙◌, ℕ, List, [], ◌∷◌, Bool, true, false, cond, ◌&&◌, ◌==◌, Option, Some, None, refl, sym, ap}
-use Rattle.std.proofs.lemmas.Bool.{eq-eqb, eqb-true}
+use Rattle.std.proofs.lemmas.Bool.{and_parts, eq-eqb, eqb-true}
 use Rattle.std.proofs.lemmas.Map.Views.{tells_apart}
 use Rattle.std.proofs.lemmas.Slice.Eq.{bytes_eq-Decides}
 use Rattle.std.specs.Cmp.{IsTotalOrder, eq_by_cmp_equiv}
@@ -12,7 +12,6 @@ use Rattle.std.specs.Str.{bytes_eq}
 use Rattle.std.specs.declared.cmp.Ordering.{Ordering}
 use Rattle.rio_machine.proofs.OrderLaws.{items_tie, items_total, names_tie, names_total}
 use Rattle.rio_machine.specs.State.{NameAndCycle, item_order, name_order}
-use Rattle.rio_state.proofs.NoReason.{both}
 use Rattle.rio_state.specs.KeyedRecords.{KeyedRecord, has_item, item_of_key}
 
 -- ---- keys
@@ -34,7 +33,7 @@ has_own r = let name = (bytes_eq-Decides r.head.name r.head.name).1 refl in let 
 
 item_is : (item : NameAndCycle) (r : KeyedRecord) → has_item item r ≡ true → item_of_key r.head ≡ item
 item_is item r e =
-    let x = both (bytes_eq r.head.name item.0) (r.head.cycle == item.1) e in
+    let x = and_parts (bytes_eq r.head.name item.0) (r.head.cycle == item.1) e in
     let name : r.head.name ≡ item.0 = (bytes_eq-Decides r.head.name item.0).0 x.0 in
     let cycle : r.head.cycle ≡ item.1 = eqb-true r.head.cycle item.1 x.1 in
     λ i. (name i, cycle i)
@@ -77,5 +76,5 @@ module _ {K X : Type 0} {R : K → K → Ordering} (o : IsTotalOrder R) (key : K
       → get (from_entries {R = R} (pairs rs)) k ≡ option_and_then read (find (has k) rs)
   held [] all k = get-empty R k
   held (r ∷ rs) all k =
-      let x = both (is_some (read r)) (list_all (λ s. is_some (read s)) rs) all in
+      let x = and_parts (is_some (read r)) (list_all (λ s. is_some (read s)) rs) all in
       held_by r rs k (read r) refl x.0 (held rs x.1 k)

@@ -1,7 +1,6 @@
 -- Records of files, and what they stand for, computed.
 use Rattle.std.proofs.Common.{◌≡◌, ℕ, ◌+◌, List, [], ◌∷◌, ◌++◌, length, true, false, Some, refl, slice_get}
 use Rattle.std.specs.Prelude.{codes, replicate}
-use Rattle.std.specs.FinMap.{get-empty}
 use Rattle.byteorder.specs.Endian.{big_bytes}
 use Rattle.rio_num.specs.Reading.{text_at}
 use Rattle.rio_key.specs.Key.{key_fields, key_layout}
@@ -11,12 +10,13 @@ use Rattle.rio_buffer.specs.Frames.{header}
 use Rattle.rio_format.specs.Objects.{object_of, formed, headed, body, unread, whole_object, closed, parts, base_part, member_parts, member_part, kind_value, text_value, bare_layout}
 use Rattle.rio_chain.specs.Segments.{Link, RecordAt}
 use Rattle.rio_chain.specs.declared.segment.Segment.TheVariants.{Record, Gap}
-use Rattle.rio_machine.specs.State.{empty_state, item_order, name_order}
+use Rattle.rio_machine.specs.State.{empty_state}
 use Rattle.rio_state.specs.Closing.{close_need, held_of, is_full, kept_in, lay_all}
 use Rattle.rio_state.specs.Contents.{object_in, tree_of}
 use Rattle.rio_state.specs.KeyedRecords.{keyed_records}
 use Rattle.rio_state.specs.Reads.{AreRecordsOf}
 use Rattle.rio_state.specs.Reasons.{reason_at, room_reasons, state_reasons}
+use Rattle.rio_state.proofs.EmptyState.{none_counts}
 
 -- ---- records
 
@@ -63,20 +63,7 @@ bare_record place cycle class name =
 
 empty_stands : AreRecordsOf (keyed_records empty_links) empty_state
 unfolding empty_links first_record list_record free_record key_bytes short_text key_layout key_fields text_at
-empty_stands = record {
-  here = refl;
-  stand = record {
-    listed = tt;
-    classes = refl;
-    named = refl;
-    distinct = refl;
-    apart = refl;
-    readable = refl;
-    objects = λ item. get-empty item_order item;
-    tree_readable = refl;
-    trees = λ name. get-empty name_order name;
-  };
-}
+empty_stands = none_counts (keyed_records empty_links) refl refl refl
 
 -- no reason, and room: a close writes 44 bytes for the key list and 72 for the free record
 no_reasons : state_reasons true (keyed_records empty_links) ≡ []

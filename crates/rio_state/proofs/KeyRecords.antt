@@ -4,7 +4,7 @@ use Rattle.std.specs.Prelude.{is_some, option_and_then}
 use Rattle.std.specs.FinMap.{get}
 use Rattle.std.specs.List.{filter, find, list_any}
 use Rattle.std.specs.Str.{bytes_eq}
-use Rattle.std.proofs.lemmas.Bool.{and_from, and_parts, eq-eqb, eqb-true}
+use Rattle.std.proofs.lemmas.Bool.{and_from, and_parts, eq-eqb, eqb-true, not-true}
 use Rattle.std.proofs.lemmas.Slice.Eq.{bytes_eq-Decides}
 use Rattle.rio_types.specs.declared.class.ClassDef.{ClassDef}
 use Rattle.rio_value.specs.declared.value.Value.{Value}
@@ -15,16 +15,10 @@ use Rattle.rio_state.specs.DirectoryKeys.{AreKeysOf}
 use Rattle.rio_state.specs.KeyedRecords.{KeyedRecord, has_item, info_key, is_mixed_name, is_tree_key, is_tree_record, item_of_key, object_records, top_keys, tree_records}
 use Rattle.rio_state.specs.Reads.{AreRecordsOf, are_distinct}
 use Rattle.rio_state.proofs.KeysFollow.{heads_in, items_in}
-use Rattle.rio_state.proofs.Members.{In, all_at, any_from, filter_in, found, in_left, in_map, in_either, map_in, none_from, none_at}
+use Rattle.rio_state.proofs.Members.{In, all_at, any_from, filter_in, found, in_left, in_map, in_either, map_in, none_at}
+use Rattle.rio_state.proofs.ObjectStands.{any_filter}
 
 -- ---- distinct keys
-
-any_kept : (p q : KeyedRecord → Bool) (rs : List KeyedRecord) → list_any p rs ≡ false → list_any p (filter q rs) ≡ false
-any_kept p q rs none = none_from p (filter q rs) (λ s i e. none_at p s rs none (filter_in q s rs i).0 e)
-
-not_any : (b : Bool) → not b ≡ true → b ≡ false
-not_any true e = absurd cc
-not_any false e = refl
 
 pub distinct_filter : (q : KeyedRecord → Bool) (rs : List KeyedRecord) → are_distinct rs ≡ true → are_distinct (filter q rs) ≡ true
 distinct_filter q [] d = refl
@@ -33,7 +27,7 @@ distinct_filter q (r ∷ rs) d =
     by (q r) parts.0 (distinct_filter q rs parts.1)
   where
     by : (b : Bool) → not (list_any (has_item (item_of_key r.head)) rs) ≡ true → are_distinct (filter q rs) ≡ true → are_distinct (cond b (r ∷ filter q rs) (filter q rs)) ≡ true
-    by true new rest = and_from _ _ (ap not (any_kept (has_item (item_of_key r.head)) q rs (not_any _ new))) rest
+    by true new rest = and_from _ _ (ap not (any_filter (has_item (item_of_key r.head)) q rs (not-true _ new))) rest
     by false new rest = rest
 
 pub own_item : (r : KeyedRecord) → has_item (item_of_key r.head) r ≡ true
@@ -58,7 +52,7 @@ distinct_found item r (s ∷ rs) d (inl same) e =
     ap (λ b. cond b (Some s) (find (has_item item) rs)) there ∙ ap (λ (t : KeyedRecord). let o : Option KeyedRecord = Some t in o) same
 distinct_found item r (s ∷ rs) d (inr i) e =
     let parts = and_parts (not (list_any (has_item (item_of_key s.head)) rs)) (are_distinct rs) d in
-    by (has_item item s) refl (not_any _ parts.0) (distinct_found item r rs parts.1 i e)
+    by (has_item item s) refl (not-true _ parts.0) (distinct_found item r rs parts.1 i e)
   where
     by : (b : Bool) → has_item item s ≡ b → list_any (has_item (item_of_key s.head)) rs ≡ false → find (has_item item) rs ≡ Some r → cond b (Some s) (find (has_item item) rs) ≡ Some r
     by true is none rest = absurd (none_at (has_item (item_of_key s.head)) r rs none i (has_same item s r is e))

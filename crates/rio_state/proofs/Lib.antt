@@ -1,4 +1,5 @@
 pub mod Collected
+pub mod EmptyState
 mod Examples
 pub mod Insertion
 pub mod KeyRecords

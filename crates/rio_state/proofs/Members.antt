@@ -1,7 +1,7 @@
 -- Elements of lists, and tests that they pass.
 use Rattle.std.proofs.Common.{◌≡◌, ◌⊎◌, inl, inr, ⊎_elim, zero, suc, ◌∙◌, List, [], ◌∷◌, ◌++◌, map, Bool, true, false, cond, ◌||◌, Some, refl, sym, ap, subst, arith}
 use Rattle.std.specs.List.{Contains, filter, find, list_all, list_any}
-use Rattle.std.proofs.lemmas.Bool.{and_parts}
+use Rattle.std.proofs.lemmas.Bool.{and_parts, or_right}
 
 -- the element is among them
 abbrev pub In : {A : Type 0} → A → List A → Type 0
@@ -46,11 +46,7 @@ module _ {A : Type 0} where
   pub any_from : (p : A → Bool) (x : A) (xs : List A) → In x xs → p x ≡ true → list_any p xs ≡ true
   any_from p x [] i e = absurd i
   any_from p x (y ∷ ys) (inl same) e = ap (λ b. b || list_any p ys) (ap p same ∙ e)
-  any_from p x (y ∷ ys) (inr i) e = second (p y) (list_any p ys) (any_from p x ys i e)
-    where
-      second : (a b : Bool) → b ≡ true → (a || b) ≡ true
-      second true b e = refl
-      second false b e = e
+  any_from p x (y ∷ ys) (inr i) e = or_right (p y) (list_any p ys) (any_from p x ys i e)
 
   -- one of them that passes
   pub record Passing (p : A → Bool) (xs : List A) : Type 0 where

@@ -4,7 +4,7 @@ use Rattle.std.specs.Prelude.{is_some, nat_lt, option_and_then}
 use Rattle.std.specs.FinMap.{get, get-insert, insert}
 use Rattle.std.specs.List.{filter, find, list_all, list_any}
 use Rattle.std.specs.Str.{bytes_eq}
-use Rattle.std.proofs.lemmas.Bool.{and_from, and_left, and_parts, and_right}
+use Rattle.std.proofs.lemmas.Bool.{and_from, and_left, and_parts, and_right, not-true, or_parts}
 use Rattle.std.proofs.lemmas.List.Elements.{filter_agree}
 use Rattle.std.proofs.lemmas.Map.Views.{tells_apart}
 use Rattle.std.proofs.lemmas.Slice.Eq.{bytes_eq-Decides}
@@ -13,7 +13,7 @@ use Rattle.rio_value.specs.declared.value.Value.{Value}
 use Rattle.rio_machine.proofs.OrderLaws.{items_tie, items_total}
 use Rattle.rio_machine.specs.State.{NameAndCycle, State}
 use Rattle.rio_state.proofs.Collected.{item_same}
-use Rattle.rio_state.proofs.NoReason.{item_turned, neither}
+use Rattle.rio_state.proofs.NoReason.{item_turned}
 use Rattle.rio_state.specs.Contents.{object_in, state_classes, tree_of}
 use Rattle.rio_state.specs.KeyedRecords.{KeyedRecord, has_item, is_mixed_name, is_outdated, is_tree_key, is_tree_record, item_of_key, object_records, tree_records}
 use Rattle.rio_state.specs.Reads.{StandsForState, are_distinct, is_named_key, object_under}
@@ -37,7 +37,7 @@ distinct_in : (r : KeyedRecord) (front back : List KeyedRecord) → are_distinct
 distinct_in r [] back d new = and_from _ _ (ap not new) d
 distinct_in r (s ∷ front) back d new =
     let parts = and_parts (not (list_any (has_item (item_of_key s.head)) (front ++ back))) (are_distinct (front ++ back)) d in
-    let none = neither (has_item (item_of_key r.head) s) (list_any (has_item (item_of_key r.head)) (front ++ back)) new in
+    let none = or_parts (has_item (item_of_key r.head) s) (list_any (has_item (item_of_key r.head)) (front ++ back)) new in
     let other : has_item (item_of_key s.head) r ≡ false = item_turned s r ∙ none.0 in
     and_from _ _ (ap not (any_in (has_item (item_of_key s.head)) r front back other) ∙ parts.0) (distinct_in r front back parts.1 none.1)
 
@@ -49,10 +49,6 @@ distinct_more r old new h d none =
 all_weaker : (p q : KeyedRecord → Bool) → ((s : KeyedRecord) → p s ≡ true → q s ≡ true) → (rs : List KeyedRecord) → list_all p rs ≡ true → list_all q rs ≡ true
 all_weaker p q weaker [] all = refl
 all_weaker p q weaker (s ∷ rs) all = let parts = and_parts (p s) (list_all p rs) all in and_from _ _ (weaker s parts.0) (all_weaker p q weaker rs parts.1)
-
-true_is_not : (b : Bool) → not b ≡ true → b ≡ false
-true_is_not true e = absurd cc
-true_is_not false e = refl
 
 -- ---- one object more
 
@@ -102,12 +98,12 @@ module _ (tops new : List KeyedRecord) (r : KeyedRecord) (h : HasOneMoreIn tops 
 
     pub names_apart : list_all (λ s. not (is_mixed_name tops s.head.name)) tops ≡ true → list_all (λ s. not (is_mixed_name new s.head.name)) new ≡ true
     names_apart all =
-        let others = all_weaker (λ s. not (is_mixed_name tops s.head.name)) (λ s. not (is_mixed_name new s.head.name)) (λ s e. ap not (mixed_same s.head.name (true_is_not _ e))) tops all in
+        let others = all_weaker (λ s. not (is_mixed_name tops s.head.name)) (λ s. not (is_mixed_name new s.head.name)) (λ s e. ap not (mixed_same s.head.name (not-true _ e))) tops all in
         all_more (λ s. not (is_mixed_name new s.head.name)) r tops new h (ap not own_apart) others
 
 -- ---- objects
 
-any_filter : (p q : KeyedRecord → Bool) (rs : List KeyedRecord) → list_any p rs ≡ false → list_any p (filter q rs) ≡ false
+pub any_filter : (p q : KeyedRecord → Bool) (rs : List KeyedRecord) → list_any p rs ≡ false → list_any p (filter q rs) ≡ false
 any_filter p q rs none = none_from p (filter q rs) (λ s i e. none_at p s rs none (filter_in q s rs i).0 e)
 
 objects_hold : (classes : List ClassDef) (m : State) (tops new : List KeyedRecord) (r : KeyedRecord) (v : Value) → HasOneMoreIn tops new r → IsNewObject classes tops r v

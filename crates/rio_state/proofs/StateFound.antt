@@ -4,6 +4,7 @@ use Rattle.std.specs.FinMap.{from_entries}
 use Rattle.std.specs.List.{list_any}
 use Rattle.std.specs.Option.{option_map_or}
 use Rattle.std.specs.Str.{bytes_eq}
+use Rattle.std.proofs.lemmas.Bool.{not-false}
 use Rattle.rio_num.specs.Word.{is_item_text}
 use Rattle.rio_head.specs.Form.{is_large_head}
 use Rattle.rio_head.specs.declared.reason.Reason.{Reason}
@@ -13,7 +14,7 @@ use Rattle.rio_machine.proofs.OrderLaws.{items_total, names_total}
 use Rattle.rio_machine.specs.State.{State, empty_state, item_order, name_order}
 use Rattle.rio_state.proofs.Collected.{held, item_same, name_same, pairs}
 use Rattle.rio_state.proofs.NoReason.{beside_of}
-use Rattle.rio_state.proofs.Unreasoned.{directory_kept, if_none, keys_kept, nil_two, not_false}
+use Rattle.rio_state.proofs.Unreasoned.{directory_kept, if_none, keys_kept, nil_two}
 use Rattle.rio_state.specs.Contents.{HasStateClasses, object_in, state_classes, tree_of}
 use Rattle.rio_state.specs.KeyedRecords.{KeyedRecord, has_item, info_key, is_elsewhere, is_mixed_name, item_of_key, keyed_records, object_records, top_keys, tree_records}
 use Rattle.rio_state.specs.Laws.{IsOfRoom, NoReasonIsRead}
@@ -119,7 +120,7 @@ records_stand listed records is e =
     let keys = keys_reasons (beside_of records) [] tops in
     let x = nil_two (directory_reasons records) (info ++ keys) e in
     let y = nil_two info keys x.1 in
-    let told = not_false listed (if_none (not listed) (info_place records) BadInfo y.0) in
+    let told = not-false listed (if_none (not listed) (info_place records) BadInfo y.0) in
     let kept = keys_kept (beside_of records) [] tops y.1 in
     let stand : StandsForState records (info_key records) tops (state_of records) = record {
       listed = listed_is_true listed (HasStateClasses (info_key records)) is told;

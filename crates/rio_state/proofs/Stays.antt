@@ -1,7 +1,6 @@
 -- A record that the file itself needs changes nothing of what its records stand for.
 use Rattle.std.proofs.Common.{◌≡◌, ◌↔◌, ℕ, ◌∙◌, List, [], ◌∷◌, ◌++◌, codes, Bool, true, false, not, ◌||◌, ◌==◌, Option, Some, refl, sym, ap, subst}
 use Rattle.std.specs.Prelude.{if◌then◌else◌, is_some, option_and_then}
-use Rattle.std.specs.FinMap.{get-empty}
 use Rattle.std.specs.List.{Contains, find, list_all}
 use Rattle.std.specs.Str.{bytes_eq}
 use Rattle.std.proofs.lemmas.Bool.{and_from, and_left, and_parts, and_right}
@@ -10,7 +9,7 @@ use Rattle.rio_key.specs.declared.head.KeyHead.{KeyHead}
 use Rattle.rio_chain.proofs.Keys.{spelled_one}
 use Rattle.rio_chain.specs.Segments.{IsFirst, IsRecord, RecordAt}
 use Rattle.rio_chain.specs.Changes.{with_record}
-use Rattle.rio_machine.specs.State.{State, Tree, empty_state, item_order, name_order}
+use Rattle.rio_machine.specs.State.{State, Tree, empty_state}
 use Rattle.rio_state.specs.Closing.{item_heads, kept_count, kept_in, name_in, KeptRecords}
 use Rattle.rio_state.specs.Contents.{tree_of}
 use Rattle.rio_state.specs.DirectoryKeys.{AreKeysOf}
@@ -20,6 +19,7 @@ use Rattle.rio_state.specs.OneMore.{EmptyIsRead, InfoStays, InternalStays, KeysS
 use Rattle.rio_state.specs.OneMore.{HasOneMoreIn}
 use Rattle.rio_state.proofs.Insertion.{all_more, filter_same}
 use Rattle.rio_state.proofs.MoreRecords.{first_stays, keyed_link, own_key, record_more, records_more}
+use Rattle.rio_state.proofs.EmptyState.{none_counts}
 
 -- ---- keys that aren't in the directory
 
@@ -141,20 +141,7 @@ need_stays file links place bytes head chain read e =
 -- ---- a file with its first record alone
 
 nothing_stands : AreRecordsOf [] empty_state
-nothing_stands = record {
-  here = refl;
-  stand = record {
-    listed = tt;
-    classes = refl;
-    named = refl;
-    distinct = refl;
-    apart = refl;
-    readable = refl;
-    objects = λ item. get-empty item_order item;
-    tree_readable = refl;
-    trees = λ name. get-empty name_order name;
-  };
-}
+nothing_stands = none_counts [] refl refl refl
 
 nothing_named : AreKeysOf [] []
 nothing_named = record { ordered = tt; each = λ head. (λ x. x, λ x. x) }

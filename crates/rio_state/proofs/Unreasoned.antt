@@ -1,17 +1,14 @@
 -- Records without a reason against them keep the rules of a state's records.
 use Rattle.std.proofs.Common.{◌≡◌, ◌∙◌, ℕ, List, [], ◌∷◌, ◌++◌, length, Bool, true, false, cond, not, ◌&&◌, ◌||◌, ◌==◌, refl, ap}
 use Rattle.std.specs.List.{filter, list_all, list_any}
+use Rattle.std.proofs.lemmas.Bool.{and_parts, not-false, not-true, or_parts}
 use Rattle.rio_num.specs.Word.{is_item_text}
 use Rattle.rio_head.specs.declared.reason.Reason.{Reason}
 use Rattle.rio_head.specs.declared.reason.Reason.TheVariants.{OtherDirectory, BadName, BadKey, BadObject, BadTree, DoubleKey, MixedName}
-use Rattle.rio_state.proofs.NoReason.{IsNamed, both, is_apart, is_new, is_object_read, is_tree_read, item_turned, neither, not_true}
+use Rattle.rio_state.proofs.NoReason.{IsNamed, is_apart, is_new, is_object_read, is_tree_read, item_turned}
 use Rattle.rio_state.specs.KeyedRecords.{KeyedRecord, has_item, is_elsewhere, is_mixed_name, is_tree_key, is_tree_record, item_of_key, object_records}
 use Rattle.rio_state.specs.Reads.{are_distinct}
 use Rattle.rio_state.specs.Reasons.{Beside, ReasonAt, directory_reasons, is_bad_object, is_bad_tree, key_reasons, keys_reasons, reason_if}
-
-pub not_false : (b : Bool) → not b ≡ false → b ≡ true
-not_false true e = refl
-not_false false e = absurd cc
 
 -- ---- no reasons
 
@@ -34,9 +31,9 @@ directory_kept (r ∷ rs) e =
 -- ---- keys behind others
 
 any_split : (t : KeyedRecord → Bool) (before : List KeyedRecord) (r : KeyedRecord) → list_any t (before ++ r ∷ []) ≡ false → (list_any t before ≡ false) × (t r ≡ false)
-any_split t [] r e = (refl, (neither (t r) false e).0)
+any_split t [] r e = (refl, (or_parts (t r) false e).0)
 any_split t (s ∷ before) r e =
-    let x = neither (t s) (list_any t (before ++ r ∷ [])) e in
+    let x = or_parts (t s) (list_any t (before ++ r ∷ [])) e in
     let y = any_split t before r x.1 in
     ((λ i. x.0 i || y.0 i), y.1)
 
@@ -44,16 +41,16 @@ none_later : (before : List KeyedRecord) (r : KeyedRecord) (rs : List KeyedRecor
     → (list_any (has_item (item_of_key r.head)) rs ≡ false) × (list_all (is_new before) rs ≡ true)
 none_later before r [] e = (refl, refl)
 none_later before r (s ∷ rs) e =
-    let x = both (is_new (before ++ r ∷ []) s) (list_all (is_new (before ++ r ∷ [])) rs) e in
+    let x = and_parts (is_new (before ++ r ∷ []) s) (list_all (is_new (before ++ r ∷ [])) rs) e in
     let t = has_item (item_of_key s.head) in
-    let y = any_split t before r (not_true (list_any t (before ++ r ∷ [])) x.0) in
+    let y = any_split t before r (not-true (list_any t (before ++ r ∷ [])) x.0) in
     let rest = none_later before r rs x.1 in
     let here : has_item (item_of_key r.head) s ≡ false = item_turned r s ∙ y.1 in
     ((λ i. here i || rest.0 i), (λ i. not (y.0 i) && rest.1 i))
 
 kept_back : (b : Bool) (p : KeyedRecord → Bool) (r : KeyedRecord) (rs : List KeyedRecord) → (b && not (p r)) ≡ false → list_all p rs ≡ true
     → list_all p (cond b (r ∷ rs) rs) ≡ true
-kept_back true p r rs e rest = let here = not_false (p r) e in λ i. here i && rest i
+kept_back true p r rs e rest = let here = not-false (p r) e in λ i. here i && rest i
 kept_back false p r rs e rest = rest
 
 -- ---- keys
@@ -90,8 +87,8 @@ key_kept beside before r e =
     let x4 = nil_two (a1 ++ a2 ++ a3) a4 x5.0 in
     let x3 = nil_two (a1 ++ a2) a3 x4.0 in
     let x2 = nil_two a1 a2 x3.0 in
-    let named = not_false (is_item_text r.head.name) (if_none (not (is_item_text r.head.name)) place BadName x2.0) in
-    let untitled = not_false (length r.head.title == 0) (if_none (not (length r.head.title == 0)) place BadKey x2.1) in
+    let named = not-false (is_item_text r.head.name) (if_none (not (is_item_text r.head.name)) place BadName x2.0) in
+    let untitled = not-false (length r.head.title == 0) (if_none (not (length r.head.title == 0)) place BadKey x2.1) in
     record {
       named = λ i. named i && untitled i;
       object = if_none (is_bad_object beside r) place BadObject x3.1;

@@ -1,7 +1,6 @@
 -- The image of a.root without objects, 308 bytes: it reads as the empty state by the walk and by its key list.
 use Rattle.std.proofs.Common.{◌≡◌, ◌≤◌, ◌<◌, ℕ, ◌+◌, pos, List, [], ◌∷◌, ◌++◌, length, Some, Ok, refl, arith, subst, slice_get}
 use Rattle.std.specs.Prelude.{codes, replicate}
-use Rattle.std.specs.FinMap.{get-empty}
 use Rattle.byteorder.specs.Endian.{big_bytes}
 use Rattle.rio_num.specs.Layout.{each, retold}
 use Rattle.rio_num.specs.Reading.{text_at}
@@ -19,9 +18,10 @@ use Rattle.rio_head.specs.declared.head.FileHead.{FileHead}
 use Rattle.rio_dir.specs.Closed.{closed_file, closed_head, listed_at}
 use Rattle.rio_dir.specs.declared.closed.Closed.{Closed}
 use Rattle.rio_chain.specs.Segments.{HasWord, HoldsRecord, IsChain, IsFirst, IsRecord, Link, RecordAt, texts_end_at}
-use Rattle.rio_machine.specs.State.{empty_state, item_order, name_order}
+use Rattle.rio_machine.specs.State.{empty_state}
 use Rattle.rio_state.specs.KeyedRecords.{KeyedRecord, keyed_records}
 use Rattle.rio_state.specs.Reads.{AreRecordsOf, ReadsAsState, ReadsAsMade, ReadsClosed}
+use Rattle.rio_state.proofs.EmptyState.{none_counts}
 
 -- ---- the bytes
 
@@ -243,20 +243,7 @@ head = record {
 
 records : AreRecordsOf (keyed_records links) empty_state
 unfolding links key_layout key_fields text_at
-records = record {
-  here = refl;
-  stand = record {
-    listed = tt;
-    classes = refl;
-    named = refl;
-    distinct = refl;
-    apart = refl;
-    readable = refl;
-    objects = λ item. get-empty item_order item;
-    tree_readable = refl;
-    trees = λ name. get-empty name_order name;
-  };
-}
+records = none_counts (keyed_records links) refl refl refl
 
 head_read : head_at image ≡ Ok head
 unfolding head header_layout behind_layout

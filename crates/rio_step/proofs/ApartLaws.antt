@@ -9,6 +9,7 @@ use Rattle.std.specs.Str.{bytes_eq}
 use Rattle.std.specs.Cmp.Lexicographic.{same_text}
 use Rattle.std.proofs.lemmas.Cmp.{nat_list_eq_equiv}
 use Rattle.std.proofs.lemmas.Map.Views.{tells_apart}
+use Rattle.std.proofs.lemmas.Bool.{false_from_ne_true, or_parts, or_right}
 use Rattle.rio_value.specs.declared.value.Value.{Value}
 use Rattle.rio_machine.proofs.OrderLaws.{items_tie, items_total, names_tie, names_total}
 use Rattle.rio_machine.specs.State.{NameAndCycle, State, Tree, item_order, name_order, names_object, names_tree, next_cycle}
@@ -21,10 +22,6 @@ use Rattle.rio_step.specs.Refusing.{FullMark, first_of, refusals, is_tree_name, 
 use Rattle.rio_step.specs.Step.{by_refusal, new_tree, state_behind, step, tree_filled, tree_saved, with_tree, without_item}
 
 -- ---- a name has an object exactly where one cycle does
-
-or_second : (a b : Bool) → b ≡ true → (a || b) ≡ true
-or_second true b e = refl
-or_second false b e = e
 
 -- the cycle of the first item, or one of the others
 ThereIs : List ℕ → List NameAndCycle → Type 0
@@ -40,7 +37,7 @@ there_first name item items true is later f =
     (item.1, ap (λ b. b || list_any (eq_by_cmp item_order (name, item.1)) items) (ap (eq_by_cmp item_order (name, item.1)) (sym same) ∙ (eq_by_cmp_equiv items_total).refl (name, item.1)))
 there_first name item items false is later f =
     let rest = later f in
-    (rest.0, or_second (eq_by_cmp item_order (name, rest.0) item) _ rest.1)
+    (rest.0, or_right (eq_by_cmp item_order (name, rest.0) item) _ rest.1)
 
 key_named : (name : List ℕ) (items : List NameAndCycle) → list_any (λ item. bytes_eq item.0 name) items ≡ true → ThereIs name items
 unfolding ThereIs
@@ -53,7 +50,7 @@ named_first : (name : List ℕ) (cycle : ℕ) (item : NameAndCycle) (items : Lis
 named_first name cycle item items true is later f =
     let same = tells_apart items_tie (name, cycle) item is in
     ap (λ b. b || list_any (λ item. bytes_eq item.0 name) items) (ap (λ x. bytes_eq x name) (sym (ap (λ x. x.0) same)) ∙ nat_list_eq_equiv.refl name)
-named_first name cycle item items false is later f = or_second (bytes_eq item.0 name) _ (later f)
+named_first name cycle item items false is later f = or_right (bytes_eq item.0 name) _ (later f)
 
 named_key : (name : List ℕ) (cycle : ℕ) (items : List NameAndCycle) → list_any (eq_by_cmp item_order (name, cycle)) items ≡ true → list_any (λ item. bytes_eq item.0 name) items ≡ true
 named_key name cycle [] e = absurd cc
@@ -108,16 +105,12 @@ tree_deleted_apart m name apart q e = ap is_some (get-remove names_total m.trees
     by true = refl
     by false = apart q e
 
-false_if : (b : Bool) → (b ≡ true → ⊥) → b ≡ false
-false_if true f = absurd (f refl)
-false_if false f = refl
-
 changed_apart : (m : State) (name : List ℕ) (change : Tree → Tree) → AreNamesApart m → AreNamesApart (with_tree m name change)
 changed_apart m name change apart = by (get m.trees name) refl
   where
     by : (t : Option Tree) → get m.trees name ≡ t → AreNamesApart (option_map_or (λ t. record m { trees = insert m.trees name (change t) }) t m)
     by None e = apart
-    by (Some t) e = tree_apart m name (change t) (false_if _ (λ o. let h = sym (ap is_some e) ∙ apart name o in absurd cc)) apart
+    by (Some t) e = tree_apart m name (change t) (false_from_ne_true _ (λ o. let h = sym (ap is_some e) ∙ apart name o in absurd cc)) apart
 
 item_deleted_apart : (m : State) (name : List ℕ) (cycle : ℕ) → AreNamesApart m → AreNamesApart (without_item m name cycle)
 item_deleted_apart m name cycle apart = by (names_tree m name)
@@ -138,10 +131,6 @@ pub not_refused : (b : Bool) (r : Refusal) → refused_if b r ≡ None → b ≡
 not_refused true r e = absurd cc
 not_refused false r e = refl
 
-neither : (a b : Bool) → (a || b) ≡ false → a ≡ false
-neither true b e = absurd cc
-neither false b e = refl
-
 no_tree_name : (m : State) (c : Command) (mark : Option FullMark) → refusal_of m c mark ≡ None → is_tree_name m c ≡ false
 unfolding refusal_of
 no_tree_name m c mark e = not_refused (is_tree_name m c) NameIsTree (none_at (refusals m c mark) 4 e)
@@ -155,7 +144,7 @@ accepted_apart m (Bad line place) mark e apart = apart
 accepted_apart m (Class class) mark e apart = apart
 accepted_apart m (Put name v) mark e apart = put_apart m name (next_cycle m name) (put_value m v) (no_tree_name m (Put name v) mark e) apart
 accepted_apart m (Delete name cycle) mark e apart = item_deleted_apart m name cycle apart
-accepted_apart m (MakeTree name branches) mark e apart = tree_apart m name (new_tree branches) (neither _ _ (no_name_in_use m (MakeTree name branches) mark e)) apart
+accepted_apart m (MakeTree name branches) mark e apart = tree_apart m name (new_tree branches) ((or_parts _ _ (no_name_in_use m (MakeTree name branches) mark e)).0) apart
 accepted_apart m (Fill name row) mark e apart = changed_apart m name (tree_filled (fill_row m row)) apart
 accepted_apart m (Save name) mark e apart = changed_apart m name tree_saved apart
 accepted_apart m (Get name cycle version) mark e apart = apart

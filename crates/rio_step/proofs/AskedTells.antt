@@ -11,6 +11,7 @@ use Rattle.rio_token.specs.Reading.{mark_at, marked, name_at, next_word, num_at,
 use Rattle.rio_token.specs.Words.{decimal, num_between_of, num_of, written}
 use Rattle.rio_model.specs.Lexemes.{IsNext, Lexeme, mark, word}
 use Rattle.rio_model.proofs.LexemeLaws.{next_word_is, with_place}
+use Rattle.rio_model.proofs.ValueTold.{one_is_number}
 use Rattle.rio_step.specs.CommandSpelling.{IsVersion, SpellsAskedClass, SpellsAskedVersion, SpellsCycle, SpellsIfSome}
 use Rattle.rio_step.specs.Script.{asked_class_at, asked_version_at, class_version_in, comes_next, cycle_at, in_version}
 use Rattle.rio_step.proofs.AlikeLaws.{Tells}
@@ -24,10 +25,6 @@ MarkOf b u ls = ls ≡ mark b ∷ []
 -- what a word says
 abbrev pub WordOf : {A : Type 0} → (List ℕ → Option A) → A → List Lexeme → Type 0
 WordOf f x ls = (w : List ℕ) × (f w ≡ Some x) × (ls ≡ word w ∷ [])
-
-pub one_number : num_of (codes "1") ≡ Some 1
-unfolding decimal written
-one_number = refl
 
 abbrev pub version_of : List ℕ → Option ℕ
 version_of = num_between_of 1 32767
@@ -73,7 +70,7 @@ module _ (strict : Bool) where
   unfolding num_at
   num_tells n =
       tells_as strict (λ s. num_at s) (SaysOne (SaysWord num_of)) (SaysOne (SaysWord num_of)) (WordOf num_of) (WordOf num_of) n
-      (one_tells strict (λ s. option_and_then num_of (next_word s)) (SaysWord num_of) (word_said strict num_of) n (λ few. (1, word (codes "1"), (codes "1", one_number, refl))))
+      (one_tells strict (λ s. option_and_then num_of (next_word s)) (SaysWord num_of) (word_said strict num_of) n (λ few. (1, word (codes "1"), (codes "1", one_is_number, refl))))
       (word_of num_of) (word_of num_of) (λ y ls c. c)
 
   pub version_tells : (n : ℕ) → Tells strict version_at (WordOf version_of) (WordOf version_of) n

@@ -2,11 +2,12 @@
 use Rattle.std.proofs.Common.{◌≡◌, ℕ, List, [], ◌∷◌, map, Bool, true, false, cond, not, ◌||◌, ◌⊎◌, inl, inr, Option, Some, None, refl, sym, ap, ◌∙◌}
 use Rattle.std.specs.FinMap.{entries, find, get, get-entries, get-from_entries, get-insert, insert}
 use Rattle.std.specs.List.{filter, fold, list_any}
-use Rattle.std.specs.Option.{option_map, option_map_or, unwrap_or}
+use Rattle.std.specs.Option.{option_map, option_map_or}
 use Rattle.std.specs.Ordering.{eq_by_cmp}
-use Rattle.std.proofs.lemmas.Bool.{eqb-true}
+use Rattle.std.proofs.lemmas.Bool.{eqb-true, false_from_ne_true, not-false, or_from, or_right}
 use Rattle.std.proofs.lemmas.List.{nil_from_length}
 use Rattle.std.proofs.lemmas.Map.Views.{tells_apart}
+use Rattle.std.proofs.lemmas.Option.{same_Some}
 use Rattle.rio_machine.proofs.OrderLaws.{names_tie, names_total}
 use Rattle.rio_machine.specs.State.{State, Tree, name_order}
 use Rattle.rio_machine.specs.declared.command.Command.{Command}
@@ -22,12 +23,6 @@ Named = List ℕ × Tree
 abbrev Closes : State → List Named → List ℕ → Tree → Type 0
 Closes m es name t = (t.pending ≡ []) ⊎ ((get m.trees name ≡ Some t) × (list_any (λ e. eq_by_cmp name_order name e.0) es ≡ false))
 
-both_false : (a b : Bool) → a ≡ false → b ≡ false → (a || b) ≡ false
-both_false a b e f = rw (e, f) refl
-
-same_some : {A : Type 0} (x y : A) → Some x ≡ Some y → x ≡ y
-same_some x y e = ap (λ o. unwrap_or o x) e
-
 abbrev saves : List Named → List Command
 saves es = map (λ e. Save e.0) es
 
@@ -36,15 +31,15 @@ among es name = list_any (λ e. eq_by_cmp name_order name e.0) es
 
 first_known : (m : State) (first : Named) (es : List Named) (name : List ℕ) (t s : Tree) (b : Bool) → eq_by_cmp name_order name first.0 ≡ b
     → cond b (Some (tree_saved s)) (get m.trees name) ≡ Some t → list_any (λ e. eq_by_cmp name_order name e.0) es ≡ false → Closes m (first ∷ es) name t
-first_known m first es name t s true tie f none = inl (ap (λ x. x.pending) (sym (same_some (tree_saved s) t f)))
-first_known m first es name t s false tie f none = inr (f, both_false _ _ tie none)
+first_known m first es name t s true tie f none = inl (ap (λ x. x.pending) (sym (same_Some (tree_saved s) t f)))
+first_known m first es name t s false tie f none = inr (f, or_from _ _ tie none)
 
 first_unknown : (m : State) (first : Named) (es : List Named) (name : List ℕ) (t : Tree) (b : Bool) → eq_by_cmp name_order name first.0 ≡ b
     → get m.trees first.0 ≡ None → get m.trees name ≡ Some t → list_any (λ e. eq_by_cmp name_order name e.0) es ≡ false → Closes m (first ∷ es) name t
 first_unknown m first es name t true tie lacks f none =
     let same = tells_apart names_tie name first.0 tie in
     absurd (let h = sym f ∙ ap (get m.trees) same ∙ lacks in cc)
-first_unknown m first es name t false tie lacks f none = inr (f, both_false _ _ tie none)
+first_unknown m first es name t false tie lacks f none = inr (f, or_from _ _ tie none)
 
 first_closed : (m : State) (first : Named) (es : List Named) (name : List ℕ) (t : Tree) (s : Option Tree) → get m.trees first.0 ≡ s
     → get (option_map_or (λ u. record m { trees = insert m.trees first.0 (tree_saved u) }) s m).trees name ≡ Some t
@@ -61,18 +56,9 @@ closes : (es : List Named) (m : State) (name : List ℕ) (t : Tree) → get (fol
 closes [] m name t e = inr (e, refl)
 closes (first ∷ es) m name t e = first_then m first es name t (closes es (with_tree m first.0 tree_saved) name t e)
 
-false_when : (b : Bool) → (b ≡ true → ⊥) → b ≡ false
-false_when true f = absurd (f refl)
-false_when false f = refl
-
--- a tree with pending rows is among those that are saved
-or_later : (a b : Bool) → b ≡ true → (a || b) ≡ true
-or_later true b e = refl
-or_later false b e = e
-
 filtered_more : (p : Bool) (first : Named) (es : List Named) (name : List ℕ) → among es name ≡ true → among (cond p (first ∷ es) es) name ≡ true
 unfolding among
-filtered_more true first es name e = or_later _ _ e
+filtered_more true first es name e = or_right _ _ e
 filtered_more false first es name e = e
 
 pending_among : (es : List Named) (name : List ℕ) (t : Tree) → find name_order name es ≡ Some t → has_pending t ≡ true → among (filter (λ e. has_pending e.1) es) name ≡ true
@@ -84,17 +70,13 @@ pending_among (first ∷ es) name t e p = by (eq_by_cmp name_order name first.0)
         → (find name_order name es ≡ Some t → has_pending t ≡ true → list_any (λ e. eq_by_cmp name_order name e.0) (filter (λ e. has_pending e.1) es) ≡ true)
         → list_any (λ e. eq_by_cmp name_order name e.0) (filter (λ e. has_pending e.1) (first ∷ es)) ≡ true
     by true tie f later =
-        let pending : has_pending first.1 ≡ true = ap has_pending (same_some first.1 t f) ∙ p in
+        let pending : has_pending first.1 ≡ true = ap has_pending (same_Some first.1 t f) ∙ p in
         ap (λ b. list_any (λ e. eq_by_cmp name_order name e.0) (cond b (first ∷ filter (λ e. has_pending e.1) es) (filter (λ e. has_pending e.1) es))) pending
         ∙ ap (λ b. b || list_any (λ e. eq_by_cmp name_order name e.0) (filter (λ e. has_pending e.1) es)) tie
     by false tie f later = filtered_more (has_pending first.1) first (filter (λ e. has_pending e.1) es) name (later f p)
 
-true_from : (b : Bool) → not b ≡ false → b ≡ true
-true_from true e = refl
-true_from false e = absurd cc
-
 none_pending : (t : Tree) → has_pending t ≡ false → t.pending ≡ []
-none_pending t e = nil_from_length t.pending (eqb-true _ _ (true_from _ e))
+none_pending t e = nil_from_length t.pending (eqb-true _ _ (not-false _ e))
 
 pub closed_has_none_pending : ClosedHasNonePending
 unfolding closed_of closing_saves among
@@ -102,7 +84,7 @@ closed_has_none_pending m name t e = by (closes (filter (λ e. has_pending e.1) 
   where
     by : Closes m (filter (λ e. has_pending e.1) (entries m.trees)) name t → t.pending ≡ []
     by (inl p) = p
-    by (inr p) = none_pending t (false_when (has_pending t) (λ pending. let h = sym (pending_among (entries m.trees) name t (sym (get-entries m.trees name) ∙ p.0) pending) ∙ p.1 in absurd cc))
+    by (inr p) = none_pending t (false_from_ne_true (has_pending t) (λ pending. let h = sym (pending_among (entries m.trees) name t (sym (get-entries m.trees name) ∙ p.0) pending) ∙ p.1 in absurd cc))
 
 -- ---- without pending rows
 

@@ -9,13 +9,13 @@ use Rattle.rio_value.specs.declared.value.Value.TheOpen.{Value-F}
 use Rattle.rio_value.specs.declared.value.Value.TheOpen as layer
 use Rattle.rio_value.specs.declared.value.Part.{Part}
 use Rattle.rio_token.specs.declared.token.Token.TheVariants.{End}
-use Rattle.rio_token.specs.Reading.{Read, end_at, item_at, marked, next_word}
+use Rattle.rio_token.specs.Reading.{Read, end_at, item_at, marked}
 use Rattle.rio_token.specs.Tokens.{behind, next_at}
 use Rattle.rio_leaf.specs.declared.branch.BranchDef.{BranchDef}
 use Rattle.rio_model.specs.Lexemes.{IsNext, Lexeme, Stand, word}
 use Rattle.rio_model.specs.ValueGrammar.{bracket_limit}
 use Rattle.rio_model.specs.ValueSpelling.{ends_here}
-use Rattle.rio_model.proofs.ClassAgain.{spelled_classes_are_read}
+use Rattle.rio_model.proofs.ClassAgain.{end_again, spelled_classes_are_read}
 use Rattle.rio_model.proofs.LexemeLaws.{bounded_again, mark_again, marked_again, num_again, stand_split, word_not_marked, word_that_again}
 use Rattle.rio_model.proofs.ValueAgain.{spelled_are_read}
 use Rattle.rio_machine.specs.declared.command.Command.{Command}
@@ -25,10 +25,6 @@ use Rattle.rio_step.specs.CommandSpelling.{SpellsAskedClass, SpellsAskedVersion,
 use Rattle.rio_step.specs.Script.{asked_class_at, asked_version_at, command_at, comes_next, cycle_at, delete_command_at, ended_at, fill_command_at, get_command_at, in_version, put_command_at, save_command_at, scan_command_at, tree_command_at}
 use Rattle.rio_step.proofs.TellsLaws.{next_again}
 use Rattle.rio_step.proofs.TreeAgain.{branches_again}
-
-end_again : (s : At) → (next_at s).token ≡ End → end_at s ≡ Ok (tt, behind s)
-unfolding end_at
-end_again s h = rw h refl
 
 -- what follows a value at the end of a line
 value_ends : (y : Value-F Value Part) (t : At) → (next_at t).token ≡ End → ends_here y t ≡ true
@@ -60,9 +56,6 @@ cycle_again (Some cycle) ls s t c h not_so =
     let here : marked 59 s ≡ true = marked_again 59 59 s n.0 in
     let one = num_again c.0 cycle (behind s) n.1.0 c.1 in
     rw (here, one, n.1.1) refl
-
-comes_again : (w : List ℕ) (s : At) → IsNext (word w) s → next_word s ≡ Some w
-comes_again w s h = next_again w s h
 
 version_again : (version : Option ℤ) (ls : List Lexeme) (s t : At) → SpellsIfSome SpellsAskedVersion version ls → Stand ls s t → (next_at t).token ≡ End → asked_version_at s ≡ Ok (version, t)
 unfolding asked_version_at

@@ -18,13 +18,14 @@ use Rattle.rio_model.specs.Lexemes.{Lexeme, glued, mark, word}
 use Rattle.rio_model.specs.ValueGrammar.{bracket_limit, enclosed_at, row_at, value_in_text}
 use Rattle.rio_model.specs.ValueSpelling.{SpellsLayer, SpellsRow, SpellsValue, SpellsWithin}
 use Rattle.rio_model.proofs.LexemeLaws.{with_place}
+use Rattle.rio_model.proofs.ValueTold.{one_is_number}
 use Rattle.rio_machine.specs.declared.command.Command.{Command}
 use Rattle.rio_machine.specs.declared.command.Command.TheVariants.{Put, Delete, Tree as MakeTree, Fill, Save, Get, Scan, Ls}
 use Rattle.rio_step.specs.CommandLaws.{BeginIfFew, CommandPlacesAreTold, ReadCommandsAreSpelled, IsFirstBadToken}
 use Rattle.rio_step.specs.CommandSpelling.{SpellsAskedClass, SpellsAskedVersion, SpellsBranch, SpellsCommand, SpellsCycle, SpellsIfSome, SpellsSome}
 use Rattle.rio_step.specs.Script.{asked_class_at, asked_version_at, class_command_at, command_at, comes_next, cycle_at, delete_command_at, ended_at, fill_command_at, get_command_at, put_command_at, save_command_at, scan_command_at, tree_command_at}
 use Rattle.rio_step.specs.TreeGrammar.{branches_at}
-use Rattle.rio_step.proofs.AskedTells.{MarkOf, WordOf, asked_class_tells, asked_version_tells, cycle_tells, mark_tells, num_tells, one_number, word_test}
+use Rattle.rio_step.proofs.AskedTells.{MarkOf, WordOf, asked_class_tells, asked_version_tells, cycle_tells, mark_tells, num_tells, word_test}
 use Rattle.rio_step.proofs.AlikeLaws.{BeginBehind, Tells, bad_there}
 use Rattle.rio_step.proofs.ClassTells.{class_line}
 use Rattle.rio_step.proofs.BranchTells.{branches_tells}
@@ -134,7 +135,7 @@ module _ (strict : Bool) where
       let W = WordOf num_of in
       tells_as strict (λ m. mark_at 59 m >>= λ passed. num_at passed.1 >>= with_place (Delete name)) (InTurn (MarkOf 59) (λ u. Made (Delete name) W)) (InTurn (MarkOf 59) (λ u. Made (Delete name) W)) (Made (Delete name) SpellsCycle) (Made (Delete name) SpellsCycle) 0
       (turn_tells strict (mark_at 59) (λ u m. num_at m >>= with_place (Delete name)) (MarkOf 59) (MarkOf 59) (λ u. Made (Delete name) W) (λ u. Made (Delete name) W) 0 (λ u. 0)
-      (mark_tells strict 59 0) (λ u. made_tells num_at (Delete name) W W (num_tells strict 0)) (λ x own c. omega arith) (λ u few. (Delete name 1, word (codes "1") ∷ [], (1, refl, (codes "1", one_number, refl)))))
+      (mark_tells strict 59 0) (λ u. made_tells num_at (Delete name) W W (num_tells strict 0)) (λ x own c. omega arith) (λ u few. (Delete name 1, word (codes "1") ∷ [], (1, refl, (codes "1", one_is_number, refl)))))
       to to (λ y ls c. c)
     where
       to : (c : Command) (ls : List Lexeme) → InTurn (MarkOf 59) (λ u. Made (Delete name) (WordOf num_of)) c ls → Made (Delete name) SpellsCycle c ls
@@ -148,7 +149,7 @@ module _ (strict : Bool) where
       verb_tells (codes "delete") (λ name m. mark_at 59 m >>= λ passed. num_at passed.1 >>= with_place (Delete name)) (λ name. Made (Delete name) SpellsCycle) (λ name. Made (Delete name) SpellsCycle) cycle_of_tells
       (λ name c ls item d. made L (codes "delete") name (Delete name) SpellsCycle (λ v own e. (own, refl, item, e)) c ls d)
       (λ name c ls item d. made above (codes "delete") name (Delete name) SpellsCycle (λ v own e. (own, refl, item, e)) c ls d)
-      (λ name. (Delete name 1, mark 59 ∷ word (codes "1") ∷ [], (1, refl, (codes "1", one_number, refl))))
+      (λ name. (Delete name 1, mark 59 ∷ word (codes "1") ∷ [], (1, refl, (codes "1", one_is_number, refl))))
 
   fill_tells : Tells strict fill_command_at (AfterWord (word (codes "fill")) (SpellsCommand L)) (AfterWord (word (codes "fill")) (SpellsCommand above)) 0
   unfolding fill_command_at

@@ -5,7 +5,7 @@ use Rattle.std.specs.List.{fold, list_all, list_any, flat_map}
 use Rattle.std.specs.FinMap.{get, insert, remove}
 use Rattle.std.specs.Option.{option_map_or, option_or}
 use Rattle.std.specs.Str.{bytes_eq}
-use Rattle.std.proofs.lemmas.Bool.{ltb-false}
+use Rattle.std.proofs.lemmas.Bool.{ltb-false, not-false, not_from_false}
 use Rattle.std.proofs.lemmas.List.{append-nil}
 use Rattle.rio_format.specs.WrittenBytes.{length_limit}
 use Rattle.rio_machine.specs.State.{State, Tree, names_tree}
@@ -117,13 +117,6 @@ module _ (classes : List ClassDef) where
 
 -- ---- accepted commands
 
-true_of : (b : Bool) → b ≡ false → not b ≡ true
-true_of b e = ap not e
-
-known_of : (b : Bool) → not b ≡ false → b ≡ true
-known_of true e = refl
-known_of false e = absurd cc
-
 -- no rule is broken, where none of the tests holds
 no_rule : (knows same holds limit : Bool) → knows ≡ true → same ≡ false → holds ≡ false → limit ≡ false
     → option_or (if not knows then Some NoSuchClass else if same then Some SameVersion else if holds then Some HoldsItself else None) (if limit then Some TooMany else None) ≡ None
@@ -138,13 +131,13 @@ unfolding refusal_of
 accepted_declares m c mark stated e =
     let tests = refusals m (Class c) mark in
     let free = not_refused (has_bad_name (Class c)) BadName (none_at tests 1 e) in
-    let knows = known_of (knows_all m.classes c) (not_refused (lacks_class m (Class c)) Lacks (none_at tests 7 e)) in
+    let knows = not-false (knows_all m.classes c) (not_refused (lacks_class m (Class c)) Lacks (none_at tests 7 e)) in
     let new = not_refused (is_same_version m (Class c)) Same (none_at tests 8 e) in
     let holds = not_refused (would_hold_itself m (Class c)) Holds (none_at tests 9 e) in
     let few = not_refused (has_too_many m (Class c)) Many (none_at tests 17 e) in
     record {
       stated = declared_stated m.classes c ∙ stated;
-      free = true_of (is_reserved_name c.name) free;
+      free = not_from_false (is_reserved_name c.name) free;
       allowed = no_rule (knows_all m.classes (declared m.classes c)) _ (holds_itself m.classes (declared m.classes c)) _ (knows_same m.classes c ∙ knows) new (holds_same m.classes c ∙ holds) few;
       newest = declared_again m.classes c;
     }

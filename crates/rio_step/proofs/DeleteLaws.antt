@@ -4,14 +4,14 @@ use Rattle.std.specs.Option.{IsSomeAnd}
 use Rattle.std.specs.Cmp.{eq_by_cmp_equiv}
 use Rattle.std.specs.FinMap.{contains_key, get, get-remove, remove}
 use Rattle.std.specs.Option.{is_some, option_map_or}
-use Rattle.std.proofs.lemmas.Bool.{eqb-true}
+use Rattle.std.proofs.lemmas.Bool.{eqb-true, false_from_ne_true, not-false}
 use Rattle.std.proofs.lemmas.Map.Views.{tells_apart}
 use Rattle.rio_machine.proofs.OrderLaws.{items_tie, items_total, names_tie, names_total}
 use Rattle.rio_machine.specs.State.{NameAndCycle, State, Tree, names_item, names_tree}
 use Rattle.rio_machine.specs.declared.command.Command.TheVariants.{Delete}
 use Rattle.rio_machine.specs.declared.refusal.Refusal.TheVariants.{NoSuchName, NoSuchCycle}
 use Rattle.rio_step.proofs.ApartLaws.{cycle_object, none_at, not_refused}
-use Rattle.rio_step.proofs.StepLaws.{false_from, step_accepted}
+use Rattle.rio_step.proofs.StepLaws.{step_accepted}
 use Rattle.rio_step.specs.Laws.{AreNamesApart, DeletesTakeOne, HasOneLess, HasOneTreeLess}
 use Rattle.rio_step.specs.Refusing.{FullMark, has_cycle, lacks_cycle, lacks_name, refusal_of, refusals}
 
@@ -23,7 +23,7 @@ object_gone m item = get-remove items_total m.objects item item ∙ ap (λ b. co
 other_objects : (m : State) (item other : NameAndCycle) → other ≢ item → get (remove m.objects item) other ≡ get m.objects other
 other_objects m item other apart =
     get-remove items_total m.objects item other
-    ∙ ap (λ b. cond b None (get m.objects other)) (false_from _ (λ e. apart (tells_apart items_tie other item e)))
+    ∙ ap (λ b. cond b None (get m.objects other)) (false_from_ne_true _ (λ e. apart (tells_apart items_tie other item e)))
 
 tree_gone : (m : State) (name : List ℕ) → get (remove m.trees name) name ≡ None
 tree_gone m name = get-remove names_total m.trees name name ∙ ap (λ b. cond b None (get m.trees name)) ((eq_by_cmp_equiv names_total).refl name)
@@ -31,17 +31,13 @@ tree_gone m name = get-remove names_total m.trees name name ∙ ap (λ b. cond b
 other_trees : (m : State) (name other : List ℕ) → other ≢ name → get (remove m.trees name) other ≡ get m.trees other
 other_trees m name other apart =
     get-remove names_total m.trees name other
-    ∙ ap (λ b. cond b None (get m.trees other)) (false_from _ (λ e. apart (tells_apart names_tie other name e)))
+    ∙ ap (λ b. cond b None (get m.trees other)) (false_from_ne_true _ (λ e. apart (tells_apart names_tie other name e)))
 
 -- ---- what is there
 
 both_parts : (a b : Bool) → (a && b) ≡ false → a ≡ true → b ≡ false
 both_parts true b e h = e
 both_parts false b e h = absurd cc
-
-true_of_not : (b : Bool) → not b ≡ false → b ≡ true
-true_of_not true e = refl
-true_of_not false e = absurd cc
 
 or_left : (a b : Bool) → (a || b) ≡ true → b ≡ false → a ≡ true
 or_left true b e h = refl
@@ -63,8 +59,8 @@ no_tree_passes (Some t) cycle e = absurd cc
 cycle_there : (m : State) (name : List ℕ) (cycle : ℕ) (mark : Option FullMark) → refusal_of m (Delete name cycle) mark ≡ None → has_cycle m name cycle ≡ true
 unfolding refusal_of
 cycle_there m name cycle mark e =
-    let named = true_of_not (names_item m name) (not_refused (lacks_name m (Delete name cycle)) NoSuchName (none_at (refusals m (Delete name cycle) mark) 2 e)) in
-    true_of_not (has_cycle m name cycle) (both_parts (names_item m name) _ (not_refused (lacks_cycle m (Delete name cycle)) NoSuchCycle (none_at (refusals m (Delete name cycle) mark) 3 e)) named)
+    let named = not-false (names_item m name) (not_refused (lacks_name m (Delete name cycle)) NoSuchName (none_at (refusals m (Delete name cycle) mark) 2 e)) in
+    not-false (has_cycle m name cycle) (both_parts (names_item m name) _ (not_refused (lacks_cycle m (Delete name cycle)) NoSuchCycle (none_at (refusals m (Delete name cycle) mark) 3 e)) named)
 
 -- ---- deletes
 
@@ -72,7 +68,7 @@ one_less : (m : State) (name : List ℕ) (cycle : ℕ) → AreNamesApart m → h
     → HasOneLess m (cond b (record m { trees = remove m.trees name }) (record m { objects = remove m.objects (name, cycle) })) (name, cycle)
     ⊎ HasOneTreeLess m (cond b (record m { trees = remove m.trees name }) (record m { objects = remove m.objects (name, cycle) })) name cycle
 one_less m name cycle apart there true is =
-    let no_object : contains_key m.objects (name, cycle) ≡ false = false_from _ (λ e. let h = sym (apart name (cycle_object name m cycle e)) ∙ is in absurd cc) in
+    let no_object : contains_key m.objects (name, cycle) ≡ false = false_from_ne_true _ (λ e. let h = sym (apart name (cycle_object name m cycle e)) ∙ is in absurd cc) in
     inr (record {
       classes = refl;
       objects = refl;

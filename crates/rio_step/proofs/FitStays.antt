@@ -1,12 +1,13 @@
 -- No command makes an object or a row one that doesn't fit.
-use Rattle.std.proofs.Common.{◌≡◌, ℕ, List, [], ◌∷◌, ◌++◌, Bool, true, false, cond, not, ◌&&◌, Option, Some, None, refl, sym, ap, subst, ◌∙◌, append_assoc}
-use Rattle.std.specs.Prelude.{is_some, unwrap_or}
+use Rattle.std.proofs.Common.{◌≡◌, ℕ, List, [], ◌∷◌, ◌++◌, Bool, true, false, cond, not, Option, Some, None, refl, sym, ap, subst, ◌∙◌, append_assoc}
+use Rattle.std.specs.Prelude.{is_some}
 use Rattle.std.specs.FinMap.{get, get-insert, get-remove, insert, remove}
 use Rattle.std.specs.List.{list_all}
 use Rattle.std.specs.Option.{option_map_or}
 use Rattle.std.specs.Ordering.{eq_by_cmp}
-use Rattle.std.proofs.lemmas.Bool.{and_parts}
+use Rattle.std.proofs.lemmas.Bool.{and_from, and_parts, not-false}
 use Rattle.std.proofs.lemmas.List.{append-nil}
+use Rattle.std.proofs.lemmas.Option.{same_Some}
 use Rattle.rio_leaf.specs.declared.branch.BranchDef.{BranchDef}
 use Rattle.rio_types.specs.declared.class.ClassDef.{ClassDef}
 use Rattle.rio_value.specs.declared.value.Value.{Value}
@@ -27,17 +28,6 @@ use Rattle.rio_step.proofs.GrowthLaws.{slot_more}
 use Rattle.rio_step.specs.Laws.{AllFit, AllStayFit, FitsStay}
 use Rattle.rio_step.specs.Refusing.{FullMark, fill_row, is_bad_row, is_fit, is_unfit, object_class, put_value, refusal_of, refusals, rows_of_tree}
 use Rattle.rio_step.specs.Step.{by_refusal, new_tree, state_behind, step, tree_filled, tree_saved, with_tree, without_item}
-
-both : (a b : Bool) → a ≡ true → b ≡ true → (a && b) ≡ true
-both true b h k = k
-both false b h k = absurd cc
-
-same_some : {A : Type 0} (x y : A) → Some x ≡ Some y → x ≡ y
-same_some x y e = ap (λ o. unwrap_or o x) e
-
-pub true_from_not : (b : Bool) → not b ≡ false → b ≡ true
-true_from_not true e = refl
-true_from_not false e = absurd cc
 
 -- ---- one class more
 
@@ -65,20 +55,20 @@ module _ (classes : List ClassDef) (class : ClassDef) where
   columns_more (c ∷ cs) [] counters e = absurd cc
   columns_more (c ∷ cs) (v ∷ vs) counters e =
       let parts = and_parts (stands_in classes (column_slot counters c) v) (columns_fit classes cs vs (leaf_numbers_behind c v counters)) e in
-      both _ _ (stands_more (column_slot counters c) v parts.0) (columns_more cs vs (leaf_numbers_behind c v counters) parts.1)
+      and_from _ _ (stands_more (column_slot counters c) v parts.0) (columns_more cs vs (leaf_numbers_behind c v counters) parts.1)
 
   pub rows_more : (branches : List BranchDef) (rows : List Row) → list_all (row_fits classes branches) rows ≡ true → list_all (row_fits more branches) rows ≡ true
   rows_more branches [] e = refl
   rows_more branches (r ∷ rs) e =
       let parts = and_parts (row_fits classes branches r) (list_all (row_fits classes branches) rs) e in
-      both _ _ (columns_more (columns_of branches) r [] parts.0) (rows_more branches rs parts.1)
+      and_from _ _ (columns_more (columns_of branches) r [] parts.0) (rows_more branches rs parts.1)
 
 pub fits_stay : FitsStay
 fits_stay classes class own v e = stands_more classes class (kinded (Inline own)) v e
 
-all_pushed : (p : Row → Bool) (rows : List Row) (row : Row) → list_all p rows ≡ true → p row ≡ true → list_all p (rows ++ row ∷ []) ≡ true
-all_pushed p [] row all e = both _ _ e refl
-all_pushed p (r ∷ rs) row all e = let parts = and_parts (p r) (list_all p rs) all in both _ _ parts.0 (all_pushed p rs row parts.1 e)
+pub all_pushed : (p : Row → Bool) (rows : List Row) (row : Row) → list_all p rows ≡ true → p row ≡ true → list_all p (rows ++ row ∷ []) ≡ true
+all_pushed p [] row all e = and_from _ _ e refl
+all_pushed p (r ∷ rs) row all e = let parts = and_parts (p r) (list_all p rs) all in and_from _ _ parts.0 (all_pushed p rs row parts.1 e)
 
 -- ---- changes of a state
 
@@ -89,7 +79,7 @@ put_fit m item v new all = record {
 }
   where
     by : (k : NameAndCycle) (w : Value) (b : Bool) → cond b (Some v) (get m.objects k) ≡ Some w → is_fit m.classes w ≡ true
-    by k w true e = ap (is_fit m.classes) (sym (same_some v w e)) ∙ new
+    by k w true e = ap (is_fit m.classes) (sym (same_Some v w e)) ∙ new
     by k w false e = all.objects k w e
 
 delete_fit : (m : State) (item : NameAndCycle) → AllFit m → AllFit (record m { objects = remove m.objects item })
@@ -113,7 +103,7 @@ tree_fit m name t new all = record {
 }
   where
     by : (k : List ℕ) (u : Tree) (b : Bool) → cond b (Some t) (get m.trees k) ≡ Some u → RowsFit m u
-    by k u true e = subst (λ (x : Tree). RowsFit m x) (same_some t u e) new
+    by k u true e = subst (λ (x : Tree). RowsFit m x) (same_Some t u e) new
     by k u false e = all.rows k u e
 
 tree_gone_fit : (m : State) (name : List ℕ) → AllFit m → AllFit (record m { trees = remove m.trees name })
@@ -144,11 +134,11 @@ without_fit m name cycle all = by (names_tree m name)
 
 pub unrefused_fit : (m : State) (name : List ℕ) (v : Value) (mark : Option FullMark) → refusal_of m (Put name v) mark ≡ None → is_fit m.classes (put_value m v) ≡ true
 unfolding refusal_of
-unrefused_fit m name v mark e = true_from_not _ (not_refused (is_unfit m (Put name v)) DoesNotFit (none_at (refusals m (Put name v) mark) 10 e))
+unrefused_fit m name v mark e = not-false _ (not_refused (is_unfit m (Put name v)) DoesNotFit (none_at (refusals m (Put name v) mark) 10 e))
 
 passed_row : (m : State) (row : Row) (t : Option Tree) (u : Tree) → t ≡ Some u → option_map_or (λ t. not (row_fits m.classes t.branches row)) t false ≡ false → row_fits m.classes u.branches row ≡ true
 passed_row m row None u is e = absurd cc
-passed_row m row (Some t) u is e = ap (λ x. row_fits m.classes x.branches row) (sym (same_some t u is)) ∙ true_from_not _ e
+passed_row m row (Some t) u is e = ap (λ x. row_fits m.classes x.branches row) (sym (same_Some t u is)) ∙ not-false _ e
 
 pub unrefused_row : (m : State) (name : List ℕ) (row : Row) (mark : Option FullMark) → refusal_of m (Fill name row) mark ≡ None → (t : Tree) → get m.trees name ≡ Some t → row_fits m.classes t.branches (fill_row m row) ≡ true
 unfolding refusal_of

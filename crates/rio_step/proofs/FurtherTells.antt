@@ -6,20 +6,16 @@ use Rattle.rio_num.specs.Reading.{◌>>=◌}
 use Rattle.rio_token.specs.declared.fault.TextFault.{TextFault}
 use Rattle.rio_token.specs.declared.token.Token.TheVariants.{End}
 use Rattle.rio_token.specs.Reading.{Read}
-use Rattle.rio_token.specs.Tokens.{next_at, scan_of}
+use Rattle.rio_token.specs.Tokens.{next_at}
 use Rattle.rio_model.specs.Lexemes.{Lexeme}
 use Rattle.rio_model.proofs.ItemLaws.{read_is}
 use Rattle.rio_model.proofs.LexemeLaws.{stand_joined, stand_within}
+use Rattle.rio_model.proofs.ItemTold.{end_of_rest}
 use Rattle.rio_step.specs.CommandLaws.{HaveSameToken, IsFirstBadToken}
 use Rattle.rio_step.specs.CommandSpelling.{SpellsEach, SpellsSome}
 use Rattle.rio_step.specs.TreeGrammar.{further_at, items_at}
 use Rattle.rio_step.proofs.AlikeLaws.{BeginBehind, IsKnown, Tells, alike_first, alike_split, bad_behind, bad_there}
 use Rattle.rio_step.proofs.TurnLaws.{InTurn, tells_as, turn_tells}
-
-end_of_rest : (rest : List ℕ) → length rest ≤ 0 → (scan_of rest).token ≡ End
-unfolding scan_of
-end_of_rest [] h = refl
-end_of_rest (b ∷ bs) h = absurd (omega (arith, h))
 
 -- further items behind some
 abbrev pub Rest : {A : Type 0} → (List A → A → List Lexeme → Type 0) → List A → List A → List Lexeme → Type 0

@@ -1,9 +1,9 @@
 -- What is known of what was read.
-use Rattle.std.proofs.Common.{◌≡◌, Bool, true, false, Some, Ok, Err, refl, ap}
-use Rattle.std.specs.Prelude.{unwrap_or, if◌then◌else◌}
+use Rattle.std.proofs.Common.{◌≡◌, Bool, true, false, Ok, Err, refl}
+use Rattle.std.specs.Prelude.{if◌then◌else◌}
 use Rattle.rio_num.specs.At.{At}
 use Rattle.rio_num.specs.Reading.{◌>>=◌}
-use Rattle.rio_token.specs.Reading.{Read, some_if}
+use Rattle.rio_token.specs.Reading.{Read}
 
 -- if something was read, this holds of it
 abbrev pub Given : {A : Type 0} → (A → Type 0) → Read A → Type 0
@@ -22,7 +22,3 @@ then_any Q (Err e) f g = tt
 pub one_given : {A : Type 0} (P : A → Type 0) (b : Bool) (r t : Read A) → (b ≡ true → Given P r) → (b ≡ false → Given P t) → Given P (if b then r else t)
 one_given P true r t g h = g refl
 one_given P false r t g h = h refl
-
-pub some_if_given : {A : Type 0} (b : Bool) (y x : A) → some_if b y ≡ Some x → (b ≡ true) × (y ≡ x)
-some_if_given true y x e = (refl, ap (λ o. unwrap_or o y) e)
-some_if_given false y x e = absurd cc

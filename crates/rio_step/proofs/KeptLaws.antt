@@ -1,10 +1,12 @@
 -- No command but a delete takes an object or a row away.
-use Rattle.std.proofs.Common.{◌≡◌, ℕ, List, [], ◌∷◌, Bool, true, false, cond, ◌||◌, Option, Some, None, refl, sym, ap, ◌∙◌, append_assoc}
+use Rattle.std.proofs.Common.{◌≡◌, ℕ, List, [], ◌∷◌, Bool, true, false, cond, Option, Some, None, refl, sym, ap, ◌∙◌, append_assoc}
 use Rattle.std.specs.FinMap.{get, get-insert, insert}
-use Rattle.std.specs.Option.{is_some, option_map_or, unwrap_or}
+use Rattle.std.specs.Option.{is_some, option_map_or}
 use Rattle.std.specs.Ordering.{eq_by_cmp}
 use Rattle.std.proofs.lemmas.List.{append-nil}
 use Rattle.std.proofs.lemmas.Map.Views.{tells_apart}
+use Rattle.std.proofs.lemmas.Bool.{or_parts}
+use Rattle.std.proofs.lemmas.Option.{same_Some}
 use Rattle.rio_value.specs.declared.value.Value.{Value}
 use Rattle.rio_machine.proofs.OrderLaws.{items_tie, items_total, names_tie, names_total}
 use Rattle.rio_machine.specs.State.{NameAndCycle, Row, State, Tree, item_order, name_order, names_object, names_tree, next_cycle}
@@ -16,9 +18,6 @@ use Rattle.rio_step.proofs.StepLaws.{next_is_free}
 use Rattle.rio_step.specs.Laws.{HasRowsOf, Keeps, KeepsRows, NothingIsLost, is_delete}
 use Rattle.rio_step.specs.Refusing.{FullMark, fill_row, put_value, refusal_of, rows_of_tree}
 use Rattle.rio_step.specs.Step.{by_refusal, new_tree, state_behind, step, tree_filled, tree_saved, with_tree}
-
-same_some : {A : Type 0} (x y : A) → Some x ≡ Some y → x ≡ y
-same_some x y e = ap (λ o. unwrap_or o x) e
 
 -- ---- objects
 
@@ -68,7 +67,7 @@ changed_rows m name change keeps k t e = by_tree (get m.trees name) refl
   where
     by_key : (s : Tree) → get m.trees name ≡ Some s → (b : Bool) → eq_by_cmp name_order k name ≡ b → Rows t (cond b (Some (change s)) (get m.trees k))
     by_key s is true tie =
-        let same = same_some s t (sym is ∙ ap (get m.trees) (sym (tells_apart names_tie k name tie)) ∙ e) in
+        let same = same_Some s t (sym is ∙ ap (get m.trees) (sym (tells_apart names_tie k name tie)) ∙ e) in
         (change t, ap (λ u. Some (change u)) same, keeps t)
     by_key s is false tie = (t, e, same_rows t)
 
@@ -77,10 +76,6 @@ changed_rows m name change keeps k t e = by_tree (get m.trees name) refl
     by_tree (Some s) is =
         let there = by_key s is (eq_by_cmp name_order k name) refl in
         (there.0, get-insert names_total m.trees name (change s) k ∙ there.1, there.2)
-
-second_false : (a b : Bool) → (a || b) ≡ false → b ≡ false
-second_false true b e = absurd cc
-second_false false b e = e
 
 made_rows : (m : State) (name : List ℕ) (t : Tree) → names_tree m name ≡ false → KeepsRows m (record m { trees = insert m.trees name t })
 made_rows m name new none k t e =
@@ -96,7 +91,7 @@ rows_behind m (Bad line place) mark a d k t e = (t, e, same_rows t)
 rows_behind m (Class class) mark a d k t e = (t, e, same_rows t)
 rows_behind m (Put name v) mark a d k t e = (t, e, same_rows t)
 rows_behind m (Delete name cycle) mark a d k t e = absurd cc
-rows_behind m (MakeTree name branches) mark a d k t e = made_rows m name (new_tree branches) (second_false (names_object m name) (names_tree m name) (no_name_in_use m (MakeTree name branches) mark a)) k t e
+rows_behind m (MakeTree name branches) mark a d k t e = made_rows m name (new_tree branches) ((or_parts (names_object m name) (names_tree m name) (no_name_in_use m (MakeTree name branches) mark a)).1) k t e
 rows_behind m (Fill name row) mark a d k t e = changed_rows m name (tree_filled (fill_row m row)) (filled_rows (fill_row m row)) k t e
 rows_behind m (Save name) mark a d k t e = changed_rows m name tree_saved saved_rows k t e
 rows_behind m (Get name cycle version) mark a d k t e = (t, e, same_rows t)

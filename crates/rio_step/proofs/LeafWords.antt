@@ -14,9 +14,9 @@ use Rattle.rio_leaf.specs.declared.leaf.Leaf.{Leaf}
 use Rattle.rio_leaf.specs.Leaves.{has_counting_leaf, is_dim, is_leaf_count, is_letter_of}
 use Rattle.rio_model.specs.Lexemes.{Lexeme, glued, mark, word}
 use Rattle.rio_model.proofs.ReadWords.{no_digit}
+use Rattle.rio_model.proofs.LexemeLaws.{if_is}
 use Rattle.rio_step.specs.CommandSpelling.{SpellsDim, SpellsLeaf, in_square_brackets}
 use Rattle.rio_step.specs.TreeGrammar.{is_new_leaf, leaf_dimension, leaf_letter}
-use Rattle.rio_step.proofs.GivenLaws.{some_if_given}
 
 -- ---- as they are read
 
@@ -38,7 +38,7 @@ module _ (before : List Leaf) where
   number_given : (w : List ℕ) (n : Option ℕ) (x : ℕ) → num_of w ≡ n → option_and_then (λ n. if nat_le 2 n && nat_le n 100000 then Some n else None) n ≡ Some x → (is_leaf_count x ≡ true) × (num_of w ≡ Some x)
   number_given w None x is e = absurd cc
   number_given w (Some n) x is e =
-      let given = some_if_given (is_leaf_count n) n x e in (
+      let given = if_is (is_leaf_count n) n x e in (
         ap is_leaf_count (sym given.1) ∙ given.0,
         is ∙ ap (λ (k : ℕ). let o : Option ℕ = Some k in o) given.1,
       )
@@ -50,7 +50,7 @@ module _ (before : List Leaf) where
       let given = number_given w (num_of w) n refl is in
       subst (λ (d : Dim). IsDim d × SpellsDim d (in_square_brackets w)) same (given.0, (w, given.1, refl))
   size_by w None dim is e =
-      let given = some_if_given (is_name_text w && has_counting_leaf before w) (Counted w 1) dim e in
+      let given = if_is (is_name_text w && has_counting_leaf before w) (Counted w 1) dim e in
       subst (λ (d : Dim). IsDim d × SpellsDim d (in_square_brackets w)) given.1
       (and_from (is_name_text w && has_counting_leaf before w) true given.0 refl, refl)
 
@@ -66,7 +66,7 @@ module _ (before : List Leaf) where
   letter_spelled : (dim : Dim) (w : List ℕ) (letter : ℕ) → leaf_letter dim w ≡ Some letter → (w ≡ letter ∷ []) × (is_letter_of dim letter ≡ true)
   letter_spelled dim [] letter e = absurd cc
   letter_spelled dim (b ∷ []) letter e =
-      let given = some_if_given (is_letter_of dim b) b letter e in (
+      let given = if_is (is_letter_of dim b) b letter e in (
         ap (λ (c : ℕ). c ∷ []) given.1,
         ap (is_letter_of dim) (sym given.1) ∙ given.0,
       )

@@ -5,30 +5,16 @@ use Rattle.rio_num.specs.At.{At}
 use Rattle.rio_num.specs.Reading.{◌>>=◌}
 use Rattle.rio_token.specs.declared.fault.TextFault.{TextFault}
 use Rattle.rio_token.specs.declared.token.Token.{Token}
-use Rattle.rio_token.specs.declared.token.Token.TheVariants.{Word, Text, Mark, Bad, Cut, End}
 use Rattle.rio_token.specs.Reading.{Read, bad_at, end_at, is_end, some_if}
 use Rattle.rio_token.specs.Tokens.{behind, next_at}
 use Rattle.rio_model.specs.Lexemes.{Lexeme}
 use Rattle.rio_model.proofs.ItemLaws.{read_is}
-use Rattle.rio_model.proofs.LexemeLaws.{if_is, taken_is, then_ok}
+use Rattle.rio_model.proofs.LexemeLaws.{then_ok}
 use Rattle.rio_model.proofs.ToldLaws.{bad_is, bind_bad}
+use Rattle.rio_model.proofs.ClassFound.{end_found}
 use Rattle.rio_step.specs.CommandLaws.{IsFirstBadToken, StandToEnd}
 use Rattle.rio_step.proofs.AlikeLaws.{BeginBehind, Tells, bad_behind, bad_there, bad_token}
 use Rattle.rio_step.proofs.TellsLaws.{IsTest, taken_bad, taken_none}
-
-is_end_is : (token : Token) → is_end token ≡ true → token ≡ End
-is_end_is End h = refl
-is_end_is Word h = absurd (cc)
-is_end_is Text h = absurd (cc)
-is_end_is (Mark k) h = absurd (cc)
-is_end_is Bad h = absurd (cc)
-is_end_is Cut h = absurd (cc)
-
-end_found : (s : At) (u : Unit {0}) (t : At) → end_at s ≡ Ok (u, t) → ((next_at s).token ≡ End) × (t ≡ behind s)
-unfolding end_at
-end_found s u t h =
-    let k = taken_is (some_if (is_end (next_at s).token) tt) s u t h in
-    (is_end_is (next_at s).token (if_is (is_end (next_at s).token) tt u k.0).0, k.1)
 
 abbrev Empty : List Lexeme → Type 0
 Empty ls = ls ≡ []

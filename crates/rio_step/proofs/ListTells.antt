@@ -5,9 +5,11 @@ use Rattle.rio_num.specs.Reading.{◌>>=◌}
 use Rattle.rio_token.specs.declared.token.Token.{Token}
 use Rattle.rio_token.specs.declared.token.Token.TheVariants.{End}
 use Rattle.rio_token.specs.Reading.{Read, bad_at, is_end, list_at, mark_at, marked, more_at, some_at}
-use Rattle.rio_token.specs.Tokens.{behind, next_at, scan_of}
+use Rattle.rio_token.specs.Tokens.{behind, next_at}
 use Rattle.rio_model.specs.Lexemes.{Lexeme, SpellsFurther, SpellsItems, mark}
 use Rattle.rio_model.proofs.LexemeLaws.{mark_found, stand_within, takes_some}
+use Rattle.rio_model.proofs.ClassFound.{is_end_is}
+use Rattle.rio_model.proofs.ItemTold.{end_of_rest}
 use Rattle.rio_step.specs.CommandLaws.{HaveSameToken}
 use Rattle.rio_step.specs.CommandSpelling.{SpellsEach}
 use Rattle.rio_step.specs.TreeGrammar.{further_at}
@@ -16,15 +18,6 @@ use Rattle.rio_step.proofs.AskedTells.{MarkOf, mark_tells}
 use Rattle.rio_step.proofs.FurtherTells.{ItemTells, Rest, rest_tells}
 use Rattle.rio_step.proofs.TellsLaws.{mark_test}
 use Rattle.rio_step.proofs.TurnLaws.{Behind, EitherOf, InTurn, Nothing, choice_tells, fewer, handed_tells, nothing_tells, tells_as, turn_tells}
-
-end_of_rest : (rest : List ℕ) → length rest ≤ 0 → (scan_of rest).token ≡ End
-unfolding scan_of
-end_of_rest [] h = refl
-end_of_rest (b ∷ bs) h = absurd (omega (arith, h))
-
-is_end_is : (token : Token) → is_end token ≡ true → token ≡ End
-is_end_is End h = refl
-is_end_is other h = absurd (cc)
 
 module _ (strict : Bool) where
   -- what two readers that read alike tell

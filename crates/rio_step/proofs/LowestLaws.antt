@@ -1,7 +1,6 @@
 -- The refusal that is told is the one of the lowest number.
 use Rattle.std.proofs.Common.{◌≡◌, ◌<◌, ◌≤◌, ℕ, zero, suc, ◌+◌, ◌-◌, List, [], ◌∷◌, length, Bool, true, false, Option, Some, None, Ok, Err, refl, sym, ap, subst, ◌∙◌, arith}
 use Rattle.std.specs.List.{slice_get}
-use Rattle.std.specs.Prelude.{unwrap_or}
 use Rattle.rio_machine.specs.RefusalText.{refusal_number}
 use Rattle.rio_machine.specs.State.{State}
 use Rattle.rio_machine.specs.declared.command.Command.{Command}
@@ -13,6 +12,7 @@ use Rattle.rio_step.specs.Refusing.{FullMark, bad_line, change_in, first_of, kin
 use Rattle.rio_step.specs.declared.fault.MapFault.TheVariants.{KindChanged as Changed, NoVersion, NoMemory}
 use Rattle.std.specs.FinMap.{get}
 use Rattle.std.specs.Prelude.{option_and_then}
+use Rattle.std.proofs.lemmas.Option.{same_Some}
 
 -- a test gives no refusal of another number
 HasNumber : ℕ → Option Refusal → Type 0
@@ -23,9 +23,6 @@ AreNumbered : ℕ → List (Option Refusal) → Type 0
 unfolding HasNumber
 AreNumbered n [] = Unit {0}
 AreNumbered n (x ∷ xs) = HasNumber n x × AreNumbered (suc n) xs
-
-same_some : {A : Type 0} (x y : A) → Some x ≡ Some y → x ≡ y
-same_some x y e = ap (λ o. unwrap_or o x) e
 
 Told : ℕ → List (Option Refusal) → Refusal → Type 0
 Told n xs r = (n ≤ refusal_number r) × (slice_get xs (refusal_number r - n) ≡ Some (Some r)) × ((k : ℕ) → k + n < refusal_number r → slice_get xs k ≡ Some None)
@@ -50,17 +47,17 @@ told_later n r xs told =
 told_by_number : (n : ℕ) (xs : List (Option Refusal)) (r : Refusal) → AreNumbered n xs → first_of xs ≡ Some r → Told n xs r
 unfolding AreNumbered HasNumber
 told_by_number n [] r numbered e = absurd cc
-told_by_number n (Some x ∷ xs) r numbered e = told_first n x r xs (numbered.0 x refl) (same_some x r e)
+told_by_number n (Some x ∷ xs) r numbered e = told_first n x r xs (numbered.0 x refl) (same_Some x r e)
 told_by_number n (None ∷ xs) r numbered e = told_later n r xs (told_by_number (suc n) xs r numbered.1 e)
 
 if_numbered : (b : Bool) (x : Refusal) → HasNumber (refusal_number x) (refused_if b x)
 unfolding HasNumber
-if_numbered true x r e = ap refusal_number (sym (same_some x r e))
+if_numbered true x r e = ap refusal_number (sym (same_Some x r e))
 if_numbered false x r e = absurd cc
 
 line_numbered : (c : Command) → HasNumber 1 (bad_line c)
 unfolding HasNumber
-line_numbered (Bad line place) r e = ap refusal_number (sym (same_some _ r e))
+line_numbered (Bad line place) r e = ap refusal_number (sym (same_Some _ r e))
 line_numbered (Class class) r e = absurd cc
 line_numbered (Put name v) r e = absurd cc
 line_numbered (Delete name cycle) r e = absurd cc
@@ -74,7 +71,7 @@ line_numbered Ls r e = absurd cc
 change_numbered : {A : Type 0} (x : Mapped A) → HasNumber 13 (change_in x)
 unfolding HasNumber
 change_numbered (Ok y) r e = absurd cc
-change_numbered (Err (Changed member)) r e = ap refusal_number (sym (same_some _ r e))
+change_numbered (Err (Changed member)) r e = ap refusal_number (sym (same_Some _ r e))
 change_numbered (Err NoVersion) r e = absurd cc
 change_numbered (Err NoMemory) r e = absurd cc
 
@@ -102,7 +99,7 @@ kind_numbered m Ls = none_numbered 13
 mark_numbered : (mark : Option FullMark) → HasNumber 19 (marked_full mark)
 unfolding HasNumber
 mark_numbered None r e = absurd cc
-mark_numbered (Some full) r e = ap refusal_number (sym (same_some _ r e))
+mark_numbered (Some full) r e = ap refusal_number (sym (same_Some _ r e))
 
 all_numbered : (m : State) (c : Command) (mark : Option FullMark) → AreNumbered 1 (refusals m c mark)
 unfolding AreNumbered

@@ -1,8 +1,9 @@
 -- The commands of a script can be stated.
-use Rattle.std.proofs.Common.{ap, length, suc, ◌≡◌, ℕ, ◌+◌, List, [], ◌∷◌, Bool, true, false, ◌&&◌, Ok, Err, refl}
+use Rattle.std.proofs.Common.{ap, length, suc, ◌≡◌, ℕ, ◌+◌, List, [], ◌∷◌, Bool, true, false, Ok, Err, refl}
 use Rattle.std.specs.List.{filter, list_all}
 use Rattle.std.specs.Prelude.{if◌then◌else◌}
 use Rattle.std.specs.Str.Lines.{lines}
+use Rattle.std.proofs.lemmas.Bool.{and_from}
 use Rattle.rio_token.specs.declared.fault.TextFault.TheVariants.{BadText, NoMemory}
 use Rattle.rio_token.specs.Reading.{Read}
 use Rattle.rio_token.specs.Tokens.{standing_in}
@@ -24,10 +25,6 @@ use Rattle.rio_step.specs.Statable.{ScriptsAreStatable, is_statable}
 abbrev Stated : Command → Type 0
 Stated c = is_statable c ≡ true
 
-both : (a b : Bool) → a ≡ true → b ≡ true → (a && b) ≡ true
-both true b h k = k
-both false b h k = absurd cc
-
 -- what a line spells can be stated
 spelled_stated : (line : List ℕ) (c : Command) (ls : List Lexeme) (new : At) → SpellsCommand bracket_limit c ls → StandToEnd ls (standing_in 0 line) new → Stated c
 spelled_stated line (Bad number place) ls new d e = absurd d
@@ -35,7 +32,7 @@ spelled_stated line (Class class) ls new d e =
     (read_classes_are_stated line 0 class (ap only_class (spelled_classes_are_read class ls (standing_in 0 line) e.0 d e.1 e.2))).0
 spelled_stated line (Put name v) ls new d e = d.2
 spelled_stated line (Delete name cycle) ls new d e = d.2
-spelled_stated line (MakeTree name branches) ls new d e = both _ _ d.2 (branches_stated branches d.0 d.3)
+spelled_stated line (MakeTree name branches) ls new d e = and_from _ _ d.2 (branches_stated branches d.0 d.3)
 spelled_stated line (Fill name row) ls new d e = d.2
 spelled_stated line (Save name) ls new d e = d.2
 spelled_stated line (Get name cycle version) ls new d e = d.2
@@ -58,7 +55,7 @@ lines_stated number (line ∷ rest) = by (is_command_line line) (lines_stated (n
   where
     by : (b : Bool) → list_all is_statable (commands_from (number + 1) rest) ≡ true
         → list_all is_statable (if b then line_command number line ∷ commands_from (number + 1) rest else commands_from (number + 1) rest) ≡ true
-    by true later = both _ _ (line_stated number line) later
+    by true later = and_from _ _ (line_stated number line) later
     by false later = later
 
 pub scripts_are_statable : ScriptsAreStatable

@@ -8,6 +8,7 @@ use Rattle.std.specs.Ordering.{eq_by_cmp}
 use Rattle.std.specs.Str.{bytes_eq}
 use Rattle.std.proofs.lemmas.Cmp.{nat_list_eq_equiv}
 use Rattle.std.proofs.lemmas.Map.Views.{tells_apart}
+use Rattle.std.proofs.lemmas.Bool.{false_from_ne_true}
 use Rattle.rio_value.specs.Depth.{greatest}
 use Rattle.rio_value.specs.declared.value.Value.{Value}
 use Rattle.rio_machine.proofs.OrderLaws.{items_tie, items_total}
@@ -58,10 +59,6 @@ named_apart name n item rest below e =
     let within : greatest (item.1 ∷ rest) < n = subst (λ b. greatest (cond b (item.1 ∷ rest) rest) < n) named below in
     omega (arith, within, cycle)
 
-pub false_from : (b : Bool) → (b ≡ true → ⊥) → b ≡ false
-false_from true f = absurd (f refl)
-false_from false f = refl
-
 rest_below : (name : List ℕ) (n : ℕ) (item : NameAndCycle) (rest : List ℕ) (b : Bool) → greatest (cond b (item.1 ∷ rest) rest) < n → greatest rest < n
 rest_below name n item rest true below = omega (arith, below)
 rest_below name n item rest false below = below
@@ -79,7 +76,7 @@ none_above : (name : List ℕ) (n : ℕ) (items : List NameAndCycle) → greates
 none_above name n [] below = refl
 none_above name n (item ∷ items) below =
     let all = subst (λ xs. greatest xs < n) (cycles_first name item items (bytes_eq item.0 name) refl) below in
-    let first = false_from _ (named_apart name n item (cycles_in name items) all) in
+    let first = false_from_ne_true _ (named_apart name n item (cycles_in name items) all) in
     let others = none_above name n items (rest_below name n item (cycles_in name items) (bytes_eq item.0 name) all) in
     rw (first, others) refl
 
@@ -99,7 +96,7 @@ put_there m item v =
 put_elsewhere : (m : State) (item : NameAndCycle) (v : Value) (other : NameAndCycle) → other ≢ item → get (insert m.objects item v) other ≡ get m.objects other
 put_elsewhere m item v other apart =
     get-insert items_total m.objects item v other
-    ∙ ap (λ b. cond b (Some v) (get m.objects other)) (false_from _ (λ e. apart (tells_apart items_tie other item e)))
+    ∙ ap (λ b. cond b (Some v) (get m.objects other)) (false_from_ne_true _ (λ e. apart (tells_apart items_tie other item e)))
 
 one_more : (m : State) (name : List ℕ) (v : Value) → HasOneMore m (state_behind m (Put name v)) name v
 one_more m name v = record {

@@ -5,7 +5,7 @@ use Rattle.std.specs.FinMap.{get, get-empty, get-insert, get-remove, insert, rem
 use Rattle.std.specs.List.{list_all, list_any}
 use Rattle.std.specs.Option.{option_map_or}
 use Rattle.std.specs.Ordering.{eq_by_cmp}
-use Rattle.std.proofs.lemmas.Bool.{and_parts, leb-false, ltb-false}
+use Rattle.std.proofs.lemmas.Bool.{and_from, and_parts, leb-false, ltb-false, not-false, or_parts}
 use Rattle.std.proofs.lemmas.List.{append-nil}
 use Rattle.rio_num.specs.Word.{is_item_text}
 use Rattle.rio_leaf.specs.declared.branch.BranchDef.{BranchDef}
@@ -32,20 +32,17 @@ use Rattle.rio_step.proofs.DeclaredLaws.{classes_stay_declared}
 use Rattle.rio_step.specs.Statable.{is_statable}
 use Rattle.rio_step.specs.Refusing.{FullMark, fill_row, goes_too_deep, has_too_many, is_at_last_cycle, is_list_name, is_too_large, lacks_class, put_value, refusal_of, refusals}
 use Rattle.rio_step.proofs.FitLaws.{put_more}
-use Rattle.rio_step.proofs.FitStays.{columns_more, object_more, true_from_not, unrefused_fit, unrefused_row}
+use Rattle.rio_step.proofs.FitStays.{all_pushed, columns_more, object_more, unrefused_fit, unrefused_row}
 use Rattle.rio_step.proofs.WritingLaws.{slot_written, written_same}
 use Rattle.std.specs.Str.{bytes_eq}
 use Rattle.std.proofs.lemmas.Map.Views.{tells_apart}
+use Rattle.std.proofs.lemmas.Option.{same_Some}
 use Rattle.rio_machine.proofs.OrderLaws.{items_tie, items_total, names_tie, names_total}
 use Rattle.rio_step.specs.Step.{by_refusal, new_tree, state_behind, step, tree_filled, tree_saved, with_tree, without_item}
 use Rattle.rio_machine.specs.Limits.{has_long_list, is_too_deep}
 use Rattle.rio_machine.specs.State.{NameAndCycle, Row, State, Tree, empty_state, item_order, name_order, names_tree, next_cycle}
 use Rattle.rio_step.specs.Refusing.{object_class, rows_of_tree, shape_lacks_class}
 use Rattle.rio_step.specs.Storable.{IsStorable, IsStoredName, IsStoredObject, IsStoredTree, StaysStorable, is_stored_row}
-
-both : (a b : Bool) → a ≡ true → b ≡ true → (a && b) ≡ true
-both true b h k = k
-both false b h k = absurd cc
 
 -- ---- one class more
 
@@ -78,7 +75,7 @@ module _ (classes : List ClassDef) (class : ClassDef) where
 
   put_kept : (own : Option (List ℕ)) → option_map_or (λ c. not (can_be_put classes c)) own false ≡ false → option_map_or (λ c. not (can_be_put more c)) own false ≡ false
   put_kept None e = refl
-  put_kept (Some c) e = ap not (put_more classes class c (true_from_not (can_be_put classes c) e))
+  put_kept (Some c) e = ap not (put_more classes class c (not-false (can_be_put classes c) e))
 
   length_same : (own : Option (List ℕ)) (name : List ℕ) (v : Value) → option_map_or (λ c. fits classes c v) own false ≡ true → data_length more (unwrap_or own []) name v ≡ data_length classes (unwrap_or own []) name v
   length_same None name v e = absurd cc
@@ -91,17 +88,13 @@ module _ (classes : List ClassDef) (class : ClassDef) where
       let third = and_parts (row_fits classes branches row && not (has_long_entry classes branches row)) (not (list_any is_too_deep row)) last.0 in
       let second = and_parts (row_fits classes branches row) (not (has_long_entry classes branches row)) third.0 in
       let long : has_long_entry more branches row ≡ has_long_entry classes branches row = ap (list_any (λ entry. is_too_long (length entry))) (entries_same branches row [] second.0) in
-      both _ _ (both _ _ (both _ _ (columns_more classes class (columns_of branches) row [] second.0) (ap not long ∙ second.1)) third.1) last.1
+      and_from _ _ (and_from _ _ (and_from _ _ (columns_more classes class (columns_of branches) row [] second.0) (ap not long ∙ second.1)) third.1) last.1
 
   rows_same : (branches : List BranchDef) (rows : List Row) → list_all (is_stored_row classes branches) rows ≡ true → list_all (is_stored_row more branches) rows ≡ true
   rows_same branches [] e = refl
   rows_same branches (r ∷ rs) e =
       let parts = and_parts (is_stored_row classes branches r) (list_all (is_stored_row classes branches) rs) e in
-      both _ _ (row_same branches r parts.0) (rows_same branches rs parts.1)
-
-  or_parts : (a b : Bool) → (a || b) ≡ false → (a ≡ false) × (b ≡ false)
-  or_parts true b e = absurd cc
-  or_parts false b e = (refl, e)
+      and_from _ _ (row_same branches r parts.0) (rows_same branches rs parts.1)
 
   any_more : (p : ClassDef → Bool) (cs : List ClassDef) → list_any p cs ≡ true → list_any p (cs ++ class ∷ []) ≡ true
   any_more p [] e = absurd cc
@@ -113,7 +106,7 @@ module _ (classes : List ClassDef) (class : ClassDef) where
 
   shape_same : (s : Shape) → shape_lacks_class classes s ≡ false → shape_lacks_class more s ≡ false
   shape_same (Leaves leaves) e = refl
-  shape_same (Objects name) e = ap not (any_more (λ c. bytes_eq c.name name) classes (true_from_not (is_declared classes name) e))
+  shape_same (Objects name) e = ap not (any_more (λ c. bytes_eq c.name name) classes (not-false (is_declared classes name) e))
 
   shapes_same : (bs : List BranchDef) → list_any (λ b. shape_lacks_class classes b.shape) bs ≡ false → list_any (λ b. shape_lacks_class more b.shape) bs ≡ false
   shapes_same [] e = refl
@@ -147,16 +140,13 @@ record Holds (m : State) : Type 0 where
   tree_names : (name : List ℕ) (t : Tree) → get m.trees name ≡ Some t → IsStoredName name t.cycle
   trees : (name : List ℕ) (t : Tree) → get m.trees name ≡ Some t → IsStoredTree m.classes t
 
-same_some : {A : Type 0} (x y : A) → Some x ≡ Some y → x ≡ y
-same_some x y e = ap (λ o. unwrap_or o x) e
-
 -- what holds of the entries of a map, and of one that is put into it or taken out of it
 object_put_in : (m : State) (item : NameAndCycle) (v : Value) (P : NameAndCycle → Value → Type 0) → ((k : NameAndCycle) (w : Value) → get m.objects k ≡ Some w → P k w) → P item v
     → (k : NameAndCycle) (w : Value) → get (insert m.objects item v) k ≡ Some w → P k w
 object_put_in m item v P all new k w e = by (eq_by_cmp item_order k item) refl (sym (get-insert items_total m.objects item v k) ∙ e)
   where
     by : (b : Bool) → eq_by_cmp item_order k item ≡ b → cond b (Some v) (get m.objects k) ≡ Some w → P k w
-    by true is f = let key = tells_apart items_tie k item is in subst (λ (x : NameAndCycle). P x w) (sym key) (subst (λ (y : Value). P item y) (same_some v w f) new)
+    by true is f = let key = tells_apart items_tie k item is in subst (λ (x : NameAndCycle). P x w) (sym key) (subst (λ (y : Value). P item y) (same_Some v w f) new)
     by false is f = all k w f
 
 object_out : (m : State) (item : NameAndCycle) (P : NameAndCycle → Value → Type 0) → ((k : NameAndCycle) (w : Value) → get m.objects k ≡ Some w → P k w)
@@ -172,7 +162,7 @@ tree_put_in : (m : State) (name : List ℕ) (t : Tree) (P : List ℕ → Tree �
 tree_put_in m name t P all new k w e = by (eq_by_cmp name_order k name) refl (sym (get-insert names_total m.trees name t k) ∙ e)
   where
     by : (b : Bool) → eq_by_cmp name_order k name ≡ b → cond b (Some t) (get m.trees k) ≡ Some w → P k w
-    by true is f = let key = tells_apart names_tie k name is in subst (λ (x : List ℕ). P x w) (sym key) (subst (λ (y : Tree). P name y) (same_some t w f) new)
+    by true is f = let key = tells_apart names_tie k name is in subst (λ (x : List ℕ). P x w) (sym key) (subst (λ (y : Tree). P name y) (same_Some t w f) new)
     by false is f = all k w f
 
 tree_out : (m : State) (name : List ℕ) (P : List ℕ → Tree → Type 0) → ((k : List ℕ) (w : Tree) → get m.trees k ≡ Some w → P k w)
@@ -207,18 +197,10 @@ item_out m name cycle h = by (names_tree m name)
 
 -- ---- commands
 
-second_part : (a b : Bool) → (a || b) ≡ false → b ≡ false
-second_part true b e = absurd cc
-second_part false b e = e
-
-first_part : (a b : Bool) → (a || b) ≡ false → a ≡ false
-first_part true b e = absurd cc
-first_part false b e = refl
-
 -- a test of the tree that didn't hold
 not_passed : (p : Tree → Bool) (t : Option Tree) (u : Tree) → t ≡ Some u → option_map_or p t false ≡ false → p u ≡ false
 not_passed p None u is e = absurd cc
-not_passed p (Some t) u is e = ap p (sym (same_some t u is)) ∙ e
+not_passed p (Some t) u is e = ap p (sym (same_Some t u is)) ∙ e
 
 class_in : (m : State) (c : ClassDef) → Holds m → Holds (record m { classes = m.classes ++ c ∷ [] })
 class_in m c h = record {
@@ -240,11 +222,11 @@ put_in m name v mark stated e h =
     let many = not_refused (has_too_many m (Put name v)) TooMany (none_at tests 17 e) in
     let named : IsStoredName name (next_cycle m name) = record { item = stated; free = free; first = omega arith; last = ltb-false cycle_limit (next_cycle m name) last } in
     let stored : IsStoredObject m.classes name (put_value m v) = record {
-      taken = second_part _ _ classes;
+      taken = (or_parts _ _ classes).1;
       fit = unrefused_fit m name v mark e;
       short = large;
       shallow = deep;
-      few = first_part _ _ many;
+      few = (or_parts _ _ many).0;
     } in
     record {
       object_names = object_put_in m (name, next_cycle m name) (put_value m v) (λ k w. IsStoredName k.0 k.1) h.object_names named;
@@ -262,11 +244,7 @@ tree_made_in m name branches mark stated e h =
     let classes = not_refused (lacks_class m (MakeTree name branches)) NoSuchClass (none_at tests 7 e) in
     let many = not_refused (has_too_many m (MakeTree name branches)) TooMany (none_at tests 17 e) in
     tree_in m name (new_tree branches) (record { item = parts.0; free = free; first = omega arith; last = omega arith })
-    (record { stated = parts.1; few = second_part _ _ many; known = classes; rows = refl }) h
-
-all_pushed : (p : Row → Bool) (rows : List Row) (row : Row) → list_all p rows ≡ true → p row ≡ true → list_all p (rows ++ row ∷ []) ≡ true
-all_pushed p [] row all e = both _ _ e refl
-all_pushed p (r ∷ rs) row all e = let parts = and_parts (p r) (list_all p rs) all in both _ _ parts.0 (all_pushed p rs row parts.1 e)
+    (record { stated = parts.1; few = (or_parts _ _ many).1; known = classes; rows = refl }) h
 
 row_in : (m : State) (name : List ℕ) (row : Row) (mark : Option FullMark) → refusal_of m (Fill name row) mark ≡ None → Holds m → Holds (state_behind m (Fill name row))
 unfolding refusal_of
@@ -279,7 +257,7 @@ row_in m name row mark e h =
     let old = h.trees name t is in
     let fit = unrefused_row m name row mark e t is in
     let short = not_passed (λ t. has_long_entry m.classes t.branches (fill_row m row)) (get m.trees name) t is large in
-    let new : is_stored_row m.classes t.branches (fill_row m row) ≡ true = both _ _ (both _ _ (both _ _ fit (ap not short)) (ap not deep)) (ap not many) in
+    let new : is_stored_row m.classes t.branches (fill_row m row) ≡ true = and_from _ _ (and_from _ _ (and_from _ _ fit (ap not short)) (ap not deep)) (ap not many) in
     let all = all_pushed (is_stored_row m.classes t.branches) (rows_of_tree t) (fill_row m row) old.rows new in (
       h.tree_names name t is,
       record {

@@ -1,29 +1,20 @@
 -- Values and rows in a command: what is read, and the first tokens that can't stand.
-use Rattle.std.proofs.Common.{◌≡◌, ℕ, suc, List, [], ◌∷◌, ◌++◌, true, not, refl, sym, ◌∙◌, ap, Bool}
+use Rattle.std.proofs.Common.{ℕ, suc, List, [], ◌∷◌, ◌++◌, Bool}
 use Rattle.rio_num.specs.At.{At}
 use Rattle.rio_value.specs.declared.value.Value.{Value, out-Value}
-use Rattle.rio_value.specs.declared.value.Value.TheOpen.{Value-F}
 use Rattle.rio_value.specs.declared.value.Value.TheOpen as layer
-use Rattle.rio_value.specs.declared.value.Part.{Part}
 use Rattle.rio_token.specs.declared.fault.TextFault.{TextFault}
 use Rattle.rio_token.specs.Reading.{Read}
 use Rattle.rio_model.specs.Lexemes.{Lexeme, SpellsFurther}
-use Rattle.rio_model.specs.ToldPlaces.{Begin, HaveSameNext}
+use Rattle.rio_model.specs.ToldPlaces.{Begin}
 use Rattle.rio_model.specs.ValueGrammar.{enclosed_at, value_in_text, values_at}
-use Rattle.rio_model.specs.ValueSpelling.{SpellsRow, SpellsValue, SpellsWithin, ends_here}
+use Rattle.rio_model.specs.ValueSpelling.{SpellsRow, SpellsValue, SpellsWithin}
 use Rattle.rio_model.proofs.SpellingUp.{layer_up, within_up}
-use Rattle.rio_model.proofs.ToldLaws.{marked_same, opens_same}
 use Rattle.rio_model.proofs.ValueAgain.{spelled_are_read}
 use Rattle.rio_model.proofs.ValueFound.{read_are_spelled}
-use Rattle.rio_model.proofs.ValueTold.{places_are_told}
+use Rattle.rio_model.proofs.ValueTold.{places_are_told, value_ends_same}
 use Rattle.rio_step.specs.CommandLaws.{IsFirstBadToken}
 use Rattle.rio_step.proofs.AlikeLaws.{BeginBehind, Tells, alike_end, alike_stand, bad_alike, bad_there}
-
-ends_same : (y : Value-F Value Part) (s t : At) → HaveSameNext s t → ends_here y s ≡ true → ends_here y t ≡ true
-ends_same (layer.Bool b) s t same h = ap not (sym (opens_same s t same)) ∙ h
-ends_same layer.Null s t same h = ap not (sym (opens_same s t same)) ∙ h
-ends_same (layer.Back label) s t same h = ap not (sym (marked_same 61 s t same)) ∙ h
-ends_same other s t same h = refl
 
 pub value_up : (levels : ℕ) (v : Value) (ls : List Lexeme) → SpellsValue levels v ls → SpellsValue (suc levels) v ls
 unfolding SpellsValue
@@ -53,7 +44,7 @@ module _ (strict : Bool) where
           passed = f.0;
           spelled = f.1;
           stands = f.2;
-          again = λ u k st. spelled_are_read.value levels v f.0 u k f.1 (alike_stand strict f.0 s u k st) (ends_same (out-Value v) m k (alike_end strict f.0 s m u k f.2 st).next f.3);
+          again = λ u k st. spelled_are_read.value levels v f.0 u k f.1 (alike_stand strict f.0 s u k st) (value_ends_same (out-Value v) m k (alike_end strict f.0 s m u k f.2 st).next f.3);
         };
     up = value_up levels;
     told = λ s e h. surely (value_in_text (enclosed_at levels)) (SpellsValue (suc levels)) n s e (bad_alike strict (value_in_text (enclosed_at levels)) (Begin (SpellsValue (suc levels))) s e (places_are_told.value levels s e h));

@@ -1,6 +1,6 @@
 -- The leaf that counts another one is found again by its label.
 use Rattle.std.proofs.Common.{◌≡◌, ◌∙◌, ◌&&◌, ◌||◌, ◌<◌, ◌⊎◌, inl, inr, ℕ, ◌+◌, pos, Bool, true, false, List, [], ◌∷◌, ◌++◌, length, Option, Some, None, refl, ap, sym, subst, arith, nat_lt}
-use Rattle.std.proofs.lemmas.Bool.{eq-eqb, eqb-true, ne_eqb}
+use Rattle.std.proofs.lemmas.Bool.{eq-eqb, eqb-true, ne_eqb, not-true, or_left, or_right}
 use Rattle.std.proofs.lemmas.Bool.Decides.{nat_tests}
 use Rattle.std.proofs.lemmas.List.Folds.{list_any-append}
 use Rattle.std.proofs.lemmas.Slice.Eq.{bytes_eq-Decides}
@@ -54,13 +54,9 @@ AllLead branches before done known met next = (name : List ℕ) → has_counting
 
 -- ---- the counter of a leaf
 
-right_of : (a b : Bool) → b ≡ true → (a || b) ≡ true
-right_of true b e = refl
-right_of false b e = e
-
 may_count : (branches : List Branch) (done : List Leaf) (name : List ℕ) (n : ℕ) → OwnPlace branches done name n ⊎ EarlierPlace branches name n → ((n == length branches) || says_values (slice_get branches n)) ≡ true
 may_count branches done name n (inl own) = rw (eq-eqb n (length branches) own.0) refl
-may_count branches done name n (inr earlier) = right_of (n == length branches) (says_values (slice_get branches n)) earlier.2
+may_count branches done name n (inr earlier) = or_right (n == length branches) (says_values (slice_get branches n)) earlier.2
 
 counter_again : (branches : List Branch) (done : List Leaf) (known : LeafLabels) (met : LeavesMet) (next : ℕ) (name : List ℕ) (leads : Leads branches done known met next name) → counter_of_label branches met leads.label ≡ Some leads.leaf
 unfolding counter_of_label
@@ -99,17 +95,13 @@ pub record IsStated (before : List Leaf) (leaf : Leaf) : Type 0 where
   pub letter : is_leaf_letter leaf.letter ≡ true
   pub text : (is_one leaf.dim || not (leaf.letter == letter_of_texts)) ≡ true
 
-not_true : (b : Bool) → not b ≡ true → b ≡ false
-not_true true e = absurd cc
-not_true false e = refl
-
 pub stated_leaf : (before : List Leaf) (leaf : Leaf) → is_stated_leaf before leaf ≡ true → IsStated before leaf
 stated_leaf before leaf e =
     let letter = both_true (is_name_text leaf.name && not (has_leaf before leaf.name) && is_dim (has_counting_leaf before) leaf.dim) (is_letter_of leaf.dim leaf.letter) e in
     let dim = both_true (is_name_text leaf.name && not (has_leaf before leaf.name)) (is_dim (has_counting_leaf before) leaf.dim) letter.0 in
     let fresh = both_true (is_name_text leaf.name) (not (has_leaf before leaf.name)) dim.0 in
     let text = both_true (is_leaf_letter leaf.letter) (is_one leaf.dim || not (leaf.letter == letter_of_texts)) letter.1 in
-    record { fresh = not_true (has_leaf before leaf.name) fresh.1; dim = dim.1; letter = text.0; text = text.1 }
+    record { fresh = not-true (has_leaf before leaf.name) fresh.1; dim = dim.1; letter = text.0; text = text.1 }
 
 -- ---- one leaf
 
@@ -130,7 +122,7 @@ leaf_reads_as branches before done known met next name letter One e text leads =
   counts = refl;
 }
 leaf_reads_as branches before done known met next name letter (Fixed n) e text leads =
-    let number : (letter == letter_of_texts) ≡ false = not_true (letter == letter_of_texts) text in
+    let number : (letter == letter_of_texts) ≡ false = not-true (letter == letter_of_texts) text in
     record {
       counter = None;
       found = rw number refl;
@@ -139,7 +131,7 @@ leaf_reads_as branches before done known met next name letter (Fixed n) e text l
       counts = rw (is_list n e) refl;
     }
 leaf_reads_as branches before done known met next name letter (Counted counter times) e text leads =
-    let number : (letter == letter_of_texts) ≡ false = not_true (letter == letter_of_texts) text in
+    let number : (letter == letter_of_texts) ≡ false = not-true (letter == letter_of_texts) text in
     let once = both_true (is_name_text counter && has_counting_leaf before counter) (times == 1) e in
     let counts = both_true (is_name_text counter) (has_counting_leaf before counter) once.0 in
     let to = leads counter counts.1 in
@@ -174,15 +166,11 @@ or_false_left true b e f = refl
 or_false_left false true e f = absurd cc
 or_false_left false false e f = absurd cc
 
-left_of : (a b : Bool) → a ≡ true → (a || b) ≡ true
-left_of true b e = refl
-left_of false b e = absurd cc
-
 done_more : (done : List Leaf) (leaf : Leaf) (name : List ℕ) → has_leaf done name ≡ true → has_leaf (done ++ leaf ∷ []) name ≡ true
-done_more done leaf name e = list_any-append (λ l. bytes_eq l.name name) done (leaf ∷ []) ∙ left_of (has_leaf done name) (has_leaf (leaf ∷ []) name) e
+done_more done leaf name e = list_any-append (λ l. bytes_eq l.name name) done (leaf ∷ []) ∙ or_left (has_leaf done name) (has_leaf (leaf ∷ []) name) e
 
 done_last : (done : List Leaf) (leaf : Leaf) (name : List ℕ) → bytes_eq leaf.name name ≡ true → has_leaf (done ++ leaf ∷ []) name ≡ true
-done_last done leaf name e = list_any-append (λ l. bytes_eq l.name name) done (leaf ∷ []) ∙ right_of (has_leaf done name) (has_leaf (leaf ∷ []) name) (left_of (bytes_eq leaf.name name) false e)
+done_last done leaf name e = list_any-append (λ l. bytes_eq l.name name) done (leaf ∷ []) ∙ or_right (has_leaf done name) (has_leaf (leaf ∷ []) name) (or_left (bytes_eq leaf.name name) false e)
 
 place_more : (branches : List Branch) (done : List Leaf) (leaf : Leaf) (name : List ℕ) (n : ℕ) → OwnPlace branches done name n ⊎ EarlierPlace branches name n → OwnPlace branches (done ++ leaf ∷ []) name n ⊎ EarlierPlace branches name n
 place_more branches done leaf name n (inl own) = inl (own.0, own.1, done_more done leaf name own.2)

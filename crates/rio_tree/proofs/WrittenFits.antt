@@ -1,6 +1,6 @@
 -- The header that is written for a tree fits the classes of trees.
 use Rattle.std.proofs.Common.{◌≡◌, ◌∙◌, ◌&&◌, ◌^◌, ◌<◌, ℕ, ◌+◌, ℤ, pos, Bool, true, false, cond, List, [], ◌∷◌, ◌++◌, length, map, codes, Option, Some, None, refl, ap, sym, subst, append-nil, append_assoc, arith, is_some, nat_lt}
-use Rattle.std.proofs.lemmas.Bool.{leb-true, lt-ltb, ltb-true}
+use Rattle.std.proofs.lemmas.Bool.{and_from, leb-true, lt-ltb, ltb-true}
 use Rattle.std.proofs.lemmas.List.{length-append, length-map}
 use Rattle.std.specs.List.{list_all}
 use Rattle.std.specs.Prelude.{option_and_then, not, ◌==◌, nat_le}
@@ -38,9 +38,6 @@ pub record BasketsFit (baskets : List BasketAt) : Type 0 where
   pub first : list_all (λ b. fits_prim I64 (pos b.first)) baskets ≡ true
   pub seek : list_all (λ b. fits_prim I64 (pos b.seek)) baskets ≡ true
 
-both : (a b : Bool) → a ≡ true → b ≡ true → (a && b) ≡ true
-both a b e f = rw (e, f) refl
-
 baskets_fit : (baskets : List BasketAt) → list_all basket_fits_header baskets ≡ true → BasketsFit baskets
 baskets_fit [] e = record { bytes = refl; first = refl; seek = refl }
 baskets_fit (b ∷ bs) e =
@@ -49,9 +46,9 @@ baskets_fit (b ∷ bs) e =
     let others = both_true (nat_lt b.bytes (2 ^ 31)) (nat_lt b.first (2 ^ 63)) own.0 in
     let rest = baskets_fit bs h.1 in
     record {
-      bytes = both _ _ others.0 rest.bytes;
-      first = both _ _ others.1 rest.first;
-      seek = both _ _ own.1 rest.seek;
+      bytes = and_from _ _ others.0 rest.bytes;
+      first = and_from _ _ others.1 rest.first;
+      seek = and_from _ _ own.1 rest.seek;
     }
 
 -- ---- one branch
@@ -237,7 +234,7 @@ stated_leaves_fit before (leaf ∷ leaves) e =
     let h = both_true (is_stated_leaf before leaf) (are_stated_leaves (before ++ leaf ∷ []) leaves) e in
     let letter = both_true (is_name_text leaf.name && not (has_leaf before leaf.name) && is_dim (has_counting_leaf before) leaf.dim) (is_letter_of leaf.dim leaf.letter) h.0 in
     let dim = both_true (is_name_text leaf.name && not (has_leaf before leaf.name)) (is_dim (has_counting_leaf before) leaf.dim) letter.0 in
-    both (count_fits leaf) (list_all count_fits leaves) (dim_count_fits (has_counting_leaf before) leaf.dim dim.1) (stated_leaves_fit (before ++ leaf ∷ []) leaves h.1)
+    and_from (count_fits leaf) (list_all count_fits leaves) (dim_count_fits (has_counting_leaf before) leaf.dim dim.1) (stated_leaves_fit (before ++ leaf ∷ []) leaves h.1)
 
 stated_shape_fits : (before : List Leaf) (shape : Shape) → is_stated_shape before shape ≡ true → list_all count_fits (leaves_of shape) ≡ true
 stated_shape_fits before (Leaves leaves) e = stated_leaves_fit before leaves (both_true (not (length leaves == 0)) (are_stated_leaves before leaves) e).1

@@ -1,5 +1,5 @@
 -- The header that is written for a tree is read as it.
-use Rattle.std.proofs.Common.{◌≡◌, ◌∙◌, ◌&&◌, ◌||◌, ◌^◌, ◌⊎◌, inl, inr, ℕ, ◌+◌, pos, Bool, true, false, cond, List, [], ◌∷◌, ◌++◌, length, map, codes, Option, Some, None, refl, ap, sym, subst, append-nil, append_assoc, arith, nat_lt}
+use Rattle.std.proofs.Common.{◌≡◌, ◌∙◌, ◌&&◌, ◌^◌, ◌⊎◌, inl, inr, ℕ, ◌+◌, pos, Bool, true, false, cond, List, [], ◌∷◌, ◌++◌, length, map, codes, Option, Some, None, refl, ap, sym, subst, append-nil, append_assoc, arith, nat_lt}
 use Rattle.std.proofs.lemmas.List.{length-append, length-map, map-append}
 use Rattle.std.proofs.lemmas.List.Folds.{list_any-append}
 use Rattle.std.proofs.lemmas.Bool.Decides.{Decides-int_eq}
@@ -8,6 +8,7 @@ use Rattle.std.specs.List.{list_all, list_any, position_from}
 use Rattle.std.specs.Ordering.{int_eq}
 use Rattle.std.specs.Prelude.{◌==◌, not, slice_get, Result, Ok}
 use Rattle.std.specs.Str.{bytes_eq}
+use Rattle.std.proofs.lemmas.Bool.{or_parts}
 use Rattle.rio_num.specs.Reading.{◌>>=◌}
 use Rattle.rio_num.specs.Word.{is_name_text}
 use Rattle.rio_leaf.specs.Leaves.{can_count, has_counting_leaf, has_leaf}
@@ -91,14 +92,6 @@ listed_again entries known label b numbers same ordered =
     let all = baskets_again known label b [] b.baskets 0 refl refl (record { bytes = numbers.bytes; firsts = numbers.firsts; seeks = numbers.seeks }) in
     rw (level, all, ordered) refl
 
-left_false : (a b : Bool) → (a || b) ≡ false → a ≡ false
-left_false true b e = absurd cc
-left_false false b e = refl
-
-right_false : (a b : Bool) → (a || b) ≡ false → b ≡ false
-right_false true b e = absurd cc
-right_false false b e = e
-
 -- ---- leaves of a branch
 
 -- it has a letter of leaves, and how many values it has is within its member
@@ -137,7 +130,7 @@ abbrev NamesOf : List Branch → List Leaf → Type 0
 NamesOf branches before = (name : List ℕ) → has_leaf before name ≡ false → branch_of_leaf (stated_defs branches) name ≡ None
 
 names_more : (branches : List Branch) (before : List Leaf) (leaf : Leaf) → NamesOf branches before → NamesOf branches (before ++ leaf ∷ [])
-names_more branches before leaf names name e = names name (left_false (has_leaf before name) (has_leaf (leaf ∷ []) name) (sym (list_any-append (λ l. bytes_eq l.name name) before (leaf ∷ [])) ∙ e))
+names_more branches before leaf names name e = names name ((or_parts (has_leaf before name) (has_leaf (leaf ∷ []) name) (sym (list_any-append (λ l. bytes_eq l.name name) before (leaf ∷ [])) ∙ e)).0)
 
 leaves_read : (labels : ObjectLabels) (branches : List Branch) (before done : List Leaf) (known : LeafLabels) (met : LeavesMet) (next : ℕ) (leaves : List Leaf)
     → are_stated_leaves before leaves ≡ true → NamesOf branches before → AllLead branches before done known met next → LeavesRead labels branches before done known met next leaves
@@ -235,7 +228,7 @@ none_from : (i : ℕ) (defs : List BranchDef) (name : List ℕ) → has_leaf (al
 none_from i [] name e = refl
 none_from i (b ∷ bs) name e =
     let split = sym (list_any-append (λ l. bytes_eq l.name name) (leaves_of b.shape) (all_leaves bs)) ∙ e in
-    rw (left_false (has_leaf (leaves_of b.shape) name) (has_leaf (all_leaves bs) name) split) (none_from (i + 1) bs name (right_false (has_leaf (leaves_of b.shape) name) (has_leaf (all_leaves bs) name) split))
+    rw ((or_parts (has_leaf (leaves_of b.shape) name) (has_leaf (all_leaves bs) name) split).0) (none_from (i + 1) bs name ((or_parts (has_leaf (leaves_of b.shape) name) (has_leaf (all_leaves bs) name) split).1))
 
 from_zero : (defs : List BranchDef) (name : List ℕ) → branch_of_leaf defs name ≡ position_from (λ b. has_leaf (leaves_of b.shape) name) 0 defs
 from_zero defs name = position_from-zero (λ b. has_leaf (leaves_of b.shape) name) defs

@@ -5,11 +5,13 @@ use Rattle.std.specs.Option.{option_and_then, option_map_or}
 use Rattle.std.specs.Str.{bytes_eq}
 use Rattle.std.proofs.lemmas.List.{length-append, length-take-le}
 use Rattle.std.proofs.lemmas.Option.{slice_get_within, slice_get_past}
+use Rattle.std.proofs.lemmas.Slice.Eq.{bytes_eq-Decides}
+use Rattle.std.proofs.lemmas.Bool.{cases_Bool}
 use Rattle.rio_types.specs.Chain.{BeforeLead, LastLead, last_before}
 use Rattle.rio_types.specs.Classes.{newer_of, newest_in}
 use Rattle.rio_types.specs.Places.{is_named, place}
 use Rattle.rio_types.specs.declared.class.ClassDef.{ClassDef}
-use Rattle.rio_types.proofs.LeadLaws.{slice_get-front, slice_get-last, bytes_same, bytes_self, one_name, true_or_false, place-push_failing, place-push_first, place-push_found}
+use Rattle.rio_types.proofs.LeadLaws.{slice_get-front, slice_get-last, one_name, place-push_failing, place-push_first, place-push_found}
 use Rattle.rio_types.proofs.NewestLaws.{place_below, slice_get-set_other, slice_get-set_same, slice_get-take}
 use Rattle.rio_types.proofs.PlaceLaws.{no_place_fails}
 
@@ -159,7 +161,7 @@ module _ (cs : List ClassDef) (name : List ℕ) where
   next_is before k x best next lead walked here is =
       is
       ∙ ap (option_and_then (λ place. place)) (lead k x here)
-      ∙ ap (λ (n : List ℕ). last_before (is_named n) cs k) (bytes_same x.name name (walk_named k x best walked here))
+      ∙ ap (λ (n : List ℕ). last_before (is_named n) cs k) ((bytes_eq-Decides x.name name).0 (walk_named k x best walked here))
 
   pub walk_steps : (before : List (Option ℕ)) (k new : ℕ) (x : ClassDef) (best next : Option ℕ) → BeforeLead cs before → IsWalked cs name (Some k) best → slice_get cs k ≡ Some x → next ≡ option_and_then (λ place. place) (slice_get before k) → slice_get cs new ≡ Some (newer_of x (option_and_then (slice_get cs) best)) → IsWalked cs name next (Some new)
   walk_steps before k new x best next lead walked here is newer =
@@ -189,7 +191,7 @@ module _ (cs : List ClassDef) (c : ClassDef) (f : ℕ) (last before : List (Opti
     where
       by_place : (o : Option ℕ) → place (is_named c.name) cs ≡ o → option_and_then (λ place. place) (slice_get last f) ≡ last_before (is_named c.name) cs (length cs)
       by_place None none =
-          let goes : Some (length cs) ≡ Some f = sym (place-push_first (is_named c.name) cs c none (bytes_self c.name)) ∙ named in
+          let goes : Some (length cs) ≡ Some f = sym (place-push_first (is_named c.name) cs c none ((bytes_eq-Decides c.name c.name).1 refl)) ∙ named in
           let is_f : length cs ≡ f = cc in
           ap (option_and_then (λ place. place)) (slice_get_past last f (omega (arith, is_f, one_last)))
           ∙ sym (last_none (is_named c.name) cs (length cs) (λ k x here. no_place_fails (is_named c.name) cs k x none here))
@@ -206,7 +208,7 @@ module _ (cs : List ClassDef) (c : ClassDef) (f : ℕ) (last before : List (Opti
       let new : Option ℕ = Some (length cs) in
       ⊎_elim
       (λ t.
-      let same : c.name ≡ name = bytes_same c.name name t in
+      let same : c.name ≡ name = (bytes_eq-Decides c.name name).0 t in
       let goes : Some first ≡ Some f = sym met ∙ ap (λ (m : List ℕ). place (is_named m) (cs ++ c ∷ [])) (sym same) ∙ named in
       let is_f : first ≡ f = cc in
       ap (slice_get (set pushed f new)) is_f
@@ -216,12 +218,12 @@ module _ (cs : List ClassDef) (c : ClassDef) (f : ℕ) (last before : List (Opti
       let met_cs : place (is_named name) cs ≡ Some first = sym (place-push_failing (is_named name) cs c e) ∙ met in
       let ne : first ≢ f = λ eq.
       let same : name ≡ c.name = one_name (cs ++ c ∷ []) name c.name f (met ∙ ap Some eq) named in
-      let clash : true ≡ false = sym (bytes_self c.name) ∙ ap (bytes_eq c.name) (sym same) ∙ e in
+      let clash : true ≡ false = sym ((bytes_eq-Decides c.name c.name).1 refl) ∙ ap (bytes_eq c.name) (sym same) ∙ e in
       cc clash in
       slice_get-set_other pushed f first new ne
       ∙ slice_get-front last None first (last_before (is_named name) cs (length cs)) (last_leads name first met_cs)
       ∙ ap Some (sym (last-push (is_named name) cs c ∙ ap (λ (b : Bool). if b then Some (length cs) else last_before (is_named name) cs (length cs)) e)))
-      (true_or_false (bytes_eq c.name name))
+      (cases_Bool (bytes_eq c.name name))
 
   pub put_befores : BeforeLead (cs ++ c ∷ []) (before ++ last_before (is_named c.name) cs (length cs) ∷ [])
   put_befores = λ k x here.
@@ -266,10 +268,10 @@ module _ (cs : List ClassDef) (c : ClassDef) (last before : List (Option ℕ)) (
   pub back_last_alone : place (is_named c.name) cs ≡ None → LastLead cs (take (length cs) last)
   back_last_alone none = λ name first met.
       ⊎_elim
-      (λ t. let same : c.name ≡ name = bytes_same c.name name t in
+      (λ t. let same : c.name ≡ name = (bytes_eq-Decides c.name name).0 t in
       let clash : Some first ≡ None = sym met ∙ ap (λ (m : List ℕ). place (is_named m) cs) (sym same) ∙ none in absurd (cc clash))
       (λ e. back_other name first e met)
-      (true_or_false (bytes_eq c.name name))
+      (cases_Bool (bytes_eq c.name name))
 
   pub back_within : (f : ℕ) → place (is_named c.name) cs ≡ Some f → f < length (take (length cs) last)
   back_within f named = omega (arith, back_length, place_below (is_named c.name) cs f named)
@@ -279,7 +281,7 @@ module _ (cs : List ClassDef) (c : ClassDef) (last before : List (Option ℕ)) (
       let rest = take (length cs) last in
       let kept = last_before (is_named c.name) cs (length cs) in
       ⊎_elim
-      (λ t. let same : c.name ≡ name = bytes_same c.name name t in
+      (λ t. let same : c.name ≡ name = (bytes_eq-Decides c.name name).0 t in
       let goes : Some first ≡ Some f = sym met ∙ ap (λ (m : List ℕ). place (is_named m) cs) (sym same) ∙ named in
       let is_f : first ≡ f = cc in
       ap (slice_get (set rest f kept)) is_f
@@ -288,7 +290,7 @@ module _ (cs : List ClassDef) (c : ClassDef) (last before : List (Option ℕ)) (
       (λ e.
       let ne : first ≢ f = λ eq.
       let same : name ≡ c.name = one_name cs name c.name f (met ∙ ap Some eq) named in
-      let clash : true ≡ false = sym (bytes_self c.name) ∙ ap (bytes_eq c.name) (sym same) ∙ e in
+      let clash : true ≡ false = sym ((bytes_eq-Decides c.name c.name).1 refl) ∙ ap (bytes_eq c.name) (sym same) ∙ e in
       cc clash in
       slice_get-set_other rest f first kept ne ∙ back_other name first e met)
-      (true_or_false (bytes_eq c.name name))
+      (cases_Bool (bytes_eq c.name name))

@@ -7,11 +7,13 @@ use Rattle.std.specs.Option.{option_and_then}
 use Rattle.std.specs.Str.{bytes_eq}
 use Rattle.std.proofs.lemmas.List.{length-append, length-take-le}
 use Rattle.std.proofs.lemmas.Option.{slice_get-get_or}
+use Rattle.std.proofs.lemmas.Slice.Eq.{bytes_eq-Decides}
+use Rattle.std.proofs.lemmas.Bool.{cases_Bool}
 use Rattle.rio_types.specs.Classes.{newest_in, newer_of}
 use Rattle.rio_types.specs.Index.{has_number, NamesLead, NumbersLead, NewestLead}
 use Rattle.rio_types.specs.Places.{place, is_named}
 use Rattle.rio_types.specs.declared.class.ClassDef.{ClassDef}
-use Rattle.rio_types.proofs.LeadLaws.{slice_get-front, slice_get-either, bytes_same, bytes_self, int_self, one_name, true_or_false, place-push_found}
+use Rattle.rio_types.proofs.LeadLaws.{slice_get-front, slice_get-either, int_self, one_name, place-push_found}
 use Rattle.rio_types.proofs.NewestLaws.{newest_with, newest-push, no_newest_fails, place_below, slice_get-set_other, slice_get-set_same, slice_get-take}
 use Rattle.rio_types.proofs.PlaceLaws.{place_passes, no_place_fails}
 
@@ -28,11 +30,11 @@ place_kept test cs c k x at t = kept_by test cs c k x (place test cs) at t refl
 
 pub names_back : (cs : List ClassDef) (c : ClassDef) (at : List ℕ → Option ℕ) → NamesLead (cs ++ c ∷ []) at → NamesLead cs at
 names_back cs c at lead = λ k x e.
-    lead k x (slice_get-front cs c k x e) ∙ place_kept (is_named x.name) cs c k x e (bytes_self x.name)
+    lead k x (slice_get-front cs c k x e) ∙ place_kept (is_named x.name) cs c k x e ((bytes_eq-Decides x.name x.name).1 refl)
 
 pub numbers_back : (number : ClassDef → ℤ) (cs : List ClassDef) (c : ClassDef) (at : ℕ → ℤ → Option ℕ) → NumbersLead number (cs ++ c ∷ []) at → NumbersLead number cs at
 numbers_back number cs c at lead = λ k x first e met.
-    let self : has_number number x.name (number x) x ≡ true = ap (λ (b : Bool). b && int_eq (number x) (number x)) (bytes_self x.name) ∙ int_self (number x) in
+    let self : has_number number x.name (number x) x ≡ true = ap (λ (b : Bool). b && int_eq (number x) (number x)) ((bytes_eq-Decides x.name x.name).1 refl) ∙ int_self (number x) in
     lead k x first (slice_get-front cs c k x e) (place-push_found (is_named x.name) cs c first met)
     ∙ place_kept (has_number number x.name (number x)) cs c k x e self
 
@@ -92,17 +94,17 @@ module _ (cs : List ClassDef) (c : ClassDef) (newest : List ℕ) (lead : NewestL
   pub back_alone : place (is_named c.name) cs ≡ None → NewestLead cs (take (length cs) newest)
   back_alone none = λ name first met.
       ⊎_elim
-      (λ t. let same : c.name ≡ name = bytes_same c.name name t in
+      (λ t. let same : c.name ≡ name = (bytes_eq-Decides c.name name).0 t in
       let clash : Some first ≡ None = sym met ∙ ap (λ (m : List ℕ). place (is_named m) cs) (sym same) ∙ none in absurd (cc clash))
       (λ e. other name first e met)
-      (true_or_false (bytes_eq c.name name))
+      (cases_Bool (bytes_eq c.name name))
 
   -- another class of its name is the newest again
   pub back_beside : (f best : ℕ) → place (is_named c.name) cs ≡ Some f → slice_get cs best ≡ newest_in cs c.name → NewestLead cs (set (take (length cs) newest) f best)
   back_beside f best named is = λ name first met.
       let rest = take (length cs) newest in
       ⊎_elim
-      (λ t. let same : c.name ≡ name = bytes_same c.name name t in
+      (λ t. let same : c.name ≡ name = (bytes_eq-Decides c.name name).0 t in
       let goes : Some first ≡ Some f = sym met ∙ ap (λ (m : List ℕ). place (is_named m) cs) (sym same) ∙ named in
       let is_f : first ≡ f = cc in
       let lt : f < length rest = omega (arith, rest_length, place_below (is_named c.name) cs f named) in
@@ -113,7 +115,7 @@ module _ (cs : List ClassDef) (c : ClassDef) (newest : List ℕ) (lead : NewestL
       (λ e.
       let ne : first ≢ f = λ eq.
       let same : name ≡ c.name = one_name cs name c.name f (met ∙ ap Some eq) named in
-      let clash : true ≡ false = sym (bytes_self c.name) ∙ ap (bytes_eq c.name) (sym same) ∙ e in
+      let clash : true ≡ false = sym ((bytes_eq-Decides c.name c.name).1 refl) ∙ ap (bytes_eq c.name) (sym same) ∙ e in
       cc clash in
       ap (option_and_then (slice_get cs)) (slice_get-set_other rest f first best ne) ∙ other name first e met)
-      (true_or_false (bytes_eq c.name name))
+      (cases_Bool (bytes_eq c.name name))

@@ -6,6 +6,7 @@ use Rattle.std.specs.Ordering.{int_eq}
 use Rattle.std.specs.Str.{bytes_eq}
 use Rattle.std.proofs.lemmas.Bool.Decides.{Decides-eqb, Decides-int_eq, same_from_decides}
 use Rattle.std.proofs.lemmas.Slice.Eq.{bytes_eq-Decides}
+use Rattle.std.proofs.lemmas.Bool.{and_parts, cases_Bool}
 use Rattle.rio_types.specs.Index.{passing, has_number, NamesLead, NumbersLead}
 use Rattle.rio_types.specs.Places.{place, is_named}
 use Rattle.rio_types.specs.declared.class.ClassDef.{ClassDef}
@@ -32,12 +33,6 @@ slice_get-either (d ∷ cs) c (suc k) x e = slice_get-either cs c k x e
 
 -- ---- tests
 
-pub bytes_same : (a b : List ℕ) → bytes_eq a b ≡ true → a ≡ b
-bytes_same a b e = (bytes_eq-Decides a b).0 e
-
-pub bytes_self : (a : List ℕ) → bytes_eq a a ≡ true
-bytes_self a = (bytes_eq-Decides a a).1 refl
-
 pub int_self : (z : ℤ) → int_eq z z ≡ true
 int_self z = (Decides-int_eq z z).1 refl
 
@@ -45,14 +40,6 @@ pub int_eq-sym : (a b : ℤ) → int_eq a b ≡ int_eq b a
 int_eq-sym a b =
     let other = Decides-int_eq b a in
     same_from_decides (int_eq a b) (int_eq b a) (Decides-int_eq a b) (λ e. sym (other.0 e), λ e. other.1 (sym e))
-
-pub both : (a b : Bool) → (a && b) ≡ true → (a ≡ true) × (b ≡ true)
-both true b e = (refl, e)
-both false b e = absurd (cc)
-
-pub true_or_false : (b : Bool) → (b ≡ true) ⊎ (b ≡ false)
-true_or_false true = inl refl
-true_or_false false = inr refl
 
 -- ---- places
 
@@ -100,14 +87,14 @@ one_name cs a b k e f =
     let x = place_passes (is_named a) cs k e in
     let y = place_passes (is_named b) cs k f in
     let same : x.0 ≡ y.0 = cc (x.1, y.1) in
-    sym (bytes_same x.0.name a x.2) ∙ ap (λ (c : ClassDef). c.name) same ∙ bytes_same y.0.name b y.2
+    sym ((bytes_eq-Decides x.0.name a).0 x.2) ∙ ap (λ (c : ClassDef). c.name) same ∙ (bytes_eq-Decides y.0.name b).0 y.2
 
 -- ---- names
 
 pub name_is_found : (cs : List ClassDef) (at : List ℕ → Option ℕ) (name : List ℕ) → NamesLead cs at → passing (is_named name) cs (at name) ≡ place (is_named name) cs
 name_is_found cs at name lead = passing_is_place (is_named name) cs (at name) (λ k e.
     let x = place_passes (is_named name) cs k e in
-    let same : x.0.name ≡ name = bytes_same x.0.name name x.2 in
+    let same : x.0.name ≡ name = (bytes_eq-Decides x.0.name name).0 x.2 in
     ap at (sym same) ∙ lead k x.0 x.1 ∙ ap (λ (n : List ℕ). place (is_named n) cs) same ∙ e)
 
 -- a map that changes at a name of no class leads to the classes as before
@@ -119,13 +106,13 @@ names-stay cs at at' name lead none others = λ k x e.
 pub names-push : (cs : List ClassDef) (c : ClassDef) (at at' : List ℕ → Option ℕ) → NamesLead cs at → ((q : List ℕ) → bytes_eq q c.name ≡ false → at' q ≡ at q) → at' c.name ≡ place (is_named c.name) (cs ++ c ∷ []) → NamesLead (cs ++ c ∷ []) at'
 names-push cs c at at' lead others here = λ k x e.
     ⊎_elim
-    (λ t. let same : x.name ≡ c.name = bytes_same x.name c.name t in
+    (λ t. let same : x.name ≡ c.name = (bytes_eq-Decides x.name c.name).0 t in
     ap at' same ∙ here ∙ ap (λ (n : List ℕ). place (is_named n) (cs ++ c ∷ [])) (sym same))
     (λ f. ⊎_elim
     (λ before. others x.name f ∙ lead k x before ∙ sym (place-push_failing (is_named x.name) cs c (bytes_eq-sym c.name x.name ∙ f)))
-    (λ last. let clash : true ≡ false = sym (bytes_self c.name) ∙ ap (λ (d : ClassDef). bytes_eq d.name c.name) (sym last) ∙ f in absurd (cc clash))
+    (λ last. let clash : true ≡ false = sym ((bytes_eq-Decides c.name c.name).1 refl) ∙ ap (λ (d : ClassDef). bytes_eq d.name c.name) (sym last) ∙ f in absurd (cc clash))
     (slice_get-either cs c k x e))
-    (true_or_false (bytes_eq x.name c.name))
+    (cases_Bool (bytes_eq x.name c.name))
 
 -- ---- names and numbers
 
@@ -152,14 +139,14 @@ module _ (number : ClassDef → ℤ) where
       none_by None e = refl
       none_by (Some k) e =
           let x = place_passes (has_number number name n) cs k e in
-          let named = (both (bytes_eq x.0.name name) (int_eq (number x.0) n) x.2).0 in
+          let named = (and_parts (bytes_eq x.0.name name) (int_eq (number x.0) n) x.2).0 in
           absurd (cc (named, no_place_fails (is_named name) cs k x.0 none x.1))
 
   pub number_is_found : (cs : List ClassDef) (at : ℕ → ℤ → Option ℕ) (name : List ℕ) (n : ℤ) (first : ℕ) → NumbersLead number cs at → place (is_named name) cs ≡ Some first → passing (has_number number name n) cs (at first n) ≡ place (has_number number name n) cs
   number_is_found cs at name n first lead named = passing_is_place (has_number number name n) cs (at first n) (λ k e.
       let x = place_passes (has_number number name n) cs k e in
-      let two = both (bytes_eq x.0.name name) (int_eq (number x.0) n) x.2 in
-      let same : x.0.name ≡ name = bytes_same x.0.name name two.0 in
+      let two = and_parts (bytes_eq x.0.name name) (int_eq (number x.0) n) x.2 in
+      let same : x.0.name ≡ name = (bytes_eq-Decides x.0.name name).0 two.0 in
       let equal : number x.0 ≡ n = (Decides-int_eq (number x.0) n).0 two.1 in
       ap (at first) (sym equal)
       ∙ lead k x.0 first x.1 (ap (λ (m : List ℕ). place (is_named m) cs) same ∙ named)
@@ -171,7 +158,7 @@ module _ (number : ClassDef → ℤ) where
   key_apart : (cs : List ClassDef) (c x : ClassDef) (first f : ℕ) (test : Bool) → place (is_named c.name) (cs ++ c ∷ []) ≡ Some f → place (is_named x.name) (cs ++ c ∷ []) ≡ Some first → (eqb first f && int_eq (number x) (number c)) ≡ test → (bytes_eq x.name c.name && int_eq (number x) (number c)) ≡ false → test ≡ false
   key_apart cs c x first f false named met is apart = refl
   key_apart cs c x first f true named met is apart =
-      let two = both (eqb first f) (int_eq (number x) (number c)) is in
+      let two = and_parts (eqb first f) (int_eq (number x) (number c)) is in
       let same : x.name ≡ c.name = one_name (cs ++ c ∷ []) x.name c.name f (met ∙ ap Some ((Decides-eqb first f).0 two.0)) named in
       let alike : bytes_eq x.name c.name ≡ true = (bytes_eq-Decides x.name c.name).1 same in
       let clash : true ≡ false = sym two.1 ∙ ap (λ (b : Bool). b && int_eq (number x) (number c)) (sym alike) ∙ apart in
@@ -186,15 +173,15 @@ module _ (number : ClassDef → ℤ) where
 
   found_before : (cs : List ClassDef) (c x : ClassDef) (k first : ℕ) (o : Option ℕ) → slice_get cs k ≡ Some x → place (is_named x.name) cs ≡ o → place (is_named x.name) (cs ++ c ∷ []) ≡ Some first → o ≡ Some first
   found_before cs c x k first None at none met =
-      absurd (cc (bytes_self x.name, no_place_fails (is_named x.name) cs k x none at))
+      absurd (cc ((bytes_eq-Decides x.name x.name).1 refl, no_place_fails (is_named x.name) cs k x none at))
   found_before cs c x k first (Some j) at some met = sym (place-push_found (is_named x.name) cs c j some) ∙ met
 
   pub numbers-push : (cs : List ClassDef) (c : ClassDef) (f : ℕ) (at at' : ℕ → ℤ → Option ℕ) → NumbersLead number cs at → place (is_named c.name) (cs ++ c ∷ []) ≡ Some f → ((a : ℕ) (z : ℤ) → (eqb a f && int_eq z (number c)) ≡ false → at' a z ≡ at a z) → at' f (number c) ≡ place (has_number number c.name (number c)) (cs ++ c ∷ []) → NumbersLead number (cs ++ c ∷ []) at'
   numbers-push cs c f at at' lead named others here = λ k x first e met.
       let P : List ℕ → ℤ → Option ℕ = λ m z. place (has_number number m z) (cs ++ c ∷ []) in
       ⊎_elim
-      (λ t. let two = both (bytes_eq x.name c.name) (int_eq (number x) (number c)) t in
-      let same : x.name ≡ c.name = bytes_same x.name c.name two.0 in
+      (λ t. let two = and_parts (bytes_eq x.name c.name) (int_eq (number x) (number c)) t in
+      let same : x.name ≡ c.name = (bytes_eq-Decides x.name c.name).0 two.0 in
       let equal : number x ≡ number c = (Decides-int_eq (number x) (number c)).0 two.1 in
       let first_is : Some first ≡ Some f = sym met ∙ ap (λ (m : List ℕ). place (is_named m) (cs ++ c ∷ [])) same ∙ named in
       let goes : first ≡ f = cc in
@@ -208,9 +195,9 @@ module _ (number : ClassDef → ℤ) where
       (λ last.
       let clash : true ≡ false =
       sym (int_self (number c))
-      ∙ ap (λ (b : Bool). b && int_eq (number c) (number c)) (sym (bytes_self c.name))
+      ∙ ap (λ (b : Bool). b && int_eq (number c) (number c)) (sym ((bytes_eq-Decides c.name c.name).1 refl))
       ∙ ap (λ (d : ClassDef). bytes_eq d.name c.name && int_eq (number d) (number c)) (sym last)
       ∙ apart in
       absurd (cc clash))
       (slice_get-either cs c k x e))
-      (true_or_false (bytes_eq x.name c.name && int_eq (number x) (number c)))
+      (cases_Bool (bytes_eq x.name c.name && int_eq (number x) (number c)))

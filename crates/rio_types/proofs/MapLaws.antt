@@ -10,7 +10,8 @@ use Rattle.std.specs.Str.{bytes_eq}
 use Rattle.std.specs.Prelude.{◌==◌}
 use Rattle.std.proofs.lemmas.Bool.Decides.{nat_tests}
 use Rattle.std.proofs.lemmas.Map.Text.{is_eq-slice_cmp}
-use Rattle.rio_types.proofs.LeadLaws.{bytes_same, bytes_self, int_eq-sym}
+use Rattle.std.proofs.lemmas.Slice.Eq.{bytes_eq-Decides}
+use Rattle.rio_types.proofs.LeadLaws.{int_eq-sym}
 
 same_met : {X : Type 0} (p t : Bool) (v old rest : Option X) → p ≡ t → cond p v rest ≡ cond t v (cond p old rest)
 same_met true true v old rest e = refl
@@ -33,14 +34,14 @@ module _ {K : Type 0} (bytes : K → List ℕ) where
   insert_by : {X : Type 0} (o : Ordering) (k : K) (v : X) (q : List ℕ) (e : K × X) (es : List (K × X)) → by_bytes k e.0 ≡ o → lookup (has_bytes q) (insert_entry by_bytes es k v) ≡ cond (has_bytes q k) (Some v) (lookup (has_bytes q) es) → lookup (has_bytes q) (match_ordering o ((k, v) ∷ e ∷ es) ((e.0, v) ∷ es) (e ∷ insert_entry by_bytes es k v)) ≡ cond (has_bytes q k) (Some v) (lookup (has_bytes q) (e ∷ es))
   insert_by {X} Less k v q e es is ih = refl
   insert_by {X} Equal k v q e es is ih =
-      let same : bytes k ≡ bytes e.0 = bytes_same (bytes k) (bytes e.0) (sym (is_eq-slice_cmp (bytes k) (bytes e.0)) ∙ ap is_eq is) in
+      let same : bytes k ≡ bytes e.0 = (bytes_eq-Decides (bytes k) (bytes e.0)).0 (sym (is_eq-slice_cmp (bytes k) (bytes e.0)) ∙ ap is_eq is) in
       same_met (has_bytes q e.0) (has_bytes q k) (Some v) (Some e.1) (lookup (has_bytes q) es) (ap (λ (b : List ℕ). is_eq (slice_cmp nat_cmp q b)) (sym same))
   insert_by {X} Greater k v q e es is ih =
       ap (λ (o : Option X). cond (has_bytes q e.0) (Some e.1) o) ih
       ∙ apart_met (has_bytes q e.0) (has_bytes q k) (Some v) (Some e.1) (lookup (has_bytes q) es) (λ m n.
-      let one : q ≡ bytes e.0 = bytes_same q (bytes e.0) (sym (is_eq-slice_cmp q (bytes e.0)) ∙ m) in
-      let two : q ≡ bytes k = bytes_same q (bytes k) (sym (is_eq-slice_cmp q (bytes k)) ∙ n) in
-      let level : is_eq (by_bytes k e.0) ≡ true = is_eq-slice_cmp (bytes k) (bytes e.0) ∙ ap (λ (b : List ℕ). bytes_eq b (bytes e.0)) (sym two ∙ one) ∙ bytes_self (bytes e.0) in
+      let one : q ≡ bytes e.0 = (bytes_eq-Decides q (bytes e.0)).0 (sym (is_eq-slice_cmp q (bytes e.0)) ∙ m) in
+      let two : q ≡ bytes k = (bytes_eq-Decides q (bytes k)).0 (sym (is_eq-slice_cmp q (bytes k)) ∙ n) in
+      let level : is_eq (by_bytes k e.0) ≡ true = is_eq-slice_cmp (bytes k) (bytes e.0) ∙ ap (λ (b : List ℕ). bytes_eq b (bytes e.0)) (sym two ∙ one) ∙ (bytes_eq-Decides (bytes e.0) (bytes e.0)).1 refl in
       let clash : false ≡ true = sym (ap is_eq is) ∙ level in
       cc clash)
 

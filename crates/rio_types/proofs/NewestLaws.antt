@@ -7,11 +7,13 @@ use Rattle.std.specs.Str.{bytes_eq}
 use Rattle.std.proofs.lemmas.List.{length-append}
 use Rattle.std.proofs.lemmas.Option.{slice_get-get_or, slice_get_within, get_or_from_slice_get, slice_get_past}
 use Rattle.std.proofs.lemmas.Grind.{common_steps}
+use Rattle.std.proofs.lemmas.Slice.Eq.{bytes_eq-Decides}
+use Rattle.std.proofs.lemmas.Bool.{cases_Bool}
 use Rattle.rio_types.specs.Classes.{newest_in, newer_of}
 use Rattle.rio_types.specs.Index.{newest_place, NewestLead}
 use Rattle.rio_types.specs.Places.{place, is_named}
 use Rattle.rio_types.specs.declared.class.ClassDef.{ClassDef}
-use Rattle.rio_types.proofs.LeadLaws.{slice_get-front, slice_get-last, bytes_same, bytes_self, one_name, true_or_false, place-push_failing, place-push_found, place-push_first}
+use Rattle.rio_types.proofs.LeadLaws.{slice_get-front, slice_get-last, one_name, place-push_failing, place-push_found, place-push_first}
 use Rattle.rio_types.proofs.PlaceLaws.{place_passes, no_place_fails}
 
 -- a class, if it is newer than the one before it, if there is one
@@ -126,7 +128,7 @@ module _ (cs : List ClassDef) (c : ClassDef) (newest : List ℕ) (f : ℕ) (lead
   alone : place (is_named c.name) cs ≡ None → slice_get (cs ++ c ∷ []) (newest_place cs c best) ≡ newest_in (cs ++ c ∷ []) c.name
   unfolding pushed best
   alone none =
-      let fresh : Some (length cs) ≡ Some f = sym (place-push_first (is_named c.name) cs c none (bytes_self c.name)) ∙ named in
+      let fresh : Some (length cs) ≡ Some f = sym (place-push_first (is_named c.name) cs c none ((bytes_eq-Decides c.name c.name).1 refl)) ∙ named in
       let goes : length cs ≡ f = cc in
       let at_f : slice_get pushed f ≡ Some f = ap (slice_get pushed) (sym goes) ∙ new_at ∙ ap Some goes in
       let is_f : best ≡ f = get_or_from_slice_get pushed f f 0 at_f in
@@ -135,7 +137,7 @@ module _ (cs : List ClassDef) (c : ClassDef) (newest : List ℕ) (f : ℕ) (lead
       ap (slice_get (cs ++ c ∷ [])) (stays ∙ is_f ∙ sym goes)
       ∙ slice_get-last cs c
       ∙ sym (newest-push cs c c.name
-      ∙ ap (λ (b : Bool). newest_with b (newest_in cs c.name) c) (bytes_self c.name)
+      ∙ ap (λ (b : Bool). newest_with b (newest_in cs c.name) c) ((bytes_eq-Decides c.name c.name).1 refl)
       ∙ ap (λ (o : Option ClassDef). Some (newer_than o c)) (no_place_no_newest cs c.name none))
 
   newer_by : (b : Bool) (q : ℕ) (d : ClassDef) → int_le c.version d.version ≡ b → slice_get cs q ≡ Some d → slice_get (cs ++ c ∷ []) (if b then q else length cs) ≡ Some (newer_of d (Some c))
@@ -151,7 +153,7 @@ module _ (cs : List ClassDef) (c : ClassDef) (newest : List ℕ) (f : ℕ) (lead
       ap (λ (o : Option ClassDef). slice_get (cs ++ c ∷ []) (if option_map_or (λ d. int_le c.version d.version) o true then q else length cs)) at
       ∙ newer_by (int_le c.version d.version) q d refl at
       ∙ sym (newest-push cs c c.name
-      ∙ ap (λ (b : Bool). newest_with b (newest_in cs c.name) c) (bytes_self c.name)
+      ∙ ap (λ (b : Bool). newest_with b (newest_in cs c.name) c) ((bytes_eq-Decides c.name c.name).1 refl)
       ∙ ap (λ (o : Option ClassDef). Some (newer_than o c)) is)
 
   after_one : (j : ℕ) → place (is_named c.name) cs ≡ Some j → slice_get (cs ++ c ∷ []) (newest_place cs c best) ≡ newest_in (cs ++ c ∷ []) c.name
@@ -183,7 +185,7 @@ module _ (cs : List ClassDef) (c : ClassDef) (newest : List ℕ) (f : ℕ) (lead
       let all = option_and_then (slice_get (cs ++ c ∷ [])) in
       ⊎_elim
       (λ t.
-      let same : c.name ≡ name = bytes_same c.name name t in
+      let same : c.name ≡ name = (bytes_eq-Decides c.name name).0 t in
       let goes : Some first ≡ Some f = sym met ∙ ap (λ (m : List ℕ). place (is_named m) (cs ++ c ∷ [])) (sym same) ∙ named in
       let is_f : first ≡ f = cc in
       let lt : f < length pushed = omega (arith, place_below (is_named c.name) (cs ++ c ∷ []) f named, length-append cs (c ∷ []), length-append newest (length cs ∷ []), one_each) in
@@ -195,7 +197,7 @@ module _ (cs : List ClassDef) (c : ClassDef) (newest : List ℕ) (f : ℕ) (lead
       let met_cs : place (is_named name) cs ≡ Some first = sym (place-push_failing (is_named name) cs c e) ∙ met in
       let ne : first ≢ f = λ eq.
       let same : name ≡ c.name = one_name (cs ++ c ∷ []) name c.name f (met ∙ ap Some eq) named in
-      let clash : true ≡ false = sym (bytes_self c.name) ∙ ap (bytes_eq c.name) (sym same) ∙ e in
+      let clash : true ≡ false = sym ((bytes_eq-Decides c.name c.name).1 refl) ∙ ap (bytes_eq c.name) (sym same) ∙ e in
       cc clash in
       let lt : first < length newest = omega (arith, place_below (is_named name) cs first met_cs, one_each) in
       let q = get_or newest first 0 in
@@ -206,4 +208,4 @@ module _ (cs : List ClassDef) (c : ClassDef) (newest : List ℕ) (f : ℕ) (lead
       ap all (slice_get-set_other pushed f first b ne ∙ slice_get-front newest (length cs) first q at)
       ∙ carried (newest_in cs name) q some is
       ∙ sym (newest-push cs c name ∙ ap (λ (t : Bool). newest_with t (newest_in cs name) c) e))
-      (true_or_false (bytes_eq c.name name))
+      (cases_Bool (bytes_eq c.name name))

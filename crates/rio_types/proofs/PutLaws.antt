@@ -3,11 +3,12 @@ use Rattle.std.proofs.Common.{◌≡◌, ℕ, ℤ, List, [], ◌∷◌, ◌++◌
 use Rattle.std.specs.Ordering.{int_eq}
 use Rattle.std.specs.Str.{bytes_eq}
 use Rattle.std.proofs.lemmas.Bool.Decides.{Decides-eqb}
+use Rattle.std.proofs.lemmas.Slice.Eq.{bytes_eq-Decides}
 use Rattle.rio_types.specs.Index.{passing, has_number, NamesLead, NumbersLead}
 use Rattle.rio_types.specs.Places.{place, is_named}
 use Rattle.rio_types.specs.declared.class.ClassDef.{ClassDef}
 use Rattle.rio_types.proofs.PlaceLaws.{passing_none}
-use Rattle.rio_types.proofs.LeadLaws.{bytes_self, int_self, name_is_found, names-stay, names-push, no_name_no_number, number_is_found, numbers-stay, numbers-push, passing_gave, place-push_found, place-push_first}
+use Rattle.rio_types.proofs.LeadLaws.{int_self, name_is_found, names-stay, names-push, no_name_no_number, number_is_found, numbers-stay, numbers-push, passing_gave, place-push_found, place-push_first}
 
 module _ (cs : List ClassDef) (c : ClassDef) where
   -- the map that a put of the class's name leaves
@@ -26,7 +27,7 @@ module _ (cs : List ClassDef) (c : ClassDef) where
     no_place none = sym (name_is_found cs at c.name lead) ∙ none
 
     pub new_place : passing (is_named c.name) cs (at c.name) ≡ None → place (is_named c.name) (cs ++ c ∷ []) ≡ Some (length cs)
-    new_place none = place-push_first (is_named c.name) cs c (no_place none) (bytes_self c.name)
+    new_place none = place-push_first (is_named c.name) cs c (no_place none) ((bytes_eq-Decides c.name c.name).1 refl)
 
     others : (at' : List ℕ → Option ℕ) → NamesMoved at at' → (q : List ℕ) → bytes_eq q c.name ≡ false → at' q ≡ at q
     others at' moved q apart = moved q ∙ ap (λ (b : Bool). if b then Some (length cs) else at q) apart
@@ -37,7 +38,7 @@ module _ (cs : List ClassDef) (c : ClassDef) where
     pub new_leads : (at' : List ℕ → Option ℕ) → passing (is_named c.name) cs (at c.name) ≡ None → NamesMoved at at' → NamesLead (cs ++ c ∷ []) at'
     new_leads at' none moved =
         names-push cs c at at' lead (others at' moved)
-        (moved c.name ∙ ap (λ (b : Bool). if b then Some (length cs) else at c.name) (bytes_self c.name) ∙ sym (new_place none))
+        (moved c.name ∙ ap (λ (b : Bool). if b then Some (length cs) else at c.name) ((bytes_eq-Decides c.name c.name).1 refl) ∙ sym (new_place none))
 
   module _ (number : ClassDef → ℤ) (f : ℕ) (named : place (is_named c.name) (cs ++ c ∷ []) ≡ Some f) where
     abbrev has_it : ClassDef → Bool
@@ -74,7 +75,7 @@ module _ (cs : List ClassDef) (c : ClassDef) where
       here = ap (λ (b : Bool). b && int_eq (number c) (number c)) ((Decides-eqb f f).1 refl) ∙ int_self (number c)
 
       has_self : has_it c ≡ true
-      has_self = ap (λ (b : Bool). b && int_eq (number c) (number c)) (bytes_self c.name) ∙ int_self (number c)
+      has_self = ap (λ (b : Bool). b && int_eq (number c) (number c)) ((bytes_eq-Decides c.name c.name).1 refl) ∙ int_self (number c)
 
       pub number_leads : (at' : ℕ → ℤ → Option ℕ) → passing has_it cs (at f (number c)) ≡ None → NumbersMoved at at' → NumbersLead number (cs ++ c ∷ []) at'
       number_leads at' none moved =

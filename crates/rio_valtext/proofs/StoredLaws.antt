@@ -2,6 +2,7 @@
 use Rattle.std.proofs.Common.{◌≡◌, ◌&&◌, ◌==◌, true, List, [], ◌∷◌, ◌++◌, length, not, Option, Some, None, refl, arith}
 use Rattle.std.specs.Prelude.{is_some}
 use Rattle.std.specs.List.{list_all}
+use Rattle.std.proofs.lemmas.Bool.{and_from}
 use Rattle.rio_num.specs.Word.{is_name_text}
 use Rattle.rio_types.specs.declared.class.ClassDef.{ClassDef}
 use Rattle.rio_types.specs.declared.class.Member.{Member}
@@ -15,7 +16,6 @@ use Rattle.rio_model.specs.Stated.{are_stated_bases, are_stated_members, has_sta
 use Rattle.rio_model.specs.ValueGrammar.{bracket_limit}
 use Rattle.rio_model.proofs.ReadLayers.{values_are_read}
 use Rattle.rio_valtext.specs.Stored.{StatedHasNames, StoredIsRead, StoredIsReadable, has_names}
-use Rattle.rio_valtext.proofs.StoredSlots.{both}
 use Rattle.rio_valtext.proofs.StoredValues.{each_read}
 
 has_fit : (o : Option Labels) → is_some o ≡ true → (after : Labels) × (o ≡ Some after)
@@ -39,17 +39,17 @@ members_have_names before (m ∷ ms) e =
     let titled = both_true (is_name_text m.name && not (has_member before m.name) && is_stated_kind before m.name ms m.kind) (length m.title == 0) n.0 in
     let kind = both_true (is_name_text m.name && not (has_member before m.name)) (is_stated_kind before m.name ms m.kind) titled.0 in
     let name = both_true (is_name_text m.name) (not (has_member before m.name)) kind.0 in
-    both (is_name_text m.name) (list_all (λ m. is_name_text m.name) ms) name.0 (members_have_names (before ++ m ∷ []) ms n.1)
+    and_from (is_name_text m.name) (list_all (λ m. is_name_text m.name) ms) name.0 (members_have_names (before ++ m ∷ []) ms n.1)
 
 class_has_names : (c : ClassDef) → has_stated_parts c ≡ true → has_names c ≡ true
 class_has_names c e =
     let words = is_name_text c.name && is_class_version c.version in
     let parts = both_true (words && are_stated_bases [] c.bases) (are_stated_members [] c.members) e in
     let front = both_true words (are_stated_bases [] c.bases) parts.0 in
-    both words (list_all (λ m. is_name_text m.name) c.members) front.0 (members_have_names [] c.members parts.1)
+    and_from words (list_all (λ m. is_name_text m.name) c.members) front.0 (members_have_names [] c.members parts.1)
 
 pub stated_has_names : StatedHasNames
 stated_has_names [] e = refl
 stated_has_names (c ∷ cs) e =
     let parts = both_true (has_stated_parts c) (list_all has_stated_parts cs) e in
-    both (has_names c) (list_all has_names cs) (class_has_names c parts.0) (stated_has_names cs parts.1)
+    and_from (has_names c) (list_all has_names cs) (class_has_names c parts.0) (stated_has_names cs parts.1)

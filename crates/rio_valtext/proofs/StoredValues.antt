@@ -5,6 +5,7 @@ use Rattle.std.proofs.lemmas.Option.{option_and_then_some}
 use Rattle.std.specs.Prelude.{slice_get}
 use Rattle.std.specs.List.{list_all}
 use Rattle.std.specs.Str.{bytes_eq}
+use Rattle.std.proofs.lemmas.Bool.{and_from}
 use Rattle.rio_num.specs.Word.{is_name_text}
 use Rattle.rio_types.specs.declared.class.ClassDef.{ClassDef}
 use Rattle.rio_types.specs.declared.kind.Kind.TheVariants.{Plain, Fixed, Text as Texted, Inline, Pointer}
@@ -25,7 +26,7 @@ use Rattle.rio_model.specs.Stated.{is_class_version}
 use Rattle.rio_valtext.specs.Stored.{has_names, held_step, is_held}
 use Rattle.rio_valtext.proofs.StoredClasses.{object_formed}
 use Rattle.rio_valtext.proofs.StoredNumbers.{passed, int_readable, bits32_readable, bits64_readable, truth_readable, text_readable, null_readable}
-use Rattle.rio_valtext.proofs.StoredSlots.{both, is_object_slot, levels_of, counted_low, counted_object, IsPlaced}
+use Rattle.rio_valtext.proofs.StoredSlots.{is_object_slot, levels_of, counted_low, counted_object, IsPlaced}
 
 -- ---- what is shown
 
@@ -155,7 +156,7 @@ module _ (classes : List ClassDef) (named : list_all has_names classes ≡ true)
   all_read slot (v ∷ vs) known before after d levels e deep held low =
       let h = both_true (is_held v) (list_all (λ b. b) (map is_held vs)) held in
       option_and_then_some (all_fit slot (map (fitting_of classes) vs)) ((fitting_of classes v).fits slot before) after e (λ mid first rest.
-      both ((readability_of v).within levels) (list_all (λ r. r.within levels) (map readability_of vs))
+      and_from ((readability_of v).within levels) (list_all (λ r. r.within levels) (map readability_of vs))
       (known.0 slot before mid d levels first (omega (arith, deep)) h.0 low).within
       (all_read slot vs known.1 mid after d levels rest (omega (arith, deep)) h.1 low))
 
@@ -166,7 +167,7 @@ module _ (classes : List ClassDef) (named : list_all has_names classes ≡ true)
   items_in : (slot own : Slot) (vs : List Value) → Each IsRead vs → (before after : Labels) (d levels : ℕ) → all_fit slot (map (fitting_of classes) vs) before ≡ Some after → greatest (map depth_of vs) ≤ d → list_all (λ b. b) (map is_held vs) ≡ true
       → levels_of slot d + 1 ≤ levels → is_object_slot own ≡ false → IsReadableIn own (list_reading vs) levels
   items_in slot own vs known before after d levels e deep held low none = record {
-    within = both (nat_lt 0 levels) (list_all (λ r. r.within (levels - 1)) (map readability_of vs)) (some_level levels (omega (arith, low))) (all_read slot vs known before after d (levels - 1) e deep held (omega (arith, low)));
+    within = and_from (nat_lt 0 levels) (list_all (λ r. r.within (levels - 1)) (map readability_of vs)) (some_level levels (omega (arith, low))) (all_read slot vs known before after d (levels - 1) e deep held (omega (arith, low)));
     object = λ o. absurd cc;
   }
 
@@ -179,16 +180,16 @@ module _ (classes : List ClassDef) (named : list_all has_names classes ≡ true)
       let h = both_true (is_held v) (is_held w && true) held in
       let k = both_true (is_held w) true h.1 in
       option_and_then_some ((fitting_of classes w).fits (kinded Texted)) ((fitting_of classes v).fits any_pointer before) after e (λ mid first rest.
-      both ((readability_of v).within levels) ((readability_of w).within levels && true)
+      and_from ((readability_of v).within levels) ((readability_of w).within levels && true)
       (known.0 any_pointer before mid d levels first (omega (arith, deep)) h.0 low).within
-      (both ((readability_of w).within levels) true (known.1.0 (kinded Texted) mid after d levels rest (omega (arith, deep)) k.0 (omega arith)).within refl))
+      (and_from ((readability_of w).within levels) true (known.1.0 (kinded Texted) mid after d levels rest (omega (arith, deep)) k.0 (omega arith)).within refl))
 
   list_reads : (vs : List Value) → Each IsRead vs → Reads (fitting_step classes (layer.List (map (fitting_of classes) vs))) (list_reading vs) (greatest (map depth_of vs)) (list_all (λ b. b) (map is_held vs))
   list_reads vs known (kinded (Fixed of count)) before after d levels e deep held low =
       let t = tested (length (map (fitting_of classes) vs) == count) (all_fit (kinded (Plain of)) (map (fitting_of classes) vs) before) after e in
       items_in (kinded (Plain of)) (kinded (Fixed of count)) vs known before after d levels t.1 deep held (omega (arith, low)) refl
   list_reads vs known link before after d levels e deep held low = record {
-    within = both (nat_lt 0 levels) (list_all (λ r. r.within (levels - 1)) (map readability_of vs)) (some_level levels (omega (arith, low))) (link_read vs known before after d (levels - 1) e deep held (omega (arith, low)));
+    within = and_from (nat_lt 0 levels) (list_all (λ r. r.within (levels - 1)) (map readability_of vs)) (some_level levels (omega (arith, low))) (link_read vs known before after d (levels - 1) e deep held (omega (arith, low)));
     object = λ o. absurd cc;
   }
   list_reads vs known (many slot) before after d levels e deep held low = items_in slot (many slot) vs known before after d levels e deep held low refl
@@ -198,7 +199,7 @@ module _ (classes : List ClassDef) (named : list_all has_names classes ≡ true)
 
   part_read : (f : Field) (y : Part) (counters : Counters) (levels : ℕ) → y.name ≡ f.name → IsPlaced f → IsReadableIn (counted_slot counters f.slot) (readability_of y.value) levels → (part_reading y).within levels ≡ true
   part_read f y counters levels same placed one =
-      both ((readability_of y.value).within levels) (cond (length y.name == 0) (readability_of y.value).object (is_name_text y.name)) one.within
+      and_from ((readability_of y.value).within levels) (cond (length y.name == 0) (readability_of y.value).object (is_name_text y.name)) one.within
       (subst (λ (n : List ℕ). cond (length n == 0) (readability_of y.value).object (is_name_text n) ≡ true) (sym same)
       (named_part (length f.name == 0) (is_object_slot f.slot) (readability_of y.value).object (is_name_text f.name) placed.named (λ o. one.object (counted_object counters f.slot o))))
 
@@ -215,7 +216,7 @@ module _ (classes : List ClassDef) (named : list_all has_names classes ≡ true)
       let slot_low = counted_low counters f.slot d in
       let field_low = placed.0.low d in
       option_and_then_some (fields_fit fs (fittings classes ys) behind) ((fitting_of classes y.value).fits slot before) after n.1 (λ mid first rest.
-      both ((part_reading y).within levels) (list_all (λ p. p.within levels) (map part_reading ys))
+      and_from ((part_reading y).within levels) (list_all (λ p. p.within levels) (map part_reading ys))
       (part_read f y counters levels n.0 placed.0 (known.0 slot before mid d levels first (omega (arith, deep)) h.0 (omega (arith, slot_low, field_low, low))))
       (parts_read fs ys known.1 placed.1 behind mid after d levels rest (omega (arith, deep)) h.1 low))
 
@@ -246,9 +247,9 @@ module _ (classes : List ClassDef) (named : list_all has_names classes ≡ true)
       let names = names_fit f.fields parts [] before after f.fit in
       record {
         within =
-            both (head && is_class_version version) (are_parts_within readings (levels - 1))
-            (both head (is_class_version version) (both (nat_lt 0 levels) (is_name_text class) (some_level levels (omega (arith, enough))) f.class_named) f.version_stated)
-            (both (list_all (λ p. p.within (levels - 1)) readings) (are_bases_first true (map (λ p. p.name) readings))
+            and_from (head && is_class_version version) (are_parts_within readings (levels - 1))
+            (and_from head (is_class_version version) (and_from (nat_lt 0 levels) (is_name_text class) (some_level levels (omega (arith, enough))) f.class_named) f.version_stated)
+            (and_from (list_all (λ p. p.within (levels - 1)) readings) (are_bases_first true (map (λ p. p.name) readings))
             (parts_read f.fields parts known f.all_placed [] before after d (levels - 1) f.fit (omega (arith, deep)) held (omega (arith, enough)))
             (rw names f.first));
         object = λ o. refl;
@@ -266,7 +267,7 @@ module _ (classes : List ClassDef) (named : list_all has_names classes ≡ true)
       let none = s.none in
       let one = known (kinded (Inline own.0)) (before ++ own ∷ []) after d levels t.1 deep h.1 (omega (arith, wide, low)) in
       record {
-        within = both (nat_lt label (2 ^ 32) && (readability_of object).object) ((readability_of object).within levels) (both (nat_lt label (2 ^ 32)) (readability_of object).object h.0 (one.object refl)) one.within;
+        within = and_from (nat_lt label (2 ^ 32) && (readability_of object).object) ((readability_of object).within levels) (and_from (nat_lt label (2 ^ 32)) (readability_of object).object h.0 (one.object refl)) one.within;
         object = λ o. absurd cc;
       }
 

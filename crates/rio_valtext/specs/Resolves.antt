@@ -1,6 +1,5 @@
 -- What the code that resolves values returns.
-use Rattle.std.specs.Prelude.{◌≡◌, ◌≢◌, List, ◌++◌, Option, Some, None, Result, Ok, Err}
-use Rattle.std.specs.Option.{option_map}
+use Rattle.std.specs.Prelude.{◌≡◌, ◌≢◌, Option, Some, None, Result, Ok, Err}
 use Rattle.rio_valtext.specs.declared.resolving.ResolveFault.{ResolveFault}
 use Rattle.rio_valtext.specs.declared.resolving.ResolveFault.TheVariants.{NoMemory}
 
@@ -8,7 +7,3 @@ use Rattle.rio_valtext.specs.declared.resolving.ResolveFault.TheVariants.{NoMemo
 abbrev pub Resolves : {A : Type 0} → Result A ResolveFault → Option A → Type 0
 Resolves (Ok x) o = o ≡ Some x
 Resolves (Err e) o = e ≢ NoMemory → o ≡ None
-
--- the items that were resolved so far, before the others
-abbrev pub with_resolved : {A : Type 0} → List A → Option (List A) → Option (List A)
-with_resolved front = option_map (λ xs. front ++ xs)

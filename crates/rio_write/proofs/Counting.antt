@@ -6,7 +6,7 @@ use Rattle.rio_num.specs.declared.no_memory.NoMemory.{NoMemory}
 use Rattle.rio_buffer.specs.ReaderState.{no_words, with_label}
 use Rattle.rio_buffer.specs.Writer.{Writer, WriterState, begun, begun_pointer, class_bytes, counted_from, ended, next_place, nothing_written, with_count}
 use Rattle.rio_format.specs.Written.{just, reference_bytes}
-use Rattle.rio_write.specs.Measuring.{CountsFor, FollowsWords, Grows, Measured, Measures, longer, nothing_measured, too_long}
+use Rattle.rio_write.specs.Measuring.{CountsFor, FollowsWords, Grows, Measured, Measures, longer, too_long}
 use Rattle.rio_write.specs.Sinks.{Accepted, Closes, Opened, OpensIn}
 use Rattle.rio_write.specs.Writing.{with_written}
 use Rattle.rio_write.proofs.MeasureLaws.{back_grows, below_more, follows_on, just_grows}
@@ -77,6 +77,6 @@ module _ (f : Writer) (start : ℕ) (names names' : List (List ℕ)) (n : ℕ) w
   pub whole_counted : names ≡ [] → Accepted CountsFor f (measured names 0) (measured names' n) → n ≡ min (length (f start no_words).0) too_long
   unfolding Accepted
   whole_counted e taken =
-      let none : CountsFor nothing_measured (nothing_written start) = record { total = refl; follows = record { names = λ class. refl; below = tt; small = omega arith } } in
+      let none : CountsFor (measured [] 0) (nothing_written start) = record { total = refl; follows = record { names = λ class. refl; below = tt; small = omega arith } } in
       let after = taken (nothing_written start) (subst (λ (l : List (List ℕ)). CountsFor (record { total = 0; names = l }) (nothing_written start)) (sym e) none) in
       after.total ∙ ap (λ (l : List ℕ). min (length l) too_long) (first_written f start (with_written f (nothing_written start)) refl).0

@@ -6,6 +6,7 @@ use Rattle.std.specs.Option.{option_and_then}
 use Rattle.std.specs.Ordering.{int_eq}
 use Rattle.std.specs.Prelude.{◌==◌}
 use Rattle.std.specs.Str.{bytes_eq}
+use Rattle.std.proofs.lemmas.Bool.{and_parts}
 use Rattle.byteorder.specs.Endian.{big_bytes}
 use Rattle.rio_num.specs.Text.{text_bytes}
 use Rattle.rio_types.specs.declared.class.ClassDef.{ClassDef}
@@ -235,10 +236,6 @@ module _ (parts : List Part) (before after : Labels) where
         let fits : (fitting_of [] (Object class version parts)).fits slot before ≡ Some after = object_fits [] class version parts slot before ∙ rw stands stays.0 in
         (fits, (stays.1.0, λ classes p t. ap (λ (w : Writer). w p t) (object_is classes slot class version parts) ∙ stays.1.1 classes p t))
 
-    first_true : (b d : Bool) → b && d ≡ true → b ≡ true
-    first_true true d e = refl
-    first_true false d e = absurd cc
-
     object_alike : Each (λ p. IsAlike p.value) parts → (known : List ClassDef) (k : Place) → (fitting_of known (Object class version parts)).fits (slot_at k) before ≡ Some after
         → ((fitting_of [] (Object class version parts)).fits (slot_at k) before ≡ Some after) × Steady (λ classes. (writing_of classes (Object class version parts)).bytes (slot_at k))
     object_alike each known (number of) e = refuted after (sym (object_fits known class version parts (kinded (Plain of)) before) ∙ e)
@@ -247,7 +244,7 @@ module _ (parts : List Part) (before after : Labels) where
     object_alike each known (numbers of) e = refuted after (sym (object_fits known class version parts (many (kinded (Plain of))) before) ∙ e)
     object_alike each known base e =
         let both_fit = chosen after (object_may_stand class version own_slot) (parts_fit (fields_of known class version) (map (part_fitting known) parts) before) (sym (object_fits known class version parts own_slot before) ∙ e) in
-        let is : bytes_eq class (codes "TObject") ≡ true = first_true (bytes_eq class (codes "TObject")) (int_eq version (pos 1)) both_fit.0 in
+        let is : bytes_eq class (codes "TObject") ≡ true = (and_parts (bytes_eq class (codes "TObject")) (int_eq version (pos 1)) both_fit.0).0 in
         placed own_slot both_fit.0 (base_stays each known class version (bytes_eq class (codes "TObject")) refl is both_fit.1)
 
 list_alike : (vs : List Value) → Each IsAlike vs → IsAlike (Items vs)

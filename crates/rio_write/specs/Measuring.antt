@@ -37,9 +37,6 @@ abbrev pub Measures : Writer → Result (Unit {0}) NoMemory → Measured → Mea
 Measures write (Ok x) old new = Grows write old new
 Measures write (Err e) old new = Unit {0}
 
-abbrev pub nothing_measured : Measured
-nothing_measured = record { total = 0; names = [] }
-
 -- it counts the bytes of the state, and its names are those that stand there
 pub record CountsFor (m : Measured) (s : WriterState) : Type 0 where
   pub total : m.total ≡ min (length s.bytes) too_long

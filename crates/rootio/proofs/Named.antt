@@ -6,6 +6,7 @@ use Rattle.rio_num.specs.Word.{is_item_text}
 use Rattle.std.specs.Prelude.{codes}
 use Rattle.std.specs.List.{list_all}
 use Rattle.std.specs.Str.{bytes_eq}
+use Rattle.std.proofs.lemmas.Bool.{and_parts}
 use Rattle.rootio.specs.declared.words.Form.{Form}
 use Rattle.rootio.specs.declared.words.Form.TheVariants.{Reads, Writes}
 use Rattle.rootio.specs.declared.words.Listing.TheVariants.{Dump, Scan}
@@ -23,10 +24,6 @@ chosen false x y f e = inr e
 guarded : (b : Bool) (x : Option Form) (f : Form) → (if b then x else None) ≡ Some f → (b ≡ true) × (x ≡ Some f)
 guarded true x f e = (refl, e)
 guarded false x f e = absurd cc
-
-first_holds : (a b : Bool) → (a && b) ≡ true → a ≡ true
-first_holds true b e = refl
-first_holds false b e = e
 
 -- ---- verbs that read
 
@@ -87,4 +84,4 @@ writes_named [] work e = absurd cc
 writes_named (verb ∷ []) work e = absurd cc
 writes_named (verb ∷ file ∷ args) work e =
     let both = guarded (is_file file && list_all is_no_flag args) (asked_by verb file args) (Writes work) e in
-    subst (λ (n : List ℕ). length n ≤ 200) (sym (asked_named work verb file args both.1)) (short_name file (first_holds (is_file file) (list_all is_no_flag args) both.0))
+    subst (λ (n : List ℕ). length n ≤ 200) (sym (asked_named work verb file args both.1)) (short_name file ((and_parts (is_file file) (list_all is_no_flag args) both.0).0))

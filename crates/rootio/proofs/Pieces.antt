@@ -3,15 +3,11 @@ use Rattle.std.proofs.Common.{◌≡◌, ℕ, ◌+◌, ◌-◌, ◌<◌, ◌≤�
 use Rattle.std.proofs.lemmas.List.{append-nil}
 use Rattle.rio_host.specs.Host.{Becomes}
 use Rattle.rio_host.specs.Source.{Fills, Input}
-use Rattle.rio_host.proofs.Images.{becomes_join, becomes_some}
+use Rattle.rio_host.proofs.Images.{becomes_as, becomes_join, becomes_some}
 use Rattle.rootio.specs.Causes.{NoInputFault}
 use Rattle.rootio.specs.Input.{IsTooLong, ReadsAll, Taken, TakenAll, TakesMore, TakesPiece, input_limit}
 use Rattle.rootio.specs.declared.input.InputError.{InputError}
 use Rattle.rootio.specs.declared.input.InputError.TheVariants.{Fault, NoMemory, TooLong}
-
-becomes_as : (R S : List ℕ → List ℕ → Type 0) (a b : Option (List ℕ)) → ((x y : List ℕ) → R x y → S x y) → Becomes R a b → Becomes S a b
-becomes_as R S None b has becomes = becomes
-becomes_as R S (Some x) b has becomes = (becomes.0, becomes.1, has x becomes.0 becomes.2)
 
 -- ---- one piece
 

@@ -1,6 +1,7 @@
 use Rattle.std.proofs.Common.{◌≤◌, ◌+◌, ◌-◌, length}
 use Rattle.rio_format.specs.Lists.{listed}
-use Rattle.rio_describe.specs.Heirs.{AreHeirs, AreKnown}
+use Rattle.rio_describe.specs.Heirs.{AreHeirs}
+use Rattle.rio_describe.proofs.HeirLaws.{AreKnown}
 use Rattle.rio_describe.proofs.judged.heirs_of.Given as goal
 
 abbrev pub invariant-loop-left : goal.invariant-loop-left

@@ -8,9 +8,9 @@ use Rattle.rio_format.specs.WrittenElements.{WrittenElement}
 use Rattle.rio_describe.specs.declared.element.ElementClass.{ElementClass}
 use Rattle.rio_write.specs.Sinks.{Accepted, RoomFor}
 use Rattle.rio_write.proofs.SinkLaws.{Taken, bytes_first_room, bytes_then, bytes_then_room, can_point, object_room, pointer_accepted, pointer_closes}
-use Rattle.rio_info.specs.WrittenParts.{element_bytes, own_bytes, stated_bytes}
+use Rattle.rio_info.specs.WrittenParts.{own_bytes, stated_bytes}
 use Rattle.rio_info.proofs.ElementForms.{element_is_pointed}
-use Rattle.rio_info.proofs.ListForms.{IsWritten}
+use Rattle.rio_info.proofs.ListForms.{IsWritten, element_bytes}
 use Rattle.rio_info.proofs.WritingLaws.{inside_room, object_closes, object_taken}
 use Rattle.rio_info.proofs.write_element.write_element.Goals as goal
 

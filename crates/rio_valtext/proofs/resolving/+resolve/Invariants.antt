@@ -1,8 +1,12 @@
-use Rattle.std.proofs.Common.{◌≡◌, [], map, drop}
+use Rattle.std.proofs.Common.{◌≡◌, List, [], ◌++◌, map, drop, Option}
+use Rattle.std.specs.Option.{option_map}
 use Rattle.rio_model.specs.Resolving.{each_resolved, resolving_of, resolving_of_part}
 use Rattle.rio_format.specs.Slots.{body_bases}
-use Rattle.rio_valtext.specs.Resolves.{with_resolved}
 use Rattle.rio_valtext.proofs.resolving.+resolve.Given as goal
+
+-- the items that were resolved so far, before the others
+abbrev with_resolved : {A : Type 0} → List A → Option (List A) → Option (List A)
+with_resolved front = option_map (λ xs. front ++ xs)
 
 abbrev pub invariant-resolve_items-loop-item : goal.invariant-resolve_items-loop-item
 invariant-resolve_items-loop-item l =
