@@ -31,23 +31,12 @@ which class is form =
 -- ---- the body by its class
 
 module _ (ys : List (List ℕ × Fitting)) (version : ℤ) where
-  named_body : (b : Bool) → int_eq version (pos 1) ≡ b → FitsSomewhere (parts_fit (fields_of [] (codes "TNamed") version) ys) → (classes : List ClassDef) → declared_body classes (codes "TNamed") version ≡ built_in (codes "TNamed") (pos 1)
-  named_body true e fits classes = rw e refl
-  named_body false e fits classes =
-      let none : None ≡ Some fits.1 = rw e at fits.2 in
-      refuted fits.1 none
-
-  string_body : (b : Bool) → int_eq version (pos 1) ≡ b → FitsSomewhere (parts_fit (fields_of [] (codes "TObjString") version) ys) → (classes : List ClassDef) → declared_body classes (codes "TObjString") version ≡ built_in (codes "TObjString") (pos 1)
-  string_body true e fits classes = rw e refl
-  string_body false e fits classes =
-      let none : None ≡ Some fits.1 = rw e at fits.2 in
-      refuted fits.1 none
-
-  by_class : (class : List ℕ) → (class ≡ codes "TNamed") ⊎ (class ≡ codes "TObjString") → FitsSomewhere (parts_fit (fields_of [] class version) ys) → (classes : List ClassDef) → declared_body classes class version ≡ built_in class (pos 1)
-  by_class class (inl e) fits classes =
-      subst (λ (k : List ℕ). declared_body classes k version ≡ built_in k (pos 1)) (sym e) (named_body (int_eq version (pos 1)) refl (subst (λ (k : List ℕ). FitsSomewhere (parts_fit (fields_of [] k version) ys)) e fits) classes)
-  by_class class (inr e) fits classes =
-      subst (λ (k : List ℕ). declared_body classes k version ≡ built_in k (pos 1)) (sym e) (string_body (int_eq version (pos 1)) refl (subst (λ (k : List ℕ). FitsSomewhere (parts_fit (fields_of [] k version) ys)) e fits) classes)
+  by_class : (class : List ℕ) → (class ≡ codes "TNamed") ⊎ (class ≡ codes "TObjString") → (b : Bool) → int_eq version (pos 1) ≡ b → FitsSomewhere (parts_fit (fields_of [] class version) ys)
+      → (classes : List ClassDef) → declared_body classes class version ≡ built_in class (pos 1)
+  by_class class (inl c) true v fits classes = rw c (rw v refl)
+  by_class class (inr c) true v fits classes = rw c (rw v refl)
+  by_class class (inl c) false v fits classes = let none : None ≡ Some fits.1 = rw (c, v) at fits.2 in refuted fits.1 none
+  by_class class (inr c) false v fits classes = let none : None ≡ Some fits.1 = rw (c, v) at fits.2 in refuted fits.1 none
 
   pub body_is : (class : List ℕ) → IsTrue (is_small_builtin class) → form_of class ≡ headed → FitsSomewhere (parts_fit (fields_of [] class version) ys) → (classes : List ClassDef) → declared_body classes class version ≡ built_in class (pos 1)
-  body_is class is form fits classes = by_class class (which class is form) fits classes
+  body_is class is form fits classes = by_class class (which class is form) (int_eq version (pos 1)) refl fits classes
