@@ -5,7 +5,8 @@ use Rattle.std.specs.Str.{bytes_eq}
 use Rattle.rio_types.specs.declared.class.Base.{Base}
 use Rattle.rio_types.specs.declared.class.ClassDef.{ClassDef}
 use Rattle.rio_format.specs.Bases.{visit_bases}
-use Rattle.rio_format.specs.Bodies.{BuiltIn, headed_classes, row}
+use Rattle.rio_format.specs.Bodies.{headed_classes, row}
+use Rattle.rio_format.specs.declared.built_in.BuiltIn.{BuiltIn}
 use Rattle.rio_format.specs.Slots.{has_base}
 use Rattle.rio_format.specs.Visits.{base_of, is_visited}
 

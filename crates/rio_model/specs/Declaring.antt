@@ -8,7 +8,8 @@ use Rattle.rio_types.specs.declared.class.Base.{Base}
 use Rattle.rio_types.specs.declared.class.ClassDef.{ClassDef}
 use Rattle.rio_types.specs.declared.kind.Kind.{Kind}
 use Rattle.rio_types.specs.declared.kind.Kind.TheVariants.{Inline, Pointer}
-use Rattle.rio_format.specs.Bodies.{Named, Object, headed_class, row}
+use Rattle.rio_format.specs.Bodies.{headed_class, row}
+use Rattle.rio_format.specs.declared.built_in.BuiltIn.TheVariants.{Named, Object}
 use Rattle.rio_model.specs.declared.declare.DeclareFault.{DeclareFault}
 use Rattle.rio_model.specs.declared.declare.DeclareFault.TheVariants.{NoSuchClass, SameVersion, HoldsItself, TooMany}
 

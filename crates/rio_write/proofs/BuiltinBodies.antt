@@ -4,7 +4,9 @@ use Rattle.std.proofs.lemmas.Slice.Eq.{bytes_eq-Decides}
 use Rattle.std.specs.Ordering.{int_eq}
 use Rattle.std.specs.Str.{bytes_eq}
 use Rattle.rio_types.specs.declared.class.ClassDef.{ClassDef}
-use Rattle.rio_format.specs.Bodies.{Form, built_in, form_of, headed}
+use Rattle.rio_format.specs.Bodies.{built_in, form_of}
+use Rattle.rio_format.specs.declared.shape.Shape.{Shape as Form}
+use Rattle.rio_format.specs.declared.shape.Shape.TheVariants.{Headed as headed}
 use Rattle.rio_format.specs.Fits.{Fitting, Labels, parts_fit}
 use Rattle.rio_format.specs.Slots.{declared_body, fields_of, is_headed}
 use Rattle.rio_format.specs.BuiltIn.{is_small_builtin}
