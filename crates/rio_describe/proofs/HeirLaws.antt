@@ -1,6 +1,6 @@
 -- How the heirs of TObject are found.
 use Rattle.std.proofs.Common.{◌≡◌, ◌<◌, ◌+◌, ◌∙◌, ℕ, zero, suc, List, [], ◌∷◌, ◌++◌, length, get_or, take, map, Bool, true, false, cond, ◌||◌, ◌&&◌, if◌then◌else◌, Option, Some, None, refl, sym, ap, subst, append_assoc, length-append, arith}
-use Rattle.std.specs.Prelude.{ℤ, pos, codes, is_some}
+use Rattle.std.specs.Prelude.{ℤ, codes, is_some}
 use Rattle.std.specs.Cmp.Lexicographic.{same_text}
 use Rattle.std.specs.List.{All, list_any}
 use Rattle.std.specs.Option.{option_map}
@@ -16,10 +16,11 @@ use Rattle.rio_types.specs.Classes.{find_in}
 use Rattle.rio_types.specs.declared.class.Base.{Base}
 use Rattle.rio_types.specs.declared.class.ClassDef.{ClassDef}
 use Rattle.rio_format.specs.Bases.{visit_bases}
-use Rattle.rio_format.specs.Bodies.{Body, described, listed, arrayed, built_in, form_of, t_named, t_obj_string}
+use Rattle.rio_format.specs.Bodies.{Body, described, built_in, form_of, headed_classes}
 use Rattle.rio_format.specs.Slots.{body_bases, declared_body, has_base, headed_body, is_headed}
 use Rattle.rio_format.specs.Visits.{base_of, is_visited, same_base, with_visit}
 use Rattle.rio_format.proofs.BaseDepth.{no_base_is_deeper}
+use Rattle.rio_format.proofs.BuiltInLaws.{of_body}
 use Rattle.rio_describe.specs.Heirs.{AreHeirs, AreTheHeirs, IsTaken, Judged, built_in_bases, candidates_of, class_base, has_reaching, is_heir}
 
 -- what has a TObject among its bases at most so many levels deep is known
@@ -77,18 +78,11 @@ reaching_longer old more bases e =
 
 -- ---- what is a candidate
 
-four : (a b c d : Bool) (w x y z : Body) → is_some (if a then Some w else if b then Some x else if c then Some y else if d then Some z else None) ≡ true → (a || (b || (c || (d || false)))) ≡ true
-four true b c d w x y z e = refl
-four false true c d w x y z e = refl
-four false false true d w x y z e = refl
-four false false false true w x y z e = refl
-four false false false false w x y z e = absurd cc
-
 built_is_candidate : (class : List ℕ) (version : ℤ) → is_some (built_in class version) ≡ true → is_visited built_in_bases (base_of class version) ≡ true
-built_is_candidate class version e =
-    four (bytes_eq class (codes "TNamed") && int_eq version (pos 1)) (bytes_eq class (codes "TObjString") && int_eq version (pos 1))
-    (bytes_eq class (codes "TList") && int_eq version (pos 5)) (bytes_eq class (codes "TObjArray") && int_eq version (pos 3))
-    (described t_named) (described t_obj_string) listed arrayed e
+built_is_candidate class version =
+    of_body (λ o. is_some o ≡ true → is_visited built_in_bases (base_of class version) ≡ true) headed_classes class version
+    ((λ c v e. rw (c, v) refl), ((λ c v e. rw (c, v) refl), ((λ c v e. rw (c, v) refl), ((λ c v e. rw (c, v) refl), tt))))
+    (λ e. absurd cc)
 
 found_is_candidate : (classes : List ClassDef) (class : List ℕ) (version : ℤ) (c : ClassDef) → find_in classes class version ≡ Some c → is_visited (map class_base classes) (base_of class version) ≡ true
 found_is_candidate [] class version c e = absurd cc

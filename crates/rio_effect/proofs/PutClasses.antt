@@ -1,5 +1,5 @@
 -- The class of an object that a put takes: its name is short, and not one of the classes that the format keeps for itself.
-use Rattle.std.proofs.Common.{◌≡◌, ⊎_elim, ℕ, ℤ, pos, negsuc, ◌≤◌, ◌∙◌, codes, List, [], ◌∷◌, ◌++◌, length, Bool, true, false, cond, not, ◌&&◌, Some, refl, sym, ap, subst, arith}
+use Rattle.std.proofs.Common.{◌≡◌, ⊎_elim, ℕ, ℤ, pos, negsuc, ◌≤◌, ◌∙◌, codes, List, [], ◌∷◌, ◌++◌, length, Bool, true, false, cond, not, ◌&&◌, Some, None, refl, sym, ap, subst, arith}
 use Rattle.std.specs.Prelude.{is_some}
 use Rattle.std.specs.List.{list_all}
 use Rattle.std.specs.Str.{bytes_eq}
@@ -9,8 +9,9 @@ use Rattle.std.proofs.lemmas.Slice.Eq.{bytes_eq-Decides}
 use Rattle.rio_num.specs.Word.{is_item_text, is_name_text}
 use Rattle.rio_types.specs.Classes.{newer_of, newest_in}
 use Rattle.rio_types.specs.declared.class.ClassDef.{ClassDef}
-use Rattle.rio_format.specs.Bodies.{form_of}
+use Rattle.rio_format.specs.Bodies.{form_of, headed_classes}
 use Rattle.rio_format.specs.Slots.{can_be_put, is_headed}
+use Rattle.rio_format.proofs.BuiltInLaws.{of_each}
 use Rattle.rio_model.specs.Declaring.{is_reserved_name}
 use Rattle.rio_model.specs.StateClasses.{AreAccepted, IsDeclared, StateClasses}
 use Rattle.rio_model.specs.Stated.{has_stated_parts, is_class_version, is_stated_class}
@@ -88,24 +89,23 @@ declared_name (c ∷ cs) class all e =
         subst IsObjectClass ((bytes_eq-Decides c.name class).0 is) (plain_name c.name words.0 words.1)
     by false is f own rest = rest f
 
-literal_name : (class own : List ℕ) → IsObjectClass own → bytes_eq class own ≡ true → IsObjectClass class
-literal_name class own h e = subst IsObjectClass (sym ((bytes_eq-Decides class own).0 e)) h
+literal_name : (class own : List ℕ) → class ≡ own → IsObjectClass own → IsObjectClass class
+literal_name class own e h = subst IsObjectClass (sym e) h
 
 pub object_class_is : (classes : List ClassDef) (class : List ℕ) → StateClasses classes → can_be_put classes class ≡ true → IsObjectClass class
 object_class_is classes class are e =
     ⊎_elim
-    (λ rest.
-    ⊎_elim
-    (λ rest.
-    ⊎_elim
-    (λ rest.
-    ⊎_elim
     (λ declared. declared_name classes class (all_plain [] classes are) (and_parts (is_headed (form_of class)) (is_some (newest_in classes class)) declared).1)
-    (λ named. literal_name class (codes "TNamed") (record { short = omega arith; file = refl; basket = refl; tree = refl }) named)
-    (or_cases _ _ rest))
-    (λ string. literal_name class (codes "TObjString") (record { short = omega arith; file = refl; basket = refl; tree = refl }) string)
-    (or_cases _ _ rest))
-    (λ list. literal_name class (codes "TList") (record { short = omega arith; file = refl; basket = refl; tree = refl }) list)
-    (or_cases _ _ rest))
-    (λ array. literal_name class (codes "TObjArray") (record { short = omega arith; file = refl; basket = refl; tree = refl }) array)
+    (λ own.
+    of_each (λ o. is_some o ≡ true → IsObjectClass class) Some None headed_classes class (
+      (λ c t. literal_name class (codes "TNamed") c (record { short = omega arith; file = refl; basket = refl; tree = refl })),
+      (
+        (λ c t. literal_name class (codes "TObjString") c (record { short = omega arith; file = refl; basket = refl; tree = refl })),
+        (
+          (λ c t. literal_name class (codes "TList") c (record { short = omega arith; file = refl; basket = refl; tree = refl })),
+          ((λ c t. literal_name class (codes "TObjArray") c (record { short = omega arith; file = refl; basket = refl; tree = refl })), tt),
+        ),
+      ),
+    )
+    (λ t. absurd cc) own)
     (or_cases _ _ e)

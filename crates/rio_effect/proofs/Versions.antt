@@ -1,5 +1,5 @@
 -- The objects of a value that fits have versions that can be written.
-use Rattle.std.proofs.Common.{◌≡◌, ◌==◌, ℕ, ℤ, pos, int_le, List, [], ◌∷◌, ◌++◌, length, map, codes, Bool, true, false, cond, ◌&&◌, Option, Some, None, refl, sym, ap, ◌∙◌}
+use Rattle.std.proofs.Common.{◌≡◌, ◌==◌, ℕ, ℤ, pos, int_le, List, [], ◌∷◌, ◌++◌, length, map, Bool, true, false, cond, ◌&&◌, Option, Some, None, refl, sym, ap, ◌∙◌}
 use Rattle.std.specs.Prelude.{if◌then◌else◌, is_some}
 use Rattle.std.specs.List.{list_all}
 use Rattle.std.specs.Option.{option_map}
@@ -15,10 +15,11 @@ use Rattle.rio_value.specs.declared.value.Part.{Part}
 use Rattle.rio_value.specs.declared.value.Value.TheFolds.{fold-Part, fold_out-Part}
 use Rattle.rio_format.specs.declared.shape.Shape.{Shape as Form}
 use Rattle.rio_format.specs.declared.shape.Shape.TheVariants.{Bare as bare, Numbers as numbers, Headed as headed}
-use Rattle.rio_format.specs.Bodies.{Body, Counters, described, form_of, listed, arrayed}
+use Rattle.rio_format.specs.Bodies.{Body, Counters, described, form_of, headed_classes}
 use Rattle.rio_format.specs.Fits.{Fitting, Labels, all_fit, counted_slot, counted_so_far, fields_fit, fits, fitting_of, fitting_step, link_fits, list_fits, may_point, object_may_stand, parts_fit, pointed_fits}
 use Rattle.rio_format.specs.Laws.{has_versions, versions_step}
-use Rattle.rio_format.specs.Slots.{Field, Slot, body_fields, fields_of, form_fields, kinded, based, flags, any_pointer, link, many}
+use Rattle.rio_format.specs.Slots.{Field, Slot, body_fields, declared_body, fields_of, form_fields, kinded, based, flags, any_pointer, link, many}
+use Rattle.rio_format.proofs.BuiltInLaws.{of_body}
 use Rattle.rio_format.proofs.Tests.{both_true}
 use Rattle.rio_format.proofs.ValueCases.{Each, by_cases, fold_Int, fold_Bits32, fold_Bits64, fold_Bool, fold_Text, fold_List, fold_Object, fold_Pointed, fold_Null, fold_Back, fold_Opaque}
 use Rattle.rio_format.proofs.WrittenLists.{fittings}
@@ -58,17 +59,11 @@ module _ (classes : List ClassDef) (class : List ℕ) (version : ℤ) (all : are
   first_body (Some body) = Some body
   first_body None = option_map described (find_in classes class version)
 
-  body_version : (named string list array : Bool) → (named ≡ true → in_range version ≡ true) → (string ≡ true → in_range version ≡ true) → (list ≡ true → in_range version ≡ true) → (array ≡ true → in_range version ≡ true)
-      → (a b : Body) → is_some (body_fields (first_body (if named then Some a else if string then Some b else if list then Some listed else if array then Some arrayed else None))) ≡ true
-      → in_range version ≡ true
-  body_version true string list array n s l r a b e = n refl
-  body_version false true list array n s l r a b e = s refl
-  body_version false false true array n s l r a b e = l refl
-  body_version false false false true n s l r a b e = r refl
-  body_version false false false false n s l r a b e = found_version classes class version all (some_described (find_in classes class version) e)
-
-  one_version : (own : List ℕ) (known : ℤ) → in_range known ≡ true → (bytes_eq class own && int_eq version known) ≡ true → in_range version ≡ true
-  one_version own known range e = is_in_range version known range (both_true (bytes_eq class own) (int_eq version known) e).1
+  body_version : is_some (body_fields (declared_body classes class version)) ≡ true → in_range version ≡ true
+  body_version =
+      of_body (λ own. is_some (body_fields (first_body own)) ≡ true → in_range version ≡ true) headed_classes class version
+      ((λ c v e. ap in_range v), ((λ c v e. ap in_range v), ((λ c v e. ap in_range v), ((λ c v e. ap in_range v), tt))))
+      (λ e. found_version classes class version all (some_described (find_in classes class version) e))
 
   bare_version : {A : Type 0} (x : A) (b : Bool) → int_eq version (pos 1) ≡ b → is_some (if b then Some x else None) ≡ true → in_range version ≡ true
   bare_version x true is e = is_in_range version (pos 1) refl is
@@ -77,10 +72,7 @@ module _ (classes : List ClassDef) (class : List ℕ) (version : ℤ) (all : are
   form_version : (form : Form) → is_some (form_fields classes class version form) ≡ true → in_range version ≡ true
   form_version bare e = bare_version _ (int_eq version (pos 1)) refl e
   form_version (numbers of) e = bare_version _ (int_eq version (pos 1)) refl e
-  form_version headed e =
-      body_version (bytes_eq class (codes "TNamed") && int_eq version (pos 1)) (bytes_eq class (codes "TObjString") && int_eq version (pos 1))
-      (bytes_eq class (codes "TList") && int_eq version (pos 5)) (bytes_eq class (codes "TObjArray") && int_eq version (pos 3))
-      (one_version (codes "TNamed") (pos 1) refl) (one_version (codes "TObjString") (pos 1) refl) (one_version (codes "TList") (pos 5) refl) (one_version (codes "TObjArray") (pos 3) refl) _ _ e
+  form_version headed e = body_version e
 
   known_version : is_some (fields_of classes class version) ≡ true → in_range version ≡ true
   known_version e = form_version (form_of class) e

@@ -4,7 +4,7 @@ ghost use Rattle.std.specs.List.{list_any};
 ghost use Rattle.rio_format.specs.Slots.{can_be_put, can_be_word};
 ghost use Rattle.rio_format.specs.Fits.{is_pointer, may_point};
 
-use rio_format::{ClassLists, Slot, SlotKind, derives_from, headed_version, is_headed};
+use rio_format::{BuiltIn, ClassLists, Slot, SlotKind, derives_from, is_headed};
 use rio_num::NoMemory;
 use rio_types::Classes;
 use std::alloc::Global;
@@ -25,11 +25,10 @@ fn can_be_word(class: &[u8]) -> bool
 
 /// Whether a put can have an object of this class as its value: one whose objects begin with a header and
 /// that is described, or TNamed, TObjString, TList or TObjArray.
-#[tactic(auto, using(rio_format::proofs::BuiltInLaws::headed_is))]
 pub fn can_be_put(classes: &Classes, class: &[u8]) -> bool
     ensures { result ≡ can_be_put classes.now class.now }
 {
-    (is_headed(class) && classes.newest(class).is_some()) || headed_version(class).is_some()
+    (is_headed(class) && classes.newest(class).is_some()) || BuiltIn::headed(class).is_some()
 }
 
 /// The class of an object, and its version.

@@ -10,8 +10,9 @@ use Rattle.std.proofs.lemmas.Bool.Decides.{Decides-int_eq}
 use Rattle.rio_types.specs.Classes.{find_in}
 use Rattle.rio_types.specs.declared.class.Base.{Base}
 use Rattle.rio_types.specs.declared.class.ClassDef.{ClassDef}
-use Rattle.rio_format.specs.Bodies.{Body, described, listed, arrayed, built_in, form_of, t_named, t_obj_string, t_object_base}
+use Rattle.rio_format.specs.Bodies.{Body, described, built_in, form_of, headed_classes, t_object_base}
 use Rattle.rio_format.specs.Slots.{body_bases, declared_body, has_base, headed_body, is_headed}
+use Rattle.rio_format.proofs.BuiltInLaws.{of_body}
 use Rattle.rio_format.proofs.Tests.{both_true}
 
 either : {P : Type 0} (a b : Bool) → (a ≡ true → P) → (b ≡ true → P) → (a || b) ≡ true → P
@@ -98,13 +99,7 @@ module _ (classes : List ClassDef) (target : List ℕ) where
 
   built_is_shallow : (class : List ℕ) (version : ℤ) → IsShallow (built_in class version)
   built_is_shallow class version =
-      let arrays : Option Body = if bytes_eq class (codes "TObjArray") && int_eq version (pos 3) then Some arrayed else None in
-      let lists : Option Body = if bytes_eq class (codes "TList") && int_eq version (pos 5) then Some listed else arrays in
-      let strings : Option Body = if bytes_eq class (codes "TObjString") && int_eq version (pos 1) then Some (described t_obj_string) else lists in
-      choose IsShallow (bytes_eq class (codes "TNamed") && int_eq version (pos 1)) (Some (described t_named)) strings over_object
-      (choose IsShallow (bytes_eq class (codes "TObjString") && int_eq version (pos 1)) (Some (described t_obj_string)) lists over_object
-      (choose IsShallow (bytes_eq class (codes "TList") && int_eq version (pos 5)) (Some listed) arrays over_object
-      (choose IsShallow (bytes_eq class (codes "TObjArray") && int_eq version (pos 3)) (Some arrayed) None over_object (λ k. refl))))
+      of_body IsShallow headed_classes class version ((λ c v. over_object), ((λ c v. over_object), ((λ c v. over_object), ((λ c v. over_object), tt)))) (λ k. refl)
 
   -- the class is in the list, or shallow
   abbrev IsKnown : List ℕ → ℤ → Option Body → Type 0

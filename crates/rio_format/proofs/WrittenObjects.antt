@@ -1,7 +1,6 @@
 -- What is written for an object that fits spells it.
 use Rattle.std.proofs.Common.{◌≡◌, ◌&&◌, ℕ, ◌+◌, ◌^◌, ◌<◌, ◌≤◌, ℤ, pos, Bool, true, false, cond, List, [], ◌∷◌, ◌++◌, length, codes, unwrap_or, Option, Some, None, refl, sym, ap, subst, arith}
 use Rattle.std.proofs.lemmas.Bool.Decides.{Decides-int_eq}
-use Rattle.std.proofs.lemmas.Slice.Eq.{bytes_eq-Decides}
 use Rattle.std.specs.Option.{option_map}
 use Rattle.std.specs.Ordering.{int_eq}
 use Rattle.std.specs.Str.{bytes_eq}
@@ -10,14 +9,13 @@ use Rattle.byteorder.specs.Endian.{big_bytes}
 use Rattle.rio_types.specs.Classes.{find_in}
 use Rattle.rio_types.specs.declared.class.ClassDef.{ClassDef}
 use Rattle.rio_types.specs.declared.kind.Kind.TheVariants.{Plain}
-use Rattle.rio_types.specs.declared.kind.Primitive.{Primitive}
-use Rattle.rio_types.specs.declared.kind.Primitive.TheVariants.{I8, I16, I32, I64, F32, F64}
 use Rattle.rio_value.specs.declared.value.Value.{Value, Object}
 use Rattle.rio_value.specs.declared.value.Part.{Part}
-use Rattle.rio_format.specs.Bodies.{Form, bare, numbers, headed, form_of, Body, described, listed, arrayed, opaque, t_named, t_obj_string, built_in, by_description}
+use Rattle.rio_format.specs.Bodies.{Form, bare, numbers, headed, form_of, Body, described, listed, arrayed, opaque, t_named, t_obj_string, built_in, by_description, headed_classes, headless_classes, row}
 use Rattle.rio_types.specs.Members.{can_read_all}
 use Rattle.rio_format.specs.Fits.{Labels, Fitting, fields_fit, parts_fit}
 use Rattle.rio_format.specs.Slots.{Field, field, kinded, many, body_fields, form_fields}
+use Rattle.rio_format.proofs.BuiltInLaws.{of_body, of_each}
 use Rattle.rio_format.proofs.Composed.{Spellings, SpellsBody, SpellsForm, SpellsVersion, IsBare, IsArray}
 use Rattle.rio_buffer.specs.ReaderState.{WordsMet}
 use Rattle.rio_format.specs.Written.{bare_bytes, array_bytes, body_bytes, form_bytes}
@@ -41,18 +39,14 @@ second : (a : Bool) (version own : ℤ) → (a && int_eq version own) ≡ true �
 second true version own e = (Decides-int_eq version own).0 e
 second false version own e = absurd cc
 
-built_by : (version : ℤ) (a b c d : Bool) (body : Body) → (a ≡ true → version ≡ pos 1) → (b ≡ true → version ≡ pos 1) → (c ≡ true → version ≡ pos 5) → (d ≡ true → version ≡ pos 3)
-    → cond a (Some (described t_named)) (cond b (Some (described t_obj_string)) (cond c (Some listed) (cond d (Some arrayed) None))) ≡ Some body → IsOfVersion version body
-built_by version true b c d body one two three four e = let same : described t_named ≡ body = cc in subst (IsOfVersion version) same (sym (one refl))
-built_by version false true c d body one two three four e = let same : described t_obj_string ≡ body = cc in subst (IsOfVersion version) same (sym (two refl))
-built_by version false false true d body one two three four e = let same : listed ≡ body = cc in subst (IsOfVersion version) same (three refl)
-built_by version false false false true body one two three four e = let same : arrayed ≡ body = cc in subst (IsOfVersion version) same (four refl)
-built_by version false false false false body one two three four e = absurd cc
-
 built_version : (class : List ℕ) (version : ℤ) (body : Body) → built_in class version ≡ Some body → IsOfVersion version body
-built_version class version body e =
-    built_by version (bytes_eq class (codes "TNamed") && int_eq version (pos 1)) (bytes_eq class (codes "TObjString") && int_eq version (pos 1)) (bytes_eq class (codes "TList") && int_eq version (pos 5)) (bytes_eq class (codes "TObjArray") && int_eq version (pos 3)) body
-    (second _ version (pos 1)) (second _ version (pos 1)) (second _ version (pos 5)) (second _ version (pos 3)) e
+built_version class version body =
+    of_body (λ o. o ≡ Some body → IsOfVersion version body) headed_classes class version
+    ((λ c v. by (described t_named) (sym v)), ((λ c v. by (described t_obj_string) (sym v)), ((λ c v. by listed v), ((λ c v. by arrayed v), tt))))
+    (λ e. absurd cc)
+  where
+    by : (own : Body) → IsOfVersion version own → Some own ≡ Some body → IsOfVersion version body
+    by own of e = let same : own ≡ body = cc in subst (IsOfVersion version) same of
 
 -- a class that is found has the version
 found_version : (classes : List ClassDef) (class : List ℕ) (version : ℤ) (c : ClassDef) → find_in classes class version ≡ Some c → c.version ≡ version
@@ -71,18 +65,11 @@ declared_from found None = option_map described found
 abbrev headed_from : Option Body → Option ClassDef → Body
 headed_from own found = unwrap_or own (by_description found)
 
--- the class has no header and no numbers
-is_bare : (a : Bool) (rest : Form) → (rest ≡ bare → ⊥) → cond a bare rest ≡ bare → a ≡ true
-is_bare true rest other e = refl
-is_bare false rest other e = absurd (other e)
-
-not_bare : (b : Bool) (of : Primitive) (rest : Form) → (rest ≡ bare → ⊥) → cond b (numbers of) rest ≡ bare → ⊥
-not_bare true of rest other e = cc
-not_bare false of rest other e = other e
-
 bare_class : (class : List ℕ) → form_of class ≡ bare → class ≡ codes "TObject"
-bare_class class e = (bytes_eq-Decides class (codes "TObject")).0 (is_bare (bytes_eq class (codes "TObject")) _
-    (not_bare _ I8 _ (not_bare _ I16 _ (not_bare _ I32 _ (not_bare _ I64 _ (not_bare _ F32 _ (not_bare (bytes_eq class (codes "TArrayD")) F64 headed (λ h. cc))))))) e)
+bare_class class =
+    of_each (λ (f : Form). f ≡ bare → class ≡ codes "TObject") (λ b. (row b).form) headed headless_classes class
+    ((λ c e. c), ((λ c e. absurd cc), ((λ c e. absurd cc), ((λ c e. absurd cc), ((λ c e. absurd cc), ((λ c e. absurd cc), ((λ c e. absurd cc), tt)))))))
+    (λ e. absurd cc)
 
 -- fields that are there in version 1 alone
 first_version : (version : ℤ) (fields : List Field) (parts : List (List ℕ × Fitting)) (before after : Labels) (b : Bool) → int_eq version (pos 1) ≡ b → parts_fit (cond b (Some fields) None) parts before ≡ Some after → (version ≡ pos 1) × (fields_fit fields parts [] before ≡ Some after)

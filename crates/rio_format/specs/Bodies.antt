@@ -1,7 +1,9 @@
 -- What stands in an object of a class: the classes with a body of their own, and the parts of a class that is described.
 pub use Rattle.rio_format.specs.declared.shape.Shape.{Shape as Form}
 pub use Rattle.rio_format.specs.declared.shape.Shape.TheVariants.{Bare as bare, Numbers as numbers, Headed as headed}
-use Rattle.std.specs.Prelude.{ℕ, ℤ, pos, List, [], ◌∷◌, ◌++◌, map, codes, ◌&&◌, Option, Some, None, unwrap_or, if◌then◌else◌}
+pub use Rattle.rio_format.specs.declared.built_in.BuiltIn.{BuiltIn}
+pub use Rattle.rio_format.specs.declared.built_in.BuiltIn.TheVariants.{Object, Named, ObjString, Listed, Arrayed, Chars, Shorts, Ints, Longs, Floats, Doubles}
+use Rattle.std.specs.Prelude.{ℕ, ℤ, pos, List, [], ◌∷◌, ◌++◌, map, codes, Option, Some, None, unwrap_or, if◌then◌else◌}
 use Rattle.std.specs.Str.{bytes_eq}
 use Rattle.std.specs.Map.{lookup}
 use Rattle.std.specs.Option.{option_map_or}
@@ -24,21 +26,7 @@ part name value = record { name = name; value = value }
 abbrev pub member : List ℕ → Kind → Member
 member name kind = record { name = name; kind = kind; title = [] }
 
--- ---- classes without a header
-
--- TObject has no byte count; a TArray is a count and numbers; any other object begins with a header
-abbrev pub form_of : List ℕ → Form
-form_of class =
-    if bytes_eq class (codes "TObject") then bare
-    else if bytes_eq class (codes "TArrayC") then numbers I8
-    else if bytes_eq class (codes "TArrayS") then numbers I16
-    else if bytes_eq class (codes "TArrayI") then numbers I32
-    else if bytes_eq class (codes "TArrayL64") then numbers I64
-    else if bytes_eq class (codes "TArrayF") then numbers F32
-    else if bytes_eq class (codes "TArrayD") then numbers F64
-    else headed
-
--- ---- classes with a header
+-- ---- built-in classes
 
 -- built-in classes that are like described ones
 abbrev pub t_object_base : Base
@@ -57,14 +45,63 @@ pub data Body : Type 0 where
   arrayed : Body
   opaque : Body
 
--- the bodies that a class list can't change: a built-in class has them in its one version alone
+-- a built-in class: its name, its one version, how its objects begin, and what stands behind a header
+pub record BuiltInRow : Type 0 where
+  pub name : List ℕ
+  pub version : ℤ
+  pub form : Form
+  pub body : Option Body
+
+abbrev pub without_header : List ℕ → Form → BuiltInRow
+without_header name form = record { name = name; version = pos 1; form = form; body = None }
+
+abbrev pub with_header : List ℕ → ℤ → Body → BuiltInRow
+with_header name version body = record { name = name; version = version; form = headed; body = Some body }
+
+-- the table of them
+abbrev pub row : BuiltIn → BuiltInRow
+row Object = without_header (codes "TObject") bare
+row Chars = without_header (codes "TArrayC") (numbers I8)
+row Shorts = without_header (codes "TArrayS") (numbers I16)
+row Ints = without_header (codes "TArrayI") (numbers I32)
+row Longs = without_header (codes "TArrayL64") (numbers I64)
+row Floats = without_header (codes "TArrayF") (numbers F32)
+row Doubles = without_header (codes "TArrayD") (numbers F64)
+row Named = with_header (codes "TNamed") (pos 1) (described t_named)
+row ObjString = with_header (codes "TObjString") (pos 1) (described t_obj_string)
+row Listed = with_header (codes "TList") (pos 5) listed
+row Arrayed = with_header (codes "TObjArray") (pos 3) arrayed
+
+abbrev pub headless_classes : List BuiltIn
+headless_classes = Object ∷ Chars ∷ Shorts ∷ Ints ∷ Longs ∷ Floats ∷ Doubles ∷ []
+
+abbrev pub headed_classes : List BuiltIn
+headed_classes = Named ∷ ObjString ∷ Listed ∷ Arrayed ∷ []
+
+-- what is said of the one of these that has the name
+abbrev pub by_name : {A : Type 0} → (BuiltIn → A) → A → List BuiltIn → List ℕ → A
+by_name say other [] class = other
+by_name say other (b ∷ bs) class = if bytes_eq class (row b).name then say b else by_name say other bs class
+
+-- TObject has no byte count; a TArray is a count and numbers; any other object begins with a header
+abbrev pub form_of : List ℕ → Form
+form_of class = by_name (λ b. (row b).form) headed headless_classes class
+
+-- the built-in class of the name whose objects begin with a header
+abbrev pub headed_class : List ℕ → Option BuiltIn
+headed_class class = by_name Some None headed_classes class
+
+-- the one version of such a class
+abbrev pub headed_version : List ℕ → Option ℤ
+headed_version class = by_name (λ b. Some (row b).version) None headed_classes class
+
+-- its body, in its one version alone
+abbrev pub own_body : ℤ → BuiltIn → Option Body
+own_body version b = if int_eq version (row b).version then (row b).body else None
+
+-- the bodies that a class list can't change
 abbrev pub built_in : List ℕ → ℤ → Option Body
-built_in class version =
-    if bytes_eq class (codes "TNamed") && int_eq version (pos 1) then Some (described t_named)
-    else if bytes_eq class (codes "TObjString") && int_eq version (pos 1) then Some (described t_obj_string)
-    else if bytes_eq class (codes "TList") && int_eq version (pos 5) then Some listed
-    else if bytes_eq class (codes "TObjArray") && int_eq version (pos 3) then Some arrayed
-    else None
+built_in class version = by_name (own_body version) None headed_classes class
 
 -- the description that a header picks: by its version, or by the checksum behind version 0
 abbrev pub picked : List ClassDef → List ℕ → ℤ → Option ℕ → Option ClassDef

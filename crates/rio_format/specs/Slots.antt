@@ -12,7 +12,7 @@ use Rattle.rio_types.specs.declared.kind.Kind.{Kind}
 use Rattle.rio_types.specs.declared.kind.Kind.TheVariants.{Plain, Text}
 use Rattle.rio_types.specs.declared.kind.Primitive.{Primitive}
 use Rattle.rio_types.specs.declared.kind.Primitive.TheVariants.{I32, U32}
-use Rattle.rio_format.specs.Bodies.{Form, bare, numbers, headed, form_of, Body, described, listed, arrayed, opaque, built_in, t_object_base}
+use Rattle.rio_format.specs.Bodies.{Form, bare, numbers, headed, form_of, headed_class, Body, described, listed, arrayed, opaque, built_in, t_object_base}
 
 pub data Slot : Type 0 where
   -- a value of the kind
@@ -121,5 +121,4 @@ can_be_word class = not (list_any (λ b. b == 0) class)
 
 -- whether a put can have an object of this class as its value
 abbrev pub can_be_put : List ClassDef → List ℕ → Bool
-can_be_put classes class =
-    (is_headed (form_of class) && is_some (newest_in classes class)) || bytes_eq class (codes "TNamed") || bytes_eq class (codes "TObjString") || bytes_eq class (codes "TList") || bytes_eq class (codes "TObjArray")
+can_be_put classes class = (is_headed (form_of class) && is_some (newest_in classes class)) || is_some (headed_class class)

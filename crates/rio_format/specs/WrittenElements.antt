@@ -12,10 +12,9 @@ use Rattle.rio_types.specs.declared.kind.Primitive.{Primitive}
 use Rattle.rio_types.specs.declared.kind.Primitive.TheVariants.{I8, I16, I32, I64, U8, U16, U32, U64, Bool as Boolean, F32, F64}
 use Rattle.rio_value.specs.declared.value.Part.{Part}
 use Rattle.rio_value.specs.declared.value.Value.{Int, Text}
-use Rattle.rio_format.specs.Bodies.{part}
+use Rattle.rio_format.specs.Bodies.{headed_version, part}
 use Rattle.rio_format.specs.Prims.{width_of}
 use Rattle.rio_format.specs.Slots.{has_base}
-use Rattle.rio_format.specs.BuiltIn.{headed_version}
 
 -- what is written for a base or a member
 pub record WrittenElement : Type 0 where

@@ -1,9 +1,8 @@
 //! What stands behind the header of an object.
 ghost use Rattle.std.specs.Prelude.{◌≡◌, ℤ, pos, Option, Some, None};
 ghost use Rattle.std.specs.Option.{option_copied, option_map, option_map_or};
-ghost use Rattle.rio_format.specs.Bodies.{body_of, built_in, by_description, described};
+ghost use Rattle.rio_format.specs.Bodies.{body_of, built_in, by_description, described, headed_version, row};
 ghost use Rattle.rio_format.specs.Slots.{declared_body};
-ghost use Rattle.rio_format.specs.BuiltIn.{headed_version, own_body};
 ghost use Rattle.rio_format.specs.Lists.{listed};
 ghost use Rattle.rio_types.specs.Classes.{judged};
 ghost use Rattle.rio_types.specs.declared.class.ClassDef.{ClassDef as Class};
@@ -58,7 +57,7 @@ fn by_description<'a>(found: Option<(&'a ClassDef, bool)>) -> Body<'a>
 
 // The body of a built-in class, behind its header.
 fn own_body<'a>(class: BuiltIn) -> Option<Body<'a>>
-    ensures { result ≡ own_body class }
+    ensures { result ≡ (row class).body }
 {
     match class {
         BuiltIn::Named => Some(Body(BodyKind::Named)),
@@ -69,11 +68,10 @@ fn own_body<'a>(class: BuiltIn) -> Option<Body<'a>>
     }
 }
 
-#[tactic(auto, using(crate::proofs::BuiltInLaws::body_is))]
 fn built_in<'a>(class: &[u8], version: i32) -> Option<Body<'a>>
     ensures { result ≡ built_in class.now version }
 {
-    match BuiltIn::of_name(class) {
+    match BuiltIn::headed(class) {
         Some(class) if version == class.version() => own_body(class),
         _ => None,
     }
@@ -154,12 +152,11 @@ pub(crate) fn listed_body<'a>(
 }
 
 /// The one version of a built-in class with a header.
-#[tactic(auto, using(crate::proofs::BuiltInLaws::version_is))]
 pub fn headed_version(class: &[u8]) -> Option<i32>
     ensures { result ≡ headed_version class.now }
 {
-    match BuiltIn::of_name(class) {
-        Some(class) if class.has_header() => Some(class.version()),
-        _ => None,
+    match BuiltIn::headed(class) {
+        Some(class) => Some(class.version()),
+        None => None,
     }
 }

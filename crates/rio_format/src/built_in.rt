@@ -1,6 +1,7 @@
 //! The classes that are built in.
-ghost use Rattle.std.specs.Prelude.{◌≡◌};
-ghost use Rattle.rio_format.specs.BuiltIn.{built_in_class, built_in_name, can_be_base, has_header, own_form, own_version};
+ghost use Rattle.std.specs.Prelude.{◌≡◌, Some, None};
+ghost use Rattle.std.specs.Str.{bytes_eq};
+ghost use Rattle.rio_format.specs.Bodies.{by_name, headed_class, headless_classes, row};
 
 use crate::shape::Shape;
 use rio_types::Prim;
@@ -33,31 +34,40 @@ pub enum BuiltIn {
 }
 
 impl BuiltIn {
-    /// The built-in class of the name, if there is one.
-    pub fn of_name(class: &[u8]) -> Option<BuiltIn>
-        ensures { result ≡ built_in_class class.now }
+    /// The one of the name whose objects have no header: TObject or a TArray.
+    pub fn headless(class: &[u8]) -> Option<BuiltIn>
+        ensures { result ≡ by_name Some None headless_classes class.now }
     {
-        if class == b"TObject".as_slice() {
+        if BuiltIn::Object.is_named(class) {
             Some(BuiltIn::Object)
-        } else if class == b"TArrayC".as_slice() {
+        } else if BuiltIn::Chars.is_named(class) {
             Some(BuiltIn::Chars)
-        } else if class == b"TArrayS".as_slice() {
+        } else if BuiltIn::Shorts.is_named(class) {
             Some(BuiltIn::Shorts)
-        } else if class == b"TArrayI".as_slice() {
+        } else if BuiltIn::Ints.is_named(class) {
             Some(BuiltIn::Ints)
-        } else if class == b"TArrayL64".as_slice() {
+        } else if BuiltIn::Longs.is_named(class) {
             Some(BuiltIn::Longs)
-        } else if class == b"TArrayF".as_slice() {
+        } else if BuiltIn::Floats.is_named(class) {
             Some(BuiltIn::Floats)
-        } else if class == b"TArrayD".as_slice() {
+        } else if BuiltIn::Doubles.is_named(class) {
             Some(BuiltIn::Doubles)
-        } else if class == b"TNamed".as_slice() {
+        } else {
+            None
+        }
+    }
+
+    /// The one of the name whose objects begin with a header. Those are what a put can have as its value.
+    pub fn headed(class: &[u8]) -> Option<BuiltIn>
+        ensures { result ≡ headed_class class.now }
+    {
+        if BuiltIn::Named.is_named(class) {
             Some(BuiltIn::Named)
-        } else if class == b"TObjString".as_slice() {
+        } else if BuiltIn::ObjString.is_named(class) {
             Some(BuiltIn::ObjString)
-        } else if class == b"TList".as_slice() {
+        } else if BuiltIn::Listed.is_named(class) {
             Some(BuiltIn::Listed)
-        } else if class == b"TObjArray".as_slice() {
+        } else if BuiltIn::Arrayed.is_named(class) {
             Some(BuiltIn::Arrayed)
         } else {
             None
@@ -66,7 +76,7 @@ impl BuiltIn {
 
     /// Its name.
     pub fn name(self) -> &'static [u8]
-        ensures { result.now ≡ built_in_name self }
+        ensures { result.now ≡ (row self).name }
     {
         match self {
             BuiltIn::Object => b"TObject",
@@ -83,9 +93,16 @@ impl BuiltIn {
         }
     }
 
+    /// Whether that is its name.
+    pub fn is_named(self, class: &[u8]) -> bool
+        ensures { result ≡ bytes_eq class.now (row self).name }
+    {
+        class == self.name()
+    }
+
     /// Its one version.
     pub fn version(self) -> i32
-        ensures { result ≡ own_version self }
+        ensures { result ≡ (row self).version }
     {
         match self {
             BuiltIn::Listed => 5,
@@ -96,7 +113,7 @@ impl BuiltIn {
 
     /// How its objects begin.
     pub fn shape(self) -> Shape
-        ensures { result ≡ own_form self }
+        ensures { result ≡ (row self).form }
     {
         match self {
             BuiltIn::Object => Shape::Bare,
@@ -108,19 +125,5 @@ impl BuiltIn {
             BuiltIn::Doubles => Shape::Numbers(Prim::F64),
             _ => Shape::Headed,
         }
-    }
-
-    /// Whether its objects begin with a header. Those are what a put can have as its value.
-    pub fn has_header(self) -> bool
-        ensures { result ≡ has_header self }
-    {
-        matches!(self.shape(), Shape::Headed)
-    }
-
-    /// Whether a declared class may have it as a base.
-    pub fn can_be_base(self) -> bool
-        ensures { result ≡ can_be_base self }
-    {
-        matches!(self, BuiltIn::Object | BuiltIn::Named)
     }
 }

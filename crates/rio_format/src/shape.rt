@@ -17,11 +17,10 @@ pub enum Shape {
 }
 
 /// How an object of the class begins: TObject and the TArrays have shapes of their own.
-#[tactic(auto, using(crate::proofs::BuiltInLaws::form_is))]
 pub fn shape_of(class: &[u8]) -> Shape
     ensures { result ≡ form_of class.now }
 {
-    match BuiltIn::of_name(class) {
+    match BuiltIn::headless(class) {
         Some(class) => class.shape(),
         None => Shape::Headed,
     }

@@ -1,5 +1,5 @@
 -- Which classes may be declared, and what a declaration adds to the declared ones.
-use Rattle.std.specs.Prelude.{ℕ, zero, suc, ◌+◌, ℤ, pos, List, [], ◌∷◌, ◌++◌, length, map, codes, Bool, true, false, not, ◌&&◌, ◌||◌, ◌==◌, nat_le, Option, Some, None, is_some, if◌then◌else◌, IsTrue, ◌↔◌}
+use Rattle.std.specs.Prelude.{ℕ, zero, suc, ◌+◌, ℤ, pos, List, [], ◌∷◌, ◌++◌, length, map, Bool, true, false, not, ◌&&◌, ◌||◌, ◌==◌, nat_le, Option, Some, None, is_some, if◌then◌else◌, IsTrue, ◌↔◌}
 use Rattle.std.specs.List.{list_all, list_any}
 use Rattle.std.specs.Option.{option_map_or, option_or}
 use Rattle.std.specs.Str.{bytes_eq}
@@ -8,6 +8,8 @@ use Rattle.rio_types.specs.declared.class.Base.{Base}
 use Rattle.rio_types.specs.declared.class.ClassDef.{ClassDef}
 use Rattle.rio_types.specs.declared.kind.Kind.{Kind}
 use Rattle.rio_types.specs.declared.kind.Kind.TheVariants.{Inline, Pointer}
+use Rattle.rio_format.specs.Bodies.{headed_class, row}
+use Rattle.rio_format.specs.declared.built_in.BuiltIn.TheVariants.{Named, Object}
 use Rattle.rio_model.specs.declared.declare.DeclareFault.{DeclareFault}
 use Rattle.rio_model.specs.declared.declare.DeclareFault.TheVariants.{NoSuchClass, SameVersion, HoldsItself, TooMany}
 
@@ -23,11 +25,11 @@ is_known classes class name = is_declared classes name || bytes_eq class.name na
 
 -- a built-in class that may be a base
 abbrev pub is_built_in_base : List ℕ → Bool
-is_built_in_base name = bytes_eq name (codes "TObject") || bytes_eq name (codes "TNamed")
+is_built_in_base name = bytes_eq name (row Object).name || bytes_eq name (row Named).name
 
 -- a built-in class that a pointer may name
 abbrev pub is_built_in_target : List ℕ → Bool
-is_built_in_target name = is_built_in_base name || bytes_eq name (codes "TObjString") || bytes_eq name (codes "TList") || bytes_eq name (codes "TObjArray")
+is_built_in_target name = bytes_eq name (row Object).name || is_some (headed_class name)
 
 abbrev pub knows_base : List ClassDef → ClassDef → Base → Bool
 knows_base classes class b = is_known classes class b.name || is_built_in_base b.name

@@ -12,9 +12,8 @@ use Rattle.rio_value.specs.declared.value.Value.{Value}
 use Rattle.rio_value.specs.declared.value.Value as whole
 use Rattle.rio_value.specs.declared.value.Value.TheOpen.{Value-F, Int, Bits32, Bits64, Bool as Truth, Text, List as Items, Object, Pointed, Null, Back, Opaque}
 use Rattle.rio_value.specs.declared.value.Value.TheFolds.{fold-Value}
-use Rattle.rio_format.specs.Bodies.{form_of, part}
+use Rattle.rio_format.specs.Bodies.{form_of, headed_version, part}
 use Rattle.rio_format.specs.Slots.{body_bases, headed_body, is_headed}
-use Rattle.rio_format.specs.BuiltIn.{headed_version}
 
 -- ---- versions
 

@@ -32,25 +32,17 @@ fn is_known(classes: &Classes, class: &ClassDef, name: &[u8]) -> bool
 }
 
 /// Whether the name is that of a built-in class that may be a base.
-#[tactic(auto, using(rio_format::proofs::BuiltInLaws::base_is))]
 pub(crate) fn is_built_in_base(name: &[u8]) -> bool
     ensures { result ≡ is_built_in_base name.now }
 {
-    match BuiltIn::of_name(name) {
-        Some(class) => class.can_be_base(),
-        None => false,
-    }
+    BuiltIn::Object.is_named(name) || BuiltIn::Named.is_named(name)
 }
 
-// Whether it is that of a built-in class that a pointer may name: one that may be a base, or that has a header.
-#[tactic(auto, using(rio_format::proofs::BuiltInLaws::target_is))]
+// Whether it is that of a built-in class that a pointer may name.
 fn is_built_in_target(name: &[u8]) -> bool
     ensures { result ≡ is_built_in_target name.now }
 {
-    match BuiltIn::of_name(name) {
-        Some(class) => class.can_be_base() || class.has_header(),
-        None => false,
-    }
+    BuiltIn::Object.is_named(name) || BuiltIn::headed(name).is_some()
 }
 
 fn knows_base(classes: &Classes, class: &ClassDef, base: &Base) -> bool

@@ -121,4 +121,4 @@ module _ (classes : List ClassDef) (class : ClassDef) where
 
   pub put_more : (name : List ℕ) → can_be_put classes name ≡ true → can_be_put more name ≡ true
   put_more name e =
-      or_true _ _ _ _ (or_true _ _ _ _ (or_true _ _ _ _ (or_true _ _ _ _ (and_true (is_headed (form_of name)) _ _ (newest_more classes class name)) (λ t. t)) (λ t. t)) (λ t. t)) (λ t. t) e
+      or_true _ _ _ _ (and_true (is_headed (form_of name)) _ _ (newest_more classes class name)) (λ t. t) e

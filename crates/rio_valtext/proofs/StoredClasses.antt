@@ -1,5 +1,5 @@
 -- The fields of an object that fits, and the names of its class.
-use Rattle.std.proofs.Common.{◌≡◌, ◌&&◌, ℕ, ℤ, pos, Bool, true, false, cond, List, [], ◌∷◌, ◌++◌, map, codes, Option, Some, None, refl, sym, ap, subst, arith}
+use Rattle.std.proofs.Common.{◌≡◌, ◌&&◌, ℕ, ℤ, pos, Bool, true, false, cond, List, [], ◌∷◌, ◌++◌, map, codes, Option, Some, None, refl, ap, subst, arith}
 use Rattle.std.proofs.lemmas.Bool.Decides.{Decides-int_eq}
 use Rattle.std.proofs.lemmas.Slice.Eq.{bytes_eq-Decides}
 use Rattle.std.specs.List.{list_all}
@@ -10,12 +10,13 @@ use Rattle.rio_num.specs.Word.{is_name_text}
 use Rattle.rio_types.specs.Classes.{find_in}
 use Rattle.rio_types.specs.declared.class.ClassDef.{ClassDef}
 use Rattle.rio_types.specs.declared.kind.Kind.TheVariants.{Plain, Text as Texted}
-use Rattle.rio_types.specs.declared.kind.Primitive.TheVariants.{I8, I16, I32, I64, U32, F32, F64}
-use Rattle.rio_format.specs.Bodies.{form_of, Body, described, listed, arrayed, t_named, t_obj_string, t_object_base, built_in}
+use Rattle.rio_types.specs.declared.kind.Primitive.TheVariants.{I32, U32}
+use Rattle.rio_format.specs.Bodies.{form_of, Body, described, listed, arrayed, t_named, t_obj_string, t_object_base, built_in, headed_classes, headless_classes, row}
 use Rattle.rio_format.specs.declared.shape.Shape.{Shape as Form}
 use Rattle.rio_format.specs.declared.shape.Shape.TheVariants.{Bare as bare, Numbers as numbers, Headed as headed}
 use Rattle.rio_format.specs.Fits.{Labels, Fitting, fields_fit, parts_fit}
 use Rattle.rio_format.specs.Slots.{Field, kinded, flags, any_pointer, link, many, field, base_field, member_field, body_fields, form_fields, fields_of, is_headed}
+use Rattle.rio_format.proofs.BuiltInLaws.{of_body, of_each}
 use Rattle.rio_format.proofs.Tests.{both_true}
 use Rattle.rio_format.proofs.ValueCases.{Each}
 use Rattle.rio_model.specs.Readable.{are_bases_first}
@@ -24,12 +25,6 @@ use Rattle.rio_valtext.specs.Stored.{has_names}
 use Rattle.rio_valtext.proofs.StoredSlots.{IsPlaced, placed, base_placed, described_first, described_placed}
 
 -- ---- names and versions
-
-own_name : (class own : List ℕ) → is_name_text own ≡ true → bytes_eq class own ≡ true → is_name_text class ≡ true
-own_name class own named e = subst (λ (n : List ℕ). is_name_text n ≡ true) (sym ((bytes_eq-Decides class own).0 e)) named
-
-own_version : (version own : ℤ) → is_class_version own ≡ true → int_eq version own ≡ true → is_class_version version ≡ true
-own_version version own stated e = subst (λ (z : ℤ). is_class_version z ≡ true) (sym ((Decides-int_eq version own).0 e)) stated
 
 -- the class of an object and its version can be stated, and its members have names
 record IsNamed (class : List ℕ) (version : ℤ) (c : ClassDef) : Type 0 where
@@ -60,19 +55,11 @@ found_named (d ∷ ds) class version c named e =
 
 -- ---- classes without a header
 
-pick : {P : Type 0} (b : Bool) (f rest : Form) → (b ≡ true → P) → (is_headed rest ≡ false → P) → is_headed (cond b f rest) ≡ false → P
-pick true f rest here there e = here refl
-pick false f rest here there e = there e
-
 form_named : (class : List ℕ) → is_headed (form_of class) ≡ false → is_name_text class ≡ true
-form_named class e =
-    pick (bytes_eq class (codes "TObject")) bare _ (own_name class (codes "TObject") refl)
-    (pick (bytes_eq class (codes "TArrayC")) (numbers I8) _ (own_name class (codes "TArrayC") refl)
-    (pick (bytes_eq class (codes "TArrayS")) (numbers I16) _ (own_name class (codes "TArrayS") refl)
-    (pick (bytes_eq class (codes "TArrayI")) (numbers I32) _ (own_name class (codes "TArrayI") refl)
-    (pick (bytes_eq class (codes "TArrayL64")) (numbers I64) _ (own_name class (codes "TArrayL64") refl)
-    (pick (bytes_eq class (codes "TArrayF")) (numbers F32) _ (own_name class (codes "TArrayF") refl)
-    (pick (bytes_eq class (codes "TArrayD")) (numbers F64) headed (own_name class (codes "TArrayD") refl) (λ h. absurd cc))))))) e
+form_named class =
+    of_each (λ (f : Form). is_headed f ≡ false → is_name_text class ≡ true) (λ b. (row b).form) headed headless_classes class
+    ((λ c e. ap is_name_text c), ((λ c e. ap is_name_text c), ((λ c e. ap is_name_text c), ((λ c e. ap is_name_text c), ((λ c e. ap is_name_text c), ((λ c e. ap is_name_text c), ((λ c e. ap is_name_text c), tt)))))))
+    (λ e. absurd cc)
 
 -- ---- fields
 
@@ -88,7 +75,7 @@ pub record IsFormed (class : List ℕ) (version : ℤ) (parts : List (List ℕ �
 -- fields that are there in version 1 alone
 first_version : (class : List ℕ) (version : ℤ) (fields : List Field) (parts : List (List ℕ × Fitting)) (before after : Labels) (b : Bool) → is_name_text class ≡ true → Each IsPlaced fields → are_bases_first true (map (λ f. f.name) fields) ≡ true → int_eq version (pos 1) ≡ b
     → parts_fit (cond b (Some fields) None) parts before ≡ Some after → IsFormed class version parts before after
-first_version class version fields parts before after true named all first t e = record { class_named = named; version_stated = own_version version (pos 1) refl t; fields = fields; all_placed = all; first = first; fit = e }
+first_version class version fields parts before after true named all first t e = record { class_named = named; version_stated = ap is_class_version ((Decides-int_eq version (pos 1)).0 t); fields = fields; all_placed = all; first = first; fit = e }
 first_version class version fields parts before after false named all first t e = absurd cc
 
 abbrev IsBodyKnown : List ℕ → ℤ → Body → Type 0
@@ -124,23 +111,22 @@ arrayed_known class version named stated parts before after e = record {
   fit = e;
 }
 
-built_by : (P : Body → Type 0) (b : Bool) (own : Body) (rest : Option Body) (body : Body) → (b ≡ true → P own) → (rest ≡ Some body → P body) → cond b (Some own) rest ≡ Some body → P body
-built_by P true own rest body here there e = let same : own ≡ body = cc in subst P same (here refl)
-built_by P false own rest body here there e = there e
-
-own_class : (class own : List ℕ) (version stated : ℤ) (c : ClassDef) → is_name_text own ≡ true → is_class_version stated ≡ true → list_all (λ m. is_name_text m.name) c.members ≡ true → (bytes_eq class own && int_eq version stated) ≡ true → IsNamed class version c
-own_class class own version stated c named s members e =
-    let t = both_true (bytes_eq class own) (int_eq version stated) e in
-    record { class_named = own_name class own named t.0; version_stated = own_version version stated s t.1; members_named = members }
-
 built_known : (class : List ℕ) (version : ℤ) (body : Body) → built_in class version ≡ Some body → IsBodyKnown class version body
-built_known class version body e =
-    let P = IsBodyKnown class version in
-    built_by P (bytes_eq class (codes "TNamed") && int_eq version (pos 1)) (described t_named) _ body (λ t. described_known class version t_named (own_class class (codes "TNamed") version (pos 1) t_named refl refl refl t))
-    (built_by P (bytes_eq class (codes "TObjString") && int_eq version (pos 1)) (described t_obj_string) _ body (λ t. described_known class version t_obj_string (own_class class (codes "TObjString") version (pos 1) t_obj_string refl refl refl t))
-    (built_by P (bytes_eq class (codes "TList") && int_eq version (pos 5)) listed _ body (λ t. let n = own_class class (codes "TList") version (pos 5) t_named refl refl refl t in listed_known class version n.class_named n.version_stated)
-    (built_by P (bytes_eq class (codes "TObjArray") && int_eq version (pos 3)) arrayed None body (λ t. let n = own_class class (codes "TObjArray") version (pos 3) t_named refl refl refl t in arrayed_known class version n.class_named n.version_stated)
-    (λ h. absurd cc)))) e
+built_known class version body =
+    of_body (λ o. o ≡ Some body → IsBodyKnown class version body) headed_classes class version (
+      (λ c v. like t_named refl (ap is_name_text c) (ap is_class_version v)),
+      (
+        (λ c v. like t_obj_string refl (ap is_name_text c) (ap is_class_version v)),
+        ((λ c v. by listed (listed_known class version (ap is_name_text c) (ap is_class_version v))), ((λ c v. by arrayed (arrayed_known class version (ap is_name_text c) (ap is_class_version v))), tt)),
+      ),
+    )
+    (λ e. absurd cc)
+  where
+    by : (own : Body) → IsBodyKnown class version own → Some own ≡ Some body → IsBodyKnown class version body
+    by own known e = let same : own ≡ body = cc in subst (IsBodyKnown class version) same known
+
+    like : (own : ClassDef) → list_all (λ m. is_name_text m.name) own.members ≡ true → is_name_text class ≡ true → is_class_version version ≡ true → Some (described own) ≡ Some body → IsBodyKnown class version body
+    like own members c v = by (described own) (described_known class version own (record { class_named = c; version_stated = v; members_named = members }))
 
 abbrev declared_from : Option ClassDef → Option Body → Option Body
 declared_from found (Some body) = Some body
