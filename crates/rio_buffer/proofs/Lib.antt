@@ -1,3 +1,4 @@
 mod Found
 pub mod Kept
 mod Spelled
+mod Told

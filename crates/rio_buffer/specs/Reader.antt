@@ -1,7 +1,8 @@
 -- What a call of a reader of objects did.
 use Rattle.std.specs.Prelude.{◌≡◌, ◌≤◌, ◌<◌, ◌^◌, ℕ, ◌+◌, List, Result, Ok, Err}
 use Rattle.rio_num.specs.Answers.{TakesUnless}
-use Rattle.rio_buffer.specs.Frames.{Step, data_end}
+use Rattle.rio_num.specs.Meanings.{Breaks, HasTaken}
+use Rattle.rio_buffer.specs.Frames.{ObjLayout, ReadsAs, Step, data_end}
 use Rattle.rio_buffer.specs.ReaderState.{ReaderState, with_name}
 use Rattle.rio_buffer.specs.declared.fault.ObjFault.{ObjFault}
 use Rattle.rio_buffer.specs.declared.fault.ObjFault.TheVariants.{NoMemory}
@@ -18,6 +19,18 @@ TakesStep view (Err e) read old new = (read ≡ Err e) × (new ≡ old)
 -- The same, and memory may have run out: nothing changed then either.
 abbrev pub MayTake : {X Y : Type 0} → (X → Y) → Result X ObjFault → Step Y → ReaderState → ReaderState → Type 0
 MayTake view = TakesUnless NoMemory view
+
+-- What the bytes spell from there on is taken.
+pub record TakesSpelled {X : Type 0} (l : ObjLayout X) (result : Result X ObjFault) (old new : ReaderState) : Type 0 where
+  pub takes : (x : X) (behind : ReaderState) → HasTaken l old x behind → TakesStep (λ y. y) result (Ok (x, behind)) old new
+
+-- The same, unless memory runs out.
+pub record MayTakeSpelled {X : Type 0} (l : ObjLayout X) (result : Result X ObjFault) (old new : ReaderState) : Type 0 where
+  pub takes : (x : X) (behind : ReaderState) → HasTaken l old x behind → ReadsAs (λ y. y) result (Ok (x, behind)) new
+
+-- The bytes break it from there on with this fault: what stands before is spelled, and this is the first fault.
+pub record IsFirstFault {X : Type 0} (l : ObjLayout X) (s : ReaderState) (fault : ObjFault) : Type 0 where
+  pub breaks : Breaks l s.at.place s.words s.at.rest fault
 
 -- The bytes that a count word at the place counts end within the data, reading stands behind the word, and the data are as
 -- short as a reader's are.

@@ -37,15 +37,15 @@ enum ClassWord {
 }
 
 impl<'a> ObjReader<'a> {
-    ghost use Rattle.std.specs.Prelude.{◌≡◌, ◌+◌, ◌<◌, ◌≤◌, ◌^◌, length, IsTrue, IfOk, IfErr, OnErr, Ok, Err};
+    ghost use Rattle.std.specs.Prelude.{◌≡◌, ◌≢◌, ◌+◌, ◌<◌, ◌≤◌, ◌^◌, length, IsTrue, IfOk, IfErr, OnErr, Ok, Err};
     ghost use Rattle.rio_num.specs.Answers.{FailsUnless};
     ghost use Rattle.rio_num.specs.At.{AreBytes, GoesOn};
     ghost use Rattle.rio_num.specs.Layout.{any, name, number, text};
-    ghost use Rattle.rio_num.specs.Meanings.{read};
+    ghost use Rattle.rio_num.specs.Meanings.{HasTaken, read};
     ghost use Rattle.rio_buffer.specs.ReaderState.{standing, no_words, with_label, with_name};
     ghost use Rattle.rio_buffer.specs.Frames.{ReadsAs, is_count, data_end, end_of, finish, header_end, header, class_word, known_class, new_word, reference, pointer_word};
     ghost use Rattle.rio_buffer.specs.declared.fault.ObjFault.TheVariants.{NoMemory as OutOfMemory};
-    ghost use Rattle.rio_buffer.specs.Reader.{TakesStep, MayTake, IsCounted, IsPointerWithin, name_of, noted};
+    ghost use Rattle.rio_buffer.specs.Reader.{TakesStep, MayTake, TakesSpelled, MayTakeSpelled, IsFirstFault, IsCounted, IsPointerWithin, name_of, noted};
 
     /// Reads data whose first byte has the place `start`.
     pub fn new(alloc: Global, bytes: &'a [u8], start: u64) -> ObjReader<'a>
@@ -138,6 +138,9 @@ impl<'a> ObjReader<'a> {
         requires { IsCounted place end self.old }
         ensures exact { TakesStep (λ _. tt) result
             (read (finish place end) self.old) self.old self.new }
+        ensures found { IfOk result (λ _. HasTaken (finish place end) self.old tt self.new) }
+        ensures only { TakesSpelled (finish place end) result self.old self.new }
+        ensures broken { IfErr result (IsFirstFault (finish place end) self.old) }
         ensures goes { GoesOn self.old.at self.new.at }
     {
         let used_to = self.cursor.place();
@@ -225,10 +228,16 @@ impl<'a> ObjReader<'a> {
     /// The header of an object, whose count is within the data.
     pub fn header(&mut self) -> Result<Header, ObjFault>
         ensures exact { TakesStep (λ x. x) result (read header self.old) self.old self.new }
+        // What is read is spelled by the bytes that were passed.
+        ensures found { IfOk result (λ h. HasTaken header self.old h self.new) }
+        // What the bytes spell there is read.
+        ensures only { TakesSpelled header result self.old self.new }
+        // A fault is the first one of the bytes.
+        ensures broken { IfErr result (IsFirstFault header self.old) }
         ensures within { IfOk result (λ h. IsCounted h.place h.end self.new) }
         ensures goes { GoesOn self.old.at self.new.at }
     {
-        let (rest, place) = (self.cursor.rest(), self.cursor.place());
+        let (place, rest) = (self.place(), self.cursor.rest());
         match self.read_header() {
             Ok(header) => Ok(header),
             Err(fault) => {
@@ -389,10 +398,17 @@ impl<'a> ObjReader<'a> {
     /// The first word of a pointer, and for a new object its class word, behind which the object stands.
     pub fn pointer(&mut self) -> Result<PointerWord, ObjFault>
         ensures exact { MayTake (λ x. x) result (read pointer_word self.old) self.old self.new }
+        // What is read is spelled by the bytes that were passed.
+        ensures found { IfOk result (λ w. HasTaken pointer_word self.old w self.new) }
+        // What the bytes spell there is read, unless memory runs out.
+        ensures only { MayTakeSpelled pointer_word result self.old self.new }
+        // A fault is the first one of the bytes.
+        ensures broken { IfErr result (λ fault. fault ≢ OutOfMemory
+            → IsFirstFault pointer_word self.old fault) }
         ensures within { IfOk result (λ w. IsPointerWithin w self.new) }
         ensures goes { GoesOn self.old.at self.new.at }
     {
-        let (rest, place) = (self.cursor.rest(), self.cursor.place());
+        let (place, rest) = (self.place(), self.cursor.rest());
         match self.read_pointer() {
             Ok(word) => Ok(word),
             Err(fault) => {
