@@ -1,8 +1,7 @@
 //! The key list of a file.
-ghost use Rattle.std.specs.Prelude.{◌≡◌, ◌≢◌, ◌+◌, ◌<◌, ◌^◌, ◌++◌, ℕ, List, length, IfErr, IfOk};
-ghost use Rattle.rio_num.specs.Answers.{GivesUnless};
+ghost use Rattle.std.specs.Prelude.{◌≡◌, ◌+◌, ◌<◌, ◌^◌, ◌++◌, ℕ, List, Ok, length, IfOk};
+ghost use Rattle.rio_num.specs.Answers.{GivesUnless, TellsUnless};
 ghost use Rattle.rio_num.specs.Plain.{IsSpelledIn};
-ghost use Rattle.rio_key.specs.Key.{IsReadAs};
 ghost use Rattle.rio_key.specs.KeyList.{BreaksKeyList, SpellsKeyList, key_list_at};
 ghost use Rattle.rio_key.specs.declared.fault.KeyFault.TheVariants.{NoMemory as OutOfMemory};
 ghost use Rattle.rio_dir.specs.KeyList.{heads_in};
@@ -21,11 +20,10 @@ pub fn read_key_list(alloc: Global, bytes: &[u8], base: u64) -> Result<Heads, Ke
     // What is read is spelled so by a front of the bytes, and what is spelled so is read.
     ensures found { IfOk result (λ heads. IsSpelledIn (SpellsKeyList heads) bytes.now) }
     // A fault is the first one: what stands before it is right, and there the list breaks.
-    ensures broken { IfErr result (λ fault. fault ≢ OutOfMemory
-        → (e : _) × (e.fault ≡ fault)
-        × BreaksKeyList (record { place = base; rest = bytes.now }) e) }
+    ensures broken { TellsUnless OutOfMemory (λ fault. (e : _) × (e.fault ≡ fault)
+        × BreaksKeyList (record { place = base; rest = bytes.now }) e) result }
     ensures only { (heads : List _) (front rest : List ℕ) → bytes.now ≡ front ++ rest
-        → SpellsKeyList heads front → IsReadAs result heads }
+        → SpellsKeyList heads front → GivesUnless OutOfMemory (λ x. x) result (Ok heads) }
 {
     match read_heads(alloc, bytes, base) {
         Ok(heads) => Ok(heads),

@@ -112,8 +112,3 @@ pieces text = slice_split (λ b. b == between_leaves) text
 -- the leaves that a text lists, with colons between them
 abbrev pub leaves_in : List ℕ → Result (List Leaf) LeafFault
 leaves_in text = leaves_at [] 0 (pieces text)
-
--- a function returned this, unless memory ran out
-abbrev pub IsLeafReadAs : {A : Type 0} → Result A LeafFault → A → Type 0
-IsLeafReadAs (Ok y) x = y ≡ x
-IsLeafReadAs (Err e) x = e ≡ NoMemory

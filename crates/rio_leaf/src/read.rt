@@ -1,5 +1,5 @@
 //! Lists of leaves are read.
-ghost use Rattle.std.specs.Prelude.{◌≡◌, ◌+◌, ◌<◌, ◌≤◌, ◌^◌, ◌==◌, List, [], ◌∷◌, length, IfOk, IsTrue};
+ghost use Rattle.std.specs.Prelude.{◌≡◌, ◌+◌, ◌<◌, ◌≤◌, ◌^◌, ◌==◌, List, [], ◌∷◌, Ok, length, IfOk, IsTrue};
 ghost use Rattle.std.specs.List.{position_or_len};
 ghost use Rattle.std.specs.Option.{option_copied, option_map_or};
 ghost use Rattle.rio_num.specs.Answers.{GivesUnless, ReadsUnless};
@@ -7,7 +7,7 @@ ghost use Rattle.rio_leaf.specs.Spelling.{is_leaf_list, text_of_leaves};
 ghost use Rattle.rio_leaf.specs.declared.fault.LeafFault.TheVariants.{NoMemory};
 ghost use Rattle.rio_leaf.specs.declared.leaf.Leaf.{Leaf};
 ghost use Rattle.rio_leaf.specs.Marks.{between_leaves};
-ghost use Rattle.rio_leaf.specs.Reading.{IsLeafReadAs, dim_at, dim_of, leaf_at, leaf_name_of, leaves_in, letter_in, pieces, said_at};
+ghost use Rattle.rio_leaf.specs.Reading.{dim_at, dim_of, leaf_at, leaf_name_of, leaves_in, letter_in, pieces, said_at};
 
 use crate::dim::{dim_in, letter_in};
 use crate::rules::is_taken;
@@ -137,7 +137,8 @@ pub fn read_leaves(alloc: Global, text: &[u8]) -> Result<Leaves, LeafFault>
     ensures found { IfOk result (λ leaves.
         IsTrue (is_leaf_list leaves) × (text.now ≡ text_of_leaves leaves)) }
     ensures only { (leaves : List Leaf) → IsTrue (is_leaf_list leaves)
-        → text.now ≡ text_of_leaves leaves → IsLeafReadAs result leaves }
+        → text.now ≡ text_of_leaves leaves
+        → GivesUnless NoMemory (λ x. x) result (Ok leaves) }
 {
     take_leaves(alloc, text)
 }

@@ -1,11 +1,10 @@
-use Rattle.std.proofs.Common.{◌≡◌, ℕ, List, true, Result, Ok, Err, IfOk, IsTrue, refl, sym, ap, ◌∙◌}
-use Rattle.rio_num.proofs.ReadLaws.{ok_is}
+use Rattle.std.proofs.Common.{◌≡◌, ℕ, List, true, Result, Ok, Err, IfOk, IsTrue, ap, subst, ◌∙◌}
 use Rattle.rio_num.specs.Answers.{GivesUnless}
 use Rattle.rio_leaf.specs.declared.fault.LeafFault.{LeafFault}
-use Rattle.rio_leaf.specs.declared.fault.LeafFault.TheVariants.{NoMemory, BadLeaf}
+use Rattle.rio_leaf.specs.declared.fault.LeafFault.TheVariants.{NoMemory}
 use Rattle.rio_leaf.specs.declared.leaf.Leaf.{Leaf}
 use Rattle.rio_leaf.specs.Spelling.{is_leaf_list, text_of_leaves}
-use Rattle.rio_leaf.specs.Reading.{IsLeafReadAs, leaves_in}
+use Rattle.rio_leaf.specs.Reading.{leaves_in}
 use Rattle.rio_leaf.proofs.ListLaws.{list_again, list_found}
 use Rattle.rio_leaf.proofs.read.read_leaves.Goals as goal
 
@@ -13,13 +12,8 @@ found : (text : List ℕ) (r : Result (List Leaf) LeafFault) → GivesUnless NoM
 found text (Ok leaves) h = let f = list_found text leaves h in (f.is, f.parts)
 found text (Err e) h = tt
 
-only : (text : List ℕ) (leaves : List Leaf) (r : Result (List Leaf) LeafFault) → GivesUnless NoMemory (λ ls. ls) r (leaves_in text) → is_leaf_list leaves ≡ true → text ≡ text_of_leaves leaves → IsLeafReadAs r leaves
-only text leaves (Ok others) h is parts = ok_is {E = LeafFault} others leaves (sym h ∙ ap leaves_in parts ∙ list_again leaves is)
-only text leaves (Err NoMemory) h is parts = refl
-only text leaves (Err (BadLeaf place)) h is parts =
-    let fault : LeafFault = BadLeaf place in
-    let bad : leaves_in text ≡ Err (BadLeaf place) = h (λ q. cc) in
-    absurd (let clash = sym bad ∙ ap leaves_in parts ∙ list_again leaves is in cc)
+only : (text : List ℕ) (leaves : List Leaf) (r : Result (List Leaf) LeafFault) → GivesUnless NoMemory (λ ls. ls) r (leaves_in text) → is_leaf_list leaves ≡ true → text ≡ text_of_leaves leaves → GivesUnless NoMemory (λ ls. ls) r (Ok leaves)
+only text leaves r h is parts = subst (λ (q : Result (List Leaf) LeafFault). GivesUnless NoMemory (λ ls. ls) r q) (ap leaves_in parts ∙ list_again leaves is) h
 
 pub returns-clause-found : goal.returns-clause-found
 returns-clause-found c = found c.args.text.now c.take_leaves.result c.take_leaves.ensures
