@@ -5,7 +5,9 @@ use Rattle.std.proofs.lemmas.Bool.Decides.{nat_tests}
 use Rattle.std.proofs.lemmas.Int.{ints}
 use Rattle.rio_num.specs.Reading.{◌>>=◌}
 use Rattle.rio_num.proofs.ReadLaws.{bind_ok, chosen, ok_is}
-use Rattle.rio_key.specs.BasketFront.{basket_front_at}
+use Rattle.rio_num.specs.Meanings.{read}
+use Rattle.rio_num.specs.Plain.{plain, value_of}
+use Rattle.rio_key.specs.BasketFront.{basket_front}
 use Rattle.rio_key.specs.Key.{is_compressed}
 use Rattle.rio_key.specs.declared.basket_head.BasketFront.{BasketFront}
 use Rattle.rio_key.specs.declared.fault.KeyFault.{KeyFault}
@@ -14,7 +16,7 @@ use Rattle.rio_basket.specs.declared.fault.BasketFault.TheVariants.{BadLast, Bad
 use Rattle.rio_basket.specs.declared.layout.Layout.{Layout}
 use Rattle.rio_basket.specs.Entries.{has_count, is_offset, is_whole_at, number_there, offset_at, offset_before, offset_place, offsets_from, offsets_in, spare_offset}
 use Rattle.rio_basket.specs.Laid.{AreOffsets, IsLaid, IsLayoutWithin}
-use Rattle.rio_basket.specs.Stored.{ends_within, from_first, has_negative, has_one_length, is_sound, last_place, layout_by, layout_in, layout_of}
+use Rattle.rio_basket.specs.Stored.{ends_within, has_negative, has_one_length, is_sound, last_place, layout_by, layout_in, layout_of}
 use Rattle.rio_basket.proofs.OffsetLaws.{before_next}
 
 -- ---- the numbers of the head
@@ -53,7 +55,7 @@ within_by offsets bytes layout (Ok front) h =
     subst (λ (l : Layout). IsLayoutWithin l bytes) (sym b.0) made
 
 pub layout_within : (offsets : Bool) (bytes : List ℕ) (layout : Layout) → layout_in offsets bytes ≡ Ok layout → IsLayoutWithin layout bytes
-layout_within offsets bytes layout e = within_by offsets bytes layout (basket_front_at (from_first bytes)) e
+layout_within offsets bytes layout e = within_by offsets bytes layout (value_of (read basket_front (plain (record { place = 0; rest = bytes })))) e
 
 -- ---- offsets
 

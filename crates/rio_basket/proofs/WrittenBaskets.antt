@@ -9,14 +9,19 @@ use Rattle.rio_num.specs.Reading.{◌>>=◌}
 use Rattle.rio_num.specs.Room.{padding}
 use Rattle.rio_num.specs.Text.{long_form, short_form, text_bytes}
 use Rattle.rio_num.proofs.ReadLaws.{bind_is}
-use Rattle.rio_key.specs.BasketFront.{basket_front_at}
-use Rattle.rio_key.specs.BasketHead.{AreInRange, basket_head_bytes, integer_bytes, sizes_bytes}
-use Rattle.rio_num.specs.Plain.{IsSpelledIn}
+use Rattle.rio_num.specs.Meanings.{Reading, read}
+use Rattle.rio_num.specs.declared.cursor.Short.{Short as Shortage}
+use Rattle.rio_num.specs.Plain.{IsSpelledIn, plain, value_of}
+use Rattle.rio_num.proofs.Plain.{standing}
+use Rattle.rio_key.specs.BasketFront.{basket_front, number_within}
+use Rattle.rio_key.specs.BasketHead.{AreInRange, basket_head_at, basket_head_bytes, basket_head_of, integer_bytes, sizes_bytes}
 use Rattle.rio_key.specs.Key.{SpellsKey, is_compressed}
 use Rattle.rio_key.specs.Written.{FitsKey, HoldsItself, number_bytes, written_key}
 use Rattle.rio_key.specs.declared.basket_head.BasketFront.{BasketFront}
 use Rattle.rio_key.specs.declared.basket_head.BasketHead.{BasketHead}
 use Rattle.rio_key.specs.declared.head.KeyHead.{KeyHead}
+use Rattle.rio_key.specs.declared.fault.KeyFault.{KeyFault}
+use Rattle.rio_key.proofs.BasketFrontLaws.{front_is, head_within, whole, within}
 use Rattle.rio_key.proofs.BasketHeadLaws.{basket_head_again}
 use Rattle.rio_key.proofs.KeyAgain.{key_again}
 use Rattle.rio_key.proofs.KeyWritten.{key_spelled}
@@ -27,7 +32,7 @@ use Rattle.rio_basket.specs.Entries.{entries_in, laid_entries, offsets_in, sound
 use Rattle.rio_basket.specs.Laws.{AreBasketRecords, IsBasketRecord}
 use Rattle.rio_basket.specs.Open.{OpenBasket, entries_length, have_one_length}
 use Rattle.rio_basket.specs.Record.{FitsBasketRecord, basket_data, basket_head, basket_key, basket_key_length, basket_record, basket_record_length, entry_size, offset_table, padded_data_length, unpadded_basket}
-use Rattle.rio_basket.specs.Stored.{ends_within, from_first, has_negative, has_one_length, is_multiple, is_sound, last_place, layout_by, layout_in}
+use Rattle.rio_basket.specs.Stored.{ends_within, has_negative, has_one_length, is_multiple, is_sound, last_place, layout_by, layout_in}
 use Rattle.rio_basket.proofs.HeldLaws.{data_alone, data_parts, data_with_offsets, data_within, size_small}
 use Rattle.rio_basket.proofs.ReadEqual.{length_divides, read_without_offsets}
 use Rattle.rio_basket.proofs.ReadOffsets.{read_with_offsets}
@@ -177,16 +182,20 @@ module _ (place : ℕ) (tree branch : List ℕ) (datime : ℕ) (basket : OpenBas
     flag = omega arith;
   }
 
-  front_read : (more : List ℕ) → basket_front_at (from_first (written_key key ++ (basket_head_bytes head ++ more))) ≡ Ok (record { key = key; head = head; place = length (written_key key) })
-  unfolding basket_front_at
+  front_read : (more : List ℕ) → value_of (read basket_front (plain (standing 0 (written_key key ++ (basket_head_bytes head ++ more))))) ≡ Ok (record { key = key; head = head; place = length (written_key key) })
   front_read more =
       let p = 0 + length (written_key key) in
-      let read = key_again key (written_key key) 0 (basket_head_bytes head ++ more) spelled in
-      let left : keylen - (p - 0) ≡ 19 = omega (arith, key_long) in
+      let behind = standing p (basket_head_bytes head ++ more) in
+      let end : 0 + keylen ≡ p + 19 = omega (arith, key_long) in
       let taken : take 19 (basket_head_bytes head ++ more) ≡ basket_head_bytes head ++ [] = take_at (basket_head_bytes head) more 19 (head_long head) ∙ sym (append-nil (basket_head_bytes head)) in
       let again = basket_head_again head p [] in_range in
+      let alone : whole (value_of (basket_head_at (within 19 behind))) ≡ Ok head =
+      ap (λ (b : List ℕ). whole (value_of (basket_head_at (standing p b)))) taken ∙ ap (λ (r : Reading (Unit {0}) Shortage BasketHead). whole (value_of r)) again in
+      let held : value_of (read (basket_head_of (number_within (0 + keylen))) (plain behind)) ≡ Ok head =
+      ap (λ (e : ℕ). value_of (read (basket_head_of (number_within e)) (plain behind))) end ∙ head_within 19 behind ∙ alone in
       let there : p ≡ length (written_key key) = omega arith in
-      rw (read, left, taken, again, there) refl
+      front_is (standing 0 (written_key key ++ (basket_head_bytes head ++ more))) key behind (Ok head) (key_again key (written_key key) 0 (basket_head_bytes head ++ more) spelled) held
+      ∙ ap (λ (q : ℕ). let r : Result BasketFront KeyFault = Ok (record { key = key; head = head; place = q }) in r) there
 
   -- ---- its entries
 

@@ -1,7 +1,8 @@
 -- How the entries of a basket are laid out in its bytes: the numbers of its head, or the first fault.
 use Rattle.std.specs.Prelude.{ℕ, ◌+◌, ◌-◌, ◌%◌, ℤ, pos, List, length, Result, Ok, Err, Bool, int_lt, int_le, nat_lt, ◌==◌, ◌||◌, ◌&&◌, not, unsigned_abs, if◌then◌else◌}
-use Rattle.rio_num.specs.At.{At}
-use Rattle.rio_key.specs.BasketFront.{basket_front_at}
+use Rattle.rio_num.specs.Meanings.{read}
+use Rattle.rio_num.specs.Plain.{plain, value_of}
+use Rattle.rio_key.specs.BasketFront.{basket_front}
 use Rattle.rio_key.specs.Key.{is_compressed}
 use Rattle.rio_key.specs.declared.basket_head.BasketFront.{BasketFront}
 use Rattle.rio_key.specs.declared.basket_head.BasketHead.{BasketHead}
@@ -53,9 +54,6 @@ layout_by offsets n (Ok front) =
     else if not (is_sound offsets front) then Err (BadLast (last_place front))
     else Ok (layout_of front)
 
-abbrev pub from_first : List ℕ → At
-from_first bytes = record { place = 0; rest = bytes }
-
 -- what the key and the head of a basket say, or their first fault
 abbrev pub layout_in : Bool → List ℕ → Result Layout BasketFault
-layout_in offsets bytes = layout_by offsets (length bytes) (basket_front_at (from_first bytes))
+layout_in offsets bytes = layout_by offsets (length bytes) (value_of (read basket_front (plain (record { place = 0; rest = bytes }))))

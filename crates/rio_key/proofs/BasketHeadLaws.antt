@@ -8,7 +8,7 @@ use Rattle.byteorder.specs.Endian.{big_bytes}
 use Rattle.rio_num.specs.At.{At, AreBytes, end_place}
 use Rattle.rio_num.specs.declared.cursor.Short.{Short as Shortage}
 use Rattle.rio_num.proofs.Intro.{IsSo, done_is, number_then, so_by}
-use Rattle.rio_key.specs.BasketHead.{AreInRange, BreaksBasketHead, basket_head_at, basket_head_bytes, basket_head_layout, integer_bytes, sizes_bytes}
+use Rattle.rio_key.specs.BasketHead.{AreInRange, BreaksBasketHead, basket_head_at, basket_head_bytes, basket_head_layout, basket_head_of, integer_bytes, sizes_bytes}
 use Rattle.rio_key.specs.declared.basket_head.BasketHead.{BasketHead}
 use Rattle.rio_num.specs.Plain.{IsSpelledBy, plain, value_of}
 use Rattle.rio_key.specs.Key.{key_head_at}
@@ -21,7 +21,7 @@ small : (z : ℤ) → FitsSigned w32 z → cast_unsigned w32 z < 2 ^ 32
 small z fits = grind (arith, ints)
 
 head_spelled : (h : BasketHead) → AreInRange h → IsSpelledBy basket_head_layout h (basket_head_bytes h)
-unfolding basket_head_layout sizes_bytes integer_bytes
+unfolding basket_head_of sizes_bytes integer_bytes
 head_spelled h c = λ p.
     let back : (z : ℤ) → FitsSigned w32 z → z ≡ cast_signed w32 (cast_unsigned w32 z) = λ z fits. sym (to_z-of_z w32 z fits) in
     let same : h ≡ record h { buffer_size = cast_signed w32 (cast_unsigned w32 h.buffer_size); nev_size = cast_signed w32 (cast_unsigned w32 h.nev_size); nev = cast_signed w32 (cast_unsigned w32 h.nev); last = cast_signed w32 (cast_unsigned w32 h.last) } =
@@ -37,7 +37,7 @@ head_spelled h c = λ p.
     all.so
 
 head_apart : (end p : ℕ) (h : BasketHead) (bytes : List ℕ) → IsSo basket_head_layout end p tt h bytes tt → bytes ≡ basket_head_bytes h
-unfolding basket_head_layout sizes_bytes integer_bytes
+unfolding basket_head_of sizes_bytes integer_bytes
 head_apart end p h bytes c =
     number_of c (λ version r1 f1 e1 c1.
     number_of c1 (λ buffer_size r2 f2 e2 c2.

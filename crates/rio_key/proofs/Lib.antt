@@ -1,3 +1,4 @@
+pub mod BasketFrontLaws
 pub mod BasketHeadLaws
 pub mod KeyAgain
 pub mod KeyFront

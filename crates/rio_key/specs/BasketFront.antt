@@ -1,26 +1,24 @@
 -- The key of a basket, and the basket's head within it.
-use Rattle.std.specs.Prelude.{ℕ, ◌-◌, take, Result, Ok, Err}
-use Rattle.rio_num.specs.At.{At}
-use Rattle.rio_num.specs.Reading.{◌>>=◌}
-use Rattle.rio_num.specs.declared.cursor.Short.{Short as Shortage}
-use Rattle.rio_key.specs.BasketHead.{basket_head_at}
-use Rattle.rio_key.specs.Key.{key_head_at}
+use Rattle.std.specs.Prelude.{ℕ, ◌+◌, nat_lt}
+use Rattle.rio_num.specs.Layout.{done, broken, number, here, ◌>>=◌, when◌then◌else◌}
+use Rattle.rio_num.specs.Plain.{Plain}
+use Rattle.rio_key.specs.BasketHead.{basket_head_of}
+use Rattle.rio_key.specs.Key.{key_layout}
 use Rattle.rio_key.specs.declared.basket_head.BasketFront.{BasketFront}
 use Rattle.rio_key.specs.declared.fault.KeyFault.{KeyFault}
 use Rattle.rio_key.specs.declared.fault.KeyFault.TheVariants.{Short}
 
--- a field that isn't whole is a fault of the key
-abbrev pub whole : {A : Type 0} → Result A Shortage → Result A KeyFault
-whole (Ok x) = Ok x
-whole (Err s) = Err (Short s.place s.wanted)
-
--- no more than the next n bytes
-abbrev pub within : ℕ → At → At
-within n s = record { place = s.place; rest = take n s.rest }
+-- a number of so many bytes, none of them behind the end
+abbrev pub number_within : ℕ → ℕ → Plain KeyFault ℕ
+number_within end n = do
+  place ← here
+  when nat_lt end (place + n) then broken (Short place n) else number Short n
 
 -- the key of a basket, and behind its title, but within its KeyLen, the basket's head
-unfoldable pub basket_front_at : At → Result BasketFront KeyFault
-basket_front_at s = do
-  key ← key_head_at s
-  head ← whole (basket_head_at (within (key.0.keylen - (key.1.at.place - s.place)) key.1.at))
-  Ok (record { key = key.0; head = head.0; place = key.1.at.place })
+unfoldable pub basket_front : Plain KeyFault BasketFront
+basket_front = do
+  start ← here
+  key ← key_layout
+  place ← here
+  head ← basket_head_of (number_within (start + key.keylen))
+  done (record { key = key; head = head; place = place })

@@ -11,16 +11,19 @@ use Rattle.rio_num.specs.declared.cursor.Short.{Short as Shortage}
 use Rattle.rio_num.specs.Plain.{Plain, plain}
 use Rattle.rio_key.specs.declared.basket_head.BasketHead.{BasketHead}
 
--- the fields; an integer of 4 bytes may be negative
-unfoldable pub basket_head_layout : Plain Shortage BasketHead
-basket_head_layout = do
-  version ← number short 2
-  buffer_size ← number short 4
-  nev_size ← number short 4
-  nev ← number short 4
-  last ← number short 4
-  flag ← number short 1
+-- the fields, each of them a number of so many bytes; an integer of 4 bytes may be negative
+unfoldable pub basket_head_of : {F : Type 0} → (ℕ → Plain F ℕ) → Plain F BasketHead
+basket_head_of field = do
+  version ← field 2
+  buffer_size ← field 4
+  nev_size ← field 4
+  nev ← field 4
+  last ← field 4
+  flag ← field 1
   done (record { version = version; buffer_size = cast_signed w32 buffer_size; nev_size = cast_signed w32 nev_size; nev = cast_signed w32 nev; last = cast_signed w32 last; flag = flag })
+
+abbrev pub basket_head_layout : Plain Shortage BasketHead
+basket_head_layout = basket_head_of (number short)
 
 -- the fields, and where the last one ends, or the first fault
 abbrev pub basket_head_at : At → Reading (Unit {0}) Shortage BasketHead

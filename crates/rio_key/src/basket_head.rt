@@ -2,9 +2,10 @@
 ghost use Rattle.std.specs.Prelude.{◌≡◌, ◌+◌, ◌<◌, ◌≤◌, ◌^◌, ◌++◌, ℕ, List, length, take, Ok, IfErr, IfOk, OnOk, OnErr};
 ghost use Rattle.rio_num.specs.Answers.{GivesUnless};
 ghost use Rattle.rio_num.specs.Room.{with_more};
-ghost use Rattle.rio_key.specs.BasketFront.{basket_front_at, within};
-ghost use Rattle.rio_key.specs.BasketHead.{AreInRange, BreaksBasketHead, basket_head_at, basket_head_bytes, integer_bytes, sizes_bytes};
-ghost use Rattle.rio_num.specs.Plain.{value_of};
+ghost use Rattle.rio_key.specs.BasketFront.{basket_front, number_within};
+ghost use Rattle.rio_key.specs.BasketHead.{AreInRange, BreaksBasketHead, basket_head_at, basket_head_bytes, basket_head_of, integer_bytes, sizes_bytes};
+ghost use Rattle.rio_num.specs.Meanings.{read};
+ghost use Rattle.rio_num.specs.Plain.{plain, value_of};
 ghost use Rattle.rio_key.specs.declared.fault.KeyFault.TheVariants.{NoMemory as OutOfMemory};
 ghost use Rattle.rio_key.specs.declared.basket_head.BasketHead.{BasketHead as Head};
 
@@ -28,7 +29,7 @@ pub struct BasketHead {
     pub flag: u8,
 }
 
-#[tactic(auto, unfolding(crate::specs::BasketHead::basket_head_layout))]
+#[tactic(auto, unfolding(crate::specs::BasketHead::basket_head_of))]
 fn take_basket_head(cursor: &mut Cursor) -> Result<BasketHead, Short>
     ensures { result ≡ value_of (basket_head_at cursor.old) }
 {
@@ -80,26 +81,38 @@ fn front(bytes: &[u8], n: u64) -> &[u8]
 
 // Reads no more than the next `n` bytes.
 fn within<'a>(cursor: &Cursor<'a>, n: u64) -> Cursor<'a>
-    ensures { result ≡ within n cursor.now }
+    ensures { result
+        ≡ record { place = cursor.now.place; rest = take n cursor.now.rest } }
 {
     let left = cursor.left();
     Cursor::new(front(cursor.rest(), n.min(left)), cursor.place())
 }
 
+// The head of a basket within the next `n` bytes.
+fn head_within(cursor: &Cursor, n: u64) -> Result<BasketHead, KeyFault>
+    ensures { result ≡ value_of
+        (read (basket_head_of (number_within (cursor.now.place + n))) (plain cursor.now)) }
+{
+    match take_basket_head(&mut within(cursor, n)) {
+        Ok(head) => Ok(head),
+        Err(short) => Err(KeyFault::from(short)),
+    }
+}
+
 /// The key of a basket and the basket's head that these bytes begin with, the first of which has the place `base`. The
 /// head stands behind the title and ends within KeyLen, else it is Short at the first field that isn't whole there.
-#[tactic(auto, unfolding(crate::specs::BasketFront::basket_front_at))]
+#[tactic(auto, unfolding(crate::specs::BasketFront::basket_front))]
 pub fn read_basket_front(alloc: Global, bytes: &[u8], base: u64) -> Result<BasketFront, KeyFault>
     requires { base + length bytes.now < 2 ^ 64 }
     ensures exact { GivesUnless OutOfMemory (λ front. front) result
-        (basket_front_at (record { place = base; rest = bytes.now })) }
+        (value_of (read basket_front (plain (record { place = base; rest = bytes.now })))) }
     ensures within { IfOk result (λ front. front.place ≤ base + length bytes.now) }
 {
     let mut cursor = Cursor::new(bytes, base);
     let key = take_key(alloc, &mut cursor)?;
     let place = cursor.place();
     let left = u64::from(key.keylen).saturating_sub(place.saturating_sub(base));
-    let head = take_basket_head(&mut within(&cursor, left))?;
+    let head = head_within(&cursor, left)?;
     Ok(BasketFront { key, head, place })
 }
 

@@ -1,5 +1,6 @@
 //! Laws of keys: how reading, spelling and first faults belong together, and that there is one key at a place.
 ghost use Rattle.rio_num.specs.Laws.{Agrees};
+ghost use Rattle.rio_key.specs.BasketFront.{basket_front};
 ghost use Rattle.rio_key.specs.BasketHead.{basket_head_layout};
 ghost use Rattle.rio_num.specs.Plain.{IsOne};
 ghost use Rattle.rio_key.specs.Laws.{KeyFromFront, KeyInFront};
@@ -8,11 +9,12 @@ ghost use Rattle.rio_key.specs.KeyList.{SpellsKeyList, key_list_layout};
 ghost use Rattle.rio_key.specs.Written.{WrittenKeyIsSpelled};
 
 /// What is spelled is read, what breaks gives the fault, what is read is spelled, and what fails is broken: so it is with
-/// keys, with lists of their heads, and with the heads of baskets.
+/// keys, with lists of their heads, with the heads of baskets, and with the keys that have one.
 pub fn meanings_agree()
     ensures key { Agrees key_layout }
     ensures list { Agrees key_list_layout }
     ensures head { Agrees basket_head_layout }
+    ensures front { Agrees basket_front }
 {}
 
 /// One key is spelled at the beginning of some bytes, by one front of them.

@@ -1,8 +1,8 @@
 //! Keys: the head of each record of a file, and lists of such heads.
 //!
-//! A key, a list of heads and the head of a basket stand once, as descriptions (`specs/Key.antt`, `KeyList.antt`,
-//! `BasketHead.antt`), of which reading, spelling and the first fault are three meanings. `specs/Written.antt` has what is
-//! written, `specs/BasketFront.antt` a basket's key with the head behind it.
+//! A key, a list of heads, the head of a basket and a basket's key with the head behind it stand once, as descriptions
+//! (`specs/Key.antt`, `KeyList.antt`, `BasketHead.antt`, `BasketFront.antt`), of which reading, spelling and the first fault
+//! are three meanings. `specs/Written.antt` has what is written.
 #![tactic(auto)]
 
 mod basket_head;

@@ -1,4 +1,5 @@
 use Rattle.rio_num.proofs.Agree.{agrees}
+use Rattle.rio_key.specs.BasketFront.{basket_front}
 use Rattle.rio_key.specs.BasketHead.{basket_head_layout}
 use Rattle.rio_key.specs.Key.{key_layout}
 use Rattle.rio_key.specs.KeyList.{key_list_layout}
@@ -12,3 +13,6 @@ returns-clause-list c = agrees key_list_layout
 
 pub returns-clause-head : goal.returns-clause-head
 returns-clause-head c = agrees basket_head_layout
+
+pub returns-clause-front : goal.returns-clause-front
+returns-clause-front c = agrees basket_front
