@@ -11,6 +11,9 @@ use Rattle.rio_types.specs.declared.kind.Kind.TheVariants.{Counter}
 use Rattle.rio_types.specs.declared.kind.Primitive.TheVariants.{I32}
 use Rattle.rio_types.specs.Members.{is_counter}
 use Rattle.rio_value.specs.declared.value.Part.{Part}
+use Rattle.rio_value.specs.declared.value.Value.{Int, out-Value, out-roll-Value}
+use Rattle.rio_value.specs.declared.value.Value.TheOpen as layer
+use Rattle.rio_value.specs.declared.value.Value.TheVariants.{rolls-Int}
 use Rattle.rio_buffer.specs.Frames.{ObjLayout, Step, finish, pointer_word}
 use Rattle.rio_buffer.specs.ReaderState.{ReaderState}
 use Rattle.rio_buffer.specs.declared.fault.ObjFault.{ObjFault}
@@ -19,12 +22,20 @@ use Rattle.rio_buffer.specs.declared.words.Header.{Header}
 use Rattle.rio_buffer.specs.declared.words.PointerWord.TheVariants.{New}
 use Rattle.rio_format.specs.Bodies.{Counters, counters_with, t_named, t_obj_string}
 use Rattle.rio_format.specs.Objects.{Objects, array_parts, base_object, base_part, closed, count_of, kind_value, link, list_parts, member_part, member_parts, number_value, parts, pointed, pointer, text_value, whole_object}
-use Rattle.rio_read.specs.Passing.{counted_member, noted_counter, passed}
-use Rattle.rio_read.proofs.Passing.{dropped, passed_is}
+use Rattle.rio_read.specs.Passing.{counted_member, new_passed, noted_counter, passed}
+use Rattle.rio_read.proofs.Passing.{at_end}
+
+out_int : (n : ℤ) → out-Value (Int n) ≡ layer.Int n
+out_int n = ap out-Value (sym (rolls-Int n)) ∙ out-roll-Value (layer.Int n)
 
 pub bind_assoc : {A B C E : Type 0} (r : Result A E) (f : A → Result B E) (g : B → Result C E) → ((r >>= f) >>= g) ≡ (r >>= λ x. f x >>= g)
 bind_assoc (Ok x) f g = refl
 bind_assoc (Err e) f g = refl
+
+-- nothing was read, of which nothing is kept
+kept : (step : Step (Unit {0})) → (step >>= λ x. at_end x.1) ≡ step
+kept (Ok x) = refl
+kept (Err e) = refl
 
 -- ---- one part behind the other
 
@@ -68,9 +79,9 @@ pub pointer_passed : (object : Objects) (s : ReaderState) → read (passed (poin
 unfolding pointer
 pointer_passed object s = simp bind_assoc
 
-pub pointed_passed : (object : Objects) (label place end : ℕ) (class : List ℕ) (s : ReaderState) → read (passed (pointed object (New label place end class))) s ≡ (read (passed (object class)) s >>= λ x. read (passed (finish place end)) x.1)
-unfolding pointed
-pointed_passed object label place end class s = simp bind_assoc
+pub pointed_passed : (object : Objects) (label place end : ℕ) (class : List ℕ) (s : ReaderState) → read (passed (pointed object (New label place end class))) s ≡ read (new_passed object place end class) s
+unfolding pointed new_passed
+pointed_passed object label place end class s = simp (bind_assoc, kept)
 
 -- ---- loops
 
@@ -123,7 +134,7 @@ module _ {Y : Type 0} (l : ObjLayout Y) (n i : ℕ) (s : ReaderState) (total : S
 -- a counter among the members
 pub counter_noted : (object : Objects) (counters : Counters) (m : Member) (s : ReaderState) → m.kind ≡ Counter → read (counted_member object counters m) s ≡ read (noted_counter m.name counters) s
 unfolding counted_member member_part kind_value number_value noted_counter
-counter_noted object counters m s e = rw e (simp bind_assoc)
+counter_noted object counters m s e = rw e (simp (bind_assoc, out_int))
 
 -- any other member
 pub member_passed : (object : Objects) (counters : Counters) (m : Member) (s : ReaderState) → is_counter m.kind ≡ false → read (counted_member object counters m) s ≡ (read (passed (kind_value object counters m.kind)) s >>= λ x. Ok (counters, x.1))

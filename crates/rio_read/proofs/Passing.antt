@@ -1,7 +1,7 @@
 -- Numbers that are passed over.
-use Rattle.std.proofs.Common.{◌≡◌, ℕ, zero, suc, Bool, true, false, ltb, ◌+◌, ◌-◌, ◌*◌, ◌<◌, ◌≤◌, List, [], ◌∷◌, length, drop, Result, Ok, Err, refl, sym, ap, subst, ◌∙◌, arith}
-use Rattle.std.proofs.Math.Nat.{suc-mul}
-use Rattle.std.proofs.lemmas.Bool.{lt-ltb, le-ltb}
+use Rattle.std.proofs.Common.{◌≡◌, inl, inr, ℕ, zero, suc, ◌/◌, Bool, true, false, ltb, ◌+◌, ◌-◌, ◌*◌, ◌<◌, ◌≤◌, List, [], ◌∷◌, length, drop, Result, Ok, Err, refl, sym, ap, subst, ◌∙◌, arith}
+use Rattle.std.proofs.Math.Nat.{div-mul-le_self, le-div_iff_mul-le, suc-mul}
+use Rattle.std.proofs.lemmas.Bool.{lt-ltb, le-ltb, cases_lt}
 use Rattle.std.proofs.lemmas.List.{length-drop, drop-drop}
 use Rattle.rio_num.specs.At.{At}
 use Rattle.rio_num.specs.Reading.{◌>>=◌, skip}
@@ -9,7 +9,8 @@ use Rattle.rio_num.specs.Meanings.{read}
 use Rattle.rio_num.specs.Layout.{any, each, times}
 use Rattle.rio_types.specs.declared.kind.Primitive.{Primitive}
 use Rattle.rio_value.specs.declared.value.Value.{Value}
-use Rattle.rio_buffer.specs.Frames.{ObjLayout, Step}
+use Rattle.rio_buffer.specs.Frames.{ObjLayout, ReadsAs, Step}
+use Rattle.rio_buffer.specs.Reader.{TakesStep}
 use Rattle.rio_buffer.specs.ReaderState.{ReaderState}
 use Rattle.rio_buffer.specs.declared.fault.ObjFault.{ObjFault}
 use Rattle.rio_buffer.specs.declared.fault.ObjFault.TheVariants.{Short}
@@ -108,17 +109,17 @@ module _ (of : Primitive) where
       ∙ so_many k n (q - w) (past w s) more left
       ∙ ap (λ (t : ReaderState). read (passed (times n (number_value of))) t) (past_past (q - w) w s ∙ ap (λ (m : ℕ). past m s) end)
 
-  pub enough : (n : ℕ) (s : ReaderState) → n * width_of of ≤ length s.at.rest → read (passed (times n (number_value of))) s ≡ read (any Short (n * width_of of)) s
+  enough_there : (n : ℕ) (s : ReaderState) → n * width_of of ≤ length s.at.rest → read (passed (times n (number_value of))) s ≡ read (any Short (n * width_of of)) s
   unfolding each
-  enough n s le =
+  enough_there n s le =
       let all : n ≡ n + 0 = omega arith in
       ap (λ (m : ℕ). read (passed (times m (number_value of))) s) all
       ∙ so_many n 0 (n * width_of of) s refl le
       ∙ sym (any_ok (n * width_of of) s le)
 
-  pub too_few : (n k : ℕ) (s s1 : ReaderState) → k < n → k * width_of of ≤ length s.at.rest → length s.at.rest < k * width_of of + width_of of → read (any Short (k * width_of of)) s ≡ at_end s1
+  too_few_there : (n k : ℕ) (s s1 : ReaderState) → k < n → k * width_of of ≤ length s.at.rest → length s.at.rest < k * width_of of + width_of of → read (any Short (k * width_of of)) s ≡ at_end s1
       → read (passed (times n (number_value of))) s ≡ read (any Short (width_of of)) s1
-  too_few n k s s1 lt le few e =
+  too_few_there n k s s1 lt le few e =
       let q = k * width_of of in
       let there : past q s ≡ s1 = same_end (past q s) s1 (sym (any_ok q s le) ∙ e) in
       let cut : length (past q s).at.rest < width_of of = omega (arith, length-drop (k * width_of of) s.at.rest, few) in
@@ -128,6 +129,42 @@ module _ (of : Primitive) where
       ∙ none_more (n - (k + 1)) (past q s) cut
       ∙ sym (any_cut (width_of of) (past q s) cut)
       ∙ ap (λ (t : ReaderState). read (any Short (width_of of)) t) there
+
+few_left : (l w : ℕ) → 0 < w → l < l / w * w + w
+few_left l w some =
+    elim (cases_lt l (l / w * w + w)) [
+      | inl lt ↦ lt
+      | inr le ↦
+          let more : suc (l / w) * w ≤ l = omega (arith, suc-mul (l / w) w, le) in
+          let no : suc (l / w) ≤ l / w = (le-div_iff_mul-le some).1 more in
+          absurd (omega (arith, no))
+    ]
+
+module _ (of : Primitive) (n w l : ℕ) (s : ReaderState) where
+  pub enough : w ≡ width_of of → l ≡ length s.at.rest → 0 < w → n ≤ l / w → read (passed (times n (number_value of))) s ≡ read (any Short (n * w)) s
+  enough is left some le =
+      let fits : n * w ≤ l = (le-div_iff_mul-le some).0 le in
+      let there : n * width_of of ≤ length s.at.rest = subst (λ (v : ℕ). n * v ≤ length s.at.rest) is (subst (λ (k : ℕ). n * w ≤ k) left fits) in
+      subst (λ (v : ℕ). read (passed (times n (number_value of))) s ≡ read (any Short (n * v)) s) (sym is) (enough_there of n s there)
+
+  pub too_few : (s1 : ReaderState) → w ≡ width_of of → l ≡ length s.at.rest → 0 < w → l / w < n → read (any Short (l / w * w)) s ≡ at_end s1 → read (passed (times n (number_value of))) s ≡ read (any Short w) s1
+  too_few s1 is left some lt e =
+      let whole : l / w * w ≤ length s.at.rest = subst (λ (k : ℕ). l / w * w ≤ k) left (div-mul-le_self l w) in
+      let few : length s.at.rest < l / w * w + w = subst (λ (k : ℕ). k < l / w * w + w) left (few_left l w some) in
+      let there : read (passed (times n (number_value of))) s ≡ read (any Short (width_of of)) s1 =
+      too_few_there of n (l / w) s s1 lt (subst (λ (v : ℕ). l / w * v ≤ length s.at.rest) is whole) (subst (λ (v : ℕ). length s.at.rest < l / w * v + v) is few) (subst (λ (v : ℕ). read (any Short (l / w * v)) s ≡ at_end s1) is e) in
+      subst (λ (v : ℕ). read (passed (times n (number_value of))) s ≡ read (any Short v) s1) (sym is) there
+
+pub never_cut : (w l : ℕ) (s : ReaderState) (d : ObjFault) → l ≡ length s.at.rest → read (any Short (l / w * w)) s ≡ fault d → ⊥
+never_cut w l s d left e =
+    let whole : l / w * w ≤ length s.at.rest = subst (λ (k : ℕ). l / w * w ≤ k) left (div-mul-le_self l w) in
+    let there : at_end (past (l / w * w) s) ≡ fault d = sym (any_ok (l / w * w) s whole) ∙ e in
+    absurd cc
+
+-- what was taken is read
+pub taken : (result : Result (Unit {0}) ObjFault) (step : Step (Unit {0})) (old new : ReaderState) → TakesStep (λ (x : Unit {0}). tt) result step old new → ReadsAs (λ (x : Unit {0}). x) result step new
+taken (Ok x) step old new e = e
+taken (Err d) step old new e = λ ne. e.0
 
 pub one_number : (of : Primitive) (s : ReaderState) → read (passed (number_value of)) s ≡ read (any Short (width_of of)) s
 unfolding number_value

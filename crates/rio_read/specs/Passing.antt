@@ -2,7 +2,7 @@
 use Rattle.std.specs.Prelude.{ℕ, List, ◌∷◌}
 use Rattle.std.specs.Int.{w32, cast_signed}
 use Rattle.rio_types.specs.declared.class.Member.{Member}
-use Rattle.rio_buffer.specs.Frames.{ObjLayout}
+use Rattle.rio_buffer.specs.Frames.{ObjLayout, finish}
 use Rattle.rio_buffer.specs.declared.fault.ObjFault.TheVariants.{Short}
 use Rattle.rio_num.specs.Layout.{done, number, ◌>>=◌}
 use Rattle.rio_format.specs.Bodies.{Counters, counters_with}
@@ -23,3 +23,9 @@ unfoldable pub noted_counter : List ℕ → Counters → ObjLayout Counters
 noted_counter name counters = do
   n ← number Short 4
   done ((name, cast_signed w32 n) ∷ counters)
+
+-- the object behind a pointer's word, which ends where its count says
+unfoldable pub new_passed : Objects → ℕ → ℕ → List ℕ → ObjLayout (Unit {0})
+new_passed object place end class = do
+  _ ← passed (object class)
+  finish place end

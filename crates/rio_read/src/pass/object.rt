@@ -1,14 +1,14 @@
 //! Objects of the classes that a file describes, passed over. A call passes over an object with at most `levels` levels
 //! of objects inside.
-ghost use Rattle.std.specs.Prelude.{◌≡◌, []};
+ghost use Rattle.std.specs.Prelude.{◌≡◌, [], pos};
 ghost use Rattle.rio_num.specs.At.{GoesOn};
 ghost use Rattle.rio_buffer.specs.Frames.{ReadsAs};
 ghost use Rattle.rio_buffer.specs.Reader.{IsCounted};
 ghost use Rattle.rio_format.specs.Bodies.{body_of, form_of};
-ghost use Rattle.rio_format.specs.Objects.{array_parts, base_part, body, formed, headed, kind_value, link, list_parts, member_parts, object_of, parts, pointer};
+ghost use Rattle.rio_format.specs.Objects.{array_parts, base_part, body, formed, headed, kind_value, link, list_parts, member_parts, object_of, parts, pointer, whole_object};
 ghost use Rattle.rio_num.specs.Layout.{each, times};
 ghost use Rattle.rio_num.specs.Meanings.{read};
-ghost use Rattle.rio_read.specs.Passing.{counted_member, passed};
+ghost use Rattle.rio_read.specs.Passing.{counted_member, new_passed, passed};
 
 use super::numbers::{pass_counted, pass_list, pass_number, pass_text};
 use super::plain::{
@@ -111,10 +111,7 @@ fn pass_body(
             pass_obj_string(classes, reader, levels)?;
             reader.finish(header.place, header.end)
         }
-        BodyKind::Listed => {
-            pass_list_parts(alloc, classes, reader, levels)?;
-            reader.finish(header.place, header.end)
-        }
+        BodyKind::Listed => pass_listed(alloc, classes, reader, class, header, levels),
         BodyKind::Arrayed => {
             pass_array_parts(alloc, classes, reader, levels)?;
             reader.finish(header.place, header.end)
@@ -155,9 +152,25 @@ fn pass_bases(
     ensures goes { GoesOn reader.old.at reader.new.at }
 {
     for base in bases {
-        pass_object(alloc, classes, reader, base.name.as_slice(), levels)?;
+        pass_base_part(alloc, classes, reader, base, levels)?;
     }
     Ok(())
+}
+
+#[cycle(passing)]
+#[tactic(auto, using(crate::proofs::PassedParts::base_passed))]
+fn pass_base_part(
+    alloc: Global,
+    classes: &Classes,
+    reader: &mut ObjReader,
+    base: &Base,
+    levels: u32,
+) -> Result<(), ObjFault>
+    ensures exact { ReadsAs (λ x. x) result
+        (read (passed (base_part (object_of levels classes.now) base.now)) reader.old) reader.new }
+    ensures goes { GoesOn reader.old.at reader.new.at }
+{
+    pass_object(alloc, classes, reader, base.name.as_slice(), levels)
 }
 
 #[cycle(passing)]
@@ -252,11 +265,49 @@ fn pass_pointer(
             end,
             class,
             ..
-        } => {
-            pass_object(alloc, classes, reader, class.as_slice(), levels)?;
-            reader.finish(place, end)
-        }
+        } => { pass_new(alloc, classes, reader, place, end, class.as_slice(), levels) }
     }
+}
+
+// The object behind a pointer's word, which ends where its count says.
+#[cycle(passing)]
+#[tactic(auto, unfolding(crate::specs::Passing::new_passed))]
+fn pass_new(
+    alloc: Global,
+    classes: &Classes,
+    reader: &mut ObjReader,
+    place: u64,
+    end: u64,
+    class: &[u8],
+    levels: u32,
+) -> Result<(), ObjFault>
+    requires { IsCounted place end reader.old }
+    ensures exact { ReadsAs (λ x. x) result
+        (read (new_passed (object_of levels classes.now) place end class.now) reader.old) reader.new }
+    ensures goes { GoesOn reader.old.at reader.new.at }
+{
+    pass_object(alloc, classes, reader, class, levels)?;
+    reader.finish(place, end)
+}
+
+#[cycle(passing)]
+#[tactic(auto, using(crate::proofs::PassedParts::whole_passed))]
+fn pass_listed(
+    alloc: Global,
+    classes: &Classes,
+    reader: &mut ObjReader,
+    class: &[u8],
+    header: Header,
+    levels: u32,
+) -> Result<(), ObjFault>
+    requires { IsCounted header.place header.end reader.old }
+    ensures exact { ReadsAs (λ x. x) result
+        (read (passed (whole_object class.now (pos 5) header
+        (list_parts (object_of levels classes.now)))) reader.old) reader.new }
+    ensures goes { GoesOn reader.old.at reader.new.at }
+{
+    pass_list_parts(alloc, classes, reader, levels)?;
+    reader.finish(header.place, header.end)
 }
 
 // The parts of a TList.

@@ -1,17 +1,17 @@
-use Rattle.std.proofs.Common.{◌∙◌, rules}
+use Rattle.std.proofs.Common.{rules}
 use Rattle.std.proofs.lemmas.Result.{err_from_is_err_and}
 use Rattle.rio_format.specs.Objects.{base_part, link, object_of, pointer}
-use Rattle.rio_read.proofs.PassedParts.{base_passed, each_passed_on, each_passed_fails, each_passed_done, times_passed_on, times_passed_fails, times_passed_done, members_passed_on, members_passed_fail, members_passed_done}
+use Rattle.rio_read.proofs.PassedParts.{each_passed_on, each_passed_fails, each_passed_done, times_passed_on, times_passed_fails, times_passed_done, members_passed_on, members_passed_fail, members_passed_done}
 use Rattle.rio_read.proofs.pass.object.+passing.Goals as goal
 
-pub pass_bases-returns-in_err-pass_object-clause-exact : goal.pass_bases-returns-in_err-pass_object-clause-exact
-pass_bases-returns-in_err-pass_object-clause-exact t c =
+pub pass_bases-returns-in_err-pass_base_part-clause-exact : goal.pass_bases-returns-in_err-pass_base_part-clause-exact
+pass_bases-returns-in_err-pass_base_part-clause-exact t c =
     let p = err_from_is_err_and c.from_residual.result c.from_residual.ensures.1 in
-    rw (p.1, p.2) (λ ne. each_passed_fails (base_part (object_of c.args.levels c.args.classes.now)) c.args.bases.now c.loop-base.base-index c.loop-base.reader _ c.base-item.result c.in_err-pass_object.field-0.0 c.loop-base-test.true c.base-item.is (base_passed (object_of c.args.levels c.args.classes.now) c.base-item.result c.loop-base.reader ∙ c.in_err-pass_object.ensures.exact ne) c.loop-base.invariant.0)
+    rw (p.1, p.2) (λ ne. each_passed_fails (base_part (object_of c.args.levels c.args.classes.now)) c.args.bases.now c.loop-base.base-index c.loop-base.reader _ c.base-item.result c.in_err-pass_base_part.field-0.0 c.loop-base-test.true c.base-item.is (c.in_err-pass_base_part.ensures.exact ne) c.loop-base.invariant.0)
 
 pub pass_bases-loop-base-preserved : goal.pass_bases-loop-base-preserved
 pass_bases-loop-base-preserved t c =
-    (each_passed_on (base_part (object_of c.args.levels c.args.classes.now)) c.args.bases.now c.loop-base.base-index c.loop-base.reader _ c.base-item.result c.pass_object.new.reader c.loop-base-test.true c.base-item.is (base_passed (object_of c.args.levels c.args.classes.now) c.base-item.result c.loop-base.reader ∙ c.in_ok-pass_object.ensures.exact) c.loop-base.invariant.0, search rules)
+    (each_passed_on (base_part (object_of c.args.levels c.args.classes.now)) c.args.bases.now c.loop-base.base-index c.loop-base.reader _ c.base-item.result c.pass_base_part.new.reader c.loop-base-test.true c.base-item.is c.in_ok-pass_base_part.ensures.exact c.loop-base.invariant.0, search rules)
 
 pub pass_bases-returns-clause-exact : goal.pass_bases-returns-clause-exact
 pass_bases-returns-clause-exact t c =
