@@ -19,6 +19,7 @@ use Rattle.rio_buffer.specs.ReaderState.{ReaderState}
 use Rattle.rio_buffer.specs.declared.fault.ObjFault.{ObjFault}
 use Rattle.rio_buffer.specs.declared.fault.ObjFault.TheVariants.{Short}
 use Rattle.rio_buffer.specs.declared.words.Header.{Header}
+use Rattle.rio_buffer.specs.declared.words.PointerWord.{PointerWord}
 use Rattle.rio_buffer.specs.declared.words.PointerWord.TheVariants.{New}
 use Rattle.rio_format.specs.Bodies.{Counters, counters_with, t_named, t_obj_string}
 use Rattle.rio_format.specs.Objects.{Objects, array_parts, base_object, base_part, closed, count_of, kind_value, link, list_parts, member_part, member_parts, number_value, parts, pointed, pointer, text_value, whole_object}
@@ -82,6 +83,15 @@ pointer_passed object s = simp bind_assoc
 pub pointed_passed : (object : Objects) (label place end : ℕ) (class : List ℕ) (s : ReaderState) → read (passed (pointed object (New label place end class))) s ≡ read (new_passed object place end class) s
 unfolding pointed new_passed
 pointed_passed object label place end class s = simp (bind_assoc, kept)
+
+abbrev pub word_read : PointerWord → ReaderState → Step PointerWord
+word_read w s = Ok (w, s)
+
+pub pointer_new : (object : Objects) (label place end : ℕ) (class : List ℕ) (s s1 : ReaderState) → read pointer_word s ≡ word_read (New label place end class) s1 → read (passed (pointer object)) s ≡ read (new_passed object place end class) s1
+pointer_new object label place end class s s1 e =
+    pointer_passed object s
+    ∙ ap (λ (r : Step PointerWord). r >>= λ w. read (passed (pointed object w.0)) w.1) e
+    ∙ pointed_passed object label place end class s1
 
 -- ---- loops
 

@@ -1,7 +1,11 @@
-use Rattle.std.proofs.Common.{rules}
+use Rattle.std.proofs.Common.{◌≡◌, rules}
 use Rattle.std.proofs.lemmas.Result.{err_from_is_err_and}
-use Rattle.rio_format.specs.Objects.{base_part, link, object_of, pointer}
-use Rattle.rio_read.proofs.PassedParts.{each_passed_on, each_passed_fails, each_passed_done, times_passed_on, times_passed_fails, times_passed_done, members_passed_on, members_passed_fail, members_passed_done}
+use Rattle.rio_buffer.specs.Frames.{pointer_word}
+use Rattle.rio_buffer.specs.declared.words.PointerWord.TheVariants.{New}
+use Rattle.rio_num.specs.Meanings.{read}
+use Rattle.rio_format.specs.Bodies.{body_of, listed}
+use Rattle.rio_format.specs.Objects.{base_part, body, link, object_of, pointer}
+use Rattle.rio_read.proofs.PassedParts.{pointer_new, word_read, each_passed_on, each_passed_fails, each_passed_done, times_passed_on, times_passed_fails, times_passed_done, members_passed_on, members_passed_fail, members_passed_done}
 use Rattle.rio_read.proofs.pass.object.+passing.Goals as goal
 
 pub pass_bases-returns-in_err-pass_base_part-clause-exact : goal.pass_bases-returns-in_err-pass_base_part-clause-exact
@@ -55,3 +59,14 @@ pass_members-loop-member-preserved t c =
 pub pass_members-returns-clause-exact : goal.pass_members-returns-clause-exact
 pass_members-returns-clause-exact t c =
     members_passed_done (object_of c.args.levels c.args.classes.now) c.args.members.now c.loop-member.member-index c.loop-member.reader c.loop-member.counters _ c.loop-member-test.false c.loop-member.invariant.0
+
+pub pass_body-returns-in-Listed-clause-exact : goal.pass_body-returns-in-Listed-clause-exact
+unfolding body
+pass_body-returns-in-Listed-clause-exact t c =
+    let is : body_of c.args.classes.now c.args.class.now c.args.header.version c.args.header.sum ≡ listed = search rules in
+    rw is c.pass_listed.ensures.exact
+
+pub pass_pointer-returns-in-New-clause-exact : goal.pass_pointer-returns-in-New-clause-exact
+pass_pointer-returns-in-New-clause-exact t c =
+    let is : read pointer_word c.args.reader.now ≡ word_read (New c.in-New.label c.in-New.place c.in-New.end c.as_slice.result.now) c.pointer.new.self = search rules in
+    rw (pointer_new (object_of c.args.levels c.args.classes.now) c.in-New.label c.in-New.place c.in-New.end c.as_slice.result.now c.args.reader.now c.pointer.new.self is) c.pass_new.ensures.exact
