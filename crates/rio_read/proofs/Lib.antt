@@ -1,3 +1,5 @@
 pub mod Counts
 pub mod Each
+pub mod PassedParts
+pub mod Passing
 pub mod ReadLaws

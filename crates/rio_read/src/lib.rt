@@ -1,12 +1,16 @@
-//! Objects are read, by the classes that a file describes.
+//! Objects are read, or passed over, by the classes that a file describes.
 //!
 //! `read_object` reads the object that begins some data, or answers their first fault with its place. `read_next` does
 //! the same where an `ObjReader` stands, which then stands behind the object, and `read_builtin` reads a TObject, TNamed,
 //! TObjString or TArray. An object may be 256 deep.
 //!
+//! `pass_next` passes over the object that `read_next` would read: the reader then stands where `read_next` would leave
+//! it, and what breaks is told by the same fault. It makes no value, and keeps no more than what the counters of one
+//! object say. `pass_number` and `pass_numbers` do the same for numbers, many of them in one step.
+//!
 //! The rules of objects stand once, as descriptions, in `Objects` and `Bodies` of `rio_format`; the files of `specs/` say
-//! what the readers of this crate answer by them. `rio_stream` has `read_object` and
-//! `read_builtin` with what breaks beside what is read.
+//! what the readers of this crate answer by them, and what it is to keep nothing (`Passing.antt`). `rio_stream` has
+//! `read_object` and `read_builtin` with what breaks beside what is read.
 #![tactic(auto)]
 
 mod bare;
@@ -14,8 +18,10 @@ mod builtin;
 mod member;
 mod numbers;
 mod object;
+mod pass;
 mod read;
 mod whole;
 
 pub use numbers::read_number;
+pub use pass::{pass_next, pass_number, pass_numbers};
 pub use read::{read_builtin, read_next, read_object};

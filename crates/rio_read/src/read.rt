@@ -12,7 +12,7 @@ use rio_value::Value;
 use std::alloc::Global;
 
 /// How deep an object may be.
-const DEPTH_LIMIT: u32 = 256;
+pub(crate) const DEPTH_LIMIT: u32 = 256;
 
 /// The object of the class that begins the data, whose first byte has the place `start`, or the first
 /// fault. Bytes behind the object are ignored. An object whose class is not described in its version, or

@@ -6,6 +6,7 @@ mod declarations;
 mod elements;
 mod entries;
 mod leaf_lists;
+mod passed;
 mod printed;
 mod registry;
 mod tree_members;

@@ -1,0 +1,31 @@
+-- What is read and isn't kept.
+use Rattle.std.specs.Prelude.{ℕ, List, ◌∷◌}
+use Rattle.std.specs.Int.{w32, cast_signed}
+use Rattle.rio_types.specs.declared.class.Member.{Member}
+use Rattle.rio_buffer.specs.Frames.{ObjLayout, finish}
+use Rattle.rio_buffer.specs.declared.fault.ObjFault.TheVariants.{Short}
+use Rattle.rio_num.specs.Layout.{done, number, ◌>>=◌}
+use Rattle.rio_format.specs.Bodies.{Counters, counters_with}
+use Rattle.rio_format.specs.Objects.{Objects, member_part}
+
+-- what a description says, of which nothing is kept
+abbrev pub passed : {A : Type 0} → ObjLayout A → ObjLayout (Unit {0})
+passed l = l >>= λ v. done tt
+
+-- a member behind these counters, of which no more is kept than the counters from then on
+unfoldable pub counted_member : Objects → Counters → Member → ObjLayout Counters
+counted_member object counters m = do
+  p ← member_part object counters m
+  done (counters_with m p.value counters)
+
+-- a counter of this name behind these counters, of which no more is kept than the counters from then on
+unfoldable pub noted_counter : List ℕ → Counters → ObjLayout Counters
+noted_counter name counters = do
+  n ← number Short 4
+  done ((name, cast_signed w32 n) ∷ counters)
+
+-- the object behind a pointer's word, which ends where its count says
+unfoldable pub new_passed : Objects → ℕ → ℕ → List ℕ → ObjLayout (Unit {0})
+new_passed object place end class = do
+  _ ← passed (object class)
+  finish place end

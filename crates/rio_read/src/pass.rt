@@ -1,0 +1,31 @@
+//! Objects are passed over: the first fault is told, and no value is made.
+ghost use Rattle.std.specs.Prelude.{◌≡◌};
+ghost use Rattle.rio_num.specs.At.{GoesOn};
+ghost use Rattle.rio_buffer.specs.Frames.{ReadsAs};
+ghost use Rattle.rio_format.specs.Objects.{depth_limit, object_of};
+ghost use Rattle.rio_num.specs.Meanings.{read};
+ghost use Rattle.rio_read.specs.Passing.{passed};
+
+mod numbers;
+mod object;
+mod plain;
+
+use crate::read::DEPTH_LIMIT;
+pub use numbers::{pass_number, pass_numbers};
+use rio_buffer::{ObjFault, ObjReader};
+use rio_types::Classes;
+use std::alloc::Global;
+
+/// Passes over the next object of the class, or tells the first fault, as `read_next` would. No value is made.
+pub fn pass_next(
+    alloc: Global,
+    classes: &Classes,
+    reader: &mut ObjReader,
+    class: &[u8],
+) -> Result<(), ObjFault>
+    ensures exact { ReadsAs (λ x. x) result
+        (read (passed (object_of depth_limit classes.now class.now)) reader.old) reader.new }
+    ensures goes { GoesOn reader.old.at reader.new.at }
+{
+    object::pass_object(alloc, classes, reader, class, DEPTH_LIMIT)
+}
