@@ -14,8 +14,10 @@ mod builtin;
 mod member;
 mod numbers;
 mod object;
+mod pass;
 mod read;
 mod whole;
 
 pub use numbers::read_number;
+pub use pass::{pass_next, pass_number, pass_numbers};
 pub use read::{read_builtin, read_next, read_object};
