@@ -1,9 +1,11 @@
 pub mod Answered
+pub mod Checking
 pub mod ClassBytes
 pub mod Counting
 pub mod EntryLaws
 pub mod LeafBytes
 pub mod LeafKinds
+pub mod LeafPasses
 pub mod LeafReads
 pub mod LeafSpells
 pub mod PutValues

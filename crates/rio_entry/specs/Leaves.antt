@@ -1,10 +1,12 @@
 -- The values of leaves, by cases on the leaf and the value, without classes: what fits, and its bytes.
 use Rattle.std.specs.Prelude.{ℕ, ℤ, List, [], ◌∷◌, ◌++◌, codes, drop, length, Bool, true, false, ◌&&◌, ◌==◌, Option, Some, None, if◌then◌else◌}
-use Rattle.std.specs.List.{flat_map, list_all}
+use Rattle.std.specs.List.{flat_map, list_all, list_any}
 use Rattle.std.specs.Str.{bytes_eq}
 use Rattle.byteorder.specs.Endian.{big_bytes}
 use Rattle.rio_num.specs.Text.{text_bytes}
-use Rattle.rio_num.specs.Layout.{broken, here, ◌>>=◌}
+use Rattle.rio_num.specs.Layout.{broken, done, here, ◌>>=◌}
+use Rattle.rio_leaf.specs.declared.leaf.Dim.{Dim}
+use Rattle.rio_leaf.specs.declared.leaf.Dim.TheVariants.{Counted}
 use Rattle.rio_leaf.specs.declared.leaf.Leaf.{Leaf}
 use Rattle.rio_buffer.specs.Frames.{ObjLayout}
 use Rattle.rio_buffer.specs.declared.fault.ObjFault.TheVariants.{NoCount}
@@ -109,3 +111,21 @@ abbrev pub leaves_bytes : List Leaf → List Value → List ℕ
 leaves_bytes [] vs = []
 leaves_bytes (l ∷ ls) [] = []
 leaves_bytes (l ∷ ls) (v ∷ vs) = value_bytes (letter_kind l.letter) v ++ leaves_bytes ls vs
+
+-- ---- leaves that are not kept
+
+-- the number that a value says by which later leaves are counted
+abbrev pub said_by : Value → ℤ
+said_by v = number_in (out-Value v)
+
+-- what stands there, of which no more is kept than the number that it says
+abbrev pub saying : ObjLayout Value → ObjLayout ℤ
+saying l = l >>= λ v. done (said_by v)
+
+-- whether a leaf of the dimension is counted by a leaf
+abbrev pub is_by_counter : Dim → Bool
+is_by_counter (Counted counter times) = true
+is_by_counter other = false
+
+abbrev pub is_any_counted : List Leaf → Bool
+is_any_counted ls = list_any (λ l. is_by_counter l.dim) ls

@@ -1,5 +1,6 @@
 -- Entries are read: what stands in the bytes of an entry, from left to right.
 use Rattle.std.specs.Prelude.{◌≡◌, ◌⊎◌, ◌<◌, ℕ, List, [], ◌∷◌, ◌++◌, drop, length, ◌==◌, Result, Ok, Err, if◌then◌else◌}
+use Rattle.std.specs.Result.{result_map_both}
 use Rattle.rio_leaf.specs.declared.branch.Shape.{Shape}
 use Rattle.rio_num.specs.Layout.{done, ◌>>=◌}
 use Rattle.rio_num.specs.Meanings.{read, Spells, Breaks}
@@ -42,6 +43,10 @@ only_values (Err fault) = Err (entry_fault fault)
 -- first byte.
 abbrev pub entry_in : List ClassDef → Shape → List Value → List ℕ → Result (List Value) EntryFault
 entry_in classes shape counts bytes = only_values (read (entry_values classes shape counts) (standing 0 bytes no_words))
+
+-- Whether the bytes are an entry, or the place of the first part that breaks: the same, with no value kept.
+abbrev pub entry_checked : List ClassDef → Shape → List Value → List ℕ → Result (Unit {0}) EntryFault
+entry_checked classes shape counts bytes = result_map_both (λ row. tt) (λ e. e) (entry_in classes shape counts bytes)
 
 -- ---- as relations
 

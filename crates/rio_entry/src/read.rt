@@ -20,8 +20,8 @@ use rio_types::Classes;
 use rio_value::{Value, Values};
 use std::alloc::Global;
 
-// Nothing stands behind what was read.
-fn check_end(reader: &ObjReader) -> Result<(), EntryFault>
+/// Nothing stands behind what was read.
+pub(crate) fn check_end(reader: &ObjReader) -> Result<(), EntryFault>
     ensures { result ≡ only_values (Ok (tt, reader.now)) }
 {
     if reader.left() == 0 {

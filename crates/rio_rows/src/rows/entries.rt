@@ -1,4 +1,5 @@
 //! Entries of branches of leaves.
+mod checked;
 mod objects;
 
 use crate::rows::leaf_lists::branch_of_row;

@@ -1,4 +1,5 @@
 //! Entries of branches of a class.
+use super::checked::is_checked;
 use super::row_of;
 use rio_leaf::{BranchDef, Shape};
 use rio_num::{Name, NoMemory};
@@ -47,11 +48,18 @@ fn node_branch(alloc: Global) -> Result<BranchDef, NoMemory> {
     })
 }
 
-// Three nodes, each of which points to the next one. The class word of the third refers to the place of the second one's,
-// which is 14.
-static NODES: &[u8] = b"\x40\0\0\x33\0\x01\0\0\0\x01\x40\0\0\x29\xff\xff\xff\xffNode\0\
+// Three nodes, each of which points to the next one, and a byte behind them. The class word of the third refers to the
+// place of the second one's, which is 14.
+static NODES_AND_ONE: &[u8] = b"\x40\0\0\x33\0\x01\0\0\0\x01\x40\0\0\x29\xff\xff\xff\xffNode\0\
     \x40\0\0\x1c\0\x01\0\0\0\x02\x40\0\0\x12\x80\0\0\x10\
-    \x40\0\0\x0a\0\x01\0\0\0\x03\0\0\0\0";
+    \x40\0\0\x0a\0\x01\0\0\0\x03\0\0\0\0\0";
+
+fn front_of(bytes: &[u8]) -> &[u8] {
+    match bytes.split_last() {
+        Some((_, front)) => front,
+        None => bytes,
+    }
+}
 
 // The part of a node, the first or the second one.
 fn part(node: &Value, k: usize) -> Option<&Value> {
@@ -91,15 +99,32 @@ fn are_nodes(row: &Values) -> bool {
 }
 
 fn are_read_in(alloc: Global, classes: &Classes, branch: &BranchDef) -> bool {
-    match row_of(alloc, classes, branch, &Values::new(alloc), NODES) {
+    match row_of(
+        alloc,
+        classes,
+        branch,
+        &Values::new(alloc),
+        front_of(NODES_AND_ONE),
+    ) {
         Some(row) => are_nodes(&row),
         None => false,
     }
 }
 
+// A byte behind the nodes breaks; without their last byte the count of the first one does.
+fn are_checked_in(alloc: Global, classes: &Classes, branch: &BranchDef) -> bool {
+    let counts = Values::new(alloc);
+    let nodes = front_of(NODES_AND_ONE);
+    is_checked(alloc, classes, branch, &counts, nodes, None)
+        && is_checked(alloc, classes, branch, &counts, NODES_AND_ONE, Some(55))
+        && is_checked(alloc, classes, branch, &counts, front_of(nodes), Some(0))
+}
+
 fn are_read_among(alloc: Global, classes: &Classes) -> bool {
     match node_branch(alloc) {
-        Ok(branch) => are_read_in(alloc, classes, &branch),
+        Ok(branch) => {
+            are_read_in(alloc, classes, &branch) && are_checked_in(alloc, classes, &branch)
+        }
         Err(_) => false,
     }
 }

@@ -1,0 +1,172 @@
+//! Leaves are checked: of their values no more is kept than what they count.
+ghost use Rattle.std.specs.Prelude.{◌≡◌, ℕ, List, Some, min, false};
+ghost use Rattle.rio_num.specs.At.{GoesOn};
+ghost use Rattle.rio_num.specs.Meanings.{read};
+ghost use Rattle.rio_buffer.specs.Frames.{ReadsAs};
+ghost use Rattle.rio_format.specs.Objects.{numbers, text_value};
+ghost use Rattle.rio_leaf.specs.declared.branch.Shape.TheVariants.{Leaves as Leafy};
+ghost use Rattle.rio_machine.specs.Rows.{counted_leaf_kind, leaf_kind, sized_kind};
+ghost use Rattle.rio_read.specs.Passing.{passed};
+ghost use Rattle.rio_types.specs.declared.class.ClassDef.{ClassDef as Class};
+ghost use Rattle.rio_value.specs.declared.value.Value.{Value as Given};
+ghost use Rattle.rio_entry.specs.Bounds.{most_values};
+ghost use Rattle.rio_entry.specs.Entries.{counter_saying};
+ghost use Rattle.rio_entry.specs.Leaves.{is_any_counted, is_by_counter, kind_layout, said_by, saying, without_number};
+ghost use Rattle.rio_entry.specs.Reading.{entry_values};
+
+use crate::leaf::{given_count, letter_kind, said_count};
+use rio_buffer::{ObjFault, ObjReader};
+use rio_leaf::{Dim, Leaf};
+use rio_read::{pass_numbers, read_number};
+use rio_types::Prim;
+use rio_value::{Value, Values};
+use std::alloc::Global;
+
+// A list of values is passed over. No more are than there are bytes, and one, which is then not there.
+fn pass_list(reader: &mut ObjReader, of: Prim, n: u128) -> Result<Value, ObjFault>
+    ensures exact { (count : ℕ) → n ≡ min count most_values
+        → ReadsAs (λ v. said_by v) result (read (saying (numbers of count)) reader.old)
+        reader.new }
+    ensures goes { GoesOn reader.old.at reader.new.at }
+{
+    let most = u128::from(reader.left()) + 1;
+    pass_numbers(reader, of, n.min(most) as u64)?;
+    Ok(Value::Null)
+}
+
+// A list of so many values for each that was counted.
+fn pass_counted(
+    reader: &mut ObjReader,
+    of: Prim,
+    times: u32,
+    count: i128,
+) -> Result<Value, ObjFault>
+    ensures exact { ReadsAs (λ v. said_by v) result
+        (read (saying (kind_layout (counted_leaf_kind of times (Some count)))) reader.old)
+        reader.new }
+    ensures goes { GoesOn reader.old.at reader.new.at }
+{
+    if count < 0 {
+        return Err(ObjFault::NoCount {
+            place: reader.place(),
+        });
+    }
+    let n = count.unsigned_abs().saturating_mul(u128::from(times));
+    pass_list(reader, of, n)
+}
+
+fn pass_sized(reader: &mut ObjReader, of: Prim, dim: &Dim, count: i128) -> Result<Value, ObjFault>
+    ensures exact { ReadsAs (λ v. said_by v) result
+        (read (saying (kind_layout (sized_kind (counter_saying dim.now count) of dim.now)))
+        reader.old) reader.new }
+    ensures goes { GoesOn reader.old.at reader.new.at }
+{
+    match dim {
+        Dim::One => read_number(reader, of),
+        Dim::Fixed(n) => pass_list(reader, of, u128::from(*n)),
+        Dim::Counted { times, .. } => pass_counted(reader, of, *times, count),
+    }
+}
+
+#[tactic(auto, unfolding(rio_format::specs::Objects::text_value))]
+fn pass_text(reader: &mut ObjReader) -> Result<Value, ObjFault>
+    ensures exact { ReadsAs (λ v. said_by v) result (read (saying text_value) reader.old)
+        reader.new }
+    ensures goes { GoesOn reader.old.at reader.new.at }
+{
+    reader.take_text()?;
+    Ok(Value::Null)
+}
+
+fn pass_without_number(reader: &mut ObjReader, letter: u8) -> Result<Value, ObjFault>
+    ensures exact { ReadsAs (λ v. said_by v) result
+        (read (saying (kind_layout (without_number letter))) reader.old) reader.new }
+    ensures goes { GoesOn reader.old.at reader.new.at }
+{
+    if letter == b'C' {
+        pass_text(reader)
+    } else {
+        Err(ObjFault::NoCount {
+            place: reader.place(),
+        })
+    }
+}
+
+// The value of a leaf, whose counter says so, is passed over: what is returned says the same number, which is 0 of all but a
+// single integer.
+fn pass_leaf(reader: &mut ObjReader, leaf: &Leaf, count: i128) -> Result<Value, ObjFault>
+    ensures exact { ReadsAs (λ v. said_by v) result
+        (read (saying (kind_layout (leaf_kind (counter_saying leaf.now.dim count) leaf.now)))
+        reader.old) reader.new }
+    ensures goes { GoesOn reader.old.at reader.new.at }
+{
+    match letter_kind(leaf.letter) {
+        Some(of) => pass_sized(reader, of, &leaf.dim, count),
+        None => pass_without_number(reader, leaf.letter),
+    }
+}
+
+fn is_by_counter(dim: &Dim) -> bool
+    ensures { result ≡ is_by_counter dim.now }
+{
+    matches!(dim, Dim::Counted { .. })
+}
+
+fn is_any_counted(leaves: &[Leaf]) -> bool
+    ensures { result ≡ is_any_counted leaves.now }
+{
+    leaves.iter().any(|leaf| is_by_counter(&leaf.dim))
+}
+
+// Leaves of which none is counted.
+fn pass_leaves(reader: &mut ObjReader, leaves: &[Leaf]) -> Result<(), ObjFault>
+    requires { is_any_counted leaves.now ≡ false }
+    ensures exact { (classes : List Class) (counts : List Given) → ReadsAs (λ x. x) result
+        (read (passed (entry_values classes (Leafy leaves.now) counts)) reader.old) reader.new }
+    ensures goes { GoesOn reader.old.at reader.new.at }
+{
+    for leaf in leaves {
+        pass_leaf(reader, leaf, 0)?;
+    }
+    Ok(())
+}
+
+// Leaves of which some may be counted by earlier ones, so that the numbers of those are kept.
+fn pass_counting(
+    alloc: Global,
+    reader: &mut ObjReader,
+    leaves: &[Leaf],
+    counts: &[Value],
+) -> Result<(), ObjFault>
+    ensures exact { (classes : List Class) → ReadsAs (λ x. x) result
+        (read (passed (entry_values classes (Leafy leaves.now) counts.now)) reader.old)
+        reader.new }
+    ensures goes { GoesOn reader.old.at reader.new.at }
+{
+    let mut kept = Values::new(alloc);
+    for (k, leaf) in leaves.iter().enumerate() {
+        let given = given_count(counts, k);
+        let count = said_count(&leaf.dim, given, &leaves[..k], kept.as_slice());
+        kept.push(pass_leaf(reader, leaf, count)?)?;
+    }
+    Ok(())
+}
+
+/// Passes over the values of leaves, one behind the other.
+pub(crate) fn check_leaves(
+    alloc: Global,
+    reader: &mut ObjReader,
+    leaves: &[Leaf],
+    counts: &[Value],
+) -> Result<(), ObjFault>
+    ensures exact { (classes : List Class) → ReadsAs (λ x. x) result
+        (read (passed (entry_values classes (Leafy leaves.now) counts.now)) reader.old)
+        reader.new }
+    ensures goes { GoesOn reader.old.at reader.new.at }
+{
+    if is_any_counted(leaves) {
+        pass_counting(alloc, reader, leaves, counts)
+    } else {
+        pass_leaves(reader, leaves)
+    }
+}
