@@ -1,4 +1,5 @@
 pub mod GivenLaws
 pub mod IndexLaws
+pub mod NumberLaws
 pub mod PartLaws
 pub mod ScanLaws

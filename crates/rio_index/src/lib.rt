@@ -1,9 +1,10 @@
 //! Scans of trees: which basket holds an entry, and the rows of a tree, one after the other.
 //!
 //! A branch of a tree keeps of each of its baskets where it stands and which entry it begins with. [`basket_of`] tells the
-//! basket that holds an entry, by a search that halves the list. A [`Scanner`] holds one basket of each branch, tells which
-//! basket it wants next, and reads row after row of those that it is given. `specs/Index.antt` has which basket holds an
-//! entry, `specs/Scan.antt` what a scan holds and wants and its next row, `specs/Given.antt` what a call returns.
+//! basket that holds an entry, by a search that halves the list; [`basket_from`] tells it to one that goes over the entries,
+//! from the basket of an earlier entry on. A [`Scanner`] holds one basket of each branch, tells which basket it wants next,
+//! and reads row after row of those that it is given. `specs/Index.antt` has which basket holds an entry, `specs/Scan.antt`
+//! what a scan holds and wants and its next row, `specs/Given.antt` what a call returns.
 #![tactic(auto)]
 
 mod lane;
@@ -13,7 +14,7 @@ mod search;
 
 pub use lane::{Held, Lane};
 pub use scanner::Scanner;
-pub use search::{basket_of, entry_count};
+pub use search::{basket_from, basket_of, entry_count};
 
 #[cfg(test)]
 mod tests;

@@ -7,6 +7,7 @@ pub mod LineByLine
 pub mod Lines
 pub mod Numbers
 pub mod Scans
+pub mod TestedRows
 pub mod Trees
 pub mod ValueTexts
 pub mod Walks

@@ -4,13 +4,14 @@ use Rattle.std.specs.List.{prefix_len}
 use Rattle.std.proofs.lemmas.Bool.{le-leb, leb-true}
 use Rattle.std.proofs.lemmas.List.{drop-drop, drop_all, length-drop, take_all}
 use Rattle.rio_types.specs.declared.class.ClassDef.{ClassDef}
+use Rattle.rio_tree_head.specs.Index.{basket_number}
 use Rattle.rio_tree_head.specs.declared.basket_at.BasketAt.{BasketAt}
 use Rattle.rio_tree_head.specs.declared.head.Branch.{Branch}
 use Rattle.rio_tree_head.specs.declared.refusal.BranchRefusal.{BranchRefusal}
 use Rattle.rio_tree_head.specs.declared.refusal.BranchRefusal.TheVariants.{Compressed}
 use Rattle.rio_scan.specs.declared.row.Row.{Row}
 use Rattle.rio_scan.specs.Refusals.{branch_refusal, refusals_behind}
-use Rattle.rio_scan.specs.StoredEntries.{StoredEntries, are_filled, basket_number, entry_behind, has_compressed, is_compressed_basket, is_filled, refusal_by, stored_basket}
+use Rattle.rio_scan.specs.StoredEntries.{StoredEntries, are_filled, entry_behind, has_compressed, is_compressed_basket, is_filled, refusal_by, stored_basket}
 use Rattle.rio_scan.specs.Sweeps.{sweep_behind, sweep_one}
 use Rattle.rio_report.specs.declared.lane.Lane.{Lane}
 use Rattle.rio_report.specs.Lanes.{AreLanes, IsHeld, IsLane}
@@ -77,60 +78,6 @@ later_passes e (b ∷ bs) = by (later_passes e bs) (leb b.first e) refl
         let low = leb-true _ _ is in
         let also : leb b.first (e + 1) ≡ true = le-leb _ _ (omega (arith, low)) in
         rw (is, also) (omega (arith, rest))
-
--- a basket is looked for from one on that isn't behind the entry's
-within_length : (p : BasketAt → Bool) (bs : List BasketAt) → prefix_len p bs ≤ length bs
-within_length p [] = omega arith
-within_length p (b ∷ bs) = by (within_length p bs) (p b) refl
-  where
-    by : prefix_len p bs ≤ length bs → (c : Bool) → p b ≡ c → prefix_len p (b ∷ bs) ≤ length (b ∷ bs)
-    by rest false is = rw is (omega arith)
-    by rest true is = rw is (omega (arith, rest))
-
-goes_from : (p : BasketAt → Bool) (n : ℕ) (bs : List BasketAt) → n ≤ prefix_len p bs → n + prefix_len p (drop n bs) ≡ prefix_len p bs
-goes_from p zero bs le = omega arith
-goes_from p (suc n) [] le = absurd (omega (arith, le))
-goes_from p (suc n) (b ∷ bs) le = by (goes_from p n bs) (p b) refl
-  where
-    by : (n ≤ prefix_len p bs → n + prefix_len p (drop n bs) ≡ prefix_len p bs) → (c : Bool) → p b ≡ c → suc n + prefix_len p (drop n bs) ≡ prefix_len p (b ∷ bs)
-    by rest false is =
-        let none : prefix_len p (b ∷ bs) ≡ 0 = rw is refl in
-        absurd (omega (arith, le, none))
-    by rest true is =
-        let one : prefix_len p (b ∷ bs) ≡ 1 + prefix_len p bs = rw is refl in
-        let same = rest (omega (arith, le, one)) in
-        omega (arith, same, one)
-
-number_lower : (e from : ℕ) (bs : List BasketAt) → from < length bs → from + prefix_len (begins_by e) (drop (from + 1) bs) < length bs
-number_lower e from bs lt =
-    let most = within_length (begins_by e) (drop (from + 1) bs) in
-    let size = length-drop (from + 1) bs in
-    omega (arith, most, size, lt)
-
-number_is : (e from : ℕ) (bs : List BasketAt) → from ≤ basket_number e bs → from + prefix_len (begins_by e) (drop (from + 1) bs) ≡ basket_number e bs
-number_is e from bs le =
-    let same : from + 1 ≡ 1 + from = omega arith in
-    ap (λ (l : List BasketAt). from + prefix_len (begins_by e) l) (ap (λ (n : ℕ). drop n bs) same ∙ sym (drop-drop from 1 bs))
-    ∙ goes_from (begins_by e) from (drop 1 bs) le
-
--- the baskets behind one
-abbrev pub behind_one : ℕ → List BasketAt → List BasketAt
-behind_one from bs = take (length bs - (from + 1)) (drop (from + 1) bs)
-
-all_behind : (from : ℕ) (bs : List BasketAt) → behind_one from bs ≡ drop (from + 1) bs
-all_behind from bs = let size = length-drop (from + 1) bs in take_all (length bs - (from + 1)) (drop (from + 1) bs) (omega (arith, size))
-
-pub number_low : (e from : ℕ) (bs : List BasketAt) → from < length bs → from + prefix_len (begins_by e) (behind_one from bs) < length bs
-number_low e from bs lt = subst (λ (l : List BasketAt). from + prefix_len (begins_by e) l < length bs) (sym (all_behind from bs)) (number_lower e from bs lt)
-
-pub number_of : (e from : ℕ) (bs : List BasketAt) → from ≤ basket_number e bs → from + prefix_len (begins_by e) (behind_one from bs) ≡ basket_number e bs
-number_of e from bs le = ap (λ (l : List BasketAt). from + prefix_len (begins_by e) l) (all_behind from bs) ∙ number_is e from bs le
-
-pub number_past : (e from : ℕ) (bs : List BasketAt) → length bs ≤ from → from ≤ basket_number e bs → from ≡ basket_number e bs
-number_past e from bs past le =
-    let most = within_length (begins_by e) (drop 1 bs) in
-    let size = length-drop 1 bs in
-    omega (arith, most, size, past, le)
 
 pub later_basket : (e : ℕ) (bs : List BasketAt) → basket_number e bs ≤ basket_number (e + 1) bs
 later_basket e bs = later_passes e (drop 1 bs)

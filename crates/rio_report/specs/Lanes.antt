@@ -3,12 +3,13 @@ use Rattle.std.specs.Prelude.{◌≡◌, ◌≤◌, ℕ, ℤ, List, [], ◌∷�
 use Rattle.std.specs.Str.{bytes_eq}
 use Rattle.rio_leaf.specs.declared.leaf.Leaf.{Leaf}
 use Rattle.rio_value.specs.Accessors.{number_in}
+use Rattle.rio_tree_head.specs.Index.{basket_number}
 use Rattle.rio_tree_head.specs.declared.basket_at.BasketAt.{BasketAt}
 use Rattle.rio_tree_head.specs.declared.head.Branch.{Branch}
 use Rattle.rio_tree_head.specs.declared.refusal.BranchRefusal.{BranchRefusal}
 use Rattle.rio_value.specs.declared.value.Value.{Value, out-Value}
 use Rattle.rio_model.specs.ValueText.{text_of_value}
-use Rattle.rio_scan.specs.StoredEntries.{StoredEntries, basket_number, stored_basket}
+use Rattle.rio_scan.specs.StoredEntries.{StoredEntries, stored_basket}
 use Rattle.rio_report.specs.declared.lane.Lane.{Lane}
 
 -- the number of a leaf of the name, or else what was found before

@@ -3,4 +3,5 @@ pub mod Gathered
 pub mod GreatestCycle
 pub mod Lanes
 pub mod Lists
+pub mod Tested
 pub mod TreeTexts

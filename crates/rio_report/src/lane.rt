@@ -1,18 +1,19 @@
 //! What is held of a branch while its rows are read: one basket.
-ghost use Rattle.std.specs.Prelude.{◌≡◌, ◌+◌, ◌≤◌, ℕ, List, Some, IsTrue, is_some, OnOk, drop, nat_le, slice_get};
-ghost use Rattle.std.specs.List.{prefix_len};
+ghost use Rattle.std.specs.Prelude.{◌≡◌, ◌≤◌, ℕ, List, Some, IsTrue, is_some, OnOk};
 ghost use Rattle.std.specs.Option.{option_copied};
 ghost use Rattle.rio_host.specs.Host.{IsLength};
 ghost use Rattle.rio_host.specs.OnlyReads.{OnlyReads};
 ghost use Rattle.rio_close.specs.Causes.{IsCallCause};
-ghost use Rattle.rio_scan.specs.StoredEntries.{basket_number, branch_entry};
+ghost use Rattle.rio_tree_head.specs.Index.{basket_number};
+ghost use Rattle.rio_scan.specs.StoredEntries.{branch_entry};
 ghost use Rattle.rio_report.specs.Lanes.{IsHeld};
 
 use crate::stored::{FoundBasket, read_stored_basket};
 use rio_basket::BasketFault;
 use rio_close::ReportFault;
 use rio_host::Host;
-use rio_tree_head::{BasketAt, Branch};
+use rio_index::basket_from;
+use rio_tree_head::Branch;
 use std::alloc::Global;
 
 /// Why an entry of a branch isn't read: its basket, or the first part of it that breaks.
@@ -46,30 +47,6 @@ impl Lane {
     }
 }
 
-// How many baskets at the front begin at the entry or before it.
-fn passed(baskets: &[BasketAt], entry: u64) -> usize
-    ensures { result ≡ prefix_len (λ at. nat_le at.first entry) baskets.now }
-{
-    for (k, at) in baskets.iter().enumerate() {
-        if at.first > entry {
-            return k;
-        }
-    }
-    baskets.len()
-}
-
-// The number of the entry's basket, which is looked for from one on that isn't behind it.
-fn number_from(baskets: &[BasketAt], from: usize, entry: u64) -> usize
-    ensures { from ≤ basket_number entry baskets.now
-        → result ≡ basket_number entry baskets.now }
-{
-    if from < baskets.len() {
-        from + passed(&baskets[from + 1..], entry)
-    } else {
-        from
-    }
-}
-
 /// Holds the basket of the entry.
 pub(crate) fn hold<H: Host>(
     alloc: Global,
@@ -90,7 +67,7 @@ pub(crate) fn hold<H: Host>(
     ensures cause { IsCallCause (H.view host.old) (H.view host.new) result }
 {
     let baskets = branch.baskets.as_slice();
-    let number = number_from(baskets, lane.number, entry);
+    let number = basket_from(baskets, lane.number, entry);
     if number == lane.number && lane.basket.is_some() {
         return Ok(());
     }

@@ -1,7 +1,7 @@
 //! The verbs that read a file: what they say of it, by calls of the host that only read. `say_ls` lists the keys, `say_dump`
 //! the classes and each object with its value, and `say_scan` the rows of a tree: it goes over the baskets and then over the
-//! entries to find which branches can't be read, and over the entries again to say the others. Beside the key list and the
-//! classes one record is held, or one basket of each branch.
+//! entries to find which branches can't be read, where it makes no values but those that count others, and over the entries
+//! again to say the rest. Beside the key list and the classes one record is held, or one basket of each branch.
 #![tactic(auto)]
 
 mod content;
@@ -10,7 +10,6 @@ mod described;
 mod dump;
 mod item;
 mod lane;
-mod laws;
 mod ls;
 mod pieces;
 mod refusals;
@@ -19,10 +18,10 @@ mod scan;
 mod scan_rows;
 mod scan_text;
 mod stored;
+mod tested;
 mod tree_line;
 
 pub use dump::say_dump;
-pub use laws::scanned_baskets_hold_their_entries;
 pub use ls::say_ls;
 pub use rio_close::ReportFault;
 pub use rio_meaning::{Item, Missing};

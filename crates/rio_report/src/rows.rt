@@ -1,20 +1,23 @@
 //! The rows of a tree, read entry by entry.
-ghost use Rattle.std.specs.Prelude.{◌≡◌, ◌+◌, ℕ, List, Some, None, IfOk, IsTrue, OnOk, is_some, length};
+ghost use Rattle.std.specs.Prelude.{◌≡◌, ◌≢◌, ◌+◌, ◌<◌, ◌^◌, ℕ, List, Some, None, IfOk, IsTrue, OnOk, is_some, length, true};
 ghost use Rattle.std.specs.Result.{result_ok};
 ghost use Rattle.rio_host.specs.Host.{IsLength};
 ghost use Rattle.rio_host.specs.OnlyReads.{OnlyReads};
 ghost use Rattle.rio_close.specs.Causes.{IsCallCause};
+ghost use Rattle.rio_entry.specs.declared.fault.EntryFault.TheVariants.{NoMemory as OutOfMemory};
+ghost use Rattle.rio_tree_head.specs.Index.{basket_number};
 ghost use Rattle.rio_scan.specs.Refusals.{refused_first};
 ghost use Rattle.rio_scan.specs.Rows.{values_if_read, values_of_branch};
-ghost use Rattle.rio_scan.specs.StoredEntries.{basket_number};
-ghost use Rattle.rio_scan.specs.Sweeps.{refusal_before, sweep, sweep_one, with_branch};
+ghost use Rattle.rio_scan.specs.Sweeps.{refusal_before, sweep, with_branch};
 ghost use Rattle.rio_report.specs.Lanes.{AreLanes, IsHeld, IsLane};
+ghost use Rattle.rio_report.specs.Tested.{CountersMade, made_of, made_one, row_made};
 
 use crate::counts::{counters_are_read, entry_counts};
 use crate::lane::{Lane, RowFault, entry_there, hold};
+use crate::tested::is_tested;
 use rio_basket::BasketFault;
 use rio_close::ReportFault;
-use rio_entry::{EntryFault, read_entry};
+use rio_entry::{EntryFault, check_entry, read_entry};
 use rio_host::Host;
 use rio_leaf::BranchDef;
 use rio_num::NoMemory;
@@ -32,15 +35,16 @@ pub(crate) struct Tree<'a> {
     pub(crate) branches: &'a [Branch],
 }
 
-/// An entry of a branch, which stands behind others.
+/// An entry of a branch, which stands behind others. It is only tested, or its values are made too.
 #[derive(Drop)]
 pub(crate) struct Place<'a> {
     pub(crate) before: &'a [Branch],
     pub(crate) branch: &'a Branch,
     pub(crate) entry: u64,
+    pub(crate) tested: bool,
 }
 
-/// The values of an entry, or why it isn't read.
+/// The values of an entry, or why it isn't read. There are none where it is only tested.
 pub(crate) type FoundValues = Result<Values, RowFault>;
 
 // The refusals that come no later than NoCounter.
@@ -80,7 +84,36 @@ fn fault_of(lane: &Lane) -> RowFault {
     }
 }
 
-// The values of these bytes as an entry. More than 4 GiB aren't read.
+// Why bytes aren't read as an entry, unless memory ran out.
+fn fault_by(fault: EntryFault) -> Result<FoundValues, NoMemory>
+    ensures { IfOk result (λ found. (fault ≢ OutOfMemory) × (result_ok found ≡ None)) }
+{
+    match fault {
+        EntryFault::BadEntry { place } => Ok(Err(RowFault::Entry { place })),
+        EntryFault::NoMemory => Err(NoMemory),
+        _ => Ok(Err(RowFault::Entry { place: 0 })),
+    }
+}
+
+// No values, where these bytes are an entry.
+fn test_bytes(
+    alloc: Global,
+    classes: &Classes,
+    branch: &BranchDef,
+    counts: &Values,
+    bytes: &[u8],
+) -> Result<FoundValues, NoMemory>
+    requires { length bytes.now < 2 ^ 32 }
+    ensures { IfOk result (λ found. result_ok found
+        ≡ made_of true (values_if_read classes.now branch.now.shape counts.now (Some bytes.now))) }
+{
+    match check_entry(alloc, classes, branch, counts, bytes) {
+        Ok(()) => Ok(Ok(Values::new(alloc))),
+        Err(fault) => fault_by(fault),
+    }
+}
+
+// The values of these bytes as an entry.
 fn read_bytes(
     alloc: Global,
     classes: &Classes,
@@ -88,17 +121,34 @@ fn read_bytes(
     counts: &Values,
     bytes: &[u8],
 ) -> Result<FoundValues, NoMemory>
+    requires { length bytes.now < 2 ^ 32 }
     ensures { IfOk result (λ found. result_ok found
         ≡ values_if_read classes.now branch.now.shape counts.now (Some bytes.now)) }
+{
+    match read_entry(alloc, classes, branch, counts, bytes) {
+        Ok(values) => Ok(Ok(values)),
+        Err(fault) => fault_by(fault),
+    }
+}
+
+// The values of these bytes as an entry, or none where it is only tested. More than 4 GiB aren't read.
+fn read_or_test(
+    alloc: Global,
+    classes: &Classes,
+    place: &Place,
+    counts: &Values,
+    bytes: &[u8],
+) -> Result<FoundValues, NoMemory>
+    ensures { IfOk result (λ found. result_ok found ≡ made_of place.now.tested
+        (values_if_read classes.now place.now.branch.now.def.shape counts.now (Some bytes.now))) }
 {
     if bytes.len() > u32::MAX as usize {
         return Err(NoMemory);
     }
-    match read_entry(alloc, classes, branch, counts, bytes) {
-        Ok(values) => Ok(Ok(values)),
-        Err(EntryFault::BadEntry { place }) => Ok(Err(RowFault::Entry { place })),
-        Err(EntryFault::NoMemory) => Err(NoMemory),
-        Err(_) => Ok(Err(RowFault::Entry { place: 0 })),
+    if place.tested {
+        test_bytes(alloc, classes, &place.branch.def, counts, bytes)
+    } else {
+        read_bytes(alloc, classes, &place.branch.def, counts, bytes)
     }
 }
 
@@ -114,13 +164,13 @@ fn read_held(
         → lane.now.number ≡ basket_number place.now.entry place.now.branch.now.baskets
         → IsTrue (is_some lane.now.basket)
         → IsHeld file place.now.branch.now lane.now.number lane.now.basket
-        → result_ok found ≡ values_of_branch file classes.now place.now.entry
-        place.now.before.now row.now.values place.now.branch.now) }
+        → result_ok found ≡ made_of place.now.tested (values_of_branch file classes.now
+        place.now.entry place.now.before.now row.now.values place.now.branch.now)) }
 {
     match entry_there(place.branch, lane, place.entry) {
         Some(bytes) => {
             let counts = entry_counts(alloc, place.before, &row.values, place.branch)?;
-            read_bytes(alloc, classes, &place.branch.def, &counts, bytes)
+            read_or_test(alloc, classes, place, &counts, bytes)
         }
         None => Ok(Err(fault_of(lane))),
     }
@@ -139,8 +189,8 @@ fn read_values<H: Host>(
     ensures values { IfOk result (λ found. (file : List ℕ)
         → (H.view host.old).holds ≡ Some file
         → IsLane file place.now.entry place.now.branch.now lane.old
-        → (result_ok found ≡ values_of_branch file tree.now.classes.now place.now.entry
-        place.now.before.now row.now.values place.now.branch.now)
+        → (result_ok found ≡ made_of place.now.tested (values_of_branch file tree.now.classes.now
+        place.now.entry place.now.before.now row.now.values place.now.branch.now))
         × IsLane file place.now.entry place.now.branch.now lane.new) }
     ensures calls { OnlyReads (H.view host.old) (H.view host.new) }
     ensures cause { IsCallCause (H.view host.old) (H.view host.new) result }
@@ -189,7 +239,7 @@ fn sweep_branch<H: Host>(
     ensures row { OnOk result ((file : List ℕ)
         → (H.view host.old).holds ≡ Some file
         → IsLane file place.now.entry place.now.branch.now lane.old
-        → (row.new ≡ sweep_one file tree.now.classes.now place.now.entry
+        → (row.new ≡ made_one place.now.tested file tree.now.classes.now place.now.entry
         place.now.before.now row.old place.now.branch.now refusal)
         × IsLane file place.now.entry place.now.branch.now lane.new) }
     ensures count { OnOk result (length row.new.refusals ≡ length row.old.refusals + 1) }
@@ -208,23 +258,26 @@ fn sweep_branch<H: Host>(
     Ok(())
 }
 
-/// The row at an entry, of branches that come to it with these refusals.
+/// The row at an entry, of branches that come to it with these refusals. No values are made of those that are only tested.
 pub(crate) fn read_row<H: Host>(
     alloc: Global,
     host: &mut H,
     tree: &Tree,
     entry: u64,
     refusals: &[Option<BranchRefusal>],
+    tested: &[bool],
     lanes: &mut [Lane],
 ) -> Result<Row, ReportFault>
     requires length { IsLength (H.view host.old) tree.now.file_length }
+    requires counters { CountersMade tested.now tree.now.branches.now }
     requires refusals { length refusals.now ≡ length tree.now.branches.now }
     requires lanes { length lanes.old ≡ length tree.now.branches.now }
     ensures lanes { length lanes.new ≡ length lanes.old }
     ensures row { IfOk result (λ row. (file : List ℕ)
         → (H.view host.old).holds ≡ Some file
         → AreLanes file entry tree.now.branches.now lanes.old
-        → (row ≡ sweep file tree.now.classes.now entry tree.now.branches.now refusals.now)
+        → (row ≡ row_made tested.now
+        (sweep file tree.now.classes.now entry tree.now.branches.now refusals.now))
         × AreLanes file entry tree.now.branches.now lanes.new) }
     ensures count { IfOk result (λ row. length row.refusals ≡ length tree.now.branches.now) }
     ensures width { IfOk result (λ row. length row.values ≡ length tree.now.branches.now) }
@@ -237,6 +290,7 @@ pub(crate) fn read_row<H: Host>(
             before: &tree.branches[..k],
             branch: &tree.branches[k],
             entry,
+            tested: is_tested(tested, k),
         };
         sweep_branch(
             alloc,

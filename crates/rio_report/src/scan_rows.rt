@@ -57,7 +57,7 @@ fn put_row_line<H: Host>(
     ensures calls { OnlyReads (H.view host.old) (H.view host.new) }
     ensures cause { IsCallCause (H.view host.old) (H.view host.new) result }
 {
-    let row = read_row(alloc, host, tree, entry, refusals.as_slice(), lanes)?;
+    let row = read_row(alloc, host, tree, entry, refusals.as_slice(), &[], lanes)?;
     if are_kept(refusals, &row.refusals) {
         put_row(text, entry, refusals.as_slice(), row.values.as_slice())?;
     } else {

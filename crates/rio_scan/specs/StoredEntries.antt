@@ -1,6 +1,7 @@
 -- What the baskets of a branch hold in a file: whether they are read, and the entries.
-use Rattle.std.specs.Prelude.{ℕ, ◌+◌, ◌-◌, List, [], ◌∷◌, length, take, drop, slice_get, nat_le, Option, Some, None, Result, Ok, Err, Bool, true, false, ◌==◌, ◌&&◌, not, if◌then◌else◌}
-use Rattle.std.specs.List.{list_any, prefix_len}
+use Rattle.std.specs.Prelude.{ℕ, ◌+◌, ◌-◌, List, [], ◌∷◌, length, take, drop, slice_get, Option, Some, None, Result, Ok, Err, Bool, true, false, ◌==◌, ◌&&◌, not, if◌then◌else◌}
+use Rattle.std.specs.List.{list_any}
+use Rattle.rio_tree_head.specs.Index.{basket_number}
 use Rattle.rio_tree_head.specs.declared.basket_at.BasketAt.{BasketAt}
 use Rattle.rio_tree_head.specs.declared.head.Branch.{Branch}
 use Rattle.rio_tree_head.specs.declared.refusal.BranchRefusal.{BranchRefusal}
@@ -64,11 +65,6 @@ baskets_refusal file b = refusal_of_baskets file b.offsets b.entries b.baskets
 abbrev pub entries_or_none : StoredEntries → List (List ℕ)
 entries_or_none (Ok entries) = entries
 entries_or_none (Err fault) = []
-
--- The number of the basket of an entry: how many behind the first one begin at the entry or before it. The first entries of a
--- branch that isn't refused rise from 0 on.
-abbrev pub basket_number : ℕ → List BasketAt → ℕ
-basket_number e baskets = prefix_len (λ at. nat_le at.first e) (drop 1 baskets)
 
 -- the bytes of an entry in a basket that has it
 abbrev pub entry_in_basket : List ℕ → Bool → ℕ → Option BasketAt → Option (List ℕ)

@@ -1,5 +1,6 @@
--- The baskets of a branch: which lists are an index, and how many entries each basket has.
-use Rattle.std.specs.Prelude.{◌≡◌, ℕ, ◌-◌, ◌<◌, ◌≤◌, List, [], ◌∷◌}
+-- The baskets of a branch: which lists are an index, how many entries each basket has, and where an entry is looked for.
+use Rattle.std.specs.Prelude.{◌≡◌, ℕ, ◌-◌, ◌<◌, ◌≤◌, List, [], ◌∷◌, drop, nat_le}
+use Rattle.std.specs.List.{prefix_len}
 use Rattle.rio_tree_head.specs.declared.basket_at.BasketAt.{BasketAt}
 
 -- ---- which lists are an index
@@ -25,3 +26,10 @@ counts_from first (b ∷ bs) entries = (b.first - first) ∷ counts_from b.first
 abbrev pub basket_counts : List BasketAt → ℕ → List ℕ
 basket_counts [] entries = []
 basket_counts (b ∷ bs) entries = counts_from b.first bs entries
+
+-- ---- where an entry is looked for
+
+-- The number of the basket of an entry: how many behind the first one begin at the entry or before it. The first entries of a
+-- branch that isn't refused rise from 0 on.
+abbrev pub basket_number : ℕ → List BasketAt → ℕ
+basket_number e baskets = prefix_len (λ at. nat_le at.first e) (drop 1 baskets)

@@ -1,9 +1,11 @@
-use Rattle.std.proofs.Common.{[], ◌+◌, length, take, drop, get_or, None, length-set, refl, sym, ap, ◌∙◌, arith}
+use Rattle.std.proofs.Common.{Bool, ◌+◌, length, take, drop, get_or, None, length-set, refl, sym, ap, ◌∙◌, arith}
 use Rattle.std.proofs.lemmas.Option.{slice_get-get_or}
 use Rattle.rio_host.proofs.ReadsLaws.{reads_join, reads_none}
 use Rattle.rio_scan.specs.declared.row.Row.{Row}
-use Rattle.rio_scan.specs.Sweeps.{sweep, sweep_behind}
+use Rattle.rio_scan.specs.Sweeps.{empty_row, sweep, sweep_one}
+use Rattle.rio_report.specs.Tested.{is_tested, made_one, row_made}
 use Rattle.rio_report.proofs.Left.{any_default}
+use Rattle.rio_report.proofs.TestedRows.{empty_made, length-values_made, one_more_made}
 use Rattle.rio_report.proofs.Walks.{lanes_set, sweep_last, sweep_more}
 use Rattle.rio_report.proofs.rows.read_row.Goals as goal
 
@@ -12,7 +14,7 @@ unfolding sweep
 loop-k-init g c = record {
   calls = reads_none (g.H.Host.view c.args.host.now);
   calm = refl;
-  swept = λ file told are. ap (λ (row : Row). sweep_behind file c.args.tree.now.classes.now c.args.entry [] row c.args.tree.now.branches.now c.args.refusals.now) c.new-row.ensures;
+  swept = λ file told are. (empty_row, c.new-row.ensures ∙ empty_made c.args.tested.now, refl);
   lanes = λ file told are. are;
   count = ap (λ (row : Row). length row.refusals) c.new-row.ensures;
   values = ap (λ (row : Row). length row.values) c.new-row.ensures;
@@ -23,6 +25,9 @@ pub loop-k-preserved : goal.loop-k-preserved
 loop-k-preserved g c =
     let bs = c.args.tree.now.branches.now in
     let rs = c.args.refusals.now in
+    let ts = c.args.tested.now in
+    let classes = c.args.tree.now.classes.now in
+    let e = c.args.entry in
     let k = c.loop-k.k in
     let b = c.index-tree-k.result in
     let lane = c.index-lanes-k.result in
@@ -33,9 +38,16 @@ loop-k-preserved g c =
       calm = c.in_ok-sweep_branch.ensures.cause ∙ c.loop-k.invariant.calm;
       swept = λ file told are.
           let one = c.in_ok-sweep_branch.ensures.row file (c.loop-k.invariant.calls.holds ∙ told) (c.loop-k.invariant.lanes file told are k _ _ there held) in
-          ap (λ (row : Row). sweep_behind file c.args.tree.now.classes.now c.args.entry (take (k + 1) bs) row (drop (k + 1) bs) (drop (k + 1) rs)) one.0
-          ∙ sym (sweep_more file c.args.tree.now.classes.now bs c.args.entry k (get_or bs k b) (get_or rs k None) rs c.loop-k.row (omega arith) (any_default bs k b (get_or bs k b) (omega arith)) (omega arith) (any_default rs k None (get_or rs k None) (omega arith)))
-          ∙ c.loop-k.invariant.swept file told are;
+          let was = c.loop-k.invariant.swept file told are in
+          let full = was.0 in
+          let size = sym (length-values_made ts full.values) ∙ sym (ap (λ (row : Row). length row.values) was.1) ∙ c.loop-k.invariant.values in (
+            sweep_one file classes e (take k bs) full (get_or bs k b) (get_or rs k None),
+            one.0
+                ∙ ap (λ (t : Bool). made_one t file classes e (take k bs) c.loop-k.row (get_or bs k b) (get_or rs k None)) c.is_tested.ensures
+                ∙ ap (λ (row : Row). made_one (is_tested ts k) file classes e (take k bs) row (get_or bs k b) (get_or rs k None)) was.1
+                ∙ one_more_made file classes e (take k bs) ts full k (get_or bs k b) (get_or rs k None) size (c.requires.counters k (get_or bs k b) there),
+            sym (sweep_more file classes bs e k (get_or bs k b) (get_or rs k None) rs full (omega arith) (any_default bs k b (get_or bs k b) (omega arith)) (omega arith) (any_default rs k None (get_or rs k None) (omega arith))) ∙ was.2,
+          );
       lanes = λ file told are.
           let one = c.in_ok-sweep_branch.ensures.row file (c.loop-k.invariant.calls.holds ∙ told) (c.loop-k.invariant.lanes file told are k _ _ there held) in
           lanes_set file c.args.entry bs c.loop-k.lanes k (get_or bs k b) c.sweep_branch.new.lane (c.loop-k.invariant.lanes file told are) there one.1;
@@ -45,7 +57,7 @@ loop-k-preserved g c =
     }
 
 pub returns-clause-row : goal.returns-clause-row
-returns-clause-row g c file told are = (
-  sym (sweep_last file c.args.tree.now.classes.now c.args.tree.now.branches.now c.args.entry c.loop-k.k c.args.refusals.now c.loop-k.row (omega arith)) ∙ c.loop-k.invariant.swept file told are,
-  c.loop-k.invariant.lanes file told are,
-)
+returns-clause-row g c file told are =
+    let was = c.loop-k.invariant.swept file told are in
+    let all = sym (sweep_last file c.args.tree.now.classes.now c.args.tree.now.branches.now c.args.entry c.loop-k.k c.args.refusals.now was.0 (omega arith)) ∙ was.2 in
+    (was.1 ∙ ap (row_made c.args.tested.now) all, c.loop-k.invariant.lanes file told are)
