@@ -12,7 +12,8 @@ use Rattle.rio_num.proofs.ReadLaws.{ok_is}
 use Rattle.rio_buffer.specs.Frames.{Step}
 use Rattle.rio_buffer.specs.ReaderState.{ReaderState}
 use Rattle.rio_buffer.specs.declared.fault.ObjFault.{ObjFault}
-use Rattle.rio_format.specs.Bodies.{Counters, number_in}
+use Rattle.rio_format.specs.Bodies.{Counters}
+use Rattle.rio_value.specs.Accessors.{number_in}
 use Rattle.rio_format.specs.Objects.{depth_limit, kind_value, number_value, numbers, object_of}
 use Rattle.rio_machine.specs.Rows.{leaf_column}
 use Rattle.rio_read.specs.Passing.{passed}

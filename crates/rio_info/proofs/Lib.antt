@@ -1,9 +1,5 @@
 pub mod ClassAmounts
-pub mod ClassForms
-pub mod ElementForms
-pub mod ListForms
 pub mod ListGrowth
 pub mod MemberLaws
 pub mod NamedAmounts
-pub mod WritingLaws
 pub mod WrittenLists

@@ -11,10 +11,8 @@ use Rattle.rio_format.specs.TreeClasses.{array_member, branch_class, leaf_class,
 use Rattle.rio_format.specs.WrittenBytes.{class_list_bytes, written_list}
 use Rattle.rio_format.specs.WrittenElements.{inline_element, member_element, pointer_element, reaches_object}
 use Rattle.rio_model.specs.StateClasses.{AreAccepted, AreDeclared, HasShortList, LastLengthDecides, WrittenLengthsAreOne, WrittenListsGrow}
-use Rattle.rio_info.specs.WrittenParts.{list_writer}
-use Rattle.rio_info.proofs.ClassAmounts.{class_amount, class_names, least_amount, list_amounts, list_names}
-use Rattle.rio_info.proofs.ListForms.{list_written}
-use Rattle.rio_info.proofs.NamedAmounts.{Amount, all_used, bytes_met, is_among, is_met, names_met, pointed_classes, total, total-append}
+use Rattle.rio_info.proofs.ClassAmounts.{class_amount, class_names, least_amount, list_amount, list_names, list_takes, list_writer}
+use Rattle.rio_info.proofs.NamedAmounts.{Amount, all_used, bytes_met, is_among, is_met, names_met, pointed_classes, total-append}
 
 -- ---- the names that are met at most, and at least
 
@@ -221,30 +219,23 @@ unfolding tree_classes
 trees_first declared = (drop 4 (written_classes declared), refl)
 
 module _ (start : ℕ) where
-  -- how many bytes the list has apart from the names
-  abbrev apart : List ClassDef → ℕ
-  apart classes = 6 + (15 + total class_amount classes)
+  list_amounts : (classes : List ClassDef) → Amount (list_amount classes) (list_names classes) start no_words (list_writer classes start no_words)
+  list_amounts classes = list_takes classes start no_words tt
 
-  list_amount : (classes : List ClassDef) → Amount (apart classes) (list_names classes) start no_words (list_writer classes start no_words)
-  list_amount classes = list_amounts classes start no_words tt
-
-  longest : (classes : List ClassDef) → length (class_list_bytes start classes) ≤ apart classes + 179
-  longest classes =
-      let most = at_longest (apart classes) (list_names classes) start (list_writer classes start no_words) (list_amount classes) in
-      subst (λ (bytes : List ℕ). length bytes ≤ apart classes + 179) (sym (list_written start classes)) most
+  longest : (classes : List ClassDef) → length (class_list_bytes start classes) ≤ list_amount classes + 179
+  longest classes = at_longest (list_amount classes) (list_names classes) start (list_writer classes start no_words) (list_amounts classes)
 
   names_are_met : (declared : List ClassDef) → EnoughMet (is_met (list_writer (written_classes declared) start no_words).1)
   names_are_met declared =
       let classes = written_classes declared in
       let trees = trees_first declared in
       let used = subst (λ (cs : List ClassDef). EnoughMet (uses classes cs)) (sym trees.1) (enough_used classes trees.0) in
-      enough_met (is_met (list_writer classes start no_words).1) (is_among (list_names classes)) (list_amount classes).met used
+      enough_met (is_met (list_writer classes start no_words).1) (is_among (list_names classes)) (list_amounts classes).met used
 
-  shortest : (declared : List ClassDef) → apart (written_classes declared) + 112 ≤ length (class_list_bytes start (written_classes declared))
+  shortest : (declared : List ClassDef) → list_amount (written_classes declared) + 112 ≤ length (class_list_bytes start (written_classes declared))
   shortest declared =
       let classes = written_classes declared in
-      let least = at_shortest (apart classes) (list_names classes) start (list_writer classes start no_words) (list_amount classes) (names_are_met declared) in
-      subst (λ (bytes : List ℕ). apart classes + 112 ≤ length bytes) (sym (list_written start classes)) least
+      at_shortest (list_amount classes) (list_names classes) start (list_writer classes start no_words) (list_amounts classes) (names_are_met declared)
 
 pub written_lists_grow : WrittenListsGrow
 written_lists_grow start declared class =
@@ -259,8 +250,7 @@ written_lists_grow start declared class =
 pub lengths_are_one : WrittenLengthsAreOne
 lengths_are_one p q declared =
     let classes = written_classes declared in
-    let long = equally_long (apart p classes) (list_names classes) p q (list_writer classes p no_words) (list_writer classes q no_words) (list_amount p classes) (list_amount q classes) in
-    ap (λ (bytes : List ℕ). length bytes) (list_written p classes) ∙ long ∙ sym (ap (λ (bytes : List ℕ). length bytes) (list_written q classes))
+    equally_long (list_amount classes) (list_names classes) p q (list_writer classes p no_words) (list_writer classes q no_words) (list_amounts p classes) (list_amounts q classes)
 
 -- ---- the classes of a state
 

@@ -10,8 +10,7 @@ use Rattle.std.specs.Str.{bytes_eq}
 use Rattle.std.proofs.lemmas.Bool.{not-true, or_parts}
 use Rattle.byteorder.specs.Endian.{big_bytes}
 use Rattle.rio_buffer.specs.ReaderState.{WordsMet, with_label, with_name}
-use Rattle.rio_format.specs.Slots.{Slot}
-use Rattle.rio_format.specs.Written.{Writing, all, both, counted, headed_bytes, just}
+use Rattle.rio_format.specs.Written.{both, counted, headed_bytes, just}
 use Rattle.rio_buffer.specs.Writer.{Writer, class_by, class_bytes}
 use Rattle.rio_write.specs.Measuring.{AreBelow}
 use Rattle.rio_write.specs.Writing.{pointer_to}
@@ -194,9 +193,3 @@ total-append cost [] ys = omega arith
 total-append cost (x ∷ xs) ys =
     let rest = total-append cost xs ys in
     omega (arith, rest)
-
-pub all_amounts : {X : Type 0} (slot : Slot) (h : X → Writing) (cost : X → ℕ) (used : X → List (List ℕ)) → ((x : X) → Amounts (cost x) (used x) ((h x).bytes slot))
-    → (xs : List X) → Amounts (total cost xs) (all_used used xs) (all slot (map h xs))
-all_amounts slot h cost used each [] = just_amounts []
-all_amounts slot h cost used each (x ∷ xs) =
-    both_amounts (cost x) (total cost xs) (used x) (all_used used xs) ((h x).bytes slot) (all slot (map h xs)) (each x) (all_amounts slot h cost used each xs)

@@ -3,12 +3,12 @@ ghost use Rattle.std.specs.Prelude.{◌≡◌, [], ◌∷◌, ◌++◌, ℕ, len
 ghost use Rattle.rio_format.specs.Lists.{listed};
 ghost use Rattle.rio_format.specs.WrittenBytes.{class_list_bytes, told_length, written_list};
 
-use crate::list::write_list;
-use rio_describe::{JudgedLists, tree_classes};
+use crate::value::class_list_value;
+use rio_describe::{JudgedLists, description_classes, tree_classes};
 use rio_format::ClassLists;
-use rio_num::{Names, NoMemory};
+use rio_num::NoMemory;
 use rio_types::{ClassDef, Classes};
-use rio_write::Total;
+use rio_write::written_length;
 use std::alloc::Global;
 
 // The length of the list of these classes, as far as it is told.
@@ -17,14 +17,14 @@ fn list_length(alloc: Global, classes: &ClassLists) -> Result<u64, NoMemory>
         ≡ told_length (length (class_list_bytes start (listed classes.now)))) }
 {
     let judged = JudgedLists::new(alloc, *classes)?;
-    let mut total = Total { bytes: 0 };
-    let mut names = Names::new(alloc);
-    write_list(&judged, &mut total, &mut names)?;
-    Ok(total.bytes)
+    let list = class_list_value(alloc, &judged)?;
+    let descriptions = description_classes(alloc)?;
+    written_length(alloc, &descriptions, &list)
 }
 
 /// The length of the class list that is written for these declared classes, or 16,777,217 where it is more than
-/// 16,777,216. Nothing is written, and no class is copied: it goes over the classes of trees and these.
+/// 16,777,216. The list's value is made and measured, and nothing is written: it takes memory in proportion to the classes
+/// of trees and these.
 pub fn info_length(alloc: Global, classes: &Classes) -> Result<u64, NoMemory>
     ensures { IfOk result (λ n. (start : ℕ) → n
         ≡ told_length (length (written_list start classes.now))) }
@@ -34,7 +34,7 @@ pub fn info_length(alloc: Global, classes: &Classes) -> Result<u64, NoMemory>
 }
 
 /// The same length with one class more, which stands behind the declared ones and counts as one of them: where it is
-/// a new version it decides, for each member of its class, which element is written. Nothing is copied.
+/// a new version it decides, for each member of its class, which element is written. No class is copied.
 pub fn info_length_with(alloc: Global, classes: &Classes, class: &ClassDef) -> Result<u64, NoMemory>
     ensures { IfOk result (λ n. (start : ℕ) → n
         ≡ told_length (length (written_list start (classes.now ++ class.now ∷ [])))) }

@@ -1,22 +1,22 @@
 //! Class lists in bytes, read and written: the classes that a file describes. `read_info` tells the classes of a list or
 //! its first fault, `write_info` writes the list for declared classes, `info_length` and `info_length_with` tell its
-//! length beforehand: the same walk, into a sink that counts. The definitions stand in `rio_format`: `ClassList` and
-//! `Elements` of what is read, `TreeClasses`, `WrittenElements`, `WrittenList` and `WrittenBytes` of what is written;
-//! `WrittenParts` here says the same bytes part by part. Its tests stand in `rio_rows`.
+//! length beforehand. The list is made as the value of a TList, which is written and measured as any object is. The
+//! definitions stand in `rio_format`: `ClassList` and `Elements` of what is read, `TreeClasses`, `WrittenElements`,
+//! `WrittenList` and `WrittenBytes` of what is written. Its tests stand in `rio_rows`.
 #![tactic(auto)]
 
 mod classes;
 mod element;
+mod element_value;
 mod kind;
 mod laws;
 mod length;
-mod list;
 mod members;
+mod part_list;
 mod parts;
 mod read;
+mod value;
 mod write;
-mod write_class;
-mod write_element;
 
 pub use laws::{last_length_decides, written_lists_grow};
 pub use length::{info_length, info_length_with};

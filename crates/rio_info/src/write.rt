@@ -8,12 +8,12 @@ ghost use Rattle.rio_model.specs.Described.{is_described};
 ghost use Rattle.rio_format.specs.TreeClasses.{written_classes};
 ghost use Rattle.rio_format.specs.WrittenBytes.{length_limit, written_list};
 
-use crate::list::write_list;
-use rio_buffer::ObjWriter;
-use rio_describe::{JudgedLists, tree_classes};
+use crate::value::class_list_value;
+use rio_describe::{JudgedLists, description_classes, tree_classes};
 use rio_format::ClassLists;
-use rio_num::{Bytes, Names, NoMemory};
+use rio_num::{Bytes, NoMemory};
 use rio_types::Classes;
+use rio_write::write_object;
 use std::alloc::Global;
 
 /// The class list that is written for these declared classes: it describes the classes of trees and then these. Its
@@ -28,8 +28,7 @@ pub fn write_info(alloc: Global, classes: &Classes, start: u64) -> Result<Bytes,
 {
     let trees = tree_classes(alloc)?;
     let judged = JudgedLists::new(alloc, ClassLists::Two(&trees, classes))?;
-    let mut writer = ObjWriter::new(alloc, start);
-    let mut names = Names::new(alloc);
-    write_list(&judged, &mut writer, &mut names)?;
-    Ok(writer.into_bytes())
+    let list = class_list_value(alloc, &judged)?;
+    let descriptions = description_classes(alloc)?;
+    write_object(alloc, &descriptions, &list, start)
 }

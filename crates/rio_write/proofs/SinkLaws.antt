@@ -9,7 +9,7 @@ use Rattle.rio_buffer.specs.ReaderState.{WordsMet, with_label}
 use Rattle.rio_buffer.specs.Writer.{Writer, WriterState, begun, begun_pointer, class_bytes, next_place}
 use Rattle.rio_format.specs.Slots.{Field, Slot}
 use Rattle.rio_format.specs.Written.{Writing, all, both, fields_bytes, headed_bytes, just}
-use Rattle.rio_write.specs.Sinks.{Accepted, Accepts, CanClose, CanPoint, Closes, Opened, RoomFor, RoomForBytes, SinkTakes, StandsWithin}
+use Rattle.rio_write.specs.Sinks.{Accepted, Accepts, CanClose, CanPoint, Closes, Opened, RoomFor, StandsWithin}
 use Rattle.rio_write.specs.Writing.{HasRoom, pointer_to, with_written}
 use Rattle.rio_write.proofs.WriteLaws.{both_after, closed_at, closed_is, count_room, count_stands, header_room, inside, inside_room, item_room, items_done, items_go_on, items_room, nothing, opened_at, part_room, parts_done, parts_go_on, parts_missing, parts_room, place_room, pointer_room, room_first, room_then, still_innermost, text_room}
 
@@ -206,21 +206,6 @@ module _ {X : Type 0} (stands : X → WriterState → Type 0) (bounded : Bool) (
 -- these bytes were taken
 abbrev pub Taken : {S : Type 0} → (S × List (List ℕ) → WriterState → Type 0) → List ℕ → S → S → Type 0
 Taken stands bytes x y = (names : List (List ℕ)) → Accepted stands (just bytes) (x, names) (y, names)
-
-module _ {S : Type 0} (stands : S × List (List ℕ) → WriterState → Type 0) (x y : S) where
-  pub short_text : (bounded : Bool) (text : List ℕ) → RoomForBytes stands bounded (text_bytes text) x → IsTrue bounded → length text < 2 ^ 32
-  short_text bounded text room = text_is_short stands bounded text (x, room.0) room.1
-
-  -- bytes, and more behind them
-  module _ (a b : List ℕ) where
-    pub bytes_then : (z : S) (r : Result (Unit {0}) NoMemory) → Taken stands a x y → SinkTakes stands b r y z → SinkTakes stands (a ++ b) r x z
-    bytes_then z r one two = λ names. both_accept stands (just a) (just b) (x, names) (y, names) (z, names) r (one names) (two names)
-
-    pub bytes_first_room : (bounded : Bool) → RoomForBytes stands bounded (a ++ b) x → RoomForBytes stands bounded a x
-    bytes_first_room bounded room = (room.0, front_room stands bounded (just a) (just b) (x, room.0) room.1)
-
-    pub bytes_then_room : (bounded : Bool) → Taken stands a x y → RoomForBytes stands bounded (a ++ b) x → RoomForBytes stands bounded b y
-    bytes_then_room bounded one room = (room.0, behind_room stands bounded (just a) (just b) (x, room.0) (y, room.0) (one room.0) room.1)
 
 -- behind each state that the first stood for, the bytes that are left give all of them
 abbrev pub BytesLead : {S : Type 0} → (S × List (List ℕ) → WriterState → Type 0) → List ℕ → List ℕ → S → S → Type 0

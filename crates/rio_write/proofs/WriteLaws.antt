@@ -195,10 +195,6 @@ module _ (class : List ℕ) (object : Writer) (s : WriterState) where
   unfolding HasRoom
   pointer_room room = omega (arith, room, length-append word.0 (inside s word.0 (with_label word.1 (next_place s)) object).0)
 
-  pub pointer_is : (s1 s2 s3 : WriterState) → s1 ≡ opened_at s word.0 (with_label word.1 (next_place s)) → s2 ≡ with_written object s1 → s3 ≡ ended (length s.bytes) s2 → s3 ≡ with_written (pointer_to class object) s
-  unfolding with_written
-  pointer_is s1 s2 s3 opens w e = e ∙ closed_is s word.0 (with_label word.1 (next_place s)) object s1 s2 opens w
-
 -- ---- the first bytes
 
 module _ (f : Writer) (start : ℕ) where

@@ -28,10 +28,6 @@ RoomFor stands bounded write x = StandsWithin stands bounded (HasRoom write) x
 abbrev pub SinkTakes : {S : Type 0} → (S × List (List ℕ) → WriterState → Type 0) → List ℕ → Result (Unit {0}) NoMemory → S → S → Type 0
 SinkTakes stands bytes result old new = (names : List (List ℕ)) → Accepts stands (just bytes) result (old, names) (new, names)
 
--- where its places are bounded, all places of these bytes can be referred to
-abbrev pub RoomForBytes : {S : Type 0} → (S × List (List ℕ) → WriterState → Type 0) → Bool → List ℕ → S → Type 0
-RoomForBytes stands bounded bytes x = (names : List (List ℕ)) × RoomFor stands bounded (just bytes) (x, names)
-
 -- ---- objects
 
 -- an object can be pointed to whose count word stands here

@@ -77,10 +77,6 @@ impl Sink for Total {
         Ok(self.add(8))
     }
 
-    fn take_bytes(&mut self, bytes: &[u8]) -> Result<(), NoMemory> {
-        Ok(self.add(bytes.len() as u64))
-    }
-
     fn take_text(&mut self, text: &[u8]) -> Result<(), NoMemory> {
         Ok(self.add(text_length(text)))
     }

@@ -83,7 +83,7 @@ pub fn write_bool<S: Sink>(sink: &mut S, b: bool) -> Result<(), NoMemory>
 }
 
 /// A count of items, by its lowest 32 bits.
-pub fn write_count<S: Sink>(sink: &mut S, count: usize) -> Result<(), NoMemory>
+pub(crate) fn write_count<S: Sink>(sink: &mut S, count: usize) -> Result<(), NoMemory>
     ensures { SinkTakes S.stands (big_bytes 4 count) result sink.old sink.new }
 {
     sink.take_u32(bits_32(count as i128))

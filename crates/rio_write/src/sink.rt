@@ -40,10 +40,6 @@ pub trait Sink {
     fn take_u64(&mut self, n: u64) -> Result<(), NoMemory>
         ensures { SinkTakes stands (big_bytes 8 n) result self.old self.new };
 
-    /// Takes these bytes.
-    fn take_bytes(&mut self, bytes: &[u8]) -> Result<(), NoMemory>
-        ensures { SinkTakes stands bytes.now result self.old self.new };
-
     /// Takes a text: its length, and its bytes.
     fn take_text(&mut self, text: &[u8]) -> Result<(), NoMemory>
         requires { IsTrue bounded → length text.now < 2 ^ 32 }
@@ -102,10 +98,6 @@ impl Sink for ObjWriter {
 
     fn take_u64(&mut self, n: u64) -> Result<(), NoMemory> {
         self.put_u64(n)
-    }
-
-    fn take_bytes(&mut self, bytes: &[u8]) -> Result<(), NoMemory> {
-        self.put_bytes(bytes)
     }
 
     fn take_text(&mut self, text: &[u8]) -> Result<(), NoMemory> {

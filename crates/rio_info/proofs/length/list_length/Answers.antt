@@ -1,20 +1,14 @@
-use Rattle.std.proofs.Common.{ℕ, List, length, min, sym, ap, ◌∙◌}
-use Rattle.rio_format.specs.Lists.{listed}
+use Rattle.std.proofs.Common.{◌≡◌, ℕ, List, length, min, IfOk, ap, ◌∙◌, subst}
+use Rattle.rio_types.specs.declared.class.ClassDef.{ClassDef}
+use Rattle.rio_value.specs.declared.value.Value.{Value}
+use Rattle.rio_format.specs.Descriptions.{description_classes}
+use Rattle.rio_format.specs.Written.{written_form}
 use Rattle.rio_write.specs.Measuring.{too_long}
-use Rattle.rio_write.specs.Sinks.{Accepted, StandsWithin}
-use Rattle.rio_write.proofs.Counting.{whole_counted}
-use Rattle.rio_info.specs.WrittenParts.{list_writer}
-use Rattle.rio_info.proofs.ListForms.{list_written}
 use Rattle.rio_info.proofs.length.list_length.Goals as goal
 
-pub write_list-requires : goal.write_list-requires
-unfolding StandsWithin
-write_list-requires c = λ never. absurd cc
-
 pub returns : goal.returns
-unfolding Accepted
-returns c = λ start.
-    let classes = listed c.args.classes.now in
-    let counted = rw c.in_ok-judged.ensures at c.in_ok-write_list.ensures in
-    whole_counted (list_writer classes) start c.new-names.result c.write_list.new.names c.write_list.new.sink.bytes c.new-names.ensures counted
-    ∙ ap (λ (bytes : List ℕ). min (length bytes) too_long) (sym (list_written start classes))
+returns c =
+    let list = rw c.in_ok-judged.ensures at c.in_ok-list.ensures in
+    let forms = ap (λ (classes : List ClassDef). λ (start : ℕ). written_form classes start c.in_ok-list.list) c.in_ok-descriptions.ensures
+    ∙ ap (λ (v : Value). λ (start : ℕ). written_form description_classes start v) list in
+    subst (λ (form : ℕ → List ℕ). IfOk c.written_length.result (λ (n : ℕ). (start : ℕ) → n ≡ min (length (form start)) too_long)) forms c.written_length.ensures

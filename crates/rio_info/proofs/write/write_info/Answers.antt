@@ -1,52 +1,36 @@
-use Rattle.std.proofs.Common.{◌≡◌, ◌≤◌, ◌<◌, ◌+◌, ◌-◌, ◌^◌, ℕ, List, [], Ok, arith, length, sym, ap, ◌∙◌, subst}
-use Rattle.rio_num.specs.Room.{room_of}
+use Rattle.std.proofs.Common.{◌≡◌, ℕ, List, length, IfOk, arith, ap, ◌∙◌, subst}
+use Rattle.rio_num.specs.Room.{Room, room_of}
 use Rattle.rio_types.specs.declared.class.ClassDef.{ClassDef}
-use Rattle.rio_buffer.specs.Writer.{Writer, WriterState, nothing_written}
+use Rattle.rio_value.specs.declared.value.Value.{Value}
+use Rattle.rio_format.specs.Descriptions.{description_classes}
 use Rattle.rio_format.specs.TreeClasses.{written_classes}
-use Rattle.rio_write.specs.Sinks.{Accepted, StandsWithin}
-use Rattle.rio_write.specs.Writing.{HasRoom}
-use Rattle.rio_write.proofs.Taking.{is_state, whole_written}
-use Rattle.rio_write.proofs.WriteLaws.{first_room}
-use Rattle.rio_format.specs.WrittenBytes.{length_limit, written_list}
-use Rattle.rio_info.specs.WrittenParts.{list_writer}
-use Rattle.rio_info.proofs.ListForms.{list_written}
+use Rattle.rio_format.specs.Written.{written_form}
+use Rattle.rio_format.specs.WrittenBytes.{written_list}
+use Rattle.rio_format.specs.WrittenList.{class_list_value}
 use Rattle.rio_info.proofs.WrittenLists.{is_read}
 use Rattle.rio_info.proofs.write.write_info.Goals as goal
 
-module _ (start : ℕ) (declared : List ClassDef) where
-  abbrev writer : Writer
-  writer = list_writer (written_classes declared)
+module _ (start : ℕ) (declared descriptions : List ClassDef) (list : Value) (e : list ≡ class_list_value (written_classes declared)) (d : descriptions ≡ description_classes) where
+  -- the value's written form is the list
+  form_is : written_form descriptions start list ≡ written_list start declared
+  form_is = ap (λ (classes : List ClassDef). written_form classes start list) d ∙ ap (λ (v : Value). written_form description_classes start v) e
 
-  -- its places can be referred to
-  list_room : length (written_list start declared) ≤ length_limit → start ≤ 65535 → HasRoom writer (nothing_written start)
-  list_room fits low =
-      let room : start + length (written_list start declared) < 2 ^ 30 - 2 = omega (arith, fits, low) in
-      first_room writer start (subst (λ (bytes : List ℕ). start + length bytes < 2 ^ 30 - 2) (list_written start (written_classes declared)) room)
-
-  -- what was written at the start
-  all_written : (old new : WriterState) (names names' : List (List ℕ)) → old ≡ nothing_written start → Accepted is_state writer (old, names) (new, names') → (new.bytes ≡ written_list start declared) × (new.opened ≡ [])
-  all_written old new names names' e taken = let first = whole_written writer start old new names names' e taken in (first.0 ∙ sym (list_written start (written_classes declared)), first.1)
-
-pub write_list-requires : goal.write_list-requires
-unfolding StandsWithin
-write_list-requires c =
-    let room = list_room c.args.start c.args.classes.now c.requires.length c.requires.start in
-    λ b. (nothing_written c.args.start, c.new-writer.ensures, rw (c.in_ok-judged.ensures, c.in_ok-trees.ensures) room)
-
-pub into_bytes-requires : goal.into_bytes-requires
-into_bytes-requires c =
-    let taken = rw (c.in_ok-judged.ensures, c.in_ok-trees.ensures) at c.in_ok-write_list.ensures in
-    (all_written c.args.start c.args.classes.now c.new-writer.result c.write_list.new.sink c.new-names.result c.write_list.new.names c.new-writer.ensures taken).1
+pub write_object-requires : goal.write_object-requires
+write_object-requires c =
+    let list = rw (c.in_ok-judged.ensures, c.in_ok-trees.ensures) at c.in_ok-list.ensures in
+    let form = form_is c.args.start c.args.classes.now _ _ list c.in_ok-descriptions.ensures in
+    let same = ap (λ (bytes : List ℕ). length bytes) form in
+    omega (arith, c.requires.length, c.requires.start, same)
 
 pub returns-clause-exact : goal.returns-clause-exact
 returns-clause-exact c =
-    let taken = rw (c.in_ok-judged.ensures, c.in_ok-trees.ensures) at c.in_ok-write_list.ensures in
-    c.into_bytes.ensures ∙ ap room_of (all_written c.args.start c.args.classes.now c.new-writer.result c.write_list.new.sink c.new-names.result c.write_list.new.names c.new-writer.ensures taken).0
+    let list = rw (c.in_ok-judged.ensures, c.in_ok-trees.ensures) at c.in_ok-list.ensures in
+    let form = form_is c.args.start c.args.classes.now _ _ list c.in_ok-descriptions.ensures in
+    subst (λ (bytes : List ℕ). IfOk c.write_object.result (λ (b : Room). b ≡ room_of bytes)) form c.write_object.ensures.exact
 
 pub returns-clause-read : goal.returns-clause-read
 returns-clause-read c = λ described.
-    let taken = rw (c.in_ok-judged.ensures, c.in_ok-trees.ensures) at c.in_ok-write_list.ensures in
-    let bytes_are : c.into_bytes.result ≡ room_of (written_list c.args.start c.args.classes.now) =
-    c.into_bytes.ensures ∙ ap room_of (all_written c.args.start c.args.classes.now c.new-writer.result c.write_list.new.sink c.new-names.result c.write_list.new.names c.new-writer.ensures taken).0
-    in
-    is_read c.args.start c.args.classes.now c.requires.length c.requires.start described (Ok c.into_bytes.result) bytes_are
+    let list = rw (c.in_ok-judged.ensures, c.in_ok-trees.ensures) at c.in_ok-list.ensures in
+    let form = form_is c.args.start c.args.classes.now _ _ list c.in_ok-descriptions.ensures in
+    is_read c.args.start c.args.classes.now c.requires.length c.requires.start described c.write_object.result
+    (subst (λ (bytes : List ℕ). IfOk c.write_object.result (λ (b : Room). b ≡ room_of bytes)) form c.write_object.ensures.exact)

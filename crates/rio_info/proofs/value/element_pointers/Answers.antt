@@ -1,0 +1,37 @@
+use Rattle.std.proofs.Common.{◌≡◌, ◌+◌, ℕ, List, [], ◌∷◌, ◌++◌, length, map, refl, ap, ◌∙◌, arith}
+use Rattle.std.proofs.lemmas.List.{length-map, map-append}
+use Rattle.rio_types.specs.declared.class.ClassDef.{ClassDef}
+use Rattle.rio_value.specs.declared.value.Value.{Value, Pointed}
+use Rattle.rio_format.specs.Lists.{listed}
+use Rattle.rio_format.specs.WrittenElements.{base_element, member_element, written_elements}
+use Rattle.rio_format.specs.WrittenList.{element_object, pointers_from}
+use Rattle.rio_info.proofs.value.element_pointers.Goals as goal
+
+-- pointers to objects, and to others behind them
+pointers_behind : (label : ℕ) (vs ws : List Value) → pointers_from label (vs ++ ws) ≡ pointers_from label vs ++ pointers_from (label + length vs) ws
+unfolding pointers_from
+pointers_behind label [] ws =
+    let here : label ≡ label + length {A = Value} [] = omega arith in
+    ap (λ (n : ℕ). pointers_from n ws) here
+pointers_behind label (v ∷ vs) ws =
+    let next : label + 1 + length vs ≡ label + length (v ∷ vs) = omega arith in
+    ap (λ (ps : List Value). Pointed label v ∷ ps) (pointers_behind (label + 1) vs ws ∙ ap (λ (n : ℕ). pointers_from (label + 1) vs ++ pointers_from n ws) next)
+
+module _ (classes : List ClassDef) (class : ClassDef) (first behind : ℕ) (is : behind ≡ first + length class.bases) where
+  abbrev bases : List Value
+  bases = map element_object (map base_element class.bases)
+
+  abbrev members : List Value
+  members = map element_object (map (member_element classes class) class.members)
+
+  all_pointers : pointers_from first bases ++ pointers_from behind members ≡ pointers_from first (map element_object (written_elements classes class))
+  unfolding written_elements
+  all_pointers =
+      let len : first + length bases ≡ behind = omega (arith, is, length-map (map base_element class.bases) element_object, length-map class.bases base_element) in
+      let whole = map-append element_object (map base_element class.bases) (map (member_element classes class) class.members) in
+      rw (whole, pointers_behind first bases members, len) refl
+
+pub returns : goal.returns
+returns c =
+    let all = all_pointers (listed c.args.classes.now) c.args.class.now c.args.first _ (rw c.as_slice-bases.ensures at c.in_ok-behind.ensures) in
+    simp (c.in_ok-put_bases.ensures, c.new-pointers.ensures, c.as_slice-bases.ensures, all) at c.in_ok-put_members.ensures
