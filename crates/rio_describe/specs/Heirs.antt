@@ -5,7 +5,7 @@ use Rattle.std.specs.Str.{bytes_eq}
 use Rattle.rio_types.specs.declared.class.Base.{Base}
 use Rattle.rio_types.specs.declared.class.ClassDef.{ClassDef}
 use Rattle.rio_format.specs.Bases.{visit_bases}
-use Rattle.rio_format.specs.Bodies.{headed_classes, row}
+use Rattle.rio_format.specs.Bodies.{headed_classes, row_of}
 use Rattle.rio_format.specs.declared.built_in.BuiltIn.{BuiltIn}
 use Rattle.rio_format.specs.Slots.{has_base}
 use Rattle.rio_format.specs.Visits.{base_of, is_visited}
@@ -45,7 +45,7 @@ class_base c = base_of c.name c.version
 
 -- a built-in class in its version
 abbrev pub built_in_base : BuiltIn → Base
-built_in_base b = base_of (row b).name (row b).version
+built_in_base b = base_of (row_of b).name (row_of b).version
 
 -- the built-in classes that have a base
 abbrev pub built_in_bases : List Base

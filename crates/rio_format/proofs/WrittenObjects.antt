@@ -11,7 +11,7 @@ use Rattle.rio_types.specs.declared.class.ClassDef.{ClassDef}
 use Rattle.rio_types.specs.declared.kind.Kind.TheVariants.{Plain}
 use Rattle.rio_value.specs.declared.value.Value.{Value, Object}
 use Rattle.rio_value.specs.declared.value.Part.{Part}
-use Rattle.rio_format.specs.Bodies.{Form, bare, numbers, headed, form_of, Body, described, listed, arrayed, opaque, t_named, t_obj_string, built_in, by_description, headed_classes, headless_classes, row}
+use Rattle.rio_format.specs.Bodies.{Form, bare, numbers, headed, form_of, Body, described, listed, arrayed, opaque, t_named, t_obj_string, built_in, by_description, headed_classes, headless_classes, row_of}
 use Rattle.rio_types.specs.Members.{can_read_all}
 use Rattle.rio_format.specs.Fits.{Labels, Fitting, fields_fit, parts_fit}
 use Rattle.rio_format.specs.Slots.{Field, field, kinded, many, body_fields, form_fields}
@@ -67,7 +67,7 @@ headed_from own found = unwrap_or own (by_description found)
 
 bare_class : (class : List ℕ) → form_of class ≡ bare → class ≡ codes "TObject"
 bare_class class =
-    of_each (λ (f : Form). f ≡ bare → class ≡ codes "TObject") (λ b. (row b).form) headed headless_classes class
+    of_each (λ (f : Form). f ≡ bare → class ≡ codes "TObject") (λ b. (row_of b).form) headed headless_classes class
     ((λ c e. c), ((λ c e. absurd cc), ((λ c e. absurd cc), ((λ c e. absurd cc), ((λ c e. absurd cc), ((λ c e. absurd cc), ((λ c e. absurd cc), tt)))))))
     (λ e. absurd cc)
 

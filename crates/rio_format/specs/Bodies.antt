@@ -59,18 +59,18 @@ abbrev pub with_header : List ℕ → ℤ → Body → BuiltInRow
 with_header name version body = record { name = name; version = version; form = headed; body = Some body }
 
 -- the table of them
-abbrev pub row : BuiltIn → BuiltInRow
-row Object = without_header (codes "TObject") bare
-row Chars = without_header (codes "TArrayC") (numbers I8)
-row Shorts = without_header (codes "TArrayS") (numbers I16)
-row Ints = without_header (codes "TArrayI") (numbers I32)
-row Longs = without_header (codes "TArrayL64") (numbers I64)
-row Floats = without_header (codes "TArrayF") (numbers F32)
-row Doubles = without_header (codes "TArrayD") (numbers F64)
-row Named = with_header (codes "TNamed") (pos 1) (described t_named)
-row ObjString = with_header (codes "TObjString") (pos 1) (described t_obj_string)
-row Listed = with_header (codes "TList") (pos 5) listed
-row Arrayed = with_header (codes "TObjArray") (pos 3) arrayed
+abbrev pub row_of : BuiltIn → BuiltInRow
+row_of Object = without_header (codes "TObject") bare
+row_of Chars = without_header (codes "TArrayC") (numbers I8)
+row_of Shorts = without_header (codes "TArrayS") (numbers I16)
+row_of Ints = without_header (codes "TArrayI") (numbers I32)
+row_of Longs = without_header (codes "TArrayL64") (numbers I64)
+row_of Floats = without_header (codes "TArrayF") (numbers F32)
+row_of Doubles = without_header (codes "TArrayD") (numbers F64)
+row_of Named = with_header (codes "TNamed") (pos 1) (described t_named)
+row_of ObjString = with_header (codes "TObjString") (pos 1) (described t_obj_string)
+row_of Listed = with_header (codes "TList") (pos 5) listed
+row_of Arrayed = with_header (codes "TObjArray") (pos 3) arrayed
 
 abbrev pub headless_classes : List BuiltIn
 headless_classes = Object ∷ Chars ∷ Shorts ∷ Ints ∷ Longs ∷ Floats ∷ Doubles ∷ []
@@ -81,11 +81,11 @@ headed_classes = Named ∷ ObjString ∷ Listed ∷ Arrayed ∷ []
 -- what is said of the one of these that has the name
 abbrev pub by_name : {A : Type 0} → (BuiltIn → A) → A → List BuiltIn → List ℕ → A
 by_name say other [] class = other
-by_name say other (b ∷ bs) class = if bytes_eq class (row b).name then say b else by_name say other bs class
+by_name say other (b ∷ bs) class = if bytes_eq class (row_of b).name then say b else by_name say other bs class
 
 -- TObject has no byte count; a TArray is a count and numbers; any other object begins with a header
 abbrev pub form_of : List ℕ → Form
-form_of class = by_name (λ b. (row b).form) headed headless_classes class
+form_of class = by_name (λ b. (row_of b).form) headed headless_classes class
 
 -- the built-in class of the name whose objects begin with a header
 abbrev pub headed_class : List ℕ → Option BuiltIn
@@ -93,11 +93,11 @@ headed_class class = by_name Some None headed_classes class
 
 -- the one version of such a class
 abbrev pub headed_version : List ℕ → Option ℤ
-headed_version class = by_name (λ b. Some (row b).version) None headed_classes class
+headed_version class = by_name (λ b. Some (row_of b).version) None headed_classes class
 
 -- its body, in its one version alone
 abbrev pub own_body : ℤ → BuiltIn → Option Body
-own_body version b = if int_eq version (row b).version then (row b).body else None
+own_body version b = if int_eq version (row_of b).version then (row_of b).body else None
 
 -- the bodies that a class list can't change
 abbrev pub built_in : List ℕ → ℤ → Option Body

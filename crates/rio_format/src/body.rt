@@ -1,7 +1,7 @@
 //! What stands behind the header of an object.
 ghost use Rattle.std.specs.Prelude.{◌≡◌, ℤ, pos, Option, Some, None};
 ghost use Rattle.std.specs.Option.{option_copied, option_map, option_map_or};
-ghost use Rattle.rio_format.specs.Bodies.{body_of, built_in, by_description, described, headed_version, row};
+ghost use Rattle.rio_format.specs.Bodies.{body_of, built_in, by_description, described, headed_version, row_of};
 ghost use Rattle.rio_format.specs.Slots.{declared_body};
 ghost use Rattle.rio_format.specs.Lists.{listed};
 ghost use Rattle.rio_types.specs.Classes.{judged};
@@ -57,7 +57,7 @@ fn by_description<'a>(found: Option<(&'a ClassDef, bool)>) -> Body<'a>
 
 // The body of a built-in class, behind its header.
 fn own_body<'a>(class: BuiltIn) -> Option<Body<'a>>
-    ensures { result ≡ (row class).body }
+    ensures { result ≡ (row_of class).body }
 {
     match class {
         BuiltIn::Named => Some(Body(BodyKind::Named)),

@@ -1,7 +1,7 @@
 //! The classes that are built in.
 ghost use Rattle.std.specs.Prelude.{◌≡◌, Some, None};
 ghost use Rattle.std.specs.Str.{bytes_eq};
-ghost use Rattle.rio_format.specs.Bodies.{by_name, headed_class, headless_classes, row};
+ghost use Rattle.rio_format.specs.Bodies.{by_name, headed_class, headless_classes, row_of};
 
 use crate::shape::Shape;
 use rio_types::Prim;
@@ -76,7 +76,7 @@ impl BuiltIn {
 
     /// Its name.
     pub fn name(self) -> &'static [u8]
-        ensures { result.now ≡ (row self).name }
+        ensures { result.now ≡ (row_of self).name }
     {
         match self {
             BuiltIn::Object => b"TObject",
@@ -95,14 +95,14 @@ impl BuiltIn {
 
     /// Whether that is its name.
     pub fn is_named(self, class: &[u8]) -> bool
-        ensures { result ≡ bytes_eq class.now (row self).name }
+        ensures { result ≡ bytes_eq class.now (row_of self).name }
     {
         class == self.name()
     }
 
     /// Its one version.
     pub fn version(self) -> i32
-        ensures { result ≡ (row self).version }
+        ensures { result ≡ (row_of self).version }
     {
         match self {
             BuiltIn::Listed => 5,
@@ -113,7 +113,7 @@ impl BuiltIn {
 
     /// How its objects begin.
     pub fn shape(self) -> Shape
-        ensures { result ≡ (row self).form }
+        ensures { result ≡ (row_of self).form }
     {
         match self {
             BuiltIn::Object => Shape::Bare,

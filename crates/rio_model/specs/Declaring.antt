@@ -8,7 +8,7 @@ use Rattle.rio_types.specs.declared.class.Base.{Base}
 use Rattle.rio_types.specs.declared.class.ClassDef.{ClassDef}
 use Rattle.rio_types.specs.declared.kind.Kind.{Kind}
 use Rattle.rio_types.specs.declared.kind.Kind.TheVariants.{Inline, Pointer}
-use Rattle.rio_format.specs.Bodies.{headed_class, row}
+use Rattle.rio_format.specs.Bodies.{headed_class, row_of}
 use Rattle.rio_format.specs.declared.built_in.BuiltIn.TheVariants.{Named, Object}
 use Rattle.rio_model.specs.declared.declare.DeclareFault.{DeclareFault}
 use Rattle.rio_model.specs.declared.declare.DeclareFault.TheVariants.{NoSuchClass, SameVersion, HoldsItself, TooMany}
@@ -25,11 +25,11 @@ is_known classes class name = is_declared classes name || bytes_eq class.name na
 
 -- a built-in class that may be a base
 abbrev pub is_built_in_base : List ℕ → Bool
-is_built_in_base name = bytes_eq name (row Object).name || bytes_eq name (row Named).name
+is_built_in_base name = bytes_eq name (row_of Object).name || bytes_eq name (row_of Named).name
 
 -- a built-in class that a pointer may name
 abbrev pub is_built_in_target : List ℕ → Bool
-is_built_in_target name = bytes_eq name (row Object).name || is_some (headed_class name)
+is_built_in_target name = bytes_eq name (row_of Object).name || is_some (headed_class name)
 
 abbrev pub knows_base : List ClassDef → ClassDef → Base → Bool
 knows_base classes class b = is_known classes class b.name || is_built_in_base b.name

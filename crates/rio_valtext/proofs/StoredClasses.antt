@@ -11,7 +11,7 @@ use Rattle.rio_types.specs.Classes.{find_in}
 use Rattle.rio_types.specs.declared.class.ClassDef.{ClassDef}
 use Rattle.rio_types.specs.declared.kind.Kind.TheVariants.{Plain, Text as Texted}
 use Rattle.rio_types.specs.declared.kind.Primitive.TheVariants.{I32, U32}
-use Rattle.rio_format.specs.Bodies.{form_of, Body, described, listed, arrayed, t_named, t_obj_string, t_object_base, built_in, headed_classes, headless_classes, row}
+use Rattle.rio_format.specs.Bodies.{form_of, Body, described, listed, arrayed, t_named, t_obj_string, t_object_base, built_in, headed_classes, headless_classes, row_of}
 use Rattle.rio_format.specs.declared.shape.Shape.{Shape as Form}
 use Rattle.rio_format.specs.declared.shape.Shape.TheVariants.{Bare as bare, Numbers as numbers, Headed as headed}
 use Rattle.rio_format.specs.Fits.{Labels, Fitting, fields_fit, parts_fit}
@@ -57,7 +57,7 @@ found_named (d ∷ ds) class version c named e =
 
 form_named : (class : List ℕ) → is_headed (form_of class) ≡ false → is_name_text class ≡ true
 form_named class =
-    of_each (λ (f : Form). is_headed f ≡ false → is_name_text class ≡ true) (λ b. (row b).form) headed headless_classes class
+    of_each (λ (f : Form). is_headed f ≡ false → is_name_text class ≡ true) (λ b. (row_of b).form) headed headless_classes class
     ((λ c e. ap is_name_text c), ((λ c e. ap is_name_text c), ((λ c e. ap is_name_text c), ((λ c e. ap is_name_text c), ((λ c e. ap is_name_text c), ((λ c e. ap is_name_text c), ((λ c e. ap is_name_text c), tt)))))))
     (λ e. absurd cc)
 
