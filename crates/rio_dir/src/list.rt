@@ -1,8 +1,7 @@
 //! The key list of a file.
-ghost use Rattle.std.specs.Prelude.{◌≡◌, ◌≢◌, ◌+◌, ◌<◌, ◌^◌, ◌++◌, ℕ, List, length, IfErr, IfOk};
+ghost use Rattle.std.specs.Prelude.{◌≡◌, ◌≢◌, ◌+◌, ◌<◌, ◌^◌, ◌++◌, ℕ, List, Ok, length, IfErr, IfOk};
 ghost use Rattle.rio_num.specs.Answers.{GivesUnless};
 ghost use Rattle.rio_num.specs.Plain.{IsSpelledIn};
-ghost use Rattle.rio_key.specs.Key.{IsReadAs};
 ghost use Rattle.rio_key.specs.KeyList.{BreaksKeyList, SpellsKeyList, key_list_at};
 ghost use Rattle.rio_key.specs.declared.fault.KeyFault.TheVariants.{NoMemory as OutOfMemory};
 ghost use Rattle.rio_dir.specs.KeyList.{heads_in};
@@ -25,7 +24,7 @@ pub fn read_key_list(alloc: Global, bytes: &[u8], base: u64) -> Result<Heads, Ke
         → (e : _) × (e.fault ≡ fault)
         × BreaksKeyList (record { place = base; rest = bytes.now }) e) }
     ensures only { (heads : List _) (front rest : List ℕ) → bytes.now ≡ front ++ rest
-        → SpellsKeyList heads front → IsReadAs result heads }
+        → SpellsKeyList heads front → GivesUnless OutOfMemory (λ x. x) result (Ok heads) }
 {
     match read_heads(alloc, bytes, base) {
         Ok(heads) => Ok(heads),

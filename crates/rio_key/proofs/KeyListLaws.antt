@@ -1,24 +1,23 @@
 -- What spells a list of key heads is read as it, and what is read as one spells it.
-use Rattle.std.proofs.Common.{◌≡◌, ◌≢◌, ℕ, ◌+◌, ◌<◌, ◌^◌, Some, List, [], ◌∷◌, ◌++◌, length, Result, Ok, Err, ap, subst, ◌∙◌, sym, arith}
+use Rattle.std.proofs.Common.{◌≡◌, ◌≢◌, ℕ, ◌+◌, ◌<◌, ◌^◌, Some, List, [], ◌∷◌, ◌++◌, length, Result, Ok, Err, ap, subst, ◌∙◌, arith}
 use Rattle.std.specs.Prelude.{IfErr, IfOk}
 use Rattle.byteorder.specs.Endian.{big_bytes}
+use Rattle.rio_num.specs.Answers.{GivesUnless, ReadsUnless}
 use Rattle.rio_num.specs.At.{At, AreBytes}
 use Rattle.rio_num.specs.Layout.{each, times}
-use Rattle.rio_num.specs.Meanings.{Reading, Standing, Spells}
+use Rattle.rio_num.specs.Meanings.{Spells}
 use Rattle.rio_num.proofs.Agree as Agree
 use Rattle.rio_num.proofs.Intro.{IsSo, both_are, done_is, ends_with, here_then, number_then}
-use Rattle.rio_num.proofs.ReadLaws.{ok_is}
 use Rattle.rio_num.proofs.Retold.{retold_spelled, told_before}
-use Rattle.rio_num.specs.Plain.{IsSpelledIn, plain}
+use Rattle.rio_num.specs.Plain.{IsSpelledIn, plain, value_of}
 use Rattle.rio_key.specs.Key.{SpellsKey, key_layout}
-use Rattle.rio_key.specs.KeyList.{BreaksKeyList, FailsList, GivesListAt, IsListReadAs, SpellsKeyList, listed_fault, key_list_at, key_list_layout, listed_key}
+use Rattle.rio_key.specs.KeyList.{BreaksKeyList, SpellsKeyList, listed_fault, key_list_at, key_list_layout, list_memory, listed_key}
 use Rattle.rio_key.specs.declared.head.KeyHead.{KeyHead}
-use Rattle.rio_key.specs.declared.fault.KeyFault.TheVariants.{NoMemory}
 use Rattle.rio_key.specs.declared.fault.ListFault.{ListFault}
 use Rattle.rio_num.proofs.Apart.{here_of}
 use Rattle.rio_num.proofs.Plain.{spelled_again, standing}
 use Rattle.rio_key.proofs.KeyParts.{key_moves}
-use Rattle.rio_key.proofs.KeyRead.{no_memory}
+use Rattle.rio_key.proofs.KeyRead.{value_given}
 use Rattle.rio_num.proofs.Moves.{IsFound, Moves, found, moves_behind, moves_number, moves_times}
 
 -- ---- a list stands anywhere
@@ -72,28 +71,18 @@ list_of hs bytes few c = λ p.
 
 -- ---- what a reader returned
 
-abbrev read_so : {X : Type 0} → X → Result X ListFault
-read_so x = Ok x
-
-no_list_memory : {X : Type 0} (e : ListFault) (x : X) → FailsList e (read_so x) → e.fault ≡ NoMemory
-no_list_memory e x h = no_memory e.fault x (λ ne. absurd (let same = h ne in cc))
-
 module _ (s new : At) where
-  pub is_list_found : (r : Result (List KeyHead) ListFault) → AreBytes s.rest → GivesListAt r (key_list_at s) new → IfOk r (λ hs. IsSpelledIn (SpellsKeyList hs) s.rest)
+  pub is_list_found : (r : Result (List KeyHead) ListFault) → AreBytes s.rest → ReadsUnless list_memory (λ x. x) r (key_list_at s) (plain new) → IfOk r (λ hs. IsSpelledIn (SpellsKeyList hs) s.rest)
   unfolding SpellsKeyList
   is_list_found (Err e) fits given = tt
   is_list_found (Ok hs) fits given = let f = key_list_found s hs new fits given in (f.bytes, new.rest, f.parts, f.spelled)
 
-  pub is_list_broken : (r : Result (List KeyHead) ListFault) → AreBytes s.rest → GivesListAt r (key_list_at s) new → IfErr r (λ e. e.fault ≢ NoMemory → BreaksKeyList s e)
+  pub is_list_broken : (r : Result (List KeyHead) ListFault) → AreBytes s.rest → ReadsUnless list_memory (λ x. x) r (key_list_at s) (plain new) → IfErr r (λ e. e ≢ list_memory → BreaksKeyList s e)
   unfolding BreaksKeyList
   is_list_broken (Ok hs) fits given = tt
   is_list_broken (Err e) fits given = λ ne. Agree.fault_is_broken key_list_layout (plain s) e fits (given ne)
 
-  gives_only : (end : Standing (Unit {0})) (r : Result (List KeyHead) ListFault) (hs : List KeyHead) → GivesListAt r (read_so (hs, end)) new → IsListReadAs r hs
-  gives_only end (Ok x) hs given = ap (λ (q : List KeyHead × Standing (Unit {0})). q.0) (sym (ok_is {E = ListFault} (hs, end) (x, plain new) given))
-  gives_only end (Err e) hs given = no_list_memory e (hs, end) given
-
-  pub is_list_only : (r : Result (List KeyHead) ListFault) (hs : List KeyHead) (front rest : List ℕ) → GivesListAt r (key_list_at s) new → s.rest ≡ front ++ rest → SpellsKeyList hs front → IsListReadAs r hs
+  pub is_list_only : (r : Result (List KeyHead) ListFault) (hs : List KeyHead) (front rest : List ℕ) → ReadsUnless list_memory (λ x. x) r (key_list_at s) (plain new) → s.rest ≡ front ++ rest → SpellsKeyList hs front → GivesUnless list_memory (λ x. x) r (Ok hs)
   is_list_only r hs front rest given e spelled =
       let one = ap (λ (b : List ℕ). key_list_at (standing s.place b)) e ∙ key_list_again hs front s.place rest spelled in
-      gives_only (plain (standing (s.place + length front) rest)) r hs (subst (λ (read : Reading (Unit {0}) ListFault (List KeyHead)). GivesListAt r read new) one given)
+      subst (λ (q : Result (List KeyHead) ListFault). GivesUnless list_memory (λ x. x) r q) (ap value_of one) (value_given list_memory r (key_list_at s) (plain new) given)

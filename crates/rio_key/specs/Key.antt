@@ -1,5 +1,5 @@
 -- A key. Each rule stands here once; the meanings of descriptions say how it is read, spelled and broken.
-use Rattle.std.specs.Prelude.{◌≡◌, ℕ, ◌-◌, pos, List, Result, Ok, Err, nat_lt, if◌then◌else◌, int_lt, ◌-ℤ◌, Bool}
+use Rattle.std.specs.Prelude.{ℕ, ◌-◌, pos, List, Result, nat_lt, if◌then◌else◌, int_lt, ◌-ℤ◌, Bool}
 use Rattle.std.specs.Int.{w32, cast_signed}
 use Rattle.rio_num.specs.At.{At}
 use Rattle.rio_num.specs.Layout.{done, broken, number, text, here, ◌>>=◌, when◌then◌else◌}
@@ -7,7 +7,7 @@ use Rattle.rio_num.specs.Meanings.{Reading, read, Breaks}
 use Rattle.rio_num.specs.Plain.{IsSpelledBy, Plain, plain, value_of}
 use Rattle.rio_key.specs.declared.head.KeyHead.{KeyHead}
 use Rattle.rio_key.specs.declared.fault.KeyFault.{KeyFault}
-use Rattle.rio_key.specs.declared.fault.KeyFault.TheVariants.{Short, BadLength, BadKeyLen, NoMemory}
+use Rattle.rio_key.specs.declared.fault.KeyFault.TheVariants.{Short, BadLength, BadKeyLen}
 
 -- ---- the layout
 
@@ -56,13 +56,6 @@ SpellsKey key bytes = IsSpelledBy key_layout key bytes
 -- the bytes there begin with no key: what stands before is right, and this is the first fault
 unfoldable pub BreaksKey : At → KeyFault → Type 0
 BreaksKey s fault = Breaks key_layout s.place tt s.rest fault
-
--- ---- what a reader does
-
--- a function returned this, unless memory ran out
-abbrev pub IsReadAs : {X : Type 0} → Result X KeyFault → X → Type 0
-IsReadAs (Ok y) x = y ≡ x
-IsReadAs (Err e) x = e ≡ NoMemory
 
 -- the data are compressed: they would be longer than what the record has behind its key
 abbrev pub is_compressed : KeyHead → Bool

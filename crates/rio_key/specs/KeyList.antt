@@ -1,5 +1,5 @@
 -- A list of key heads: their count, and so many heads, one behind the other.
-use Rattle.std.specs.Prelude.{◌≡◌, ◌≢◌, ℕ, List, Option, Some, None, Result, Ok, Err}
+use Rattle.std.specs.Prelude.{ℕ, List, Option, Some, None}
 use Rattle.rio_num.specs.At.{At}
 use Rattle.rio_num.specs.Layout.{number, here, times, retold, ◌>>=◌}
 use Rattle.rio_num.specs.Meanings.{Reading, read, Breaks}
@@ -13,6 +13,10 @@ use Rattle.rio_key.specs.declared.fault.ListFault.{ListFault}
 -- a fault of the list, in the head at a place or in the count
 abbrev pub listed_fault : Option ℕ → KeyFault → ListFault
 listed_fault place fault = record { head = place; fault = fault }
+
+-- the fault of memory, which is told of no head
+abbrev pub list_memory : ListFault
+list_memory = listed_fault None NoMemory
 
 -- one head of the list
 unfoldable pub listed_key : Plain ListFault KeyHead
@@ -40,22 +44,3 @@ SpellsKeyList heads bytes = IsSpelledBy key_list_layout heads bytes
 -- the bytes there begin with no list: what stands before is right, and this is the first fault
 unfoldable pub BreaksKeyList : At → ListFault → Type 0
 BreaksKeyList s fault = Breaks key_list_layout s.place tt s.rest fault
-
--- a fault is the one that reading gives, unless memory ran out
-abbrev pub FailsList : {X : Type 0} → ListFault → Result X ListFault → Type 0
-FailsList e read = e.fault ≢ NoMemory → read ≡ Err e
-
--- what a function returned is what reading gives
-abbrev pub GivesList : {X : Type 0} → Result X ListFault → Result X ListFault → Type 0
-GivesList (Ok x) read = read ≡ Ok x
-GivesList (Err e) read = FailsList e read
-
--- the same of a reader, which stands at new then
-abbrev pub GivesListAt : {X : Type 0} → Result X ListFault → Reading (Unit {0}) ListFault X → At → Type 0
-GivesListAt (Ok x) read new = read ≡ Ok (x, plain new)
-GivesListAt (Err e) read new = FailsList e read
-
--- a function returned this, unless memory ran out
-abbrev pub IsListReadAs : {X : Type 0} → Result X ListFault → X → Type 0
-IsListReadAs (Ok y) x = y ≡ x
-IsListReadAs (Err e) x = e.fault ≡ NoMemory

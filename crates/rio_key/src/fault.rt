@@ -44,7 +44,7 @@ impl From<NoMemory> for KeyFault {
 }
 
 /// Why bytes are no list of key heads: the place of the head that is unreadable, or None where it is
-/// the count, and the fault there. Where the fault is NoMemory the place says nothing.
+/// the count, and the fault there. Where the fault is NoMemory there is no place.
 #[derive(Clone, Copy, Debug, PartialEq, Eq)]
 pub struct ListFault {
     pub head: Option<u64>,
@@ -53,9 +53,9 @@ pub struct ListFault {
 
 impl From<NoMemory> for ListFault {
     ghost use Rattle.std.specs.Prelude.{◌≡◌};
-    ghost use Rattle.rio_key.specs.declared.fault.KeyFault.TheVariants.{NoMemory as OutOfMemory};
+    ghost use Rattle.rio_key.specs.KeyList.{list_memory};
 
-    ghost from_gives = { λ _ e. e.fault ≡ OutOfMemory };
+    ghost from_gives = { λ _ e. e ≡ list_memory };
 
     fn from(_e: NoMemory) -> ListFault {
         ListFault {

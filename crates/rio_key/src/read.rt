@@ -1,11 +1,11 @@
 //! A key is read at its place.
-ghost use Rattle.std.specs.Prelude.{◌≡◌, ◌≢◌, ◌+◌, ◌<◌, ◌^◌, ◌++◌, ℕ, List, length, IfErr, IfOk};
+ghost use Rattle.std.specs.Prelude.{◌≡◌, ◌≢◌, ◌+◌, ◌<◌, ◌^◌, ◌++◌, ℕ, List, Ok, length, IfErr, IfOk};
 ghost use Rattle.rio_num.specs.Answers.{GivesUnless, ReadsUnless};
 ghost use Rattle.rio_num.specs.At.{GoesOn, standing_at};
 ghost use Rattle.rio_num.specs.Reading.{Takes, number_at};
 ghost use Rattle.rio_num.specs.Meanings.{read};
 ghost use Rattle.rio_num.specs.Plain.{IsSpelledIn, plain};
-ghost use Rattle.rio_key.specs.Key.{BreaksKey, IsReadAs, SpellsKey, key_at, key_fields, key_head_at, key_place_len};
+ghost use Rattle.rio_key.specs.Key.{BreaksKey, SpellsKey, key_at, key_fields, key_head_at, key_place_len};
 ghost use Rattle.rio_key.specs.declared.fault.KeyFault.TheVariants.{NoMemory as OutOfMemory};
 
 use crate::{KeyFault, KeyHead};
@@ -85,7 +85,7 @@ pub fn read_key(alloc: Global, bytes: &[u8], base: u64, place: u64) -> Result<Ke
         → BreaksKey (standing_at base place bytes.now) fault) }
     ensures only { (head : KeyHead) (front rest : List ℕ)
         → (standing_at base place bytes.now).rest ≡ front ++ rest → SpellsKey head front
-        → IsReadAs result head }
+        → GivesUnless OutOfMemory (λ x. x) result (Ok head) }
 {
     take_key(alloc, &mut Cursor::at(bytes, base, place))
 }

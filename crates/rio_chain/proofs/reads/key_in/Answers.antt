@@ -1,7 +1,9 @@
 use Rattle.std.proofs.Common.{◌≡◌, ◌∙◌, ap, sym, subst, Option, Some, None, Result, Ok, Err}
 use Rattle.std.specs.Prelude.{IfOk, IfSome}
+use Rattle.rio_num.proofs.ReadLaws.{ok_is}
 use Rattle.rio_num.specs.Plain.{IsSpelledIn}
 use Rattle.rio_key.specs.Key.{SpellsKey}
+use Rattle.rio_key.specs.declared.fault.KeyFault.{KeyFault}
 use Rattle.rio_key.specs.declared.head.KeyHead.{KeyHead}
 use Rattle.rio_chain.specs.Found.{IsShortKey}
 use Rattle.rio_chain.specs.declared.fault.WalkFault.{WalkFault}
@@ -13,7 +15,7 @@ pub returns-in-Ok-clause-key : goal.returns-in-Ok-clause-key
 returns-in-Ok-clause-key c =
     let is = standing_rest c.args.place c.args.bytes.now in record {
       found_is = subst (IsSpelledIn (SpellsKey c.in-Ok.head)) is c.in-Ok.ensures.found;
-      only = λ h s. ap some (c.in-Ok.ensures.only h s.0 s.1 (is ∙ s.2) s.3);
+      only = λ h s. ap some (ok_is {E = KeyFault} c.in-Ok.head h (sym (c.in-Ok.ensures.only h s.0 s.1 (is ∙ s.2) s.3)));
     }
   where
     some : KeyHead → Option KeyHead
@@ -22,7 +24,7 @@ returns-in-Ok-clause-key c =
 pub returns-in-Err-clause-key : goal.returns-in-Err-clause-key
 returns-in-Err-clause-key c =
     let is = standing_rest c.args.place c.args.bytes.now in
-    no_key_found c.args.bytes.now c.in-Err.fault c.no_key.result (λ ne h s. ne (c.in-Err.ensures.only h s.0 s.1 (is ∙ s.2) s.3)) c.no_key.ensures.key
+    no_key_found c.args.bytes.now c.in-Err.fault c.no_key.result (λ ne h s. let clash = c.in-Err.ensures.only h s.0 s.1 (is ∙ s.2) s.3 ne in cc) c.no_key.ensures.key
 
 pub returns-in-Ok-clause-short : goal.returns-in-Ok-clause-short
 returns-in-Ok-clause-short c =
