@@ -1,6 +1,6 @@
 //! The key list of a file.
-ghost use Rattle.std.specs.Prelude.{◌≡◌, ◌≢◌, ◌+◌, ◌<◌, ◌^◌, ◌++◌, ℕ, List, Ok, length, IfErr, IfOk};
-ghost use Rattle.rio_num.specs.Answers.{GivesUnless};
+ghost use Rattle.std.specs.Prelude.{◌≡◌, ◌+◌, ◌<◌, ◌^◌, ◌++◌, ℕ, List, Ok, length, IfOk};
+ghost use Rattle.rio_num.specs.Answers.{GivesUnless, TellsUnless};
 ghost use Rattle.rio_num.specs.Plain.{IsSpelledIn};
 ghost use Rattle.rio_key.specs.KeyList.{BreaksKeyList, SpellsKeyList, key_list_at};
 ghost use Rattle.rio_key.specs.declared.fault.KeyFault.TheVariants.{NoMemory as OutOfMemory};
@@ -20,9 +20,8 @@ pub fn read_key_list(alloc: Global, bytes: &[u8], base: u64) -> Result<Heads, Ke
     // What is read is spelled so by a front of the bytes, and what is spelled so is read.
     ensures found { IfOk result (λ heads. IsSpelledIn (SpellsKeyList heads) bytes.now) }
     // A fault is the first one: what stands before it is right, and there the list breaks.
-    ensures broken { IfErr result (λ fault. fault ≢ OutOfMemory
-        → (e : _) × (e.fault ≡ fault)
-        × BreaksKeyList (record { place = base; rest = bytes.now }) e) }
+    ensures broken { TellsUnless OutOfMemory (λ fault. (e : _) × (e.fault ≡ fault)
+        × BreaksKeyList (record { place = base; rest = bytes.now }) e) result }
     ensures only { (heads : List _) (front rest : List ℕ) → bytes.now ≡ front ++ rest
         → SpellsKeyList heads front → GivesUnless OutOfMemory (λ x. x) result (Ok heads) }
 {

@@ -1,5 +1,6 @@
 //! Class lists are read.
-ghost use Rattle.std.specs.Prelude.{◌≡◌, ◌≢◌, ℕ, ◌+◌, ◌<◌, ◌^◌, List, ◌++◌, length, codes, Ok, IfErr, IfOk};
+ghost use Rattle.std.specs.Prelude.{◌≡◌, ℕ, ◌+◌, ◌<◌, ◌^◌, List, ◌++◌, length, codes, Ok, IfOk};
+ghost use Rattle.rio_num.specs.Answers.{TellsUnless};
 ghost use Rattle.rio_buffer.specs.declared.fault.ObjFault.TheVariants.{NoMemory as OutOfMemory};
 ghost use Rattle.rio_format.specs.ClassList.{class_list_at, classes_of};
 ghost use Rattle.rio_format.specs.Descriptions.{description_classes};
@@ -30,8 +31,8 @@ pub fn read_info(alloc: Global, bytes: &[u8], start: u64) -> Result<Classes, Obj
         → SpellsObject description_classes start (codes "TList") v front
         → Answers result (Ok (classes_of v)) }
     // A fault is the first one of the data: what stands before its place is spelled, and there a rule is broken.
-    ensures broken { IfErr result (λ fault. fault ≢ OutOfMemory
-        → BreaksObject description_classes start (codes "TList") bytes.now fault) }
+    ensures broken { TellsUnless OutOfMemory
+        (BreaksObject description_classes start (codes "TList") bytes.now) result }
     // Which classes they are, or which fault.
     ensures exact { Answers result (class_list_at start bytes.now) }
 {

@@ -1,8 +1,8 @@
 -- What spells a list of key heads is read as it, and what is read as one spells it.
-use Rattle.std.proofs.Common.{◌≡◌, ◌≢◌, ℕ, ◌+◌, ◌<◌, ◌^◌, Some, List, [], ◌∷◌, ◌++◌, length, Result, Ok, Err, ap, subst, ◌∙◌, arith}
-use Rattle.std.specs.Prelude.{IfErr, IfOk}
+use Rattle.std.proofs.Common.{◌≡◌, ℕ, ◌+◌, ◌<◌, ◌^◌, Some, List, [], ◌∷◌, ◌++◌, length, Result, Ok, Err, ap, subst, ◌∙◌, arith}
+use Rattle.std.specs.Prelude.{IfOk}
 use Rattle.byteorder.specs.Endian.{big_bytes}
-use Rattle.rio_num.specs.Answers.{GivesUnless, ReadsUnless}
+use Rattle.rio_num.specs.Answers.{GivesUnless, ReadsUnless, TellsUnless}
 use Rattle.rio_num.specs.At.{At, AreBytes}
 use Rattle.rio_num.specs.Layout.{each, times}
 use Rattle.rio_num.specs.Meanings.{Spells}
@@ -77,7 +77,7 @@ module _ (s new : At) where
   is_list_found (Err e) fits given = tt
   is_list_found (Ok hs) fits given = let f = key_list_found s hs new fits given in (f.bytes, new.rest, f.parts, f.spelled)
 
-  pub is_list_broken : (r : Result (List KeyHead) ListFault) → AreBytes s.rest → ReadsUnless list_memory (λ x. x) r (key_list_at s) (plain new) → IfErr r (λ e. e ≢ list_memory → BreaksKeyList s e)
+  pub is_list_broken : (r : Result (List KeyHead) ListFault) → AreBytes s.rest → ReadsUnless list_memory (λ x. x) r (key_list_at s) (plain new) → TellsUnless list_memory (BreaksKeyList s) r
   unfolding BreaksKeyList
   is_list_broken (Ok hs) fits given = tt
   is_list_broken (Err e) fits given = λ ne. Agree.fault_is_broken key_list_layout (plain s) e fits (given ne)

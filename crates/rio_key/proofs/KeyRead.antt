@@ -1,7 +1,7 @@
 -- What a reader of a key returned is spelled, and what is spelled is returned.
-use Rattle.std.proofs.Common.{◌≡◌, ◌≢◌, ℕ, List, ◌++◌, Result, Ok, Err, ap, subst, ◌∙◌}
-use Rattle.std.specs.Prelude.{IfErr, IfOk}
-use Rattle.rio_num.specs.Answers.{GivesUnless, ReadsUnless}
+use Rattle.std.proofs.Common.{◌≡◌, ℕ, List, ◌++◌, Result, Ok, Err, ap, subst, ◌∙◌}
+use Rattle.std.specs.Prelude.{IfOk}
+use Rattle.rio_num.specs.Answers.{GivesUnless, ReadsUnless, TellsUnless}
 use Rattle.rio_num.specs.At.{At, AreBytes}
 use Rattle.rio_num.proofs.Agree as Agree
 use Rattle.rio_num.specs.Plain.{IsSpelledIn, plain, value_of}
@@ -23,7 +23,7 @@ module _ (s new : At) where
   is_found (Err e) fits given = tt
   is_found (Ok h) fits given = let f = key_found s h new fits given in (f.bytes, new.rest, f.parts, f.spelled)
 
-  pub is_broken : (r : Result KeyHead KeyFault) → AreBytes s.rest → ReadsUnless NoMemory (λ x. x) r (key_head_at s) (plain new) → IfErr r (λ e. e ≢ NoMemory → BreaksKey s e)
+  pub is_broken : (r : Result KeyHead KeyFault) → AreBytes s.rest → ReadsUnless NoMemory (λ x. x) r (key_head_at s) (plain new) → TellsUnless NoMemory (BreaksKey s) r
   unfolding BreaksKey
   is_broken (Ok h) fits given = tt
   is_broken (Err e) fits given = λ ne. Agree.fault_is_broken key_layout (plain s) e fits (given ne)

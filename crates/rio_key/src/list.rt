@@ -1,7 +1,7 @@
 //! Lists of key heads are read.
-ghost use Rattle.std.specs.Prelude.{◌≡◌, ◌≢◌, ◌+◌, ◌<◌, ◌^◌, ◌++◌, ℕ, List, Ok, length, IfErr, IfOk};
+ghost use Rattle.std.specs.Prelude.{◌≡◌, ◌+◌, ◌<◌, ◌^◌, ◌++◌, ℕ, List, Ok, length, IfOk};
 ghost use Rattle.rio_key.specs.declared.head.KeyHead.{KeyHead as Head};
-ghost use Rattle.rio_num.specs.Answers.{GivesUnless, ReadsUnless};
+ghost use Rattle.rio_num.specs.Answers.{GivesUnless, ReadsUnless, TellsUnless};
 ghost use Rattle.rio_num.specs.Layout.{times};
 ghost use Rattle.rio_num.specs.Meanings.{read};
 ghost use Rattle.rio_num.specs.Plain.{IsSpelledIn, plain, value_of};
@@ -77,8 +77,8 @@ pub fn read_heads(alloc: Global, bytes: &[u8], base: u64) -> Result<Heads, ListF
     ensures exact { GivesUnless list_memory (λ heads. heads) result
         (value_of (key_list_at (record { place = base; rest = bytes.now }))) }
     ensures found { IfOk result (λ heads. IsSpelledIn (SpellsKeyList heads) bytes.now) }
-    ensures broken { IfErr result (λ e. e ≢ list_memory
-        → BreaksKeyList (record { place = base; rest = bytes.now }) e) }
+    ensures broken { TellsUnless list_memory
+        (BreaksKeyList (record { place = base; rest = bytes.now })) result }
     ensures only { (heads : List Head) (front rest : List ℕ) → bytes.now ≡ front ++ rest
         → SpellsKeyList heads front → GivesUnless list_memory (λ x. x) result (Ok heads) }
 {

@@ -1,6 +1,6 @@
 //! A key is read at its place.
-ghost use Rattle.std.specs.Prelude.{◌≡◌, ◌≢◌, ◌+◌, ◌<◌, ◌^◌, ◌++◌, ℕ, List, Ok, length, IfErr, IfOk};
-ghost use Rattle.rio_num.specs.Answers.{GivesUnless, ReadsUnless};
+ghost use Rattle.std.specs.Prelude.{◌≡◌, ◌+◌, ◌<◌, ◌^◌, ◌++◌, ℕ, List, Ok, length, IfOk};
+ghost use Rattle.rio_num.specs.Answers.{GivesUnless, ReadsUnless, TellsUnless};
 ghost use Rattle.rio_num.specs.At.{GoesOn, standing_at};
 ghost use Rattle.rio_num.specs.Reading.{Takes, number_at};
 ghost use Rattle.rio_num.specs.Meanings.{read};
@@ -81,8 +81,8 @@ pub fn read_key(alloc: Global, bytes: &[u8], base: u64, place: u64) -> Result<Ke
         (key_at (standing_at base place bytes.now)) }
     ensures found { IfOk result (λ head.
         IsSpelledIn (SpellsKey head) (standing_at base place bytes.now).rest) }
-    ensures broken { IfErr result (λ fault. fault ≢ OutOfMemory
-        → BreaksKey (standing_at base place bytes.now) fault) }
+    ensures broken { TellsUnless OutOfMemory (BreaksKey (standing_at base place bytes.now))
+        result }
     ensures only { (head : KeyHead) (front rest : List ℕ)
         → (standing_at base place bytes.now).rest ≡ front ++ rest → SpellsKey head front
         → GivesUnless OutOfMemory (λ x. x) result (Ok head) }

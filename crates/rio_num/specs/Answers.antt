@@ -1,6 +1,6 @@
 -- What a call returns is what reading gives, unless memory ran out. Each word is told the fault of memory of its caller, and
--- how what was returned is seen as what is read.
-use Rattle.std.specs.Prelude.{◌≡◌, ◌≢◌, Result, Ok, Err}
+-- those that compare with what is read how what was returned is seen so.
+use Rattle.std.specs.Prelude.{◌≡◌, ◌≢◌, Result, Ok, Err, IfErr}
 
 -- the fault is the one that reading gives, unless it is this one
 abbrev pub FailsUnless : {Y E : Type 0} → E → E → Result Y E → Type 0
@@ -20,3 +20,7 @@ ReadsUnless lack view (Err e) read new = FailsUnless lack e read
 abbrev pub TakesUnless : {X Y S E : Type 0} → E → (X → Y) → Result X E → Result (Y × S) E → S → S → Type 0
 TakesUnless lack view (Ok x) read old new = read ≡ Ok (view x, new)
 TakesUnless lack view (Err e) read old new = FailsUnless lack e read × (new ≡ old)
+
+-- of a call that tells a fault: the bytes break with it
+abbrev pub TellsUnless : {X E : Type 0} → E → (E → Type 0) → Result X E → Type 0
+TellsUnless lack breaks result = IfErr result (λ fault. fault ≢ lack → breaks fault)

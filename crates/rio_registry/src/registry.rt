@@ -25,7 +25,8 @@ impl Model for Registry {
 }
 
 impl Registry {
-    ghost use Rattle.std.specs.Prelude.{◌≡◌, ◌≢◌, ◌<◌, ◌-◌, [], ◌∷◌, ◌++◌, length, take, None, Some, IfOk, OnOk, OnErr, IfErr};
+    ghost use Rattle.std.specs.Prelude.{◌≡◌, ◌<◌, ◌-◌, [], ◌∷◌, ◌++◌, length, take, None, Some, IfOk, OnOk, OnErr};
+    ghost use Rattle.rio_num.specs.Answers.{TellsUnless};
     ghost use Rattle.rio_model.specs.Declaring.{declare_fault, declared, rule_fault};
 
     /// No classes.
@@ -60,8 +61,8 @@ impl Registry {
         ensures ok { OnOk result (declare_fault self.old class ≡ None) }
         ensures grows { OnOk result (self.new ≡ self.old ++ declared self.old class ∷ []) }
         ensures err { OnErr result (self.new ≡ self.old) }
-        ensures cause { IfErr result (λ e. e ≢ DeclareFault.NoMemory
-            → declare_fault self.old class ≡ Some e) }
+        ensures cause { TellsUnless DeclareFault.NoMemory
+            (λ e. declare_fault self.old class ≡ Some e) result }
     {
         if let Some(fault) = declare_fault(&self.classes, &class)? {
             return Err(fault);
@@ -76,8 +77,8 @@ impl Registry {
     pub fn judge(&self, class: &ClassDef) -> Result<ClassDef, DeclareFault>
         ensures ok { OnOk result (rule_fault self.now class.now ≡ None) }
         ensures added { IfOk result (λ added. added ≡ declared self.now class.now) }
-        ensures cause { IfErr result (λ e. e ≢ DeclareFault.NoMemory
-            → rule_fault self.now class.now ≡ Some e) }
+        ensures cause { TellsUnless DeclareFault.NoMemory
+            (λ e. rule_fault self.now class.now ≡ Some e) result }
     {
         if let Some(fault) = rule_fault(&self.classes, class)? {
             return Err(fault);

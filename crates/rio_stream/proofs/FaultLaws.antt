@@ -1,19 +1,21 @@
 -- The fault that reading gives is the first one of the bytes.
 use Rattle.std.proofs.Common.{◌≡◌, ℕ, List, Result, Ok, Err, sym, ap, subst, ◌∙◌}
+use Rattle.rio_num.specs.Answers.{TellsUnless}
 use Rattle.rio_num.specs.At.{AreBytes}
 use Rattle.rio_types.specs.declared.class.ClassDef.{ClassDef}
 use Rattle.rio_value.specs.declared.value.Value.{Value}
 use Rattle.rio_buffer.specs.ReaderState.{ReaderState}
 use Rattle.rio_buffer.specs.declared.fault.ObjFault.{ObjFault}
+use Rattle.rio_buffer.specs.declared.fault.ObjFault.TheVariants.{NoMemory}
 use Rattle.rio_format.specs.Objects.{BreaksObject, depth_limit, object_of, only_value, value_at}
 use Rattle.rio_format.proofs.ObjectLaws.{broken_is_fault, fault_is_broken, not_both}
 use Rattle.rio_num.specs.Meanings.{read}
 use Rattle.rio_num.proofs.Agree as Agree
 use Rattle.rio_read.specs.Reading.{Answers, ReadsNext}
-use Rattle.rio_stream.specs.FirstFault.{BreaksNext, RefusesBreak, TellsBreak}
+use Rattle.rio_stream.specs.FirstFault.{BreaksNext, RefusesBreak}
 
 module _ (classes : List ClassDef) (class : List ℕ) (start : ℕ) (bytes : List ℕ) where
-  pub tells_first : (answer : Result Value ObjFault) → AreBytes bytes → Answers answer (value_at classes class start bytes) → TellsBreak (BreaksObject classes start class bytes) answer
+  pub tells_first : (answer : Result Value ObjFault) → AreBytes bytes → Answers answer (value_at classes class start bytes) → TellsUnless NoMemory (BreaksObject classes start class bytes) answer
   tells_first (Ok v) fits e = tt
   tells_first (Err d) fits e = λ memory. fault_is_broken classes class start bytes d fits (e memory)
 
@@ -21,7 +23,7 @@ module _ (classes : List ClassDef) (class : List ℕ) (start : ℕ) (bytes : Lis
   refuses_first answer e fault broken = subst (Answers answer) (broken_is_fault classes class start bytes fault broken) e
 
 module _ (classes : List ClassDef) (class : List ℕ) (old new : ReaderState) where
-  pub tells_next : (answer : Result Value ObjFault) → AreBytes old.at.rest → ReadsNext classes class answer old new → TellsBreak (BreaksNext classes class old) answer
+  pub tells_next : (answer : Result Value ObjFault) → AreBytes old.at.rest → ReadsNext classes class answer old new → TellsUnless NoMemory (BreaksNext classes class old) answer
   tells_next (Ok v) fits e = tt
   tells_next (Err d) fits e = λ memory. Agree.fault_is_broken (object_of depth_limit classes class) old d fits (e memory)
 

@@ -1,10 +1,12 @@
 //! Objects are read: which value the data spell, or their first fault.
 ghost use Rattle.std.specs.Prelude.{◌+◌, ◌<◌, ◌^◌, length, IfOk, IsTrue};
+ghost use Rattle.rio_num.specs.Answers.{TellsUnless};
 ghost use Rattle.rio_num.specs.At.{GoesOn};
+ghost use Rattle.rio_buffer.specs.declared.fault.ObjFault.TheVariants.{NoMemory as OutOfMemory};
 ghost use Rattle.rio_format.specs.Objects.{BreaksObject, value_at};
 ghost use Rattle.rio_format.specs.BuiltIn.{is_small_builtin};
 ghost use Rattle.rio_read.specs.Reading.{Answers, AnswersFront, HasFront, IsRead, IsSpelled, ReadsNext};
-ghost use Rattle.rio_stream.specs.FirstFault.{BreaksNext, RefusesBreak, TellsBreak};
+ghost use Rattle.rio_stream.specs.FirstFault.{BreaksNext, RefusesBreak};
 
 use rio_buffer::{ObjFault, ObjReader};
 use rio_types::Classes;
@@ -28,7 +30,8 @@ pub fn read_object(
     // What the front of the data spells is read, unless memory runs out.
     ensures only { AnswersFront classes.now start class.now bytes.now result }
     // A fault is the first one of the data: what stands before its place is spelled, and there a rule is broken.
-    ensures broken { TellsBreak (BreaksObject classes.now start class.now bytes.now) result }
+    ensures broken { TellsUnless OutOfMemory
+        (BreaksObject classes.now start class.now bytes.now) result }
     // The first fault of the data is answered, unless memory runs out.
     ensures refused { RefusesBreak (BreaksObject classes.now start class.now bytes.now) result }
     // Which value it is, or which fault, as reading from left to right gives it.
@@ -51,7 +54,8 @@ pub fn read_builtin(
     // What the front of the bytes spells is read, unless memory runs out.
     ensures only { IsRead classes.now class.now result reader.old reader.new }
     // A fault is the first one of the bytes.
-    ensures broken { TellsBreak (BreaksNext classes.now class.now reader.old) result }
+    ensures broken { TellsUnless OutOfMemory
+        (BreaksNext classes.now class.now reader.old) result }
     // The first fault of the bytes is answered, unless memory runs out.
     ensures refused { RefusesBreak (BreaksNext classes.now class.now reader.old) result }
     // Which value it is, or which fault, as reading from left to right gives it.
