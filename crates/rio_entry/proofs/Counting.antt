@@ -6,7 +6,8 @@ use Rattle.std.specs.Prelude.{ℤ, if◌then◌else◌}
 use Rattle.std.specs.Map.{lookup}
 use Rattle.std.specs.Str.{bytes_eq}
 use Rattle.rio_leaf.specs.declared.leaf.Leaf.{Leaf}
-use Rattle.rio_format.specs.Bodies.{Counters, number_in}
+use Rattle.rio_format.specs.Bodies.{Counters}
+use Rattle.rio_value.specs.Accessors.{number_in}
 use Rattle.rio_value.specs.declared.value.Value.{Value, out-Value}
 use Rattle.rio_entry.specs.Leaves.{last_number, numbers_after, numbers_with}
 

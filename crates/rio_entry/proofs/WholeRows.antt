@@ -13,7 +13,8 @@ use Rattle.rio_leaf.specs.declared.branch.BranchDef.{BranchDef}
 use Rattle.rio_leaf.specs.declared.leaf.Dim.{Dim}
 use Rattle.rio_leaf.specs.declared.leaf.Dim.TheVariants.{One, Fixed as Several, Counted}
 use Rattle.rio_leaf.specs.declared.leaf.Leaf.{Leaf}
-use Rattle.rio_format.specs.Bodies.{Counters, number_in}
+use Rattle.rio_format.specs.Bodies.{Counters}
+use Rattle.rio_value.specs.Accessors.{number_in}
 use Rattle.rio_format.specs.Slots.{kinded}
 use Rattle.rio_format.specs.WrittenBytes.{length_limit}
 use Rattle.rio_format.proofs.Tests.{both_true}

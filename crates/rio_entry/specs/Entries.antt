@@ -7,7 +7,8 @@ use Rattle.rio_leaf.specs.declared.branch.Shape.{Shape}
 use Rattle.rio_leaf.specs.declared.leaf.Dim.{Dim}
 use Rattle.rio_leaf.specs.declared.leaf.Dim.TheVariants.{Counted}
 use Rattle.rio_buffer.specs.ReaderState.{no_words}
-use Rattle.rio_format.specs.Bodies.{Counters, number_in}
+use Rattle.rio_format.specs.Bodies.{Counters}
+use Rattle.rio_value.specs.Accessors.{number_in}
 use Rattle.rio_format.specs.Slots.{Slot}
 use Rattle.rio_format.specs.Written.{writing_of}
 use Rattle.rio_format.specs.WrittenBytes.{length_limit}

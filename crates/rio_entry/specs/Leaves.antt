@@ -8,7 +8,8 @@ use Rattle.rio_num.specs.Layout.{broken, here, ◌>>=◌}
 use Rattle.rio_leaf.specs.declared.leaf.Leaf.{Leaf}
 use Rattle.rio_buffer.specs.Frames.{ObjLayout}
 use Rattle.rio_buffer.specs.declared.fault.ObjFault.TheVariants.{NoCount}
-use Rattle.rio_format.specs.Bodies.{Counters, number_in}
+use Rattle.rio_format.specs.Bodies.{Counters}
+use Rattle.rio_value.specs.Accessors.{number_in}
 use Rattle.rio_format.specs.Fits.{bits32_fits, bits64_fits, int_fits, truth_fits}
 use Rattle.rio_format.specs.Objects.{number_value, numbers, text_value}
 use Rattle.rio_format.specs.Slots.{kinded}

@@ -2,9 +2,7 @@
 ghost use Rattle.std.specs.Prelude.{◌≡◌, [], Some, drop, length, if◌then◌else◌};
 ghost use Rattle.std.specs.Map.{lookup};
 ghost use Rattle.std.specs.Str.{bytes_eq};
-ghost use Rattle.rio_format.specs.Bodies.{number_in};
 ghost use Rattle.rio_machine.specs.Rows.{letter_kind};
-ghost use Rattle.rio_value.specs.declared.value.Value.{out-Value};
 ghost use Rattle.rio_entry.specs.Entries.{given_count, said_count};
 ghost use Rattle.rio_entry.specs.Leaves.{numbers_after};
 
@@ -32,22 +30,12 @@ pub(crate) fn letter_kind(letter: u8) -> Option<Prim>
     }
 }
 
-/// The number that an integer is, and 0 of any other value.
-pub(crate) fn number_in(value: &Value) -> i128
-    ensures { result ≡ number_in (out-Value value.now) }
-{
-    match value {
-        Value::Int(n) => *n,
-        _ => 0,
-    }
-}
-
 /// The count that is given for the leaf at `k`, or 0 where there is none.
 pub(crate) fn given_count(counts: &[Value], k: usize) -> i128
     ensures { result ≡ given_count (drop k counts.now) }
 {
     match counts.get(k) {
-        Some(value) => number_in(value),
+        Some(value) => value.number(),
         None => 0,
     }
 }
@@ -70,7 +58,7 @@ fn last_number(name: &[u8], leaves: &[Leaf], values: &[Value]) -> Option<i128>
 {
     let mut found = None;
     for (k, leaf) in leaves.iter().enumerate() {
-        found = number_if_named(name, leaf, number_in(&values[k]), found);
+        found = number_if_named(name, leaf, values[k].number(), found);
     }
     found
 }

@@ -7,7 +7,6 @@ ghost use Rattle.rio_machine.specs.Rows.{leaf_column, leaf_numbers_after, shape_
 ghost use Rattle.rio_entry.specs.Leaves.{numbers_after};
 ghost use Rattle.rio_entry.specs.Rows.{count_before, counts_before};
 
-use crate::leaf::number_in;
 use rio_leaf::{Dim, Leaf, Shape};
 use rio_num::NoMemory;
 use rio_value::{Value, Values};
@@ -39,7 +38,7 @@ fn note_leaves(
 {
     for (k, leaf) in leaves.iter().enumerate() {
         match values.get(k) {
-            Some(value) => put_number(alloc, numbers, leaf.name.as_slice(), number_in(value))?,
+            Some(value) => put_number(alloc, numbers, leaf.name.as_slice(), value.number())?,
             None => return Ok(()),
         }
     }

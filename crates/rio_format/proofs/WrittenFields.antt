@@ -16,7 +16,8 @@ use Rattle.rio_value.specs.declared.value.Value.TheOpen.{Value-F}
 use Rattle.rio_value.specs.declared.value.Value.TheOpen as layer
 use Rattle.rio_value.specs.declared.value.Value.TheFolds.{fold_out-Value, fold-Part}
 use Rattle.rio_value.specs.declared.value.Part.{Part}
-use Rattle.rio_format.specs.Bodies.{part, Counters, counters_with, count_by, number_in, base_slot}
+use Rattle.rio_format.specs.Bodies.{part, Counters, counters_with, count_by, base_slot}
+use Rattle.rio_value.specs.Accessors.{number_in}
 use Rattle.rio_types.specs.Members.{can_read, can_read_all, names_with}
 use Rattle.rio_format.specs.Fits.{Labels, Fitting, fields_fit, fixed_by, counted_slot, counted_so_far, fitting_step, fitting_of}
 use Rattle.rio_format.specs.Slots.{kinded, based, base_field, member_field}

@@ -14,8 +14,8 @@ use Rattle.rio_types.specs.declared.class.Member.{Member}
 use Rattle.rio_types.specs.declared.kind.Kind.{Kind}
 use Rattle.rio_types.specs.declared.kind.Kind.TheVariants.{Text, Inline}
 use Rattle.rio_types.specs.declared.kind.Primitive.TheVariants.{I8, I16, I32, I64, F32, F64}
+use Rattle.rio_value.specs.Accessors.{number_in}
 use Rattle.rio_value.specs.declared.value.Value.{Value, out-Value}
-use Rattle.rio_value.specs.declared.value.Value.TheOpen.{Value-F, Int}
 use Rattle.rio_value.specs.declared.value.Part.{Part}
 
 abbrev pub part : List ℕ → Value → Part
@@ -98,11 +98,6 @@ slots_of c = map base_slot c.bases ++ c.members
 -- the counters of an object that were met, and what they say, the last one first
 abbrev pub Counters : Type 0
 Counters = List (List ℕ × ℤ)
-
--- the number that a value is
-abbrev pub number_in : Value-F Value Part → ℤ
-number_in (Int z) = z
-number_in other = pos 0
 
 abbrev pub counters_with : Member → Value → Counters → Counters
 counters_with m v counters = if is_counter m.kind then (m.name, number_in (out-Value v)) ∷ counters else counters

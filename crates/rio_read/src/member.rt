@@ -1,7 +1,8 @@
 //! Parts of objects and items of lists.
 ghost use Rattle.std.specs.Prelude.{◌≡◌, [], ◌∷◌, IfOk};
 ghost use Rattle.rio_num.specs.At.{GoesOn};
-ghost use Rattle.rio_format.specs.Bodies.{number_in, part};
+ghost use Rattle.rio_format.specs.Bodies.{part};
+ghost use Rattle.rio_value.specs.Accessors.{number_in};
 ghost use Rattle.rio_buffer.specs.Frames.{ReadsAs};
 ghost use Rattle.rio_value.specs.declared.value.Value.{out-Value, Text, List as Listing};
 ghost use Rattle.rio_num.specs.Meanings.{read};

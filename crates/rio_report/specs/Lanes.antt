@@ -2,7 +2,7 @@
 use Rattle.std.specs.Prelude.{◌≡◌, ◌≤◌, ℕ, ℤ, List, [], ◌∷◌, ◌++◌, codes, slice_get, Option, Some, None, Bool, false, if◌then◌else◌}
 use Rattle.std.specs.Str.{bytes_eq}
 use Rattle.rio_leaf.specs.declared.leaf.Leaf.{Leaf}
-use Rattle.rio_format.specs.Bodies.{number_in}
+use Rattle.rio_value.specs.Accessors.{number_in}
 use Rattle.rio_tree_head.specs.declared.basket_at.BasketAt.{BasketAt}
 use Rattle.rio_tree_head.specs.declared.head.Branch.{Branch}
 use Rattle.rio_tree_head.specs.declared.refusal.BranchRefusal.{BranchRefusal}

@@ -2,8 +2,6 @@
 ghost use Rattle.std.specs.Prelude.{◌≡◌, ℕ, None, Some, IfOk, drop, map, slice_get};
 ghost use Rattle.std.specs.List.{list_any};
 ghost use Rattle.rio_entry.specs.Leaves.{last_number as last_said};
-ghost use Rattle.rio_format.specs.Bodies.{number_in};
-ghost use Rattle.rio_value.specs.declared.value.Value.{out-Value};
 ghost use Rattle.rio_scan.specs.Counters.{branch_leaves, counters_are_read, entry_counts, is_refused, leaf_count, number_in_branch, number_said, values_there};
 ghost use Rattle.rio_report.specs.Lanes.{number_with, number_if_named};
 
@@ -37,21 +35,12 @@ pub(crate) fn counters_are_read(refusals: &Refusals, branch: &Branch) -> bool
     !is_any_refused(refusals.as_slice(), branch.counted_by.as_slice())
 }
 
-fn number_in(value: &Value) -> i128
-    ensures { result ≡ number_in (out-Value value.now) }
-{
-    match value {
-        Value::Int(n) => *n,
-        _ => 0,
-    }
-}
-
 // The number, if the leaf has the name, or else what was found before.
 fn number_if_named(name: &[u8], leaf: &Leaf, value: &Value, found: Option<i128>) -> Option<i128>
     ensures { result ≡ number_if_named name.now leaf.now value.now found }
 {
     if name == leaf.name.as_slice() {
-        Some(number_in(value))
+        Some(value.number())
     } else {
         found
     }

@@ -9,6 +9,11 @@ use Rattle.rio_value.specs.declared.value.Value.TheOpen.{Value-F, Int, Bool as T
 
 -- ---- numbers, texts, lists
 
+-- the number that an integer is; 0 of another value
+abbrev pub number_in : Value-F Value Part → ℤ
+number_in (Int z) = z
+number_in other = pos 0
+
 abbrev pub layer_integer : ℕ → Value-F Value Part → Option ℤ
 layer_integer bits (Int z) = if fits_signed bits z then Some z else None
 layer_integer bits other = None

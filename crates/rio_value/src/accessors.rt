@@ -1,11 +1,22 @@
 //! What stands in a value.
 ghost use Rattle.std.specs.Prelude.{◌≡◌};
 ghost use Rattle.std.specs.Option.{option_copied};
-ghost use Rattle.rio_value.specs.Accessors.{class_of_object, integer_in, list_in, unsigned_integer_in, pointed_object, own_parts, part_of, parts_of, text_bytes_in, truth_in, version_of_object};
+ghost use Rattle.rio_value.specs.Accessors.{class_of_object, integer_in, list_in, number_in, unsigned_integer_in, pointed_object, own_parts, part_of, parts_of, text_bytes_in, truth_in, version_of_object};
+ghost use Rattle.rio_value.specs.declared.value.Value.{out-Value};
 
 use crate::value::{Part, Value};
 
 impl Value {
+    /// The number that an integer is, and 0 of another value.
+    pub fn number(&self) -> i128
+        ensures { result ≡ number_in (out-Value self.now) }
+    {
+        match self {
+            Value::Int(n) => *n,
+            _ => 0,
+        }
+    }
+
     /// An integer that an `i32` holds.
     pub fn as_i32(&self) -> Option<i32>
         ensures { result ≡ integer_in 32 self.now }

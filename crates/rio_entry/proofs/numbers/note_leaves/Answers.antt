@@ -4,7 +4,7 @@ use Rattle.std.specs.Map.{lookup}
 use Rattle.std.specs.Str.{bytes_eq}
 use Rattle.std.proofs.lemmas.Bool.{ltb-false, ltb-true}
 use Rattle.std.proofs.lemmas.Int.{to_z-of_z}
-use Rattle.rio_format.specs.Bodies.{number_in}
+use Rattle.rio_value.specs.Accessors.{number_in}
 use Rattle.rio_format.specs.Counts.{number_in_map}
 use Rattle.rio_value.specs.declared.value.Value.{out-Value}
 use Rattle.rio_entry.specs.Leaves.{numbers_with}
@@ -30,7 +30,7 @@ loop-k-preserved c = λ before says.
     let l = c.index-leaves-k.result in
     let v = c.in-Some.value.now in
     let n = number_in (out-Value v) in
-    let said = to_z-of_z w128 c.number_in.result (search rules) ∙ c.number_in.ensures in
+    let said = to_z-of_z w128 c.number.result (search rules) ∙ c.number.ensures in
     let there = ltb-true _ _ (sym c.in-Some.ensures.lookup.0) in
     let own : Option ℤ = Some n in (
       numbers_with l v i.0,
