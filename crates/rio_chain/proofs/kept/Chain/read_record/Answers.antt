@@ -28,5 +28,5 @@ returns-clause-bytes g c file links told has =
     let f = found_at c.args.self.now.segments c.self.inside.segments.items c.deref.result.now c.args.place r.1 c.count_before-at.result r.0 r.2 r.3 (ap (λ (s : ChainState). s.segments) c.self.view_is) c.self.invariant.shape.adjacent c.deref.ensures.value c.count_before-at.ensures in
     let long = f.long c.index.result.now c.index.ensures in
     let read = record_read file links c.args.self.now.segments c.args.place r.1 r.0 r.2 has r.3 c.read.new.into (omega (arith, long, c.length-n.ensures, c.read.auto.into, c.deref_mut.ensures.len, c.in_ok-bytes.ensures.len)) (c.in_ok-read.ensures.bytes file told) in
-    let same : c.in_ok-from_slice.field-0.bytes ≡ c.read.new.into = ap (λ (r : Room). r.bytes) c.in_ok-from_slice.ensures ∙ c.deref-2.ensures.value ∙ take_at c.read.new.into _ c.in_ok-bytes.bytes.len (omega (arith, c.read.auto.into, c.deref_mut.ensures.len)) in
+    let same : c.from.result.bytes ≡ c.read.new.into = ap (λ (r : Room). r.bytes) c.from.ensures ∙ take_at c.read.new.into _ c.in_ok-bytes.bytes.len (omega (arith, c.read.auto.into, c.deref_mut.ensures.len)) in
     subst (λ (b : List ℕ). Contains links (RecordAt c.args.place b)) (sym same) read
