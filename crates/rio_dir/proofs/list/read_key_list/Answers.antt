@@ -6,11 +6,7 @@ use Rattle.rio_key.specs.declared.fault.ListFault.{ListFault}
 use Rattle.rio_dir.specs.KeyList.{heads_in}
 use Rattle.rio_dir.proofs.list.read_key_list.Goals as goal
 
-<<<<<<< HEAD
-fault_in : ListFault → KeyFault
-=======
 abbrev fault_in : ListFault → KeyFault
->>>>>>> refs/h/words2
 fault_in e = e.fault
 
 pub returns-in-Err-clause-exact : goal.returns-in-Err-clause-exact
