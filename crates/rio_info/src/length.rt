@@ -34,8 +34,8 @@ pub fn info_length(alloc: Global, classes: &Classes) -> Result<u64, NoMemory>
 }
 
 /// The same length with one class more, which stands behind the declared ones and counts as one of them: where it is
-/// a new version it decides, for each member of its class, which element is written. The value of
-/// that list is made and measured.
+/// a new version it decides, for each member of its class, which element is written. The value of that
+/// list is made and measured.
 pub fn info_length_with(alloc: Global, classes: &Classes, class: &ClassDef) -> Result<u64, NoMemory>
     ensures { IfOk result (λ n. (start : ℕ) → n
         ≡ told_length (length (written_list start (classes.now ++ class.now ∷ [])))) }
