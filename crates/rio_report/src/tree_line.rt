@@ -9,11 +9,11 @@ ghost use Rattle.rio_tree_head.specs.declared.fault.TreeFault.TheVariants.{Missi
 ghost use Rattle.rio_tree_head.specs.Header.{tree_head_in};
 ghost use Rattle.rio_report.specs.TreeTexts.{IsFoundTree, TreeOrText};
 
-use crate::content::put_object_fault;
 use rio_buffer::ObjFault;
 use rio_close::{ReportFault, data_of, read_up_to};
 use rio_host::Host;
 use rio_key::KeyHead;
+use rio_meaning::put_object_fault;
 use rio_num::{Bytes, NoMemory};
 use rio_read::read_object;
 use rio_tree_head::{TreeFault, TreeHead, read_tree};
