@@ -12,7 +12,7 @@ use Rattle.rio_tree_head.specs.declared.refusal.BranchRefusal.{BranchRefusal}
 use Rattle.rio_tree_head.specs.declared.refusal.BranchRefusal.TheVariants.{BadEntry}
 use Rattle.rio_value.specs.declared.value.Value.{Value}
 use Rattle.rio_scan.specs.declared.row.Row.{Row}
-use Rattle.rio_scan.specs.Counters.{branch_leaves, entry_counts, leaf_count, number_in_branch, number_said, values_there}
+use Rattle.rio_scan.specs.Counters.{branch_leaves, leaf_count, number_in_branch, number_said, values_there}
 use Rattle.rio_scan.specs.Refusals.{refused_unless}
 use Rattle.rio_scan.specs.Rows.{values_if_read, values_of_branch}
 use Rattle.rio_scan.specs.StoredEntries.{branch_entry}

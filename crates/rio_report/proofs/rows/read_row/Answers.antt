@@ -1,4 +1,4 @@
-use Rattle.std.proofs.Common.{Bool, ◌+◌, length, take, drop, get_or, None, length-set, refl, sym, ap, ◌∙◌, arith}
+use Rattle.std.proofs.Common.{Bool, length, take, get_or, None, length-set, refl, sym, ap, ◌∙◌, arith}
 use Rattle.std.proofs.lemmas.Option.{slice_get-get_or}
 use Rattle.rio_host.proofs.ReadsLaws.{reads_join, reads_none}
 use Rattle.rio_scan.specs.declared.row.Row.{Row}
