@@ -3,7 +3,7 @@ ghost use Rattle.std.specs.Prelude.{◌≡◌, IfOk};
 ghost use Rattle.rio_index.specs.Scan.{CanHold, CanScan};
 ghost use Rattle.rio_tree_head.specs.Index.{IsIndex};
 
-use crate::{Scanner, basket_of, entry_count};
+use crate::{Scanner, basket_from, basket_of, entry_count};
 use rio_basket::StoredBasket;
 use rio_entry::EntryFault;
 use rio_leaf::{BranchDef, LeafFault, Leaves, Shape, read_leaves};
@@ -111,9 +111,19 @@ fn is_last_alone(branch: &Branch) -> bool
         && entry_count(branch, 1) == Some(1)
 }
 
+// From the first basket on, and from the last.
+fn is_last_from(baskets: &[BasketAt]) -> bool {
+    basket_from(baskets, 0, 7999) == 0
+        && basket_from(baskets, 0, 8000) == 1
+        && basket_from(baskets, 1, 8000) == 1
+}
+
 fn last_is_alone(alloc: Global) -> bool {
     match two_baskets(alloc) {
-        Ok(baskets) => is_last_alone(&branch(alloc, Leaves::new(alloc), 8001, baskets)),
+        Ok(baskets) => {
+            is_last_from(baskets.as_slice())
+                && is_last_alone(&branch(alloc, Leaves::new(alloc), 8001, baskets))
+        }
         Err(_) => false,
     }
 }
