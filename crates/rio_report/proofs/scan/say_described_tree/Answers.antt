@@ -1,4 +1,4 @@
-use Rattle.std.proofs.Common.{List, Err, sym, ap, ◌∙◌}
+use Rattle.std.proofs.Common.{List, sym, ap, ◌∙◌}
 use Rattle.rio_key.specs.declared.head.KeyHead.{KeyHead}
 use Rattle.rio_host.proofs.PiecesLaws.{says_as}
 use Rattle.rio_scan.specs.Scan.{found_tree, key_scan, scan_lines, scan_text}
