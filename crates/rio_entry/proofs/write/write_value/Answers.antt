@@ -1,4 +1,4 @@
-use Rattle.std.proofs.Common.{◌≡◌, ℕ, List, [], ◌∷◌, true, Result, Ok, ◌∙◌, sym, ap, arith}
+use Rattle.std.proofs.Common.{◌≡◌, ℕ, List, [], ◌∷◌, true, Result, Ok, ◌∙◌, sym, ap, arith, refl}
 use Rattle.rio_num.specs.Room.{Room}
 use Rattle.rio_leaf.specs.declared.branch.Shape.TheVariants.{Class}
 use Rattle.rio_format.specs.Fits.{fits}
@@ -6,6 +6,7 @@ use Rattle.rio_format.specs.Written.{written_form}
 use Rattle.rio_entry.proofs.Answered.{too_long, written}
 use Rattle.rio_entry.proofs.ClassBytes.{object_bytes, object_fits}
 use Rattle.rio_entry.specs.declared.fault.EntryFault.{EntryFault}
+use Rattle.std.proofs.lemmas.Result.{err_from_is_err_and}
 use Rattle.rio_entry.proofs.write.write_value.Goals as goal
 
 pub returns-then-branch-gt-LIMIT : goal.returns-then-branch-gt-LIMIT
@@ -23,3 +24,12 @@ returns c = λ counts.
     let same = object_bytes c.args.classes.now c.args.class.now counts c.args.value.now fit in
     written c.args.classes.now (Class c.args.class.now) counts (c.args.value.now ∷ []) (object_fits c.args.classes.now c.args.class.now counts c.args.value.now ∙ fit) (written_form c.args.classes.now 0 c.args.value.now) (sym same) (omega (arith, c.in_ok-written_length.ensures 0, c.if-branch-gt-LIMIT.false))
     ∙ ap (λ (room : Room). let r : Result (List ℕ) EntryFault = Ok room.bytes in r) (sym c.in_ok-write_object.ensures.exact)
+
+pub returns-in_err-fits : goal.returns-in_err-fits
+returns-in_err-fits c = λ counts. let p = err_from_is_err_and c.from_residual.result c.from_residual.ensures.1 in rw (p.1, p.2) (λ ne. absurd (ne refl))
+
+pub returns-in_err-written_length : goal.returns-in_err-written_length
+returns-in_err-written_length c = λ counts. let p = err_from_is_err_and c.from_residual-in_err-written_length.result c.from_residual-in_err-written_length.ensures.1 in rw (p.1, p.2) (λ ne. absurd (ne refl))
+
+pub returns-in_err-write_object : goal.returns-in_err-write_object
+returns-in_err-write_object c = λ counts. let p = err_from_is_err_and c.from_residual-in_err-write_object.result c.from_residual-in_err-write_object.ensures.1 in rw (p.1, p.2) (λ ne. absurd (ne refl))
