@@ -37,8 +37,8 @@ enum ClassWord {
 }
 
 impl<'a> ObjReader<'a> {
-    ghost use Rattle.std.specs.Prelude.{◌≡◌, ◌≢◌, ◌+◌, ◌<◌, ◌≤◌, ◌^◌, length, IsTrue, IfOk, IfErr, OnErr, Ok, Err};
-    ghost use Rattle.rio_num.specs.Answers.{FailsUnless};
+    ghost use Rattle.std.specs.Prelude.{◌≡◌, ◌+◌, ◌<◌, ◌≤◌, ◌^◌, length, IsTrue, IfOk, IfErr, OnErr, Ok, Err};
+    ghost use Rattle.rio_num.specs.Answers.{FailsUnless, TellsUnless};
     ghost use Rattle.rio_num.specs.At.{AreBytes, GoesOn};
     ghost use Rattle.rio_num.specs.Layout.{any, name, number, text};
     ghost use Rattle.rio_num.specs.Meanings.{HasTaken, read};
@@ -402,9 +402,8 @@ impl<'a> ObjReader<'a> {
         ensures found { IfOk result (λ w. HasTaken pointer_word self.old w self.new) }
         // What the bytes spell there is read, unless memory runs out.
         ensures only { MayTakeSpelled pointer_word result self.old self.new }
-        // A fault is the first one of the bytes.
-        ensures broken { IfErr result (λ fault. fault ≢ OutOfMemory
-            → IsFirstFault pointer_word self.old fault) }
+        // A fault is the first one of the bytes, unless memory runs out.
+        ensures broken { TellsUnless OutOfMemory (IsFirstFault pointer_word self.old) result }
         ensures within { IfOk result (λ w. IsPointerWithin w self.new) }
         ensures goes { GoesOn self.old.at self.new.at }
     {

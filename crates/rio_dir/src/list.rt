@@ -19,11 +19,11 @@ pub fn read_key_list(alloc: Global, bytes: &[u8], base: u64) -> Result<Heads, Ke
         (heads_in (key_list_at (record { place = base; rest = bytes.now }))) }
     // What is read is spelled so by a front of the bytes, and what is spelled so is read.
     ensures found { IfOk result (λ heads. IsSpelledIn (SpellsKeyList heads) bytes.now) }
+    ensures only { (heads : List _) (front rest : List ℕ) → bytes.now ≡ front ++ rest
+        → SpellsKeyList heads front → GivesUnless OutOfMemory (λ x. x) result (Ok heads) }
     // A fault is the first one: what stands before it is right, and there the list breaks.
     ensures broken { TellsUnless OutOfMemory (λ fault. (e : _) × (e.fault ≡ fault)
         × BreaksKeyList (record { place = base; rest = bytes.now }) e) result }
-    ensures only { (heads : List _) (front rest : List ℕ) → bytes.now ≡ front ++ rest
-        → SpellsKeyList heads front → GivesUnless OutOfMemory (λ x. x) result (Ok heads) }
 {
     match read_heads(alloc, bytes, base) {
         Ok(heads) => Ok(heads),

@@ -13,7 +13,7 @@ use Rattle.rio_buffer.specs.Frames.{Step}
 use Rattle.rio_buffer.specs.ReaderState.{ReaderState, no_words, standing}
 use Rattle.rio_buffer.specs.declared.fault.ObjFault.{ObjFault}
 use Rattle.rio_format.specs.Objects.{depth_limit, object_of}
-use Rattle.rio_read.specs.Passing.{passed}
+use Rattle.rio_read.specs.Passing.{pass_of}
 use Rattle.rio_types.specs.declared.class.ClassDef.{ClassDef}
 use Rattle.rio_value.specs.declared.value.Value.{Value}
 use Rattle.rio_entry.specs.Reading.{BreaksEntry, SpellsEntry, columns_values, entry_checked, entry_in, entry_values, only_values}
@@ -36,7 +36,7 @@ unkept_more f (Ok x) = refl
 unkept_more f (Err d) = refl
 
 -- the one object of a branch of a class
-pub one_passed : (classes : List ClassDef) (class : List ℕ) (counts : List Value) (s : ReaderState) → read (passed (object_of depth_limit classes class)) s ≡ read (passed (entry_values classes (Class class) counts)) s
+pub one_passed : (classes : List ClassDef) (class : List ℕ) (counts : List Value) (s : ReaderState) → read (pass_of (object_of depth_limit classes class)) s ≡ read (pass_of (entry_values classes (Class class) counts)) s
 unfolding columns_values
 one_passed classes class counts s = by (read (object_of depth_limit classes class) s)
   where
@@ -46,7 +46,7 @@ one_passed classes class counts s = by (read (object_of depth_limit classes clas
 
 module _ (classes : List ClassDef) (shape : Shape) (counts : List Value) (bytes : List ℕ) where
   -- what is passed over, with nothing behind it, is checked
-  checked_is : only_values (read (passed (entry_values classes shape counts)) (standing 0 bytes no_words)) ≡ entry_checked classes shape counts bytes
+  checked_is : only_values (read (pass_of (entry_values classes shape counts)) (standing 0 bytes no_words)) ≡ entry_checked classes shape counts bytes
   checked_is = by (read (entry_values classes shape counts) (standing 0 bytes no_words))
     where
       ended : (row : List Value) (place : ℕ) (b : Bool) → (let t : Result (Unit {0}) EntryFault = cond b (Ok tt) (Err (BadEntry place)) in t) ≡ result_map_both (λ (r : List Value). tt) (λ (e : EntryFault). e) (cond b (Ok row) (Err (BadEntry place)))
@@ -57,7 +57,7 @@ module _ (classes : List ClassDef) (shape : Shape) (counts : List Value) (bytes 
       by (Ok x) = ended x.0 x.1.at.place (length x.1.at.rest == 0)
       by (Err d) = refl
 
-  pub told_as_checked : (result : Result (Unit {0}) EntryFault) → GivesUnless NoMemory (λ done. done) result (only_values (read (passed (entry_values classes shape counts)) (standing 0 bytes no_words))) → GivesUnless NoMemory (λ done. done) result (entry_checked classes shape counts bytes)
+  pub told_as_checked : (result : Result (Unit {0}) EntryFault) → GivesUnless NoMemory (λ done. done) result (only_values (read (pass_of (entry_values classes shape counts)) (standing 0 bytes no_words))) → GivesUnless NoMemory (λ done. done) result (entry_checked classes shape counts bytes)
   told_as_checked result given = subst (GivesUnless NoMemory (λ done. done) result) checked_is given
 
   module _ (result : Result (Unit {0}) EntryFault) (given : GivesUnless NoMemory (λ done. done) result (entry_checked classes shape counts bytes)) where

@@ -16,7 +16,7 @@ use Rattle.rio_format.specs.Bodies.{Counters}
 use Rattle.rio_value.specs.Accessors.{number_in}
 use Rattle.rio_format.specs.Objects.{depth_limit, kind_value, number_value, numbers, object_of}
 use Rattle.rio_machine.specs.Rows.{leaf_column}
-use Rattle.rio_read.specs.Passing.{passed}
+use Rattle.rio_read.specs.Passing.{pass_of}
 use Rattle.rio_types.specs.declared.class.ClassDef.{ClassDef}
 use Rattle.rio_types.specs.declared.kind.Kind.{Kind}
 use Rattle.rio_types.specs.declared.kind.Primitive.{Primitive}
@@ -69,7 +69,7 @@ none_counted ls k l lt e none = both (is_by_counter l.dim) (is_any_counted (drop
 
 module _ (classes : List ClassDef) (ls : List Leaf) (counts : List Value) (k : ℕ) (own : Counters) (s : ReaderState) (total : Step (Unit {0})) where
   abbrev pub passes_from : ℕ → Counters → ReaderState → Step (Unit {0})
-  passes_from j ns u = read (passed (columns_values classes (map leaf_column (drop j ls)) (drop j counts) ns)) u
+  passes_from j ns u = read (pass_of (columns_values classes (map leaf_column (drop j ls)) (drop j counts) ns)) u
 
   module _ (l : Leaf) (lt : k < length ls) (e : l ≡ slice_index_or ls k l) where
     abbrev kind : Kind
@@ -90,7 +90,7 @@ module _ (classes : List ClassDef) (ls : List Leaf) (counts : List Value) (k : �
         let rest = read (columns_values classes (map leaf_column (drop (k + 1) ls)) (drop 1 (drop k counts)) ((l.name, said_by v) ∷ own)) s1 in
         let split : passes_from k own s ≡ unkept rest = rw (leaf, first) (unkept_more (λ (vs : List Value). v ∷ vs) rest) in
         ap (λ (m : ℤ). passes_from (k + 1) ((l.name, m) ∷ own) s1) (sym there.2)
-        ∙ ap (λ (cs : List Value). read (passed (columns_values classes (map leaf_column (drop (k + 1) ls)) cs ((l.name, said_by v) ∷ own))) s1) (sym (drop_next counts k))
+        ∙ ap (λ (cs : List Value). read (pass_of (columns_values classes (map leaf_column (drop (k + 1) ls)) cs ((l.name, said_by v) ∷ own))) s1) (sym (drop_next counts k))
         ∙ sym split
         ∙ so_far
 
@@ -116,12 +116,12 @@ list_says : (vs : List Value) → said_by (Items vs) ≡ said_by Null
 list_says vs = ap number_in (ap out-Value (sym (rolls-List vs)) ∙ out-roll-Value (layer.List vs)) ∙ sym (ap number_in (ap out-Value (sym rolls-Null) ∙ out-roll-Value layer.Null))
 
 module _ (of : Primitive) (count n m : ℕ) (s : ReaderState) (e : n ≡ min count most_values) (f : m ≡ min n (length s.at.rest + 1)) (few : length s.at.rest < most_values) where
-  pub list_is_passed : (s1 : ReaderState) → read (passed (times m (number_value of))) s ≡ Ok (tt, s1) → read (saying (numbers of count)) s ≡ Ok (said_by Null, s1)
+  pub list_is_passed : (s1 : ReaderState) → read (pass_of (times m (number_value of))) s ≡ Ok (tt, s1) → read (saying (numbers of count)) s ≡ Ok (said_by Null, s1)
   list_is_passed s1 h =
       let there = was_there (read (times m (number_value of)) s) s1 h in
       rw (list_is_read of count n m s e f few there.0 s1 there.1) (ap (λ (n : ℤ). let r : Step ℤ = Ok (n, s1) in r) (list_says there.0))
 
-  pub list_breaks : (d : ObjFault) → read (passed (times m (number_value of))) s ≡ Err d → read (saying (numbers of count)) s ≡ Err d
+  pub list_breaks : (d : ObjFault) → read (pass_of (times m (number_value of))) s ≡ Err d → read (saying (numbers of count)) s ≡ Err d
   list_breaks d h = rw (list_fails of count n m s e f few d (no_list (read (times m (number_value of)) s) d h)) refl
     where
       no_list : (r : Step (List Value)) (g : ObjFault) → unkept r ≡ Err g → r ≡ Err g

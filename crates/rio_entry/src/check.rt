@@ -6,7 +6,7 @@ ghost use Rattle.rio_num.specs.Meanings.{read};
 ghost use Rattle.rio_buffer.specs.Frames.{ReadsAs};
 ghost use Rattle.rio_buffer.specs.ReaderState.{no_words, standing};
 ghost use Rattle.rio_leaf.specs.declared.branch.Shape.TheVariants.{Class as Classed};
-ghost use Rattle.rio_read.specs.Passing.{passed};
+ghost use Rattle.rio_read.specs.Passing.{pass_of};
 ghost use Rattle.rio_value.specs.declared.value.Value.{Value as Given};
 ghost use Rattle.rio_entry.specs.declared.fault.EntryFault.TheVariants.{NoMemory as OutOfMemory};
 ghost use Rattle.rio_entry.specs.declared.fault.EntryFault.{EntryFault as Fault};
@@ -30,7 +30,7 @@ fn pass_one(
     class: &[u8],
 ) -> Result<(), ObjFault>
     ensures exact { (counts : List Given) → ReadsAs (λ x. x) result
-        (read (passed (entry_values classes.now (Classed class.now) counts)) reader.old)
+        (read (pass_of (entry_values classes.now (Classed class.now) counts)) reader.old)
         reader.new }
     ensures goes { GoesOn reader.old.at reader.new.at }
 {
@@ -45,7 +45,7 @@ fn pass_shape(
     counts: &[Value],
 ) -> Result<(), ObjFault>
     ensures exact { ReadsAs (λ x. x) result
-        (read (passed (entry_values classes.now shape.now counts.now)) reader.old) reader.new }
+        (read (pass_of (entry_values classes.now shape.now counts.now)) reader.old) reader.new }
     ensures goes { GoesOn reader.old.at reader.new.at }
 {
     match shape {
@@ -63,7 +63,7 @@ fn check_shape(
 ) -> Result<(), EntryFault>
     requires { length bytes.now < 2 ^ 32 }
     ensures { GivesUnless OutOfMemory (λ done. done) result
-        (only_values (read (passed (entry_values classes.now shape.now counts.now))
+        (only_values (read (pass_of (entry_values classes.now shape.now counts.now))
         (standing 0 bytes.now no_words))) }
 {
     let mut reader = ObjReader::new(alloc, bytes, 0);

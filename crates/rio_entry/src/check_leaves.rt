@@ -6,7 +6,7 @@ ghost use Rattle.rio_buffer.specs.Frames.{ReadsAs};
 ghost use Rattle.rio_format.specs.Objects.{numbers, text_value};
 ghost use Rattle.rio_leaf.specs.declared.branch.Shape.TheVariants.{Leaves as Leafy};
 ghost use Rattle.rio_machine.specs.Rows.{counted_leaf_kind, leaf_kind, sized_kind};
-ghost use Rattle.rio_read.specs.Passing.{passed};
+ghost use Rattle.rio_read.specs.Passing.{pass_of};
 ghost use Rattle.rio_types.specs.declared.class.ClassDef.{ClassDef as Class};
 ghost use Rattle.rio_value.specs.declared.value.Value.{Value as Given};
 ghost use Rattle.rio_entry.specs.Bounds.{most_values};
@@ -122,7 +122,7 @@ fn is_any_counted(leaves: &[Leaf]) -> bool
 fn pass_leaves(reader: &mut ObjReader, leaves: &[Leaf]) -> Result<(), ObjFault>
     requires { is_any_counted leaves.now ≡ false }
     ensures exact { (classes : List Class) (counts : List Given) → ReadsAs (λ x. x) result
-        (read (passed (entry_values classes (Leafy leaves.now) counts)) reader.old) reader.new }
+        (read (pass_of (entry_values classes (Leafy leaves.now) counts)) reader.old) reader.new }
     ensures goes { GoesOn reader.old.at reader.new.at }
 {
     for leaf in leaves {
@@ -139,7 +139,7 @@ fn pass_counting(
     counts: &[Value],
 ) -> Result<(), ObjFault>
     ensures exact { (classes : List Class) → ReadsAs (λ x. x) result
-        (read (passed (entry_values classes (Leafy leaves.now) counts.now)) reader.old)
+        (read (pass_of (entry_values classes (Leafy leaves.now) counts.now)) reader.old)
         reader.new }
     ensures goes { GoesOn reader.old.at reader.new.at }
 {
@@ -160,7 +160,7 @@ pub(crate) fn check_leaves(
     counts: &[Value],
 ) -> Result<(), ObjFault>
     ensures exact { (classes : List Class) → ReadsAs (λ x. x) result
-        (read (passed (entry_values classes (Leafy leaves.now) counts.now)) reader.old)
+        (read (pass_of (entry_values classes (Leafy leaves.now) counts.now)) reader.old)
         reader.new }
     ensures goes { GoesOn reader.old.at reader.new.at }
 {

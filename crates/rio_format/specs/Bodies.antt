@@ -83,6 +83,10 @@ abbrev pub by_name : {A : Type 0} → (BuiltIn → A) → A → List BuiltIn →
 by_name say other [] class = other
 by_name say other (b ∷ bs) class = if bytes_eq class (row_of b).name then say b else by_name say other bs class
 
+-- the built-in class of the name whose objects have no header
+abbrev pub headless_class : List ℕ → Option BuiltIn
+headless_class class = by_name Some None headless_classes class
+
 -- TObject has no byte count; a TArray is a count and numbers; any other object begins with a header
 abbrev pub form_of : List ℕ → Form
 form_of class = by_name (λ b. (row_of b).form) headed headless_classes class

@@ -1,7 +1,7 @@
 //! The classes that are built in.
 ghost use Rattle.std.specs.Prelude.{◌≡◌, Some, None};
 ghost use Rattle.std.specs.Str.{bytes_eq};
-ghost use Rattle.rio_format.specs.Bodies.{by_name, headed_class, headless_classes, row_of};
+ghost use Rattle.rio_format.specs.Bodies.{headed_class, headless_class, row_of};
 
 use crate::shape::Shape;
 use rio_types::Prim;
@@ -36,7 +36,7 @@ pub enum BuiltIn {
 impl BuiltIn {
     /// The one of the name whose objects have no header: TObject or a TArray.
     pub fn headless(class: &[u8]) -> Option<BuiltIn>
-        ensures { result ≡ by_name Some None headless_classes class.now }
+        ensures { result ≡ headless_class class.now }
     {
         if BuiltIn::Object.is_named(class) {
             Some(BuiltIn::Object)

@@ -23,8 +23,8 @@ fn list_length(alloc: Global, classes: &ClassLists) -> Result<u64, NoMemory>
 }
 
 /// The length of the class list that is written for these declared classes, or 16,777,217 where it is more than
-/// 16,777,216. The list's value is made and measured, and nothing is written: it takes memory in proportion to the classes
-/// of trees and these.
+/// 16,777,216. The list's value is made and measured, and nothing is written: it takes memory in proportion to the list as
+/// it would be written.
 pub fn info_length(alloc: Global, classes: &Classes) -> Result<u64, NoMemory>
     ensures { IfOk result (λ n. (start : ℕ) → n
         ≡ told_length (length (written_list start classes.now))) }

@@ -1,6 +1,6 @@
 -- Lists of leaves as texts are read: the leaves, or the place of the first token that can't stand.
 -- A token is a word, a longest run of letters, digits and _ . - +, or another single byte. No blanks stand in the list.
-use Rattle.std.specs.Prelude.{◌≡◌, ℕ, ◌+◌, List, [], ◌∷◌, ◌++◌, length, take, slice_index, Result, Ok, Err, Option, Some, None, Bool, false, ◌==◌, ◌&&◌, not, if◌then◌else◌}
+use Rattle.std.specs.Prelude.{ℕ, ◌+◌, List, [], ◌∷◌, ◌++◌, length, take, slice_index, Result, Ok, Err, Option, Some, None, Bool, false, ◌==◌, ◌&&◌, not, if◌then◌else◌}
 use Rattle.std.specs.List.{prefix_len, slice_split}
 use Rattle.std.specs.Str.{all_ascii_digits}
 use Rattle.std.specs.Str.Parse.{digits_value}
@@ -8,7 +8,7 @@ use Rattle.rio_num.specs.At.{At}
 use Rattle.rio_num.specs.Reading.{◌>>=◌, skip}
 use Rattle.rio_num.specs.Word.{is_item_byte, is_name_text}
 use Rattle.rio_leaf.specs.declared.fault.LeafFault.{LeafFault}
-use Rattle.rio_leaf.specs.declared.fault.LeafFault.TheVariants.{BadLeaf, NoMemory}
+use Rattle.rio_leaf.specs.declared.fault.LeafFault.TheVariants.{BadLeaf}
 use Rattle.rio_leaf.specs.declared.leaf.Dim.{Dim}
 use Rattle.rio_leaf.specs.declared.leaf.Dim.TheVariants.{One, Fixed, Counted}
 use Rattle.rio_leaf.specs.declared.leaf.Leaf.{Leaf}

@@ -1,9 +1,8 @@
 -- Numbers that are passed over.
-use Rattle.std.proofs.Common.{◌≡◌, inl, inr, ℕ, zero, suc, ◌/◌, Bool, true, false, ltb, ◌+◌, ◌-◌, ◌*◌, ◌<◌, ◌≤◌, List, [], ◌∷◌, length, drop, Result, Ok, Err, refl, sym, ap, subst, ◌∙◌, arith}
+use Rattle.std.proofs.Common.{◌≡◌, inl, inr, ℕ, zero, suc, ◌/◌, Bool, true, false, ltb, ◌+◌, ◌-◌, ◌*◌, ◌<◌, ◌≤◌, List, ◌∷◌, length, drop, Result, Ok, Err, refl, sym, ap, subst, ◌∙◌, arith}
 use Rattle.std.proofs.Math.Nat.{div-mul-le_self, le-div_iff_mul-le, suc-mul}
 use Rattle.std.proofs.lemmas.Bool.{lt-ltb, le-ltb, cases_lt}
 use Rattle.std.proofs.lemmas.List.{length-drop, drop-drop}
-use Rattle.rio_num.specs.At.{At}
 use Rattle.rio_num.specs.Reading.{◌>>=◌, skip}
 use Rattle.rio_num.specs.Meanings.{read}
 use Rattle.rio_num.specs.Layout.{any, each, times}
@@ -17,7 +16,7 @@ use Rattle.rio_buffer.specs.declared.fault.ObjFault.TheVariants.{Short}
 use Rattle.rio_format.specs.Objects.{number_value}
 use Rattle.rio_format.specs.Prims.{value_of_prim, width_of}
 use Rattle.byteorder.specs.Endian.{big_number}
-use Rattle.rio_read.specs.Passing.{passed}
+use Rattle.rio_read.specs.Passing.{pass_of}
 
 -- what was read isn't kept
 abbrev pub dropped : {A : Type 0} → Step A → Step (Unit {0})
@@ -38,7 +37,7 @@ pub behind_front : {Y : Type 0} (y : Y) (given : Step (List Y)) → dropped (giv
 behind_front y (Ok ys) = refl
 behind_front y (Err e) = refl
 
-pub passed_is : {A : Type 0} (l : ObjLayout A) (s : ReaderState) → read (passed l) s ≡ dropped (read l s)
+pub passed_is : {A : Type 0} (l : ObjLayout A) (s : ReaderState) → read (pass_of l) s ≡ dropped (read l s)
 passed_is l s = by (read l s)
   where
     by : {A : Type 0} (given : Step A) → (given >>= λ x. at_end x.1) ≡ dropped given
@@ -78,24 +77,24 @@ module _ (of : Primitive) where
   unfolding number_value
   number_cut s lt = rw (lt-ltb (length s.at.rest) (width_of of) lt) refl
 
-  one_more : (n : ℕ) (s : ReaderState) → width_of of ≤ length s.at.rest → read (passed (times (suc n) (number_value of))) s ≡ read (passed (times n (number_value of))) (past (width_of of) s)
+  one_more : (n : ℕ) (s : ReaderState) → width_of of ≤ length s.at.rest → read (pass_of (times (suc n) (number_value of))) s ≡ read (pass_of (times n (number_value of))) (past (width_of of) s)
   unfolding each
   one_more n s le =
       let one = number_ok s le in
       let same : dropped (read (times (suc n) (number_value of)) s) ≡ dropped (read (times n (number_value of)) (past (width_of of) s)) = rw one.1 (behind_front one.0 (read (times n (number_value of)) (past (width_of of) s))) in
       passed_is (times (suc n) (number_value of)) s ∙ same ∙ sym (passed_is (times n (number_value of)) (past (width_of of) s))
 
-  none_more : (n : ℕ) (s : ReaderState) → length s.at.rest < width_of of → read (passed (times (suc n) (number_value of))) s ≡ fault (Short s.at.place (width_of of))
+  none_more : (n : ℕ) (s : ReaderState) → length s.at.rest < width_of of → read (pass_of (times (suc n) (number_value of))) s ≡ fault (Short s.at.place (width_of of))
   unfolding each
   none_more n s lt = rw (number_cut s lt) refl
 
   -- so many numbers that are there, which are q bytes
-  so_many : (k n q : ℕ) (s : ReaderState) → q ≡ k * width_of of → q ≤ length s.at.rest → read (passed (times (k + n) (number_value of))) s ≡ read (passed (times n (number_value of))) (past q s)
+  so_many : (k n q : ℕ) (s : ReaderState) → q ≡ k * width_of of → q ≤ length s.at.rest → read (pass_of (times (k + n) (number_value of))) s ≡ read (pass_of (times n (number_value of))) (past q s)
   so_many zero n q s is le =
       let none : 0 ≡ q = omega (arith, is) in
       let start : zero + n ≡ n = omega arith in
-      ap (λ (m : ℕ). read (passed (times m (number_value of))) s) start
-      ∙ subst (λ (p : ℕ). read (passed (times n (number_value of))) s ≡ read (passed (times n (number_value of))) (past p s)) none (ap (λ (t : ReaderState). read (passed (times n (number_value of))) t) (past_none s))
+      ap (λ (m : ℕ). read (pass_of (times m (number_value of))) s) start
+      ∙ subst (λ (p : ℕ). read (pass_of (times n (number_value of))) s ≡ read (pass_of (times n (number_value of))) (past p s)) none (ap (λ (t : ReaderState). read (pass_of (times n (number_value of))) t) (past_none s))
   so_many (suc k) n q s is le =
       let w = width_of of in
       let whole : q ≡ k * w + w = is ∙ suc-mul k w in
@@ -104,27 +103,27 @@ module _ (of : Primitive) where
       let left : q - w ≤ length (past w s).at.rest = omega (arith, length-drop w s.at.rest, le) in
       let end : w + (q - w) ≡ q = omega (arith, whole) in
       let split : suc k + n ≡ suc (k + n) = omega arith in
-      ap (λ (m : ℕ). read (passed (times m (number_value of))) s) split
+      ap (λ (m : ℕ). read (pass_of (times m (number_value of))) s) split
       ∙ one_more (k + n) s one
       ∙ so_many k n (q - w) (past w s) more left
-      ∙ ap (λ (t : ReaderState). read (passed (times n (number_value of))) t) (past_past (q - w) w s ∙ ap (λ (m : ℕ). past m s) end)
+      ∙ ap (λ (t : ReaderState). read (pass_of (times n (number_value of))) t) (past_past (q - w) w s ∙ ap (λ (m : ℕ). past m s) end)
 
-  enough_there : (n : ℕ) (s : ReaderState) → n * width_of of ≤ length s.at.rest → read (passed (times n (number_value of))) s ≡ read (any Short (n * width_of of)) s
+  enough_there : (n : ℕ) (s : ReaderState) → n * width_of of ≤ length s.at.rest → read (pass_of (times n (number_value of))) s ≡ read (any Short (n * width_of of)) s
   unfolding each
   enough_there n s le =
       let all : n ≡ n + 0 = omega arith in
-      ap (λ (m : ℕ). read (passed (times m (number_value of))) s) all
+      ap (λ (m : ℕ). read (pass_of (times m (number_value of))) s) all
       ∙ so_many n 0 (n * width_of of) s refl le
       ∙ sym (any_ok (n * width_of of) s le)
 
   too_few_there : (n k : ℕ) (s s1 : ReaderState) → k < n → k * width_of of ≤ length s.at.rest → length s.at.rest < k * width_of of + width_of of → read (any Short (k * width_of of)) s ≡ at_end s1
-      → read (passed (times n (number_value of))) s ≡ read (any Short (width_of of)) s1
+      → read (pass_of (times n (number_value of))) s ≡ read (any Short (width_of of)) s1
   too_few_there n k s s1 lt le few e =
       let q = k * width_of of in
       let there : past q s ≡ s1 = same_end (past q s) s1 (sym (any_ok q s le) ∙ e) in
       let cut : length (past q s).at.rest < width_of of = omega (arith, length-drop (k * width_of of) s.at.rest, few) in
       let split : n ≡ k + suc (n - (k + 1)) = omega (arith, lt) in
-      ap (λ (m : ℕ). read (passed (times m (number_value of))) s) split
+      ap (λ (m : ℕ). read (pass_of (times m (number_value of))) s) split
       ∙ so_many k (suc (n - (k + 1))) q s refl le
       ∙ none_more (n - (k + 1)) (past q s) cut
       ∙ sym (any_cut (width_of of) (past q s) cut)
@@ -141,19 +140,19 @@ few_left l w some =
     ]
 
 module _ (of : Primitive) (n w l : ℕ) (s : ReaderState) where
-  pub enough : w ≡ width_of of → l ≡ length s.at.rest → 0 < w → n ≤ l / w → read (passed (times n (number_value of))) s ≡ read (any Short (n * w)) s
+  pub enough : w ≡ width_of of → l ≡ length s.at.rest → 0 < w → n ≤ l / w → read (pass_of (times n (number_value of))) s ≡ read (any Short (n * w)) s
   enough is left some le =
       let fits : n * w ≤ l = (le-div_iff_mul-le some).0 le in
       let there : n * width_of of ≤ length s.at.rest = subst (λ (v : ℕ). n * v ≤ length s.at.rest) is (subst (λ (k : ℕ). n * w ≤ k) left fits) in
-      subst (λ (v : ℕ). read (passed (times n (number_value of))) s ≡ read (any Short (n * v)) s) (sym is) (enough_there of n s there)
+      subst (λ (v : ℕ). read (pass_of (times n (number_value of))) s ≡ read (any Short (n * v)) s) (sym is) (enough_there of n s there)
 
-  pub too_few : (s1 : ReaderState) → w ≡ width_of of → l ≡ length s.at.rest → 0 < w → l / w < n → read (any Short (l / w * w)) s ≡ at_end s1 → read (passed (times n (number_value of))) s ≡ read (any Short w) s1
+  pub too_few : (s1 : ReaderState) → w ≡ width_of of → l ≡ length s.at.rest → 0 < w → l / w < n → read (any Short (l / w * w)) s ≡ at_end s1 → read (pass_of (times n (number_value of))) s ≡ read (any Short w) s1
   too_few s1 is left some lt e =
       let whole : l / w * w ≤ length s.at.rest = subst (λ (k : ℕ). l / w * w ≤ k) left (div-mul-le_self l w) in
       let few : length s.at.rest < l / w * w + w = subst (λ (k : ℕ). k < l / w * w + w) left (few_left l w some) in
-      let there : read (passed (times n (number_value of))) s ≡ read (any Short (width_of of)) s1 =
+      let there : read (pass_of (times n (number_value of))) s ≡ read (any Short (width_of of)) s1 =
       too_few_there of n (l / w) s s1 lt (subst (λ (v : ℕ). l / w * v ≤ length s.at.rest) is whole) (subst (λ (v : ℕ). length s.at.rest < l / w * v + v) is few) (subst (λ (v : ℕ). read (any Short (l / w * v)) s ≡ at_end s1) is e) in
-      subst (λ (v : ℕ). read (passed (times n (number_value of))) s ≡ read (any Short v) s1) (sym is) there
+      subst (λ (v : ℕ). read (pass_of (times n (number_value of))) s ≡ read (any Short v) s1) (sym is) there
 
 pub never_cut : (w l : ℕ) (s : ReaderState) (d : ObjFault) → l ≡ length s.at.rest → read (any Short (l / w * w)) s ≡ fault d → ⊥
 never_cut w l s d left e =
@@ -166,10 +165,10 @@ pub taken : (result : Result (Unit {0}) ObjFault) (step : Step (Unit {0})) (old 
 taken (Ok x) step old new e = e
 taken (Err d) step old new e = λ ne. e.0
 
-pub one_number : (of : Primitive) (s : ReaderState) → read (passed (number_value of)) s ≡ read (any Short (width_of of)) s
+pub one_number : (of : Primitive) (s : ReaderState) → read (pass_of (number_value of)) s ≡ read (any Short (width_of of)) s
 unfolding number_value
 one_number of s = by (ltb (length s.at.rest) (width_of of)) refl
   where
-    by : (b : Bool) → ltb (length s.at.rest) (width_of of) ≡ b → read (passed (number_value of)) s ≡ read (any Short (width_of of)) s
+    by : (b : Bool) → ltb (length s.at.rest) (width_of of) ≡ b → read (pass_of (number_value of)) s ≡ read (any Short (width_of of)) s
     by true e = rw e refl
     by false e = rw e refl

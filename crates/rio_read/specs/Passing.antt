@@ -9,8 +9,8 @@ use Rattle.rio_format.specs.Bodies.{Counters, counters_with}
 use Rattle.rio_format.specs.Objects.{Objects, member_part}
 
 -- what a description says, of which nothing is kept
-abbrev pub passed : {A : Type 0} → ObjLayout A → ObjLayout (Unit {0})
-passed l = l >>= λ v. done tt
+abbrev pub pass_of : {A : Type 0} → ObjLayout A → ObjLayout (Unit {0})
+pass_of l = l >>= λ v. done tt
 
 -- a member behind these counters, of which no more is kept than the counters from then on
 unfoldable pub counted_member : Objects → Counters → Member → ObjLayout Counters
@@ -25,7 +25,7 @@ noted_counter name counters = do
   done ((name, cast_signed w32 n) ∷ counters)
 
 -- the object behind a pointer's word, which ends where its count says
-unfoldable pub new_passed : Objects → ℕ → ℕ → List ℕ → ObjLayout (Unit {0})
-new_passed object place end class = do
-  _ ← passed (object class)
+unfoldable pub pass_of_new : Objects → ℕ → ℕ → List ℕ → ObjLayout (Unit {0})
+pass_of_new object place end class = do
+  _ ← pass_of (object class)
   finish place end

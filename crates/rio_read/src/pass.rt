@@ -4,7 +4,7 @@ ghost use Rattle.rio_num.specs.At.{GoesOn};
 ghost use Rattle.rio_buffer.specs.Frames.{ReadsAs};
 ghost use Rattle.rio_format.specs.Objects.{depth_limit, object_of};
 ghost use Rattle.rio_num.specs.Meanings.{read};
-ghost use Rattle.rio_read.specs.Passing.{passed};
+ghost use Rattle.rio_read.specs.Passing.{pass_of};
 
 mod numbers;
 mod object;
@@ -24,7 +24,7 @@ pub fn pass_next(
     class: &[u8],
 ) -> Result<(), ObjFault>
     ensures exact { ReadsAs (λ x. x) result
-        (read (passed (object_of depth_limit classes.now class.now)) reader.old) reader.new }
+        (read (pass_of (object_of depth_limit classes.now class.now)) reader.old) reader.new }
     ensures goes { GoesOn reader.old.at reader.new.at }
 {
     object::pass_object(alloc, classes, reader, class, DEPTH_LIMIT)

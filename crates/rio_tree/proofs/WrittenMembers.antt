@@ -1,7 +1,7 @@
 -- What the objects of a header that is written say, member by member.
 use Rattle.std.proofs.Common.{◌≡◌, ◌∙◌, ℕ, ◌+◌, ℤ, pos, List, [], ◌∷◌, ◌++◌, map, codes, Some, refl, ap, sym, append-nil}
 use Rattle.std.specs.List.{flat_map}
-use Rattle.rio_value.specs.declared.value.Part.{Part, out-Part, roll-Part, roll-out-Part}
+use Rattle.rio_value.specs.declared.value.Part.{Part, out-Part, roll-out-Part}
 use Rattle.rio_value.specs.declared.value.Value.{Value, Text, Object}
 use Rattle.rio_value.specs.declared.value.Value.TheOpen as layer
 use Rattle.rio_value.specs.declared.value.Value.TheVariants.{rolls-Object, outs-List, outs-Object}

@@ -13,7 +13,7 @@ use Rattle.rio_leaf.specs.declared.leaf.Dim.{Dim}
 use Rattle.rio_leaf.specs.declared.leaf.Dim.TheVariants.{One, Fixed, Counted}
 use Rattle.rio_leaf.specs.declared.leaf.Leaf.{Leaf}
 use Rattle.rio_value.specs.declared.value.Part.{Part}
-use Rattle.rio_value.specs.declared.value.Value.{Value, Int, Bool as Truth, Text, Object, Null, Back}
+use Rattle.rio_value.specs.declared.value.Value.{Value, Int, Bool as Truth, Text}
 use Rattle.rio_value.specs.declared.value.Value.TheVariants.{outs-Back, outs-Bool, outs-Int, outs-List, outs-Null, outs-Object, outs-Text}
 use Rattle.rio_format.specs.Bodies.{part}
 use Rattle.rio_format.specs.Fits.{fits_signed}

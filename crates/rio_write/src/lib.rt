@@ -2,8 +2,8 @@
 //!
 //! A value is walked once, by code that is generic over a [`Sink`]: the writer of objects takes the bytes, and [`Total`]
 //! counts them. [`write_object`] and [`written_length`] are that walk into the one and the other; class lists and headers
-//! of trees are values too, and the numbers of entries go into a sink by themselves. `specs/Sinks.antt` has what a sink does, `specs/Measuring.antt` what it
-//! is to count.
+//! of trees are values too, and the numbers of entries go into a sink by themselves. `specs/Sinks.antt` has what a sink
+//! does, `specs/Measuring.antt` what it is to count.
 #![tactic(auto)]
 
 mod builtin;

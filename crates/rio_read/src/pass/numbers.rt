@@ -5,7 +5,7 @@ ghost use Rattle.rio_buffer.specs.Frames.{ReadsAs};
 ghost use Rattle.rio_format.specs.Objects.{counted_values, filled, number_value, numbers, text_value};
 ghost use Rattle.rio_num.specs.Layout.{times};
 ghost use Rattle.rio_num.specs.Meanings.{read};
-ghost use Rattle.rio_read.specs.Passing.{passed};
+ghost use Rattle.rio_read.specs.Passing.{pass_of};
 
 use rio_buffer::{ObjFault, ObjReader};
 use rio_format::width_of;
@@ -14,7 +14,7 @@ use rio_types::Prim;
 /// Passes over the next number, or truth value, of this kind.
 #[tactic(auto, using(crate::proofs::Passing::one_number))]
 pub fn pass_number(reader: &mut ObjReader, of: Prim) -> Result<(), ObjFault>
-    ensures exact { ReadsAs (λ x. x) result (read (passed (number_value of)) reader.old)
+    ensures exact { ReadsAs (λ x. x) result (read (pass_of (number_value of)) reader.old)
         reader.new }
     ensures goes { GoesOn reader.old.at reader.new.at }
 {
@@ -24,7 +24,7 @@ pub fn pass_number(reader: &mut ObjReader, of: Prim) -> Result<(), ObjFault>
 /// Passes over `n` numbers of this kind. Where they aren't all there, the fault is that of the first that isn't whole.
 #[tactic(auto, using(crate::proofs::Passing::enough, crate::proofs::Passing::too_few))]
 pub fn pass_numbers(reader: &mut ObjReader, of: Prim, n: u64) -> Result<(), ObjFault>
-    ensures exact { ReadsAs (λ x. x) result (read (passed (times n (number_value of))) reader.old)
+    ensures exact { ReadsAs (λ x. x) result (read (pass_of (times n (number_value of))) reader.old)
         reader.new }
     ensures goes { GoesOn reader.old.at reader.new.at }
 {
@@ -40,7 +40,7 @@ pub fn pass_numbers(reader: &mut ObjReader, of: Prim, n: u64) -> Result<(), ObjF
 /// Passes over a list of `count` numbers.
 #[tactic(auto, unfolding(rio_format::specs::Objects::numbers))]
 pub(crate) fn pass_list(reader: &mut ObjReader, of: Prim, count: u32) -> Result<(), ObjFault>
-    ensures exact { ReadsAs (λ x. x) result (read (passed (numbers of count)) reader.old)
+    ensures exact { ReadsAs (λ x. x) result (read (pass_of (numbers of count)) reader.old)
         reader.new }
     ensures goes { GoesOn reader.old.at reader.new.at }
 {
@@ -49,7 +49,7 @@ pub(crate) fn pass_list(reader: &mut ObjReader, of: Prim, count: u32) -> Result<
 
 // As many numbers as a counter said, behind the byte 1 at the place.
 fn pass_filled(reader: &mut ObjReader, of: Prim, place: u64, count: i32) -> Result<(), ObjFault>
-    ensures exact { ReadsAs (λ x. x) result (read (passed (filled of place count)) reader.old)
+    ensures exact { ReadsAs (λ x. x) result (read (pass_of (filled of place count)) reader.old)
         reader.new }
     ensures goes { GoesOn reader.old.at reader.new.at }
 {
@@ -62,7 +62,7 @@ fn pass_filled(reader: &mut ObjReader, of: Prim, place: u64, count: i32) -> Resu
 /// Passes over the byte 0 for nothing, or the byte 1 and `count` numbers.
 #[tactic(auto, unfolding(rio_format::specs::Objects::counted_values))]
 pub(crate) fn pass_counted(reader: &mut ObjReader, of: Prim, count: i32) -> Result<(), ObjFault>
-    ensures exact { ReadsAs (λ x. x) result (read (passed (counted_values of count)) reader.old)
+    ensures exact { ReadsAs (λ x. x) result (read (pass_of (counted_values of count)) reader.old)
         reader.new }
     ensures goes { GoesOn reader.old.at reader.new.at }
 {
@@ -76,7 +76,7 @@ pub(crate) fn pass_counted(reader: &mut ObjReader, of: Prim, count: i32) -> Resu
 
 #[tactic(auto, unfolding(rio_format::specs::Objects::text_value))]
 pub(crate) fn pass_text(reader: &mut ObjReader) -> Result<(), ObjFault>
-    ensures exact { ReadsAs (λ x. x) result (read (passed text_value) reader.old) reader.new }
+    ensures exact { ReadsAs (λ x. x) result (read (pass_of text_value) reader.old) reader.new }
     ensures goes { GoesOn reader.old.at reader.new.at }
 {
     reader.take_text()?;

@@ -8,7 +8,7 @@ ghost use Rattle.rio_format.specs.Bodies.{body_of, form_of};
 ghost use Rattle.rio_format.specs.Objects.{array_parts, base_part, body, formed, headed, kind_value, link, list_parts, member_parts, object_of, parts, pointer, whole_object};
 ghost use Rattle.rio_num.specs.Layout.{each, times};
 ghost use Rattle.rio_num.specs.Meanings.{read};
-ghost use Rattle.rio_read.specs.Passing.{counted_member, new_passed, passed};
+ghost use Rattle.rio_read.specs.Passing.{counted_member, pass_of_new, pass_of};
 
 use super::numbers::{pass_counted, pass_list, pass_number, pass_text};
 use super::plain::{
@@ -31,7 +31,7 @@ pub(crate) fn pass_object(
     levels: u32,
 ) -> Result<(), ObjFault>
     ensures exact { ReadsAs (λ x. x) result
-        (read (passed (object_of levels classes.now class.now)) reader.old) reader.new }
+        (read (pass_of (object_of levels classes.now class.now)) reader.old) reader.new }
     ensures goes { GoesOn reader.old.at reader.new.at }
 {
     if levels == 0 {
@@ -52,7 +52,7 @@ fn pass_formed(
     levels: u32,
 ) -> Result<(), ObjFault>
     ensures exact { ReadsAs (λ x. x) result
-        (read (passed (formed (object_of levels classes.now) classes.now class.now
+        (read (pass_of (formed (object_of levels classes.now) classes.now class.now
         (form_of class.now))) reader.old) reader.new }
     ensures goes { GoesOn reader.old.at reader.new.at }
 {
@@ -73,7 +73,7 @@ fn pass_headed(
     levels: u32,
 ) -> Result<(), ObjFault>
     ensures exact { ReadsAs (λ x. x) result
-        (read (passed (headed (object_of levels classes.now) classes.now class.now)) reader.old)
+        (read (pass_of (headed (object_of levels classes.now) classes.now class.now)) reader.old)
         reader.new }
     ensures goes { GoesOn reader.old.at reader.new.at }
 {
@@ -93,7 +93,7 @@ fn pass_body(
 ) -> Result<(), ObjFault>
     requires { IsCounted header.place header.end reader.old }
     ensures exact { ReadsAs (λ x. x) result
-        (read (passed (body (object_of levels classes.now) class.now header
+        (read (pass_of (body (object_of levels classes.now) class.now header
         (body_of classes.now class.now header.version header.sum))) reader.old) reader.new }
     ensures goes { GoesOn reader.old.at reader.new.at }
 {
@@ -131,7 +131,7 @@ fn pass_parts(
     levels: u32,
 ) -> Result<(), ObjFault>
     ensures exact { ReadsAs (λ x. x) result
-        (read (passed (parts (object_of levels classes.now) described.now)) reader.old) reader.new }
+        (read (pass_of (parts (object_of levels classes.now) described.now)) reader.old) reader.new }
     ensures goes { GoesOn reader.old.at reader.new.at }
 {
     pass_bases(alloc, classes, reader, described.bases.as_slice(), levels)?;
@@ -147,7 +147,7 @@ fn pass_bases(
     levels: u32,
 ) -> Result<(), ObjFault>
     ensures exact { ReadsAs (λ x. x) result
-        (read (passed (each (base_part (object_of levels classes.now)) bases.now)) reader.old)
+        (read (pass_of (each (base_part (object_of levels classes.now)) bases.now)) reader.old)
         reader.new }
     ensures goes { GoesOn reader.old.at reader.new.at }
 {
@@ -167,7 +167,7 @@ fn pass_base_part(
     levels: u32,
 ) -> Result<(), ObjFault>
     ensures exact { ReadsAs (λ x. x) result
-        (read (passed (base_part (object_of levels classes.now) base.now)) reader.old) reader.new }
+        (read (pass_of (base_part (object_of levels classes.now) base.now)) reader.old) reader.new }
     ensures goes { GoesOn reader.old.at reader.new.at }
 {
     pass_object(alloc, classes, reader, base.name.as_slice(), levels)
@@ -182,7 +182,7 @@ fn pass_members(
     levels: u32,
 ) -> Result<(), ObjFault>
     ensures exact { ReadsAs (λ x. x) result
-        (read (passed (member_parts (object_of levels classes.now) [] members.now)) reader.old)
+        (read (pass_of (member_parts (object_of levels classes.now) [] members.now)) reader.old)
         reader.new }
     ensures goes { GoesOn reader.old.at reader.new.at }
 {
@@ -226,7 +226,7 @@ fn pass_kind(
     levels: u32,
 ) -> Result<(), ObjFault>
     ensures exact { ReadsAs (λ x. x) result
-        (read (passed (kind_value (object_of levels classes.now) counters.now kind.now)) reader.old)
+        (read (pass_of (kind_value (object_of levels classes.now) counters.now kind.now)) reader.old)
         reader.new }
     ensures goes { GoesOn reader.old.at reader.new.at }
 {
@@ -255,7 +255,7 @@ fn pass_pointer(
     levels: u32,
 ) -> Result<(), ObjFault>
     ensures exact { ReadsAs (λ x. x) result
-        (read (passed (pointer (object_of levels classes.now))) reader.old) reader.new }
+        (read (pass_of (pointer (object_of levels classes.now))) reader.old) reader.new }
     ensures goes { GoesOn reader.old.at reader.new.at }
 {
     match reader.pointer()? {
@@ -271,7 +271,7 @@ fn pass_pointer(
 
 // The object behind a pointer's word, which ends where its count says.
 #[cycle(passing)]
-#[tactic(auto, unfolding(crate::specs::Passing::new_passed))]
+#[tactic(auto, unfolding(crate::specs::Passing::pass_of_new))]
 fn pass_new(
     alloc: Global,
     classes: &Classes,
@@ -283,7 +283,7 @@ fn pass_new(
 ) -> Result<(), ObjFault>
     requires { IsCounted place end reader.old }
     ensures exact { ReadsAs (λ x. x) result
-        (read (new_passed (object_of levels classes.now) place end class.now) reader.old) reader.new }
+        (read (pass_of_new (object_of levels classes.now) place end class.now) reader.old) reader.new }
     ensures goes { GoesOn reader.old.at reader.new.at }
 {
     pass_object(alloc, classes, reader, class, levels)?;
@@ -302,7 +302,7 @@ fn pass_listed(
 ) -> Result<(), ObjFault>
     requires { IsCounted header.place header.end reader.old }
     ensures exact { ReadsAs (λ x. x) result
-        (read (passed (whole_object class.now (pos 5) header
+        (read (pass_of (whole_object class.now (pos 5) header
         (list_parts (object_of levels classes.now)))) reader.old) reader.new }
     ensures goes { GoesOn reader.old.at reader.new.at }
 {
@@ -320,7 +320,7 @@ fn pass_list_parts(
     levels: u32,
 ) -> Result<(), ObjFault>
     ensures exact { ReadsAs (λ x. x) result
-        (read (passed (list_parts (object_of levels classes.now))) reader.old) reader.new }
+        (read (pass_of (list_parts (object_of levels classes.now))) reader.old) reader.new }
     ensures goes { GoesOn reader.old.at reader.new.at }
 {
     pass_base(classes, reader, levels)?;
@@ -338,7 +338,7 @@ fn pass_links(
     levels: u32,
 ) -> Result<(), ObjFault>
     ensures exact { ReadsAs (λ x. x) result
-        (read (passed (times count (link (object_of levels classes.now)))) reader.old) reader.new }
+        (read (pass_of (times count (link (object_of levels classes.now)))) reader.old) reader.new }
     ensures goes { GoesOn reader.old.at reader.new.at }
 {
     for _done in 0..count {
@@ -357,7 +357,7 @@ fn pass_link(
     levels: u32,
 ) -> Result<(), ObjFault>
     ensures exact { ReadsAs (λ x. x) result
-        (read (passed (link (object_of levels classes.now))) reader.old) reader.new }
+        (read (pass_of (link (object_of levels classes.now))) reader.old) reader.new }
     ensures goes { GoesOn reader.old.at reader.new.at }
 {
     pass_pointer(alloc, classes, reader, levels)?;
@@ -375,7 +375,7 @@ fn pass_array_parts(
     levels: u32,
 ) -> Result<(), ObjFault>
     ensures exact { ReadsAs (λ x. x) result
-        (read (passed (array_parts (object_of levels classes.now))) reader.old) reader.new }
+        (read (pass_of (array_parts (object_of levels classes.now))) reader.old) reader.new }
     ensures goes { GoesOn reader.old.at reader.new.at }
 {
     pass_base(classes, reader, levels)?;
@@ -394,7 +394,7 @@ fn pass_pointers(
     levels: u32,
 ) -> Result<(), ObjFault>
     ensures exact { ReadsAs (λ x. x) result
-        (read (passed (times count (pointer (object_of levels classes.now)))) reader.old)
+        (read (pass_of (times count (pointer (object_of levels classes.now)))) reader.old)
         reader.new }
     ensures goes { GoesOn reader.old.at reader.new.at }
 {

@@ -6,7 +6,7 @@ ghost use Rattle.rio_buffer.specs.Reader.{IsCounted};
 ghost use Rattle.rio_format.specs.Bodies.{t_named, t_obj_string};
 ghost use Rattle.rio_format.specs.Objects.{array, bare_layout, object_of, parts, unread};
 ghost use Rattle.rio_num.specs.Meanings.{read};
-ghost use Rattle.rio_read.specs.Passing.{noted_counter, passed};
+ghost use Rattle.rio_read.specs.Passing.{noted_counter, pass_of};
 
 use super::numbers::pass_list;
 use crate::numbers::read_count;
@@ -18,7 +18,7 @@ use rio_types::{Classes, Prim};
 /// Passes over a TObject.
 #[tactic(auto, unfolding(rio_format::specs::Objects::bare_layout))]
 pub(crate) fn pass_bare(reader: &mut ObjReader) -> Result<(), ObjFault>
-    ensures exact { ReadsAs (λ x. x) result (read (passed bare_layout) reader.old) reader.new }
+    ensures exact { ReadsAs (λ x. x) result (read (pass_of bare_layout) reader.old) reader.new }
     ensures goes { GoesOn reader.old.at reader.new.at }
 {
     let place = reader.place();
@@ -43,7 +43,7 @@ pub(crate) fn pass_base(
     levels: u32,
 ) -> Result<(), ObjFault>
     ensures exact { ReadsAs (λ x. x) result
-        (read (passed (object_of levels classes.now (codes "TObject"))) reader.old) reader.new }
+        (read (pass_of (object_of levels classes.now (codes "TObject"))) reader.old) reader.new }
     ensures goes { GoesOn reader.old.at reader.new.at }
 {
     if levels == 0 {
@@ -57,7 +57,7 @@ pub(crate) fn pass_base(
 /// Passes over a TArray of the class.
 #[tactic(auto, unfolding(rio_format::specs::Objects::array))]
 pub(crate) fn pass_array(reader: &mut ObjReader, class: &[u8], of: Prim) -> Result<(), ObjFault>
-    ensures exact { ReadsAs (λ x. x) result (read (passed (array class.now of)) reader.old)
+    ensures exact { ReadsAs (λ x. x) result (read (pass_of (array class.now of)) reader.old)
         reader.new }
     ensures goes { GoesOn reader.old.at reader.new.at }
 {
@@ -89,7 +89,7 @@ pub(crate) fn pass_opaque(
     header: Header,
 ) -> Result<(), ObjFault>
     requires { IsCounted header.place header.end reader.old }
-    ensures exact { ReadsAs (λ x. x) result (read (passed (unread class.now header)) reader.old)
+    ensures exact { ReadsAs (λ x. x) result (read (pass_of (unread class.now header)) reader.old)
         reader.new }
     ensures goes { GoesOn reader.old.at reader.new.at }
 {
@@ -112,7 +112,7 @@ pub(crate) fn pass_named(
     levels: u32,
 ) -> Result<(), ObjFault>
     ensures exact { ReadsAs (λ x. x) result
-        (read (passed (parts (object_of levels classes.now) t_named)) reader.old) reader.new }
+        (read (pass_of (parts (object_of levels classes.now) t_named)) reader.old) reader.new }
     ensures goes { GoesOn reader.old.at reader.new.at }
 {
     pass_base(classes, reader, levels)?;
@@ -129,7 +129,7 @@ pub(crate) fn pass_obj_string(
     levels: u32,
 ) -> Result<(), ObjFault>
     ensures exact { ReadsAs (λ x. x) result
-        (read (passed (parts (object_of levels classes.now) t_obj_string)) reader.old) reader.new }
+        (read (pass_of (parts (object_of levels classes.now) t_obj_string)) reader.old) reader.new }
     ensures goes { GoesOn reader.old.at reader.new.at }
 {
     pass_base(classes, reader, levels)?;

@@ -1,4 +1,4 @@
-use Rattle.std.proofs.Common.{◌≡◌, refl, ap}
+use Rattle.std.proofs.Common.{refl, ap}
 use Rattle.rio_num.proofs.Plain.{standing, value_err}
 use Rattle.rio_key.specs.KeyList.{key_list_at}
 use Rattle.rio_key.specs.declared.fault.KeyFault.{KeyFault}

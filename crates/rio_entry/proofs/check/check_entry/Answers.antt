@@ -2,7 +2,7 @@ use Rattle.std.proofs.Common.{List, subst, arith}
 use Rattle.rio_num.specs.Answers.{GivesUnless}
 use Rattle.rio_num.specs.Meanings.{read}
 use Rattle.rio_buffer.specs.ReaderState.{no_words, standing}
-use Rattle.rio_read.specs.Passing.{passed}
+use Rattle.rio_read.specs.Passing.{pass_of}
 use Rattle.rio_value.specs.declared.value.Value.{Value}
 use Rattle.rio_entry.specs.declared.fault.EntryFault.TheVariants.{NoMemory}
 use Rattle.rio_entry.specs.Reading.{entry_values, only_values}
@@ -11,17 +11,17 @@ use Rattle.rio_entry.proofs.check.check_entry.Goals as goal
 
 pub returns-clause-found : goal.returns-clause-found
 returns-clause-found c =
-    let given = subst (λ (cs : List Value). GivesUnless NoMemory (λ done. done) c.check_shape.result (only_values (read (passed (entry_values c.args.classes.now c.args.branch.now.shape cs)) (standing 0 c.args.bytes.now no_words)))) c.as_slice.ensures c.check_shape.ensures in
+    let given = subst (λ (cs : List Value). GivesUnless NoMemory (λ done. done) c.check_shape.result (only_values (read (pass_of (entry_values c.args.classes.now c.args.branch.now.shape cs)) (standing 0 c.args.bytes.now no_words)))) c.as_slice.ensures c.check_shape.ensures in
     let told = told_as_checked c.args.classes.now c.args.branch.now.shape c.args.counts.now c.args.bytes.now c.check_shape.result given in
     whole_spells c.args.classes.now c.args.branch.now.shape c.args.counts.now c.args.bytes.now c.check_shape.result told (λ i. omega (arith, c.type_inv.bytes i))
 
 pub returns-clause-broken : goal.returns-clause-broken
 returns-clause-broken c =
-    let given = subst (λ (cs : List Value). GivesUnless NoMemory (λ done. done) c.check_shape.result (only_values (read (passed (entry_values c.args.classes.now c.args.branch.now.shape cs)) (standing 0 c.args.bytes.now no_words)))) c.as_slice.ensures c.check_shape.ensures in
+    let given = subst (λ (cs : List Value). GivesUnless NoMemory (λ done. done) c.check_shape.result (only_values (read (pass_of (entry_values c.args.classes.now c.args.branch.now.shape cs)) (standing 0 c.args.bytes.now no_words)))) c.as_slice.ensures c.check_shape.ensures in
     let told = told_as_checked c.args.classes.now c.args.branch.now.shape c.args.counts.now c.args.bytes.now c.check_shape.result given in
     fault_is_told c.args.classes.now c.args.branch.now.shape c.args.counts.now c.args.bytes.now c.check_shape.result told
 
 pub returns-clause-exact : goal.returns-clause-exact
 returns-clause-exact c =
-    let given = subst (λ (cs : List Value). GivesUnless NoMemory (λ done. done) c.check_shape.result (only_values (read (passed (entry_values c.args.classes.now c.args.branch.now.shape cs)) (standing 0 c.args.bytes.now no_words)))) c.as_slice.ensures c.check_shape.ensures in
+    let given = subst (λ (cs : List Value). GivesUnless NoMemory (λ done. done) c.check_shape.result (only_values (read (pass_of (entry_values c.args.classes.now c.args.branch.now.shape cs)) (standing 0 c.args.bytes.now no_words)))) c.as_slice.ensures c.check_shape.ensures in
     told_as_checked c.args.classes.now c.args.branch.now.shape c.args.counts.now c.args.bytes.now c.check_shape.result given

@@ -6,7 +6,7 @@ use Rattle.std.proofs.lemmas.Result.{err_from_is_err_and}
 use Rattle.rio_num.specs.Meanings.{read}
 use Rattle.rio_format.specs.Bodies.{Counters}
 use Rattle.rio_machine.specs.Rows.{leaf_column, leaf_kind}
-use Rattle.rio_read.specs.Passing.{passed}
+use Rattle.rio_read.specs.Passing.{pass_of}
 use Rattle.rio_value.specs.declared.value.Value.{Value}
 use Rattle.rio_entry.specs.Entries.{counter_saying, given_count, said_count}
 use Rattle.rio_entry.specs.Leaves.{kind_layout, said_by, numbers_after, saying}
@@ -43,7 +43,7 @@ loop-k-preserved c =
     let same : length before ≡ length c.loop-k.kept = omega (arith, length-take k c.args.leaves.now, c.loop-k.invariant.1) in
     let numbers = numbers_more c.args.leaves.now c.loop-k.kept k l v (omega arith) c.index-leaves-k.is same in (
       (λ classes. rw c.in_ok-push.ensures.ok (
-          ap (λ (ns : Counters). read (passed (columns_values classes (map leaf_column (drop (k + 1) c.args.leaves.now)) (drop (k + 1) c.args.counts.now) ns)) c.pass_leaf.new.reader) numbers
+          ap (λ (ns : Counters). read (pass_of (columns_values classes (map leaf_column (drop (k + 1) c.args.leaves.now)) (drop (k + 1) c.args.counts.now) ns)) c.pass_leaf.new.reader) numbers
           ∙ passes_on classes c.args.leaves.now c.args.counts.now k own c.loop-k.reader _ l (omega arith) c.index-leaves-k.is (said_by v) c.pass_leaf.new.reader (layout ∙ c.in_ok-pass_leaf.ensures.exact) (c.loop-k.invariant.0 classes))),
       rw c.in_ok-push.ensures.ok (omega (arith, length-append c.loop-k.kept (v ∷ []), c.loop-k.invariant.1)),
       search rules,

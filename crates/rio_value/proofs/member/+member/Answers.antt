@@ -1,4 +1,4 @@
-use Rattle.std.proofs.Common.{◌+◌, ◌∙◌, Option, Some, None, ap, drop, refl, sym, rules}
+use Rattle.std.proofs.Common.{◌+◌, ◌∙◌, Option, ap, drop, refl, sym, rules}
 use Rattle.std.specs.List.{flat_map}
 use Rattle.std.specs.Option.{option_or}
 use Rattle.rio_value.specs.Accessors.{part_of}

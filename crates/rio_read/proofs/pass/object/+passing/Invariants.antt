@@ -3,7 +3,7 @@ use Rattle.rio_num.specs.At.{GoesOn}
 use Rattle.rio_num.specs.Layout.{each, times}
 use Rattle.rio_num.specs.Meanings.{read}
 use Rattle.rio_format.specs.Objects.{base_part, link, member_parts, object_of, pointer}
-use Rattle.rio_read.specs.Passing.{passed}
+use Rattle.rio_read.specs.Passing.{pass_of}
 use Rattle.rio_read.proofs.pass.object.+passing.Given as goal
 
 abbrev pub decreases-pass_object : goal.decreases-pass_object
@@ -62,20 +62,20 @@ decreases-pass_formed l = 10 * l.levels + 9
 
 abbrev pub invariant-pass_bases-loop-base : goal.invariant-pass_bases-loop-base
 invariant-pass_bases-loop-base l =
-    (read (passed (each (base_part (object_of l.levels l.classes)) (drop l.base-index l.bases))) l.reader ≡ read (passed (each (base_part (object_of l.levels l.classes)) l.bases)) l.fn.reader)
+    (read (pass_of (each (base_part (object_of l.levels l.classes)) (drop l.base-index l.bases))) l.reader ≡ read (pass_of (each (base_part (object_of l.levels l.classes)) l.bases)) l.fn.reader)
     × GoesOn l.fn.reader.at l.reader.at
 
 abbrev pub invariant-pass_members-loop-member : goal.invariant-pass_members-loop-member
 invariant-pass_members-loop-member l =
-    (read (passed (member_parts (object_of l.levels l.classes) l.counters (drop l.member-index l.members))) l.reader ≡ read (passed (member_parts (object_of l.levels l.classes) [] l.members)) l.fn.reader)
+    (read (pass_of (member_parts (object_of l.levels l.classes) l.counters (drop l.member-index l.members))) l.reader ≡ read (pass_of (member_parts (object_of l.levels l.classes) [] l.members)) l.fn.reader)
     × GoesOn l.fn.reader.at l.reader.at
 
 abbrev pub invariant-pass_links-loop-done : goal.invariant-pass_links-loop-done
 invariant-pass_links-loop-done l =
-    (read (passed (times (l.count - l._done) (link (object_of l.levels l.classes)))) l.reader ≡ read (passed (times l.count (link (object_of l.levels l.classes)))) l.fn.reader)
+    (read (pass_of (times (l.count - l._done) (link (object_of l.levels l.classes)))) l.reader ≡ read (pass_of (times l.count (link (object_of l.levels l.classes)))) l.fn.reader)
     × GoesOn l.fn.reader.at l.reader.at
 
 abbrev pub invariant-pass_pointers-loop-done : goal.invariant-pass_pointers-loop-done
 invariant-pass_pointers-loop-done l =
-    (read (passed (times (l.count - l._done) (pointer (object_of l.levels l.classes)))) l.reader ≡ read (passed (times l.count (pointer (object_of l.levels l.classes)))) l.fn.reader)
+    (read (pass_of (times (l.count - l._done) (pointer (object_of l.levels l.classes)))) l.reader ≡ read (pass_of (times l.count (pointer (object_of l.levels l.classes)))) l.fn.reader)
     × GoesOn l.fn.reader.at l.reader.at
