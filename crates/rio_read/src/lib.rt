@@ -5,8 +5,9 @@
 //! TObjString or TArray. An object may be 256 deep.
 //!
 //! `pass_next` passes over the object that `read_next` would read: the reader then stands where `read_next` would leave
-//! it, and what breaks is told by the same fault. It makes no value, and keeps no more than what the counters of one
-//! object say. `pass_number` and `pass_numbers` do the same for numbers, many of them in one step.
+//! it, and what breaks is told by the same fault. It makes no value, and keeps no more than the classes and places of
+//! objects met before, and what the counters of the objects say that it is in. `pass_number` and `pass_numbers` do the
+//! same for numbers, many of them in one step.
 //!
 //! The rules of objects stand once, as descriptions, in `Objects` and `Bodies` of `rio_format`; the files of `specs/` say
 //! what the readers of this crate answer by them, and what it is to keep nothing (`Passing.antt`). `rio_stream` has

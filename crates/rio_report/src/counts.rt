@@ -155,7 +155,8 @@ fn count_leaves(
     Ok(counts)
 }
 
-/// What is counted for each leaf of a branch by leaves of the branches before it, which have these values.
+/// What is counted for each leaf of a branch by leaves of the branches before it, which have these values. Nothing is
+/// given where none of them counts any.
 pub(crate) fn entry_counts(
     alloc: Global,
     branches: &[Branch],
@@ -165,5 +166,8 @@ pub(crate) fn entry_counts(
     ensures { IfOk result (λ counts. counts ≡ entry_counts branches.now row.now branch.now) }
 {
     let counters = branch.counted_by.as_slice();
-    count_leaves(alloc, branches, row, counters, branch_leaves(branch))
+    match counters {
+        [] => Ok(Values::new(alloc)),
+        _ => count_leaves(alloc, branches, row, counters, branch_leaves(branch)),
+    }
 }

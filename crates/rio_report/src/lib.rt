@@ -1,7 +1,8 @@
 //! The verbs that read a file: what they say of it, by calls of the host that only read. `say_ls` lists the keys, `say_dump`
 //! the classes and each object with its value, and `say_scan` the rows of a tree: it goes over the baskets and then over the
-//! entries to find which branches can't be read, where it makes no values but those that count others, and over the entries
-//! again to say the rest. Beside the key list and the classes one record is held, or one basket of each branch.
+//! entries to find which branches can't be read, where it makes values of no branches but those that count leaves of others,
+//! and over the entries again to say the rows. Beside the key list and the classes one record is held, or the tree's head,
+//! one basket of each branch and the values of one row.
 #![tactic(auto)]
 
 mod content;

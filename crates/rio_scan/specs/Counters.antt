@@ -52,6 +52,11 @@ leaf_count branches row counters leaf = by leaf.dim
     by (Fixed count) = Int (pos 0)
     by (Counted counter times) = Int (unwrap_or (number_said counter branches row counters None) (pos 0))
 
+-- what is counted for each leaf, and nothing where no branch counts any
+abbrev pub counts_by : List ℕ → (Leaf → Value) → List Leaf → List Value
+counts_by [] count leaves = []
+counts_by (k ∷ ks) count leaves = map count leaves
+
 -- what is counted for each leaf of a branch by leaves of earlier branches, which have these values at the entry
 abbrev pub entry_counts : List Branch → List (List Value) → Branch → List Value
-entry_counts branches row b = map (leaf_count branches row b.counted_by) (branch_leaves b)
+entry_counts branches row b = counts_by b.counted_by (leaf_count branches row b.counted_by) (branch_leaves b)
