@@ -12,7 +12,7 @@ use Rattle.rio_tree_head.specs.declared.refusal.BranchRefusal.{BranchRefusal}
 use Rattle.rio_tree_head.specs.declared.refusal.BranchRefusal.TheVariants.{BadEntry}
 use Rattle.rio_value.specs.declared.value.Value.{Value}
 use Rattle.rio_scan.specs.declared.row.Row.{Row}
-use Rattle.rio_scan.specs.Counters.{branch_leaves, counts_by, leaf_count, number_in_branch, number_said, values_there}
+use Rattle.rio_scan.specs.Counters.{branch_leaves, counts_if_any, leaf_count, number_in_branch, number_said, values_there}
 use Rattle.rio_scan.specs.Refusals.{refused_unless}
 use Rattle.rio_scan.specs.Rows.{values_if_read, values_of_branch}
 use Rattle.rio_scan.specs.StoredEntries.{branch_entry}
@@ -105,7 +105,7 @@ same_values : (file : List ℕ) (classes : List ClassDef) (e : ℕ) (before : Li
     → values_of_branch file classes e before (values_made ts row) b ≡ values_of_branch file classes e before row b
 same_values file classes e before ts row b made =
     let each : leaf_count before (values_made ts row) b.counted_by ≡ leaf_count before row b.counted_by = λ i leaf. same_count before ts row b.counted_by made leaf i in
-    ap (λ (f : Leaf → Value). values_if_read classes b.def.shape (counts_by b.counted_by f (branch_leaves b)) (branch_entry file b e)) each
+    ap (λ (f : Leaf → Value). values_if_read classes b.def.shape (counts_if_any b.counted_by f (branch_leaves b)) (branch_entry file b e)) each
 
 -- ---- one branch more
 

@@ -11,7 +11,7 @@ use Rattle.rio_leaf.specs.declared.leaf.Leaf.{Leaf}
 use Rattle.rio_tree_head.specs.declared.head.Branch.{Branch}
 use Rattle.rio_tree_head.specs.declared.refusal.BranchRefusal.TheVariants.{Compressed, BadBasket, BadEntry, NoCounter}
 use Rattle.rio_value.specs.declared.value.Value.{Value}
-use Rattle.rio_scan.specs.Counters.{branch_leaves, counters_are_read, counts_by, is_refused, leaf_count, number_in_branch, number_said, values_there}
+use Rattle.rio_scan.specs.Counters.{branch_leaves, counters_are_read, counts_if_any, is_refused, leaf_count, number_in_branch, number_said, values_there}
 use Rattle.rio_scan.specs.Refusals.{branch_refusal, entries_are_read, is_entry_read, refusals_behind, refusals_of, refused_first, refused_unless}
 use Rattle.rio_scan.specs.Rows.{read_values, row_behind, values_at_entry, values_if_read, values_of_branch, values_or_none}
 use Rattle.rio_scan.specs.StoredEntries.{are_filled, baskets_refusal, branch_entry, is_compressed_basket, stored_basket}
@@ -140,7 +140,7 @@ module _ (file : List ℕ) (classes : List ClassDef) (e : ℕ) where
   same_values before ks all b read =
       let none = from_not _ read in
       let each : leaf_count before (kepts ks) b.counted_by ≡ leaf_count before (spelleds ks) b.counted_by = λ i leaf. same_count before ks all b.counted_by none leaf i in
-      ap (λ (f : Leaf → Value). values_if_read classes b.def.shape (counts_by b.counted_by f (branch_leaves b)) (branch_entry file b e)) each
+      ap (λ (f : Leaf → Value). values_if_read classes b.def.shape (counts_if_any b.counted_by f (branch_leaves b)) (branch_entry file b e)) each
 
   module _ (n m : ℕ) (more : (before : List Branch) (b : Branch) → entries_are_read file classes m before b ≡ (entries_are_read file classes n before b && is_entry_read file classes before b e)) where
     module _ (before : List Branch) (ks : List Known) (all : AllHold ks) (spelled : spelleds ks ≡ values_at_entry file classes e before) (b : Branch) where

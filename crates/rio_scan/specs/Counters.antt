@@ -53,10 +53,10 @@ leaf_count branches row counters leaf = by leaf.dim
     by (Counted counter times) = Int (unwrap_or (number_said counter branches row counters None) (pos 0))
 
 -- what is counted for each leaf, and nothing where no branch counts any
-abbrev pub counts_by : List ℕ → (Leaf → Value) → List Leaf → List Value
-counts_by [] count leaves = []
-counts_by (k ∷ ks) count leaves = map count leaves
+abbrev pub counts_if_any : List ℕ → (Leaf → Value) → List Leaf → List Value
+counts_if_any [] count leaves = []
+counts_if_any (k ∷ ks) count leaves = map count leaves
 
 -- what is counted for each leaf of a branch by leaves of earlier branches, which have these values at the entry
 abbrev pub entry_counts : List Branch → List (List Value) → Branch → List Value
-entry_counts branches row b = counts_by b.counted_by (leaf_count branches row b.counted_by) (branch_leaves b)
+entry_counts branches row b = counts_if_any b.counted_by (leaf_count branches row b.counted_by) (branch_leaves b)
