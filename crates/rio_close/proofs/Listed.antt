@@ -3,10 +3,14 @@ use Rattle.std.proofs.Common.{◌≡◌, ℕ, false, ltb, ◌+◌, ◌-◌, ◌<
 use Rattle.std.proofs.lemmas.List.{drop_all}
 use Rattle.std.proofs.lemmas.Bool.{le-ltb}
 use Rattle.rio_num.specs.At.{standing_at}
+use Rattle.rio_num.specs.Plain.{value_of}
 use Rattle.rio_num.specs.Reading.{◌>>=◌}
+use Rattle.rio_num.proofs.Plain.{value_err}
+use Rattle.std.specs.Prelude.{unwrap_or}
 use Rattle.rio_key.specs.declared.head.KeyHead.{KeyHead}
 use Rattle.rio_key.specs.Key.{key_at}
 use Rattle.rio_key.specs.KeyList.{key_list_at, key_list_layout}
+use Rattle.rio_key.specs.declared.fault.ListFault.{ListFault}
 use Rattle.rio_head.specs.declared.fault.FileFault.TheVariants.{BadKeyList}
 use Rattle.rio_head.specs.Head.{fault_at}
 use Rattle.rio_dir.specs.Closed.{heads_of, or_bad_list, or_fault}
@@ -30,3 +34,11 @@ standing_here place bytes =
     let here : ltb place place ≡ false = le-ltb place place (omega arith) in
     let none : place - place ≡ 0 = omega arith in
     rw (here, none) refl
+
+-- a list that breaks breaks where it says, or with its count
+pub listed_broken : (place : ℕ) (bytes : List ℕ) (h : KeyHead) (e : ListFault) → key_at (at place bytes) ≡ Ok h → value_of (key_list_at (at (place + h.keylen) (drop h.keylen bytes))) ≡ Err e
+    → listed_in place bytes ≡ Err (fault_at (unwrap_or e.head place) BadKeyList)
+unfolding listed_in
+listed_broken place bytes h e is broken =
+    ap (λ (k : Keyed). or_fault (fault_at place BadKeyList) k >>= λ key. heads_of place key (at (place + key.keylen) (drop key.keylen bytes))) is
+    ∙ ap (or_bad_list place) (value_err (key_list_at (at (place + h.keylen) (drop h.keylen bytes))) e broken)
