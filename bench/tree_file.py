@@ -3,6 +3,9 @@
 
 tree_file.py FILE wide ENTRIES BRANCHES   a tree `G` with branches `b00`, `b01` .. of one integer each; entry e has the
                                           number e * BRANCHES + j in the j-th of them
+tree_file.py FILE counted ENTRIES LINES   a tree `G` with a counter `n`, a branch of a counter and the array that it
+                                          counts, and 8 branches of arrays that `n` counts; and into the file LINES what
+                                          a scan of it is to say
 tree_file.py FILE small                   a tree `T` with leaves of several kinds, a branch of objects, and a branch
                                           that has a branch of its own; and an object `s`
 tree_file.py FILE large                   the tree `T` in a file of the large form whose baskets stand past 2 GB (sparse)
@@ -331,6 +334,51 @@ def wide_file(path, entries, count):
     file.close(tree_classes())
 
 
+def list_text(words):
+    return '[' + ', '.join(words) + ']'
+
+
+def bits_text(data, width):
+    """A list of floating-point numbers, as a scan says it."""
+    return list_text('0x' + data[at:at + width].hex() for at in range(0, len(data), width))
+
+
+def counted_row(e):
+    """The entry of each branch of the tree `counted`, and the line that a scan is to say of them."""
+    n, k = e * 7 % 10, e * 3 % 6
+    x = struct.pack(f'>{k}f', *(e % 1000 / 4 - i for i in range(k)))
+    entries, said = [i32(n), i32(k) + x], [str(n), str(k), bits_text(x, 4)]
+    for j in range(8):
+        numbers = [(e * 8 + j) * 10 + i for i in range(n)]
+        if j % 2 == 0:
+            entries.append(struct.pack(f'>{n}i', *numbers))
+            said.append(list_text(map(str, numbers)))
+        else:
+            entries.append(struct.pack(f'>{n}d', *(number / 8 - 1000 for number in numbers)))
+            said.append(bits_text(entries[-1], 8))
+    return entries, f'{e} {list_text(said)}\n'
+
+
+def counted_file(path, entries, lines):
+    file = File(path, 'counted.root')
+    branches = [Branch('n', [('n', 'I', None)]), Branch('own', [('k', 'I', None), ('x', 'F', 'k')])]
+    branches += [Branch(f'c{j}', [(f'c{j}', 'ID'[j % 2], 'n')]) for j in range(8)]
+    block = BASKET_BYTES // 4
+    with open(lines, 'w') as said:
+        said.write(f'ok scan G {entries}\n')
+        for begin in range(0, entries, block):
+            rows = [counted_row(e) for e in range(begin, min(entries, begin + block))]
+            said.writelines(line for _, line in rows)
+            for j, branch in enumerate(branches):
+                each = block // 10 if branch.has_offsets() else block
+                for k in range(0, len(rows), each):
+                    file.basket('G', branch, [row[j] for row, _ in rows[k:k + each]], begin + k)
+    for branch in branches:
+        branch.entries = entries
+    file.key('TTree', 'G', '', lambda n: tree_header(n, 'G', entries, branches), listed=True)
+    file.close(tree_classes())
+
+
 def hit(number, bits):
     """An object of the class Hit, as an entry."""
     body = u16(1) + i32(number) + u32(bits)
@@ -370,6 +418,8 @@ if __name__ == '__main__':
     words = sys.argv[1:]
     if len(words) == 4 and words[1] == 'wide':
         wide_file(words[0], int(words[2]), int(words[3]))
+    elif len(words) == 4 and words[1] == 'counted':
+        counted_file(words[0], int(words[2]), words[3])
     elif len(words) == 2 and words[1] in ('small', 'large'):
         small_file(words[0], words[1] == 'large')
     else:

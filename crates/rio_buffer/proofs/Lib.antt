@@ -1,4 +1,5 @@
 mod Found
 pub mod Kept
+mod PlainNames
 mod Spelled
 mod Told

@@ -48,10 +48,10 @@ IsPointerWithin (Back label) s = Unit {0}
 -- ---- class words
 
 abbrev pub name_of : ClassWord → List ℕ
-name_of (Spelled name) = name
-name_of (Earlier name) = name
+name_of (Spelled name) = name.now
+name_of (Earlier name) = name.now
 
 -- behind the class word at the place: a name that it spells out is known from then on
 abbrev pub noted : ℕ → ClassWord → ReaderState → ReaderState
-noted place (Spelled name) s = record s { words = with_name s.words place name }
+noted place (Spelled name) s = record s { words = with_name s.words place name.now }
 noted place (Earlier name) s = s

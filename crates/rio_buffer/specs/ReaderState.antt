@@ -1,6 +1,6 @@
 -- Where reading stands, and the words of pointers that stand earlier.
-use Rattle.std.specs.Prelude.{ℕ, List, []}
-use Rattle.std.specs.Prelude.{nat_eq}
+use Rattle.std.specs.Prelude.{ℕ, List, [], map, nat_eq}
+use Rattle.std.specs.Borrow.{Bor}
 use Rattle.indexmap.specs.IndexSet.{insert_key}
 use Rattle.indexmap.specs.IndexMap.{insert_entry}
 use Rattle.rio_num.specs.Meanings.{Standing, stand}
@@ -13,6 +13,10 @@ pub record WordsMet : Type 0 where
 
 abbrev pub no_words : WordsMet
 no_words = record { labels = []; names = [] }
+
+-- the names, which lie in the data, by themselves
+abbrev pub plain_names : List (ℕ × Bor (List ℕ)) → List (ℕ × List ℕ)
+plain_names entries = map (λ e. (e.0, e.1.now)) entries
 
 -- one more object, whose count word stands at the place
 abbrev pub with_label : WordsMet → ℕ → WordsMet

@@ -1,5 +1,6 @@
 //! Reading within the data of objects.
 ghost use Rattle.std.specs.Prelude.{◌≡◌, ◌==◌, ◌<◌, length, position, IfSome};
+ghost use Rattle.rio_buffer.specs.Reader.{name_of};
 
 use crate::{Header, ObjFault, PointerWord};
 use indexmap::{IndexMap, IndexSet};
@@ -15,30 +16,41 @@ pub struct ObjReader<'a> {
     // The places of the count words of pointed objects, in order of their labels.
     labels: IndexSet<u64>,
     // The names of classes, by the places of the class words that spell them out.
-    names: IndexMap<u64, Name>,
+    names: IndexMap<u64, &'a [u8]>,
 }
 
 impl<'a> Model for ObjReader<'a> {
     ghost use Rattle.std.specs.Prelude.{◌+◌, ◌<◌, ◌≤◌, ◌^◌, length};
-    ghost use Rattle.rio_buffer.specs.ReaderState.{ReaderState};
+    ghost use Rattle.rio_buffer.specs.ReaderState.{ReaderState, plain_names};
 
     ghost Value = { ReaderState };
 
-    ghost view = { λ r. record { at = r.cursor; words = record { labels = r.labels.keys; names = r.names.entries } } };
+    ghost view = { λ r. record { at = r.cursor; words = record { labels = r.labels.keys; names = plain_names r.names.entries } } };
 
     ghost invariant = { λ r. (r.cursor.place + length r.cursor.rest < 2 ^ 64) × (length r.labels.keys + length r.cursor.rest < 2 ^ 32) };
 }
 
-// A class word, and the name behind it where it spells one out.
-#[derive(Drop)]
-enum ClassWord {
-    Spelled(Name),
-    Earlier(Name),
+// A class word, with the name that it or an earlier one spells out.
+#[derive(Clone, Copy)]
+enum ClassWord<'a> {
+    Spelled(&'a [u8]),
+    Earlier(&'a [u8]),
+}
+
+impl<'a> ClassWord<'a> {
+    fn name(self) -> &'a [u8]
+        ensures { result.now ≡ name_of self.entry }
+    {
+        match self {
+            ClassWord::Spelled(name) => name,
+            ClassWord::Earlier(name) => name,
+        }
+    }
 }
 
 impl<'a> ObjReader<'a> {
     ghost use Rattle.std.specs.Prelude.{◌≡◌, ◌+◌, ◌<◌, ◌≤◌, ◌^◌, length, IsTrue, IfOk, IfErr, OnErr, Ok, Err};
-    ghost use Rattle.rio_num.specs.Answers.{FailsUnless, TellsUnless};
+    ghost use Rattle.rio_num.specs.Answers.{TellsUnless};
     ghost use Rattle.rio_num.specs.At.{AreBytes, GoesOn};
     ghost use Rattle.rio_num.specs.Layout.{any, name, number, text};
     ghost use Rattle.rio_num.specs.Meanings.{HasTaken, read};
@@ -250,8 +262,9 @@ impl<'a> ObjReader<'a> {
     // ---- pointers
 
     // A name that ends before a zero byte.
-    fn class_name(&mut self) -> Result<Name, ObjFault>
-        ensures exact { ReadsAs (λ x. x) result (read (name ObjFault.Short) self.old) self.new }
+    fn class_name(&mut self) -> Result<&'a [u8], ObjFault>
+        ensures ok { IfOk result (λ t. read (name ObjFault.Short) self.old ≡ Ok (t.now, self.new)) }
+        ensures err { IfErr result (λ e. read (name ObjFault.Short) self.old ≡ Err e) }
         ensures words { self.new.words ≡ self.old.words }
         ensures goes { GoesOn self.old.at self.new.at }
     {
@@ -263,28 +276,30 @@ impl<'a> ObjReader<'a> {
             });
         };
         self.cursor.skip(len as u64 + 1)?;
-        Ok(Name::from_slice(self.alloc, &rest[..len])?)
+        Ok(&rest[..len])
     }
 
     // The class that an earlier class word spells out.
-    fn earlier_class(&self, place: u64, word: u32) -> Result<Name, ObjFault>
-        ensures { ReadsAs (λ x. x) result (read (known_class place word) self.now) self.now }
+    #[tactic(auto, using(crate::proofs::PlainNames::plain_found))]
+    fn earlier_class(&self, place: u64, word: u32) -> Result<&'a [u8], ObjFault>
+        ensures { TakesStep (λ t. t.now) result
+            (read (known_class place word) self.now) self.now self.now }
     {
         if word < 0x8000_0002 {
             return Err(ObjFault::UnknownClassWord { place, word });
         }
         match self.names.get(&u64::from(word - 0x8000_0002)) {
-            Some(name) => Ok(name.copy()?),
+            Some(name) => Ok(*name),
             None => Err(ObjFault::UnknownClassWord { place, word }),
         }
     }
 
     // A class word. A name that it spells out isn't kept yet.
     #[tactic(auto, unfolding(crate::specs::Frames::class_word, crate::specs::Frames::new_class))]
-    fn class_word(&mut self) -> Result<ClassWord, ObjFault>
+    fn class_word(&mut self) -> Result<ClassWord<'a>, ObjFault>
         ensures ok { IfOk result (λ c. read class_word self.old
             ≡ Ok (name_of c, noted self.old.at.place c self.new)) }
-        ensures err { IfErr result (λ e. FailsUnless OutOfMemory e (read class_word self.old)) }
+        ensures err { IfErr result (λ e. read class_word self.old ≡ Err e) }
         ensures words { self.new.words ≡ self.old.words }
         ensures goes { GoesOn self.old.at self.new.at }
     {
@@ -309,11 +324,17 @@ impl<'a> ObjReader<'a> {
     }
 
     // The next label, and the name that the class word at `class_place` spells out.
-    fn label_and_name(&mut self, place: u64, class_place: u64, name: Name) -> Result<u32, NoMemory>
+    #[tactic(auto, using(crate::proofs::PlainNames::plain_added))]
+    fn label_and_name(
+        &mut self,
+        place: u64,
+        class_place: u64,
+        name: &'a [u8],
+    ) -> Result<u32, NoMemory>
         requires { length self.old.words.labels + length self.old.at.rest + 1 < 2 ^ 32 }
         ensures ok { IfOk result (λ label. (label ≡ length self.old.words.labels)
             × (self.new ≡ record self.old
-            { words = with_label (with_name self.old.words class_place name) place })) }
+            { words = with_label (with_name self.old.words class_place name.now) place })) }
         ensures err { OnErr result (self.new ≡ self.old) }
     {
         self.labels.reserve(1)?;
@@ -337,27 +358,18 @@ impl<'a> ObjReader<'a> {
     {
         let end = self.end_of(place, word)?;
         let class_place = self.place();
-        match self.class_word()? {
-            ClassWord::Spelled(class) => {
-                let name = class.copy()?;
-                let label = self.label_and_name(place, class_place, name)?;
-                Ok(PointerWord::New {
-                    label,
-                    place,
-                    end,
-                    class,
-                })
-            }
-            ClassWord::Earlier(class) => {
-                let label = self.label(place)?;
-                Ok(PointerWord::New {
-                    label,
-                    place,
-                    end,
-                    class,
-                })
-            }
-        }
+        let class_word = self.class_word()?;
+        let class = Name::from_slice(self.alloc, class_word.name())?;
+        let label = match class_word {
+            ClassWord::Spelled(name) => self.label_and_name(place, class_place, name)?,
+            ClassWord::Earlier(_) => self.label(place)?,
+        };
+        Ok(PointerWord::New {
+            label,
+            place,
+            end,
+            class,
+        })
     }
 
     // The earlier object that the word refers to.

@@ -7,8 +7,6 @@ use Rattle.rio_leaf.specs.declared.leaf.Dim.TheVariants.{One, Fixed, Counted}
 use Rattle.rio_leaf.specs.declared.leaf.Leaf.{Leaf}
 use Rattle.rio_num.specs.Layout.{times}
 use Rattle.rio_num.specs.Meanings.{read}
-use Rattle.rio_num.specs.Reading.{◌>>=◌}
-use Rattle.rio_num.proofs.ReadLaws.{ok_is}
 use Rattle.rio_buffer.specs.Frames.{Step}
 use Rattle.rio_buffer.specs.ReaderState.{ReaderState}
 use Rattle.rio_buffer.specs.declared.fault.ObjFault.{ObjFault}
@@ -17,6 +15,7 @@ use Rattle.rio_value.specs.Accessors.{number_in}
 use Rattle.rio_format.specs.Objects.{depth_limit, kind_value, number_value, numbers, object_of}
 use Rattle.rio_machine.specs.Rows.{leaf_column}
 use Rattle.rio_read.specs.Passing.{pass_of}
+use Rattle.rio_read.proofs.Steps.{step_as-err, step_as-ok, step_as-twice, unkept}
 use Rattle.rio_types.specs.declared.class.ClassDef.{ClassDef}
 use Rattle.rio_types.specs.declared.kind.Kind.{Kind}
 use Rattle.rio_types.specs.declared.kind.Primitive.{Primitive}
@@ -25,28 +24,12 @@ use Rattle.rio_value.specs.declared.value.Value.TheOpen as layer
 use Rattle.rio_value.specs.declared.value.Value.TheVariants.{rolls-List, rolls-Null}
 use Rattle.rio_entry.specs.Bounds.{most_values}
 use Rattle.rio_entry.specs.Entries.{counter_saying, given_count, said_count}
-use Rattle.rio_entry.specs.Leaves.{entry_kind, is_any_counted, is_by_counter, kind_layout, said_by, saying}
+use Rattle.rio_entry.specs.Leaves.{entry_kind, is_any_counted, is_by_counter, kind_layout, said_by, number_of_value}
 use Rattle.rio_entry.specs.Reading.{columns_values}
-use Rattle.rio_entry.proofs.Checking.{unkept, unkept_more, was_there}
 use Rattle.rio_entry.proofs.LeafBytes.{drop_next}
 use Rattle.rio_entry.proofs.LeafKinds.{kind_leafy}
 use Rattle.rio_entry.proofs.LeafReads.{layout_is}
 use Rattle.rio_entry.proofs.Totals.{list_fails, list_is_read}
-
--- ---- the number that was said
-
-abbrev pub only_said : Step Value → Step ℤ
-only_said r = r >>= λ x. Ok (said_by x.0, x.1)
-
-was_said : (r : Step Value) (n : ℤ) (s : ReaderState) → only_said r ≡ Ok (n, s) → (v : Value) × (r ≡ Ok (v, s)) × (said_by v ≡ n)
-was_said (Ok x) n s e =
-    let same = ok_is {E = ObjFault} (said_by x.0, x.1) (n, s) e in
-    (x.0, ap (λ (q : ℤ × ReaderState). let r : Step Value = Ok (x.0, q.1) in r) same, ap (λ (q : ℤ × ReaderState). q.0) same)
-was_said (Err d) n s e = absurd cc
-
-was_fault : (r : Step Value) (d : ObjFault) → only_said r ≡ Err d → r ≡ Err d
-was_fault (Ok x) d e = absurd cc
-was_fault (Err g) d e = cc
 
 -- ---- leaves that aren't counted
 
@@ -81,23 +64,23 @@ module _ (classes : List ClassDef) (ls : List Leaf) (counts : List Value) (k : �
     one : read (kind_value (object_of depth_limit classes) [] kind) s ≡ read (kind_layout kind) s
     one = layout_is (object_of depth_limit classes) kind s (kind_leafy (counter_saying l.dim (said_count l.dim (given_count (drop k counts)) own)) l)
 
-    pub passes_on : (n : ℤ) (s1 : ReaderState) → read (saying (kind_layout kind)) s ≡ Ok (n, s1) → passes_from k own s ≡ total → passes_from (k + 1) ((l.name, n) ∷ own) s1 ≡ total
+    pub passes_on : (n : ℤ) (s1 : ReaderState) → read (number_of_value (kind_layout kind)) s ≡ Ok (n, s1) → passes_from k own s ≡ total → passes_from (k + 1) ((l.name, n) ∷ own) s1 ≡ total
     unfolding columns_values
     passes_on n s1 h so_far =
-        let there = was_said (read (kind_layout kind) s) n s1 h in
+        let there = step_as-ok said_by (read (kind_layout kind) s) n s1 h in
         let v = there.0 in
         let first : read (kind_value (object_of depth_limit classes) [] kind) s ≡ Ok (v, s1) = one ∙ there.1 in
         let rest = read (columns_values classes (map leaf_column (drop (k + 1) ls)) (drop 1 (drop k counts)) ((l.name, said_by v) ∷ own)) s1 in
-        let split : passes_from k own s ≡ unkept rest = rw (leaf, first) (unkept_more (λ (vs : List Value). v ∷ vs) rest) in
+        let split : passes_from k own s ≡ unkept rest = rw (leaf, first) (step_as-twice (λ (vs : List Value). v ∷ vs) (λ vs. tt) rest) in
         ap (λ (m : ℤ). passes_from (k + 1) ((l.name, m) ∷ own) s1) (sym there.2)
         ∙ ap (λ (cs : List Value). read (pass_of (columns_values classes (map leaf_column (drop (k + 1) ls)) cs ((l.name, said_by v) ∷ own))) s1) (sym (drop_next counts k))
         ∙ sym split
         ∙ so_far
 
-    pub passes_fail : (d : ObjFault) → read (saying (kind_layout kind)) s ≡ Err d → passes_from k own s ≡ total → total ≡ Err d
+    pub passes_fail : (d : ObjFault) → read (number_of_value (kind_layout kind)) s ≡ Err d → passes_from k own s ≡ total → total ≡ Err d
     unfolding columns_values
     passes_fail d h so_far =
-        let there = was_fault (read (kind_layout kind) s) d h in
+        let there = step_as-err said_by (read (kind_layout kind) s) d h in
         let first : read (kind_value (object_of depth_limit classes) [] kind) s ≡ Err d = one ∙ there in
         let split : passes_from k own s ≡ Err d = rw (leaf, first) refl in
         sym so_far ∙ split
@@ -116,14 +99,10 @@ list_says : (vs : List Value) → said_by (Items vs) ≡ said_by Null
 list_says vs = ap number_in (ap out-Value (sym (rolls-List vs)) ∙ out-roll-Value (layer.List vs)) ∙ sym (ap number_in (ap out-Value (sym rolls-Null) ∙ out-roll-Value layer.Null))
 
 module _ (of : Primitive) (count n m : ℕ) (s : ReaderState) (e : n ≡ min count most_values) (f : m ≡ min n (length s.at.rest + 1)) (few : length s.at.rest < most_values) where
-  pub list_is_passed : (s1 : ReaderState) → read (pass_of (times m (number_value of))) s ≡ Ok (tt, s1) → read (saying (numbers of count)) s ≡ Ok (said_by Null, s1)
+  pub list_is_passed : (s1 : ReaderState) → read (pass_of (times m (number_value of))) s ≡ Ok (tt, s1) → read (number_of_value (numbers of count)) s ≡ Ok (said_by Null, s1)
   list_is_passed s1 h =
-      let there = was_there (read (times m (number_value of)) s) s1 h in
+      let there = step_as-ok (λ vs. tt) (read (times m (number_value of)) s) tt s1 h in
       rw (list_is_read of count n m s e f few there.0 s1 there.1) (ap (λ (n : ℤ). let r : Step ℤ = Ok (n, s1) in r) (list_says there.0))
 
-  pub list_breaks : (d : ObjFault) → read (pass_of (times m (number_value of))) s ≡ Err d → read (saying (numbers of count)) s ≡ Err d
-  list_breaks d h = rw (list_fails of count n m s e f few d (no_list (read (times m (number_value of)) s) d h)) refl
-    where
-      no_list : (r : Step (List Value)) (g : ObjFault) → unkept r ≡ Err g → r ≡ Err g
-      no_list (Ok x) g i = absurd cc
-      no_list (Err h) g i = cc
+  pub list_breaks : (d : ObjFault) → read (pass_of (times m (number_value of))) s ≡ Err d → read (number_of_value (numbers of count)) s ≡ Err d
+  list_breaks d h = rw (list_fails of count n m s e f few d (step_as-err (λ vs. tt) (read (times m (number_value of)) s) d h)) refl

@@ -1,5 +1,5 @@
 -- The values of leaves, by cases on the leaf and the value, without classes: what fits, and its bytes.
-use Rattle.std.specs.Prelude.{ℕ, ℤ, List, [], ◌∷◌, ◌++◌, codes, drop, length, Bool, true, false, ◌&&◌, ◌==◌, Option, Some, None, if◌then◌else◌}
+use Rattle.std.specs.Prelude.{ℕ, ℤ, List, [], ◌∷◌, ◌++◌, codes, drop, length, map, Bool, true, false, ◌&&◌, ◌==◌, Option, Some, None, if◌then◌else◌}
 use Rattle.std.specs.List.{flat_map, list_all, list_any}
 use Rattle.std.specs.Str.{bytes_eq}
 use Rattle.byteorder.specs.Endian.{big_bytes}
@@ -21,7 +21,7 @@ use Rattle.rio_types.specs.declared.kind.Kind.{Kind}
 use Rattle.rio_types.specs.declared.kind.Kind.TheVariants.{Plain, Fixed, Text as Texted}
 use Rattle.rio_types.specs.declared.kind.Primitive.{Primitive}
 use Rattle.rio_value.specs.declared.value.Part.{Part}
-use Rattle.rio_value.specs.declared.value.Value.{Value, out-Value}
+use Rattle.rio_value.specs.declared.value.Value.{Value, out-Value, Int as Integer}
 use Rattle.rio_value.specs.declared.value.Value.TheOpen.{Value-F, Int, Bits32, Bits64, Bool as Truth, Text, List as Items}
 use Rattle.rio_entry.specs.Entries.{counter_saying, given_count, said_count}
 
@@ -119,8 +119,16 @@ abbrev pub said_by : Value → ℤ
 said_by v = number_in (out-Value v)
 
 -- what stands there, of which no more is kept than the number that it says
-abbrev pub saying : ObjLayout Value → ObjLayout ℤ
-saying l = l >>= λ v. done (said_by v)
+abbrev pub number_of_value : ObjLayout Value → ObjLayout ℤ
+number_of_value l = l >>= λ v. done (said_by v)
+
+-- a value in whose place stands only the number that it says
+abbrev pub number_alone : Value → Value
+number_alone v = Integer (said_by v)
+
+-- values that stand there, of each of which no more is kept
+abbrev pub numbers_of_values : ObjLayout (List Value) → ObjLayout (List Value)
+numbers_of_values l = l >>= λ vs. done (map number_alone vs)
 
 -- whether a leaf of the dimension is counted by a leaf
 abbrev pub is_by_counter : Dim → Bool

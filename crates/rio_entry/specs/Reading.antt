@@ -1,5 +1,5 @@
 -- Entries are read: what stands in the bytes of an entry, from left to right.
-use Rattle.std.specs.Prelude.{◌≡◌, ◌⊎◌, ◌<◌, ℕ, List, [], ◌∷◌, ◌++◌, drop, length, ◌==◌, Result, Ok, Err, if◌then◌else◌}
+use Rattle.std.specs.Prelude.{◌≡◌, ◌⊎◌, ◌<◌, ℕ, List, [], ◌∷◌, ◌++◌, drop, length, map, ◌==◌, Result, Ok, Err, if◌then◌else◌}
 use Rattle.std.specs.Result.{result_map_both}
 use Rattle.rio_leaf.specs.declared.branch.Shape.{Shape}
 use Rattle.rio_num.specs.Layout.{done, ◌>>=◌}
@@ -14,6 +14,7 @@ use Rattle.rio_types.specs.declared.class.ClassDef.{ClassDef}
 use Rattle.rio_value.specs.declared.value.Value.{Value}
 use Rattle.rio_entry.specs.Entries.{counters_for, given_count}
 use Rattle.rio_entry.specs.Faults.{entry_fault}
+use Rattle.rio_entry.specs.Leaves.{number_alone}
 use Rattle.rio_entry.specs.declared.fault.EntryFault.{EntryFault}
 use Rattle.rio_entry.specs.declared.fault.EntryFault.TheVariants.{BadEntry}
 
@@ -47,6 +48,10 @@ entry_in classes shape counts bytes = only_values (read (entry_values classes sh
 -- Whether the bytes are an entry, or the place of the first part that breaks: the same, with no value kept.
 abbrev pub entry_checked : List ClassDef → Shape → List Value → List ℕ → Result (Unit {0}) EntryFault
 entry_checked classes shape counts bytes = result_map_both (λ row. tt) (λ e. e) (entry_in classes shape counts bytes)
+
+-- What the values that the bytes of an entry are say, each a number alone, or the place of the first part that breaks.
+abbrev pub numbers_of_entry : List ClassDef → Shape → List Value → List ℕ → Result (List Value) EntryFault
+numbers_of_entry classes shape counts bytes = result_map_both (λ row. map number_alone row) (λ e. e) (entry_in classes shape counts bytes)
 
 -- ---- as relations
 

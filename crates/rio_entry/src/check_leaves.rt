@@ -11,7 +11,7 @@ ghost use Rattle.rio_types.specs.declared.class.ClassDef.{ClassDef as Class};
 ghost use Rattle.rio_value.specs.declared.value.Value.{Value as Given};
 ghost use Rattle.rio_entry.specs.Bounds.{most_values};
 ghost use Rattle.rio_entry.specs.Entries.{counter_saying};
-ghost use Rattle.rio_entry.specs.Leaves.{is_any_counted, is_by_counter, kind_layout, said_by, saying, without_number};
+ghost use Rattle.rio_entry.specs.Leaves.{is_any_counted, is_by_counter, kind_layout, said_by, number_of_value, numbers_of_values, without_number};
 ghost use Rattle.rio_entry.specs.Reading.{entry_values};
 
 use crate::leaf::{given_count, letter_kind, said_count};
@@ -25,7 +25,7 @@ use std::alloc::Global;
 // A list of values is passed over. No more are than there are bytes, and one, which is then not there.
 fn pass_list(reader: &mut ObjReader, of: Prim, n: u128) -> Result<Value, ObjFault>
     ensures exact { (count : ℕ) → n ≡ min count most_values
-        → ReadsAs (λ v. said_by v) result (read (saying (numbers of count)) reader.old)
+        → ReadsAs (λ v. said_by v) result (read (number_of_value (numbers of count)) reader.old)
         reader.new }
     ensures goes { GoesOn reader.old.at reader.new.at }
 {
@@ -42,7 +42,7 @@ fn pass_counted(
     count: i128,
 ) -> Result<Value, ObjFault>
     ensures exact { ReadsAs (λ v. said_by v) result
-        (read (saying (kind_layout (counted_leaf_kind of times (Some count)))) reader.old)
+        (read (number_of_value (kind_layout (counted_leaf_kind of times (Some count)))) reader.old)
         reader.new }
     ensures goes { GoesOn reader.old.at reader.new.at }
 {
@@ -57,7 +57,7 @@ fn pass_counted(
 
 fn pass_sized(reader: &mut ObjReader, of: Prim, dim: &Dim, count: i128) -> Result<Value, ObjFault>
     ensures exact { ReadsAs (λ v. said_by v) result
-        (read (saying (kind_layout (sized_kind (counter_saying dim.now count) of dim.now)))
+        (read (number_of_value (kind_layout (sized_kind (counter_saying dim.now count) of dim.now)))
         reader.old) reader.new }
     ensures goes { GoesOn reader.old.at reader.new.at }
 {
@@ -70,7 +70,7 @@ fn pass_sized(reader: &mut ObjReader, of: Prim, dim: &Dim, count: i128) -> Resul
 
 #[tactic(auto, unfolding(rio_format::specs::Objects::text_value))]
 fn pass_text(reader: &mut ObjReader) -> Result<Value, ObjFault>
-    ensures exact { ReadsAs (λ v. said_by v) result (read (saying text_value) reader.old)
+    ensures exact { ReadsAs (λ v. said_by v) result (read (number_of_value text_value) reader.old)
         reader.new }
     ensures goes { GoesOn reader.old.at reader.new.at }
 {
@@ -80,7 +80,7 @@ fn pass_text(reader: &mut ObjReader) -> Result<Value, ObjFault>
 
 fn pass_without_number(reader: &mut ObjReader, letter: u8) -> Result<Value, ObjFault>
     ensures exact { ReadsAs (λ v. said_by v) result
-        (read (saying (kind_layout (without_number letter))) reader.old) reader.new }
+        (read (number_of_value (kind_layout (without_number letter))) reader.old) reader.new }
     ensures goes { GoesOn reader.old.at reader.new.at }
 {
     if letter == b'C' {
@@ -96,7 +96,7 @@ fn pass_without_number(reader: &mut ObjReader, letter: u8) -> Result<Value, ObjF
 // single integer.
 fn pass_leaf(reader: &mut ObjReader, leaf: &Leaf, count: i128) -> Result<Value, ObjFault>
     ensures exact { ReadsAs (λ v. said_by v) result
-        (read (saying (kind_layout (leaf_kind (counter_saying leaf.now.dim count) leaf.now)))
+        (read (number_of_value (kind_layout (leaf_kind (counter_saying leaf.now.dim count) leaf.now)))
         reader.old) reader.new }
     ensures goes { GoesOn reader.old.at reader.new.at }
 {
@@ -131,15 +131,16 @@ fn pass_leaves(reader: &mut ObjReader, leaves: &[Leaf]) -> Result<(), ObjFault>
     Ok(())
 }
 
-// Leaves of which some may be counted by earlier ones, so that the numbers of those are kept.
-fn pass_counting(
+/// Passes over the values of leaves, of which some may be counted by earlier ones, and keeps the number that each says, which
+/// is 0 of all but a single integer.
+pub(crate) fn pass_counting(
     alloc: Global,
     reader: &mut ObjReader,
     leaves: &[Leaf],
     counts: &[Value],
-) -> Result<(), ObjFault>
+) -> Result<Values, ObjFault>
     ensures exact { (classes : List Class) → ReadsAs (λ x. x) result
-        (read (pass_of (entry_values classes (Leafy leaves.now) counts.now)) reader.old)
+        (read (numbers_of_values (entry_values classes (Leafy leaves.now) counts.now)) reader.old)
         reader.new }
     ensures goes { GoesOn reader.old.at reader.new.at }
 {
@@ -147,9 +148,10 @@ fn pass_counting(
     for (k, leaf) in leaves.iter().enumerate() {
         let given = given_count(counts, k);
         let count = said_count(&leaf.dim, given, &leaves[..k], kept.as_slice());
-        kept.push(pass_leaf(reader, leaf, count)?)?;
+        let value = pass_leaf(reader, leaf, count)?;
+        kept.push(Value::Int(value.number()))?;
     }
-    Ok(())
+    Ok(kept)
 }
 
 /// Passes over the values of leaves, one behind the other.
@@ -165,7 +167,8 @@ pub(crate) fn check_leaves(
     ensures goes { GoesOn reader.old.at reader.new.at }
 {
     if is_any_counted(leaves) {
-        pass_counting(alloc, reader, leaves, counts)
+        pass_counting(alloc, reader, leaves, counts)?;
+        Ok(())
     } else {
         pass_leaves(reader, leaves)
     }

@@ -2,10 +2,12 @@
 //!
 //! A branch has leaves, whose values stand one behind the other, or one object of a class. [`write_entry`] writes the
 //! values of a row that belong to the branch, or tells that they don't fit or are too long; [`read_entry`] reads them, or
-//! tells the place of the first part that breaks. [`check_entry`] tells only that place, and makes no value. What is
-//! written is read ([`written_entries_are_read`]), and the entry of a branch is a part of a tree's row
-//! ([`entry_is_part_of_row`]). [`read_row`] reads a whole row of one entry for each branch, and [`broken_branch`] tells
-//! the first branch whose entry breaks; what is written for a row is read ([`written_rows_are_read`]).
+//! tells the place of the first part that breaks. [`check_entry`] tells only that place, and [`entry_numbers`] one number
+//! for each leaf besides: what it says where it is a single integer, and else 0. Beyond such numbers, by which leaves are
+//! counted, neither makes a value of the row. What is written is read ([`written_entries_are_read`]), and the entry of a
+//! branch is a part of a tree's row ([`entry_is_part_of_row`]).
+//! [`read_row`] reads a whole row of one entry for each branch, and [`broken_branch`] tells the first branch whose entry
+//! breaks; what is written for a row is read ([`written_rows_are_read`]).
 //! `specs/Entries.antt` has what fits and the bytes, `specs/Reading.antt` what stands in the bytes, `specs/Rows.antt` rows,
 //! `specs/Faults.antt` the refusals, `specs/Laws.antt` the laws of entries. `specs/Leaves.antt` and `specs/Bounds.antt` say
 //! of leaves alone what the code does.
@@ -13,6 +15,7 @@
 
 mod check;
 mod check_leaves;
+mod count;
 mod fault;
 mod fit;
 mod laws;
@@ -26,6 +29,7 @@ mod row;
 mod write;
 
 pub use check::check_entry;
+pub use count::entry_numbers;
 pub use fault::EntryFault;
 pub use laws::{
     broken_rows_have_a_branch, entries_have_one_answer, entry_is_part_of_row,

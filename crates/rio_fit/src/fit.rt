@@ -12,7 +12,7 @@ ghost use Rattle.rio_fit.specs.Fitting.{IsCounterValue, counter_fits, Tells, par
 use crate::derive::{Owner, is_pointer, may_point};
 use crate::fit_numbers::{bits32_fits, bits64_fits, int_fits, text_fits, truth_fits};
 use rio_format::{Counters, Field, Fields, Slot, SlotKind, fields_of};
-use rio_num::{Items, Name, NoMemory};
+use rio_num::{Items, NoMemory};
 use rio_types::Classes;
 use rio_value::{Part, Value};
 use std::alloc::Global;
@@ -68,11 +68,10 @@ fn object_may_stand(class: &[u8], version: i32, slot: &Slot) -> bool
 }
 
 // Whether a value is a counter, which counts by the name from then on.
-fn counter_fits(
-    alloc: Global,
-    name: &[u8],
+fn counter_fits<'a>(
+    name: &'a [u8],
     value: &Value,
-    counters: &mut Counters,
+    counters: &mut Counters<'a>,
 ) -> Result<bool, NoMemory>
     ensures { (classes : List Class) (owners : Labels) →
         Tells result (counter_fits name.now (fitting_of classes value.now) counters.old owners)
@@ -80,7 +79,7 @@ fn counter_fits(
 {
     match counter_in(value) {
         Some(said) => {
-            counters.note(Name::from_slice(alloc, name)?, said)?;
+            counters.note(name, said)?;
             Ok(true)
         }
         None => Ok(false),
@@ -89,12 +88,12 @@ fn counter_fits(
 
 // Whether a part fits in the field, behind these counters.
 #[cycle(fit)]
-fn part_fits<'a>(
+fn part_fits<'a, 'b>(
     alloc: Global,
     classes: &Classes,
-    field: &Field,
+    field: &Field<'b>,
     part: &'a Part,
-    counters: &mut Counters,
+    counters: &mut Counters<'b>,
     owners: &mut Owners<'a>,
 ) -> Result<bool, NoMemory>
     ensures { Tells result
@@ -106,7 +105,7 @@ fn part_fits<'a>(
     }
     let slot = &field.slot;
     match slot.0 {
-        SlotKind::Counter => counter_fits(alloc, field.name, &part.value, counters),
+        SlotKind::Counter => counter_fits(field.name, &part.value, counters),
         _ => {
             let slot = counted_slot(counters, slot);
             value_fits(alloc, classes, &part.value, &slot, owners)

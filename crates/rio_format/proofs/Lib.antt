@@ -5,6 +5,7 @@ pub mod Closed
 pub mod Composed
 pub mod ComposedLengths
 pub mod ComposedSpells
+mod CounterLaws
 pub mod Examples
 pub mod FaultExamples
 pub mod FieldLaws
@@ -18,6 +19,7 @@ pub mod WrittenFields
 pub mod WrittenLists
 pub mod WrittenNumbers
 pub mod WrittenObjects
+pub mod WrittenParts
 pub mod WrittenPlaces
 pub mod WrittenPointers
 pub mod WrittenValues

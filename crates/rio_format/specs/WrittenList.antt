@@ -15,9 +15,9 @@ number_part name number = part name (Int (pos number))
 unfoldable pub plain_object : Value
 plain_object = Object (codes "TObject") (pos 1) (number_part (codes "fUniqueID") 0 ∷ number_part (codes "fBits") 0 ∷ [])
 
--- a TNamed, without a title
-unfoldable pub named_object : List ℕ → Value
-named_object name = Object (codes "TNamed") (pos 1) (part [] plain_object ∷ part (codes "fName") (Text name) ∷ part (codes "fTitle") (Text []) ∷ [])
+-- a TNamed
+unfoldable pub titled_object : List ℕ → List ℕ → Value
+titled_object name title = Object (codes "TNamed") (pos 1) (part [] plain_object ∷ part (codes "fName") (Text name) ∷ part (codes "fTitle") (Text title) ∷ [])
 
 -- ---- elements
 
@@ -28,7 +28,7 @@ index_list count = Items (Int (pos count) ∷ Int (pos 0) ∷ Int (pos 0) ∷ In
 -- what an element says as a TStreamerElement
 unfoldable pub element_parts : WrittenElement → List Part
 element_parts e =
-    part [] (named_object e.name) ∷ part (codes "fType") (Int e.code) ∷ number_part (codes "fSize") e.size ∷ number_part (codes "fArrayLength") e.count
+    part [] (titled_object e.name []) ∷ part (codes "fType") (Int e.code) ∷ number_part (codes "fSize") e.size ∷ number_part (codes "fArrayLength") e.count
     ∷ number_part (codes "fArrayDim") e.dimensions ∷ part (codes "fMaxIndex") (index_list e.count) ∷ part (codes "fTypeName") (Text e.type_name) ∷ []
 
 -- an object of the element's own class, with what that class adds
@@ -49,7 +49,7 @@ array_object items = Object (codes "TObjArray") (pos 3) (part [] plain_object �
 -- a class with a pointer to its elements
 unfoldable pub info_object : ClassDef → Value → Value
 info_object c elements =
-    Object (codes "TStreamerInfo") (pos 9) (part [] (named_object c.name) ∷ number_part (codes "fCheckSum") c.sum ∷ part (codes "fClassVersion") (Int c.version) ∷ part (codes "fElements") elements ∷ [])
+    Object (codes "TStreamerInfo") (pos 9) (part [] (titled_object c.name []) ∷ number_part (codes "fCheckSum") c.sum ∷ part (codes "fClassVersion") (Int c.version) ∷ part (codes "fElements") elements ∷ [])
 
 -- the pointer to a class, which has this label; its elements have the next ones
 unfoldable pub class_pointer : List ClassDef → ℕ → ClassDef → Value

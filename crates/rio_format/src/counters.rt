@@ -1,60 +1,66 @@
 //! The counters of an object, and what the last one of a name says.
 ghost use Rattle.std.specs.Prelude.{◌≡◌, ℕ, List, if◌then◌else◌, Some, OnOk, OnErr};
+ghost use Rattle.std.specs.Map.{lookup};
 ghost use Rattle.std.specs.Str.{bytes_eq};
-ghost use Rattle.rio_format.specs.Counts.{number_in_map};
+ghost use Rattle.rio_format.specs.Counts.{last_first, number_by_name};
 
-use rio_num::{Name, NoMemory};
+use rio_num::NoMemory;
+use smallvec::SmallVec;
 use std::alloc::Global;
-use std::collections::{BTreeMap, VecDeque};
+use std::collections::BTreeMap;
 use std::marker::Model;
 
-type Numbers = BTreeMap<Vec<u8>, i32>;
+// So many counters, which most objects don't pass, take no memory, and are searched one by one.
+const FEW: usize = 4;
 
-/// The counters of an object that were met, and what they say, the last one first.
+type Numbers<'a> = BTreeMap<&'a [u8], i32>;
+
+/// The counters of an object that were met, and what they say, the last one first. Their names lie elsewhere.
 #[derive(Drop)]
-pub struct Counters {
-    alloc: Global,
-    // All of them, the last one first.
-    met: VecDeque<(Name, i32)>,
-    // A name to what the last counter of that name says.
-    numbers: Numbers,
+pub struct Counters<'a> {
+    // All of them, the first one first.
+    met: SmallVec<(&'a [u8], i32), FEW>,
+    // Behind the first few, a name to what the last counter of that name says.
+    numbers: Numbers<'a>,
 }
 
-impl Model for Counters {
-    ghost use Rattle.std.specs.Prelude.{ℕ, ℤ, List};
-    ghost use Rattle.rio_format.specs.Counts.{SaysAsFirst};
+impl<'a> Model for Counters<'a> {
+    ghost use Rattle.std.specs.Prelude.{ℕ, ℤ, List, drop};
+    ghost use Rattle.rio_format.specs.Counts.{SaysAsLast, last_first};
 
     ghost Value = { List (List ℕ × ℤ) };
 
-    ghost view = { λ counters. counters.met.items };
+    ghost view = { λ counters. last_first counters.met.items };
 
-    ghost invariant = { λ counters. SaysAsFirst counters.numbers counters.met.items };
+    ghost invariant = { λ counters. SaysAsLast counters.numbers (drop 4 counters.met.items) };
 }
 
-impl Counters {
+impl<'a> Counters<'a> {
     ghost use Rattle.std.specs.Prelude.{◌≡◌, [], ◌∷◌, OnOk};
     ghost use Rattle.std.specs.Map.{lookup};
     ghost use Rattle.std.specs.Str.{bytes_eq};
     ghost use Rattle.rio_format.specs.Bodies.{count_by};
 
     /// No counters.
-    pub fn new(alloc: Global) -> Counters
+    pub fn new(alloc: Global) -> Counters<'a>
         ensures { result ≡ [] }
     {
         Counters {
-            alloc,
-            met: VecDeque::new(alloc),
+            met: SmallVec::new(alloc),
             numbers: Numbers::new(alloc),
         }
     }
 
     /// One more counter of this name, which says the number.
-    pub fn note(&mut self, name: Name, said: i32) -> Result<(), NoMemory>
-        ensures { OnOk result (self.new ≡ (name, said) ∷ self.old) }
+    #[tactic(auto, using(crate::proofs::CounterLaws::few_more, crate::proofs::CounterLaws::many_more, crate::proofs::CounterLaws::last_is_first))]
+    pub fn note(&mut self, name: &'a [u8], said: i32) -> Result<(), NoMemory>
+        ensures { OnOk result (self.new ≡ (name.now, said) ∷ self.old) }
     {
         self.met.reserve(1)?;
-        put_number(&mut self.numbers, self.alloc, name.as_slice(), said)?;
-        self.met.push_front((name, said))?;
+        if self.met.len() >= FEW {
+            put_number(&mut self.numbers, name, said)?;
+        }
+        self.met.push((name, said))?;
         Ok(())
     }
 
@@ -69,19 +75,39 @@ impl Counters {
     pub fn said(&self, name: &[u8]) -> Option<i32>
         ensures { result ≡ lookup (bytes_eq name.now) self.now }
     {
-        self.numbers.get(name).copied()
+        match self.numbers.get(name).copied() {
+            Some(said) => Some(said),
+            None => {
+                let met = self.met.as_slice();
+                last_said(&met[..FEW.min(met.len())], name)
+            }
+        }
     }
 }
 
+// What the last of these counters says that has the name, if one has it.
+#[tactic(auto, using(crate::proofs::CounterLaws::said_on))]
+fn last_said(counters: &[(&[u8], i32)], name: &[u8]) -> Option<i32>
+    ensures { result ≡ lookup (bytes_eq name.now) (last_first counters.now) }
+{
+    let mut said = None;
+    for counter in counters {
+        if name == counter.0 {
+            said = Some(counter.1);
+        }
+    }
+    said
+}
+
 // The name leads to the number from now on.
-fn put_number(numbers: &mut Numbers, alloc: Global, name: &[u8], said: i32) -> Result<(), NoMemory>
+fn put_number<'a>(numbers: &mut Numbers<'a>, name: &'a [u8], said: i32) -> Result<(), NoMemory>
     ensures ok { OnOk result
         ((q : List ℕ) →
-        number_in_map numbers.new q
-        ≡ (if bytes_eq q name.now then Some said else number_in_map numbers.old q)) }
+        number_by_name numbers.new q
+        ≡ (if bytes_eq q name.now then Some said else number_by_name numbers.old q)) }
     ensures err { OnErr result
-        ((q : List ℕ) → number_in_map numbers.new q ≡ number_in_map numbers.old q) }
+        ((q : List ℕ) → number_by_name numbers.new q ≡ number_by_name numbers.old q) }
 {
-    numbers.insert(Vec::from_slice(alloc, name)?, said)?;
+    numbers.insert(name, said)?;
     Ok(())
 }

@@ -1,6 +1,7 @@
 //! What bytes of a file mean: definitions that contracts cite, laws about them, and the types that they speak of.
 //! Beside them stands what objects of a class consist of: their shapes, bodies and parts, and which classes are
-//! among their bases.
+//! among their bases. A [`PartList`] makes the parts of an object, and
+//! [`titled_object`], [`array_object`] and [`list_object`] make objects of built-in classes with it.
 #![tactic(auto)]
 
 mod base_set;
@@ -10,6 +11,7 @@ mod built_in;
 mod counters;
 mod laws;
 mod lists;
+mod part_list;
 mod shape;
 mod slot;
 mod width;
@@ -24,6 +26,7 @@ pub use laws::{
     one_answer, read_is_spelled, spelled_is_read, written_is_spelled,
 };
 pub use lists::ClassLists;
+pub use part_list::{PartList, array_object, list_object, part_with, titled_object};
 pub use rio_buffer::{Header, ObjFault, PointerWord};
 pub use shape::{Shape, shape_of};
 pub use slot::{Field, Fields, FieldsKind, Slot, SlotKind, body_fields, fields_of};

@@ -11,7 +11,7 @@ use Rattle.rio_host.specs.declared.call.Call.TheVariants.{Sync, Saying, Said}
 use Rattle.rio_host.specs.declared.change.Change.{Change}
 use Rattle.rio_host.specs.declared.disk.Disk.{Disk}
 use Rattle.rio_host.specs.Replay.{Makes, Flown, at_first, disk_behind, replay, MayLeave, Memory, and_then, disk_of, IsStill}
-use Rattle.rio_host.specs.ReplayLaws.{flown_push, sound, left_now, now_left}
+use Rattle.rio_host.specs.ReplayLaws.{flown_push, makes_same, sound, left_now, now_left}
 use Rattle.rio_host.specs.Memory.{mem_view, text_now}
 use Rattle.rio_host.proofs.Kept.{disk_of-and_then}
 use Rattle.rio_host.proofs.Moments.{elapses_join}
@@ -71,6 +71,16 @@ module _ (m : Memory) (call : Call) (change : Change) (contents : List ℕ)
   change_flies d s r d' s' r' image said after =
       let old = left_now m after.0 said after.1 in
       now_left m' image said (subst (λ (x : Disk). MayLeave x image said) (sym now) (flown_push (disk_of m).base (disk_of m).flight change after.0 image old.0 after.2, old.1))
+
+-- one that found no memory
+pub change_none : (change : Change) (m m' : Memory) (d s r d' r' : ℕ) → m' ≡ m → d ≤ d' → OnDisk (Makes change) (mem_view m d s r) (mem_view m' d' s r')
+change_none change m m' d s r d' r' is le = subst (λ (x : Memory). OnDisk (Makes change) (mem_view m d s r) (mem_view x d' s r')) (sym is) (record {
+  time = record { later = omega arith; nothing_else = λ t i s le left. inl left; keeps = λ t i s le left. left };
+  told = ((disk_of m).contents, refl, makes_same change (disk_of m).contents);
+  said = refl;
+  disk_faults = le;
+  say_faults = refl;
+})
 
 -- ---- a sync that succeeded
 

@@ -1,4 +1,4 @@
--- Bytes at places of a file, and files that are told: laws of the disk model for a chain of records, which nothing cites yet.
+-- Bytes at places of a file, and files that are told: laws of the disk model.
 use Rattle.std.proofs.Common.{◌≡◌, ◌⊎◌, inl, inr, ℕ, zero, suc, ◌+◌, ◌<◌, ◌≤◌, List, [], ◌∷◌, ◌++◌, length, get_or, Option, Some, None, subst, sym, refl, ap, ◌∙◌, arith}
 use Rattle.std.proofs.lemmas.Option.{slice_get_within, slice_get-get_or, none-some, same_Some}
 use Rattle.std.specs.List.{slice_get}

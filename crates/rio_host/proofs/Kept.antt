@@ -1,10 +1,10 @@
 -- One call more joins those that are recorded, and what is kept is again that of the disk.
 use Rattle.std.proofs.Common.{◌≡◌, ℕ, List, [], ◌∷◌, ◌++◌, refl, sym, ◌∙◌, ap}
-use Rattle.byteorder.specs.Endian.{big_bytes}
 use Rattle.rio_host.specs.declared.call.Call.{Call}
-use Rattle.rio_host.specs.declared.call.Call.TheVariants.{Write, Word, FailedWrite, FailedWord, Sync, Saying, Said}
+use Rattle.rio_host.specs.declared.call.Call.TheVariants.{Write, FailedWrite, Sync, Saying, Said}
+use Rattle.rio_host.specs.declared.change.Change.{Change}
 use Rattle.rio_host.specs.declared.disk.Disk.{Disk}
-use Rattle.rio_host.specs.Replay.{put_at, at_first, disk_behind, replay, Memory, and_then, disk_of}
+use Rattle.rio_host.specs.Replay.{put_by, at_first, disk_behind, replay, Memory, and_then, disk_of}
 use Rattle.rio_host.specs.Memory.{IsKept}
 
 replay_push : (d : Disk) (calls : List Call) (call : Call) → replay d (calls ++ call ∷ []) ≡ disk_behind (replay d calls) call
@@ -26,17 +26,11 @@ module _ (first : List ℕ) (calls : List Call) (held text : List ℕ) (kept : I
       let now : disk_of after ≡ disk_behind (disk_of before) call = ap (λ (l : List Call). replay (at_first first) l) is ∙ disk_of-and_then before call in
       record { contents = contents ∙ ap (λ (d : Disk). d.contents) (sym now); said = said ∙ ap (λ (d : Disk). d.text) (sym now) }
 
-  pub kept_write : (place : ℕ) (bytes held' : List ℕ) → calls' ≡ calls ++ Write place bytes ∷ [] → held' ≡ put_at (disk_of before).contents place bytes → IsKept after held' text
-  kept_write place bytes held' is put = kept_call (Write place bytes) held' text is put kept.said
+  pub kept_write : (change : Change) (held' : List ℕ) → calls' ≡ calls ++ Write change ∷ [] → held' ≡ put_by change (disk_of before).contents → IsKept after held' text
+  kept_write change held' is put = kept_call (Write change) held' text is put kept.said
 
-  pub kept_word : (place word : ℕ) (held' : List ℕ) → calls' ≡ calls ++ Word place word ∷ [] → held' ≡ put_at (disk_of before).contents place (big_bytes 4 word) → IsKept after held' text
-  kept_word place word held' is put = kept_call (Word place word) held' text is put kept.said
-
-  pub kept_failed_write : (place : ℕ) (bytes : List ℕ) → calls' ≡ calls ++ FailedWrite place bytes ∷ [] → IsKept after held text
-  kept_failed_write place bytes is = kept_call (FailedWrite place bytes) held text is kept.contents kept.said
-
-  pub kept_failed_word : (place word : ℕ) → calls' ≡ calls ++ FailedWord place word ∷ [] → IsKept after held text
-  kept_failed_word place word is = kept_call (FailedWord place word) held text is kept.contents kept.said
+  pub kept_failed_write : (change : Change) → calls' ≡ calls ++ FailedWrite change ∷ [] → IsKept after held text
+  kept_failed_write change is = kept_call (FailedWrite change) held text is kept.contents kept.said
 
   pub kept_sync : calls' ≡ calls ++ Sync ∷ [] → IsKept after held text
   kept_sync is = kept_call Sync held text is kept.contents kept.said

@@ -1,13 +1,23 @@
 -- A text that is said piece by piece, with calls between that only look at the file.
-use Rattle.std.proofs.Common.{◌≡◌, ◌⊎◌, ◌++◌, ◌+◌, [], take, length, ap, None, inl, inr, ⊎_elim, ℕ, ◌≤◌, min, List, Option, Some, Result, Ok, Err, subst, sym, ◌∙◌, append_assoc, arith}
+use Rattle.std.proofs.Common.{◌≡◌, ◌⊎◌, ◌++◌, ◌+◌, [], take, length, ap, inl, inr, ⊎_elim, ℕ, ◌≤◌, min, List, Option, Some, Result, Ok, Err, subst, sym, ◌∙◌, append_assoc, arith}
 use Rattle.std.proofs.lemmas.List.{append-nil, take_min, take-append-le}
 use Rattle.std.proofs.Math.Seq.{take-append-add}
 use Rattle.rio_host.specs.Host.{View, Leaves, Elapses, IsLawful, Speaking, Unwritten, Becomes, Longer, LongerByPart}
-use Rattle.rio_host.specs.OnlyReads.{Grown, OnlyReads, OnlySaysPieces, Says, SaysPieces}
+use Rattle.rio_host.specs.OnlyReads.{Grown, OnlyReads, OnlySaysPieces, Pieces, Says, SaysPieces}
+use Rattle.rio_host.specs.Image.{Same}
+use Rattle.rio_host.proofs.Images.{becomes_as, becomes_join, becomes_some, same_becomes}
 use Rattle.rio_host.proofs.ReadsLaws.{reads_says, speaks_unwritten, said_grows, said_all}
 
 abbrev Texts : Type 0
 Texts = List ℕ → List ℕ
+
+-- how much of a text was said
+abbrev Extents : Type 1
+Extents = List ℕ → List ℕ → List ℕ → Type 0
+
+-- how many calls on the text failed
+abbrev Faults : Type 1
+Faults = ℕ → ℕ → Type 0
 
 -- ---- one piece
 
@@ -19,36 +29,20 @@ reads_pieces {old} {new} calls =
       holds = calls.holds;
       images = says.images;
       text = says.text;
-      whole = λ file told. nothing_longer old.said new.said calls.said;
+      part = λ file told. becomes_as Same (Longer []) old.said new.said (λ x y same. same ∙ sym (append-nil x)) (same_becomes old.said new.said calls.said);
       time = λ file said told text. says.time file told;
       reads = calls.reads;
       disk_faults = calls.disk_faults;
       say_faults = calls.say_faults;
     }
-  where
-    nothing_longer : (a b : Option (List ℕ)) → b ≡ a → Becomes (Longer []) a b
-    nothing_longer (Some s) b same = (s, same, sym (append-nil s))
-    nothing_longer None b same = same
 
 -- the same text in other words
-pub pieces_as : {old new : View} (f g : Texts) → ((file : List ℕ) → old.holds ≡ Some file → f file ≡ g file) → SaysPieces f old new → SaysPieces g old new
-pieces_as {old} {new} f g same says = record {
+pub pieces_as : {extent : Extents} {faults : Faults} {old new : View} (f g : Texts) → ((file : List ℕ) → old.holds ≡ Some file → f file ≡ g file) → Pieces extent faults f old new → Pieces extent faults g old new
+pieces_as {extent} {faults} {old} {new} f g same says = record {
   holds = says.holds;
   images = says.images;
   text = says.text;
-  whole = λ file told. subst (λ (t : List ℕ). Becomes (Longer t) old.said new.said) (same file told) (says.whole file told);
-  time = λ file said told text. subst (λ (t : List ℕ). Elapses old new (Speaking t old)) (same file told) (says.time file said told text);
-  reads = says.reads;
-  disk_faults = says.disk_faults;
-  say_faults = says.say_faults;
-}
-
-pub part_as : {old new : View} (f g : Texts) → ((file : List ℕ) → old.holds ≡ Some file → f file ≡ g file) → OnlySaysPieces f old new → OnlySaysPieces g old new
-part_as {old} {new} f g same says = record {
-  holds = says.holds;
-  images = says.images;
-  text = says.text;
-  part = λ file told. subst (λ (t : List ℕ). Becomes (LongerByPart t) old.said new.said) (same file told) (says.part file told);
+  part = λ file told. subst (λ (t : List ℕ). Becomes (extent t) old.said new.said) (same file told) (says.part file told);
   time = λ file said told text. subst (λ (t : List ℕ). Elapses old new (Speaking t old)) (same file told) (says.time file said told text);
   reads = says.reads;
   disk_faults = says.disk_faults;
@@ -61,7 +55,7 @@ pieces_part {old} {new} f says = record {
   holds = says.holds;
   images = says.images;
   text = says.text;
-  part = λ file told. said_all (f file) old.said new.said (says.whole file told);
+  part = λ file told. said_all (f file) old.said new.said (says.part file told);
   time = says.time;
   reads = says.reads;
   disk_faults = says.disk_faults;
@@ -69,31 +63,25 @@ pieces_part {old} {new} f says = record {
 }
 
 module _ {b c : View} (piece : List ℕ) (time : Elapses b c (Speaking piece b)) (holds : c.holds ≡ b.holds) (reads : c.reads ≡ b.reads) (disk_faults : c.disk_faults ≡ b.disk_faults) where
-  -- a say that was done
-  pub piece_said : Becomes (Longer piece) b.said c.said → c.say_faults ≡ b.say_faults → SaysPieces (λ file. piece) b c
-  piece_said said counted = record {
+  one_piece : {extent : Extents} {faults : Faults} → Becomes Grown b.said c.said → Becomes (extent piece) b.said c.said → faults b.say_faults c.say_faults → Pieces extent faults (λ file. piece) b c
+  one_piece grown said counted = record {
     holds = holds;
     images = speaks_unwritten piece time;
-    text = said_grows piece b.said c.said (said_all piece b.said c.said said);
-    whole = λ file told. said;
-    time = λ file all told text. time;
-    reads = omega (arith, reads);
-    disk_faults = omega (arith, disk_faults);
-    say_faults = counted;
-  }
-
-  -- one that failed
-  pub piece_cut : Becomes (LongerByPart piece) b.said c.said → b.say_faults ≤ c.say_faults → OnlySaysPieces (λ file. piece) b c
-  piece_cut said counted = record {
-    holds = holds;
-    images = speaks_unwritten piece time;
-    text = said_grows piece b.said c.said said;
+    text = grown;
     part = λ file told. said;
     time = λ file all told text. time;
     reads = omega (arith, reads);
     disk_faults = omega (arith, disk_faults);
     say_faults = counted;
   }
+
+  -- a say that was done
+  pub piece_said : Becomes (Longer piece) b.said c.said → c.say_faults ≡ b.say_faults → SaysPieces (λ file. piece) b c
+  piece_said said counted = one_piece (said_grows piece b.said c.said (said_all piece b.said c.said said)) said counted
+
+  -- one that failed
+  pub piece_cut : Becomes (LongerByPart piece) b.said c.said → b.say_faults ≤ c.say_faults → OnlySaysPieces (λ file. piece) b c
+  piece_cut said counted = one_piece (said_grows piece b.said c.said said) said counted
 
 -- ---- pieces behind pieces
 
@@ -150,34 +138,22 @@ module _ (a b c : View) (lawful_a : IsLawful a) (lawful_b : IsLawful b) where
     }
 
 grown_join : (a b c : Option (List ℕ)) → Becomes Grown a b → Becomes Grown b c → Becomes Grown a c
-grown_join (Some s) b c one two = by b one.1 two
-  where
-    by : (b : Option (List ℕ)) → b ≡ Some one.0 → Becomes Grown b c → Becomes Grown (Some s) c
-    by b is two =
-        let next = subst (λ (o : Option (List ℕ)). Becomes Grown o c) is two in
-        (next.0, next.1, (one.2.0 ++ next.2.0, next.2.1 ∙ ap (λ (t : List ℕ). t ++ next.2.0) one.2.1 ∙ append_assoc s one.2.0 next.2.0))
-grown_join None b c one two = subst (λ (o : Option (List ℕ)). Becomes Grown o c) one two
+grown_join a b c = becomes_join Grown Grown Grown a b c (λ x y z p q. (p.0 ++ q.0, q.1 ∙ ap (λ (t : List ℕ). t ++ q.0) p.1 ∙ append_assoc x p.0 q.0))
 
 longer_join : (f g : List ℕ) (a b c : Option (List ℕ)) → Becomes (Longer f) a b → Becomes (Longer g) b c → Becomes (Longer (f ++ g)) a c
-longer_join f g (Some s) b c one two =
-    let next = subst (λ (o : Option (List ℕ)). Becomes (Longer g) o c) one.1 two in
-    (next.0, next.1, next.2 ∙ ap (λ (t : List ℕ). t ++ g) one.2 ∙ append_assoc s f g)
-longer_join f g None b c one two = subst (λ (o : Option (List ℕ)). Becomes (Longer g) o c) one two
+longer_join f g a b c = becomes_join (Longer f) (Longer g) (Longer (f ++ g)) a b c (λ x y z p q. q ∙ ap (λ (t : List ℕ). t ++ g) p ∙ append_assoc x f g)
 
 longer_by_part_join : (f g : List ℕ) (a b c : Option (List ℕ)) → Becomes (Longer f) a b → Becomes (LongerByPart g) b c → Becomes (LongerByPart (f ++ g)) a c
-longer_by_part_join f g (Some s) b c one two =
-    let next = subst (λ (o : Option (List ℕ)). Becomes (LongerByPart g) o c) one.1 two in
-    (next.0, next.1, (length f + next.2.0, next.2.1 ∙ ap (λ (t : List ℕ). t ++ take next.2.0 g) one.2 ∙ append_assoc s f (take next.2.0 g) ∙ ap (λ (t : List ℕ). s ++ t) (sym (take-append-add f g next.2.0))))
-longer_by_part_join f g None b c one two = subst (λ (o : Option (List ℕ)). Becomes (LongerByPart g) o c) one two
+longer_by_part_join f g a b c = becomes_join (Longer f) (LongerByPart g) (LongerByPart (f ++ g)) a b c
+    (λ x y z p q. (length f + q.0, q.1 ∙ ap (λ (t : List ℕ). t ++ take q.0 g) p ∙ append_assoc x f (take q.0 g) ∙ ap (λ (t : List ℕ). x ++ t) (sym (take-append-add f g q.0))))
 
 part_on : (f g : List ℕ) (a b : Option (List ℕ)) → Becomes (LongerByPart f) a b → Becomes (LongerByPart (f ++ g)) a b
-part_on f g (Some s) b one = (one.0, one.1, (min one.2.0 (length f), one.2.1 ∙ ap (λ (t : List ℕ). s ++ t) (front_of f g one.2.0)))
-part_on f g None b one = one
+part_on f g a b = becomes_as (LongerByPart f) (LongerByPart (f ++ g)) a b (λ x y p. (min p.0 (length f), p.1 ∙ ap (λ (t : List ℕ). x ++ t) (front_of f g p.0)))
 
 -- what was said where all of a text was
 said_then : (f said : List ℕ) (a b : Option (List ℕ)) → a ≡ Some said → Becomes (Longer f) a b → b ≡ Some (said ++ f)
 said_then f said a b told longer =
-    let after = subst (λ (o : Option (List ℕ)). Becomes (Longer f) o b) told longer in
+    let after = becomes_some (Longer f) a b said told longer in
     after.1 ∙ ap (λ (t : List ℕ). Some t) after.2
 
 -- a text that is said further
@@ -194,35 +170,29 @@ part_front {a} {b} f g one = record {
 }
 
 module _ {a b c : View} (f g : Texts) (lawful_a : IsLawful a) (lawful_b : IsLawful b) (one : SaysPieces f a b) where
-  -- all of one text and then all of another
-  pub pieces_join : SaysPieces g b c → SaysPieces (λ file. f file ++ g file) a c
-  pieces_join two = record {
+  join : {extent : Extents} {faults : Faults} → Pieces extent faults g b c → ((file : List ℕ) → a.holds ≡ Some file → Becomes (extent (f file ++ g file)) a.said c.said) → faults a.say_faults c.say_faults → Pieces extent faults (λ file. f file ++ g file) a c
+  join two said counted = record {
     holds = two.holds ∙ one.holds;
     images = unwritten_join a b c lawful_a lawful_b one.images two.images;
     text = grown_join a.said b.said c.said one.text two.text;
-    whole = λ file told. longer_join (f file) (g file) a.said b.said c.said (one.whole file told) (two.whole file (one.holds ∙ told));
+    part = said;
     time = λ file said told text.
-        let then = said_then (f file) said a.said b.said text (one.whole file told) in
+        let then = said_then (f file) said a.said b.said text (one.part file told) in
         time_join a b c lawful_a lawful_b (f file) (g file) said text then (one.time file said told text) (two.time file (said ++ f file) (one.holds ∙ told) then);
     reads = omega (arith, one.reads, two.reads);
     disk_faults = omega (arith, one.disk_faults, two.disk_faults);
-    say_faults = two.say_faults ∙ one.say_faults;
+    say_faults = counted;
   }
+
+  -- all of one text and then all of another
+  pub pieces_join : SaysPieces g b c → SaysPieces (λ file. f file ++ g file) a c
+  pieces_join two =
+      join two (λ file told. longer_join (f file) (g file) a.said b.said c.said (one.part file told) (two.part file (one.holds ∙ told))) (two.say_faults ∙ one.say_faults)
 
   -- all of one text and then a front of another
   pub part_join : OnlySaysPieces g b c → OnlySaysPieces (λ file. f file ++ g file) a c
-  part_join two = record {
-    holds = two.holds ∙ one.holds;
-    images = unwritten_join a b c lawful_a lawful_b one.images two.images;
-    text = grown_join a.said b.said c.said one.text two.text;
-    part = λ file told. longer_by_part_join (f file) (g file) a.said b.said c.said (one.whole file told) (two.part file (one.holds ∙ told));
-    time = λ file said told text.
-        let then = said_then (f file) said a.said b.said text (one.whole file told) in
-        time_join a b c lawful_a lawful_b (f file) (g file) said text then (one.time file said told text) (two.time file (said ++ f file) (one.holds ∙ told) then);
-    reads = omega (arith, one.reads, two.reads);
-    disk_faults = omega (arith, one.disk_faults, two.disk_faults);
-    say_faults = omega (arith, one.say_faults, two.say_faults);
-  }
+  part_join two =
+      join two (λ file told. longer_by_part_join (f file) (g file) a.said b.said c.said (one.part file told) (two.part file (one.holds ∙ told))) (omega (arith, one.say_faults, two.say_faults))
 
 -- only looking says a front of any text
 pub reads_part : {old new : View} (f : Texts) → OnlyReads old new → OnlySaysPieces f old new
@@ -233,7 +203,7 @@ reads_part f calls = part_front (λ file. []) f (pieces_part (λ file. []) (read
 module _ {X F : Type 0} (a b : View) where
   pub says_as : (f g : Texts) → ((file : List ℕ) → a.holds ≡ Some file → f file ≡ g file) → (r : Result X F) → Says f a b r → Says g a b r
   says_as f g same (Ok x) says = pieces_as f g same says
-  says_as f g same (Err e) says = part_as f g same says
+  says_as f g same (Err e) says = pieces_as f g same says
 
   module _ (c : View) (lawful_a : IsLawful a) (lawful_b : IsLawful b) where
     -- behind a text that was said

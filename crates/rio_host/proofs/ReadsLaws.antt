@@ -1,9 +1,10 @@
 -- Calls that only look at the file, one after the other, and a say behind them.
-use Rattle.std.proofs.Common.{◌≡◌, ◌++◌, [], take, length, ap, None, inl, inr, ⊎_elim, ℕ, ◌≤◌, List, Option, Some, subst, sym, refl, ◌∙◌, arith}
+use Rattle.std.proofs.Common.{◌≡◌, ◌++◌, [], take, length, ap, inl, inr, ⊎_elim, ℕ, ◌≤◌, List, Option, Some, subst, sym, refl, ◌∙◌, arith}
 use Rattle.std.proofs.lemmas.List.{append-nil, take_all}
 use Rattle.rio_host.specs.Image.{Same}
 use Rattle.rio_host.specs.Host.{View, Leaves, Elapses, OnDisk, IsLawful, Rose, Speaking, Unwritten, Becomes, Longer, LongerByPart}
 use Rattle.rio_host.specs.OnlyReads.{Grown, OnlyReads, OnlySays}
+use Rattle.rio_host.proofs.Images.{becomes_as, same_becomes}
 
 pub reads_none : (v : View) → OnlyReads v v
 reads_none v = record {
@@ -81,18 +82,15 @@ speaks_unwritten text says = record {
 
 -- no more is said
 pub said_nothing : (text : List ℕ) (old new : Option (List ℕ)) → new ≡ old → Becomes (LongerByPart text) old new
-said_nothing text (Some s) new same = (s, same, (0, sym (append-nil s)))
-said_nothing text None new same = same
+said_nothing text old new same = becomes_as Same (LongerByPart text) old new (λ x y is. (0, is ∙ sym (append-nil x))) (same_becomes old new same)
 
 -- all of a text is a front of it
 pub said_all : (text : List ℕ) (old new : Option (List ℕ)) → Becomes (Longer text) old new → Becomes (LongerByPart text) old new
-said_all text (Some s) new becomes = (becomes.0, becomes.1, (length text, becomes.2 ∙ ap (λ (t : List ℕ). s ++ t) (sym (take_all (length text) text (omega arith)))))
-said_all text None new becomes = becomes
+said_all text old new = becomes_as (Longer text) (LongerByPart text) old new (λ x y is. (length text, is ∙ ap (λ (t : List ℕ). x ++ t) (sym (take_all (length text) text (omega arith)))))
 
 -- a front of a text is some text
 pub said_grows : (text : List ℕ) (old new : Option (List ℕ)) → Becomes (LongerByPart text) old new → Becomes Grown old new
-said_grows text (Some s) new becomes = (becomes.0, becomes.1, (take becomes.2.0 text, becomes.2.1))
-said_grows text None new becomes = becomes
+said_grows text old new = becomes_as (LongerByPart text) Grown old new (λ x y part. (take part.0 text, part.1))
 
 -- only looking says nothing, whatever text belongs to the file
 pub reads_says : {old new : View} (text_of : List ℕ → List ℕ) → OnlyReads old new → OnlySays text_of old new

@@ -1,17 +1,26 @@
 -- The calls of a host in memory, done again: what the disk holds, and what a stop may leave of it.
 use Rattle.std.specs.Prelude.{◌≡◌, ℕ, ◌+◌, ◌≤◌, nat_le, if◌then◌else◌, List, [], ◌∷◌, ◌++◌, length, take, drop}
-use Rattle.byteorder.specs.Endian.{big_bytes}
-use Rattle.rio_host.specs.Image.{Torn, PutOrNot}
+use Rattle.rio_host.specs.Image.{Torn, Put, PutOrNot}
 use Rattle.rio_host.specs.declared.change.Change.{Change}
 use Rattle.rio_host.specs.declared.change.Change.TheVariants.{Range, Whole}
 use Rattle.rio_host.specs.declared.disk.Disk.{Disk}
 use Rattle.rio_host.specs.declared.call.Call.{Call}
-use Rattle.rio_host.specs.declared.call.Call.TheVariants.{Write, Word, FailedWrite, FailedWord, Sync, Saying, Said}
+use Rattle.rio_host.specs.declared.call.Call.TheVariants.{Write, FailedWrite, Sync, Saying, Said}
 
 -- a stop may leave the first file as the second, by a write in flight
 abbrev pub Makes : Change → List ℕ → List ℕ → Type 0
 Makes (Range place bytes) = Torn place (length bytes)
 Makes (Whole place bytes) = PutOrNot place bytes
+
+-- where it writes
+abbrev pub change_start : Change → ℕ
+change_start (Range place bytes) = place
+change_start (Whole place bytes) = place
+
+-- the second file is the first with all of it
+abbrev pub ChangeDone : Change → List ℕ → List ℕ → Type 0
+ChangeDone (Range place bytes) = Put place bytes
+ChangeDone (Whole place bytes) = Put place bytes
 
 -- an image that these changes may make of the base, the first of them first
 abbrev pub Flown : List ℕ → List Change → List ℕ → Type 0
@@ -22,20 +31,17 @@ Flown base (change ∷ changes) image = (next : List ℕ) × Makes change base n
 abbrev pub put_at : List ℕ → ℕ → List ℕ → List ℕ
 put_at file place bytes = if nat_le place (length file) then take place file ++ (bytes ++ drop (place + length bytes) file) else file
 
+-- the file with the bytes of this write
+abbrev pub put_by : Change → List ℕ → List ℕ
+put_by (Range place bytes) file = put_at file place bytes
+put_by (Whole place bytes) file = put_at file place bytes
+
 abbrev pub at_first : List ℕ → Disk
 at_first first = record { base = first; flight = []; contents = first; text = []; speaking = [] }
 
 abbrev pub disk_behind : Disk → Call → Disk
-disk_behind d (Write place bytes) = record d {
-  flight = d.flight ++ Range place bytes ∷ [];
-  contents = put_at d.contents place bytes;
-}
-disk_behind d (Word place word) = record d {
-  flight = d.flight ++ Whole place (big_bytes 4 word) ∷ [];
-  contents = put_at d.contents place (big_bytes 4 word);
-}
-disk_behind d (FailedWrite place bytes) = record d { flight = d.flight ++ Range place bytes ∷ [] }
-disk_behind d (FailedWord place word) = record d { flight = d.flight ++ Whole place (big_bytes 4 word) ∷ [] }
+disk_behind d (Write change) = record d { flight = d.flight ++ change ∷ []; contents = put_by change d.contents }
+disk_behind d (FailedWrite change) = record d { flight = d.flight ++ change ∷ [] }
 disk_behind d Sync = record d { base = d.contents; flight = [] }
 disk_behind d (Saying bytes) = record d { speaking = bytes }
 disk_behind d Said = record d { text = d.text ++ d.speaking; speaking = [] }

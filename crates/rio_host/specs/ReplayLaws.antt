@@ -4,15 +4,14 @@ use Rattle.std.proofs.Common.{inl, inr, refl, sym, subst, arith}
 use Rattle.std.proofs.lemmas.List.{take_all}
 use Rattle.std.proofs.lemmas.Bool.{cases_lt}
 use Rattle.std.proofs.lemmas.Bool.Decides.{nat_tests}
-use Rattle.byteorder.specs.Endian.{big_bytes}
 use Rattle.rio_host.specs.ImageLaws.{spliced, spliced_put}
 use Rattle.rio_host.specs.Image.{Torn, Put, PutOrNot}
 use Rattle.rio_host.specs.declared.call.Call.{Call}
-use Rattle.rio_host.specs.declared.call.Call.TheVariants.{Write, Word, FailedWrite, FailedWord, Sync, Saying, Said}
+use Rattle.rio_host.specs.declared.call.Call.TheVariants.{Write, FailedWrite, Sync, Saying, Said}
 use Rattle.rio_host.specs.declared.change.Change.{Change}
 use Rattle.rio_host.specs.declared.change.Change.TheVariants.{Range, Whole}
 use Rattle.rio_host.specs.declared.disk.Disk.{Disk}
-use Rattle.rio_host.specs.Replay.{Makes, Flown, put_at, at_first, disk_behind, replay, MayLeave, Memory, disk_of, LeftSince}
+use Rattle.rio_host.specs.Replay.{Makes, ChangeDone, change_start, Flown, put_at, put_by, at_first, disk_behind, replay, MayLeave, Memory, disk_of, LeftSince}
 
 -- one change more
 pub flown_push : (base : List ℕ) (changes : List Change) (change : Change) (next image : List ℕ) → Flown base changes next → Makes change next image → Flown base (changes ++ change ∷ []) image
@@ -33,25 +32,32 @@ pub makes_same : (change : Change) (file : List ℕ) → Makes change file file
 makes_same (Range place bytes) file = record { outside = λ i x out at. at; no_shorter = omega arith; no_longer = omega arith }
 makes_same (Whole place bytes) file = inl refl
 
-pub put_at_torn : (file : List ℕ) (place : ℕ) (bytes : List ℕ) → Torn place (length bytes) file (put_at file place bytes)
+put_at_torn : (file : List ℕ) (place : ℕ) (bytes : List ℕ) → Torn place (length bytes) file (put_at file place bytes)
 put_at_torn file place bytes = elim (cases_lt (length file) place) [
   | inl past ↦ subst (λ (l : List ℕ). Torn place (length bytes) file l) (sym (put_at_past file place bytes past)) (makes_same (Range place bytes) file)
   | inr within ↦
       let put = put_at_put file place bytes within in record { outside = put.outside; no_shorter = omega (arith, put.length_is); no_longer = omega (arith, put.length_is) }
 ]
 
-pub put_at_whole : (file : List ℕ) (place : ℕ) (bytes : List ℕ) → PutOrNot place bytes file (put_at file place bytes)
+put_at_whole : (file : List ℕ) (place : ℕ) (bytes : List ℕ) → PutOrNot place bytes file (put_at file place bytes)
 put_at_whole file place bytes = elim (cases_lt (length file) place) [
   | inl past ↦ inl (put_at_past file place bytes past)
   | inr within ↦ inr (put_at_put file place bytes within)
 ]
 
+-- a write that is done is one of what may be left of it
+pub put_by_makes : (change : Change) (file : List ℕ) → Makes change file (put_by change file)
+put_by_makes (Range place bytes) file = put_at_torn file place bytes
+put_by_makes (Whole place bytes) file = put_at_whole file place bytes
+
+pub put_by_puts : (change : Change) (file : List ℕ) → change_start change ≤ length file → ChangeDone change file (put_by change file)
+put_by_puts (Range place bytes) file within = put_at_put file place bytes within
+put_by_puts (Whole place bytes) file within = put_at_put file place bytes within
+
 -- what reads give is one of the images
 sound_step : (d : Disk) (call : Call) → Flown d.base d.flight d.contents → Flown (disk_behind d call).base (disk_behind d call).flight (disk_behind d call).contents
-sound_step d (Write place bytes) sound = flown_push d.base d.flight (Range place bytes) d.contents (put_at d.contents place bytes) sound (put_at_torn d.contents place bytes)
-sound_step d (Word place word) sound = flown_push d.base d.flight (Whole place (big_bytes 4 word)) d.contents (put_at d.contents place (big_bytes 4 word)) sound (put_at_whole d.contents place (big_bytes 4 word))
-sound_step d (FailedWrite place bytes) sound = flown_push d.base d.flight (Range place bytes) d.contents d.contents sound (makes_same (Range place bytes) d.contents)
-sound_step d (FailedWord place word) sound = flown_push d.base d.flight (Whole place (big_bytes 4 word)) d.contents d.contents sound (inl refl)
+sound_step d (Write change) sound = flown_push d.base d.flight change d.contents (put_by change d.contents) sound (put_by_makes change d.contents)
+sound_step d (FailedWrite change) sound = flown_push d.base d.flight change d.contents d.contents sound (makes_same change d.contents)
 sound_step d Sync sound = refl
 sound_step d (Saying bytes) sound = sound
 sound_step d Said sound = sound

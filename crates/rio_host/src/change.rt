@@ -1,5 +1,8 @@
 //! A write in flight, and what a stop leaves of it.
-use rio_num::{Bytes, Items};
+ghost use Rattle.std.specs.Prelude.{◌≡◌, IfOk};
+
+use rio_num::{Bytes, Items, NoMemory};
+use std::alloc::Global;
 
 /// A write that no sync has brought to the disk yet.
 #[derive(Debug, Drop)]
@@ -8,6 +11,24 @@ pub enum Change {
     Range { place: u64, bytes: Items<u8> },
     /// A word, of which a stop leaves all or nothing.
     Whole { place: u64, bytes: Items<u8> },
+}
+
+impl Change {
+    /// The same change.
+    pub fn copy(&self, alloc: Global) -> Result<Change, NoMemory>
+        ensures { IfOk result (λ change. change ≡ self.now) }
+    {
+        Ok(match self {
+            Change::Range { place, bytes } => Change::Range {
+                place: *place,
+                bytes: Items::from_slice(alloc, bytes.as_slice())?,
+            },
+            Change::Whole { place, bytes } => Change::Whole {
+                place: *place,
+                bytes: Items::from_slice(alloc, bytes.as_slice())?,
+            },
+        })
+    }
 }
 
 /// What a stop leaves of one write in flight. Of a word only All leaves something.

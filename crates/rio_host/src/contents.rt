@@ -32,7 +32,7 @@ fn put_over(file: &mut [u8], place: usize, bytes: &[u8])
 impl Contents {
     ghost use Rattle.std.specs.Prelude.{◌≡◌, ◌≤◌, ◌<◌, ◌-◌, ◌++◌, [], length, replicate, OnOk, OnErr, IfOk};
     ghost use Rattle.rio_host.specs.ImageLaws.{spliced};
-    ghost use Rattle.rio_host.specs.Replay.{put_at};
+    ghost use Rattle.rio_host.specs.Replay.{put_at, put_by};
     ghost use Rattle.rio_host.specs.Stops.{left_by, patched};
 
     /// No bytes.
@@ -86,6 +86,18 @@ impl Contents {
         self.items.extend_from_slice(&bytes[within..])?;
         put_over(&mut self.items, place, &bytes[..within]);
         Ok(())
+    }
+
+    /// Puts the bytes of a write that reads give at their place.
+    pub fn put_change(&mut self, change: &Change) -> Result<(), NoMemory>
+        ensures ok { OnOk result (self.new ≡ put_by change.now self.old) }
+        ensures err { OnErr result (self.new ≡ self.old) }
+    {
+        match change {
+            Change::Range { place, bytes } | Change::Whole { place, bytes } => {
+                self.put(*place, bytes.as_slice())
+            }
+        }
     }
 
     /// Puts these bytes at the end.

@@ -22,7 +22,6 @@ pub struct Disk {
 
 impl Disk {
     ghost use Rattle.std.specs.Prelude.{◌≡◌, ◌++◌, ◌∷◌, [], IfOk, OnOk};
-    ghost use Rattle.rio_host.specs.declared.change.Change.TheVariants.{Range, Whole};
     ghost use Rattle.rio_host.specs.Replay.{at_first, disk_behind, replay};
     ghost use Rattle.rio_host.specs.Stops.{left_image, left_text};
 
@@ -39,34 +38,11 @@ impl Disk {
         })
     }
 
-    fn set_range_in_flight(
-        &mut self,
-        alloc: Global,
-        place: u64,
-        bytes: &[u8],
-    ) -> Result<(), NoMemory>
-        ensures { OnOk result
-            (self.new ≡ record self.old {
-              flight = self.old.flight ++ Range place bytes.now ∷ [];
-            }) }
+    fn set_in_flight(&mut self, alloc: Global, change: &Change) -> Result<(), NoMemory>
+        ensures { OnOk result (self.new
+            ≡ record self.old { flight = self.old.flight ++ change.now ∷ [] }) }
     {
-        let bytes = Items::from_slice(alloc, bytes)?;
-        self.flight.push(Change::Range { place, bytes })
-    }
-
-    fn set_whole_in_flight(
-        &mut self,
-        alloc: Global,
-        place: u64,
-        bytes: &[u8],
-    ) -> Result<(), NoMemory>
-        ensures { OnOk result
-            (self.new ≡ record self.old {
-              flight = self.old.flight ++ Whole place bytes.now ∷ [];
-            }) }
-    {
-        let bytes = Items::from_slice(alloc, bytes)?;
-        self.flight.push(Change::Whole { place, bytes })
+        self.flight.push(change.copy(alloc)?)
     }
 
     fn sync(&mut self, alloc: Global) -> Result<(), NoMemory>
@@ -92,21 +68,11 @@ impl Disk {
         ensures { OnOk result (self.new ≡ disk_behind self.old call.now) }
     {
         match call {
-            Call::Write { place, bytes } => {
-                self.set_range_in_flight(alloc, *place, bytes.as_slice())?;
-                self.contents.put(*place, bytes.as_slice())
+            Call::Write(change) => {
+                self.set_in_flight(alloc, change)?;
+                self.contents.put_change(change)
             }
-            Call::Word { place, word } => {
-                let bytes = word.to_be_bytes();
-                self.set_whole_in_flight(alloc, *place, &bytes)?;
-                self.contents.put(*place, &bytes)
-            }
-            Call::FailedWrite { place, bytes } => {
-                self.set_range_in_flight(alloc, *place, bytes.as_slice())
-            }
-            Call::FailedWord { place, word } => {
-                self.set_whole_in_flight(alloc, *place, &word.to_be_bytes())
-            }
+            Call::FailedWrite(change) => self.set_in_flight(alloc, change),
             Call::Sync => self.sync(alloc),
             Call::Saying(bytes) => {
                 self.speaking = Contents::from_slice(alloc, bytes.as_slice())?;

@@ -8,11 +8,11 @@ ghost use Rattle.rio_host.specs.Image.{Has, Torn, Put, PutOrNot, Same};
 ghost use Rattle.rio_host.specs.Memory.{mem_view, mem_lawful};
 ghost use Rattle.rio_host.specs.Replay.{IsStill};
 
-use crate::change::{Left, Remains};
+use crate::change::{Change, Left, Remains};
 use crate::count::{is_next_failing, raised};
 use crate::recording::Recording;
 use crate::{Failed, Host};
-use rio_num::{Bytes, NoMemory, Numbers};
+use rio_num::{Bytes, Items, NoMemory, Numbers};
 use std::alloc::Global;
 
 /// A file and a text in memory. It remembers all calls that changed it, and answers for every
@@ -36,9 +36,10 @@ pub struct MemHost {
 impl MemHost {
     ghost use Rattle.std.specs.Prelude.{◌≡◌, [], Some, IfOk, min};
     ghost use Rattle.rio_host.specs.Failing.{Tally};
+    ghost use Rattle.rio_host.specs.declared.change.Change.{Change};
     ghost use Rattle.rio_host.specs.Host.{IsQuiet};
-    ghost use Rattle.rio_host.specs.MemHost.{memory_of, view_of, tally_of, write_numbers_of};
-    ghost use Rattle.rio_host.specs.Replay.{disk_after};
+    ghost use Rattle.rio_host.specs.MemHost.{memory_of, view_of, tally_of, write_numbers_of, NotesWrite};
+    ghost use Rattle.rio_host.specs.Replay.{Makes, ChangeDone, disk_after, change_start};
     ghost use Rattle.rio_host.specs.Stops.{IsLeft};
 
     /// A file with this image, all of it on the disk, and no text. The numbers are those of the
@@ -80,8 +81,8 @@ impl MemHost {
     }
 
     /// The numbers of the calls that were writes or words, counted from 0 over all calls: those
-    /// that a later host may be told to fail. One that found no memory to be noted is not among
-    /// them.
+    /// that a later host may be told to fail. One that found no memory for its number or for a copy
+    /// of its bytes is not among them.
     pub fn writes(&self) -> &[u64]
         ensures { result.now ≡ write_numbers_of self.now }
     {
@@ -108,6 +109,63 @@ impl MemHost {
             (min moment (view_of self.now).now) left.image.bytes left.said.bytes) }
     {
         self.recording.left(moment, remains, front)
+    }
+
+    // A call on the file found no memory for what it has to keep.
+    fn run_short(&mut self) -> Failed
+        ensures disk { (change : Change)
+            → OnDisk (Makes change) (view_of self.old) (view_of self.new) }
+        ensures rose { Rose self.old.disk_faults self.new.disk_faults }
+        ensures fields { self.new ≡ record self.old {
+          made = next_count self.old.made;
+          shortages = next_count self.old.shortages;
+          disk_faults = next_count self.old.disk_faults;
+        } }
+    {
+        self.made = raised(self.made);
+        self.shortages = raised(self.shortages);
+        self.disk_faults = raised(self.disk_faults);
+        Failed
+    }
+
+    // A write or a word.
+    fn put(&mut self, change: Change) -> Result<(), Failed>
+        requires { IsWithin (view_of self.old) (change_start change) }
+        ensures written { OnOk result
+            (Becomes (ChangeDone change) (view_of self.old).holds (view_of self.new).holds) }
+        ensures disk { OnDisk (Makes change) (view_of self.old) (view_of self.new) }
+        ensures reads { (view_of self.new).reads ≡ (view_of self.old).reads }
+        ensures counted { IsOk result
+            → (view_of self.new).disk_faults ≡ (view_of self.old).disk_faults }
+        ensures cause { IsErr result
+            → Rose (view_of self.old).disk_faults (view_of self.new).disk_faults }
+        ensures failed { OnErr result ((view_of self.new).holds ≡ (view_of self.old).holds) }
+        ensures noted { NotesWrite self.old self.new }
+        ensures fails { FailsOrRunsShort
+            (Flies (Makes change) (view_of self.old) (view_of self.new))
+            (tally_of self.old) (tally_of self.new) result }
+    {
+        if self.writes.push(self.made).is_err() {
+            return Err(self.run_short());
+        }
+        if is_next_failing(&mut self.made, self.failing.as_slice()) {
+            self.disk_faults = raised(self.disk_faults);
+            return match self.recording.fail_write(change) {
+                Ok(()) => Err(Failed),
+                Err(NoMemory) => {
+                    self.shortages = raised(self.shortages);
+                    Err(Failed)
+                }
+            };
+        }
+        match self.recording.write(change) {
+            Ok(()) => Ok(()),
+            Err(NoMemory) => {
+                self.shortages = raised(self.shortages);
+                self.disk_faults = raised(self.disk_faults);
+                Err(Failed)
+            }
+        }
     }
 }
 
@@ -186,29 +244,9 @@ impl Host for MemHost {
             (Flies (Torn place (length bytes.now)) (view_of self.old) (view_of self.new))
             (tally_of self.old) (tally_of self.new) result }
     {
-        if self.writes.push(self.made).is_err() {
-            self.made = raised(self.made);
-            self.shortages = raised(self.shortages);
-            self.disk_faults = raised(self.disk_faults);
-            return Err(Failed);
-        }
-        if is_next_failing(&mut self.made, self.failing.as_slice()) {
-            self.disk_faults = raised(self.disk_faults);
-            return match self.recording.fail_write(place, bytes) {
-                Ok(()) => Err(Failed),
-                Err(NoMemory) => {
-                    self.shortages = raised(self.shortages);
-                    Err(Failed)
-                }
-            };
-        }
-        match self.recording.write(place, bytes) {
-            Ok(()) => Ok(()),
-            Err(NoMemory) => {
-                self.shortages = raised(self.shortages);
-                self.disk_faults = raised(self.disk_faults);
-                Err(Failed)
-            }
+        match Items::from_slice(self.writes.allocator(), bytes) {
+            Ok(bytes) => self.put(Change::Range { place, bytes }),
+            Err(NoMemory) => Err(self.run_short()),
         }
     }
 
@@ -232,29 +270,9 @@ impl Host for MemHost {
             (Flies (PutOrNot place (big_bytes 4 word)) (view_of self.old) (view_of self.new))
             (tally_of self.old) (tally_of self.new) result }
     {
-        if self.writes.push(self.made).is_err() {
-            self.made = raised(self.made);
-            self.shortages = raised(self.shortages);
-            self.disk_faults = raised(self.disk_faults);
-            return Err(Failed);
-        }
-        if is_next_failing(&mut self.made, self.failing.as_slice()) {
-            self.disk_faults = raised(self.disk_faults);
-            return match self.recording.fail_word(place, word) {
-                Ok(()) => Err(Failed),
-                Err(NoMemory) => {
-                    self.shortages = raised(self.shortages);
-                    Err(Failed)
-                }
-            };
-        }
-        match self.recording.write_word(place, word) {
-            Ok(()) => Ok(()),
-            Err(NoMemory) => {
-                self.shortages = raised(self.shortages);
-                self.disk_faults = raised(self.disk_faults);
-                Err(Failed)
-            }
+        match Items::from_slice(self.writes.allocator(), &word.to_be_bytes()) {
+            Ok(bytes) => self.put(Change::Whole { place, bytes }),
+            Err(NoMemory) => Err(self.run_short()),
         }
     }
 

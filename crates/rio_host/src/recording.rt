@@ -1,10 +1,10 @@
 //! What a host in memory keeps: the file, the text, and the calls that made them.
 ghost use Rattle.std.specs.Prelude.{◌≡◌, OnOk, OnErr};
 ghost use Rattle.rio_host.specs.Memory.{held_bytes};
-ghost use Rattle.rio_host.specs.Replay.{put_at};
+ghost use Rattle.rio_host.specs.Replay.{put_by};
 
 use crate::call::Call;
-use crate::change::{Left, Remains};
+use crate::change::{Change, Left, Remains};
 use crate::contents::Contents;
 use crate::disk::Disk;
 use rio_num::{Bytes, Items, NoMemory};
@@ -33,24 +33,23 @@ impl Model for Recording {
         (held_bytes r.first r.held) r.text.bytes };
 }
 
-// The bytes that reads give, with these ones at this place. Where nothing was written yet, they are
+// The bytes that reads give, with those of this write. Where nothing was written yet, they are
 // those of the first image, and from now on apart from it.
 fn put_held(
     alloc: Global,
     held: &mut Option<Contents>,
     first: &Bytes,
-    place: u64,
-    bytes: &[u8],
+    change: &Change,
 ) -> Result<(), NoMemory>
     ensures ok { OnOk result
-        (held_bytes first.now held.new ≡ put_at (held_bytes first.now held.old) place bytes.now) }
+        (held_bytes first.now held.new ≡ put_by change.now (held_bytes first.now held.old)) }
     ensures err { OnErr result (held_bytes first.now held.new ≡ held_bytes first.now held.old) }
 {
     match held {
-        Some(held) => held.put(place, bytes),
+        Some(held) => held.put_change(change),
         None => {
             let mut copy = Contents::from_slice(alloc, first.as_slice())?;
-            copy.put(place, bytes)?;
+            copy.put_change(change)?;
             *held = Some(copy);
             Ok(())
         }
@@ -93,45 +92,22 @@ impl Recording {
     }
 
     /// A write that reads give.
-    pub fn write(&mut self, place: u64, bytes: &[u8]) -> Result<(), NoMemory>
-        ensures ok { OnOk result (self.new ≡ and_then self.old (Call.Write place bytes.now)) }
+    pub fn write(&mut self, change: Change) -> Result<(), NoMemory>
+        ensures ok { OnOk result (self.new ≡ and_then self.old (Call.Write change)) }
         ensures err { OnErr result (self.new ≡ self.old) }
     {
-        let copy = Items::from_slice(self.alloc, bytes)?;
         self.calls.reserve(1)?;
-        put_held(self.alloc, &mut self.held, &self.first, place, bytes)?;
-        self.calls.push(Call::Write { place, bytes: copy })?;
-        Ok(())
-    }
-
-    /// A word that reads give.
-    pub fn write_word(&mut self, place: u64, word: u32) -> Result<(), NoMemory>
-        ensures ok { OnOk result (self.new ≡ and_then self.old (Call.Word place word)) }
-        ensures err { OnErr result (self.new ≡ self.old) }
-    {
-        let bytes = word.to_be_bytes();
-        self.calls.reserve(1)?;
-        put_held(self.alloc, &mut self.held, &self.first, place, &bytes)?;
-        self.calls.push(Call::Word { place, word })?;
+        put_held(self.alloc, &mut self.held, &self.first, &change)?;
+        self.calls.push(Call::Write(change))?;
         Ok(())
     }
 
     /// A write that failed.
-    pub fn fail_write(&mut self, place: u64, bytes: &[u8]) -> Result<(), NoMemory>
-        ensures ok { OnOk result (self.new ≡ and_then self.old (Call.FailedWrite place bytes.now)) }
+    pub fn fail_write(&mut self, change: Change) -> Result<(), NoMemory>
+        ensures ok { OnOk result (self.new ≡ and_then self.old (Call.FailedWrite change)) }
         ensures err { OnErr result (self.new ≡ self.old) }
     {
-        let bytes = Items::from_slice(self.alloc, bytes)?;
-        self.calls.push(Call::FailedWrite { place, bytes })?;
-        Ok(())
-    }
-
-    /// A word that failed.
-    pub fn fail_word(&mut self, place: u64, word: u32) -> Result<(), NoMemory>
-        ensures ok { OnOk result (self.new ≡ and_then self.old (Call.FailedWord place word)) }
-        ensures err { OnErr result (self.new ≡ self.old) }
-    {
-        self.calls.push(Call::FailedWord { place, word })?;
+        self.calls.push(Call::FailedWrite(change))?;
         Ok(())
     }
 

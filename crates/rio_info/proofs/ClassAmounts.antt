@@ -18,7 +18,7 @@ use Rattle.rio_format.specs.Descriptions.{description_classes, element_base}
 use Rattle.rio_format.specs.Slots.{Slot, any_pointer, base_field, based, flags, kinded, link, many, member_field}
 use Rattle.rio_format.specs.Written.{Writing, all, fields_bytes, form_bytes, headed_bytes, int_bytes, list_bytes, pointed_bytes, writing_of, writing_step}
 use Rattle.rio_format.specs.WrittenElements.{WrittenElement, base_element, inline_element, kind_element, member_element, pointer_element, primitive_name, reaches_object, starred, written_elements}
-use Rattle.rio_format.specs.WrittenList.{array_object, class_links, class_list_value, class_pointer, element_object, element_parts, index_list, info_object, linked, list_object, named_object, number_part, plain_object, pointers_from}
+use Rattle.rio_format.specs.WrittenList.{array_object, class_links, class_list_value, class_pointer, element_object, element_parts, index_list, info_object, linked, list_object, number_part, plain_object, pointers_from, titled_object}
 use Rattle.rio_format.proofs.ValueCases.{fold_Int, fold_List, fold_Object, fold_Pointed, fold_Text}
 use Rattle.rio_write.specs.Writing.{part_writing}
 use Rattle.rio_info.proofs.NamedAmounts.{Amounts, all_used, both_amounts, headed_amounts, just_amounts, pointed_classes, pointer_amounts, stands_once, total}
@@ -79,8 +79,8 @@ plain_takes slot =
 abbrev named_amount : List ℕ → ℕ
 named_amount name = 6 + (10 + (length (text_bytes name) + (1 + 0)))
 
-named_takes : (name : List ℕ) (slot : Slot) → Takes (named_amount name) [] (named_object name) slot
-unfolding named_object
+named_takes : (name : List ℕ) (slot : Slot) → Takes (named_amount name) [] (titled_object name []) slot
+unfolding titled_object
 named_takes name slot =
     object_takes (named_amount name) [] (codes "TNamed") (pos 1) (part [] plain_object ∷ part (codes "fName") (Text name) ∷ part (codes "fTitle") (Text []) ∷ [])
     (headed_amounts (pos 1) (10 + (length (text_bytes name) + (1 + 0))) [] _
@@ -255,7 +255,7 @@ module _ (n : ℕ) (used : List (List ℕ)) where
   info_takes : (label : ℕ) (c : ClassDef) (elements : Value) (slot : Slot) → Takes n used elements (kinded (Pointer (codes "TObjArray"))) → Takes (8 + info_amount c n) (codes "TStreamerInfo" ∷ (used ++ [])) (Pointed label (info_object c elements)) slot
   unfolding info_object description_classes
   info_takes label c elements slot inside =
-      let parts : List Part = part [] (named_object c.name) ∷ number_part (codes "fCheckSum") c.sum ∷ part (codes "fClassVersion") (Int c.version) ∷ part (codes "fElements") elements ∷ [] in
+      let parts : List Part = part [] (titled_object c.name []) ∷ number_part (codes "fCheckSum") c.sum ∷ part (codes "fClassVersion") (Int c.version) ∷ part (codes "fElements") elements ∷ [] in
       let name = named_amount c.name in
       let body = both_amounts name (4 + (4 + (n + 0))) [] (used ++ []) _ _ (named_takes c.name (based (codes "TNamed") (pos 1)))
       (both_amounts 4 (4 + (n + 0)) [] (used ++ []) _ _ (int_takes (pos c.sum) (kinded (Plain U32))) (both_amounts 4 (n + 0) [] (used ++ []) _ _ (int_takes c.version (kinded (Plain I32)))

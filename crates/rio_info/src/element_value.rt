@@ -4,8 +4,8 @@ ghost use Rattle.rio_format.specs.WrittenElements.{count_parts};
 ghost use Rattle.rio_format.specs.WrittenList.{element_object, element_parts, index_list};
 ghost use Rattle.rio_describe.specs.ElementClasses.{added_parts};
 
-use crate::part_list::{PartList, named_object};
 use rio_describe::{Element, ElementClass, TypeName};
+use rio_format::{PartList, titled_object};
 use rio_num::{Name, NoMemory};
 use rio_types::ClassDef;
 use rio_value::{Value, Values};
@@ -43,7 +43,7 @@ fn element_parts(alloc: Global, element: &Element) -> Result<PartList, NoMemory>
     let count = element.array.unwrap_or(0);
     let type_name = type_text(alloc, &element.type_name)?;
     PartList::new(alloc)
-        .with(b"", named_object(alloc, element.name)?)?
+        .with(b"", titled_object(alloc, element.name, Name::new(alloc))?)?
         .with_int(b"fType", element.code)?
         .with_number(b"fSize", element.size)?
         .with_number(b"fArrayLength", u64::from(count))?

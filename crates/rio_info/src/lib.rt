@@ -12,7 +12,6 @@ mod kind;
 mod laws;
 mod length;
 mod members;
-mod part_list;
 mod parts;
 mod read;
 mod value;

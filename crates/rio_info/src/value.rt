@@ -7,9 +7,8 @@ ghost use Rattle.rio_format.specs.WrittenElements.{base_element, member_element,
 ghost use Rattle.rio_format.specs.WrittenList.{class_links, class_list_value, class_pointer, element_object, info_object, linked, pointers_from};
 
 use crate::element_value::element_object;
-use crate::part_list::{PartList, array_object, list_object, named_object};
 use rio_describe::{Element, JudgedLists, base_element, member_element};
-use rio_format::ClassLists;
+use rio_format::{ClassLists, PartList, array_object, list_object, titled_object};
 use rio_num::{Boxed, Name, NoMemory};
 use rio_types::{Base, ClassDef, Member};
 use rio_value::{Value, Values};
@@ -121,7 +120,10 @@ fn info_object(alloc: Global, class: &ClassDef, elements: Value) -> Result<Value
     ensures { IfOk result (λ object. object ≡ info_object class.now elements) }
 {
     PartList::new(alloc)
-        .with(b"", named_object(alloc, class.name.as_slice())?)?
+        .with(
+            b"",
+            titled_object(alloc, class.name.as_slice(), Name::new(alloc))?,
+        )?
         .with_number(b"fCheckSum", u64::from(class.sum))?
         .with_int(b"fClassVersion", class.version)?
         .with(b"fElements", elements)?

@@ -60,7 +60,7 @@ pub fn read_basket_head(bytes: &[u8], place: u64) -> Result<BasketHead, Short>
 }
 
 /// The key of a basket with the basket's head.
-#[derive(Debug, Drop)]
+#[derive(Debug, PartialEq, Drop)]
 pub struct BasketFront {
     pub key: KeyHead,
     pub head: BasketHead,

@@ -5,7 +5,7 @@ ghost use Rattle.rio_key.specs.Key.{is_compressed};
 use rio_num::{Name, NoMemory};
 
 /// The head of a record.
-#[derive(Debug, Drop)]
+#[derive(Debug, PartialEq, Drop)]
 pub struct KeyHead {
     /// The length of the record in bytes, its key and its data. A gap has a negative one.
     pub nbytes: i32,

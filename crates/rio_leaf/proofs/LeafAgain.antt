@@ -1,8 +1,8 @@
 -- What is written for a leaf is read as it.
-use Rattle.std.proofs.Common.{◌≡◌, ℕ, suc, ◌+◌, ◌^◌, ◌<◌, ◌≤◌, List, [], ◌∷◌, ◌++◌, length, get_or, slice_index, Bool, true, false, ◌==◌, ◌&&◌, ◌||◌, not, nat_le, Option, Some, Ok, refl, sym, ap, ◌∙◌, arith, append_assoc, length-append}
+use Rattle.std.proofs.Common.{◌≡◌, ℕ, ◌+◌, ◌^◌, ◌<◌, ◌≤◌, List, [], ◌∷◌, ◌++◌, length, get_or, slice_index, Bool, true, false, ◌==◌, ◌&&◌, ◌||◌, not, nat_le, Option, Some, Ok, refl, sym, ap, ◌∙◌, arith, append_assoc, length-append}
 use Rattle.std.specs.Char.{is_ascii_digit}
 use Rattle.std.specs.Fmt.{decimal}
-use Rattle.std.specs.List.{list_all, prefix_len}
+use Rattle.std.specs.List.{list_all}
 use Rattle.std.specs.Str.{all_ascii_digits}
 use Rattle.std.specs.Str.Parse.{digits_value}
 use Rattle.std.proofs.lemmas.Bool.{and_parts, eqb-true, not-true}
@@ -12,6 +12,7 @@ use Rattle.std.proofs.lemmas.List.{take_at, drop_at}
 use Rattle.std.proofs.lemmas.Str.Parse.{IsNumeralModel, numerals_by_value, tells_all_ascii_digits}
 use Rattle.rio_num.specs.At.{At}
 use Rattle.rio_num.specs.Word.{begins_name, goes_on_name, is_item_byte, is_name_text}
+use Rattle.rio_num.proofs.Words.{IsOfWord, Stops, name_of_word, word_ends_there}
 use Rattle.rio_leaf.specs.declared.leaf.Dim.{Dim}
 use Rattle.rio_leaf.specs.declared.leaf.Dim.TheVariants.{One, Fixed, Counted}
 use Rattle.rio_leaf.specs.declared.leaf.Leaf.{Leaf}
@@ -21,42 +22,11 @@ use Rattle.rio_leaf.specs.Reading.{ReadLeaf, begins_with, byte_at, dim_at, dim_o
 use Rattle.rio_leaf.specs.Spelling.{is_leaf_behind, text_of_dim, text_of_leaf}
 use Rattle.rio_leaf.proofs.DigitLaws.{not_digits}
 
--- no byte of a word comes next
-abbrev pub Stops : List ℕ → Type 0
-Stops rest = prefix_len is_item_byte rest ≡ 0
-
-abbrev pub IsOfWord : List ℕ → Type 0
-IsOfWord word = list_all is_item_byte word ≡ true
-
-run_all : (word rest : List ℕ) → IsOfWord word → Stops rest → prefix_len is_item_byte (word ++ rest) ≡ length word
-run_all [] rest h e = e
-run_all (x ∷ xs) rest h e =
-    let parts = and_parts (is_item_byte x) (list_all is_item_byte xs) h in
-    let one : 1 + length xs ≡ suc (length xs) = omega arith in
-    rw (parts.0, run_all xs rest parts.1 e) one
-
 pub said_there : {A : Type 0} (says : List ℕ → Option A) (p : ℕ) (word rest : List ℕ) (x : A) → IsOfWord word → Stops rest → says word ≡ Some x → said_at says (from_place p (word ++ rest)) ≡ Ok (x, from_place (p + length word) rest)
 unfolding said_at
-said_there says p word rest x h e is = rw (run_all word rest h e, take_at word rest (length word) refl, is, drop_at word rest (length word) refl) refl
+said_there says p word rest x h e is = rw (word_ends_there word rest h e, take_at word rest (length word) refl, is, drop_at word rest (length word) refl) refl
 
--- ---- names, digits and letters are words
-
-goes_on_item : (b : ℕ) → goes_on_name b ≡ true → is_item_byte b ≡ true
-goes_on_item b h = grind arith
-
-begins_item : (b : ℕ) → begins_name b ≡ true → is_item_byte b ≡ true
-begins_item b h = grind arith
-
-all_go_on : (bs : List ℕ) → list_all goes_on_name bs ≡ true → IsOfWord bs
-all_go_on [] h = refl
-all_go_on (b ∷ bs) h = let parts = and_parts (goes_on_name b) (list_all goes_on_name bs) h in rw (goes_on_item b parts.0, all_go_on bs parts.1) refl
-
-pub name_of_word : (name : List ℕ) → is_name_text name ≡ true → IsOfWord name
-name_of_word [] h = absurd (cc)
-name_of_word (b ∷ bs) h =
-    let outer = and_parts (begins_name b && list_all goes_on_name bs) (nat_le (length (b ∷ bs)) 100) h in
-    let inner = and_parts (begins_name b) (list_all goes_on_name bs) outer.0 in
-    rw (begins_item b inner.0, all_go_on bs inner.1) refl
+-- ---- digits and letters are words
 
 no_digit_first : (b : ℕ) → begins_name b ≡ true → is_ascii_digit b ≡ false
 no_digit_first b h = grind arith

@@ -1,5 +1,5 @@
 -- What is read as a leaf is written so.
-use Rattle.std.proofs.Common.{inl, inr, ◌≡◌, ℕ, ◌+◌, ◌<◌, ◌≤◌, List, [], ◌∷◌, ◌++◌, length, take, drop, get_or, slice_index, Bool, true, false, ◌==◌, ◌&&◌, not, Option, Some, None, Ok, refl, sym, ap, subst, ◌∙◌, arith, append_assoc, length-append}
+use Rattle.std.proofs.Common.{inl, inr, ◌≡◌, ℕ, ◌+◌, ◌<◌, ◌≤◌, List, [], ◌∷◌, ◌++◌, length, take, drop, get_or, slice_index, true, false, ◌==◌, ◌&&◌, not, Option, Some, None, Ok, refl, sym, ap, subst, ◌∙◌, arith, append_assoc, length-append}
 use Rattle.std.specs.Fmt.{decimal}
 use Rattle.std.specs.List.{list_all}
 use Rattle.std.specs.Str.{all_ascii_digits}
@@ -10,15 +10,15 @@ use Rattle.std.proofs.lemmas.List.{take-append-drop}
 use Rattle.std.proofs.lemmas.List.Folds.{length-prefix_len}
 use Rattle.std.proofs.lemmas.Option.{same_Some}
 use Rattle.rio_num.specs.At.{At}
-use Rattle.rio_num.specs.Reading.{◌>>=◌, skip}
+use Rattle.rio_num.specs.Reading.{◌>>=◌, skip, some_if}
 use Rattle.rio_num.specs.Word.{is_item_byte, is_name_text}
-use Rattle.rio_num.proofs.ReadLaws.{bind_ok, ok_is, chosen}
+use Rattle.rio_num.proofs.ReadLaws.{bind_ok, ok_is, chosen, if_is}
 use Rattle.rio_leaf.specs.declared.fault.LeafFault.{LeafFault}
 use Rattle.rio_leaf.specs.declared.leaf.Dim.{Dim}
 use Rattle.rio_leaf.specs.declared.leaf.Dim.TheVariants.{One, Fixed, Counted}
 use Rattle.rio_leaf.specs.declared.leaf.Leaf.{Leaf}
 use Rattle.rio_leaf.specs.Leaves.{counts_for, is_dim, is_leaf_count, is_letter_of, is_taken}
-use Rattle.rio_leaf.specs.Reading.{ReadLeaf, begins_with, bracketed_at, byte_at, dim_at, dim_of, found_at, is_dimension, leaf_at, leaf_name_of, letter_in, no_more_at, said_at, some_where, word_length}
+use Rattle.rio_leaf.specs.Reading.{ReadLeaf, begins_with, bracketed_at, byte_at, dim_at, dim_of, found_at, is_dimension, leaf_at, leaf_name_of, letter_in, no_more_at, said_at, word_length}
 use Rattle.rio_leaf.specs.Spelling.{is_leaf_behind, text_of_dim, text_of_leaf}
 use Rattle.rio_leaf.proofs.LeafAgain.{count_bounds, ends_dim, own}
 use Rattle.rio_leaf.proofs.TokenLaws.{all_of_word, word_stops}
@@ -53,10 +53,6 @@ module _ {A : Type 0} (x : A) (s s' : At) where
         ends = ap (λ (t : At). word_length t.rest) (sym both.1) ∙ word_stops s.rest;
       }
 
-pub where_true : {A : Type 0} (test : Bool) (x y : A) → some_where test x ≡ Some y → (test ≡ true) × (x ≡ y)
-where_true true x y e = (refl, cc)
-where_true false x y e = absurd cc
-
 -- what this byte begins
 pub begins : (b : ℕ) (rest : List ℕ) → begins_with b rest ≡ true → rest ≡ b ∷ drop 1 rest
 begins b [] e = absurd cc
@@ -65,8 +61,8 @@ begins b (c ∷ cs) e = ap (λ (k : ℕ). k ∷ cs) (eqb-true c b e)
 pub byte_found : (b : ℕ) (s : At) (u : Unit {0}) (s' : At) → byte_at b s ≡ Ok (u, s') → (s.rest ≡ b ∷ s'.rest) × (s'.place ≡ s.place + 1)
 unfolding byte_at
 byte_found b s u s' e =
-    let both = found_some u s s' (some_where (begins_with b s.rest) tt) 1 e in
-    (begins b s.rest (where_true (begins_with b s.rest) tt u both.0).0 ∙ ap (λ (t : At). b ∷ t.rest) both.1, ap (λ (t : At). t.place) (sym both.1))
+    let both = found_some u s s' (some_if (begins_with b s.rest) tt) 1 e in
+    (begins b s.rest (if_is (begins_with b s.rest) tt u both.0).0 ∙ ap (λ (t : At). b ∷ t.rest) both.1, ap (λ (t : At). t.place) (sym both.1))
 
 none_left : (rest : List ℕ) → (length rest == 0) ≡ true → rest ≡ []
 none_left [] e = refl
@@ -75,8 +71,8 @@ none_left (b ∷ bs) e = absurd (let none : length (b ∷ bs) ≡ 0 = eqb-true _
 end_found : (s : At) (u : Unit {0}) (s' : At) → no_more_at s ≡ Ok (u, s') → s.rest ≡ []
 unfolding no_more_at
 end_found s u s' e =
-    let both = found_some u s s' (some_where (length s.rest == 0) tt) 0 e in
-    none_left s.rest (where_true (length s.rest == 0) tt u both.0).0
+    let both = found_some u s s' (some_if (length s.rest == 0) tt) 0 e in
+    none_left s.rest (if_is (length s.rest == 0) tt u both.0).0
 
 -- ---- dimensions
 
@@ -110,15 +106,15 @@ module _ (before : List Leaf) (name word : List ℕ) (dim : Dim) where
       let made : IsDimOf before name (Fixed (digits_value 10 word)) (91 ∷ (word ++ 93 ∷ [])) = record { fits = outer.1; text = ap (λ (w : List ℕ). 91 ∷ (w ++ 93 ∷ [])) (sym (number_back word test)); ends = λ rest. refl } in
       subst (λ (d : Dim). IsDimOf before name d (91 ∷ (word ++ 93 ∷ []))) (same_Some (Fixed (digits_value 10 word)) dim e) made
 
-  is_counted : some_where (is_name_text word && counts_for before name word) (Counted word 1) ≡ Some dim → IsDimOf before name dim (91 ∷ (word ++ 93 ∷ []))
+  is_counted : some_if (is_name_text word && counts_for before name word) (Counted word 1) ≡ Some dim → IsDimOf before name dim (91 ∷ (word ++ 93 ∷ []))
   is_counted e =
-      let both = where_true (is_name_text word && counts_for before name word) (Counted word 1) dim e in
+      let both = if_is (is_name_text word && counts_for before name word) (Counted word 1) dim e in
       let made : IsDimOf before name (Counted word 1) (91 ∷ (word ++ 93 ∷ [])) = record { fits = rw both.0 refl; text = refl; ends = λ rest. refl } in
       subst (λ (d : Dim). IsDimOf before name d (91 ∷ (word ++ 93 ∷ []))) both.1 made
 
   pub dim_word : dim_of before name word ≡ Some dim → IsDimOf before name dim (91 ∷ (word ++ 93 ∷ []))
   unfolding dim_of
-  dim_word e = elim (chosen (is_dimension word) (Some (Fixed (digits_value 10 word))) (some_where (is_name_text word && counts_for before name word) (Counted word 1)) (Some dim) e) [
+  dim_word e = elim (chosen (is_dimension word) (Some (Fixed (digits_value 10 word))) (some_if (is_name_text word && counts_for before name word) (Counted word 1)) (Some dim) e) [
     | inl w ↦ is_fixed w.0 w.1
     | inr w ↦ is_counted w.1
   ]
@@ -164,7 +160,7 @@ module _ (before : List Leaf) (name : List ℕ) (s : At) (dim : Dim) (s' : At) w
 pub letter_one : (dim : Dim) (word : List ℕ) (letter : ℕ) → letter_in dim word ≡ Some letter → (word ≡ letter ∷ []) × (is_letter_of dim letter ≡ true)
 letter_one dim [] letter e = absurd cc
 letter_one dim (b ∷ []) letter e =
-    let both = where_true (is_letter_of dim b) b letter e in
+    let both = if_is (is_letter_of dim b) b letter e in
     (ap (λ (k : ℕ). k ∷ []) both.1, subst (λ (k : ℕ). is_letter_of dim k ≡ true) both.1 both.0)
 letter_one dim (b ∷ c ∷ bs) letter e = absurd cc
 
@@ -201,7 +197,7 @@ leaf_found before leaf s s' e =
     let letter = four.0.0 in
     let five = bind_ok (no_more_at four.0.1) (λ y. Ok (leaf_is name dim letter, y.1)) (leaf, s') four.2 in
     let named = said_found name s one.0.1 (leaf_name_of before) one.1 in
-    let is_named = where_true (is_name_text named.word && not (is_taken before named.word)) named.word name named.is in
+    let is_named = if_is (is_name_text named.word && not (is_taken before named.word)) named.word name named.is in
     let new : (is_name_text name && not (is_taken before name)) ≡ true = subst (λ (w : List ℕ). (is_name_text w && not (is_taken before w)) ≡ true) is_named.1 is_named.0 in
     let sized = dim_found before name one.0.1 dim two.0.1 two.1 in
     let passed = (byte_found 47 two.0.1 three.0.0 three.0.1 three.1).0 in

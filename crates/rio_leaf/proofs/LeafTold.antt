@@ -6,7 +6,7 @@ use Rattle.std.proofs.lemmas.List.{append-nil}
 use Rattle.rio_num.specs.At.{At}
 use Rattle.rio_num.specs.Reading.{◌>>=◌, skip}
 use Rattle.rio_num.specs.Word.{is_item_byte, is_name_text}
-use Rattle.rio_num.proofs.ReadLaws.{chosen}
+use Rattle.rio_num.proofs.ReadLaws.{chosen, if_is}
 use Rattle.rio_leaf.specs.declared.fault.LeafFault.{LeafFault}
 use Rattle.rio_leaf.specs.declared.leaf.Dim.{Dim}
 use Rattle.rio_leaf.specs.declared.leaf.Dim.TheVariants.{One, Fixed, Counted}
@@ -17,7 +17,7 @@ use Rattle.rio_leaf.specs.Spelling.{is_leaf_behind, text_of_dim, text_of_leaf}
 use Rattle.rio_leaf.specs.ToldPlaces.{next_token}
 use Rattle.rio_leaf.proofs.FreshNames.{name_left}
 use Rattle.rio_leaf.proofs.LeafAgain.{dim_again, ends_dim, said_there}
-use Rattle.rio_leaf.proofs.LeafFound.{begins, byte_found, dim_found, dim_word, leaf_is, letter_one, said_found, to_dim, to_leaf, to_letter, to_slash, where_true}
+use Rattle.rio_leaf.proofs.LeafFound.{begins, byte_found, dim_found, dim_word, leaf_is, letter_one, said_found, to_dim, to_leaf, to_letter, to_slash}
 use Rattle.rio_leaf.proofs.TokenLaws.{same_begins, same_length}
 use Rattle.rio_leaf.proofs.ToldLaws.{Known, NoWordRuns, Told, bind_told, byte_told, end_told, ends_behind, ends_in_word, handed_told, said_told, told_behind}
 
@@ -200,7 +200,7 @@ leaf_told before s e h =
     (said_told (LeafBegins before) s e (start_begins before) (leaf_name_of before))
     (said_known (leaf_name_of before) s)
     (λ name m word is bad.
-    let both = where_true (is_name_text word && not (is_taken before word)) word name is in
+    let both = if_is (is_name_text word && not (is_taken before word)) word name is in
     let tests = and_parts (is_name_text word) (not (is_taken before word)) both.0 in
     let fails : to_dim before word m ≡ Err e = subst (λ (w : List ℕ). to_dim before w m ≡ Err e) (sym both.1) bad in
     subst (λ (w : List ℕ). Told (to_dim before w) (λ ms. LeafBegins before (word ++ ms)) m e) both.1 (name_told before word tests.0 (not-true (is_taken before word) tests.1) m e fails))

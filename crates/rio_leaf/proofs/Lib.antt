@@ -1,4 +1,5 @@
 pub mod DigitLaws
+pub mod EqualLaws
 pub mod SplitLaws
 pub mod TokenLaws
 pub mod FreshNames

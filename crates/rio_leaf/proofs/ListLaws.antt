@@ -11,6 +11,7 @@ use Rattle.std.proofs.lemmas.List.Splits.{slice_split-cons_no, slice_split-cons_
 use Rattle.rio_num.specs.At.{At}
 use Rattle.rio_num.specs.Word.{is_item_byte, is_name_text}
 use Rattle.rio_num.proofs.ReadLaws.{bind_ok, ok_is}
+use Rattle.rio_num.proofs.Words.{name_of_word}
 use Rattle.rio_leaf.specs.declared.fault.LeafFault.{LeafFault}
 use Rattle.rio_leaf.specs.declared.leaf.Dim.{Dim}
 use Rattle.rio_leaf.specs.declared.leaf.Dim.TheVariants.{One, Fixed, Counted}
@@ -19,7 +20,7 @@ use Rattle.rio_leaf.specs.Leaves.{counts_for, is_dim, is_letter_of, is_one, is_t
 use Rattle.rio_leaf.specs.Marks.{between_leaves, is_leaf_letter, letter_of_texts}
 use Rattle.rio_leaf.specs.Reading.{from_place, leaf_at, leaves_at, leaves_in, pieces}
 use Rattle.rio_leaf.specs.Spelling.{are_leaves_behind, is_leaf_behind, is_leaf_list, text_of_dim, text_of_leaf, text_of_leaves}
-use Rattle.rio_leaf.proofs.LeafAgain.{count_bounds, digits_of_word, leaf_again, letter_item, name_of_word, own}
+use Rattle.rio_leaf.proofs.LeafAgain.{count_bounds, digits_of_word, leaf_again, letter_item, own}
 use Rattle.rio_leaf.proofs.LeafFound.{leaf_found}
 use Rattle.rio_leaf.proofs.PieceLaws.{before_colon, item_no_colon, is_no_colon, more_pieces, no_colon, pieces_cut, rest_is}
 

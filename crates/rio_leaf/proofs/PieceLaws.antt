@@ -4,8 +4,8 @@ use Rattle.std.specs.List.{list_all, onto_first}
 use Rattle.std.proofs.lemmas.Bool.{and_parts, eqb-true}
 use Rattle.std.proofs.lemmas.Bool.Decides.{nat_tests}
 use Rattle.std.proofs.lemmas.List.Splits.{slice_split-cons_no, slice_split-cons_yes}
-use Rattle.rio_num.specs.Word.{is_item_byte}
-use Rattle.rio_leaf.specs.Marks.{between_leaves, is_blank_byte}
+use Rattle.rio_num.specs.Word.{is_blank_byte, is_item_byte}
+use Rattle.rio_leaf.specs.Marks.{between_leaves}
 use Rattle.rio_leaf.specs.Reading.{pieces, word_length}
 use Rattle.rio_leaf.specs.ToldPlaces.{next_token}
 use Rattle.rio_leaf.proofs.TokenLaws.{Kind, blank, item, other, blanks, kind_of, passes_blank, takes_byte, takes_word, word_ends, word_goes, word_of}

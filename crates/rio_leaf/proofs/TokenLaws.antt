@@ -3,8 +3,8 @@ use Rattle.std.proofs.Common.{◌≡◌, ℕ, suc, ◌+◌, List, [], ◌∷◌,
 use Rattle.std.specs.List.{list_all, prefix_len}
 use Rattle.std.proofs.lemmas.Bool.Decides.{nat_tests}
 use Rattle.std.proofs.lemmas.List.Folds.{length-prefix_len}
-use Rattle.rio_num.specs.Word.{is_item_byte}
-use Rattle.rio_leaf.specs.Marks.{is_blank_byte}
+use Rattle.rio_num.specs.Word.{is_blank_byte, is_item_byte}
+use Rattle.rio_num.proofs.Words.{item_no_blank}
 use Rattle.rio_leaf.specs.Reading.{begins_with, word_length}
 use Rattle.rio_leaf.specs.ToldPlaces.{next_token}
 
@@ -52,9 +52,6 @@ word_again [] = refl
 word_again (b ∷ bs) = again_by b bs (is_item_byte b) refl (word_again bs)
 
 -- ---- the next token
-
-pub item_no_blank : (b : ℕ) → is_item_byte b ≡ true → is_blank_byte b ≡ false
-item_no_blank b h = grind (arith, nat_tests)
 
 pub passes_blank : (b : ℕ) (bs : List ℕ) → is_blank_byte b ≡ true → next_token (b ∷ bs) ≡ b ∷ next_token bs
 passes_blank b bs h = rw h refl

@@ -4,12 +4,11 @@ use Rattle.std.specs.List.{prefix_len}
 use Rattle.std.proofs.lemmas.Bool.{and_left, and_right}
 use Rattle.std.proofs.lemmas.List.{append-nil}
 use Rattle.rio_num.specs.At.{At}
-use Rattle.rio_num.specs.Reading.{◌>>=◌}
-use Rattle.rio_num.specs.Word.{is_item_byte}
+use Rattle.rio_num.specs.Reading.{◌>>=◌, some_if}
+use Rattle.rio_num.specs.Word.{is_blank_byte, is_item_byte}
 use Rattle.rio_leaf.specs.declared.fault.LeafFault.{LeafFault}
 use Rattle.rio_leaf.specs.declared.fault.LeafFault.TheVariants.{BadLeaf}
-use Rattle.rio_leaf.specs.Marks.{is_blank_byte}
-use Rattle.rio_leaf.specs.Reading.{ReadLeaf, bad_leaf_at, begins_with, byte_at, found_at, from_place, no_more_at, said_at, some_where, word_length}
+use Rattle.rio_leaf.specs.Reading.{ReadLeaf, bad_leaf_at, begins_with, byte_at, found_at, from_place, no_more_at, said_at, word_length}
 use Rattle.rio_leaf.specs.ToldPlaces.{NoWordGoesOn, next_token}
 use Rattle.rio_leaf.proofs.TokenLaws.{same_begins, same_behind, same_blanks, same_empty, same_word, word_of}
 
@@ -108,11 +107,11 @@ module _ (P : List ℕ → Type 0) (s : At) (e : LeafFault) (empty : P []) where
 
   pub byte_told : (b : ℕ) → byte_at b s ≡ Err e → Told (byte_at b) P s e
   unfolding byte_at
-  byte_told b h = found_told (λ q. some_where (begins_with b q) tt) (λ q. 1) P s e (λ q r same. ap (λ (t : Bool). some_where t tt) (same_begins q r same b)) empty h
+  byte_told b h = found_told (λ q. some_if (begins_with b q) tt) (λ q. 1) P s e (λ q r same. ap (λ (t : Bool). some_if t tt) (same_begins q r same b)) empty h
 
   pub end_told : no_more_at s ≡ Err e → Told no_more_at P s e
   unfolding no_more_at
-  end_told h = found_told (λ q. some_where (length q == 0) tt) (λ q. 0) P s e (λ q r same. ap (λ (t : Bool). some_where t tt) (same_empty q r same)) empty h
+  end_told h = found_told (λ q. some_if (length q == 0) tt) (λ q. 0) P s e (λ q r same. ap (λ (t : Bool). some_if t tt) (same_empty q r same)) empty h
 
 -- ---- one reading after the other
 

@@ -1,5 +1,5 @@
 -- The bytes that stand for something in a list of leaves, by their names.
-use Rattle.std.specs.Prelude.{ℕ, codes, Bool, ◌==◌, ◌||◌}
+use Rattle.std.specs.Prelude.{ℕ, codes, Bool, ◌==◌}
 use Rattle.std.specs.List.{list_any}
 
 -- a colon
@@ -27,7 +27,3 @@ letter_of_counters = 73
 -- the letters of leaves
 abbrev pub is_leaf_letter : ℕ → Bool
 is_leaf_letter b = list_any (λ letter. b == letter) (codes "BbSsIiLlFDOC")
-
--- a space or a tab
-abbrev pub is_blank_byte : ℕ → Bool
-is_blank_byte b = (b == 32) || (b == 9)

@@ -5,15 +5,15 @@ use Rattle.std.specs.List.{prefix_len, slice_split}
 use Rattle.std.specs.Str.{all_ascii_digits}
 use Rattle.std.specs.Str.Parse.{digits_value}
 use Rattle.rio_num.specs.At.{At}
-use Rattle.rio_num.specs.Reading.{◌>>=◌, skip}
-use Rattle.rio_num.specs.Word.{is_item_byte, is_name_text}
+use Rattle.rio_num.specs.Reading.{◌>>=◌, skip, some_if}
+use Rattle.rio_num.specs.Word.{is_blank_byte, is_item_byte, is_name_text}
 use Rattle.rio_leaf.specs.declared.fault.LeafFault.{LeafFault}
 use Rattle.rio_leaf.specs.declared.fault.LeafFault.TheVariants.{BadLeaf}
 use Rattle.rio_leaf.specs.declared.leaf.Dim.{Dim}
 use Rattle.rio_leaf.specs.declared.leaf.Dim.TheVariants.{One, Fixed, Counted}
 use Rattle.rio_leaf.specs.declared.leaf.Leaf.{Leaf}
 use Rattle.rio_leaf.specs.Leaves.{counts_for, is_leaf_count, is_letter_of, is_taken}
-use Rattle.rio_leaf.specs.Marks.{before_dimension, before_letter, behind_dimension, between_leaves, is_blank_byte}
+use Rattle.rio_leaf.specs.Marks.{before_dimension, before_letter, behind_dimension, between_leaves}
 
 -- what was read and where reading stands, or the first token that can't stand
 abbrev pub ReadLeaf : Type 0 → Type 0
@@ -39,22 +39,19 @@ abbrev pub begins_with : ℕ → List ℕ → Bool
 begins_with b [] = false
 begins_with b (c ∷ cs) = c == b
 
-abbrev pub some_where : {A : Type 0} → Bool → A → Option A
-some_where test x = if test then Some x else None
-
 -- this byte
 unfoldable pub byte_at : ℕ → At → ReadLeaf (Unit {0})
-byte_at b s = found_at (some_where (begins_with b s.rest) tt) 1 s
+byte_at b s = found_at (some_if (begins_with b s.rest) tt) 1 s
 
 -- the end of what is read
 unfoldable pub no_more_at : At → ReadLeaf (Unit {0})
-no_more_at s = found_at (some_where (length s.rest == 0) tt) 0 s
+no_more_at s = found_at (some_if (length s.rest == 0) tt) 0 s
 
 -- ---- what words say
 
 -- the name of a leaf, which isn't taken yet
 abbrev pub leaf_name_of : List Leaf → List ℕ → Option (List ℕ)
-leaf_name_of before word = some_where (is_name_text word && not (is_taken before word)) word
+leaf_name_of before word = some_if (is_name_text word && not (is_taken before word)) word
 
 -- digits of which the first isn't 0, with the value of a dimension
 abbrev pub is_dimension : List ℕ → Bool
@@ -64,12 +61,12 @@ is_dimension word = not (slice_index word 0 == 48) && all_ascii_digits word && i
 unfoldable pub dim_of : List Leaf → List ℕ → List ℕ → Option Dim
 dim_of before own word =
     if is_dimension word then Some (Fixed (digits_value 10 word))
-    else some_where (is_name_text word && counts_for before own word) (Counted word 1)
+    else some_if (is_name_text word && counts_for before own word) (Counted word 1)
 
 -- a letter, which the dimension allows
 abbrev pub letter_in : Dim → List ℕ → Option ℕ
 letter_in dim [] = None
-letter_in dim (letter ∷ []) = some_where (is_letter_of dim letter) letter
+letter_in dim (letter ∷ []) = some_if (is_letter_of dim letter) letter
 letter_in dim (letter ∷ other ∷ more) = None
 
 -- ---- leaves

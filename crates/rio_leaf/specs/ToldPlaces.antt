@@ -1,11 +1,10 @@
 -- The place that is told of a text that lists no leaves is that of its first token that can't stand.
 use Rattle.std.specs.Prelude.{◌≡◌, ℕ, ◌+◌, ◌-◌, ◌^◌, ◌<◌, List, [], ◌∷◌, ◌++◌, length, take, slice_index, Err, false, ◌&&◌, if◌then◌else◌}
 use Rattle.std.specs.List.{prefix_len}
-use Rattle.rio_num.specs.Word.{is_item_byte}
+use Rattle.rio_num.specs.Word.{is_blank_byte, is_item_byte}
 use Rattle.rio_leaf.specs.declared.fault.LeafFault.{LeafFault}
 use Rattle.rio_leaf.specs.declared.fault.LeafFault.TheVariants.{BadLeaf}
 use Rattle.rio_leaf.specs.declared.leaf.Leaf.{Leaf}
-use Rattle.rio_leaf.specs.Marks.{is_blank_byte}
 use Rattle.rio_leaf.specs.Reading.{leaves_in, word_length}
 use Rattle.rio_leaf.specs.Spelling.{SpellsLeaves}
 

@@ -7,7 +7,7 @@ use std::alloc::Global;
 use std::marker::Model;
 
 /// What a branch holds at each entry.
-#[derive(Drop)]
+#[derive(PartialEq, Drop)]
 pub enum Shape {
     /// The values of its leaves, one behind the other.
     Leaves(Leaves),
@@ -16,7 +16,7 @@ pub enum Shape {
 }
 
 /// A branch of a tree.
-#[derive(Drop)]
+#[derive(PartialEq, Drop)]
 pub struct BranchDef {
     pub name: Name,
     pub shape: Shape,
@@ -140,4 +140,23 @@ fn copy_branches(branches: &Items<BranchDef>) -> Result<Items<BranchDef>, NoMemo
         copies.push(branch.copy()?)?;
     }
     Ok(copies)
+}
+
+impl PartialEq for BranchDefs {
+    ghost use Rattle.std.specs.Prelude.{◌↔◌, IsTrue};
+    ghost use Rattle.std.specs.Cmp.Lexicographic.{lists_per, pointwise};
+    ghost use Rattle.rio_leaf.specs.contracts.branch.BranchDefPartialEq.TheImpl.{eq-value as branch_equal};
+    ghost use Rattle.rio_leaf.specs.contracts.branch.BranchDefPartialEq.TheImpl.Laws.{laws-law as branch_laws};
+
+    ghost eq = { λ a b. pointwise branch_equal.it a b };
+
+    ghost laws = { lists_per branch_laws };
+
+    #[tactic(auto, using(crate::proofs::EqualLaws::branches_decide))]
+    fn eq(&self, other: &BranchDefs) -> bool
+        ensures pairs { result ≡ pointwise branch_equal.it self.now other.now }
+        ensures same { IsTrue result ↔ (self.now ≡ other.now) }
+    {
+        self.as_slice() == other.as_slice()
+    }
 }

@@ -1,7 +1,8 @@
 //! What the words of a leaf say: its dimension and its letter.
 ghost use Rattle.std.specs.Prelude.{◌≡◌, ◌==◌, slice_index, IfOk};
 ghost use Rattle.std.specs.Str.Parse.{digits_value};
-ghost use Rattle.rio_leaf.specs.Reading.{dim_of, is_dimension, letter_in, some_where};
+ghost use Rattle.rio_num.specs.Reading.{some_if};
+ghost use Rattle.rio_leaf.specs.Reading.{dim_of, is_dimension, letter_in};
 
 use crate::rules::{counts_for, is_leaf_count, is_letter_of};
 use crate::{Dim, Leaf};
@@ -19,7 +20,7 @@ fn begins_with_zero(word: &[u8]) -> bool
 
 // The number that the word is, where a dimension may be it.
 fn dimension(word: &[u8]) -> Option<u32>
-    ensures { result ≡ some_where (is_dimension word.now) (digits_value 10 word.now) }
+    ensures { result ≡ some_if (is_dimension word.now) (digits_value 10 word.now) }
 {
     let mut n: u32 = 0;
     for byte in word {

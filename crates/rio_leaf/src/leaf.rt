@@ -4,7 +4,7 @@ ghost use Rattle.std.specs.Prelude.{◌≡◌, IfOk};
 use rio_num::{Items, Name, NoMemory};
 
 /// How many values a leaf has at an entry.
-#[derive(Drop)]
+#[derive(PartialEq, Drop)]
 pub enum Dim {
     /// One value, which is no list.
     One,
@@ -18,7 +18,7 @@ pub enum Dim {
 /// A leaf of a branch. The letter tells what its values are: `B`, `S`, `I` and `L` signed integers of 1, 2, 4 and 8
 /// bytes, the small letters the same without a sign, `F` and `D` floating-point numbers of 4 and 8 bytes, `O` truth
 /// values and `C` texts (TLeafB to TLeafC in ROOT).
-#[derive(Drop)]
+#[derive(PartialEq, Drop)]
 pub struct Leaf {
     pub name: Name,
     pub letter: u8,

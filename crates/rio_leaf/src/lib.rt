@@ -3,7 +3,8 @@
 //! A leaf has a name, a letter that tells what its values are, and a dimension: one value, a list of so many, or a list
 //! that an earlier leaf counts. [`read_leaves`] reads a text as `n/I:list[n]/F`, or tells the first token that can't
 //! stand; [`print_leaves`] writes the text, and what is read is written so and the other way round. [`are_stated`] tells
-//! whether a tree may be declared with such branches.
+//! whether a tree may be declared with such branches. `==` tells whether branches and what they hold are the same
+//! (`proofs/EqualLaws.antt`).
 //!
 //! `specs/Spelling.antt` says which text spells which leaves, by cases on the leaves, and `specs/Leaves.antt` which may
 //! stand together; `specs/Reading.antt` reads from left to right. The two agree ([`spelled_leaves_are_read`],

@@ -1,36 +1,7 @@
 //! Reading one leaf from left to right, token after token.
-ghost use Rattle.std.specs.Prelude.{◌≡◌, ◌≤◌, length};
-ghost use Rattle.std.specs.List.{prefix_len};
-ghost use Rattle.rio_num.specs.Word.{is_item_byte};
-ghost use Rattle.rio_leaf.specs.Marks.{is_blank_byte};
-
 use crate::LeafFault;
+use rio_num::{blanks, word_length};
 use std::marker::Model;
-
-// How many blanks stand at the front.
-fn blanks(bytes: &[u8]) -> usize
-    ensures value { result ≡ prefix_len is_blank_byte bytes.now }
-    ensures within { result ≤ length bytes.now }
-{
-    bytes
-        .iter()
-        .take_while(|byte| **byte == b' ' || **byte == b'\t')
-        .count()
-}
-
-fn is_of_word(byte: u8) -> bool
-    ensures { result ≡ is_item_byte byte }
-{
-    byte.is_ascii_alphanumeric() || byte == b'_' || byte == b'.' || byte == b'-' || byte == b'+'
-}
-
-// How many bytes of a word stand at the front.
-fn word_length(bytes: &[u8]) -> usize
-    ensures value { result ≡ prefix_len is_item_byte bytes.now }
-    ensures within { result ≤ length bytes.now }
-{
-    bytes.iter().take_while(|byte| is_of_word(**byte)).count()
-}
 
 /// Where reading stands in the text of a leaf.
 #[derive(Drop)]
@@ -52,7 +23,9 @@ impl<'a> Model for Scan<'a> {
 
 impl<'a> Scan<'a> {
     ghost use Rattle.std.specs.Prelude.{◌≡◌, ◌+◌, ◌<◌, ◌^◌, ◌==◌, length, take, if◌then◌else◌};
+    ghost use Rattle.std.specs.List.{prefix_len};
     ghost use Rattle.rio_num.specs.Reading.{skip, Takes};
+    ghost use Rattle.rio_num.specs.Word.{is_blank_byte};
     ghost use Rattle.rio_leaf.specs.Reading.{begins_with, byte_at, from_place, no_more_at, word_length};
 
     /// Reads these bytes, the first of which stands at `place`.

@@ -19,7 +19,7 @@ use Rattle.rio_value.specs.Accessors.{parts_of}
 use Rattle.rio_model.specs.Stated.{are_stated_bases, are_stated_members, has_stated_parts, is_class_version}
 use Rattle.rio_model.specs.Described.{has_class_numbers, is_base_number, is_described, WrittenListIsRead}
 use Rattle.rio_format.specs.WrittenElements.{base_element, member_element, written_elements}
-use Rattle.rio_format.specs.WrittenList.{array_object, class_links, class_list_value, class_pointer, element_object, info_object, label_count, linked, list_object, named_object, number_part, plain_object, pointers_from}
+use Rattle.rio_format.specs.WrittenList.{array_object, class_links, class_list_value, class_pointer, element_object, info_object, label_count, linked, list_object, number_part, plain_object, pointers_from, titled_object}
 use Rattle.rio_model.proofs.DescribedBases.{bases_are_said, bases_pass, bases_read, bases_said}
 use Rattle.rio_model.proofs.DescribedElements.{named_back, named_parts}
 use Rattle.rio_model.proofs.DescribedMembers.{Counts, members_are_said, members_read, members_said, no_member_is_base}
@@ -80,7 +80,7 @@ abbrev array_parts : List Value → List Part
 array_parts items = part [] plain_object ∷ part (codes "fName") (Text []) ∷ number_part (codes "fLowerBound") 0 ∷ part (codes "items") (Items items) ∷ []
 
 abbrev info_parts : ClassDef → Value → List Part
-info_parts c elements = part [] (named_object c.name) ∷ number_part (codes "fCheckSum") c.sum ∷ part (codes "fClassVersion") (Int c.version) ∷ part (codes "fElements") elements ∷ []
+info_parts c elements = part [] (titled_object c.name []) ∷ number_part (codes "fCheckSum") c.sum ∷ part (codes "fClassVersion") (Int c.version) ∷ part (codes "fElements") elements ∷ []
 
 array_back : (label : ℕ) (items : List Value) → parts_behind (codes "TObjArray") (pos 3) (Pointed label (array_object items)) ≡ Some (array_parts items)
 unfolding array_object

@@ -8,7 +8,7 @@ use Rattle.rio_format.specs.Elements.{Element, element_of, element_with, layer_e
 use Rattle.rio_format.specs.Fits.{fits_signed}
 use Rattle.rio_format.specs.ValueParts.{base_parts, signed_in, text_in}
 use Rattle.rio_value.specs.Accessors.{part_of}
-use Rattle.rio_format.specs.WrittenList.{element_object, element_parts, named_object, plain_object}
+use Rattle.rio_format.specs.WrittenList.{element_object, element_parts, plain_object, titled_object}
 use Rattle.rio_format.specs.WrittenElements.{WrittenElement as Written}
 use Rattle.rio_model.proofs.DescribedValues.{element_back, object_back, pointer_back, signed_back, text_back}
 
@@ -29,8 +29,8 @@ named_parts name = part [] plain_object ∷ part (codes "fName") (Text name) ∷
 abbrev own_parts : Written → List Part
 own_parts e = part [] (Object (codes "TStreamerElement") (pos 4) (element_parts e)) ∷ e.added
 
-pub named_back : (name : List ℕ) (parts : List Part) → base_parts (codes "TNamed") (pos 1) (part [] (named_object name) ∷ parts) ≡ Some (named_parts name)
-unfolding named_object
+pub named_back : (name : List ℕ) (parts : List Part) → base_parts (codes "TNamed") (pos 1) (part [] (titled_object name []) ∷ parts) ≡ Some (named_parts name)
+unfolding titled_object
 named_back name parts = object_back (codes "TNamed") (pos 1) (codes "TNamed") (pos 1) (named_parts name) refl
 
 own_back : (label : ℕ) (e : Written) → is_element e.class e.version ≡ true → parts_behind_element (Pointed label (element_object e)) ≡ Some (own_parts e)
@@ -42,7 +42,7 @@ stated_back : (e : Written) → base_parts (codes "TStreamerElement") (pos 4) (o
 stated_back e = object_back (codes "TStreamerElement") (pos 4) (codes "TStreamerElement") (pos 4) (element_parts e) refl
 
 element_named : (e : Written) → base_parts (codes "TNamed") (pos 1) (element_parts e) ≡ Some (named_parts e.name)
-unfolding element_parts named_object
+unfolding element_parts titled_object
 element_named e = object_back (codes "TNamed") (pos 1) (codes "TNamed") (pos 1) (named_parts e.name) refl
 
 with_back : (e : Written) → fits_signed 32 e.code ≡ true → fits_signed 32 (pos e.count) ≡ true → element_with (own_parts e) (element_parts e) (named_parts e.name) ≡ said e

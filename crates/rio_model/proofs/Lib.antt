@@ -18,7 +18,6 @@ pub mod ListDepth
 pub mod ListElements
 pub mod ListFits
 pub mod ListNumbers
-pub mod ListParts
 pub mod ListSpelled
 pub mod OneLineLaws
 pub mod PointerLaws

@@ -14,7 +14,7 @@ use Rattle.rio_value.specs.declared.value.Value.TheFolds.{fold-Part, fold_out-Pa
 use Rattle.rio_format.specs.Laws.{versions_step, has_versions}
 use Rattle.rio_format.proofs.ValueCases.{Each, fold_Int, fold_Text, fold_List, fold_Object, fold_Pointed}
 use Rattle.rio_format.specs.WrittenElements.{base_element, inline_element, kind_element, member_element, pointer_element, reaches_object, written_elements}
-use Rattle.rio_format.specs.WrittenList.{array_object, class_links, class_list_value, class_pointer, element_object, element_parts, info_object, label_count, list_object, named_object, plain_object, pointers_from}
+use Rattle.rio_format.specs.WrittenList.{array_object, class_links, class_list_value, class_pointer, element_object, element_parts, info_object, label_count, list_object, plain_object, pointers_from, titled_object}
 use Rattle.rio_format.specs.WrittenElements.{WrittenElement}
 use Rattle.rio_model.specs.Described.{WrittenListHasVersions, WrittenListIsShallow}
 
@@ -88,8 +88,8 @@ plain_within : IsWithin 1 plain_object
 unfolding plain_object
 plain_within = object_within 0 (codes "TObject") (pos 1) _ refl (int_within 0 (pos 0), (int_within 0 (pos 0), tt))
 
-named_within : (name : List ℕ) → IsWithin 2 (named_object name)
-unfolding named_object
+named_within : (name : List ℕ) → IsWithin 2 (titled_object name [])
+unfolding titled_object
 named_within name = object_within 1 (codes "TNamed") (pos 1) _ refl (plain_within, (text_within 1 name, (text_within 1 [], tt)))
 
 element_within : (e : WrittenElement) → AreWithin 3 (element_parts e)

@@ -13,17 +13,17 @@ use Rattle.rio_types.specs.declared.kind.Primitive.TheVariants.{I8, I16, I32, I6
 use Rattle.rio_value.specs.declared.value.Value.{Value, Object, Pointed}
 use Rattle.rio_format.specs.Bodies.{part}
 use Rattle.rio_format.specs.Descriptions.{description_classes}
-use Rattle.rio_format.specs.Fits.{Labels, all_fit, fits_signed, may_point}
+use Rattle.rio_format.specs.Fits.{Labels, all_fit, fits_signed, fitting_of, may_point}
 use Rattle.rio_format.specs.Prims.{width_of}
 use Rattle.rio_format.specs.Slots.{kinded, based, any_pointer}
 use Rattle.rio_format.proofs.Tests.{both_true}
 use Rattle.rio_format.proofs.ValueCases.{Each}
+use Rattle.rio_format.proofs.WrittenParts.{FitsIn, index_list_fits, int_fits, pointer_fits, text_fits, titled_fits}
 use Rattle.rio_format.proofs.WrittenValues.{object_fitting, fit_object}
 use Rattle.rio_model.specs.Described.{is_base_number, kind_has_numbers, member_has_numbers}
 use Rattle.rio_format.specs.WrittenElements.{base_element, counted_element, inline_element, kind_element, member_element, pointer_element, primitive_code, reaches_object}
 use Rattle.rio_format.specs.WrittenList.{element_object, element_parts, pointers_from}
 use Rattle.rio_format.specs.WrittenElements.{WrittenElement}
-use Rattle.rio_model.proofs.ListParts.{FitsIn, fitting, index_list_fits, int_fits, named_fits, pointer_fits, text_fits}
 
 -- its numbers are i32
 record HasWords (e : WrittenElement) : Type 0 where
@@ -36,18 +36,18 @@ record HasWords (e : WrittenElement) : Type 0 where
 abbrev common : WrittenElement → Value
 common e = Object (codes "TStreamerElement") (pos 4) (element_parts e)
 
-common_fits : (e : WrittenElement) (labels : Labels) → HasWords e → FitsIn (based (codes "TStreamerElement") (pos 4)) (common e) labels labels
+common_fits : (e : WrittenElement) (labels : Labels) → HasWords e → FitsIn description_classes (based (codes "TStreamerElement") (pos 4)) (common e) labels labels
 unfolding element_parts description_classes
 common_fits e labels h =
     rw (
       fit_object description_classes (codes "TStreamerElement") (pos 4) (element_parts e),
-      named_fits e.name labels,
-      int_fits e.code I32 labels h.code,
-      int_fits (pos e.size) I32 labels h.size,
-      int_fits (pos e.count) I32 labels h.count,
-      int_fits (pos e.dimensions) I32 labels h.dimensions,
-      index_list_fits e.count labels h.count,
-      text_fits e.type_name labels,
+      titled_fits description_classes e.name [] labels,
+      int_fits description_classes e.code I32 labels h.code,
+      int_fits description_classes (pos e.size) I32 labels h.size,
+      int_fits description_classes (pos e.count) I32 labels h.count,
+      int_fits description_classes (pos e.dimensions) I32 labels h.dimensions,
+      index_list_fits description_classes e.count labels h.count,
+      text_fits description_classes e.type_name labels,
     ) refl
 
 -- ---- pointers to elements
@@ -58,19 +58,19 @@ own_label e = (e.class, e.version)
 
 -- a new pointer to it fits
 abbrev pub ElementFits : WrittenElement → Type 0
-ElementFits e = (label : ℕ) (labels : Labels) → label ≡ length labels → FitsIn any_pointer (Pointed label (element_object e)) labels (labels ++ own_label e ∷ [])
+ElementFits e = (label : ℕ) (labels : Labels) → label ≡ length labels → FitsIn description_classes any_pointer (Pointed label (element_object e)) labels (labels ++ own_label e ∷ [])
 
 -- it may be pointed to, and its object has the parts of its class
 record IsDescribed (e : WrittenElement) : Type 0 where
   may : may_point description_classes (own_label e) any_pointer ≡ true
-  inside : (labels : Labels) → FitsIn (based (codes "TStreamerElement") (pos 4)) (common e) labels labels
+  inside : (labels : Labels) → FitsIn description_classes (based (codes "TStreamerElement") (pos 4)) (common e) labels labels
       → (object_fitting description_classes e.class e.version (part [] (common e) ∷ e.added)).fits (kinded (Inline e.class)) labels ≡ Some labels
 
 element_fits : (e : WrittenElement) → HasWords e → IsDescribed e → ElementFits e
 unfolding element_object
 element_fits e words described label labels next =
     let own : Labels = labels ++ own_label e ∷ [] in
-    pointer_fits label e.class e.version (part [] (common e) ∷ e.added) any_pointer labels own next described.may (described.inside own (common_fits e own words))
+    pointer_fits description_classes label e.class e.version (part [] (common e) ∷ e.added) any_pointer labels own next described.may (described.inside own (common_fits e own words))
 
 -- ---- numbers of elements
 
@@ -132,7 +132,7 @@ unfolding description_classes
 base_fits b e =
     element_fits (base_element b)
     (record { code = base_code_fits (bytes_eq b.name (codes "TObject")) (bytes_eq b.name (codes "TNamed")); size = refl; count = refl; dimensions = refl })
-    (record { may = refl; inside = λ labels h. rw (h, int_fits b.version I32 labels e) refl })
+    (record { may = refl; inside = λ labels h. rw (h, int_fits description_classes b.version I32 labels e) refl })
 
 inline_fits : (reaches : Bool) (name class : List ℕ) → ElementFits (inline_element reaches name class)
 unfolding description_classes
@@ -159,7 +159,7 @@ kind_fits classes owner name (Fixed of count) v e =
     element_fits (kind_element classes owner name (Fixed of count)) (record { code = (codes_fit of).1; size = low_fits (width_of of * count) low; count = low_fits count (count_low of count low); dimensions = refl }) (record { may = refl; inside = λ labels h. rw h refl })
 kind_fits classes owner name (Counted of counter) v e =
     element_fits (counted_element owner name of counter) (record { code = (codes_fit of).2; size = refl; count = refl; dimensions = refl })
-    (record { may = refl; inside = λ labels h. rw (h, int_fits owner.version I32 labels v, text_fits counter labels, text_fits owner.name labels) refl })
+    (record { may = refl; inside = λ labels h. rw (h, int_fits description_classes owner.version I32 labels v, text_fits description_classes counter labels, text_fits description_classes owner.name labels) refl })
 kind_fits classes owner name Texted v e =
     element_fits (kind_element classes owner name Texted) (record { code = refl; size = refl; count = refl; dimensions = refl }) (record { may = refl; inside = λ labels h. rw h refl })
 kind_fits classes owner name (Inline class) v e = inline_fits (reaches_object classes class) name class
@@ -181,7 +181,7 @@ members_fit classes owner (m ∷ ms) v e =
 
 -- pointers to elements fit one behind the other
 pub pointers_fit : (es : List WrittenElement) → Each ElementFits es → (label : ℕ) (labels : Labels) → label ≡ length labels
-    → all_fit any_pointer (map fitting (pointers_from label (map element_object es))) labels ≡ Some (labels ++ map own_label es)
+    → all_fit any_pointer (map (fitting_of description_classes) (pointers_from label (map element_object es))) labels ≡ Some (labels ++ map own_label es)
 unfolding pointers_from
 pointers_fit [] each label labels next = ap (λ (l : Labels). Some l) (sym (append-nil labels))
 pointers_fit (e ∷ es) each label labels next =

@@ -137,7 +137,7 @@ text_short f s g (Err e) is fits h =
     (c.wanted, c.cut, told ∙ same)
 
 -- the data go as far, or not
-abbrev reach_or : {W F : Type 0} → F → Standing W → Bool → Reading W F (Unit {0})
+abbrev pub reach_or : {W F : Type 0} → F → Standing W → Bool → Reading W F (Unit {0})
 reach_or f s past = cond past (Err f) (Ok (tt, s))
 
 reached : {W F : Type 0} (e : ℕ) (f : F) (s : Standing W) (y : Unit {0}) (s' : Standing W) (b : Bool) → ltb (end_place s.at) e ≡ b → reach_or f s b ≡ Ok (y, s') → HasTaken (reaches e f) s y s'

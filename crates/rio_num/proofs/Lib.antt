@@ -19,3 +19,4 @@ pub mod Puts
 pub mod ReadLaws
 pub mod Retold
 pub mod Within
+pub mod Words

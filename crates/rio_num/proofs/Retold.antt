@@ -1,19 +1,16 @@
 -- A description whose faults are told in other words is read, spelled and broken as before, but for the words.
-use Rattle.std.proofs.Common.{◌≡◌, ℕ, ◌+◌, Bool, true, false, cond, ltb, List, length, Result, Ok, Err, Option, Some, None, refl}
+use Rattle.std.proofs.Common.{◌≡◌, ℕ, ◌+◌, Bool, true, false, ltb, List, length, Result, Ok, Err, Option, Some, None, refl}
 use Rattle.rio_num.specs.At.{At, end_place}
 use Rattle.rio_num.specs.Reading.{◌>>=◌, bytes_at, number_at, text_at}
 use Rattle.rio_num.specs.declared.cursor.Short.{Short}
 use Rattle.rio_num.specs.Layout.{Layout, done, broken, number, bytes, text, name, here, reaches, met, note, choice, behind, retold}
 use Rattle.rio_num.specs.Meanings.{Standing, Reading, ended_name, of_bytes, read, Spells}
+use Rattle.rio_num.proofs.Agree.{reach_or}
 
 -- the same, or the same fault in other words
 abbrev pub with_fault : {F G X : Type 0} → (G → F) → Result X G → Result X F
 with_fault h (Ok x) = Ok x
 with_fault h (Err e) = Err (h e)
-
--- the data go as far, or not
-abbrev reach_or : {W F : Type 0} → F → Standing W → Bool → Reading W F (Unit {0})
-reach_or f s past = cond past (Err f) (Ok (tt, s))
 
 module _ {W F G : Type 0} (h : G → F) where
   bytes_same : {A : Type 0} (f : ℕ → ℕ → G) (s : Standing W) (r : Result (A × At) Short) → of_bytes (λ place wanted. h (f place wanted)) s r ≡ with_fault h (of_bytes f s r)

@@ -1,5 +1,5 @@
 -- Reading from left to right, with the first fault and its place.
-use Rattle.std.specs.Prelude.{◌≡◌, ℕ, ◌+◌, List, [], ◌∷◌, length, take, drop, Result, Ok, Err, nat_lt, ◌==◌, if◌then◌else◌}
+use Rattle.std.specs.Prelude.{◌≡◌, ℕ, ◌+◌, List, [], ◌∷◌, length, take, drop, Result, Ok, Err, Option, Some, None, Bool, nat_lt, ◌==◌, if◌then◌else◌}
 use Rattle.byteorder.specs.Endian.{big_number}
 use Rattle.rio_num.specs.declared.cursor.Short.{Short}
 use Rattle.rio_num.specs.At.{At}
@@ -9,6 +9,10 @@ infixl 10 ◌>>=◌
 abbrev pub ◌>>=◌ : {A B E : Type 0} → Result A E → (A → Result B E) → Result B E
 (Ok x) >>= f = f x
 (Err e) >>= f = Err e
+
+-- what stands where the test holds
+abbrev pub some_if : {A : Type 0} → Bool → A → Option A
+some_if test x = if test then Some x else None
 
 abbrev pub skip : ℕ → At → At
 skip n s = record { place = s.place + n; rest = drop n s.rest }

@@ -1,4 +1,4 @@
--- Names and items: words of scripts and of command lines. Both have at most 100 bytes.
+-- Words of scripts and of command lines: names and items, which have at most 100 bytes, and the blanks before them.
 use Rattle.std.specs.Prelude.{ℕ, List, [], ◌∷◌, Bool, false, length, nat_le, ◌==◌, ◌&&◌, ◌||◌, not}
 use Rattle.std.specs.Char.{is_ascii_alphabetic, is_ascii_alphanumeric}
 use Rattle.std.specs.List.{list_all}
@@ -19,6 +19,10 @@ is_name_text (b ∷ bs) = begins_name b && list_all goes_on_name bs && nat_le (l
 -- a letter, a digit, or one of _ . - +
 abbrev pub is_item_byte : ℕ → Bool
 is_item_byte b = is_ascii_alphanumeric b || (b == 95) || (b == 46) || (b == 45) || (b == 43)
+
+-- a space or a tab
+abbrev pub is_blank_byte : ℕ → Bool
+is_blank_byte b = (b == 32) || (b == 9)
 
 -- the name of an object or a tree
 abbrev pub is_item_text : List ℕ → Bool

@@ -2,7 +2,8 @@
 //!
 //! `Cursor` takes numbers and texts from the front of some bytes, or answers `Short`; `Bytes` grows by puts, which find
 //! memory where room was reserved. `Name`, `Items`, `Boxed` and `Names` are seen by contracts as what they hold, and
-//! `NoMemory` is the one word for want of memory. `is_name` and `is_item` tell which words name something.
+//! `NoMemory` is the one word for want of memory. `is_name` and `is_item` tell which words name something, `blanks` and
+//! `word_length` what stands at the front of a text.
 //!
 //! `specs/Layout.antt` says how a format is described: as data, of which reading, spelling and the first fault are three
 //! meanings (`Meanings.antt`) that agree (`Laws.antt`, told by `meanings_agree`). The other files of `specs/` have the
@@ -29,7 +30,7 @@ pub use laws::meanings_agree;
 pub use name::Name;
 pub use names::Names;
 pub use no_memory::NoMemory;
-pub use word::{is_item, is_name};
+pub use word::{blanks, is_item, is_name, is_of_word, word_length};
 
 /// A list of names, as the words of a command line.
 pub type Words = Items<Name>;

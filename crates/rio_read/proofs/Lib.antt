@@ -3,3 +3,4 @@ pub mod Each
 pub mod PassedParts
 pub mod Passing
 pub mod ReadLaws
+pub mod Steps

@@ -23,7 +23,7 @@ use Rattle.rio_buffer.specs.declared.words.PointerWord.{PointerWord}
 use Rattle.rio_buffer.specs.declared.words.PointerWord.TheVariants.{New}
 use Rattle.rio_format.specs.Bodies.{Counters, t_named, t_obj_string}
 use Rattle.rio_format.specs.Objects.{Objects, array_parts, base_object, base_part, closed, count_of, kind_value, link, list_parts, member_part, member_parts, number_value, parts, pointed, pointer, text_value, whole_object}
-use Rattle.rio_read.specs.Passing.{counted_member, pass_of_new, noted_counter, pass_of}
+use Rattle.rio_read.specs.Passing.{counted_member, pass_of_new, counters_with_next, pass_of}
 use Rattle.rio_read.proofs.Passing.{at_end}
 
 out_int : (n : ℤ) → out-Value (Int n) ≡ layer.Int n
@@ -142,9 +142,9 @@ module _ {Y : Type 0} (l : ObjLayout Y) (n i : ℕ) (s : ReaderState) (total : S
 -- ---- members
 
 -- a counter among the members
-pub counter_noted : (object : Objects) (counters : Counters) (m : Member) (s : ReaderState) → m.kind ≡ Counter → read (counted_member object counters m) s ≡ read (noted_counter m.name counters) s
-unfolding counted_member member_part kind_value number_value noted_counter
-counter_noted object counters m s e = rw e (simp (bind_assoc, out_int))
+pub counter_passed : (object : Objects) (counters : Counters) (m : Member) (s : ReaderState) → m.kind ≡ Counter → read (counted_member object counters m) s ≡ read (counters_with_next m.name counters) s
+unfolding counted_member member_part kind_value number_value counters_with_next
+counter_passed object counters m s e = rw e (simp (bind_assoc, out_int))
 
 -- any other member
 pub member_passed : (object : Objects) (counters : Counters) (m : Member) (s : ReaderState) → is_counter m.kind ≡ false → read (counted_member object counters m) s ≡ (read (pass_of (kind_value object counters m.kind)) s >>= λ x. Ok (counters, x.1))

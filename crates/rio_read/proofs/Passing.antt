@@ -3,12 +3,12 @@ use Rattle.std.proofs.Common.{◌≡◌, inl, inr, ℕ, zero, suc, ◌/◌, Bool
 use Rattle.std.proofs.Math.Nat.{div-mul-le_self, le-div_iff_mul-le, suc-mul}
 use Rattle.std.proofs.lemmas.Bool.{lt-ltb, le-ltb, cases_lt}
 use Rattle.std.proofs.lemmas.List.{length-drop, drop-drop}
-use Rattle.rio_num.specs.Reading.{◌>>=◌, skip}
+use Rattle.rio_num.specs.Reading.{skip}
 use Rattle.rio_num.specs.Meanings.{read}
 use Rattle.rio_num.specs.Layout.{any, each, times}
 use Rattle.rio_types.specs.declared.kind.Primitive.{Primitive}
 use Rattle.rio_value.specs.declared.value.Value.{Value}
-use Rattle.rio_buffer.specs.Frames.{ObjLayout, ReadsAs, Step}
+use Rattle.rio_buffer.specs.Frames.{ReadsAs, Step}
 use Rattle.rio_buffer.specs.Reader.{TakesStep}
 use Rattle.rio_buffer.specs.ReaderState.{ReaderState}
 use Rattle.rio_buffer.specs.declared.fault.ObjFault.{ObjFault}
@@ -17,11 +17,7 @@ use Rattle.rio_format.specs.Objects.{number_value}
 use Rattle.rio_format.specs.Prims.{value_of_prim, width_of}
 use Rattle.byteorder.specs.Endian.{big_number}
 use Rattle.rio_read.specs.Passing.{pass_of}
-
--- what was read isn't kept
-abbrev pub dropped : {A : Type 0} → Step A → Step (Unit {0})
-dropped (Ok x) = Ok (tt, x.1)
-dropped (Err e) = Err e
+use Rattle.rio_read.proofs.Steps.{step_as-twice}
 
 abbrev pub fault : ObjFault → Step (Unit {0})
 fault e = Err e
@@ -32,17 +28,6 @@ at_end s = Ok (tt, s)
 -- so many bytes further
 abbrev pub past : ℕ → ReaderState → ReaderState
 past n s = record s { at = skip n s.at }
-
-pub behind_front : {Y : Type 0} (y : Y) (given : Step (List Y)) → dropped (given >>= λ ys. Ok (y ∷ ys.0, ys.1)) ≡ dropped given
-behind_front y (Ok ys) = refl
-behind_front y (Err e) = refl
-
-pub passed_is : {A : Type 0} (l : ObjLayout A) (s : ReaderState) → read (pass_of l) s ≡ dropped (read l s)
-passed_is l s = by (read l s)
-  where
-    by : {A : Type 0} (given : Step A) → (given >>= λ x. at_end x.1) ≡ dropped given
-    by (Ok x) = refl
-    by (Err e) = refl
 
 past_none : (s : ReaderState) → s ≡ past 0 s
 past_none s =
@@ -81,8 +66,7 @@ module _ (of : Primitive) where
   unfolding each
   one_more n s le =
       let one = number_ok s le in
-      let same : dropped (read (times (suc n) (number_value of)) s) ≡ dropped (read (times n (number_value of)) (past (width_of of) s)) = rw one.1 (behind_front one.0 (read (times n (number_value of)) (past (width_of of) s))) in
-      passed_is (times (suc n) (number_value of)) s ∙ same ∙ sym (passed_is (times n (number_value of)) (past (width_of of) s))
+      rw one.1 (step_as-twice (λ (ys : List Value). one.0 ∷ ys) (λ ys. tt) (read (times n (number_value of)) (past (width_of of) s)))
 
   none_more : (n : ℕ) (s : ReaderState) → length s.at.rest < width_of of → read (pass_of (times (suc n) (number_value of))) s ≡ fault (Short s.at.place (width_of of))
   unfolding each

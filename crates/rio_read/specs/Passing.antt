@@ -19,8 +19,8 @@ counted_member object counters m = do
   done (counters_with m p.value counters)
 
 -- a counter of this name behind these counters, of which no more is kept than the counters from then on
-unfoldable pub noted_counter : List ℕ → Counters → ObjLayout Counters
-noted_counter name counters = do
+unfoldable pub counters_with_next : List ℕ → Counters → ObjLayout Counters
+counters_with_next name counters = do
   n ← number Short 4
   done ((name, cast_signed w32 n) ∷ counters)
 

@@ -8,10 +8,9 @@ ghost use Rattle.rio_num.specs.Meanings.{read};
 ghost use Rattle.rio_value.specs.declared.value.Value.{Int, Object};
 ghost use Rattle.rio_read.specs.Members.{pid_parts};
 
-use crate::member::part_with;
 use crate::numbers::{read_count, read_numbers};
 use rio_buffer::{ObjFault, ObjReader};
-use rio_format::width_of;
+use rio_format::{part_with, width_of};
 use rio_num::{Name, NoMemory};
 use rio_types::{Classes, Prim};
 use rio_value::{Parts, Value};

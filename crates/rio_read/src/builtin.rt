@@ -8,9 +8,9 @@ ghost use Rattle.rio_num.specs.Meanings.{read};
 ghost use Rattle.rio_value.specs.declared.value.Value.{Text, List as Listing};
 
 use crate::bare::read_base;
-use crate::member::part_with;
 use crate::numbers::read_name;
 use rio_buffer::{ObjFault, ObjReader};
+use rio_format::part_with;
 use rio_num::{Name, NoMemory};
 use rio_types::Classes;
 use rio_value::{Parts, Value, Values};

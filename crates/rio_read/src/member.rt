@@ -1,7 +1,6 @@
 //! Parts of objects and items of lists.
 ghost use Rattle.std.specs.Prelude.{◌≡◌, [], ◌∷◌, IfOk};
 ghost use Rattle.rio_num.specs.At.{GoesOn};
-ghost use Rattle.rio_format.specs.Bodies.{part};
 ghost use Rattle.rio_value.specs.Accessors.{number_in};
 ghost use Rattle.rio_buffer.specs.Frames.{ReadsAs};
 ghost use Rattle.rio_value.specs.declared.value.Value.{out-Value, Text, List as Listing};
@@ -13,16 +12,6 @@ use rio_format::Counters;
 use rio_num::{Name, NoMemory};
 use rio_value::{Part, Value, Values};
 use std::alloc::Global;
-
-/// A part of this name.
-pub(crate) fn part_with(alloc: Global, name: &[u8], value: Value) -> Result<Part, NoMemory>
-    ensures { IfOk result (λ p. p ≡ part name.now value) }
-{
-    Ok(Part {
-        name: Name::from_slice(alloc, name)?,
-        value,
-    })
-}
 
 /// An item of a TList: a pointer and an option.
 pub(crate) fn link(alloc: Global, pointer: Value, option: Name) -> Result<Value, NoMemory>
@@ -36,10 +25,10 @@ pub(crate) fn link(alloc: Global, pointer: Value, option: Name) -> Result<Value,
 
 /// A counter of this name, which counts from then on.
 #[tactic(auto, unfolding(crate::specs::Members::counter_part, rio_format::specs::Objects::number_value))]
-pub(crate) fn read_counter(
+pub(crate) fn read_counter<'a>(
     reader: &mut ObjReader,
-    name: &Name,
-    counters: &mut Counters,
+    name: &'a Name,
+    counters: &mut Counters<'a>,
 ) -> Result<Part, ObjFault>
     ensures exact { ReadsAs (λ x. x) result (read (counter_part name.now) reader.old) reader.new }
     ensures counters { IfOk result (λ p. counters.new
@@ -47,7 +36,7 @@ pub(crate) fn read_counter(
     ensures goes { GoesOn reader.old.at reader.new.at }
 {
     let said = reader.take_u32()?.cast_signed();
-    counters.note(name.copy()?, said)?;
+    counters.note(name.as_slice(), said)?;
     Ok(Part {
         name: name.copy()?,
         value: Value::Int(i128::from(said)),

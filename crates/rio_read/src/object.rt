@@ -12,11 +12,11 @@ ghost use Rattle.rio_read.specs.Lists.{with_front};
 
 use crate::bare::{read_array, read_bare, read_base};
 use crate::builtin::{array_parts, list_parts, read_named_parts, read_obj_string_parts};
-use crate::member::{link, part_with, read_counter};
+use crate::member::{link, read_counter};
 use crate::numbers::{read_count, read_counted, read_name, read_number, read_numbers, read_text};
 use crate::whole::{read_opaque, whole, whole_described};
 use rio_buffer::{Header, ObjFault, ObjReader, PointerWord};
-use rio_format::{BodyKind, Counters, Shape, body_of, shape_of};
+use rio_format::{BodyKind, Counters, Shape, body_of, part_with, shape_of};
 use rio_num::Boxed;
 use rio_types::{Base, ClassDef, Classes, Kind, Member, Prim};
 use rio_value::{Part, Parts, Value, Values};
@@ -203,12 +203,12 @@ fn read_members(
 
 #[cycle(object)]
 #[tactic(auto, unfolding(rio_format::specs::Objects::member_part))]
-fn read_member(
+fn read_member<'a>(
     alloc: Global,
     classes: &Classes,
     reader: &mut ObjReader,
-    member: &Member,
-    counters: &mut Counters,
+    member: &'a Member,
+    counters: &mut Counters<'a>,
     levels: u32,
 ) -> Result<Part, ObjFault>
     ensures exact { ReadsAs (λ x. x) result

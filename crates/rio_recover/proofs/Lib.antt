@@ -18,7 +18,6 @@ pub mod Objects
 pub mod Recovering
 pub mod RoomReasons
 pub mod Rooms
-pub mod SameLists
 pub mod StateJudged
 pub mod StateRead
 pub mod Tables

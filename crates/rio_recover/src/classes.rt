@@ -13,7 +13,6 @@ ghost use Rattle.rio_recover.specs.Keys.{StandsIn, record_end};
 
 use crate::RecoverFault;
 use crate::object::{data_of, record_bytes};
-use crate::same::{are_same_bases, are_same_classes};
 use rio_buffer::ObjFault;
 use rio_decl::is_stated;
 use rio_describe::tree_classes;
@@ -23,11 +22,23 @@ use rio_key::KeyHead;
 use rio_model::DeclareFault;
 use rio_num::NoMemory;
 use rio_registry::{Registry, is_reserved_name};
-use rio_types::{ClassDef, Classes};
+use rio_types::{Base, ClassDef, Classes};
 use std::alloc::Global;
 
 // How long the data of a class list may be.
 const LENGTH_LIMIT: u64 = 16_777_216;
+
+fn are_same_bases(a: &[Base], b: &[Base]) -> bool
+    ensures { IsTrue result ↔ (a.now ≡ b.now) }
+{
+    a == b
+}
+
+fn are_same_classes(a: &[ClassDef], b: &[ClassDef]) -> bool
+    ensures { IsTrue result ↔ (a.now ≡ b.now) }
+{
+    a == b
+}
 
 // Whether the last class of the registry has the same bases, in the same versions.
 fn has_same_bases(registry: &Registry, class: &ClassDef) -> bool

@@ -15,7 +15,6 @@ mod names;
 mod object;
 mod recovery;
 mod room;
-mod same;
 mod unborn;
 mod walked;
 

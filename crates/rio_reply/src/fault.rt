@@ -24,8 +24,8 @@ fn data_of<'a>(head: &KeyHead, bytes: &'a [u8]) -> &'a [u8]
     }
 }
 
-// The value that the data of a record spell, or its fault.
-pub(crate) fn put_stored(
+/// Puts the value at the end that the data of this record spell, or `fault`, the kind of its fault and its numbers.
+pub fn put_stored(
     alloc: Global,
     text: &mut Bytes,
     classes: &Classes,

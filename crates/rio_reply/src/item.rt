@@ -15,8 +15,8 @@ pub(crate) fn put_number(text: &mut Bytes, n: u64) -> Result<(), NoMemory>
     text.put_decimal(n)
 }
 
-// NAME;CYCLE
-pub(crate) fn put_item(text: &mut Bytes, name: &[u8], cycle: u16) -> Result<(), NoMemory>
+/// Puts `NAME;CYCLE` at the end.
+pub fn put_item(text: &mut Bytes, name: &[u8], cycle: u16) -> Result<(), NoMemory>
     ensures { OnOk result (text.new.bytes ≡ text.old.bytes ++ item_text name.now cycle) }
 {
     text.put_name(name)?;

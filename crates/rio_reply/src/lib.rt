@@ -1,13 +1,16 @@
 //! Replies to commands as they are said. `Bytes` that a call here answers are the text of the machine's reply, which is made
 //! of what a session keeps beside its file: [`refusal_reply`] of a refusal, [`put_reply`] of an object that was put,
-//! [`get_reply`] of an object's record, and [`listing_reply`] of the keys of all objects. What the texts are stands with the
-//! machine's steps; `specs/Told.antt` has what is said of a record that may have no reading.
+//! [`get_reply`] of an object's record, and [`listing_reply`] of the keys of all objects. [`put_item`] and [`put_stored`] put
+//! the parts that other texts have too. What the texts are stands with the machine's steps; `specs/Told.antt` has what is said
+//! of a record that may have no reading.
 #![tactic(auto)]
 
 mod fault;
 mod item;
 mod reply;
 
+pub use fault::put_stored;
+pub use item::put_item;
 pub use reply::{get_reply, listing_reply, put_reply, refusal_reply};
 
 #[cfg(test)]

@@ -5,7 +5,7 @@ use Rattle.rio_head.specs.declared.fault.FileFault.{FileFault}
 use Rattle.rio_head.specs.declared.fault.HeadFault.{HeadFault}
 use Rattle.rio_host.specs.Host.{View}
 use Rattle.rio_host.specs.OnlyReads.{OnlySaysPieces, Says}
-use Rattle.rio_host.proofs.PiecesLaws.{part_as, pieces_part}
+use Rattle.rio_host.proofs.PiecesLaws.{pieces_as, pieces_part}
 use Rattle.rio_dir.specs.Listing.{said_listing}
 use Rattle.rio_meaning.specs.declared.described.Described.{Described}
 use Rattle.rio_meaning.specs.declared.item.Item.{Item}
@@ -51,9 +51,9 @@ module _ (listing : ListingOf) (text_of : List ℕ → List ℕ) (a d : View) (i
   listing_is file told = sym (ap said_listing (is file told))
 
   pub told_calls : (r : ListingAnswer) → Says text_of a d r → OnlySaysPieces (λ file. said_listing (listing file)) a d
-  told_calls (Ok x) says = part_as text_of (λ file. said_listing (listing file)) listing_is (pieces_part text_of says)
-  told_calls (Err e) says = part_as text_of (λ file. said_listing (listing file)) listing_is says
+  told_calls (Ok x) says = pieces_as text_of (λ file. said_listing (listing file)) listing_is (pieces_part text_of says)
+  told_calls (Err e) says = pieces_as text_of (λ file. said_listing (listing file)) listing_is says
 
   pub told_done : (r : ListingAnswer) → Says text_of a d r → IsDone listing a d r
-  told_done (Ok x) says = λ file told. rw (is file told) (says.whole file told)
+  told_done (Ok x) says = λ file told. rw (is file told) (says.part file told)
   told_done (Err e) says = tt

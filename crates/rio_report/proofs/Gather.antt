@@ -3,7 +3,7 @@ use Rattle.std.proofs.Common.{◌≡◌, ◌++◌, ℕ, List, [], Some, Result, 
 use Rattle.std.proofs.lemmas.List.{append-nil}
 use Rattle.rio_host.specs.Host.{View, IsLawful}
 use Rattle.rio_host.specs.OnlyReads.{OnlyReads, OnlySaysPieces, Says, SaysPieces}
-use Rattle.rio_host.proofs.PiecesLaws.{part_as, part_front, part_join, pieces_as, pieces_join, pieces_part, reads_pieces}
+use Rattle.rio_host.proofs.PiecesLaws.{part_front, part_join, pieces_as, pieces_join, pieces_part, reads_pieces}
 use Rattle.rio_report.specs.Gathered.{Gathered, Gathers}
 
 abbrev Texts : Type 0
@@ -27,7 +27,7 @@ gathered_none held says = record {
 
 -- what is held is never said
 pub gathered_stop : {a b : View} (f : Texts) (held : List ℕ) → Gathered f held a b → OnlySaysPieces f a b
-gathered_stop f held one = part_as (λ file. one.front file ++ held) f one.rest (part_front one.front (λ file. held) (pieces_part one.front one.said))
+gathered_stop f held one = pieces_as (λ file. one.front file ++ held) f one.rest (part_front one.front (λ file. held) (pieces_part one.front one.said))
 
 -- a text behind what is held
 behind_held : {a b : View} (f : Texts) (held : List ℕ) (one : Gathered f held a b) (g : Texts) (file : List ℕ) → a.holds ≡ Some file → one.front file ++ (held ++ g file) ≡ f file ++ g file
@@ -46,7 +46,7 @@ module _ (a b c : View) (lawful_a : IsLawful a) (lawful_b : IsLawful b) (f : Tex
     }
 
     pub cut_on : OnlySaysPieces t b c → OnlySaysPieces whole a c
-    cut_on two = part_as (λ file. one.front file ++ t file) whole same (part_join one.front t lawful_a lawful_b one.said two)
+    cut_on two = pieces_as (λ file. one.front file ++ t file) whole same (part_join one.front t lawful_a lawful_b one.said two)
 
     pub said_on : SaysPieces t b c → SaysPieces whole a c
     said_on two = pieces_as (λ file. one.front file ++ t file) whole same (pieces_join one.front t lawful_a lawful_b one.said two)

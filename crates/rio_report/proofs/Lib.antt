@@ -1,3 +1,4 @@
+pub mod CheckedRows
 pub mod Dumps
 pub mod FirstRefusals
 pub mod Gather
@@ -7,7 +8,6 @@ pub mod LineByLine
 pub mod Lines
 pub mod Numbers
 pub mod Scans
-pub mod TestedRows
 pub mod Trees
 pub mod ValueTexts
 pub mod Walks

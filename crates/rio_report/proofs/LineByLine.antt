@@ -5,7 +5,7 @@ use Rattle.std.proofs.lemmas.List.{append-nil, take_all, take_more, take-append-
 use Rattle.std.proofs.lemmas.List.Concat.{flat_map-append}
 use Rattle.rio_host.specs.Host.{View, IsLawful}
 use Rattle.rio_host.specs.OnlyReads.{OnlySaysPieces}
-use Rattle.rio_host.proofs.PiecesLaws.{part_as, part_front}
+use Rattle.rio_host.proofs.PiecesLaws.{part_front, pieces_as}
 use Rattle.rio_report.specs.Gathered.{Gathered}
 use Rattle.rio_report.proofs.Gather.{cut_on, gathered_on}
 
@@ -55,5 +55,5 @@ module _ {X : Type 0} (line : List ℕ → X → List ℕ) (xs : List X) where
       line_cut two =
           let cut = cut_on a b c lawful_a lawful_b (first_lines i) held so_far (λ file. held ++ line file x) (first_lines (i + 1)) (next_line i x lt is held so_far) two in
           let more = part_front (first_lines (i + 1)) (λ file. flat_map (line file) (drop (i + 1) xs)) cut in
-          part_as (λ file. first_lines (i + 1) file ++ flat_map (line file) (drop (i + 1) xs)) (λ file. first ++ flat_map (line file) xs)
+          pieces_as (λ file. first_lines (i + 1) file ++ flat_map (line file) (drop (i + 1) xs)) (λ file. first ++ flat_map (line file) xs)
           (λ file told. append_assoc first (lines (i + 1) file) (flat_map (line file) (drop (i + 1) xs)) ∙ ap (λ (l : List ℕ). first ++ l) (in_front (i + 1) file)) more

@@ -1,52 +1,18 @@
 //! The line of a key, and what its record holds.
-ghost use Rattle.std.specs.Prelude.{◌≡◌, ◌++◌, ◌<◌, ◌^◌, drop, length, ℕ, List, Some, OnOk};
-ghost use Rattle.rio_format.specs.Objects.{value_at};
+ghost use Rattle.std.specs.Prelude.{◌≡◌, ◌++◌, ℕ, List, Some, OnOk};
 ghost use Rattle.rio_host.specs.Host.{IsLength};
 ghost use Rattle.rio_host.specs.OnlyReads.{OnlyReads};
-ghost use Rattle.rio_meaning.specs.Dump.{content_text, is_tree, stored_line, value_or_fault};
+ghost use Rattle.rio_meaning.specs.Dump.{content_text, is_tree, stored_line};
 ghost use Rattle.rio_close.specs.Causes.{IsCallCause};
 
-use crate::ls::put_named_cycle;
 use crate::tree_line::{put_tree, read_stored_tree};
-use rio_buffer::ObjFault;
-use rio_close::{ReportFault, data_of, read_up_to};
+use rio_close::{ReportFault, read_up_to};
 use rio_host::Host;
 use rio_key::KeyHead;
-use rio_meaning::put_object_fault;
-use rio_num::{Bytes, NoMemory};
-use rio_read::read_object;
+use rio_num::Bytes;
+use rio_reply::{put_item, put_stored};
 use rio_types::Classes;
-use rio_valtext::print_value;
 use std::alloc::Global;
-
-// Puts the value at the end that the bytes of the key's record spell, or its fault.
-fn put_value(
-    alloc: Global,
-    text: &mut Bytes,
-    classes: &Classes,
-    key: &KeyHead,
-    bytes: &[u8],
-) -> Result<(), NoMemory>
-    requires { length bytes.now < 2 ^ 32 }
-    ensures { OnOk result (text.new.bytes ≡ text.old.bytes ++ value_or_fault
-        (value_at classes.now key.now.class key.now.keylen (drop key.now.keylen bytes.now))) }
-{
-    let contents = data_of(key, bytes);
-    match read_object(
-        alloc,
-        classes,
-        key.class.as_slice(),
-        contents,
-        u64::from(key.keylen),
-    ) {
-        Ok(value) => print_value(&value, text),
-        Err(ObjFault::NoMemory) => Err(NoMemory),
-        Err(fault) => {
-            text.put(b"fault ")?;
-            put_object_fault(text, &fault)
-        }
-    }
-}
 
 /// Whether the key is a tree's.
 pub(crate) fn is_tree(key: &KeyHead) -> bool
@@ -86,7 +52,7 @@ fn put_content<H: Host>(
         key.seek,
         key.nbytes.cast_unsigned(),
     )?;
-    put_value(alloc, text, classes, key, &bytes)?;
+    put_stored(alloc, text, classes, key, &bytes)?;
     Ok(())
 }
 
@@ -105,7 +71,7 @@ pub(crate) fn put_stored_line<H: Host>(
     ensures calls { OnlyReads (H.view host.old) (H.view host.new) }
     ensures cause { IsCallCause (H.view host.old) (H.view host.new) result }
 {
-    put_named_cycle(text, key)?;
+    put_item(text, key.name.as_slice(), key.cycle)?;
     text.put(b" ")?;
     put_content(alloc, host, file_length, classes, key, text)?;
     text.put(b"\n")?;

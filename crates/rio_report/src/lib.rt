@@ -1,10 +1,12 @@
 //! The verbs that read a file: what they say of it, by calls of the host that only read. `say_ls` lists the keys, `say_dump`
 //! the classes and each object with its value, and `say_scan` the rows of a tree: it goes over the baskets and then over the
-//! entries to find which branches can't be read, where it makes values of no branches but those that count leaves of others,
-//! and over the entries again to say the rows. Beside the key list and the classes one record is held, or the tree's head,
-//! one basket of each branch and the values of one row.
+//! entries to find which branches can't be read, where it makes no values but numbers, one for each leaf: of branches that
+//! count leaves of others, which it keeps up to the end of the row, and of a branch with counted leaves while its entry is
+//! checked; and over the entries again to say the rows. Beside the key list and the classes one record is held, or the tree's
+//! head, one basket of each branch and the values of one row.
 #![tactic(auto)]
 
+mod checked;
 mod content;
 mod counts;
 mod described;
@@ -19,7 +21,6 @@ mod scan;
 mod scan_rows;
 mod scan_text;
 mod stored;
-mod tested;
 mod tree_line;
 
 pub use dump::say_dump;

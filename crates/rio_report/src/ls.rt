@@ -2,23 +2,15 @@
 ghost use Rattle.std.specs.Prelude.{◌≡◌, ◌++◌, IfOk, OnOk};
 ghost use Rattle.rio_close.specs.Causes.{IsSayCause, IsTested};
 ghost use Rattle.rio_host.specs.OnlyReads.{OnlySays};
-ghost use Rattle.rio_dir.specs.Listing.{key_line, key_lines, listed_file, mark_of, named_cycle};
+ghost use Rattle.rio_dir.specs.Listing.{key_line, key_lines, listed_file, mark_of};
 ghost use Rattle.rio_report.specs.Lists.{AtOnce, IsDone, Lists, Refuses, SaysFront, StaysSilent};
 
 use rio_close::{ReportFault, open_closed};
 use rio_host::Host;
 use rio_key::KeyHead;
 use rio_num::{Bytes, NoMemory};
+use rio_reply::put_item;
 use std::alloc::Global;
-
-/// Puts `NAME;CYCLE` at the end.
-pub(crate) fn put_named_cycle(text: &mut Bytes, key: &KeyHead) -> Result<(), NoMemory>
-    ensures { OnOk result (text.new.bytes ≡ text.old.bytes ++ named_cycle key.now) }
-{
-    text.put_name(key.name.as_slice())?;
-    text.put(b";")?;
-    text.put_decimal(u64::from(key.cycle))
-}
 
 // Puts what stands behind a compressed key at the end.
 fn put_mark(text: &mut Bytes, key: &KeyHead) -> Result<(), NoMemory>
@@ -34,7 +26,7 @@ fn put_mark(text: &mut Bytes, key: &KeyHead) -> Result<(), NoMemory>
 fn put_line(text: &mut Bytes, key: &KeyHead) -> Result<(), NoMemory>
     ensures { OnOk result (text.new.bytes ≡ text.old.bytes ++ key_line key.now) }
 {
-    put_named_cycle(text, key)?;
+    put_item(text, key.name.as_slice(), key.cycle)?;
     text.put(b" ")?;
     text.put_name(key.class.as_slice())?;
     put_mark(text, key)?;

@@ -7,12 +7,12 @@ ghost use Rattle.rio_close.specs.Causes.{IsCallCause};
 ghost use Rattle.rio_scan.specs.Refusals.{branch_refusal, refusals_of};
 ghost use Rattle.rio_tree_head.specs.declared.head.Branch.{Branch as Branched};
 ghost use Rattle.rio_report.specs.Lanes.{AreLanes};
-ghost use Rattle.rio_report.specs.Tested.{CountersMade};
+ghost use Rattle.rio_report.specs.Checked.{CountersMade};
 
+use crate::checked::{Made, counters_alone};
 use crate::lane::Lane;
 use crate::rows::{Tree, read_row, refusal_before};
 use crate::stored::refusal_of_baskets;
-use crate::tested::counting_none;
 use rio_close::ReportFault;
 use rio_host::Host;
 use rio_num::NoMemory;
@@ -96,18 +96,18 @@ fn is_any_read(refusals: &Refusals) -> bool
     refusals.iter().any(|refusal| refusal.is_none())
 }
 
-// Goes through the entries: a branch is no longer read from the first one on that isn't read. Entries of branches that count
-// leaves of no other are only tested.
-fn test_entries<H: Host>(
+// Goes through the entries: a branch is no longer read from the first one on that isn't read. At least the numbers of branches
+// that count leaves of others are made.
+fn check_entries<H: Host>(
     alloc: Global,
     host: &mut H,
     tree: &Tree,
     entries: u64,
-    tested: &[bool],
+    made: &[Made],
     first: Refusals,
 ) -> Result<Refusals, ReportFault>
     requires length { IsLength (H.view host.old) tree.now.file_length }
-    requires counters { CountersMade tested.now tree.now.branches.now }
+    requires counters { CountersMade made.now tree.now.branches.now }
     requires count { length first ≡ length tree.now.branches.now }
     ensures refusals { IfOk result (λ refusals. (file : List ℕ)
         → (H.view host.old).holds ≡ Some file
@@ -129,7 +129,7 @@ fn test_entries<H: Host>(
             tree,
             entry,
             refusals.as_slice(),
-            tested,
+            made,
             &mut lanes,
         )?;
         refusals = row.refusals;
@@ -153,6 +153,6 @@ pub(crate) fn find_refusals<H: Host>(
     ensures cause { IsCallCause (H.view host.old) (H.view host.new) result }
 {
     let first = first_refusals(alloc, host, tree)?;
-    let tested = counting_none(alloc, tree.branches)?;
-    test_entries(alloc, host, tree, entries, tested.as_slice(), first)
+    let made = counters_alone(alloc, tree.branches)?;
+    check_entries(alloc, host, tree, entries, made.as_slice(), first)
 }

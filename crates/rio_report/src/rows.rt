@@ -1,25 +1,27 @@
 //! The rows of a tree, read entry by entry.
-ghost use Rattle.std.specs.Prelude.{◌≡◌, ◌≢◌, ◌+◌, ◌<◌, ◌^◌, ℕ, List, Some, None, IfOk, IsTrue, OnOk, is_some, length, true};
-ghost use Rattle.std.specs.Result.{result_ok};
+ghost use Rattle.std.specs.Prelude.{◌≡◌, ◌≢◌, ◌+◌, ◌<◌, ℕ, List, Some, None, IfOk, IsTrue, OnOk, Err, is_some, length};
+ghost use Rattle.std.specs.Option.{option_map, option_or};
+ghost use Rattle.std.specs.Result.{result_err, result_ok};
 ghost use Rattle.rio_host.specs.Host.{IsLength};
 ghost use Rattle.rio_host.specs.OnlyReads.{OnlyReads};
 ghost use Rattle.rio_close.specs.Causes.{IsCallCause};
 ghost use Rattle.rio_entry.specs.declared.fault.EntryFault.TheVariants.{NoMemory as OutOfMemory};
+ghost use Rattle.rio_entry.specs.Reading.{entry_in};
 ghost use Rattle.rio_tree_head.specs.Index.{basket_number};
 ghost use Rattle.rio_scan.specs.Refusals.{refused_first};
 ghost use Rattle.rio_scan.specs.Rows.{values_if_read, values_of_branch};
 ghost use Rattle.rio_scan.specs.Sweeps.{refusal_before, sweep, with_branch};
 ghost use Rattle.rio_report.specs.Lanes.{AreLanes, IsHeld, IsLane};
-ghost use Rattle.rio_report.specs.Tested.{CountersMade, made_of, made_one, row_made};
+ghost use Rattle.rio_report.specs.Checked.{CountersMade, made_of, made_one, row_made};
+ghost use Rattle.rio_report.specs.RowFaults.{fault_held, fault_of_entry};
 
+use crate::checked::{Made, made_there};
 use crate::counts::{counters_are_read, entry_counts};
 use crate::lane::{Lane, RowFault, entry_there, hold};
-use crate::tested::is_tested;
 use rio_basket::BasketFault;
 use rio_close::ReportFault;
-use rio_entry::{EntryFault, check_entry, read_entry};
+use rio_entry::{EntryFault, check_entry, entry_numbers, read_entry};
 use rio_host::Host;
-use rio_leaf::BranchDef;
 use rio_num::NoMemory;
 use rio_scan::{Refusals, Row};
 use rio_tree_head::{Branch, BranchRefusal};
@@ -35,16 +37,16 @@ pub(crate) struct Tree<'a> {
     pub(crate) branches: &'a [Branch],
 }
 
-/// An entry of a branch, which stands behind others. It is only tested, or its values are made too.
+/// An entry of a branch, which stands behind others, and what is made of its values.
 #[derive(Drop)]
 pub(crate) struct Place<'a> {
     pub(crate) before: &'a [Branch],
     pub(crate) branch: &'a Branch,
     pub(crate) entry: u64,
-    pub(crate) tested: bool,
+    pub(crate) made: Made,
 }
 
-/// The values of an entry, or why it isn't read. There are none where it is only tested.
+/// What is made of the values of an entry, or why it isn't read.
 pub(crate) type FoundValues = Result<Values, RowFault>;
 
 // The refusals that come no later than NoCounter.
@@ -77,7 +79,9 @@ pub(crate) fn refusal_before(
 }
 
 // Why there is no entry in a basket.
-fn fault_of(lane: &Lane) -> RowFault {
+fn fault_of(lane: &Lane) -> RowFault
+    ensures { result ≡ fault_held lane.now.basket }
+{
     match &lane.basket {
         Some(Err(fault)) => RowFault::Basket(*fault),
         _ => RowFault::Basket(BasketFault::BadLast { place: 0 }),
@@ -86,7 +90,8 @@ fn fault_of(lane: &Lane) -> RowFault {
 
 // Why bytes aren't read as an entry, unless memory ran out.
 fn fault_by(fault: EntryFault) -> Result<FoundValues, NoMemory>
-    ensures { IfOk result (λ found. (fault ≢ OutOfMemory) × (result_ok found ≡ None)) }
+    ensures none { IfOk result (λ found. (fault ≢ OutOfMemory) × (result_ok found ≡ None)) }
+    ensures fault { IfOk result (λ found. found ≡ Err (fault_of_entry fault)) }
 {
     match fault {
         EntryFault::BadEntry { place } => Ok(Err(RowFault::Entry { place })),
@@ -95,60 +100,36 @@ fn fault_by(fault: EntryFault) -> Result<FoundValues, NoMemory>
     }
 }
 
-// No values, where these bytes are an entry.
-fn test_bytes(
-    alloc: Global,
-    classes: &Classes,
-    branch: &BranchDef,
-    counts: &Values,
-    bytes: &[u8],
-) -> Result<FoundValues, NoMemory>
-    requires { length bytes.now < 2 ^ 32 }
-    ensures { IfOk result (λ found. result_ok found
-        ≡ made_of true (values_if_read classes.now branch.now.shape counts.now (Some bytes.now))) }
-{
-    match check_entry(alloc, classes, branch, counts, bytes) {
-        Ok(()) => Ok(Ok(Values::new(alloc))),
-        Err(fault) => fault_by(fault),
-    }
-}
-
-// The values of these bytes as an entry.
-fn read_bytes(
-    alloc: Global,
-    classes: &Classes,
-    branch: &BranchDef,
-    counts: &Values,
-    bytes: &[u8],
-) -> Result<FoundValues, NoMemory>
-    requires { length bytes.now < 2 ^ 32 }
-    ensures { IfOk result (λ found. result_ok found
-        ≡ values_if_read classes.now branch.now.shape counts.now (Some bytes.now)) }
-{
-    match read_entry(alloc, classes, branch, counts, bytes) {
-        Ok(values) => Ok(Ok(values)),
-        Err(fault) => fault_by(fault),
-    }
-}
-
-// The values of these bytes as an entry, or none where it is only tested. More than 4 GiB aren't read.
-fn read_or_test(
+// What is made of the values of these bytes as an entry. More than 4 GiB aren't read.
+fn values_of_bytes(
     alloc: Global,
     classes: &Classes,
     place: &Place,
     counts: &Values,
     bytes: &[u8],
 ) -> Result<FoundValues, NoMemory>
-    ensures { IfOk result (λ found. result_ok found ≡ made_of place.now.tested
+    ensures values { IfOk result (λ found. result_ok found ≡ made_of place.now.made
         (values_if_read classes.now place.now.branch.now.def.shape counts.now (Some bytes.now))) }
+    ensures fault { IfOk result (λ found. result_err found ≡ option_map fault_of_entry
+        (result_err (entry_in classes.now place.now.branch.now.def.shape counts.now bytes.now))) }
 {
     if bytes.len() > u32::MAX as usize {
         return Err(NoMemory);
     }
-    if place.tested {
-        test_bytes(alloc, classes, &place.branch.def, counts, bytes)
-    } else {
-        read_bytes(alloc, classes, &place.branch.def, counts, bytes)
+    let branch = &place.branch.def;
+    match place.made {
+        Made::Whole => match read_entry(alloc, classes, branch, counts, bytes) {
+            Ok(values) => Ok(Ok(values)),
+            Err(fault) => fault_by(fault),
+        },
+        Made::Numbers => match entry_numbers(alloc, classes, branch, counts, bytes) {
+            Ok(numbers) => Ok(Ok(numbers)),
+            Err(fault) => fault_by(fault),
+        },
+        Made::Nothing => match check_entry(alloc, classes, branch, counts, bytes) {
+            Ok(()) => Ok(Ok(Values::new(alloc))),
+            Err(fault) => fault_by(fault),
+        },
     }
 }
 
@@ -164,13 +145,13 @@ fn read_held(
         → lane.now.number ≡ basket_number place.now.entry place.now.branch.now.baskets
         → IsTrue (is_some lane.now.basket)
         → IsHeld file place.now.branch.now lane.now.number lane.now.basket
-        → result_ok found ≡ made_of place.now.tested (values_of_branch file classes.now
+        → result_ok found ≡ made_of place.now.made (values_of_branch file classes.now
         place.now.entry place.now.before.now row.now.values place.now.branch.now)) }
 {
     match entry_there(place.branch, lane, place.entry) {
         Some(bytes) => {
             let counts = entry_counts(alloc, place.before, &row.values, place.branch)?;
-            read_or_test(alloc, classes, place, &counts, bytes)
+            values_of_bytes(alloc, classes, place, &counts, bytes)
         }
         None => Ok(Err(fault_of(lane))),
     }
@@ -189,7 +170,7 @@ fn read_values<H: Host>(
     ensures values { IfOk result (λ found. (file : List ℕ)
         → (H.view host.old).holds ≡ Some file
         → IsLane file place.now.entry place.now.branch.now lane.old
-        → (result_ok found ≡ made_of place.now.tested (values_of_branch file tree.now.classes.now
+        → (result_ok found ≡ made_of place.now.made (values_of_branch file tree.now.classes.now
         place.now.entry place.now.before.now row.now.values place.now.branch.now))
         × IsLane file place.now.entry place.now.branch.now lane.new) }
     ensures calls { OnlyReads (H.view host.old) (H.view host.new) }
@@ -215,6 +196,7 @@ fn push_found(
 ) -> Result<(), NoMemory>
     ensures row { OnOk result (row.new ≡ with_branch row.old None (result_ok found)) }
     ensures kept { (lane.new.number ≡ lane.old.number) × (lane.new.basket ≡ lane.old.basket) }
+    ensures fault { lane.new.fault ≡ option_or (result_err found) lane.old.fault }
 {
     match found {
         Ok(values) => row.push(None, values),
@@ -239,7 +221,7 @@ fn sweep_branch<H: Host>(
     ensures row { OnOk result ((file : List ℕ)
         → (H.view host.old).holds ≡ Some file
         → IsLane file place.now.entry place.now.branch.now lane.old
-        → (row.new ≡ made_one place.now.tested file tree.now.classes.now place.now.entry
+        → (row.new ≡ made_one place.now.made file tree.now.classes.now place.now.entry
         place.now.before.now row.old place.now.branch.now refusal)
         × IsLane file place.now.entry place.now.branch.now lane.new) }
     ensures count { OnOk result (length row.new.refusals ≡ length row.old.refusals + 1) }
@@ -258,25 +240,25 @@ fn sweep_branch<H: Host>(
     Ok(())
 }
 
-/// The row at an entry, of branches that come to it with these refusals. No values are made of those that are only tested.
+/// The row at an entry, of branches that come to it with these refusals. Of the values of each so much is made.
 pub(crate) fn read_row<H: Host>(
     alloc: Global,
     host: &mut H,
     tree: &Tree,
     entry: u64,
     refusals: &[Option<BranchRefusal>],
-    tested: &[bool],
+    made: &[Made],
     lanes: &mut [Lane],
 ) -> Result<Row, ReportFault>
     requires length { IsLength (H.view host.old) tree.now.file_length }
-    requires counters { CountersMade tested.now tree.now.branches.now }
+    requires counters { CountersMade made.now tree.now.branches.now }
     requires refusals { length refusals.now ≡ length tree.now.branches.now }
     requires lanes { length lanes.old ≡ length tree.now.branches.now }
     ensures lanes { length lanes.new ≡ length lanes.old }
     ensures row { IfOk result (λ row. (file : List ℕ)
         → (H.view host.old).holds ≡ Some file
         → AreLanes file entry tree.now.branches.now lanes.old
-        → (row ≡ row_made tested.now
+        → (row ≡ row_made made.now
         (sweep file tree.now.classes.now entry tree.now.branches.now refusals.now))
         × AreLanes file entry tree.now.branches.now lanes.new) }
     ensures count { IfOk result (λ row. length row.refusals ≡ length tree.now.branches.now) }
@@ -290,7 +272,7 @@ pub(crate) fn read_row<H: Host>(
             before: &tree.branches[..k],
             branch: &tree.branches[k],
             entry,
-            tested: is_tested(tested, k),
+            made: made_there(made, k),
         };
         sweep_branch(
             alloc,

@@ -12,7 +12,6 @@ ghost use Rattle.rio_report.specs.Lists.{InPieces, IsDone, Lists, Refuses, SaysF
 use crate::content::is_tree;
 use crate::described::open_described;
 use crate::item::{greater_cycle, has_any, is_of_name};
-use crate::ls::put_named_cycle;
 use crate::pieces::{say_held, say_piece};
 use crate::refusals::find_refusals;
 use crate::rows::Tree;
@@ -24,6 +23,7 @@ use rio_host::Host;
 use rio_key::KeyHead;
 use rio_meaning::Described;
 use rio_num::{Bytes, NoMemory};
+use rio_reply::put_item;
 use rio_scan::NoTree;
 use rio_tree_head::TreeHead;
 use rio_types::Classes;
@@ -68,7 +68,7 @@ fn unread_text(alloc: Global, key: &KeyHead, instead: &[u8]) -> Result<Bytes, No
     ensures { IfOk result (λ text. text.bytes ≡ unread_line key.now instead.now) }
 {
     let mut text = Bytes::new(alloc);
-    put_named_cycle(&mut text, key)?;
+    put_item(&mut text, key.name.as_slice(), key.cycle)?;
     text.put(b" ")?;
     text.put(instead)?;
     text.put(b"\n")?;

@@ -4,7 +4,9 @@ ghost use Rattle.rio_scan.specs.Rows.{read_values};
 ghost use Rattle.rio_scan.specs.Scan.{branch_refusal_name, numbered_row, refused_line, refused_lines, scanned_count};
 ghost use Rattle.rio_model.specs.Lists.{separated};
 ghost use Rattle.rio_model.specs.ValueText.{text_of_value};
+ghost use Rattle.rio_meaning.specs.Dump.{with_number};
 ghost use Rattle.rio_report.specs.Lanes.{first_after, values_behind, values_unrefused};
+ghost use Rattle.rio_report.specs.RowFaults.{basket_fault_text, fault_of_lanes, row_fault_line, row_fault_text};
 ghost use Rattle.rio_value.specs.declared.value.Value.{List as Listed};
 
 use crate::lane::{Lane, RowFault};
@@ -172,32 +174,52 @@ pub(crate) fn put_row(
     text.put(b"\n")
 }
 
-fn put_placed(text: &mut Bytes, kind: &[u8], place: u64) -> Result<(), NoMemory> {
+// Puts the kind of a fault and its place at the end.
+fn put_placed(text: &mut Bytes, kind: &[u8], place: u64) -> Result<(), NoMemory>
+    ensures { OnOk result (text.new.bytes ≡ text.old.bytes ++ with_number kind.now place) }
+{
     text.put(kind)?;
     text.put(b" ")?;
     text.put_decimal(place)
 }
 
-fn put_fault(text: &mut Bytes, fault: RowFault) -> Result<(), NoMemory> {
+fn put_basket_fault(text: &mut Bytes, fault: BasketFault) -> Result<(), NoMemory>
+    ensures { OnOk result (text.new.bytes ≡ text.old.bytes ++ basket_fault_text fault) }
+{
     match fault {
-        RowFault::Basket(BasketFault::BadLast { place }) => put_placed(text, b"BadLast", place),
-        RowFault::Basket(BasketFault::BadOffsets { place }) => {
-            put_placed(text, b"BadOffsets", place)
-        }
-        RowFault::Basket(BasketFault::Compressed) => text.put(b"Compressed"),
-        RowFault::Basket(BasketFault::NoMemory) => text.put(b"NoMemory"),
+        BasketFault::BadLast { place } => put_placed(text, b"BadLast", place),
+        BasketFault::BadOffsets { place } => put_placed(text, b"BadOffsets", place),
+        BasketFault::Compressed => text.put(b"Compressed"),
+        BasketFault::NoMemory => text.put(b"NoMemory"),
+    }
+}
+
+fn put_fault(text: &mut Bytes, fault: RowFault) -> Result<(), NoMemory>
+    ensures { OnOk result (text.new.bytes ≡ text.old.bytes ++ row_fault_text fault) }
+{
+    match fault {
+        RowFault::Basket(fault) => put_basket_fault(text, fault),
         RowFault::Entry { place } => put_placed(text, b"BadEntry", place),
     }
 }
 
 // The first fault of the row.
-fn row_fault(lanes: &[Lane]) -> RowFault {
-    let found = lanes.iter().find_map(|lane| lane.fault);
-    found.unwrap_or(RowFault::Basket(BasketFault::BadLast { place: 0 }))
+fn row_fault(lanes: &[Lane]) -> RowFault
+    ensures { result ≡ fault_of_lanes lanes.now }
+{
+    for lane in lanes {
+        if let Some(fault) = lane.fault {
+            return fault;
+        }
+    }
+    RowFault::Basket(BasketFault::BadLast { place: 0 })
 }
 
 /// Puts the line of a row at the end that isn't read any more: its number and the first fault.
-pub(crate) fn put_row_fault(text: &mut Bytes, entry: u64, lanes: &[Lane]) -> Result<(), NoMemory> {
+pub(crate) fn put_row_fault(text: &mut Bytes, entry: u64, lanes: &[Lane]) -> Result<(), NoMemory>
+    ensures { OnOk result (text.new.bytes ≡
+        text.old.bytes ++ row_fault_line entry (fault_of_lanes lanes.now)) }
+{
     text.put_decimal(entry)?;
     text.put(b" fault ")?;
     put_fault(text, row_fault(lanes))?;

@@ -6,7 +6,7 @@ use Rattle.std.proofs.Math.Nat.{min-eq_left}
 use Rattle.std.proofs.lemmas.List.Sums.{prefix_len-le-length}
 use Rattle.rio_num.specs.At.{At}
 use Rattle.rio_num.specs.Reading.{◌>>=◌}
-use Rattle.rio_num.specs.Word.{is_item_byte}
+use Rattle.rio_num.specs.Word.{is_blank_byte, is_item_byte}
 use Rattle.rio_token.specs.declared.token.Token.{Token}
 use Rattle.rio_token.specs.declared.token.Token.TheVariants.{Text, Mark, Cut}
 use Rattle.rio_token.specs.declared.quoted.Ending.{Ending}
@@ -18,7 +18,7 @@ use Rattle.rio_token.specs.declared.quoted.Within.TheVariants.{Between}
 use Rattle.rio_token.specs.Further.{EndsFurther, FurtherGoesOn, FurtherIsInText, IsFurther, TakesEndFurther}
 use Rattle.rio_token.specs.Quoted.{later, onward, quoted, step_of}
 use Rattle.rio_token.specs.Reading.{Read, end_at, list_at, mark_at, marked, more_at, num_at, num_between_at, some_at, string_at, string_by, taken_at, word_at, word_that_at}
-use Rattle.rio_token.specs.Tokens.{behind, is_blank, next_at, scan_from, scan_of, string_scan, word_scan}
+use Rattle.rio_token.specs.Tokens.{behind, next_at, scan_from, scan_of, string_scan, word_scan}
 use Rattle.rio_token.proofs.StandLaws.{drop_front}
 
 -- ---- a token ends within the bytes that it is found in
@@ -56,8 +56,8 @@ from_within start (b ∷ bs) = chosen_within start b bs (is_item_byte b) (b == 3
 pub scan_within : (bs : List ℕ) → (scan_of bs).stop ≤ length bs
 unfolding scan_of
 scan_within bs =
-    let n = prefix_len is_blank bs in
-    let le = prefix_len-le-length is_blank bs in
+    let n = prefix_len is_blank_byte bs in
+    let le = prefix_len-le-length is_blank_byte bs in
     let found = from_within n (drop n bs) in
     omega (arith, le, found, length-drop n bs)
 

@@ -2,14 +2,14 @@
 use Rattle.std.proofs.Common.{◌≡◌, ℕ, ◌+◌, ◌≤◌, List, [], ◌∷◌, drop, Bool, true, false, ◌==◌, if◌then◌else◌, refl, arith}
 use Rattle.std.specs.List.{prefix_len}
 use Rattle.std.proofs.lemmas.List.{length-drop}
-use Rattle.rio_num.specs.Word.{is_item_byte}
+use Rattle.rio_num.specs.Word.{is_blank_byte, is_item_byte}
 use Rattle.rio_token.specs.declared.token.Token.TheVariants.{Mark}
 use Rattle.rio_token.specs.declared.quoted.Ending.{Ending}
 use Rattle.rio_token.specs.declared.quoted.Ending.TheVariants.{Closed, Broken, Unended}
 use Rattle.rio_token.specs.declared.quoted.Within.TheVariants.{Between}
 use Rattle.rio_token.specs.Further.{PassedTakesSome, can_be_passed}
 use Rattle.rio_token.specs.Quoted.{quoted}
-use Rattle.rio_token.specs.Tokens.{is_blank, next_at, scan_from, scan_of, string_scan, word_scan}
+use Rattle.rio_token.specs.Tokens.{next_at, scan_from, scan_of, string_scan, word_scan}
 use Rattle.rio_token.proofs.FurtherLaws.{scan_within}
 
 string_some : (start : ℕ) (text : List ℕ) (e : Ending) → can_be_passed (string_scan start text e).token ≡ true → 1 ≤ (string_scan start text e).stop
@@ -32,7 +32,7 @@ from_some start (b ∷ bs) h = chosen_some start b bs (is_item_byte b) (b == 34)
 
 scan_some : (bs : List ℕ) → can_be_passed (scan_of bs).token ≡ true → 1 ≤ (scan_of bs).stop
 unfolding scan_of
-scan_some bs h = from_some (prefix_len is_blank bs) (drop (prefix_len is_blank bs) bs) h
+scan_some bs h = from_some (prefix_len is_blank_byte bs) (drop (prefix_len is_blank_byte bs) bs) h
 
 pub passed_takes_some : PassedTakesSome
 passed_takes_some s h =

@@ -1,10 +1,14 @@
 -- Reading at texts of known tokens.
-use Rattle.std.proofs.Common.{◌≡◌, ℕ, suc, ◌+◌, ◌*◌, ◌≤◌, List, [], ◌∷◌, ◌++◌, length, take, drop, Bool, true, false, ◌==◌, ◌&&◌, nat_le, nat_lt, if◌then◌else◌, Option, Some, None, option_and_then, Ok, refl, sym, ◌∙◌, ap, arith, subst}
+use Rattle.std.proofs.Common.{◌≡◌, ℕ, suc, ◌+◌, ◌*◌, ◌≤◌, List, [], ◌∷◌, ◌++◌, length, take, drop, Bool, true, false, ◌==◌, nat_le, nat_lt, if◌then◌else◌, Option, Some, None, option_and_then, Ok, refl, sym, ◌∙◌, arith, subst}
 use Rattle.std.specs.List.{list_all, prefix_len}
-use Rattle.std.proofs.lemmas.Bool.{and_parts, eqb-true}
+use Rattle.std.proofs.lemmas.Bool.{and_parts}
 use Rattle.std.proofs.lemmas.Bool.Decides.{nat_tests}
+pub use Rattle.std.proofs.Math.Seq.{drop-append_seam as drop_front}
+use Rattle.std.proofs.Math.Seq.{take-append_seam}
 use Rattle.rio_num.specs.At.{AreBytes, At, end_place}
-use Rattle.rio_num.specs.Word.{is_item_byte, is_name_text, begins_name, goes_on_name}
+use Rattle.rio_num.specs.Word.{is_blank_byte, is_item_byte, is_name_text}
+pub use Rattle.rio_num.proofs.Words.{Stops}
+use Rattle.rio_num.proofs.Words.{item_no_blank, name_of_word, word_ends_there}
 use Rattle.rio_token.specs.declared.token.Token.TheVariants.{Word, Text, Mark}
 use Rattle.rio_num.specs.Printed.{string_text}
 use Rattle.rio_token.specs.declared.quoted.Ending.{Ending}
@@ -13,38 +17,11 @@ use Rattle.rio_token.specs.declared.quoted.Within.TheVariants.{Between}
 use Rattle.rio_token.specs.Quoted.{hex_value, quoted}
 use Rattle.rio_token.specs.Reading.{num_at, num_between_at, string_at, word_at, word_that_at}
 use Rattle.rio_token.proofs.StringLaws.{strings_are_read}
-use Rattle.rio_token.specs.Tokens.{Scan, is_blank, next_at, scan_from, scan_of, token_place, behind, word_scan, string_scan}
+use Rattle.rio_token.specs.Tokens.{Scan, next_at, scan_from, scan_of, token_place, behind, word_scan, string_scan}
 use Rattle.rio_token.specs.Words.{num_of, number_after}
 
 abbrev pub at : ℕ → List ℕ → At
 at p rest = record { place = p; rest = rest }
-
-pub take_front : (xs ys : List ℕ) → take (length xs) (xs ++ ys) ≡ xs
-take_front [] ys = refl
-take_front (x ∷ xs) ys = ap (λ (l : List ℕ). x ∷ l) (take_front xs ys)
-
-pub drop_front : (xs ys : List ℕ) → drop (length xs) (xs ++ ys) ≡ ys
-drop_front [] ys = refl
-drop_front (x ∷ xs) ys = drop_front xs ys
-
-run_all : (p : ℕ → Bool) (xs rest : List ℕ) → list_all p xs ≡ true → prefix_len p rest ≡ 0 → prefix_len p (xs ++ rest) ≡ length xs
-run_all p [] rest h e = e
-run_all p (x ∷ xs) rest h e =
-    let parts = and_parts (p x) (list_all p xs) h in
-    let one : 1 + length xs ≡ suc (length xs) = omega arith in
-    rw (parts.0, run_all p xs rest parts.1 e) one
-
--- a byte of a word is no blank
-not_blank : (b : ℕ) → is_item_byte b ≡ true → is_blank b ≡ false
-not_blank b h = by_space (b == 32) refl
-  where
-    by_tab : (t : Bool) → (b == 32) ≡ false → (b == 9) ≡ t → is_blank b ≡ false
-    by_tab true s t = absurd (let e : b ≡ 9 = eqb-true b 9 t in let P : ℕ → Type 0 = λ k. is_item_byte k ≡ true in let bad : false ≡ true = subst P e h in cc)
-    by_tab false s t = rw (s, t) refl
-
-    by_space : (s : Bool) → (b == 32) ≡ s → is_blank b ≡ false
-    by_space true s = absurd (let e : b ≡ 32 = eqb-true b 32 s in let P : ℕ → Type 0 = λ k. is_item_byte k ≡ true in let bad : false ≡ true = subst P e h in cc)
-    by_space false s = by_tab (b == 9) s refl
 
 -- a word: at least one of its bytes, and no others
 pub record IsWord (w : List ℕ) : Type 0 where
@@ -53,10 +30,6 @@ pub record IsWord (w : List ℕ) : Type 0 where
   pub parts : w ≡ first ∷ others
   pub all : list_all is_item_byte w ≡ true
 
--- what no byte of a word begins
-abbrev pub Stops : List ℕ → Type 0
-Stops rest = prefix_len is_item_byte rest ≡ 0
-
 abbrev pub word_of : List ℕ → Scan
 word_of w = record { token = Word; start = 0; stop = length w; bytes = w }
 
@@ -64,12 +37,12 @@ scan_first : (b : ℕ) (bs rest : List ℕ) → list_all is_item_byte (b ∷ bs)
 unfolding scan_of
 scan_first b bs rest h e =
     let parts = and_parts (is_item_byte b) (list_all is_item_byte bs) h in
-    let no_blank = not_blank b parts.0 in
-    let run : prefix_len is_item_byte (b ∷ (bs ++ rest)) ≡ suc (length bs) = run_all is_item_byte (b ∷ bs) rest h e in
-    let front : take (suc (length bs)) (b ∷ (bs ++ rest)) ≡ b ∷ bs = take_front (b ∷ bs) rest in
+    let no_blank = item_no_blank b parts.0 in
+    let run : prefix_len is_item_byte (b ∷ (bs ++ rest)) ≡ suc (length bs) = word_ends_there (b ∷ bs) rest h e in
+    let front : take (suc (length bs)) (b ∷ (bs ++ rest)) ≡ b ∷ bs = take-append_seam (b ∷ bs) rest in
     let scanned : scan_from 0 (b ∷ (bs ++ rest)) ≡ word_scan 0 (prefix_len is_item_byte (b ∷ (bs ++ rest))) (b ∷ (bs ++ rest)) = rw parts.0 refl in
     let none : 0 + suc (length bs) ≡ suc (length bs) = omega arith in
-    let zero_blanks : prefix_len is_blank (b ∷ (bs ++ rest)) ≡ 0 = rw no_blank refl in
+    let zero_blanks : prefix_len is_blank_byte (b ∷ (bs ++ rest)) ≡ 0 = rw no_blank refl in
     rw zero_blanks (scanned ∙ rw (run, front, none) refl)
 
 pub scan_word : (w rest : List ℕ) → IsWord w → Stops rest → scan_of (w ++ rest) ≡ word_of w
@@ -80,22 +53,9 @@ scan_word w rest is e =
 
 -- ---- names and digits are words
 
-item_of_name : (b : ℕ) → goes_on_name b ≡ true → is_item_byte b ≡ true
-item_of_name b h = grind arith
-
-item_of_first : (b : ℕ) → begins_name b ≡ true → is_item_byte b ≡ true
-item_of_first b h = grind arith
-
-all_items : (bs : List ℕ) → list_all goes_on_name bs ≡ true → list_all is_item_byte bs ≡ true
-all_items [] h = refl
-all_items (b ∷ bs) h = let parts = and_parts (goes_on_name b) (list_all goes_on_name bs) h in rw (item_of_name b parts.0, all_items bs parts.1) refl
-
 pub name_is_word : (w : List ℕ) → is_name_text w ≡ true → IsWord w
 name_is_word [] h = absurd (cc)
-name_is_word (b ∷ bs) h =
-    let outer = and_parts (begins_name b && list_all goes_on_name bs) (nat_le (length (b ∷ bs)) 100) h in
-    let inner = and_parts (begins_name b) (list_all goes_on_name bs) outer.0 in
-    record { first = b; others = bs; parts = refl; all = rw (item_of_first b inner.0, all_items bs inner.1) refl }
+name_is_word (b ∷ bs) h = record { first = b; others = bs; parts = refl; all = name_of_word (b ∷ bs) h }
 
 item_of_hex : (b d : ℕ) → hex_value b ≡ Some d → is_item_byte b ≡ true
 item_of_hex b d h = grind (arith, nat_tests)
@@ -182,7 +142,7 @@ moved_scan n (b ∷ bs) = moved_by n b bs (is_item_byte b) (b == 34)
 blank_scan : (xs : List ℕ) → scan_of (32 ∷ xs) ≡ moved (scan_of xs)
 unfolding scan_of
 blank_scan xs =
-    let n = prefix_len is_blank xs in
+    let n = prefix_len is_blank_byte xs in
     let e : 1 + n ≡ suc n = omega arith in
     let d : drop (1 + n) (32 ∷ xs) ≡ drop n xs = rw e refl in
     rw d (moved_scan n (drop n xs))

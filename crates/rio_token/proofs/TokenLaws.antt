@@ -1,13 +1,13 @@
 -- Where the bytes of a token stand.
 use Rattle.std.proofs.Common.{◌≡◌, ℕ, ◌+◌, ◌-◌, List, [], ◌∷◌, take, drop, Bool, true, false, ◌==◌, if◌then◌else◌, refl, sym, ◌∙◌, arith, ap, subst}
 use Rattle.std.specs.List.{prefix_len}
-use Rattle.rio_num.specs.Word.{is_item_byte}
+use Rattle.rio_num.specs.Word.{is_blank_byte, is_item_byte}
 use Rattle.rio_token.specs.declared.token.Token.TheVariants.{Word, Text, Mark}
 use Rattle.rio_token.specs.declared.quoted.Ending.{Ending}
 use Rattle.rio_token.specs.declared.quoted.Ending.TheVariants.{Closed, Broken, Unended}
 use Rattle.rio_token.specs.declared.quoted.Within.TheVariants.{Between}
 use Rattle.rio_token.specs.Quoted.{quoted}
-use Rattle.rio_token.specs.Tokens.{is_blank, scan_from, scan_of, string_scan, word_scan}
+use Rattle.rio_token.specs.Tokens.{scan_from, scan_of, string_scan, word_scan}
 
 word_run : (n : ℕ) (ys : List ℕ) (k : ℕ) → take k ys ≡ take (n + k - n) ys
 word_run n ys k = let e : n + k - n ≡ k = omega arith in rw e refl
@@ -32,7 +32,7 @@ from_word n (b ∷ bs) h = chosen_word n (b ∷ bs) b bs (is_item_byte b) (b == 
 pub word_bytes : (rest : List ℕ) → (scan_of rest).token ≡ Word → (scan_of rest).bytes ≡ take ((scan_of rest).stop - (scan_of rest).start) (drop (scan_of rest).start rest)
 unfolding scan_of
 word_bytes rest h =
-    let n = prefix_len is_blank rest in
+    let n = prefix_len is_blank_byte rest in
     let p = from_word n (drop n rest) h in
     p.1 ∙ ap (λ (k : ℕ). take ((scan_from n (drop n rest)).stop - (scan_from n (drop n rest)).start) (drop k rest)) (sym p.0)
 
@@ -61,7 +61,7 @@ from_text n (b ∷ bs) h =
 pub string_bytes : (rest : List ℕ) → (scan_of rest).token ≡ Text → (scan_of rest).bytes ≡ (quoted Between (drop 1 (drop (scan_of rest).start rest))).text
 unfolding scan_of
 string_bytes rest h =
-    let n = prefix_len is_blank rest in
+    let n = prefix_len is_blank_byte rest in
     let p = from_text n (drop n rest) h in
     let back : n ≡ (scan_from n (drop n rest)).start = sym p.0 in
     let P : ℕ → Type 0 = λ k. (scan_from n (drop n rest)).bytes ≡ (quoted Between (drop 1 (drop k rest))).text in

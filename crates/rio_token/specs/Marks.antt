@@ -7,9 +7,6 @@ tab = 9
 abbrev pub line_feed : ℕ
 line_feed = 10
 
-abbrev pub space : ℕ
-space = 32
-
 abbrev pub double_quote : ℕ
 double_quote = 34
 

@@ -4,6 +4,7 @@ use Rattle.std.specs.Str.{bytes_eq}
 use Rattle.rio_num.specs.Answers.{GivesUnless, ReadsUnless, TakesUnless}
 use Rattle.rio_num.specs.At.{At, end_place}
 use Rattle.rio_num.specs.Reading.{◌>>=◌}
+pub use Rattle.rio_num.specs.Reading.{some_if}
 use Rattle.rio_num.specs.Word.{is_name_text, is_item_text}
 use Rattle.rio_token.specs.declared.fault.TextFault.{TextFault}
 use Rattle.rio_token.specs.declared.fault.TextFault.TheVariants.{BadText, NoMemory}
@@ -29,9 +30,6 @@ cut_at s = Err (BadText (end_place s))
 abbrev pub taken_at : {A : Type 0} → Option A → At → Read A
 taken_at None s = bad_at s
 taken_at (Some x) s = Ok (x, behind s)
-
-abbrev pub some_if : {A : Type 0} → Bool → A → Option A
-some_if b x = if b then Some x else None
 
 -- ---- single tokens
 

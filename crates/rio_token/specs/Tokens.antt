@@ -1,21 +1,17 @@
 -- Tokens: words, strings, and single bytes of punctuation, with blanks between them.
-use Rattle.std.specs.Prelude.{◌≡◌, ℕ, ◌+◌, List, [], ◌∷◌, length, take, drop, min, Bool, ◌==◌, ◌||◌, if◌then◌else◌}
+use Rattle.std.specs.Prelude.{◌≡◌, ℕ, ◌+◌, List, [], ◌∷◌, length, take, drop, min, Bool, ◌==◌, if◌then◌else◌}
 use Rattle.std.specs.List.{prefix_len}
 use Rattle.rio_num.specs.At.{At}
 use Rattle.rio_num.specs.Reading.{skip}
-use Rattle.rio_num.specs.Word.{is_item_byte}
+use Rattle.rio_num.specs.Word.{is_blank_byte, is_item_byte}
 use Rattle.rio_token.specs.declared.token.Token.{Token}
 use Rattle.rio_token.specs.declared.token.Token.TheVariants.{Word, Text, Mark, Bad, Cut, End}
 use Rattle.rio_token.specs.declared.scan.Scanned.{Scanned}
 use Rattle.rio_token.specs.declared.quoted.Ending.{Ending}
 use Rattle.rio_token.specs.declared.quoted.Ending.TheVariants.{Closed, Broken, Unended}
 use Rattle.rio_token.specs.declared.quoted.Within.TheVariants.{Between}
-use Rattle.rio_token.specs.Marks.{double_quote, space, tab}
+use Rattle.rio_token.specs.Marks.{double_quote}
 use Rattle.rio_token.specs.Quoted.{quoted}
-
--- a space or a tab
-abbrev pub is_blank : ℕ → Bool
-is_blank b = (b == space) || (b == tab)
 
 -- The next token: how many bytes stand before it, and before its end; the bytes of a word, or those that a string spells.
 pub record Scan : Type 0 where
@@ -43,7 +39,7 @@ scan_from start (b ∷ bs) =
     else record { token = Mark b; start = start; stop = start + 1; bytes = [] }
 
 unfoldable pub scan_of : List ℕ → Scan
-scan_of bytes = let n = prefix_len is_blank bytes in scan_from n (drop n bytes)
+scan_of bytes = let n = prefix_len is_blank_byte bytes in scan_from n (drop n bytes)
 
 -- what is kept of a token that was found
 abbrev pub IsScan : Scanned → Scan → Type 0

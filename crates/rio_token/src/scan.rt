@@ -1,13 +1,12 @@
 //! The next token: its kind, and where it begins and ends.
-ghost use Rattle.std.specs.Prelude.{◌≡◌, ◌+◌, ◌<◌, ◌≤◌, ◌^◌, length, take, drop};
-ghost use Rattle.std.specs.List.{prefix_len};
-ghost use Rattle.rio_num.specs.Word.{is_item_byte};
+ghost use Rattle.std.specs.Prelude.{◌+◌, ◌<◌, ◌≤◌, ◌^◌, length};
 ghost use Rattle.rio_token.specs.Quoted.{quoted};
 ghost use Rattle.rio_token.specs.declared.quoted.Within.TheVariants.{Between};
-ghost use Rattle.rio_token.specs.Tokens.{IsScan, is_blank, scan_from, scan_of, string_scan};
+ghost use Rattle.rio_token.specs.Tokens.{IsScan, scan_from, scan_of, string_scan};
 
 use crate::Token;
 use crate::quoted::{Ending, ending_in};
+use rio_num::{blanks, is_of_word, word_length};
 
 /// The next token, and how many bytes stand before it and before its end.
 #[derive(Clone, Copy)]
@@ -15,31 +14,6 @@ pub(crate) struct Scanned {
     pub(crate) token: Token,
     pub(crate) start: usize,
     pub(crate) stop: usize,
-}
-
-// How many blanks stand at the front.
-fn blanks(bytes: &[u8]) -> usize
-    ensures value { result ≡ prefix_len is_blank bytes.now }
-    ensures within { result ≤ length bytes.now }
-{
-    bytes
-        .iter()
-        .take_while(|byte| **byte == b' ' || **byte == b'\t')
-        .count()
-}
-
-fn is_of_word(byte: u8) -> bool
-    ensures { result ≡ is_item_byte byte }
-{
-    byte.is_ascii_alphanumeric() || byte == b'_' || byte == b'.' || byte == b'-' || byte == b'+'
-}
-
-// How many bytes of a word stand at the front.
-fn word_length(bytes: &[u8]) -> usize
-    ensures value { result ≡ prefix_len is_item_byte bytes.now }
-    ensures within { result ≤ length bytes.now }
-{
-    bytes.iter().take_while(|byte| is_of_word(**byte)).count()
 }
 
 /// The next token.

@@ -1,7 +1,7 @@
 -- The headers of two trees, part for part.
 use Rattle.std.proofs.Common.{◌≡◌, ℕ, pos, List, [], ◌∷◌, Bool, true, false, None, refl}
 use Rattle.std.specs.Prelude.{codes}
-use Rattle.rio_format.specs.WrittenList.{array_object, plain_object}
+use Rattle.rio_format.specs.WrittenList.{array_object, plain_object, titled_object}
 use Rattle.rio_leaf.specs.declared.branch.Shape.TheVariants.{Leaves}
 use Rattle.rio_leaf.specs.declared.leaf.Dim.{Dim}
 use Rattle.rio_leaf.specs.declared.leaf.Dim.TheVariants.{One, Counted}
@@ -11,7 +11,7 @@ use Rattle.rio_value.specs.declared.value.Value.{Value, Int, Bool as Truth, Text
 use Rattle.rio_tree_head.specs.declared.basket_at.BasketAt.{BasketAt}
 use Rattle.rio_tree_head.specs.declared.head.Branch.{Branch}
 use Rattle.rio_tree_head.specs.declared.head.TreeHead.{TreeHead}
-use Rattle.rio_tree.specs.WrittenTree.{backs_from, basket_numbers, branch_object, branch_pointers, labels_behind, leaf_backs, leaf_object, leaf_pointers, plain_branch_object, plain_leaf_object, titled_object, tree_value_of}
+use Rattle.rio_tree.specs.WrittenTree.{backs_from, basket_numbers, branch_object, branch_pointers, labels_behind, leaf_backs, leaf_object, leaf_pointers, plain_branch_object, plain_leaf_object, tree_value_of}
 
 -- ---- parts
 

@@ -1,5 +1,4 @@
 mod Examples
-mod WrittenParts
 mod WrittenLeaves
 mod WrittenFits
 mod WrittenMembers

@@ -1,6 +1,6 @@
 -- The header that is written for a tree fits the classes of trees.
 use Rattle.std.proofs.Common.{◌≡◌, ◌∙◌, ◌&&◌, ◌^◌, ◌<◌, ℕ, ◌+◌, ℤ, pos, Bool, true, false, cond, List, [], ◌∷◌, ◌++◌, length, map, codes, Option, Some, None, refl, ap, sym, subst, append-nil, append_assoc, arith, is_some, nat_lt}
-use Rattle.std.proofs.lemmas.Bool.{and_from, leb-true, lt-ltb, ltb-true}
+use Rattle.std.proofs.lemmas.Bool.{and_from, eq-eqb, leb-true, lt-ltb, ltb-true}
 use Rattle.std.proofs.lemmas.List.{length-append, length-map}
 use Rattle.std.specs.List.{list_all}
 use Rattle.std.specs.Prelude.{option_and_then, not, ◌==◌, nat_le}
@@ -13,23 +13,24 @@ use Rattle.rio_leaf.specs.declared.leaf.Dim.{Dim}
 use Rattle.rio_leaf.specs.declared.leaf.Dim.TheVariants.{One, Fixed, Counted}
 use Rattle.rio_leaf.specs.declared.branch.BranchDef.{BranchDef}
 use Rattle.rio_leaf.specs.Leaves.{has_counting_leaf, has_leaf, is_dim, is_letter_of}
-use Rattle.rio_types.specs.declared.kind.Kind.TheVariants.{Inline}
+use Rattle.rio_types.specs.declared.kind.Kind.TheVariants.{Plain, Fixed as FixedArray, Inline}
+use Rattle.rio_types.specs.declared.kind.Primitive.{Primitive}
 use Rattle.rio_types.specs.declared.kind.Primitive.TheVariants.{I32, I64}
 use Rattle.rio_value.specs.declared.value.Value.{Value, Int, Text, Object, Pointed}
 use Rattle.rio_format.specs.Bodies.{part}
-use Rattle.rio_format.specs.Fits.{Labels, Fitting, all_fit, fits_prim, fits_signed, fitting_step, object_may_stand}
+use Rattle.rio_format.specs.Fits.{Labels, Fitting, all_fit, fits_prim, fits_signed, fitting_of, fitting_step, object_may_stand}
 use Rattle.rio_format.specs.Slots.{Slot, kinded, based, any_pointer}
 use Rattle.rio_format.specs.TreeClasses.{tree_classes, tree_members, branch_members, object_branch_members}
 use Rattle.rio_format.proofs.Tests.{both_true}
-use Rattle.rio_format.proofs.ValueCases.{Each, fold_Int}
+use Rattle.rio_format.proofs.ValueCases.{Each, fold_Int, fold_List}
+use Rattle.rio_format.proofs.WrittenParts.{FitsIn, array_fits, int_fits, pointer_to, text_fits, titled_fits}
 use Rattle.rio_format.proofs.WrittenValues.{fit_object}
 use Rattle.rio_tree_head.specs.declared.basket_at.BasketAt.{BasketAt}
 use Rattle.rio_tree_head.specs.declared.head.Branch.{Branch}
 use Rattle.rio_tree_head.specs.declared.head.TreeHead.{TreeHead}
 use Rattle.rio_tree.specs.WrittenLaws.{WrittenTreeFits, basket_fits_header, branch_fits_header, stated_defs}
-use Rattle.rio_tree.specs.WrittenTree.{LeafLabels, backs_from, branch_label_count, branch_object, branch_pointers, labels_behind, leaf_backs, leaf_pointers, leaves_in_branch, plain_branch_object, shaped_object, title_of_branch, tree_value_of, written_count}
+use Rattle.rio_tree.specs.WrittenTree.{LeafLabels, backs_from, basket_numbers, branch_label_count, branch_object, branch_pointers, labels_behind, leaf_backs, leaf_pointers, leaves_in_branch, plain_branch_object, shaped_object, title_of_branch, tree_value_of, written_count}
 use Rattle.rio_tree.proofs.WrittenLeaves.{IsLeafAt, KnowsLeaves, count_fits, get_behind, leaf_back_fits, leaf_label, leaves_fit, knows_longer}
-use Rattle.rio_tree.proofs.WrittenParts.{FitsIn, array_fits, fitting, int_fits, numbers_fit, pointer_to, text_fits, titled_fits}
 
 -- ---- numbers of baskets
 
@@ -50,6 +51,26 @@ baskets_fit (b ∷ bs) e =
       first = and_from _ _ others.1 rest.first;
       seek = and_from _ _ own.1 rest.seek;
     }
+
+-- ---- arrays with a number for each basket
+
+numbers_each : (of : Primitive) (number : BasketAt → ℕ) (last : ℕ) (baskets : List BasketAt) (labels : Labels)
+    → list_all (λ b. fits_prim of (pos (number b))) baskets ≡ true → fits_prim of (pos last) ≡ true
+    → all_fit (kinded (Plain of)) (map (fitting_of tree_classes) (map (λ b. Int (pos (number b))) baskets ++ Int (pos last) ∷ [])) labels ≡ Some labels
+numbers_each of number last [] labels all e = rw (int_fits tree_classes (pos last) of labels e) refl
+numbers_each of number last (b ∷ bs) labels all e =
+    let h = both_true (fits_prim of (pos (number b))) (list_all (λ b. fits_prim of (pos (number b))) bs) all in
+    rw (int_fits tree_classes (pos (number b)) of labels h.0) (numbers_each of number last bs labels h.1 e)
+
+-- there is one more than baskets
+numbers_fit : (of : Primitive) (number : BasketAt → ℕ) (baskets : List BasketAt) (last : ℕ) (labels : Labels)
+    → list_all (λ b. fits_prim of (pos (number b))) baskets ≡ true → fits_prim of (pos last) ≡ true
+    → FitsIn tree_classes (kinded (FixedArray of (length baskets + 1))) (basket_numbers number baskets last) labels labels
+unfolding basket_numbers
+numbers_fit of number baskets last labels all e =
+    let items = map (λ b. Int (pos (number b))) baskets ++ Int (pos last) ∷ [] in
+    let count : length (map (fitting_of tree_classes) items) ≡ length baskets + 1 = omega (arith, length-map items (fitting_of tree_classes), length-append (map (λ b. Int (pos (number b))) baskets) (Int (pos last) ∷ []), length-map baskets (λ b. Int (pos (number b)))) in
+    rw (fold_List (fitting_step tree_classes) (λ p. (p.name, p.value)) items, eq-eqb (length (map (fitting_of tree_classes) items)) (length baskets + 1) count) (numbers_each of number last baskets labels all e)
 
 -- ---- one branch
 
@@ -73,38 +94,38 @@ pub record BranchNumbers (b : Branch) : Type 0 where
   pub baskets : BasketsFit b.baskets
 
 record PlainFits (plain : Value) (before after : Labels) : Type 0 where
-  class : (fitting plain).class ≡ Some (codes "TBranch", pos 113)
-  base : FitsIn (based (codes "TBranch") (pos 113)) plain before after
-  own : FitsIn (kinded (Inline (codes "TBranch"))) plain before after
+  class : (fitting_of tree_classes plain).class ≡ Some (codes "TBranch", pos 113)
+  base : FitsIn tree_classes (based (codes "TBranch") (pos 113)) plain before after
+  own : FitsIn tree_classes (kinded (Inline (codes "TBranch"))) plain before after
 
 plain_branch_in : (slot : Slot) (known : LeafLabels) (label : ℕ) (b : Branch) (before after : Labels) → object_may_stand (codes "TBranch") (pos 113) slot ≡ true → BranchNumbers b
-    → all_fit any_pointer (map fitting (leaf_pointers known label (leaves_in_branch b))) before ≡ Some after
-    → FitsIn slot (plain_branch_object known label b) before after
+    → all_fit any_pointer (map (fitting_of tree_classes) (leaf_pointers known label (leaves_in_branch b))) before ≡ Some after
+    → FitsIn tree_classes slot (plain_branch_object known label b) before after
 unfolding plain_branch_object tree_classes branch_members
 plain_branch_in slot known label b before after stands fit each =
     rw (
       fit_object tree_classes (codes "TBranch") (pos 113) _,
       stands,
-      titled_fits b.def.name (title_of_branch b.def.shape) before,
-      int_fits (pos (cond b.offsets 1000 0)) I32 before (offset_number_fits b.offsets),
-      int_fits (pos (length b.baskets)) I32 before fit.count,
+      titled_fits tree_classes b.def.name (title_of_branch b.def.shape) before,
+      int_fits tree_classes (pos (cond b.offsets 1000 0)) I32 before (offset_number_fits b.offsets),
+      int_fits tree_classes (pos (length b.baskets)) I32 before fit.count,
       fold_Int (fitting_step tree_classes) (λ p. (p.name, p.value)) (pos (length b.baskets + 1)),
       fit.room,
-      int_fits (pos b.entries) I64 before fit.entries,
-      array_fits [] before before refl,
-      array_fits (leaf_pointers known label (leaves_in_branch b)) before after each,
-      array_fits [] after after refl,
+      int_fits tree_classes (pos b.entries) I64 before fit.entries,
+      array_fits tree_classes [] before before refl,
+      array_fits tree_classes (leaf_pointers known label (leaves_in_branch b)) before after each,
+      array_fits tree_classes [] after after refl,
       numbers_fit I32 (λ basket. basket.bytes) b.baskets 0 after fit.baskets.bytes refl,
       numbers_fit I64 (λ basket. basket.first) b.baskets b.entries after fit.baskets.first fit.entries,
       numbers_fit I64 (λ basket. basket.seek) b.baskets 0 after fit.baskets.seek refl,
     ) refl
 
-plain_class : (known : LeafLabels) (label : ℕ) (b : Branch) → (fitting (plain_branch_object known label b)).class ≡ Some (codes "TBranch", pos 113)
+plain_class : (known : LeafLabels) (label : ℕ) (b : Branch) → (fitting_of tree_classes (plain_branch_object known label b)).class ≡ Some (codes "TBranch", pos 113)
 unfolding plain_branch_object
 plain_class known label b = rw (fit_object tree_classes (codes "TBranch") (pos 113) _) refl
 
 plain_branch_fits : (known : LeafLabels) (label : ℕ) (b : Branch) (before after : Labels) → BranchNumbers b
-    → all_fit any_pointer (map fitting (leaf_pointers known label (leaves_in_branch b))) before ≡ Some after
+    → all_fit any_pointer (map (fitting_of tree_classes) (leaf_pointers known label (leaves_in_branch b))) before ≡ Some after
     → PlainFits (plain_branch_object known label b) before after
 plain_branch_fits known label b before after fit each = record {
   class = plain_class known label b;
@@ -114,20 +135,20 @@ plain_branch_fits known label b before after fit each = record {
 
 -- a pointer to the branch fits where its TBranch does
 shaped_fits : (plain : Value) (label : ℕ) (b : Branch) (shape : Shape) (labels after : Labels) → label ≡ length labels → fits_signed 32 b.class_version ≡ true
-    → PlainFits plain (labels ++ own_branch_label shape ∷ []) after → FitsIn any_pointer (Pointed label (shaped_object plain b shape)) labels after
+    → PlainFits plain (labels ++ own_branch_label shape ∷ []) after → FitsIn tree_classes any_pointer (Pointed label (shaped_object plain b shape)) labels after
 unfolding tree_classes object_branch_members
 shaped_fits plain label b (Leaves leaves) labels after next version fit =
-    pointer_to label plain (codes "TBranch", pos 113) any_pointer labels after fit.class next refl fit.own
+    pointer_to tree_classes label plain (codes "TBranch", pos 113) any_pointer labels after fit.class next refl fit.own
 shaped_fits plain label b (Class class) labels after next version fit =
     let own : Labels = labels ++ (codes "TBranchElement", pos 110) ∷ [] in
     let parts = part [] plain ∷ part (codes "fClassName") (Text class) ∷ part (codes "fClassVersion") (Int b.class_version) ∷ [] in
     let is = ap (λ (f : Fitting). f.class) (fit_object tree_classes (codes "TBranchElement") (pos 110) parts) in
-    let inside : FitsIn (kinded (Inline (codes "TBranchElement"))) (Object (codes "TBranchElement") (pos 110) parts) own after =
-    rw (fit_object tree_classes (codes "TBranchElement") (pos 110) parts, fit.base, text_fits class after, int_fits b.class_version I32 after version) refl in
-    pointer_to label (Object (codes "TBranchElement") (pos 110) parts) (codes "TBranchElement", pos 110) any_pointer labels after is next refl inside
+    let inside : FitsIn tree_classes (kinded (Inline (codes "TBranchElement"))) (Object (codes "TBranchElement") (pos 110) parts) own after =
+    rw (fit_object tree_classes (codes "TBranchElement") (pos 110) parts, fit.base, text_fits tree_classes class after, int_fits tree_classes b.class_version I32 after version) refl in
+    pointer_to tree_classes label (Object (codes "TBranchElement") (pos 110) parts) (codes "TBranchElement", pos 110) any_pointer labels after is next refl inside
 
 record BranchFits (known : LeafLabels) (label : ℕ) (b : Branch) (labels : Labels) : Type 0 where
-  pointer : FitsIn any_pointer (Pointed label (branch_object known (label + 1) b)) labels (labels ++ branch_labels b)
+  pointer : FitsIn tree_classes any_pointer (Pointed label (branch_object known (label + 1) b)) labels (labels ++ branch_labels b)
   knows : KnowsLeaves (labels_behind known (label + 1) (leaves_in_branch b)) (labels ++ branch_labels b)
 
 branch_fits : (known : LeafLabels) (label : ℕ) (b : Branch) (labels : Labels) → label ≡ length labels → KnowsLeaves known labels → BranchNumbers b → list_all count_fits (leaves_in_branch b) ≡ true → BranchFits known label b labels
@@ -157,7 +178,7 @@ branch_length : (b : Branch) (label : ℕ) (labels : Labels) → label ≡ lengt
 branch_length b label labels next = omega (arith, next, length-append labels (branch_labels b), length-map (leaves_in_branch b) leaf_label)
 
 branches_fit : (known : LeafLabels) (label : ℕ) (bs : List Branch) (labels : Labels) → label ≡ length labels → KnowsLeaves known labels → Each IsFitting bs
-    → all_fit any_pointer (map fitting (branch_pointers known label bs)) labels ≡ Some (labels ++ tree_labels bs)
+    → all_fit any_pointer (map (fitting_of tree_classes) (branch_pointers known label bs)) labels ≡ Some (labels ++ tree_labels bs)
 unfolding branch_pointers
 branches_fit known label [] labels next knows each = ap (λ (l : Labels). Some l) (sym (append-nil labels))
 branches_fit known label (b ∷ bs) labels next knows each =
@@ -169,7 +190,7 @@ branches_fit known label (b ∷ bs) labels next knows each =
 -- ---- what points to the leaves
 
 abbrev each_fits : List Value → Labels → Option Labels
-each_fits xs labels = all_fit any_pointer (map fitting xs) labels
+each_fits xs labels = all_fit any_pointer (map (fitting_of tree_classes) xs) labels
 
 behind_one : (xs ys : List Value) (o : Option Labels) → ((l : Labels) → each_fits (xs ++ ys) l ≡ option_and_then (each_fits ys) (each_fits xs l)) → option_and_then (each_fits (xs ++ ys)) o ≡ option_and_then (each_fits ys) (option_and_then (each_fits xs) o)
 behind_one xs ys None known = refl
@@ -177,14 +198,14 @@ behind_one xs ys (Some l) known = known l
 
 all_both : (xs ys : List Value) (labels : Labels) → each_fits (xs ++ ys) labels ≡ option_and_then (each_fits ys) (each_fits xs labels)
 all_both [] ys labels = refl
-all_both (x ∷ xs) ys labels = behind_one xs ys ((fitting x).fits any_pointer labels) (all_both xs ys)
+all_both (x ∷ xs) ys labels = behind_one xs ys ((fitting_of tree_classes x).fits any_pointer labels) (all_both xs ys)
 
 all_then : (xs ys : List Value) (labels : Labels) → each_fits xs labels ≡ Some labels → each_fits ys labels ≡ Some labels → each_fits (xs ++ ys) labels ≡ Some labels
 all_then xs ys labels e f = all_both xs ys labels ∙ ap (option_and_then (each_fits ys)) e ∙ f
 
 -- leaves that have their labels behind these
 backs_fit : (front : Labels) (leaves : List Leaf) (rest : Labels) (label : ℕ) (labels : Labels) → label ≡ length front → labels ≡ front ++ (map leaf_label leaves ++ rest)
-    → all_fit any_pointer (map fitting (backs_from label leaves)) labels ≡ Some labels
+    → all_fit any_pointer (map (fitting_of tree_classes) (backs_from label leaves)) labels ≡ Some labels
 unfolding backs_from
 backs_fit front [] rest label labels next is = refl
 backs_fit front (leaf ∷ leaves) rest label labels next is =
@@ -192,7 +213,7 @@ backs_fit front (leaf ∷ leaves) rest label labels next is =
     let others = backs_fit (front ++ leaf_label leaf ∷ []) leaves rest (label + 1) labels (omega (arith, next, length-append front (leaf_label leaf ∷ []))) (is ∙ sym (append_assoc front (leaf_label leaf ∷ []) (map leaf_label leaves ++ rest))) in
     rw (leaf_back_fits labels label here) others
 
-tree_backs_fit : (front : Labels) (bs : List Branch) (label : ℕ) (labels : Labels) → label ≡ length front → labels ≡ front ++ tree_labels bs → all_fit any_pointer (map fitting (leaf_backs label bs)) labels ≡ Some labels
+tree_backs_fit : (front : Labels) (bs : List Branch) (label : ℕ) (labels : Labels) → label ≡ length front → labels ≡ front ++ tree_labels bs → all_fit any_pointer (map (fitting_of tree_classes) (leaf_backs label bs)) labels ≡ Some labels
 unfolding leaf_backs
 tree_backs_fit front [] label labels next is = refl
 tree_backs_fit front (b ∷ bs) label labels next is =
@@ -205,7 +226,7 @@ tree_backs_fit front (b ∷ bs) label labels next is =
 
 -- ---- the tree
 
-pub tree_fits : (name : List ℕ) (head : TreeHead) → nat_lt head.entries (2 ^ 63) ≡ true → Each IsFitting head.branches → is_some ((fitting (tree_value_of name head)).fits (kinded (Inline (codes "TTree"))) []) ≡ true
+pub tree_fits : (name : List ℕ) (head : TreeHead) → nat_lt head.entries (2 ^ 63) ≡ true → Each IsFitting head.branches → is_some ((fitting_of tree_classes (tree_value_of name head)).fits (kinded (Inline (codes "TTree"))) []) ≡ true
 unfolding tree_value_of tree_classes tree_members
 tree_fits name head entries each =
     let all : Labels = tree_labels head.branches in
@@ -213,10 +234,10 @@ tree_fits name head entries each =
     let backs = tree_backs_fit [] head.branches 0 all refl refl in
     rw (
       fit_object tree_classes (codes "TTree") (pos 120) _,
-      titled_fits name [] [],
-      int_fits (pos head.entries) I64 [] entries,
-      array_fits (branch_pointers [] 0 head.branches) [] all branches,
-      array_fits (leaf_backs 0 head.branches) all all backs,
+      titled_fits tree_classes name [] [],
+      int_fits tree_classes (pos head.entries) I64 [] entries,
+      array_fits tree_classes (branch_pointers [] 0 head.branches) [] all branches,
+      array_fits tree_classes (leaf_backs 0 head.branches) all all backs,
     ) refl
 
 -- ---- branches that can be declared

@@ -13,13 +13,13 @@ use Rattle.rio_types.specs.declared.kind.Kind.TheVariants.{Inline, Pointer}
 use Rattle.rio_types.specs.declared.kind.Primitive.TheVariants.{I32}
 use Rattle.rio_value.specs.declared.value.Value.{Value, Pointed, Null, Back}
 use Rattle.rio_format.specs.Bodies.{part}
-use Rattle.rio_format.specs.Fits.{Labels, all_fit, fits_signed, fitting_step, may_point}
+use Rattle.rio_format.specs.Fits.{Labels, all_fit, fits_signed, fitting_of, fitting_step, may_point}
 use Rattle.rio_format.specs.Slots.{Slot, kinded, based, any_pointer, has_base}
 use Rattle.rio_format.specs.TreeClasses.{tree_classes, leaf_members}
 use Rattle.rio_format.proofs.Tests.{both_true}
 use Rattle.rio_format.proofs.ValueCases.{fold_Back, fold_Null}
+use Rattle.rio_format.proofs.WrittenParts.{FitsIn, int_fits, pointer_fits, titled_fits, truth_fits}
 use Rattle.rio_format.proofs.WrittenValues.{fit_object, object_fitting}
-use Rattle.rio_tree.proofs.WrittenParts.{FitsIn, fitting, int_fits, pointer_fits, titled_fits, truth_fits}
 use Rattle.rio_tree.specs.WrittenTree.{LeafLabels, back_or_null, class_of_letter, counter_pointer, is_letter_among, is_unsigned_letter, labels_behind, leaf_object, leaf_pointers, plain_leaf_object, width_of_letter, written_count}
 
 -- ---- by the class of a leaf
@@ -102,23 +102,23 @@ knows_more known labels leaf label next knows name at e =
 
 -- ---- one leaf
 
-back_to : (labels : Labels) (label : ℕ) (slot : Slot) (own : List ℕ × ℤ) → slice_get labels label ≡ Some own → may_point tree_classes own slot ≡ true → FitsIn slot (Back label) labels labels
+back_to : (labels : Labels) (label : ℕ) (slot : Slot) (own : List ℕ × ℤ) → slice_get labels label ≡ Some own → may_point tree_classes own slot ≡ true → FitsIn tree_classes slot (Back label) labels labels
 back_to labels label slot own at may = rw (fold_Back (fitting_step tree_classes) (λ p. (p.name, p.value)) label, at, may) refl
 
 -- what points to a leaf in an array
-pub leaf_back_fits : (labels : Labels) (label : ℕ) → IsLeafAt labels label → FitsIn any_pointer (Back label) labels labels
+pub leaf_back_fits : (labels : Labels) (label : ℕ) → IsLeafAt labels label → FitsIn tree_classes any_pointer (Back label) labels labels
 leaf_back_fits labels label is = back_to labels label any_pointer (class_of_letter is.0, pos 101) is.1 (leaf_may_stand is.0)
 
-null_fits : (labels : Labels) → FitsIn (kinded (Pointer (codes "TLeaf"))) Null labels labels
+null_fits : (labels : Labels) → FitsIn tree_classes (kinded (Pointer (codes "TLeaf"))) Null labels labels
 null_fits labels = rw (fold_Null (fitting_step tree_classes) (λ p. (p.name, p.value))) refl
 
-found_fits : (labels : Labels) (found : Option ℕ) → ((label : ℕ) → found ≡ Some label → IsLeafAt labels label) → FitsIn (kinded (Pointer (codes "TLeaf"))) (back_or_null found) labels labels
+found_fits : (labels : Labels) (found : Option ℕ) → ((label : ℕ) → found ≡ Some label → IsLeafAt labels label) → FitsIn tree_classes (kinded (Pointer (codes "TLeaf"))) (back_or_null found) labels labels
 found_fits labels None knows = null_fits labels
 found_fits labels (Some label) knows =
     let is = knows label refl in
     back_to labels label (kinded (Pointer (codes "TLeaf"))) (class_of_letter is.0, pos 101) is.1 (leaf_may_count is.0)
 
-counter_fits : (known : LeafLabels) (dim : Dim) (labels : Labels) → KnowsLeaves known labels → FitsIn (kinded (Pointer (codes "TLeaf"))) (counter_pointer known dim) labels labels
+counter_fits : (known : LeafLabels) (dim : Dim) (labels : Labels) → KnowsLeaves known labels → FitsIn tree_classes (kinded (Pointer (codes "TLeaf"))) (counter_pointer known dim) labels labels
 counter_fits known One labels knows = null_fits labels
 counter_fits known (Fixed count) labels knows = null_fits labels
 counter_fits known (Counted counter times) labels knows = found_fits labels (lookup (bytes_eq counter) known) (knows counter)
@@ -133,15 +133,15 @@ width_fits letter =
 abbrev pub count_fits : Leaf → Bool
 count_fits leaf = nat_lt (written_count leaf.dim) (2 ^ 31)
 
-plain_leaf_fits : (known : LeafLabels) (leaf : Leaf) (labels : Labels) → KnowsLeaves known labels → count_fits leaf ≡ true → FitsIn (based (codes "TLeaf") (pos 102)) (plain_leaf_object known leaf) labels labels
+plain_leaf_fits : (known : LeafLabels) (leaf : Leaf) (labels : Labels) → KnowsLeaves known labels → count_fits leaf ≡ true → FitsIn tree_classes (based (codes "TLeaf") (pos 102)) (plain_leaf_object known leaf) labels labels
 unfolding plain_leaf_object tree_classes leaf_members
 plain_leaf_fits known leaf labels knows count =
     rw (
       fit_object tree_classes (codes "TLeaf") (pos 102) _,
-      titled_fits leaf.name (leaf.name ++ text_of_dim leaf.dim) labels,
-      int_fits (pos (written_count leaf.dim)) I32 labels count,
-      int_fits (pos (width_of_letter leaf.letter)) I32 labels (width_fits leaf.letter),
-      truth_fits (is_unsigned_letter leaf.letter) labels,
+      titled_fits tree_classes leaf.name (leaf.name ++ text_of_dim leaf.dim) labels,
+      int_fits tree_classes (pos (written_count leaf.dim)) I32 labels count,
+      int_fits tree_classes (pos (width_of_letter leaf.letter)) I32 labels (width_fits leaf.letter),
+      truth_fits tree_classes (is_unsigned_letter leaf.letter) labels,
       counter_fits known leaf.dim labels knows,
     ) refl
 
@@ -149,25 +149,25 @@ plain_leaf_fits known leaf labels knows count =
 abbrev pub leaf_label : Leaf → List ℕ × ℤ
 leaf_label leaf = (class_of_letter leaf.letter, pos 101)
 
-inside_fits : (plain : Value) (labels : Labels) (letter : ℕ) → FitsIn (based (codes "TLeaf") (pos 102)) plain labels labels
+inside_fits : (plain : Value) (labels : Labels) (letter : ℕ) → FitsIn tree_classes (based (codes "TLeaf") (pos 102)) plain labels labels
     → (object_fitting tree_classes (class_of_letter letter) (pos 101) (part [] plain ∷ [])).fits (kinded (Inline (class_of_letter letter))) labels ≡ Some labels
 unfolding tree_classes
 inside_fits plain labels letter e =
     by_class (λ class. (object_fitting tree_classes class (pos 101) (part [] plain ∷ [])).fits (kinded (Inline class)) labels ≡ Some labels) letter
     (record { b = rw e refl; s = rw e refl; i = rw e refl; l = rw e refl; f = rw e refl; d = rw e refl; o = rw e refl; c = rw e refl })
 
-leaf_fits : (known : LeafLabels) (label : ℕ) (leaf : Leaf) (labels : Labels) → label ≡ length labels → KnowsLeaves known labels → count_fits leaf ≡ true → FitsIn any_pointer (Pointed label (leaf_object known leaf)) labels (labels ++ leaf_label leaf ∷ [])
+leaf_fits : (known : LeafLabels) (label : ℕ) (leaf : Leaf) (labels : Labels) → label ≡ length labels → KnowsLeaves known labels → count_fits leaf ≡ true → FitsIn tree_classes any_pointer (Pointed label (leaf_object known leaf)) labels (labels ++ leaf_label leaf ∷ [])
 unfolding leaf_object
 leaf_fits known label leaf labels next knows count =
     let own : Labels = labels ++ leaf_label leaf ∷ [] in
     let plain = plain_leaf_fits known leaf own (knows_longer known labels (leaf_label leaf ∷ []) knows) count in
-    pointer_fits label (class_of_letter leaf.letter) (pos 101) (part [] (plain_leaf_object known leaf) ∷ []) any_pointer labels own next (leaf_may_stand leaf.letter)
+    pointer_fits tree_classes label (class_of_letter leaf.letter) (pos 101) (part [] (plain_leaf_object known leaf) ∷ []) any_pointer labels own next (leaf_may_stand leaf.letter)
     (inside_fits (plain_leaf_object known leaf) own leaf.letter plain)
 
 -- ---- the leaves of a branch
 
 pub record LeavesFit (known : LeafLabels) (label : ℕ) (leaves : List Leaf) (labels : Labels) : Type 0 where
-  pub each : all_fit any_pointer (map fitting (leaf_pointers known label leaves)) labels ≡ Some (labels ++ map leaf_label leaves)
+  pub each : all_fit any_pointer (map (fitting_of tree_classes) (leaf_pointers known label leaves)) labels ≡ Some (labels ++ map leaf_label leaves)
   pub knows : KnowsLeaves (labels_behind known label leaves) (labels ++ map leaf_label leaves)
 
 pub leaves_fit : (known : LeafLabels) (label : ℕ) (leaves : List Leaf) (labels : Labels) → label ≡ length labels → KnowsLeaves known labels → list_all count_fits leaves ≡ true → LeavesFit known label leaves labels

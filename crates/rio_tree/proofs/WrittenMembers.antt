@@ -7,10 +7,9 @@ use Rattle.rio_value.specs.declared.value.Value.TheOpen as layer
 use Rattle.rio_value.specs.declared.value.Value.TheVariants.{rolls-Object, outs-List, outs-Object}
 use Rattle.rio_value.specs.declared.value.Value.TheFolds.{para-Part, para-roll-Part, para-roll-Value}
 use Rattle.rio_format.specs.Bodies.{part}
-use Rattle.rio_format.specs.WrittenList.{array_object, plain_object}
+use Rattle.rio_format.specs.WrittenList.{array_object, plain_object, titled_object}
 use Rattle.rio_tree_head.specs.Members.{pointers_in}
 use Rattle.rio_value.specs.PartsWithBases.{kept_parts, parts_of_base, parts_step, parts_with_bases}
-use Rattle.rio_tree.specs.WrittenTree.{titled_object}
 
 -- ---- parts, and those of bases
 

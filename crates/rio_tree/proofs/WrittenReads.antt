@@ -22,7 +22,7 @@ use Rattle.rio_value.specs.declared.value.Value.{Int, Pointed}
 use Rattle.rio_value.specs.declared.value.Value.TheVariants.{outs-Int, outs-Pointed}
 use Rattle.rio_format.specs.Fits.{fits_signed}
 use Rattle.rio_format.specs.Bodies.{part}
-use Rattle.rio_format.specs.WrittenList.{array_object, number_part}
+use Rattle.rio_format.specs.WrittenList.{array_object, number_part, titled_object}
 use Rattle.rio_format.proofs.Tests.{both_true}
 use Rattle.rio_format.proofs.ValueCases.{Each}
 use Rattle.rio_tree_head.specs.declared.basket_at.BasketAt.{BasketAt}
@@ -36,7 +36,7 @@ use Rattle.rio_value.specs.PartsWithBases.{parts_with_bases}
 use Rattle.rio_tree_head.specs.HeaderLeaves.{LeafMet, LeavesMet, LeavesSaid, is_leafy, is_plain_number, leaf_by, leaf_met, leaves_met, no_leaves_met, says_values, with_counter, with_leaf_met}
 use Rattle.rio_tree_head.specs.Refusals.{are_in_order, basket_numbered, basket_said, baskets_from, has_leaf_class, leaf_behind, leaves_from, listed_baskets, natural_in, no_leaves, readable_branch}
 use Rattle.rio_tree.specs.WrittenLaws.{AreReadableBranches, IsReadableBranch, WrittenTreeIsRead, branch_fits_header, branch_of_leaf, counting_branches_behind, stated_defs}
-use Rattle.rio_tree.specs.WrittenTree.{LeafLabels, branch_label_count, branch_object, branch_pointers, labels_behind, leaf_backs, leaf_object, leaf_pointers, leaves_in_branch, titled_object, tree_value_of, written_count}
+use Rattle.rio_tree.specs.WrittenTree.{LeafLabels, branch_label_count, branch_object, branch_pointers, labels_behind, leaf_backs, leaf_object, leaf_pointers, leaves_in_branch, tree_value_of, written_count}
 use Rattle.rio_tree.proofs.WrittenCounters.{AllLead, Leads, OwnPlace, EarlierPlace, all_lead_more, leaf_reads, stated_leaf, written_met}
 use Rattle.rio_tree.proofs.WrittenFits.{dim_count_fits, numbers_of}
 use Rattle.rio_tree.proofs.WrittenLeaves.{get_behind, get_front}

@@ -17,7 +17,7 @@ use Rattle.rio_value.specs.declared.value.Value.{Value, Int, Bool as Truth, Text
 use Rattle.rio_value.specs.declared.value.Value.TheVariants.{outs-Back, outs-Bool, outs-Int, outs-List, outs-Null, outs-Object, outs-Text}
 use Rattle.rio_format.specs.Bodies.{part}
 use Rattle.rio_format.specs.Fits.{fits_signed}
-use Rattle.rio_format.specs.WrittenList.{array_object, number_part, plain_object}
+use Rattle.rio_format.specs.WrittenList.{array_object, number_part, plain_object, titled_object}
 use Rattle.rio_format.proofs.Tests.{both_true}
 use Rattle.rio_tree_head.specs.declared.basket_at.BasketAt.{BasketAt}
 use Rattle.rio_tree_head.specs.declared.head.Branch.{Branch}
@@ -27,7 +27,7 @@ use Rattle.rio_tree_head.specs.Members.{integer_member, integers_in, integers_me
 use Rattle.rio_value.specs.Accessors.{class_of_object}
 use Rattle.rio_value.specs.PartsWithBases.{member_in, parts_with_bases}
 use Rattle.rio_tree.specs.WrittenLaws.{IsVersionFor}
-use Rattle.rio_tree.specs.WrittenTree.{LeafLabels, back_or_null, basket_numbers, branch_object, class_of_letter, counter_pointer, is_unsigned_letter, leaf_object, leaf_pointers, leaves_in_branch, plain_branch_object, plain_leaf_object, shaped_object, title_of_branch, titled_object, width_of_letter, written_count}
+use Rattle.rio_tree.specs.WrittenTree.{LeafLabels, back_or_null, basket_numbers, branch_object, class_of_letter, counter_pointer, is_unsigned_letter, leaf_object, leaf_pointers, leaves_in_branch, plain_branch_object, plain_leaf_object, shaped_object, title_of_branch, width_of_letter, written_count}
 use Rattle.rio_tree.proofs.WrittenMembers.{object_parts, pointers_written, titled_parts}
 
 -- ---- letters

@@ -13,14 +13,10 @@ use Rattle.rio_leaf.specs.declared.leaf.Leaf.{Leaf}
 use Rattle.rio_value.specs.declared.value.Part.{Part}
 use Rattle.rio_value.specs.declared.value.Value.{Value, Int, Bool as Truth, Text, List as Items, Object, Pointed, Null, Back}
 use Rattle.rio_format.specs.Bodies.{part}
-use Rattle.rio_format.specs.WrittenList.{array_object, number_part, plain_object}
+use Rattle.rio_format.specs.WrittenList.{array_object, number_part, titled_object}
 use Rattle.rio_tree_head.specs.declared.basket_at.BasketAt.{BasketAt}
 use Rattle.rio_tree_head.specs.declared.head.Branch.{Branch}
 use Rattle.rio_tree_head.specs.declared.head.TreeHead.{TreeHead}
-
--- a TNamed with a title
-unfoldable pub titled_object : List ℕ → List ℕ → Value
-titled_object name title = Object (codes "TNamed") (pos 1) (part [] plain_object ∷ part (codes "fName") (Text name) ∷ part (codes "fTitle") (Text title) ∷ [])
 
 -- ---- what the letter of a leaf says
 

@@ -13,7 +13,6 @@ mod written;
 mod written_baskets;
 mod written_labels;
 mod written_leaf;
-mod written_parts;
 
 pub use laws::{written_tree_fits, written_tree_is_read};
 pub use rio_tree_head::{

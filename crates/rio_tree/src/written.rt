@@ -2,13 +2,12 @@
 ghost use Rattle.std.specs.Prelude.{◌≡◌, ◌++◌, [], IfOk, OnOk};
 ghost use Rattle.rio_leaf.specs.Stated.{leaves_of};
 ghost use Rattle.rio_leaf.specs.declared.branch.Shape.TheVariants.{Class};
-ghost use Rattle.rio_value.specs.declared.value.Value.{Int};
 ghost use Rattle.rio_tree.specs.WrittenTree.{backs_from, basket_arrays, branch_numbers, branch_object, branch_pointers, labels_behind, leaf_backs, leaf_pointers, leaves_in_branch, plain_branch_object, shaped_object, title_of_branch, tree_value_of};
 
 use crate::written_baskets::{BasketNumber, basket_numbers};
 use crate::written_labels::{LeafLabels, label_behind};
 use crate::written_leaf::leaf_pointers;
-use crate::written_parts::{PartList, array_object, titled_object};
+use rio_format::{PartList, array_object, titled_object};
 use rio_leaf::{Leaf, Shape, print_leaves};
 use rio_num::{Boxed, Bytes, Name, NoMemory};
 use rio_tree_head::{Branch, TreeHead};
@@ -42,7 +41,7 @@ fn branch_numbers(alloc: Global, branch: &Branch) -> Result<PartList, NoMemory>
     ensures { IfOk result (λ list. list ≡ branch_numbers branch.now) }
 {
     let title = branch_title(alloc, &branch.def.shape)?;
-    let named = titled_object(alloc, branch.def.name.copy()?, title)?;
+    let named = titled_object(alloc, branch.def.name.as_slice(), title)?;
     let count = branch.baskets.len() as u64;
     let room = Value::Int(i128::from(count) + 1);
     PartList::new(alloc)
@@ -96,12 +95,6 @@ fn plain_branch_object(
     with_baskets(parts, alloc, branch)?.object(b"TBranch", 113)
 }
 
-fn version_value(version: i32) -> Value
-    ensures { result ≡ Int version }
-{
-    Value::Int(i128::from(version))
-}
-
 // A TBranchElement of the class with this TBranch as its base.
 fn object_branch(
     alloc: Global,
@@ -111,11 +104,10 @@ fn object_branch(
 ) -> Result<Value, NoMemory>
     ensures { IfOk result (λ value. value ≡ shaped_object plain branch.now (Class class.now)) }
 {
-    let version = version_value(branch.class_version);
     PartList::new(alloc)
         .with(b"", plain)?
-        .with(b"fClassName", Value::Text(class.copy()?))?
-        .with(b"fClassVersion", version)?
+        .with_text(b"fClassName", class.as_slice())?
+        .with_int(b"fClassVersion", branch.class_version)?
         .object(b"TBranchElement", 110)
 }
 
@@ -192,7 +184,7 @@ pub fn tree_value(alloc: Global, name: &[u8], head: &TreeHead) -> Result<Value, 
     ensures { IfOk result (λ value. value ≡ tree_value_of name.now head.now) }
 {
     let branches = head.branches.as_slice();
-    let named = titled_object(alloc, Name::from_slice(alloc, name)?, Name::new(alloc))?;
+    let named = titled_object(alloc, name, Name::new(alloc))?;
     PartList::new(alloc)
         .with(b"", named)?
         .with_number(b"fEntries", head.entries)?

@@ -4,7 +4,7 @@ ghost use Rattle.rio_leaf.specs.Spelling.{text_of_dim};
 ghost use Rattle.rio_tree.specs.WrittenTree.{class_of_letter, counter_pointer, is_unsigned_letter, labels_behind, leaf_object, leaf_pointers, plain_leaf_object, width_of_letter, written_count};
 
 use crate::written_labels::{LeafLabels, label_behind};
-use crate::written_parts::{PartList, titled_object};
+use rio_format::{PartList, titled_object};
 use rio_leaf::{Dim, Leaf, put_dim};
 use rio_num::{Boxed, Bytes, Name, NoMemory};
 use rio_value::{Value, Values};
@@ -77,7 +77,7 @@ fn leaf_title(alloc: Global, leaf: &Leaf) -> Result<Name, NoMemory>
 fn plain_leaf_object(alloc: Global, known: &LeafLabels, leaf: &Leaf) -> Result<Value, NoMemory>
     ensures { IfOk result (λ value. value ≡ plain_leaf_object known.now leaf.now) }
 {
-    let named = titled_object(alloc, leaf.name.copy()?, leaf_title(alloc, leaf)?)?;
+    let named = titled_object(alloc, leaf.name.as_slice(), leaf_title(alloc, leaf)?)?;
     PartList::new(alloc)
         .with(b"", named)?
         .with_number(b"fLen", count_of(&leaf.dim))?

@@ -1,4 +1,5 @@
 pub mod ChainLaws
+pub mod EqualLaws
 pub mod ForgetLaws
 pub mod LeadLaws
 pub mod MapLaws

@@ -1,16 +1,13 @@
 -- Names that are compared.
-use Rattle.std.proofs.Common.{◌≡◌, ℕ, List, Bool, true, false, cond, ◌||◌, refl, ap, ◌∙◌, nat_cmp}
+use Rattle.std.proofs.Common.{◌≡◌, ℕ, List, Bool, true, cond, ◌||◌, ap, ◌∙◌, nat_cmp}
 use Rattle.std.proofs.lemmas.Map.Text.{is_eq-slice_cmp}
 use Rattle.std.specs.Cmp.Lexicographic.{slice_cmp}
 use Rattle.std.specs.Ordering.{is_eq}
 use Rattle.std.specs.Str.{bytes_eq}
 use Rattle.rio_num.proofs.BytesEq.{bytes_eq-sym}
-
-cond-or : (p b : Bool) → cond p true b ≡ (p || b)
-cond-or true b = refl
-cond-or false b = refl
+use Rattle.rio_num.proofs.NameSets.{cond_or}
 
 -- a set of names after one was put into it
 pub is_new_or : (name new : List ℕ) (b : Bool) → cond (is_eq (slice_cmp nat_cmp new name)) true b ≡ (bytes_eq name new || b)
 is_new_or name new b =
-    ap (λ (p : Bool). cond p true b) (is_eq-slice_cmp new name ∙ bytes_eq-sym new name) ∙ cond-or (bytes_eq name new) b
+    ap (λ (p : Bool). cond p true b) (is_eq-slice_cmp new name ∙ bytes_eq-sym new name) ∙ cond_or (bytes_eq name new) b

@@ -5,7 +5,7 @@ use crate::Kind;
 use rio_num::{Items, Name, NoMemory};
 
 /// A member of a class.
-#[derive(Debug, Drop)]
+#[derive(Debug, PartialEq, Drop)]
 pub struct Member {
     pub name: Name,
     pub kind: Kind,
@@ -13,7 +13,7 @@ pub struct Member {
 }
 
 /// A base of a class, in the version that the class has it in.
-#[derive(Debug, Drop)]
+#[derive(Debug, PartialEq, Drop)]
 pub struct Base {
     pub name: Name,
     pub version: i32,
@@ -26,7 +26,7 @@ pub type Bases = Items<Base>;
 pub type Members = Items<Member>;
 
 /// A class in one version. `sum` is the checksum that the class list states for it.
-#[derive(Debug, Drop)]
+#[derive(Debug, PartialEq, Drop)]
 pub struct ClassDef {
     pub name: Name,
     pub version: i32,

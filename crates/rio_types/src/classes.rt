@@ -166,6 +166,25 @@ impl Classes {
     }
 }
 
+impl PartialEq for Classes {
+    ghost use Rattle.std.specs.Prelude.{◌≡◌, ◌↔◌, IsTrue};
+    ghost use Rattle.std.specs.Cmp.Lexicographic.{lists_per, pointwise};
+    ghost use Rattle.rio_types.specs.contracts.class.ClassDefPartialEq.TheImpl.{eq-value as class_equal};
+    ghost use Rattle.rio_types.specs.contracts.class.ClassDefPartialEq.TheImpl.Laws.{laws-law as class_laws};
+
+    ghost eq = { λ a b. pointwise class_equal.it a b };
+
+    ghost laws = { lists_per class_laws };
+
+    #[tactic(auto, using(crate::proofs::EqualLaws::classes_decide))]
+    fn eq(&self, other: &Classes) -> bool
+        ensures pairs { result ≡ pointwise class_equal.it self.now other.now }
+        ensures same { IsTrue result ↔ (self.now ≡ other.now) }
+    {
+        self.as_slice() == other.as_slice()
+    }
+}
+
 #[cfg(test)]
 mod tests {
     use super::*;
@@ -215,6 +234,16 @@ mod tests {
             Some(3)
         );
         assert!(rt; classes.find(b"Node", 2).is_none());
+        Ok(())
+    }
+
+    #[test]
+    fn compares(rt: HostRuntime) -> Result<(), Fail> {
+        let classes = three_classes(rt.alloc()).ok().ok_or("three classes")?;
+        let mut again = three_classes(rt.alloc()).ok().ok_or("three classes")?;
+        assert!(rt; again == classes);
+        again.remove_last();
+        assert!(rt; again != classes);
         Ok(())
     }
 }

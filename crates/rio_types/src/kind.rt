@@ -23,7 +23,7 @@ pub enum Primitive {
 pub type Prim = Primitive;
 
 /// What a member of a class holds.
-#[derive(Debug, Drop)]
+#[derive(Debug, PartialEq, Drop)]
 pub enum Kind {
     /// One value.
     Plain { of: Prim },

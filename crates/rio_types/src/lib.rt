@@ -6,6 +6,8 @@
 //! members can be read, which was judged when it was put there. `last_named` and `same_name_before` lead through the
 //! classes of one name.
 //!
+//! `==` of kinds, members, bases, classes and lists of them tells whether they are the same (`proofs/EqualLaws.antt`).
+//!
 //! `specs/Classes.antt` says which class is found, `Members.antt` which members can be read; the others say how the maps
 //! stand for the list.
 #![tactic(auto)]

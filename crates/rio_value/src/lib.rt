@@ -2,7 +2,7 @@
 //!
 //! A `Value` is an integer, the bits of a floating-point number, a truth value, a text, a list, an object with its
 //! `Part`s, what a pointer leads to, or an object that isn't read. It is the value of contracts too: two are equal where
-//! they hold the same. `copy` makes an equal one.
+//! they hold the same, and `==` tells whether they are. `copy` makes an equal one.
 //!
 //! What stands in a value is told by the methods of `Value`: `as_i32` and its like for numbers, texts and lists, `class`,
 //! `version`, `part` and `member` for objects (`specs/Accessors.antt`, `PartsWithBases.antt`). `depth` tells how deep objects
@@ -10,6 +10,7 @@
 #![tactic(auto)]
 
 mod accessors;
+mod equal;
 mod longest;
 mod member;
 mod value;

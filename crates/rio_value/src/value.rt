@@ -185,6 +185,8 @@ mod tests {
     fn copies(rt: HostRuntime) -> Result<(), Fail> {
         let value = nested(rt.alloc()).ok().ok_or("a value")?;
         let again = copy(rt.alloc(), &value).ok().ok_or("a copy")?;
+        assert!(rt; again == value);
+        assert!(rt; again != Value::Null);
         assert_eq!(rt; depth(&again), 1);
         assert_eq!(rt; crate::longest_list(&again), 2);
         Ok(())

@@ -194,13 +194,13 @@ fn pass_members(
 }
 
 #[cycle(passing)]
-#[tactic(auto, using(crate::proofs::PassedParts::counter_noted, crate::proofs::PassedParts::member_passed))]
-fn pass_member(
+#[tactic(auto, using(crate::proofs::PassedParts::counter_passed, crate::proofs::PassedParts::member_passed))]
+fn pass_member<'a>(
     alloc: Global,
     classes: &Classes,
     reader: &mut ObjReader,
-    member: &Member,
-    counters: &mut Counters,
+    member: &'a Member,
+    counters: &mut Counters<'a>,
     levels: u32,
 ) -> Result<(), ObjFault>
     ensures exact { ReadsAs (λ _. counters.new) result

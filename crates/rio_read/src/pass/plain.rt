@@ -6,7 +6,7 @@ ghost use Rattle.rio_buffer.specs.Reader.{IsCounted};
 ghost use Rattle.rio_format.specs.Bodies.{t_named, t_obj_string};
 ghost use Rattle.rio_format.specs.Objects.{array, bare_layout, object_of, parts, unread};
 ghost use Rattle.rio_num.specs.Meanings.{read};
-ghost use Rattle.rio_read.specs.Passing.{noted_counter, pass_of};
+ghost use Rattle.rio_read.specs.Passing.{counters_with_next, pass_of};
 
 use super::numbers::pass_list;
 use crate::numbers::read_count;
@@ -66,18 +66,18 @@ pub(crate) fn pass_array(reader: &mut ObjReader, class: &[u8], of: Prim) -> Resu
 }
 
 /// Passes over a counter of this name, which counts from then on.
-#[tactic(auto, unfolding(crate::specs::Passing::noted_counter))]
-pub(crate) fn pass_counter(
+#[tactic(auto, unfolding(crate::specs::Passing::counters_with_next))]
+pub(crate) fn pass_counter<'a>(
     reader: &mut ObjReader,
-    name: &Name,
-    counters: &mut Counters,
+    name: &'a Name,
+    counters: &mut Counters<'a>,
 ) -> Result<(), ObjFault>
     ensures exact { ReadsAs (λ _. counters.new) result
-        (read (noted_counter name.now counters.old) reader.old) reader.new }
+        (read (counters_with_next name.now counters.old) reader.old) reader.new }
     ensures goes { GoesOn reader.old.at reader.new.at }
 {
     let said = reader.take_u32()?.cast_signed();
-    counters.note(name.copy()?, said)?;
+    counters.note(name.as_slice(), said)?;
     Ok(())
 }
 

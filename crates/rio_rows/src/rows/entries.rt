@@ -1,5 +1,6 @@
 //! Entries of branches of leaves.
 mod checked;
+mod numbered;
 mod objects;
 
 use crate::rows::leaf_lists::branch_of_row;

@@ -522,3 +522,86 @@ pub(super) static ENTRIES: [Row; 9] = [
         said: "ok scan T 2\n0 [1, [0x3f800000]]\n1 [2, [0x40000000, 0x40400000]]\n",
     },
 ];
+
+/// Counters in two earlier branches.
+pub(super) static ENTRIES_COUNTED_BY_TWO: [Row; 1] = [
+    // Two earlier branches count the leaves, and both have a leaf `m`. No two counts of an entry are alike.
+    Row {
+        name: "counters of one name in two branches",
+        forest: Forest {
+            trees: &[Tree {
+                branches: &[
+                    Branch {
+                        leaves: &[
+                            Leaf {
+                                name: "m",
+                                ..INTEGER
+                            },
+                            Leaf {
+                                name: "n",
+                                ..INTEGER
+                            },
+                        ],
+                        baskets: &[Basket {
+                            entries: 2,
+                            size: 8,
+                            data: b"\0\0\0\x01\0\0\0\x03\0\0\0\x04\0\0\0\0",
+                            used: 16,
+                            ..FIVE
+                        }],
+                        entries: 2,
+                        ..GOOD
+                    },
+                    Branch {
+                        name: "b",
+                        leaves: &[Leaf {
+                            name: "m",
+                            ..INTEGER
+                        }],
+                        baskets: &[Basket {
+                            entries: 2,
+                            size: 4,
+                            data: b"\0\0\0\x02\0\0\0\x01",
+                            used: 8,
+                            ..FIVE
+                        }],
+                        entries: 2,
+                        ..GOOD
+                    },
+                    Branch {
+                        name: "c",
+                        leaves: &[
+                            Leaf {
+                                class: "TLeafB",
+                                name: "v",
+                                counter: Some(2),
+                                ..INTEGER
+                            },
+                            Leaf {
+                                name: "w",
+                                counter: Some(1),
+                                ..SHORT
+                            },
+                        ],
+                        baskets: &[Basket {
+                            entries: 2,
+                            size: 2,
+                            data: b"\x07\xff\0\x01\0\x02\0\x03\x09\
+                                \0\0\0\x03\0\0\0\x39\0\0\0\x41\0\0\0\x42",
+                            used: 9,
+                            ..FIVE
+                        }],
+                        entries: 2,
+                        ..GOOD
+                    },
+                ],
+                entries: 2,
+                ..TREE
+            }],
+            ..FILE
+        },
+        said: "ok scan T 2\n\
+            0 [1, 3, 2, [7, -1], [1, 2, 3]]\n\
+            1 [4, 0, 1, [9], []]\n",
+    },
+];

@@ -348,7 +348,7 @@ pub(super) static REFUSED_IN_ORDER: [Row; 1] = [
 ];
 
 /// Leaves that are counted.
-pub(super) static REFUSED_COUNTERS: [Row; 3] = [
+pub(super) static REFUSED_COUNTERS: [Row; 4] = [
     // Leaves of two bytes, unsigned, of two numbers and of a branch that isn't read, and one with another of its name behind it.
     Row {
         name: "leaves that can't count",
@@ -628,5 +628,74 @@ pub(super) static REFUSED_COUNTERS: [Row; 3] = [
             ..FILE
         },
         said: "branch b refused BadEntry\nok scan T 1\n0 [-1]\n",
+    },
+    // The second entry of the first branch breaks, so the branch that it counts isn't read either.
+    Row {
+        name: "a counter of a branch that breaks behind its first entry",
+        forest: Forest {
+            trees: &[Tree {
+                branches: &[
+                    Branch {
+                        name: "n",
+                        leaves: &[
+                            Leaf {
+                                name: "n",
+                                ..INTEGER
+                            },
+                            Leaf {
+                                class: "TLeafB",
+                                name: "w",
+                                unsigned: true,
+                                counter: Some(0),
+                                ..INTEGER
+                            },
+                        ],
+                        baskets: &[Basket {
+                            entries: 2,
+                            size: 2,
+                            data: b"\0\0\0\x01\x07\xff\xff\xff\xff\
+                                \0\0\0\x03\0\0\0\x39\0\0\0\x3e\0\0\0\x42",
+                            used: 9,
+                            ..FIVE
+                        }],
+                        entries: 2,
+                        ..GOOD
+                    },
+                    Branch {
+                        name: "v",
+                        leaves: &[Leaf {
+                            name: "v",
+                            counter: Some(0),
+                            ..FLOAT
+                        }],
+                        baskets: &[Basket {
+                            entries: 2,
+                            size: 2,
+                            data: b"\x3f\x80\0\0\0\0\0\x03\0\0\0\x39\0\0\0\x3d\0\0\0\x3d",
+                            used: 4,
+                            ..FIVE
+                        }],
+                        entries: 2,
+                        ..GOOD
+                    },
+                    Branch {
+                        baskets: &[Basket {
+                            entries: 2,
+                            data: b"\0\0\0\x05\0\0\0\x06",
+                            used: 8,
+                            ..FIVE
+                        }],
+                        entries: 2,
+                        ..GOOD
+                    },
+                ],
+                entries: 2,
+                ..TREE
+            }],
+            ..FILE
+        },
+        said: "branch n refused BadEntry\n\
+            branch v refused NoCounter\n\
+            ok scan T 2\n0 [5]\n1 [6]\n",
     },
 ];

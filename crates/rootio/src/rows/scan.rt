@@ -1,7 +1,7 @@
 //! Rows of `scan`.
 use super::classes::ClassList;
 use super::dump;
-use super::entries::{BASKETS, ENTRIES};
+use super::entries::{BASKETS, ENTRIES, ENTRIES_COUNTED_BY_TWO};
 use super::far::FarHost;
 use super::forest::{Forest, Form};
 use super::header::{Tree, TreeLayout};
@@ -76,6 +76,12 @@ fn entries(rt: HostRuntime) -> Result<(), Fail> {
         assert_eq!(rt; status, Status::Done, "{}", row.name);
         assert_eq!(rt; said.as_slice(), row.said.as_bytes(), "{}", row.name);
     }
+    Ok(())
+}
+
+#[test]
+fn entries_counted_by_two(rt: HostRuntime) -> Result<(), Fail> {
+    assert_eq!(rt; said_otherwise(rt.alloc(), &ENTRIES_COUNTED_BY_TWO)?, "");
     Ok(())
 }
 
@@ -342,7 +348,7 @@ const NINE: &[u8] = b"ok scan T 9\n0 [1, 11]\n1 [2, 12]\n2 [3, 13]\n3 [4, 14]\n\
     4 [5, 15]\n5 [6, 16]\n6 [7, 17]\n7 [8, 18]\n8 [9, 19]\n";
 
 // The file is looked at by 23 calls: the length, the header, the directory record, two for each of the key list and the class list,
-// one for the tree's header, and three for each of five baskets, which are tested, tested entry by entry, and said. All is said at
+// one for the tree's header, and three for each of five baskets, which are checked, checked entry by entry, and said. All is said at
 // once.
 fn end_by(call: u64) -> (Status, usize) {
     match call {

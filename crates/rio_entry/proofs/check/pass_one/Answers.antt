@@ -1,6 +1,6 @@
 use Rattle.std.proofs.Common.{subst}
 use Rattle.rio_buffer.specs.Frames.{ReadsAs, Step}
-use Rattle.rio_entry.proofs.Checking.{one_passed}
+use Rattle.rio_entry.proofs.KeptEntries.{one_passed}
 use Rattle.rio_entry.proofs.check.pass_one.Goals as goal
 
 pub returns-clause-exact : goal.returns-clause-exact

@@ -8,7 +8,7 @@ pub returns-in_ok-note-in-Some : goal.returns-in_ok-note-in-Some
 returns-in_ok-note-in-Some c = λ classes owners.
     let is = c.in-Some.ensures classes in
     let range : SFits w32 c.in-Some.said = search rules in
-    let noted = simp (to_z-of_z, c.in_ok-from_slice-in-Some.ensures) at c.in_ok-note-in-Some.ensures in
+    let noted = simp to_z-of_z at c.in_ok-note-in-Some.ensures in
     counter_noted c.args.name.now (fitting_of classes c.args.value.now) c.args.counters.now c.note.new.self owners c.in-Some.said is.0 (is.1 owners) noted
 
 pub returns-in-None : goal.returns-in-None

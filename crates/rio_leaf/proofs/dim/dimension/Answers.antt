@@ -1,6 +1,6 @@
 use Rattle.std.proofs.Common.{rules, sym, ap, Bool, arith}
 use Rattle.std.specs.Str.Parse.{digits_value}
-use Rattle.rio_leaf.specs.Reading.{some_where}
+use Rattle.rio_num.specs.Reading.{some_if}
 use Rattle.rio_leaf.proofs.DigitLaws.{no_digit, too_great}
 use Rattle.rio_leaf.proofs.dim.dimension.Goals as goal
 use Rattle.rio_leaf.proofs.dim.dimension.Goals.{then-not-is_ascii_digit-via-then-not-is_ascii_digit, then-not-is_ascii_digit-via-else-not-is_ascii_digit+then-n-gt100000}
@@ -12,7 +12,7 @@ returns-then-not-is_ascii_digit c =
     let inv = c.loop-byte.invariant in
     elim c.then-not-is_ascii_digit.branch [
       | then-not-is_ascii_digit-via-then-not-is_ascii_digit w ↦
-          ap (λ (b : Bool). some_where b (digits_value 10 word)) (sym (no_digit word i (omega arith) inv.0 (search rules)))
+          ap (λ (b : Bool). some_if b (digits_value 10 word)) (sym (no_digit word i (omega arith) inv.0 (search rules)))
       | then-not-is_ascii_digit-via-else-not-is_ascii_digit+then-n-gt100000 w ↦
-          ap (λ (b : Bool). some_where b (digits_value 10 word)) (sym (too_great word i c.loop-byte.n inv.1 (search rules)))
+          ap (λ (b : Bool). some_if b (digits_value 10 word)) (sym (too_great word i c.loop-byte.n inv.1 (search rules)))
     ]

@@ -1,7 +1,7 @@
 use Rattle.std.proofs.Common.{◌++◌, List, ℕ, Ok, Err, refl}
 use Rattle.std.specs.List.{flat_map}
 use Rattle.std.proofs.lemmas.Result.{err_from_is_err_and}
-use Rattle.rio_host.proofs.PiecesLaws.{part_as, part_front, says_as}
+use Rattle.rio_host.proofs.PiecesLaws.{part_front, pieces_as, says_as}
 use Rattle.rio_meaning.specs.Dump.{class_line, dump_lines, stored_line}
 use Rattle.rio_close.specs.declared.fault.ReportFault.{ReportFault}
 use Rattle.rio_report.specs.Gathered.{Gathered}
@@ -14,7 +14,7 @@ returns-in_err-gather_classes-clause-says g c =
     let p = err_from_is_err_and c.from_residual.result c.from_residual.ensures.1 in
     let classes : List ℕ → List ℕ = λ file. c.new-held.result.bytes ++ flat_map class_line c.as_slice.result.now in
     let keys : List ℕ → List ℕ = λ file. flat_map (stored_line file c.args.classes.now) c.args.keys.now in
-    rw p.1 (part_as (λ file. classes file ++ keys file) (λ file. dump_lines file c.args.classes.now c.args.keys.now) (λ file told. rw (c.new-held.ensures, c.as_slice.ensures) refl)
+    rw p.1 (pieces_as (λ file. classes file ++ keys file) (λ file. dump_lines file c.args.classes.now c.args.keys.now) (λ file told. rw (c.new-held.ensures, c.as_slice.ensures) refl)
     (part_front classes keys c.in_err-gather_classes.ensures.says))
 
 pub returns-in_err-gather_keys-clause-says : goal.returns-in_err-gather_keys-clause-says
@@ -26,7 +26,7 @@ returns-in_err-gather_keys-clause-says g c =
     let d = g.H.Host.view c.gather_keys.new.host in
     let classes : List ℕ → List ℕ = λ file. c.new-held.result.bytes ++ flat_map class_line c.as_slice.result.now in
     let keys : List ℕ → List ℕ = λ file. flat_map (stored_line file c.args.classes.now) c.args.keys.now in
-    rw p.1 (part_as (λ file. classes file ++ keys file) (λ file. dump_lines file c.args.classes.now c.args.keys.now) (λ file told. rw (c.new-held.ensures, c.as_slice.ensures) refl)
+    rw p.1 (pieces_as (λ file. classes file ++ keys file) (λ file. dump_lines file c.args.classes.now c.args.keys.now) (λ file told. rw (c.new-held.ensures, c.as_slice.ensures) refl)
     (gathers_behind a b d (g.met.H.Host.lawful c.args.host.now) (g.met.H.Host.lawful c.gather_classes.new.host) classes c.gather_classes.new.held.bytes c.in_ok-gather_classes.ensures.says {X = Unit {0}} {F = ReportFault} keys c.gather_keys.new.held.bytes (Err c.in_err-gather_keys.field-0.0) c.in_err-gather_keys.ensures.says))
 
 pub returns-clause-says : goal.returns-clause-says

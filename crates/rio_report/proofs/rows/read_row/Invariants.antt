@@ -4,14 +4,14 @@ use Rattle.rio_close.specs.Causes.{NoDiskFault}
 use Rattle.rio_scan.specs.declared.row.Row.{Row}
 use Rattle.rio_scan.specs.Sweeps.{sweep, sweep_behind}
 use Rattle.rio_report.specs.Lanes.{AreLanes}
-use Rattle.rio_report.specs.Tested.{row_made}
+use Rattle.rio_report.specs.Checked.{row_made}
 use Rattle.rio_report.proofs.rows.read_row.Given as goal
 
 abbrev pub invariant-loop-k : goal.invariant-loop-k
 invariant-loop-k g l = record {
   calls : OnlyReads (g.H.Host.view l.fn.host) (g.H.Host.view l.host);
   calm : NoDiskFault (g.H.Host.view l.fn.host) (g.H.Host.view l.host);
-  swept : (file : List ℕ) → (g.H.Host.view l.fn.host).holds ≡ Some file → AreLanes file l.entry l.tree.branches.now l.fn.lanes → (full : Row) × (l.row ≡ row_made l.tested full) × (sweep_behind file l.tree.classes.now l.entry (take l.k l.tree.branches.now) full (drop l.k l.tree.branches.now) (drop l.k l.refusals) ≡ sweep file l.tree.classes.now l.entry l.tree.branches.now l.refusals);
+  swept : (file : List ℕ) → (g.H.Host.view l.fn.host).holds ≡ Some file → AreLanes file l.entry l.tree.branches.now l.fn.lanes → (full : Row) × (l.row ≡ row_made l.made full) × (sweep_behind file l.tree.classes.now l.entry (take l.k l.tree.branches.now) full (drop l.k l.tree.branches.now) (drop l.k l.refusals) ≡ sweep file l.tree.classes.now l.entry l.tree.branches.now l.refusals);
   lanes : (file : List ℕ) → (g.H.Host.view l.fn.host).holds ≡ Some file → AreLanes file l.entry l.tree.branches.now l.fn.lanes → AreLanes file l.entry l.tree.branches.now l.lanes;
   count : length l.row.refusals ≡ l.k;
   values : length l.row.values ≡ l.k;

@@ -8,12 +8,12 @@ use Rattle.rio_scan.specs.Rows.{read_values, values_at_entry}
 use Rattle.rio_scan.specs.Scan.{numbered_row}
 use Rattle.rio_scan.specs.Sweeps.{sweep}
 use Rattle.rio_scan.proofs.SweepLaws.{last_row}
-use Rattle.rio_report.proofs.TestedRows.{nothing_tested}
+use Rattle.rio_report.proofs.CheckedRows.{all_is_made}
 use Rattle.rio_report.proofs.scan_rows.put_row_line.Goals as goal
 use Rattle.rio_report.proofs.scan_rows.put_row_line.Goals.{then-are_kept+in_ok-put_row, else-are_kept+in_ok-put_row_fault}
 
 pub read_row-requires-clause-counters : goal.read_row-requires-clause-counters
-read_row-requires-clause-counters g c = λ k b is. nothing_tested b.counted_by
+read_row-requires-clause-counters g c = λ k b is. all_is_made b.counted_by
 
 pub returns-clause-line : goal.returns-clause-line
 returns-clause-line g c file told entries lt is are =

@@ -1,7 +1,7 @@
-//! Entries that are whole, and entries that break at a place: `check_entry` tells what `read_entry` does.
+//! Entries that are whole, and entries that break at a place: `check_entry` and `entry_numbers` tell what `read_entry` does.
 use super::counts_of;
 use crate::rows::leaf_lists::branch_of_row;
-use rio_entry::{EntryFault, check_entry, read_entry};
+use rio_entry::{EntryFault, check_entry, entry_numbers, read_entry};
 use rio_leaf::BranchDef;
 use rio_types::Classes;
 use rio_value::Values;
@@ -139,7 +139,7 @@ fn is_told(told: Option<EntryFault>, place: Option<u64>) -> bool {
     }
 }
 
-// Whether both calls tell the bytes to be whole, or to break at the place.
+// Whether all three calls tell the bytes to be whole, or to break at the place.
 pub(super) fn is_checked(
     alloc: Global,
     classes: &Classes,
@@ -152,8 +152,9 @@ pub(super) fn is_checked(
         return false;
     }
     let checked = check_entry(alloc, classes, branch, counts, bytes).err();
+    let numbered = entry_numbers(alloc, classes, branch, counts, bytes).err();
     let read = read_entry(alloc, classes, branch, counts, bytes).err();
-    is_told(checked, place) && is_told(read, place)
+    is_told(checked, place) && is_told(numbered, place) && is_told(read, place)
 }
 
 impl Row {

@@ -1,6 +1,7 @@
 //! Entries of branches of a class.
 use super::checked::is_checked;
 use super::row_of;
+use crate::rows::classes::{ClassRow, Holds, classes_of};
 use rio_leaf::{BranchDef, Shape};
 use rio_num::{Name, NoMemory};
 use rio_types::{Bases, ClassDef, Classes, Kind, Member, Members, Prim};
@@ -41,10 +42,10 @@ fn node_classes(alloc: Global) -> Result<Classes, NoMemory> {
     Ok(classes)
 }
 
-fn node_branch(alloc: Global) -> Result<BranchDef, NoMemory> {
+pub(super) fn branch_of_class(alloc: Global, class: &str) -> Result<BranchDef, NoMemory> {
     Ok(BranchDef {
         name: Name::new(alloc),
-        shape: Shape::Class(Name::from_slice(alloc, b"Node")?),
+        shape: Shape::Class(Name::from_slice(alloc, class.as_bytes())?),
     })
 }
 
@@ -121,7 +122,7 @@ fn are_checked_in(alloc: Global, classes: &Classes, branch: &BranchDef) -> bool 
 }
 
 fn are_read_among(alloc: Global, classes: &Classes) -> bool {
-    match node_branch(alloc) {
+    match branch_of_class(alloc, "Node") {
         Ok(branch) => {
             are_read_in(alloc, classes, &branch) && are_checked_in(alloc, classes, &branch)
         }
@@ -139,4 +140,47 @@ fn are_read(alloc: Global) -> bool {
 #[test]
 fn objects_are_read_and_written(rt: HostRuntime) {
     assert!(rt; are_read(rt.alloc()));
+}
+
+/// The class `C 1 { n: i32, v: f32[n] }`.
+pub(super) static LISTED: [ClassRow; 1] = [ClassRow {
+    name: "C",
+    version: 1,
+    sum: 0,
+    bases: &[],
+    members: &[("n", Holds::Counter), ("v", Holds::Counted(Prim::F32, "n"))],
+    title: "",
+}];
+
+/// An object of it, with a list of one number.
+pub(super) static LIST: &[u8] = b"\x40\0\0\x0b\0\x01\0\0\0\x01\x01\x3f\x80\0\0";
+
+// The same, whose counter says two.
+static SHORT_LIST: &[u8] = b"\x40\0\0\x0b\0\x01\0\0\0\x02\x01\x3f\x80\0\0";
+
+// Without its last byte its count goes past the bytes. A list that is too short breaks where its second number would stand.
+fn is_list_checked_in(alloc: Global, classes: &Classes, branch: &BranchDef) -> bool {
+    let counts = Values::new(alloc);
+    is_checked(alloc, classes, branch, &counts, LIST, None)
+        && is_checked(alloc, classes, branch, &counts, front_of(LIST), Some(0))
+        && is_checked(alloc, classes, branch, &counts, SHORT_LIST, Some(15))
+}
+
+fn is_list_checked_among(alloc: Global, classes: &Classes) -> bool {
+    match branch_of_class(alloc, "C") {
+        Ok(branch) => is_list_checked_in(alloc, classes, &branch),
+        Err(_) => false,
+    }
+}
+
+fn is_list_checked(alloc: Global) -> bool {
+    match classes_of(alloc, &LISTED) {
+        Ok(classes) => is_list_checked_among(alloc, &classes),
+        Err(_) => false,
+    }
+}
+
+#[test]
+fn counted_members_are_checked(rt: HostRuntime) {
+    assert!(rt; is_list_checked(rt.alloc()));
 }

@@ -6,10 +6,9 @@ pub returns : goal.returns
 returns c =
     let version : to_z w32 (of_z w32 c.args.branch.now.class_version) ≡ c.args.branch.now.class_version = grind (arith, to_z-of_z) in
     simp (
-      c.in_ok-with-3.ensures,
-      c.version_value-version.ensures,
-      c.in_ok-with-2.ensures,
-      c.in_ok-copy.ensures,
+      c.in_ok-with_int.ensures,
+      c.in_ok-with_text.ensures,
+      c.as_slice.ensures,
       c.in_ok-with.ensures,
       c.new.ensures,
       version,

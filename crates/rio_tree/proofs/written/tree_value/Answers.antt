@@ -14,7 +14,6 @@ returns c =
       c.in_ok-with_number.ensures,
       c.in_ok-with.ensures,
       c.in_ok-named.ensures,
-      c.in_ok-from_slice.ensures,
       c.as_slice-branches.ensures,
       c.new-2.ensures,
       c.new.ensures,

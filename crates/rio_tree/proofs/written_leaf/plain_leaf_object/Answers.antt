@@ -16,6 +16,6 @@ returns c =
       c.in_ok-with.ensures,
       c.in_ok-named.ensures,
       c.in_ok-leaf_title.ensures,
-      c.in_ok-copy.ensures,
+      c.as_slice.ensures,
       c.new.ensures,
     ) at c.object.ensures

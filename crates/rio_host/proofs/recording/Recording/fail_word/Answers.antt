@@ -1,6 +1,0 @@
-use Rattle.std.proofs.Common.{rules}
-use Rattle.rio_host.proofs.Kept.{kept_failed_word}
-use Rattle.rio_host.proofs.recording.Recording.fail_word.Goals as goal
-
-pub invariant_of-self-2 : goal.invariant_of-self-2
-invariant_of-self-2 c = kept_failed_word c.self.inside.first.bytes c.self.inside.calls.items _ c.self.inside.text.bytes c.self.invariant c.push.new.self.items c.args.place c.args.word (search rules)

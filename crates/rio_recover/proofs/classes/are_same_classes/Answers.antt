@@ -1,0 +1,5 @@
+use Rattle.rio_types.proofs.EqualLaws.{classes_decide}
+use Rattle.rio_recover.proofs.classes.are_same_classes.Goals as goal
+
+pub returns : goal.returns
+returns c = rw (c.eq.ensures) (classes_decide c.args.a.now c.args.b.now)

@@ -1,0 +1,51 @@
+-- What is said of a row that the first pass found to be read and the second doesn't: its number and the first fault.
+use Rattle.std.specs.Prelude.{ℕ, List, [], ◌∷◌, ◌++◌, codes, Option, Some, None, Ok, Err, unwrap_or}
+use Rattle.std.specs.Fmt.{decimal}
+use Rattle.rio_basket.specs.declared.fault.BasketFault.{BasketFault}
+use Rattle.rio_basket.specs.declared.fault.BasketFault.TheVariants.{BadLast, BadOffsets, Compressed, NoMemory}
+use Rattle.rio_entry.specs.declared.fault.EntryFault.{EntryFault}
+use Rattle.rio_entry.specs.declared.fault.EntryFault.TheVariants.{BadEntry}
+use Rattle.rio_meaning.specs.Dump.{with_number}
+use Rattle.rio_scan.specs.StoredEntries.{StoredEntries}
+use Rattle.rio_report.specs.declared.lane.Lane.{Lane}
+use Rattle.rio_report.specs.declared.lane.RowFault.{RowFault}
+use Rattle.rio_report.specs.declared.lane.RowFault.TheVariants.{Basket, Entry}
+
+-- ---- which fault
+
+-- there is no such entry: the entries end before it
+abbrev pub no_entry_fault : RowFault
+no_entry_fault = Basket (BadLast 0)
+
+-- why an entry isn't in the basket that is held: the basket isn't read, or it has no such entry
+abbrev pub fault_held : Option StoredEntries → RowFault
+fault_held None = no_entry_fault
+fault_held (Some (Ok entries)) = no_entry_fault
+fault_held (Some (Err fault)) = Basket fault
+
+-- why the bytes of an entry aren't read: the place of the first part that breaks
+abbrev pub fault_of_entry : EntryFault → RowFault
+fault_of_entry (BadEntry place) = Entry place
+fault_of_entry other = Entry 0
+
+-- the fault of the first branch that has one
+abbrev pub fault_of_lanes : List Lane → RowFault
+fault_of_lanes [] = no_entry_fault
+fault_of_lanes (lane ∷ lanes) = unwrap_or lane.fault (fault_of_lanes lanes)
+
+-- ---- its line
+
+-- the kind of a fault, and its place, if it has one
+abbrev pub basket_fault_text : BasketFault → List ℕ
+basket_fault_text (BadLast place) = with_number (codes "BadLast") place
+basket_fault_text (BadOffsets place) = with_number (codes "BadOffsets") place
+basket_fault_text Compressed = codes "Compressed"
+basket_fault_text NoMemory = codes "NoMemory"
+
+abbrev pub row_fault_text : RowFault → List ℕ
+row_fault_text (Basket fault) = basket_fault_text fault
+row_fault_text (Entry place) = with_number (codes "BadEntry") place
+
+-- NUMBER fault KIND
+abbrev pub row_fault_line : ℕ → RowFault → List ℕ
+row_fault_line entry fault = decimal entry ++ codes " fault " ++ row_fault_text fault ++ codes "\n"
