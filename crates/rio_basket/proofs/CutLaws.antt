@@ -1,11 +1,9 @@
 -- Entries that are cut from bytes: what they are together, where each of them ends, and how long they are.
 use Rattle.std.proofs.Common.{◌≡◌, ℕ, ◌+◌, ◌-◌, ◌≤◌, List, [], ◌∷◌, ◌++◌, length, drop, map, slice_range, Bool, true, false, ◌==◌, ◌||◌, nat_le, refl, sym, ap, subst, ◌∙◌, arith}
-use Rattle.std.specs.List.{concat, list_all}
 use Rattle.std.proofs.lemmas.Bool.{and_parts, eqb-true, eq-eqb}
-use Rattle.std.proofs.lemmas.List.{length-append, length-take, length-drop, take-append-drop, drop_all, drop-drop}
-use Rattle.std.proofs.lemmas.List.Folds.{list_all-append}
-use Rattle.rio_basket.specs.Open.{cut_from, have_one_length, is_cut}
-use Rattle.rio_basket.specs.Record.{first_entry_length, offsets_of}
+use Rattle.std.proofs.lemmas.List.{length-append, length-take, length-drop, take-append-drop, drop_all, drop-drop, Folds.{list_all-append}}
+use Rattle.std.specs.List.{concat, list_all}
+use Rattle.rio_basket.specs.{Open.{cut_from, have_one_length, is_cut}, Record.{first_entry_length, offsets_of}}
 use Rattle.rio_basket.proofs.OpenLaws.{cut_start, least}
 
 -- the length of what is cut

@@ -2,8 +2,7 @@
 use Rattle.std.proofs.Common.{◌≡◌, ℕ, List, [], ◌∷◌, ◌++◌, Bool, true, false, refl}
 use Rattle.std.specs.Prelude.{codes}
 use Rattle.rio_key.specs.BasketHead.{integer_bytes, sizes_bytes}
-use Rattle.rio_basket.specs.Open.{OpenBasket}
-use Rattle.rio_basket.specs.Record.{basket_record}
+use Rattle.rio_basket.specs.{Open.{OpenBasket}, Record.{basket_record}}
 
 abbrev example_basket : Bool → List (List ℕ) → OpenBasket
 example_basket offsets entries = record { offsets = offsets; entries = entries; rooms = 0; spare = 0 }

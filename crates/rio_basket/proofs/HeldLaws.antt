@@ -1,14 +1,11 @@
 -- A basket that is being filled, by what it keeps: the bytes of its entries, and where each of them ends.
 use Rattle.std.proofs.Common.{◌≡◌, ℕ, ◌+◌, ◌*◌, ◌^◌, ◌<◌, ◌≤◌, List, [], ◌∷◌, ◌++◌, length, map, slice_get, Some, None, Bool, true, false, cond, refl, sym, ap, ◌∙◌, length-append, arith}
+use Rattle.std.proofs.lemmas.List.{append-nil, Folds.{flat_map-map}}
 use Rattle.std.specs.List.{concat, flat_map}
-use Rattle.std.proofs.lemmas.List.{append-nil}
-use Rattle.std.proofs.lemmas.List.Folds.{flat_map-map}
-use Rattle.byteorder.specs.Endian.{big_bytes}
-use Rattle.byteorder.specs.Numbers.{length-bytes_high_first}
+use Rattle.byteorder.specs.{Endian.{big_bytes}, Numbers.{length-bytes_high_first}}
 use Rattle.rio_basket.specs.Open.{OpenBasket, cut_from, entries_length, is_cut}
 use Rattle.rio_basket.specs.Record.{basket_data, entry_size, first_entry_length, offset_table, offsets_of}
-use Rattle.rio_basket.proofs.CutLaws.{concat-cut, first_within, offsets_of-cut}
-use Rattle.rio_basket.proofs.OpenLaws.{length-cut}
+use Rattle.rio_basket.proofs.{CutLaws.{concat-cut, first_within, offsets_of-cut}, OpenLaws.{length-cut}}
 
 module _ (ends bytes : List ℕ) (cut : is_cut 0 ends (length bytes) ≡ true) where
   pub held_bytes : concat (cut_from 0 ends bytes) ≡ bytes

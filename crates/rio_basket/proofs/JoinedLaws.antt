@@ -1,11 +1,8 @@
 -- Entries that stand one behind the other in some bytes: where each of them begins, and their offsets in a table.
 use Rattle.std.proofs.Common.{◌≡◌, ℕ, zero, suc, ◌+◌, ◌*◌, ◌^◌, ◌<◌, ◌≤◌, List, [], ◌∷◌, ◌++◌, length, take, drop, get_or, true, ◌==◌, refl, sym, ap, ◌∙◌, append_assoc, length-append, arith}
+use Rattle.std.proofs.{Math.Nat.{suc-mul}, lemmas.Bool.{and_parts, eqb-true}, lemmas.List.{drop_at, take_at, take_all}}
 use Rattle.std.specs.List.{concat, flat_map, list_all}
-use Rattle.std.proofs.Math.Nat.{suc-mul}
-use Rattle.std.proofs.lemmas.Bool.{and_parts, eqb-true}
-use Rattle.std.proofs.lemmas.List.{drop_at, take_at, take_all}
-use Rattle.byteorder.specs.Endian.{big_bytes, big_number}
-use Rattle.byteorder.specs.Numbers.{big_number-reads_back}
+use Rattle.byteorder.specs.{Endian.{big_bytes, big_number}, Numbers.{big_number-reads_back}}
 use Rattle.rio_basket.specs.Record.{offsets_of}
 
 -- how many bytes the first k entries have together

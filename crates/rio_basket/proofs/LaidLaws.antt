@@ -1,19 +1,10 @@
 -- What is known of a basket's places once its layout is read.
 use Rattle.std.proofs.Common.{◌≡◌, ◌⊎◌, inl, inr, ℕ, zero, suc, ◌+◌, ◌<◌, ◌≤◌, ℤ, pos, List, length, Bool, true, false, cond, ◌&&◌, ◌||◌, not, nat_lt, int_le, unsigned_abs, Result, Ok, Err, refl, sym, subst, arith}
-use Rattle.std.proofs.lemmas.Bool.{and_parts, cases_lt, not-false}
-use Rattle.std.proofs.lemmas.Bool.Decides.{nat_tests}
-use Rattle.std.proofs.lemmas.Int.{ints}
-use Rattle.rio_num.specs.Reading.{◌>>=◌}
+use Rattle.std.proofs.{lemmas.Bool.{and_parts, cases_lt, not-false, Decides.{nat_tests}}, lemmas.Int.{ints}}
+use Rattle.rio_num.specs.{Reading.{◌>>=◌}, Meanings.{read}, Plain.{plain, value_of}}
 use Rattle.rio_num.proofs.ReadLaws.{bind_ok, chosen, ok_is}
-use Rattle.rio_num.specs.Meanings.{read}
-use Rattle.rio_num.specs.Plain.{plain, value_of}
-use Rattle.rio_key.specs.BasketFront.{basket_front}
-use Rattle.rio_key.specs.Key.{is_compressed}
-use Rattle.rio_key.specs.declared.basket_head.BasketFront.{BasketFront}
-use Rattle.rio_key.specs.declared.fault.KeyFault.{KeyFault}
-use Rattle.rio_basket.specs.declared.fault.BasketFault.{BasketFault}
-use Rattle.rio_basket.specs.declared.fault.BasketFault.TheVariants.{BadLast, BadOffsets, Compressed}
-use Rattle.rio_basket.specs.declared.layout.Layout.{Layout}
+use Rattle.rio_key.specs.{BasketFront.{basket_front}, Key.{is_compressed}, declared.basket_head.BasketFront.{BasketFront}, declared.fault.KeyFault.{KeyFault}}
+use Rattle.rio_basket.specs.{declared.fault.BasketFault.{BasketFault, TheVariants.{BadLast, BadOffsets, Compressed}}, declared.layout.Layout.{Layout}}
 use Rattle.rio_basket.specs.Entries.{has_count, is_offset, is_whole_at, number_there, offset_at, offset_before, offset_place, offsets_from, offsets_in, spare_offset}
 use Rattle.rio_basket.specs.Laid.{AreOffsets, IsLaid, IsLayoutWithin}
 use Rattle.rio_basket.specs.Stored.{ends_within, has_negative, has_one_length, is_sound, last_place, layout_by, layout_in, layout_of}

@@ -1,7 +1,6 @@
 -- Offsets, one behind the other.
 use Rattle.std.proofs.Common.{◌≡◌, ℕ, suc, ◌+◌, ◌-◌, ◌<◌, List, Bool, true, false, cond, Some, None, Err, refl, sym, arith, add-one}
-use Rattle.rio_basket.specs.declared.fault.BasketFault.TheVariants.{BadOffsets}
-use Rattle.rio_basket.specs.declared.layout.Layout.{Layout}
+use Rattle.rio_basket.specs.{declared.fault.BasketFault.TheVariants.{BadOffsets}, declared.layout.Layout.{Layout}}
 use Rattle.rio_basket.specs.Entries.{is_offset, offset_at, offset_before, offset_place, offsets_from, sound_offset}
 
 module _ (layout : Layout) (bytes : List ℕ) where

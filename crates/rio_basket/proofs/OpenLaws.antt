@@ -1,9 +1,8 @@
 -- Entries one behind the other, and one more of them.
 use Rattle.std.proofs.Common.{◌≡◌, ℕ, zero, suc, ◌+◌, ◌-◌, ◌<◌, ◌≤◌, List, [], ◌∷◌, ◌++◌, length, take, drop, get_or, slice_get, slice_range, Some, true, ◌==◌, nat_le, refl, sym, ap, subst, ◌∙◌, arith}
-use Rattle.std.specs.List.{concat}
-use Rattle.std.proofs.lemmas.Bool.{and_parts, eqb-true}
-use Rattle.std.proofs.lemmas.Bool.Decides.{nat_tests}
+use Rattle.std.proofs.lemmas.Bool.{and_parts, eqb-true, Decides.{nat_tests}}
 use Rattle.std.proofs.lemmas.List.{length-append, length-take, length-drop, take_all, drop_at, drop-append-le, take-append-le}
+use Rattle.std.specs.List.{concat}
 use Rattle.rio_basket.specs.Open.{cut_from, is_cut, start_of}
 
 pub first_start : (ends : List ℕ) (k : ℕ) → k ≡ 0 → start_of 0 ends k ≡ 0

@@ -1,6 +1,5 @@
 -- Puts, one after the other.
-use Rattle.std.proofs.Common.{◌≡◌, ℕ, ◌-◌, List, [], ◌++◌, length, append_assoc, length-append, arith}
-use Rattle.std.proofs.lemmas.List.{append-nil}
+use Rattle.std.proofs.{Common.{◌≡◌, ℕ, ◌-◌, List, [], ◌++◌, length, append_assoc, length-append, arith}, lemmas.List.{append-nil}}
 use Rattle.rio_num.specs.Room.{Room, with_more}
 
 pub with_more-with_more : (r : Room) (a b : List ℕ) → with_more (with_more r a) b ≡ with_more r (a ++ b)

@@ -1,14 +1,9 @@
 -- A basket whose entries have one length: they are read as they were written.
 use Rattle.std.proofs.Common.{◌≡◌, ℕ, zero, suc, ◌+◌, ◌-◌, ◌*◌, ◌/◌, ◌%◌, ◌<◌, ◌≤◌, List, [], ◌∷◌, ◌++◌, length, take, drop, Bool, true, false, cond, ◌==◌, add-one, refl, sym, ap, subst, ◌∙◌, arith}
+use Rattle.std.proofs.{Math.Nat.{mul-div_cancel_left, mul-mod_right, suc-mul}, lemmas.Bool.{eq-eqb, ne_eqb}, lemmas.List.FromFn.{fill_by_all}}
 use Rattle.std.specs.List.{concat, list_all}
-use Rattle.std.proofs.Math.Nat.{mul-div_cancel_left, mul-mod_right, suc-mul}
-use Rattle.std.proofs.lemmas.Bool.{eq-eqb, ne_eqb}
-use Rattle.std.proofs.lemmas.List.FromFn.{fill_by_all}
-use Rattle.rio_basket.specs.declared.layout.Layout.{Layout}
-use Rattle.rio_basket.specs.Entries.{entry_length, equal_place, laid_entries, laid_entry}
-use Rattle.rio_basket.specs.Open.{have_one_length}
-use Rattle.rio_basket.specs.Record.{first_entry_length}
-use Rattle.rio_basket.specs.Stored.{is_multiple}
+use Rattle.rio_basket.specs.{declared.layout.Layout.{Layout}, Entries.{entry_length, equal_place, laid_entries, laid_entry}, Open.{have_one_length}}
+use Rattle.rio_basket.specs.{Record.{first_entry_length}, Stored.{is_multiple}}
 use Rattle.rio_basket.proofs.JoinedLaws.{before, before_all, before_equal, before_next, entry_at, entry_there}
 
 -- each is as long as the first

@@ -1,13 +1,9 @@
 -- A basket whose entries have offsets: they are read as they were written.
 use Rattle.std.proofs.Common.{◌≡◌, inl, inr, ℕ, zero, suc, ◌+◌, ◌-◌, ◌*◌, ◌^◌, ◌<◌, ◌≤◌, List, [], ◌++◌, length, take, drop, Bool, true, false, cond, not, nat_lt, ◌==◌, ◌||◌, ◌&&◌, Ok, Err, refl, sym, ap, subst, ◌∙◌, append_assoc, length-append, arith}
+use Rattle.std.proofs.{lemmas.Bool.{eq-eqb, ne_eqb, le-ltb, cases_eq}, lemmas.List.{drop_at, drop-drop, FromFn.{fill_by_all}}}
 use Rattle.std.specs.List.{concat, flat_map}
-use Rattle.std.proofs.lemmas.Bool.{eq-eqb, ne_eqb, le-ltb, cases_eq}
-use Rattle.std.proofs.lemmas.List.{drop_at, drop-drop}
-use Rattle.std.proofs.lemmas.List.FromFn.{fill_by_all}
-use Rattle.byteorder.specs.Endian.{big_bytes, big_number}
-use Rattle.byteorder.specs.Numbers.{big_number-reads_back, length-bytes_high_first}
-use Rattle.rio_basket.specs.declared.fault.BasketFault.TheVariants.{BadOffsets}
-use Rattle.rio_basket.specs.declared.layout.Layout.{Layout}
+use Rattle.byteorder.specs.{Endian.{big_bytes, big_number}, Numbers.{big_number-reads_back, length-bytes_high_first}}
+use Rattle.rio_basket.specs.{declared.fault.BasketFault.TheVariants.{BadOffsets}, declared.layout.Layout.{Layout}}
 use Rattle.rio_basket.specs.Entries.{has_count, is_offset, is_whole_at, laid_entries, laid_entry, number_there, offset_at, offset_before, offset_behind, offset_place, offsets_from, offsets_in, spare_offset}
 use Rattle.rio_basket.specs.Record.{offset_table, offsets_of}
 use Rattle.rio_basket.proofs.JoinedLaws.{before, before_all, before_next, before_within, entry_at, entry_there, length-offsets_of, number_in_table, offset_is}

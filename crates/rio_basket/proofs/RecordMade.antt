@@ -1,10 +1,7 @@
 -- A basket's record is put together: room for it, its key, its head, its data, and zero bytes.
 use Rattle.std.proofs.Common.{◌≡◌, ℕ, ◌+◌, ◌≤◌, max, List, [], ◌++◌, length, append_assoc, length-append, sym, ap, ◌∙◌, arith}
 use Rattle.rio_num.specs.Room.{Room, padding, room_of, with_more}
-use Rattle.rio_key.specs.BasketHead.{basket_head_bytes}
-use Rattle.rio_key.specs.Written.{written_key}
-use Rattle.rio_key.specs.declared.basket_head.BasketHead.{BasketHead}
-use Rattle.rio_key.specs.declared.head.KeyHead.{KeyHead}
+use Rattle.rio_key.specs.{BasketHead.{basket_head_bytes}, Written.{written_key}, declared.basket_head.BasketHead.{BasketHead}, declared.head.KeyHead.{KeyHead}}
 use Rattle.rio_basket.specs.Open.{OpenBasket}
 use Rattle.rio_basket.specs.Record.{FitsBasketRecord, basket_data, basket_head, basket_key, basket_key_length, basket_record, unpadded_basket}
 use Rattle.rio_basket.proofs.WrittenBaskets.{size}

@@ -1,49 +1,24 @@
 -- The record that is written for a basket: how long it is, its key, and its entries as they are read.
 use Rattle.std.proofs.Common.{◌≡◌, ◌≤◌, ℕ, ◌+◌, ◌-◌, ◌*◌, ◌%◌, pos, ◌-ℤ◌, Bool, true, false, cond, not, nat_lt, int_lt, int_le, ◌&&◌, ◌||◌, List, [], ◌++◌, length, take, Result, Ok, Err, refl, sym, ap, ◌∙◌, append_assoc, length-append, arith}
-use Rattle.std.specs.Int.{w32, cast_unsigned}
-use Rattle.std.specs.List.{concat}
-use Rattle.std.proofs.lemmas.Bool.{le-ltb}
-use Rattle.std.proofs.lemmas.Int.{ints}
-use Rattle.std.proofs.lemmas.List.{append-nil, length-replicate, take_at}
-use Rattle.rio_num.specs.Reading.{◌>>=◌}
-use Rattle.rio_num.specs.Room.{padding}
-use Rattle.rio_num.specs.Text.{long_form, short_form, text_bytes}
-use Rattle.rio_num.proofs.ReadLaws.{bind_is}
-use Rattle.rio_num.specs.Meanings.{Reading, read}
-use Rattle.rio_num.specs.declared.cursor.Short.{Short as Shortage}
-use Rattle.rio_num.specs.Plain.{IsSpelledIn, plain, value_of}
-use Rattle.rio_num.proofs.Plain.{standing}
+use Rattle.std.proofs.{lemmas.Bool.{le-ltb}, lemmas.Int.{ints}, lemmas.List.{append-nil, length-replicate, take_at}}
+use Rattle.std.specs.{Int.{w32, cast_unsigned}, List.{concat}}
+use Rattle.rio_num.specs.{Reading.{◌>>=◌}, Room.{padding}, Text.{text_bytes}, Meanings.{Reading, read}}
+use Rattle.rio_num.specs.{declared.cursor.Short.{Short as Shortage}, Plain.{IsSpelledIn, plain, value_of}}
+use Rattle.rio_num.proofs.{ReadLaws.{bind_is}, Plain.{standing}, TextLengths.{text_within}, Cut.{cut}}
 use Rattle.rio_key.specs.BasketFront.{basket_front, number_within}
 use Rattle.rio_key.specs.BasketHead.{AreInRange, basket_head_at, basket_head_bytes, basket_head_of, integer_bytes, sizes_bytes}
-use Rattle.rio_key.specs.Key.{SpellsKey, is_compressed}
-use Rattle.rio_key.specs.Written.{FitsKey, HoldsItself, number_bytes, written_key}
-use Rattle.rio_key.specs.declared.basket_head.BasketFront.{BasketFront}
-use Rattle.rio_key.specs.declared.basket_head.BasketHead.{BasketHead}
-use Rattle.rio_key.specs.declared.head.KeyHead.{KeyHead}
+use Rattle.rio_key.specs.{Key.{SpellsKey, is_compressed}, Written.{FitsKey, HoldsItself, number_bytes, padded_size, written_key}}
+use Rattle.rio_key.specs.{declared.basket_head.BasketFront.{BasketFront}, declared.basket_head.BasketHead.{BasketHead}, declared.head.KeyHead.{KeyHead}}
 use Rattle.rio_key.specs.declared.fault.KeyFault.{KeyFault}
-use Rattle.rio_key.proofs.BasketFrontLaws.{front_is, head_within, whole, within}
-use Rattle.rio_key.proofs.BasketHeadLaws.{basket_head_again}
-use Rattle.rio_key.proofs.KeyAgain.{key_again}
+use Rattle.rio_key.proofs.{BasketFrontLaws.{front_is, head_within, whole}, BasketHeadLaws.{basket_head_again}, KeyAgain.{key_again}}
 use Rattle.rio_key.proofs.KeyWritten.{key_spelled}
-use Rattle.rio_basket.specs.declared.fault.BasketFault.{BasketFault}
-use Rattle.rio_basket.specs.declared.fault.BasketFault.TheVariants.{BadLast, Compressed}
-use Rattle.rio_basket.specs.declared.layout.Layout.{Layout}
-use Rattle.rio_basket.specs.Entries.{entries_in, laid_entries, offsets_in, sound_layout_in}
-use Rattle.rio_basket.specs.Laws.{AreBasketRecords, IsBasketRecord}
+use Rattle.rio_basket.specs.{declared.fault.BasketFault.{BasketFault, TheVariants.{BadLast, Compressed}}, declared.layout.Layout.{Layout}}
+use Rattle.rio_basket.specs.{Entries.{entries_in, laid_entries, offsets_in, sound_layout_in}, Laws.{AreBasketRecords, IsBasketRecord}}
 use Rattle.rio_basket.specs.Open.{OpenBasket, entries_length, have_one_length}
-use Rattle.rio_basket.specs.Record.{FitsBasketRecord, basket_data, basket_head, basket_key, basket_key_length, basket_record, basket_record_length, entry_size, offset_table, padded_data_length, unpadded_basket}
+use Rattle.rio_basket.specs.Record.{FitsBasketRecord, basket_data, basket_head, basket_key, basket_key_length, basket_record, basket_record_length, entry_size, offset_table, unpadded_basket}
 use Rattle.rio_basket.specs.Stored.{ends_within, has_negative, has_one_length, is_multiple, is_sound, last_place, layout_by, layout_in}
-use Rattle.rio_basket.proofs.HeldLaws.{data_alone, data_parts, data_with_offsets, data_within, size_small}
-use Rattle.rio_basket.proofs.ReadEqual.{length_divides, read_without_offsets}
+use Rattle.rio_basket.proofs.{HeldLaws.{data_alone, data_parts, data_with_offsets, data_within, size_small}, ReadEqual.{length_divides, read_without_offsets}}
 use Rattle.rio_basket.proofs.ReadOffsets.{read_with_offsets}
-
--- a text is no longer than its bytes
-text_within : (text : List ℕ) → length text ≤ length (text_bytes text)
-text_within text = by (nat_lt (length text) 255)
-  where
-    by : (b : Bool) → length text ≤ length (cond b (short_form text) (long_form text))
-    by true = omega arith
-    by false = omega arith
 
 head_long : (h : BasketHead) → length (basket_head_bytes h) ≡ 19
 unfolding sizes_bytes integer_bytes
@@ -92,7 +67,7 @@ module _ (place : ℕ) (tree branch : List ℕ) (datime : ℕ) (basket : OpenBas
   contents = basket_data keylen basket
 
   abbrev objlen : ℕ
-  objlen = padded_data_length keylen (length contents)
+  objlen = padded_size keylen (length contents)
 
   abbrev key : KeyHead
   key = basket_key place tree branch datime (length contents)
@@ -163,7 +138,7 @@ module _ (place : ℕ) (tree branch : List ℕ) (datime : ℕ) (basket : OpenBas
   aligned : length (basket_record place tree branch datime basket) % 4 ≡ 0
   aligned = ap (λ (k : ℕ). k % 4) size ∙ padded_is keylen (length contents)
     where
-      padded_is : (k n : ℕ) → (k + padded_data_length k n) % 4 ≡ 0
+      padded_is : (k n : ℕ) → (k + padded_size k n) % 4 ≡ 0
       padded_is k n = omega arith
 
   key_in_it : IsSpelledIn (SpellsKey key) (basket_record place tree branch datime basket)
@@ -189,7 +164,7 @@ module _ (place : ℕ) (tree branch : List ℕ) (datime : ℕ) (basket : OpenBas
       let end : 0 + keylen ≡ p + 19 = omega (arith, key_long) in
       let taken : take 19 (basket_head_bytes head ++ more) ≡ basket_head_bytes head ++ [] = take_at (basket_head_bytes head) more 19 (head_long head) ∙ sym (append-nil (basket_head_bytes head)) in
       let again = basket_head_again head p [] in_range in
-      let alone : whole (value_of (basket_head_at (within 19 behind))) ≡ Ok head =
+      let alone : whole (value_of (basket_head_at (cut 19 behind))) ≡ Ok head =
       ap (λ (b : List ℕ). whole (value_of (basket_head_at (standing p b)))) taken ∙ ap (λ (r : Reading (Unit {0}) Shortage BasketHead). whole (value_of r)) again in
       let held : value_of (read (basket_head_of (number_within (0 + keylen))) (plain behind)) ≡ Ok head =
       ap (λ (e : ℕ). value_of (read (basket_head_of (number_within e)) (plain behind))) end ∙ head_within 19 behind ∙ alone in

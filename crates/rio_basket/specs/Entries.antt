@@ -3,10 +3,7 @@ use Rattle.std.specs.Prelude.{ℕ, zero, suc, ◌+◌, ◌-◌, ◌*◌, ◌/◌
 use Rattle.std.specs.List.{range_with_len}
 use Rattle.byteorder.specs.Endian.{big_number}
 use Rattle.rio_num.specs.Reading.{◌>>=◌}
-use Rattle.rio_basket.specs.declared.fault.BasketFault.{BasketFault}
-use Rattle.rio_basket.specs.declared.fault.BasketFault.TheVariants.{BadOffsets}
-use Rattle.rio_basket.specs.declared.layout.Layout.{Layout}
-use Rattle.rio_basket.specs.Stored.{layout_in}
+use Rattle.rio_basket.specs.{declared.fault.BasketFault.{BasketFault, TheVariants.{BadOffsets}}, declared.layout.Layout.{Layout}, Stored.{layout_in}}
 
 -- the number in the four bytes at a place
 abbrev pub number_there : List ℕ → ℕ → ℕ

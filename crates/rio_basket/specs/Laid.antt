@@ -1,7 +1,6 @@
 -- What is known of the places of a basket's entries once they are read.
 use Rattle.std.specs.Prelude.{◌≡◌, ℕ, ◌+◌, ◌<◌, ◌≤◌, List, length, Bool, true}
-use Rattle.rio_basket.specs.declared.layout.Layout.{Layout}
-use Rattle.rio_basket.specs.Entries.{offset_at, offset_place}
+use Rattle.rio_basket.specs.{declared.layout.Layout.{Layout}, Entries.{offset_at, offset_place}}
 
 -- the data are within the bytes
 pub record IsLayoutWithin (layout : Layout) (bytes : List ℕ) : Type 0 where

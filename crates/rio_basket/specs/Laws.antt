@@ -2,8 +2,7 @@
 use Rattle.std.specs.Prelude.{◌≡◌, ℕ, ◌%◌, List, ◌++◌, length, true, ◌||◌, Ok}
 use Rattle.rio_num.specs.Plain.{IsSpelledIn}
 use Rattle.rio_key.specs.Key.{SpellsKey}
-use Rattle.rio_basket.specs.Entries.{entries_in}
-use Rattle.rio_basket.specs.Open.{OpenBasket, have_one_length}
+use Rattle.rio_basket.specs.{Entries.{entries_in}, Open.{OpenBasket, have_one_length}}
 use Rattle.rio_basket.specs.Record.{FitsBasketRecord, basket_data, basket_key, basket_key_length, basket_record, basket_record_length}
 
 -- A record as long as its key says, a multiple of four: its key stands first in it, and whatever follows it, its entries are

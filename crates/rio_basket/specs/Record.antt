@@ -1,14 +1,9 @@
 -- The record that is written for a basket: its key with the basket's head in it, the entries, their offsets where they have
 -- some, and zero bytes up to a length that is a multiple of four.
-use Rattle.std.specs.Prelude.{ℕ, ◌+◌, ◌-◌, ◌%◌, ◌^◌, ◌<◌, pos, List, [], ◌∷◌, ◌++◌, length, codes, if◌then◌else◌}
-use Rattle.std.specs.List.{concat, flat_map}
+use Rattle.std.specs.{Prelude.{ℕ, ◌+◌, ◌^◌, ◌<◌, pos, List, [], ◌∷◌, ◌++◌, length, codes, if◌then◌else◌}, List.{concat, flat_map}}
 use Rattle.byteorder.specs.Endian.{big_bytes}
-use Rattle.rio_num.specs.Room.{padding}
-use Rattle.rio_num.specs.Text.{text_bytes}
-use Rattle.rio_key.specs.BasketHead.{basket_head_bytes}
-use Rattle.rio_key.specs.Written.{written_key}
-use Rattle.rio_key.specs.declared.basket_head.BasketHead.{BasketHead}
-use Rattle.rio_key.specs.declared.head.KeyHead.{KeyHead}
+use Rattle.rio_num.specs.{Room.{padding}, Text.{text_bytes}}
+use Rattle.rio_key.specs.{BasketHead.{basket_head_bytes}, Written.{padded_size, written_key}, declared.basket_head.BasketHead.{BasketHead}, declared.head.KeyHead.{KeyHead}}
 use Rattle.rio_basket.specs.Open.{OpenBasket, entries_length}
 
 -- ---- data
@@ -33,15 +28,11 @@ basket_data keylen basket = concat basket.entries ++ (if basket.offsets then off
 abbrev pub basket_key_length : List ℕ → List ℕ → ℕ
 basket_key_length tree branch = 26 + length (text_bytes (codes "TBasket")) + length (text_bytes branch) + length (text_bytes tree) + 19
 
--- how long n bytes of data are with the zero bytes behind them
-abbrev pub padded_data_length : ℕ → ℕ → ℕ
-padded_data_length keylen n = n + (4 - (keylen + n) % 4) % 4
-
 -- the key of a record at this place, with n bytes of data and the time of its writing
 abbrev pub basket_key : ℕ → List ℕ → List ℕ → ℕ → ℕ → KeyHead
 basket_key place tree branch datime n =
     let keylen = basket_key_length tree branch in
-    let objlen = padded_data_length keylen n in
+    let objlen = padded_size keylen n in
     record {
       nbytes = pos (keylen + objlen);
       version = 4;
@@ -91,7 +82,7 @@ basket_record place tree branch datime basket = let front = unpadded_basket plac
 -- how long it is
 abbrev pub basket_record_length : List ℕ → List ℕ → OpenBasket → ℕ
 basket_record_length tree branch basket =
-    let keylen = basket_key_length tree branch in keylen + padded_data_length keylen (length (basket_data keylen basket))
+    let keylen = basket_key_length tree branch in keylen + padded_size keylen (length (basket_data keylen basket))
 
 -- its numbers fit their fields
 pub record FitsBasketRecord (place : ℕ) (tree branch : List ℕ) (datime : ℕ) (basket : OpenBasket) : Type 0 where

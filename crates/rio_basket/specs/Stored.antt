@@ -1,15 +1,9 @@
 -- How the entries of a basket are laid out in its bytes: the numbers of its head, or the first fault.
 use Rattle.std.specs.Prelude.{ℕ, ◌+◌, ◌-◌, ◌%◌, ℤ, pos, List, length, Result, Ok, Err, Bool, int_lt, int_le, nat_lt, ◌==◌, ◌||◌, ◌&&◌, not, unsigned_abs, if◌then◌else◌}
-use Rattle.rio_num.specs.Meanings.{read}
-use Rattle.rio_num.specs.Plain.{plain, value_of}
-use Rattle.rio_key.specs.BasketFront.{basket_front}
-use Rattle.rio_key.specs.Key.{is_compressed}
-use Rattle.rio_key.specs.declared.basket_head.BasketFront.{BasketFront}
-use Rattle.rio_key.specs.declared.basket_head.BasketHead.{BasketHead}
-use Rattle.rio_key.specs.declared.fault.KeyFault.{KeyFault}
-use Rattle.rio_basket.specs.declared.fault.BasketFault.{BasketFault}
-use Rattle.rio_basket.specs.declared.fault.BasketFault.TheVariants.{BadLast, Compressed}
-use Rattle.rio_basket.specs.declared.layout.Layout.{Layout}
+use Rattle.rio_num.specs.{Meanings.{read}, Plain.{plain, value_of}}
+use Rattle.rio_key.specs.{BasketFront.{basket_front}, Key.{is_compressed}, declared.basket_head.BasketFront.{BasketFront}}
+use Rattle.rio_key.specs.{declared.basket_head.BasketHead.{BasketHead}, declared.fault.KeyFault.{KeyFault}}
+use Rattle.rio_basket.specs.{declared.fault.BasketFault.{BasketFault, TheVariants.{BadLast, Compressed}}, declared.layout.Layout.{Layout}}
 
 -- A number is so many times another; of those of 0 there is 0 alone.
 abbrev pub is_multiple : ℕ → ℕ → Bool

@@ -8,15 +8,8 @@ ghost use Rattle.rio_basket.specs.declared.fault.BasketFault.TheVariants.{NoMemo
 use crate::BasketFault;
 use crate::layout::{Layout, read_layout};
 use byteorder::{BigEndian, ByteOrder};
+use rio_num::bytes_from;
 use std::alloc::Global;
-
-// The bytes from the one at `n` on.
-fn bytes_from(bytes: &[u8], n: usize) -> &[u8]
-    requires { n ≤ length bytes.now }
-    ensures { result.now ≡ drop n bytes.now }
-{
-    &bytes[n..]
-}
 
 /// The number in the four bytes at the place.
 pub(crate) fn number_there(bytes: &[u8], place: usize) -> u32

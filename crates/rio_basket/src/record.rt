@@ -3,7 +3,8 @@ ghost use Rattle.std.specs.Prelude.{◌≡◌, ℕ, ◌+◌, ◌<◌, ◌^◌, l
 ghost use Rattle.std.specs.List.{flat_map};
 ghost use Rattle.byteorder.specs.Endian.{big_bytes};
 ghost use Rattle.rio_num.specs.Room.{with_more};
-ghost use Rattle.rio_basket.specs.Record.{basket_key, basket_key_length, padded_data_length};
+ghost use Rattle.rio_key.specs.Written.{padded_size};
+ghost use Rattle.rio_basket.specs.Record.{basket_key, basket_key_length};
 
 use rio_key::{KeyHead, key_length};
 use rio_num::{Bytes, Name, NoMemory};
@@ -26,7 +27,7 @@ pub(crate) fn key_of(
 ) -> Result<KeyHead, NoMemory>
     requires key { basket_key_length tree.now branch.now < 2 ^ 16 }
     requires whole { let keylen = basket_key_length tree.now branch.now in
-        keylen + padded_data_length keylen n < 2 ^ 31 }
+        keylen + padded_size keylen n < 2 ^ 31 }
     ensures { IfOk result (λ key. key ≡ basket_key place tree.now branch.now datime n) }
 {
     let mut key = KeyHead {

@@ -1,6 +1,5 @@
 -- What holds of each item holds of one that is found.
-use Rattle.std.proofs.Common.{◌≡◌, Bool, true, false, cond, List, [], ◌∷◌, Some, All, subst}
-use Rattle.std.proofs.lemmas.List.Elements.{All-head, All-tail}
+use Rattle.std.proofs.{Common.{◌≡◌, Bool, true, false, cond, List, [], ◌∷◌, Some, All, subst}, lemmas.List.Elements.{All-head, All-tail}}
 use Rattle.std.specs.List.{find}
 
 module _ {X : Type 0} (P : X → Type 0) (test : X → Bool) where

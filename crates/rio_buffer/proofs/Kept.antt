@@ -2,8 +2,7 @@
 use Rattle.std.proofs.Common.{◌≤◌, ◌+◌, ℕ, Bool, true, false, cond, List, [], ◌∷◌, ◌++◌, All, arith}
 use Rattle.std.proofs.lemmas.List.Elements.{All-append, All-cons, All-head, All-tail, All-nil}
 use Rattle.std.specs.List.{list_any}
-use Rattle.indexmap.specs.IndexMap.{insert_entry}
-use Rattle.indexmap.specs.IndexSet.{insert_key}
+use Rattle.indexmap.specs.{IndexMap.{insert_entry}, IndexSet.{insert_key}}
 
 module _ {K : Type 0} (P : K → Type 0) (eq : K → K → Bool) where
   pub key_kept : (ks : List K) (k : K) → All P ks → P k → All P (insert_key eq ks k)

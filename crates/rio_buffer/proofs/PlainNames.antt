@@ -1,7 +1,6 @@
 -- The names of classes, which lie in the data, seen by themselves.
 use Rattle.std.proofs.Common.{◌≡◌, ℕ, Bool, true, false, cond, Bor, List, [], ◌∷◌, Some, nat_eq, refl, ap}
-use Rattle.std.specs.Map.{lookup}
-use Rattle.std.specs.Option.{option_map}
+use Rattle.std.specs.{Map.{lookup}, Option.{option_map}}
 use Rattle.indexmap.specs.IndexMap.{insert_entry}
 use Rattle.rio_buffer.specs.ReaderState.{plain_names}
 

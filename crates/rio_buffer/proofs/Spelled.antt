@@ -1,12 +1,7 @@
 -- The names of classes, with the places of their class words.
 use Rattle.std.proofs.Common.{◌≡◌, ◌<◌, ℕ, Bool, true, false, cond, List, [], ◌∷◌, map, All, Option, Some, None, IfSome, nat_eq, refl, ap, arith}
-use Rattle.std.proofs.lemmas.Bool.Decides.{nat_tests}
-use Rattle.std.proofs.lemmas.List.Elements.{All-head, All-tail}
-use Rattle.std.specs.List.{find}
-use Rattle.std.specs.Map.{lookup}
-use Rattle.std.specs.Option.{option_map}
-use Rattle.std.specs.Str.{bytes_eq}
-use Rattle.std.specs.declared.vec.Vec.{Vec}
+use Rattle.std.proofs.{lemmas.Bool.Decides.{nat_tests}, lemmas.List.Elements.{All-head, All-tail}}
+use Rattle.std.specs.{List.{find}, Map.{lookup}, Option.{option_map}, Str.{bytes_eq}, declared.vec.Vec.{Vec}}
 use Rattle.indexmap.specs.IndexMap.{insert_entry}
 use Rattle.rio_num.proofs.BytesEq.{bytes_eq-sym}
 use Rattle.rio_buffer.proofs.Found.{found_holds}

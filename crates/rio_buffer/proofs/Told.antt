@@ -1,14 +1,9 @@
 -- What reading gives, told by what the bytes spell.
 use Rattle.std.proofs.Common.{◌≡◌, ℕ, ◌+◌, ◌≤◌, ◌++◌, List, length, Ok, Err, sym, ap, ◌∙◌, arith}
-use Rattle.rio_num.specs.At.{end_place}
-use Rattle.rio_num.specs.Meanings.{HasTaken, read, stand}
+use Rattle.rio_num.specs.{At.{end_place}, Meanings.{HasTaken, read, stand}, Answers.{FailsUnless}}
 use Rattle.rio_num.proofs.Agree as Agree
-use Rattle.rio_buffer.specs.Frames.{ObjLayout, Step}
-use Rattle.rio_buffer.specs.Reader.{MayTakeSpelled, TakesSpelled}
-use Rattle.rio_buffer.specs.ReaderState.{ReaderState}
-use Rattle.rio_buffer.specs.declared.fault.ObjFault.{ObjFault}
-use Rattle.rio_buffer.specs.declared.fault.ObjFault.TheVariants.{NoMemory}
-use Rattle.rio_num.specs.Answers.{FailsUnless}
+use Rattle.rio_buffer.specs.{Frames.{ObjLayout, Step}, Reader.{MayTakeSpelled, TakesSpelled}, ReaderState.{ReaderState}}
+use Rattle.rio_buffer.specs.declared.fault.ObjFault.{ObjFault, TheVariants.{NoMemory}}
 
 module _ {X : Type 0} (l : ObjLayout X) (old : ReaderState) where
   -- what the bytes spell is read

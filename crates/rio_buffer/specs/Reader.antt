@@ -1,15 +1,10 @@
 -- What a call of a reader of objects did.
 use Rattle.std.specs.Prelude.{◌≡◌, ◌≤◌, ◌<◌, ◌^◌, ℕ, ◌+◌, List, Result, Ok, Err}
-use Rattle.rio_num.specs.Answers.{TakesUnless}
-use Rattle.rio_num.specs.Meanings.{Breaks, HasTaken}
-use Rattle.rio_buffer.specs.Frames.{ObjLayout, ReadsAs, Step, data_end}
-use Rattle.rio_buffer.specs.ReaderState.{ReaderState, with_name}
-use Rattle.rio_buffer.specs.declared.fault.ObjFault.{ObjFault}
-use Rattle.rio_buffer.specs.declared.fault.ObjFault.TheVariants.{NoMemory}
-use Rattle.rio_buffer.specs.declared.words.PointerWord.{PointerWord}
-use Rattle.rio_buffer.specs.declared.words.PointerWord.TheVariants.{Null, New, Back}
-use Rattle.rio_buffer.specs.declared.reader.ClassWord.{ClassWord}
-use Rattle.rio_buffer.specs.declared.reader.ClassWord.TheVariants.{Spelled, Earlier}
+use Rattle.rio_num.specs.{Answers.{TakesUnless}, Meanings.{Breaks, HasTaken}}
+use Rattle.rio_buffer.specs.{Frames.{ObjLayout, ReadsAs, Step, data_end}, ReaderState.{ReaderState, with_name}}
+use Rattle.rio_buffer.specs.declared.fault.ObjFault.{ObjFault, TheVariants.{NoMemory}}
+use Rattle.rio_buffer.specs.declared.words.PointerWord.{PointerWord, TheVariants.{Null, New, Back}}
+use Rattle.rio_buffer.specs.declared.reader.ClassWord.{ClassWord, TheVariants.{Spelled, Earlier}}
 
 -- It took what reading gives, or the reading fails so and nothing changed.
 abbrev pub TakesStep : {X Y : Type 0} → (X → Y) → Result X ObjFault → Step Y → ReaderState → ReaderState → Type 0

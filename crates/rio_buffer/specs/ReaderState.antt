@@ -1,14 +1,13 @@
 -- Where reading stands, and the words of pointers that stand earlier.
-use Rattle.std.specs.Prelude.{ℕ, List, [], map, nat_eq}
-use Rattle.std.specs.Borrow.{Bor}
-use Rattle.indexmap.specs.IndexSet.{insert_key}
-use Rattle.indexmap.specs.IndexMap.{insert_entry}
+use Rattle.std.specs.{Prelude.{ℕ, List, [], map, nat_eq}, Borrow.{Bor}}
+use Rattle.indexmap.specs.{IndexSet.{insert_key}, IndexMap.{insert_entry}}
 use Rattle.rio_num.specs.Meanings.{Standing, stand}
 
--- The places of the count words of pointed objects, in order: an object's label is its number in this list. And the class
--- names by the places of the class words that spell them out.
+-- the words of pointers that were met, to which later words may refer
 pub record WordsMet : Type 0 where
+  -- the places of the count words of pointed objects, in order: an object's label is its number in this list
   pub labels : List ℕ
+  -- the names of classes, each with the place of the class word that spells it out
   pub names : List (ℕ × List ℕ)
 
 abbrev pub no_words : WordsMet
@@ -18,7 +17,7 @@ no_words = record { labels = []; names = [] }
 abbrev pub plain_names : List (ℕ × Bor (List ℕ)) → List (ℕ × List ℕ)
 plain_names entries = map (λ e. (e.0, e.1.now)) entries
 
--- one more object, whose count word stands at the place
+-- one more object, the last one, whose count word stands at the place
 abbrev pub with_label : WordsMet → ℕ → WordsMet
 with_label t place = record t { labels = insert_key nat_eq t.labels place }
 

@@ -1,11 +1,9 @@
 -- What is written of objects.
-use Rattle.std.specs.Prelude.{◌≡◌, ℕ, ◌+◌, ◌-◌, ◌^◌, List, [], ◌∷◌, ◌++◌, length, map, take, drop, Option, Some, None, Result, Ok, Err, find}
-use Rattle.std.specs.Str.{bytes_eq}
+use Rattle.std.specs.{Prelude.{◌≡◌, ℕ, ◌+◌, ◌-◌, ◌^◌, List, [], ◌∷◌, ◌++◌, length, map, take, drop, Option, Some, None, Result, Ok, Err, find}, Str.{bytes_eq}}
 use Rattle.std.specs.declared.vec.Vec.{Vec}
 use Rattle.byteorder.specs.Endian.{big_bytes}
 use Rattle.indexmap.specs.IndexMap.{IndexMap}
-use Rattle.rio_num.specs.Room.{Room}
-use Rattle.rio_num.specs.declared.no_memory.NoMemory.{NoMemory}
+use Rattle.rio_num.specs.{Room.{Room}, declared.no_memory.NoMemory.{NoMemory}}
 use Rattle.rio_buffer.specs.ReaderState.{WordsMet, no_words, with_label, with_name}
 
 pub record WriterState : Type 0 where
@@ -39,7 +37,7 @@ Puts more (Err e) old new = new ≡ old
 
 -- ---- class words
 
--- what is written at a place behind these words, and the words behind it
+-- what is written at a place behind the words that were met, and the words met then
 abbrev pub Writer : Type 0
 Writer = ℕ → WordsMet → List ℕ × WordsMet
 

@@ -1,29 +1,16 @@
 -- A file of bytes has its segments, or a place where they break.
 use Rattle.std.proofs.Common.{◌≡◌, ◌≢◌, ◌⊎◌, inl, inr, ℕ, zero, suc, ◌+◌, ◌-◌, ◌%◌, ◌^◌, ◌<◌, ◌≤◌, pos, Bool, true, false, List, [], ◌∷◌, ◌++◌, length, length-take, length-drop, take, drop, codes, Option, Some, None, Result, Ok, Err, refl, sym, ap, subst, ◌∙◌, arith}
-use Rattle.std.specs.Prelude.{MatchBool}
-use Rattle.std.specs.Cmp.Lexicographic.{told_text}
-use Rattle.std.proofs.lemmas.Bool.{cases_lt}
-use Rattle.std.proofs.lemmas.Option.{none-some, same_Some}
-use Rattle.byteorder.specs.Endian.{big_number}
-use Rattle.byteorder.specs.Numbers.{big_from-lt}
-use Rattle.rio_num.specs.At.{At, AreBytes}
-use Rattle.rio_num.specs.Meanings.{Reading, Standing}
-use Rattle.rio_num.specs.declared.cursor.Short.{Short}
-use Rattle.rio_num.proofs.ReadLaws.{IsBytes, IsBytes-drop, IsBytes-take, ok_is}
-use Rattle.rio_num.specs.Plain.{IsSpelledIn, plain}
-use Rattle.rio_key.specs.Key.{SpellsKey, key_head_at}
-use Rattle.rio_key.specs.declared.head.KeyHead.{KeyHead}
-use Rattle.rio_key.specs.declared.fault.KeyFault.{KeyFault}
-use Rattle.rio_num.proofs.Plain.{standing}
-use Rattle.rio_key.proofs.KeyAgain.{key_again}
-use Rattle.rio_key.proofs.KeyParts.{parts_of_key}
-use Rattle.rio_key.proofs.KeyRead.{is_found}
+use Rattle.std.proofs.{lemmas.Bool.{cases_lt}, lemmas.Option.{none-some, same_Some}}
+use Rattle.std.specs.{Prelude.{MatchBool}, Cmp.Lexicographic.{told_text}}
+use Rattle.byteorder.specs.{Endian.{big_number}, Numbers.{big_from-lt}}
+use Rattle.rio_num.specs.{At.{At, AreBytes}, Meanings.{Reading, Standing}, declared.cursor.Short.{Short}, Plain.{IsSpelledIn, plain}}
+use Rattle.rio_num.proofs.{ReadLaws.{IsBytes, IsBytes-drop, IsBytes-take, ok_is}, Plain.{standing}, Cases.{pos_same}}
+use Rattle.rio_key.specs.{Key.{SpellsKey, key_head_at}, declared.head.KeyHead.{KeyHead}, declared.fault.KeyFault.{KeyFault}}
+use Rattle.rio_key.proofs.{KeyAgain.{key_again}, KeyParts.{parts_of_key}, KeyRead.{is_found}}
 use Rattle.rio_chain.specs.Segments.{Link, RecordAt, GapAt, link_length, chain_end, texts_end_at, BreaksAt, HasWord, HoldsEnd, HoldsLink, HoldsLinks, IsChain, IsFirst, IsPositive, IsRecord}
 use Rattle.rio_chain.specs.Found.{FindsKey, segment_length_of}
-use Rattle.rio_chain.proofs.Words.{has_own, has_same, held_long, held_positive, held_word, pos_same, word_one, word_some, word_within}
-use Rattle.rio_chain.proofs.Links.{IsBadLength, bad_length, large_length, no_first_gap, small_length}
-use Rattle.rio_chain.proofs.Chains.{end-append}
-use Rattle.rio_chain.proofs.SoFar.{links-append}
+use Rattle.rio_chain.proofs.Words.{has_own, has_same, held_long, held_positive, held_word, word_one, word_some, word_within}
+use Rattle.rio_chain.proofs.{Links.{IsBadLength, bad_length, large_length, no_first_gap, small_length}, Chains.{end-append}, SoFar.{links-append}}
 use Rattle.rio_chain.proofs.OneChain.{IsStuck}
 
 -- it holds, or it doesn't

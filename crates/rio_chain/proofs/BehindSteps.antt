@@ -1,10 +1,7 @@
 -- What a stop leaves while bytes and then a word are written.
 use Rattle.std.proofs.Common.{◌≡◌, inl, inr, ⊎_elim, ℕ, ◌+◌, List, length, Some, subst, sym, ◌∙◌}
-use Rattle.rio_host.specs.Image.{Torn, Put, PutOrNot}
-use Rattle.rio_host.specs.Host.{View, Elapses, OnDisk, IsLawful, IsQuiet, Becomes}
-use Rattle.rio_host.specs.Image.{Same}
-use Rattle.rio_host.proofs.Images.{becomes_some}
-use Rattle.rio_host.proofs.Moments.{Outcomes, Run, begins, writes, writes_word, stays, settles}
+use Rattle.rio_host.specs.{Image.{Torn, Put, PutOrNot, Same}, Host.{View, Elapses, OnDisk, IsLawful, IsQuiet, Becomes}}
+use Rattle.rio_host.proofs.{Images.{becomes_some}, Moments.{Outcomes, Run, begins, writes, writes_word, stays, settles}}
 use Rattle.rio_chain.specs.Stops.{BodyThenWord, IsBodyBehind, IsSaidText, IsWordOrNot}
 
 module _ (v0 : View) (file : List ℕ) (place : ℕ) (tail word : List ℕ) (holds : v0.holds ≡ Some file) (quiet : IsQuiet v0) (law0 : IsLawful v0) where

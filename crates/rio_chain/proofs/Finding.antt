@@ -1,11 +1,9 @@
 -- Records and first records, as they are found.
 use Rattle.std.proofs.Common.{◌≡◌, ◌↔◌, ℕ, ◌%◌, Bool, true, false, pos, List, length, Option, Some, None, sym, ap, subst, ◌∙◌, arith}
+use Rattle.std.proofs.{lemmas.Bool.{cases_from_iff}, lemmas.Option.{none-some, same_Some}}
 use Rattle.std.specs.Prelude.{IsTrue, MatchBool}
-use Rattle.std.proofs.lemmas.Bool.{cases_from_iff}
-use Rattle.std.proofs.lemmas.Option.{none-some, same_Some}
 use Rattle.rio_key.specs.declared.head.KeyHead.{KeyHead}
-use Rattle.rio_chain.specs.Segments.{IsRecord, IsFirst, HasWord}
-use Rattle.rio_chain.specs.Found.{FindsKey, FindsKeyAt, FindsRecord, FindsWord, IsKeyOf, IsFirstBy}
+use Rattle.rio_chain.specs.{Segments.{IsRecord, IsFirst, HasWord}, Found.{FindsKey, FindsKeyAt, FindsRecord, FindsWord, IsKeyOf, IsFirstBy}}
 use Rattle.rio_chain.proofs.Words.{word_one, word_within}
 
 -- ---- a whole record

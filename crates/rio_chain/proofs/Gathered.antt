@@ -1,13 +1,8 @@
 -- The gaps of segments are gathered one after the other.
 use Rattle.std.proofs.Common.{◌≡◌, inl, ℕ, zero, suc, ◌+◌, ◌<◌, ◌≤◌, true, false, ltb, eqb, List, [], ◌∷◌, ◌++◌, append_assoc, length, take, drop, get_or, refl, sym, ap, subst, ◌∙◌, arith}
-use Rattle.std.proofs.lemmas.Bool.{ne_eqb}
-use Rattle.std.proofs.lemmas.Bool.Decides.{nat_tests}
-use Rattle.std.proofs.lemmas.List.{append-nil, take-append-drop}
-use Rattle.std.proofs.Math.Seq.{take-suc}
-use Rattle.rio_free.specs.Gaps.{IsApart, gap_end, gap_of, given, joined}
-use Rattle.rio_free.specs.declared.gap.Gap.{Gap as FreeGap}
-use Rattle.rio_chain.specs.declared.segment.Segment.{Segment}
-use Rattle.rio_chain.specs.declared.segment.Segment.TheVariants.{Record, Gap}
+use Rattle.std.proofs.{lemmas.Bool.{ne_eqb, Decides.{nat_tests}}, lemmas.List.{append-nil, take-append-drop}, Math.Seq.{take-suc}}
+use Rattle.rio_free.specs.{Gaps.{IsApart, gap_end, gap_of, given, joined}, declared.gap.Gap.{Gap as FreeGap}}
+use Rattle.rio_chain.specs.declared.segment.Segment.{Segment, TheVariants.{Record, Gap}}
 use Rattle.rio_chain.specs.Adjoining.{AreAdjacent, AreGapsApart, AreSegments, BeginsAt, segment_length, segment_place, segments_end}
 use Rattle.rio_chain.specs.Placing.{file_end, gaps_in}
 use Rattle.rio_chain.proofs.Placed.{adjacent_cut, end-append, end-le, gaps_append}

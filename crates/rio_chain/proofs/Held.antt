@@ -1,18 +1,12 @@
 -- A record among the segments is one of the file.
 use Rattle.std.proofs.Common.{◌≡◌, ℕ, ◌+◌, ◌-◌, ◌<◌, ◌≤◌, true, false, ltb, List, [], ◌∷◌, ◌++◌, length, length-append, map, get_or, refl, sym, ap, subst, ◌∙◌, arith}
-use Rattle.std.specs.List.{prefix_len, Contains}
 use Rattle.std.proofs.lemmas.Bool.Decides.{nat_tests}
+use Rattle.std.specs.List.{prefix_len, Contains}
 use Rattle.rio_host.specs.Image.{Has}
 use Rattle.rio_host.proofs.Images.{has_length}
-use Rattle.rio_chain.specs.declared.segment.Segment.{Segment}
-use Rattle.rio_chain.specs.declared.segment.Segment.TheVariants.{Record}
-use Rattle.rio_chain.specs.Adjoining.{AreAdjacent, segment_length, segment_place}
-use Rattle.rio_chain.specs.Segments.{Link, RecordAt, GapAt, segment_of, HoldsRecord, IsChain}
-use Rattle.rio_chain.specs.Chains.{HasChain}
-use Rattle.rio_chain.proofs.Words.{has_same, held_long}
-use Rattle.rio_chain.proofs.Chains.{parts_of, plain_cut}
-use Rattle.rio_chain.proofs.Indices.{get_at}
-use Rattle.rio_chain.proofs.Placed.{starts_before}
+use Rattle.rio_chain.specs.{declared.segment.Segment.{Segment, TheVariants.{Record}}, Adjoining.{AreAdjacent, segment_length, segment_place}}
+use Rattle.rio_chain.specs.{Segments.{Link, RecordAt, GapAt, segment_of, HoldsRecord, IsChain}, Chains.{HasChain}}
+use Rattle.rio_chain.proofs.{Words.{has_same, held_long}, Chains.{parts_of, plain_cut}, Indices.{get_at}, Placed.{starts_before}}
 
 -- what stands behind begins later
 later : (p : ℕ) (front : List Segment) (s : Segment) (back : List Segment) → AreAdjacent p (front ++ s ∷ back) → p ≤ segment_place s

@@ -1,12 +1,8 @@
 -- A segment among others by its index.
 use Rattle.std.proofs.Common.{◌≡◌, inl, inr, ℕ, zero, suc, ◌+◌, ◌*◌, ◌<◌, ◌≤◌, Bool, true, false, cond, Result, Ok, Err, IsOk, is_ok, rules, List, [], ◌∷◌, ◌++◌, length, get_or, set, refl, ap, arith}
-use Rattle.std.specs.List.{prefix_len, insert}
-use Rattle.std.specs.List.Sorted.{IsNonDecreasingBy, IsPartitionPoint}
-use Rattle.std.proofs.lemmas.Bool.{cases_lt}
-use Rattle.std.proofs.lemmas.List.Sums.{prefix_len-le-length, prefix_len_passes, prefix_len_stops}
-use Rattle.rio_chain.specs.declared.segment.Segment.{Segment}
-use Rattle.rio_chain.specs.declared.segment.Segment.TheVariants.{Record, Gap}
-use Rattle.rio_chain.specs.Adjoining.{AreAdjacent, segment_length, segment_place, segments_end}
+use Rattle.std.proofs.{lemmas.Bool.{cases_lt}, lemmas.List.Sums.{prefix_len-le-length, prefix_len_passes, prefix_len_stops}}
+use Rattle.std.specs.List.{prefix_len, insert, Sorted.{IsNonDecreasingBy, IsPartitionPoint}}
+use Rattle.rio_chain.specs.{declared.segment.Segment.{Segment, TheVariants.{Record, Gap}}, Adjoining.{AreAdjacent, segment_length, segment_place, segments_end}}
 use Rattle.rio_chain.specs.Placing.{record_count}
 
 module _ {X : Type 0} where

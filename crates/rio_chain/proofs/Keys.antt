@@ -1,21 +1,13 @@
 -- A key is found in a front of a record that is long enough for it.
 use Rattle.std.proofs.Common.{◌≡◌, ◌≢◌, ◌⊎◌, inl, inr, ⊎_elim, ℕ, ◌+◌, ◌-◌, ◌<◌, ◌≤◌, min, false, ltb, cond, List, [], ◌++◌, length, take, drop, Option, Some, None, Result, Ok, Err, sym, ap, subst, ◌∙◌, append_assoc, length-take, arith}
+use Rattle.std.proofs.{lemmas.Bool.{le-ltb, cases_lt}, lemmas.List.{take-append-drop, take_all}, Math.Seq.{take-append-add}}
 use Rattle.std.specs.Prelude.{IfOk, IfSome}
-use Rattle.std.proofs.lemmas.Bool.{le-ltb, cases_lt}
-use Rattle.std.proofs.lemmas.List.{take-append-drop, take_all}
-use Rattle.std.proofs.Math.Seq.{take-append-add}
-use Rattle.rio_num.specs.At.{standing_at}
+use Rattle.rio_num.specs.{At.{standing_at}, Plain.{IsSpelledIn}}
 use Rattle.rio_host.specs.Image.{Has}
 use Rattle.rio_host.proofs.Images.{has_front}
-use Rattle.rio_num.specs.Plain.{IsSpelledIn}
-use Rattle.rio_key.specs.Key.{SpellsKey}
-use Rattle.rio_key.specs.declared.head.KeyHead.{KeyHead}
-use Rattle.rio_key.specs.declared.fault.KeyFault.{KeyFault}
-use Rattle.rio_key.specs.declared.fault.KeyFault.TheVariants.{NoMemory}
-use Rattle.rio_chain.specs.declared.fault.WalkFault.{WalkFault}
-use Rattle.rio_key.proofs.KeyLaws.{one_key_lem}
-use Rattle.rio_key.proofs.KeyParts.{parts_of_key}
-use Rattle.rio_chain.specs.Found.{FindsKey, FindsKeyAt}
+use Rattle.rio_key.specs.{Key.{SpellsKey}, declared.head.KeyHead.{KeyHead}, declared.fault.KeyFault.{KeyFault, TheVariants.{NoMemory}}}
+use Rattle.rio_chain.specs.{declared.fault.WalkFault.{WalkFault}, Found.{FindsKey, FindsKeyAt}}
+use Rattle.rio_key.proofs.{KeyLaws.{one_key_lem}, KeyParts.{parts_of_key}}
 
 pub standing_rest : (p : ℕ) (bytes : List ℕ) → (standing_at p p bytes).rest ≡ bytes
 standing_rest p bytes =

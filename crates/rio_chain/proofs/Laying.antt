@@ -1,14 +1,11 @@
 -- Lengths that are laid one after the other.
 use Rattle.std.proofs.Common.{◌≡◌, ℕ, zero, suc, ◌+◌, ◌%◌, ◌<◌, ◌≤◌, List, [], ◌∷◌, length, drop, get_or, Option, Some, None, refl, sym, ap, subst, ◌∙◌, arith}
 use Rattle.std.specs.Option.{option_map, unwrap_or}
-use Rattle.rio_free.specs.Gaps.{best_gap, best_place}
-use Rattle.rio_free.specs.declared.gap.Gap.{Gap as FreeGap}
+use Rattle.rio_free.specs.{Gaps.{best_gap, best_place}, declared.gap.Gap.{Gap as FreeGap}}
 use Rattle.rio_free.proofs.Best.{best_is_gap}
-use Rattle.rio_chain.specs.declared.segment.Segment.{Segment}
-use Rattle.rio_chain.specs.Adjoining.{AreSegments}
+use Rattle.rio_chain.specs.{declared.segment.Segment.{Segment}, Adjoining.{AreSegments}}
 use Rattle.rio_chain.specs.Placing.{FreeSpace, end_after, file_end, gaps_in, laid, laid_at, place_of, space_of, with_segment}
-use Rattle.rio_chain.proofs.Placed.{end_segments, end_shape, gap_end_same, gap_shape, gaps_end, gaps_with, split}
-use Rattle.rio_chain.proofs.Placed.{end_grows as segments_grow}
+use Rattle.rio_chain.proofs.Placed.{end_segments, end_shape, gap_end_same, gap_shape, gaps_end, gaps_with, split, end_grows as segments_grow}
 
 -- END never falls
 laid_grows : (place : Option ℕ) (n : ℕ) (space : FreeSpace) → space.end ≤ (laid_at place n space).end

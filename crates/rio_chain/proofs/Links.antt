@@ -4,9 +4,7 @@ use Rattle.std.proofs.lemmas.Bool.Decides.{nat_tests}
 use Rattle.std.specs.Prelude.{MatchBool}
 use Rattle.rio_host.specs.Image.{Has}
 use Rattle.rio_host.proofs.Images.{has_length}
-use Rattle.rio_chain.specs.declared.segment.Segment.{Segment}
-use Rattle.rio_chain.specs.declared.segment.Segment.TheVariants.{Record, Gap}
-use Rattle.rio_chain.specs.Adjoining.{BeginsAt, segment_length, segment_place}
+use Rattle.rio_chain.specs.{declared.segment.Segment.{Segment, TheVariants.{Record, Gap}}, Adjoining.{BeginsAt, segment_length, segment_place}}
 use Rattle.rio_chain.specs.Segments.{Link, RecordAt, GapAt, link_length, HasWord, HoldsLink, HoldsRecord, IsFirst, IsPositive}
 use Rattle.rio_chain.specs.Found.{MayPrecede, FindsLink, FindsRecord, FindsSegment, FindsWhole, FindsWord, IsKindOf, IsNoGap, segment_length_of}
 use Rattle.rio_chain.proofs.Words.{held_long, held_positive, held_word, has_own, word_one, word_within}

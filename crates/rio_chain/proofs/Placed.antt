@@ -1,18 +1,13 @@
 -- A record among segments: where it stands in their list, and what stays of their form.
 use Rattle.std.proofs.Common.{◌≡◌, ◌⊎◌, inl, inr, ⊎_elim, ℕ, zero, suc, ◌+◌, ◌-◌, ◌%◌, ◌<◌, ◌≤◌, Bool, true, false, cond, ltb, eqb, List, [], ◌∷◌, ◌++◌, append_assoc, length, length-append, get_or, set, Option, Some, None, refl, sym, ap, subst, ◌∙◌, arith}
-use Rattle.std.specs.List.{prefix_len, insert}
-use Rattle.std.specs.Option.{option_map, unwrap_or}
-use Rattle.std.proofs.lemmas.Bool.{eq-eqb, ne_eqb, eqb-true, eqb-false}
-use Rattle.std.proofs.lemmas.List.{append-nil}
-use Rattle.std.proofs.lemmas.Bool.Decides.{nat_tests}
-use Rattle.rio_free.specs.Gaps.{HasGapFor, best_gap, gap_of, left_from, taken}
-use Rattle.rio_free.specs.declared.gap.Gap.{Gap as FreeGap}
+use Rattle.std.proofs.{lemmas.Bool.{eq-eqb, ne_eqb, eqb-true, eqb-false, Decides.{nat_tests}}, lemmas.List.{append-nil}}
+use Rattle.std.specs.{List.{prefix_len, insert}, Option.{option_map, unwrap_or}}
+use Rattle.rio_free.specs.{Gaps.{HasGapFor, best_gap, gap_of, left_from, taken}, declared.gap.Gap.{Gap as FreeGap}}
 use Rattle.rio_free.proofs.Best.{best_is_gap}
-use Rattle.rio_chain.specs.declared.segment.Segment.{Segment}
-use Rattle.rio_chain.specs.declared.segment.Segment.TheVariants.{Record, Gap}
+use Rattle.rio_chain.specs.declared.segment.Segment.{Segment, TheVariants.{Record, Gap}}
 use Rattle.rio_chain.specs.Adjoining.{AreAdjacent, AreGapsApart, AreSegments, BeginsAt, BeginsWithRecord, segment_length, segment_place, segments_end}
-use Rattle.rio_chain.proofs.Indices.{get_at, insert_at, set_at}
 use Rattle.rio_chain.specs.Placing.{HasRest, IsPlaceFor, file_end, gaps_in, record_count, rest_of_gap, with_segment}
+use Rattle.rio_chain.proofs.Indices.{get_at, insert_at, set_at}
 
 -- ---- a place that can be taken
 

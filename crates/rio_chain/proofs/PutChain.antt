@@ -1,22 +1,15 @@
 -- A put into a chain, by its links.
 use Rattle.std.proofs.Common.{◌≡◌, inl, inr, ⊎_elim, ℕ, zero, suc, ◌+◌, ◌-◌, ◌≤◌, Bool, true, false, cond, eqb, List, [], ◌∷◌, ◌++◌, length, length-drop, map, take, drop, Option, Some, None, refl, sym, ap, subst, ◌∙◌, append_assoc, arith}
+use Rattle.std.proofs.{lemmas.Bool.{eq-eqb, ne_eqb}, lemmas.List.{take_all}}
 use Rattle.std.specs.Prelude.{MatchOption}
-use Rattle.std.proofs.lemmas.Bool.{eq-eqb, ne_eqb}
-use Rattle.std.proofs.lemmas.List.{take_all}
 use Rattle.byteorder.specs.Endian.{big_bytes}
-use Rattle.rio_host.specs.Host.{View, Elapses}
-use Rattle.rio_host.specs.Image.{Torn}
+use Rattle.rio_host.specs.{Host.{View, Elapses}, Image.{Torn}}
 use Rattle.rio_host.proofs.Moments.{elapses_as}
-use Rattle.rio_chain.specs.declared.segment.Segment.{Segment}
-use Rattle.rio_chain.specs.declared.segment.Segment.TheVariants.{Record, Gap}
-use Rattle.rio_chain.specs.Adjoining.{segment_length, segments_end}
-use Rattle.rio_chain.specs.Segments.{Link, RecordAt, GapAt, link_length, end_from, segment_of, IsChain, IsRecord}
-use Rattle.rio_chain.specs.Changes.{with_record, with_rest}
-use Rattle.rio_chain.specs.Chains.{HasChain}
-use Rattle.rio_chain.specs.Placing.{HasRest, file_end, rest_of_gap, with_segment, word_behind}
+use Rattle.rio_chain.specs.{declared.segment.Segment.{Segment, TheVariants.{Record, Gap}}, Adjoining.{segment_length, segments_end}}
+use Rattle.rio_chain.specs.{Segments.{Link, RecordAt, GapAt, link_length, end_from, segment_of, IsChain, IsRecord}, Changes.{with_record, with_rest}}
+use Rattle.rio_chain.specs.{Chains.{HasChain}, Placing.{HasRest, file_end, rest_of_gap, with_segment, word_behind}}
 use Rattle.rio_chain.specs.Stops.{BodyThenWord, IsBodyBehind, IsEither, KeepsFront}
-use Rattle.rio_chain.proofs.Words.{record_word}
-use Rattle.rio_chain.proofs.Chains.{PlainLinks, end-le, parts_of}
+use Rattle.rio_chain.proofs.{Words.{record_word}, Chains.{PlainLinks, end-le, parts_of}}
 use Rattle.rio_chain.proofs.Puts.{IsRest, Tail, gap_plain, end_later, end_put, end_torn, end_torn_front, end_within, filler, gap_later, gap_put, gap_torn, gap_torn_front, gap_within, put_front, rest_links, stands, tail_fits}
 
 -- ---- segments of links

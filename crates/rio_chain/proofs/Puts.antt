@@ -2,10 +2,8 @@
 use Rattle.std.proofs.Common.{◌≡◌, ◌⊎◌, inl, inr, ⊎_elim, ℕ, zero, suc, ◌+◌, ◌-◌, ◌%◌, ◌^◌, ◌<◌, ◌≤◌, List, [], ◌∷◌, ◌++◌, length, length-append, Some, refl, sym, ap, subst, ◌∙◌, arith}
 use Rattle.std.proofs.lemmas.List.{append-nil}
 use Rattle.std.specs.List.{slice_get}
-use Rattle.byteorder.specs.Endian.{big_bytes}
-use Rattle.byteorder.specs.Numbers.{length-bytes_high_first}
-use Rattle.rio_host.specs.Image.{Has, Torn}
-use Rattle.rio_host.specs.Host.{View}
+use Rattle.byteorder.specs.{Endian.{big_bytes}, Numbers.{length-bytes_high_first}}
+use Rattle.rio_host.specs.{Image.{Has, Torn}, Host.{View}}
 use Rattle.rio_host.proofs.Images.{has_keeps, has_front, has_back, slice_get-append_cases}
 use Rattle.rio_chain.specs.Segments.{Link, RecordAt, GapAt, end_from, chain_end, HoldsEnd, HoldsRecord, IsChain, IsRecord}
 use Rattle.rio_chain.specs.Stops.{BodyThenWord, IsBodyBehind, IsEither, KeepsFront}

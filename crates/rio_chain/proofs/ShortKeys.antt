@@ -1,14 +1,10 @@
 -- A key that is spelled is short where it is written.
-use Rattle.std.proofs.Common.{◌≡◌, ⊎_elim, ℕ, ◌+◌, ◌^◌, ◌<◌, ◌≤◌, Bool, true, false, cond, ltb, List, ◌++◌, length, length-append, ap, ◌∙◌, arith}
-use Rattle.std.proofs.lemmas.Bool.{lt-ltb}
+use Rattle.std.proofs.Common.{◌≡◌, ⊎_elim, ℕ, ◌+◌, ◌^◌, ◌<◌, ◌≤◌, Bool, true, false, cond, List, ◌++◌, length, length-append, ap, ◌∙◌, arith}
 use Rattle.std.specs.Int.{w32, cast_unsigned}
-use Rattle.byteorder.specs.Endian.{big_bytes}
-use Rattle.byteorder.specs.Numbers.{length-bytes_high_first}
-use Rattle.rio_num.specs.Text.{SpellsText, long_form, short_form, text_bytes}
-use Rattle.rio_num.specs.Plain.{IsSpelledIn}
-use Rattle.rio_key.specs.Key.{SpellsKey, key_place_len}
-use Rattle.rio_key.specs.Written.{number_bytes}
-use Rattle.rio_key.specs.declared.head.KeyHead.{KeyHead}
+use Rattle.byteorder.specs.{Endian.{big_bytes}, Numbers.{length-bytes_high_first}}
+use Rattle.rio_num.specs.{Text.{SpellsText, long_form, short_form, text_bytes}, Plain.{IsSpelledIn}, At.{place_len_of}}
+use Rattle.rio_num.proofs.TextLengths.{shortest_text}
+use Rattle.rio_key.specs.{Key.{SpellsKey}, Written.{number_bytes}, declared.head.KeyHead.{KeyHead}}
 use Rattle.rio_key.proofs.KeyParts.{parts_of_key}
 use Rattle.rio_chain.specs.Found.{IsShortKey}
 
@@ -20,15 +16,8 @@ written_by : (text : List ℕ) (b : Bool) → length (cond b (short_form text) (
 written_by text true = omega arith
 written_by text false = omega (arith, long_length text)
 
-text_short : (text bytes : List ℕ) → SpellsText text bytes → length (text_bytes text) ≤ length bytes
-text_short text bytes s = ⊎_elim
-    (λ short. let same : text_bytes text ≡ short_form text = ap (λ (b : Bool). cond b (short_form text) (long_form text)) (lt-ltb (length text) 255 short.0) in
-    omega (arith, ap length same, ap length short.1))
-    (λ long. omega (arith, written_by text (ltb (length text) 255), long_length text, ap length long.1))
-    s
-
 -- its numbers are as long whatever length they say
-numbers_long : (h : KeyHead) (n : ℕ) → length (number_bytes h n) ≡ 18 + (key_place_len h.version + key_place_len h.version)
+numbers_long : (h : KeyHead) (n : ℕ) → length (number_bytes h n) ≡ 18 + (place_len_of h.version + place_len_of h.version)
 numbers_long h n =
     let a1 = big_bytes 4 n in
     let a2 = big_bytes 2 h.version in
@@ -36,8 +25,8 @@ numbers_long h n =
     let a4 = big_bytes 4 h.datime in
     let a5 = big_bytes 2 h.keylen in
     let a6 = big_bytes 2 h.cycle in
-    let a7 = big_bytes (key_place_len h.version) h.seek in
-    let a8 = big_bytes (key_place_len h.version) h.pdir in
+    let a7 = big_bytes (place_len_of h.version) h.seek in
+    let a8 = big_bytes (place_len_of h.version) h.pdir in
     omega (
       arith,
       length-append a1 (a2 ++ (a3 ++ (a4 ++ (a5 ++ (a6 ++ (a7 ++ a8)))))),
@@ -53,8 +42,8 @@ numbers_long h n =
       length-bytes_high_first 4 h.datime,
       length-bytes_high_first 2 h.keylen,
       length-bytes_high_first 2 h.cycle,
-      length-bytes_high_first (key_place_len h.version) h.seek,
-      length-bytes_high_first (key_place_len h.version) h.pdir,
+      length-bytes_high_first (place_len_of h.version) h.seek,
+      length-bytes_high_first (place_len_of h.version) h.pdir,
     )
 
 three_long : (a b c d : List ℕ) → length (a ++ (b ++ (c ++ d))) ≡ length a + (length b + (length c + length d))
@@ -85,5 +74,5 @@ short_key h bytes is =
         name = text_within h.name s.name_bytes (2 ^ 32) s.name_spelled (omega (arith, whole, held, small));
         title = text_within h.title s.title_bytes (2 ^ 32) s.title_spelled (omega (arith, whole, held, small));
       };
-      size = omega (arith, whole, written, n1, n2, held, small, text_short h.class s.class_bytes s.class_spelled, text_short h.name s.name_bytes s.name_spelled, text_short h.title s.title_bytes s.title_spelled);
+      size = omega (arith, whole, written, n1, n2, held, small, shortest_text h.class s.class_bytes s.class_spelled, shortest_text h.name s.name_bytes s.name_spelled, shortest_text h.title s.title_bytes s.title_spelled);
     }

@@ -2,19 +2,13 @@
 use Rattle.std.proofs.Common.{◌≡◌, ◌≢◌, ◌⊎◌, inl, inr, ⊎_elim, ℕ, ◌+◌, ◌*◌, ◌-◌, ◌^◌, ◌<◌, ◌≤◌, List, [], ◌∷◌, ◌++◌, map, length, length-append, Option, Some, None, refl, sym, ap, subst, ◌∙◌, append_assoc, arith}
 use Rattle.std.proofs.lemmas.List.{map-append, append-nil}
 use Rattle.std.specs.Prelude.{IfSome}
-use Rattle.rio_host.specs.Host.{View}
-use Rattle.rio_host.specs.OnlyReads.{OnlyReads}
-use Rattle.rio_chain.specs.declared.segment.Segment.{Segment}
-use Rattle.rio_chain.specs.declared.segment.Segment.TheVariants.{Record, Gap}
+use Rattle.rio_host.specs.{Host.{View}, OnlyReads.{OnlyReads}}
+use Rattle.rio_chain.specs.declared.segment.Segment.{Segment, TheVariants.{Record, Gap}}
 use Rattle.rio_chain.specs.Adjoining.{AreAdjacent, AreGapsApart, AreSegments, BeginsAt, BeginsWithRecord, segment_length, segments_end}
 use Rattle.rio_chain.specs.Segments.{Link, RecordAt, GapAt, BreaksAt, HasSegments, HasWord, HoldsEnd, HoldsLink, HoldsLinks, chain_end, end_from, link_length, segment_of}
-use Rattle.rio_chain.specs.Found.{MayPrecede, FindsLink, FindsWord, IsKindOf, IsNoGap, TellsNoLink}
-use Rattle.rio_chain.specs.Walks.{Told, TellsFirstBreak}
-use Rattle.rio_chain.specs.declared.fault.WalkFault.{WalkFault}
-use Rattle.rio_chain.specs.declared.fault.WalkFault.TheVariants.{NoChain, NoMemory, HostFault}
-use Rattle.rio_chain.proofs.Chains.{end-append}
-use Rattle.rio_chain.proofs.Words.{held_word, word_one, word_within}
-use Rattle.rio_chain.proofs.PutChain.{segment_of-length}
+use Rattle.rio_chain.specs.{Found.{MayPrecede, FindsLink, FindsWord, IsKindOf, IsNoGap, TellsNoLink}, Walks.{Told, TellsFirstBreak}}
+use Rattle.rio_chain.specs.declared.fault.WalkFault.{WalkFault, TheVariants.{NoChain, NoMemory, HostFault}}
+use Rattle.rio_chain.proofs.{Chains.{end-append}, Words.{held_word, word_one, word_within}, PutChain.{segment_of-length}}
 
 -- ---- links up to a place
 

@@ -1,14 +1,12 @@
 -- Words and records at places: there is one.
-use Rattle.std.proofs.Common.{◌≡◌, ℕ, ◌+◌, ◌^◌, ◌<◌, ◌≤◌, pos, List, [], ◌++◌, length, take, drop, get_or, Some, refl, sym, ap, subst, ◌∙◌, append_assoc, length-append, length-take, length-drop, arith}
-use Rattle.std.proofs.lemmas.List.{ext_get_or}
-use Rattle.std.proofs.lemmas.Option.{slice_get-get_or, slice_get_within, same_Some}
+use Rattle.std.proofs.Common.{◌≡◌, ℕ, ◌+◌, ◌^◌, ◌<◌, ◌≤◌, List, [], ◌++◌, length, take, drop, get_or, Some, refl, sym, ap, subst, ◌∙◌, append_assoc, length-append, length-take, length-drop, arith}
+use Rattle.std.proofs.{lemmas.List.{ext_get_or}, lemmas.Option.{slice_get-get_or, slice_get_within, same_Some}}
 use Rattle.std.specs.List.{slice_get}
-use Rattle.byteorder.specs.Endian.{big_bytes, big_number}
-use Rattle.byteorder.specs.Numbers.{big_number-reads_back, length-bytes_high_first}
-use Rattle.rio_host.specs.Image.{Has}
-use Rattle.rio_host.specs.ImageLaws.{slice_get-take, slice_get-drop}
+use Rattle.byteorder.specs.{Endian.{big_bytes, big_number}, Numbers.{big_number-reads_back, length-bytes_high_first}}
+use Rattle.rio_num.proofs.Cases.{pos_same}
+use Rattle.rio_num.specs.At.{place_len_of}
+use Rattle.rio_host.specs.{Image.{Has}, ImageLaws.{slice_get-take, slice_get-drop}}
 use Rattle.rio_host.proofs.Images.{has_keeps, has_length, has_front}
-use Rattle.rio_key.specs.Key.{key_place_len}
 use Rattle.rio_key.proofs.KeyParts.{parts_of_key}
 use Rattle.rio_chain.specs.Segments.{HasWord, HoldsRecord, IsPositive, IsRecord}
 
@@ -61,9 +59,6 @@ pub record Word (bytes : List ℕ) : Type 0 where
   pub spelled : bytes ≡ big_bytes 4 (length bytes) ++ others
   pub small : length bytes < 2 ^ 31
 
-pub pos_same : (m n : ℕ) → pos m ≡ pos n → m ≡ n
-pos_same m n e = cc
-
 pub record_word : (place : ℕ) (bytes : List ℕ) → IsRecord place bytes → Word bytes
 record_word place bytes r =
     let front = r.key.0 in
@@ -72,7 +67,7 @@ record_word place bytes r =
     let same : spells.nbytes ≡ length bytes = pos_same spells.nbytes (length bytes) (sym key.length_is ∙ r.nbytes) in
     let h = r.head in
     let rest = spells.class_bytes ++ (spells.name_bytes ++ spells.title_bytes) in
-    let numbers = big_bytes 2 h.version ++ (big_bytes 4 h.objlen ++ (big_bytes 4 h.datime ++ (big_bytes 2 h.keylen ++ (big_bytes 2 h.cycle ++ (big_bytes (key_place_len h.version) h.seek ++ big_bytes (key_place_len h.version) h.pdir))))) in
+    let numbers = big_bytes 2 h.version ++ (big_bytes 4 h.objlen ++ (big_bytes 4 h.datime ++ (big_bytes 2 h.keylen ++ (big_bytes 2 h.cycle ++ (big_bytes (place_len_of h.version) h.seek ++ big_bytes (place_len_of h.version) h.pdir))))) in
     record {
       others = (numbers ++ rest) ++ r.key.1;
       spelled = r.key.2 ∙ ap (λ (b : List ℕ). b ++ r.key.1) spells.parts

@@ -1,7 +1,6 @@
 -- Segments that follow one another as those of a file do.
 use Rattle.std.specs.Prelude.{◌≡◌, ℕ, ◌+◌, ◌%◌, ◌≤◌, List, [], ◌∷◌}
-use Rattle.rio_chain.specs.declared.segment.Segment.{Segment}
-use Rattle.rio_chain.specs.declared.segment.Segment.TheVariants.{Record, Gap}
+use Rattle.rio_chain.specs.declared.segment.Segment.{Segment, TheVariants.{Record, Gap}}
 
 abbrev pub segment_place : Segment → ℕ
 segment_place (Record place length) = place

@@ -1,10 +1,7 @@
 -- The chain that is kept beside a file.
 use Rattle.std.specs.Prelude.{◌≡◌, ℕ, Bool, List, ◌∷◌, ◌++◌, map}
 use Rattle.rio_host.specs.Host.{View}
-use Rattle.rio_chain.specs.declared.segment.Segment.{Segment}
-use Rattle.rio_chain.specs.declared.segment.Segment.TheVariants.{Record}
-use Rattle.rio_chain.specs.Segments.{Link, IsChain, segment_of}
-use Rattle.rio_chain.specs.Walks.{Told}
+use Rattle.rio_chain.specs.{declared.segment.Segment.{Segment, TheVariants.{Record}}, Segments.{Link, IsChain, segment_of}, Walks.{Told}}
 
 -- the segments, for how many more changes there is room, and whether a change failed and left it unknown what the file holds
 pub record ChainState : Type 0 where

@@ -1,17 +1,11 @@
 -- What is found at a place of a file.
 use Rattle.std.specs.Prelude.{◌≡◌, ℕ, ◌+◌, ◌-◌, ◌^◌, ◌<◌, ◌≤◌, nat_lt, if◌then◌else◌, pos, codes, Bool, MatchBool, List, length, Option, Some, None, IfSome, Result, Ok, Err}
 use Rattle.byteorder.specs.Endian.{big_number}
-use Rattle.rio_num.specs.At.{At}
-use Rattle.rio_host.specs.Image.{Has}
-use Rattle.rio_host.specs.Host.{View}
-use Rattle.rio_num.specs.Plain.{IsSpelledIn}
-use Rattle.rio_key.specs.Key.{SpellsKey}
-use Rattle.rio_key.specs.Written.{FitsKey, written_key}
-use Rattle.rio_key.specs.declared.head.KeyHead.{KeyHead}
-use Rattle.rio_chain.specs.declared.segment.Segment.{Segment}
-use Rattle.rio_chain.specs.declared.segment.Segment.TheVariants.{Record, Gap}
-use Rattle.rio_chain.specs.declared.fault.WalkFault.{WalkFault}
-use Rattle.rio_chain.specs.declared.fault.WalkFault.TheVariants.{NoChain, NoMemory, HostFault}
+use Rattle.rio_num.specs.{At.{At}, Plain.{IsSpelledIn}}
+use Rattle.rio_host.specs.{Image.{Has}, Host.{View}}
+use Rattle.rio_key.specs.{Key.{SpellsKey}, Written.{FitsKey, written_key}, declared.head.KeyHead.{KeyHead}}
+use Rattle.rio_chain.specs.declared.segment.Segment.{Segment, TheVariants.{Record, Gap}}
+use Rattle.rio_chain.specs.declared.fault.WalkFault.{WalkFault, TheVariants.{NoChain, NoMemory, HostFault}}
 use Rattle.rio_chain.specs.Segments.{Link, link_length, segment_of, texts_end_at, HasWord, HoldsRecord, HoldsGap, HoldsLink, IsFirst, IsPositive, IsRecord}
 use Rattle.rio_chain.specs.Walks.{Told}
 

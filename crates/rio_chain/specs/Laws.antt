@@ -2,9 +2,7 @@
 use Rattle.std.specs.Prelude.{◌≡◌, ◌⊎◌, ℕ, ◌%◌, ◌≤◌, List, Ok}
 use Rattle.rio_num.specs.At.{AreBytes}
 use Rattle.rio_key.specs.Key.{key_at}
-use Rattle.rio_chain.specs.declared.segment.Segment.{Segment}
-use Rattle.rio_chain.specs.Adjoining.{AreSegments}
-use Rattle.rio_chain.specs.Placing.{laid, place_of, space_of, with_segment}
+use Rattle.rio_chain.specs.{declared.segment.Segment.{Segment}, Adjoining.{AreSegments}, Placing.{laid, place_of, space_of, with_segment}}
 use Rattle.rio_chain.specs.Segments.{Link, IsChain, IsRecord, BreaksAt}
 
 -- a file has one list of segments

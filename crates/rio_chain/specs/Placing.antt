@@ -1,12 +1,8 @@
 -- Where records go: the choice of place, and what a record makes of the segments.
-use Rattle.std.specs.Prelude.{◌≡◌, ◌⊎◌, ℕ, zero, suc, ◌+◌, ◌-◌, ◌^◌, ◌≤◌, ◌==◌, List, [], ◌∷◌, ◌++◌, Option, Some, None, if◌then◌else◌}
+use Rattle.std.specs.{Prelude.{◌≡◌, ◌⊎◌, ℕ, zero, suc, ◌+◌, ◌-◌, ◌^◌, ◌≤◌, ◌==◌, List, [], ◌∷◌, ◌++◌, Option, Some, None, if◌then◌else◌}, Option.{unwrap_or}}
 use Rattle.byteorder.specs.Endian.{big_bytes}
-use Rattle.std.specs.Option.{unwrap_or}
-use Rattle.rio_free.specs.Gaps.{best_place, gap_of, taken}
-use Rattle.rio_free.specs.declared.gap.Gap.{Gap as FreeGap}
-use Rattle.rio_chain.specs.declared.segment.Segment.{Segment}
-use Rattle.rio_chain.specs.declared.segment.Segment.TheVariants.{Record, Gap}
-use Rattle.rio_chain.specs.Adjoining.{segments_end}
+use Rattle.rio_free.specs.{Gaps.{best_place, gap_of, taken}, declared.gap.Gap.{Gap as FreeGap}}
+use Rattle.rio_chain.specs.{declared.segment.Segment.{Segment, TheVariants.{Record, Gap}}, Adjoining.{segments_end}}
 
 -- the gaps among some segments
 abbrev pub gaps_in : List Segment → List FreeGap

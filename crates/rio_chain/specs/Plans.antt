@@ -1,8 +1,6 @@
 -- What a plan answers.
 use Rattle.std.specs.Prelude.{◌≡◌, ℕ, ◌<◌, ◌≤◌, List, Option, Some, None, sum}
-use Rattle.rio_chain.specs.declared.segment.Segment.{Segment}
-use Rattle.rio_chain.specs.declared.fault.PlanFault.{PlanFault}
-use Rattle.rio_chain.specs.declared.fault.PlanFault.TheVariants.{Full, NoMemory}
+use Rattle.rio_chain.specs.{declared.segment.Segment.{Segment}, declared.fault.PlanFault.{PlanFault, TheVariants.{Full, NoMemory}}}
 use Rattle.rio_chain.specs.Placing.{FreeSpace, end_after, file_end, places_of, space_of}
 
 -- Full only where END would pass the limit: END before, and the sum of the lengths

@@ -1,15 +1,10 @@
 -- The segments of a file: records and gaps from place 100 to END, or the place where they break.
 use Rattle.std.specs.Prelude.{◌≡◌, ℕ, ◌+◌, ◌-◌, ◌%◌, ◌^◌, ◌<◌, ◌≤◌, List, [], ◌∷◌, codes, length, map, pos, Result, Ok}
 use Rattle.byteorder.specs.Endian.{big_number}
-use Rattle.rio_num.specs.At.{At, standing_at}
-use Rattle.rio_num.specs.Reading.{◌>>=◌, text_at}
-use Rattle.rio_num.specs.declared.cursor.Short.{Short}
+use Rattle.rio_num.specs.{At.{At, standing_at}, Reading.{◌>>=◌, text_at}, declared.cursor.Short.{Short}, Plain.{IsSpelledIn}}
 use Rattle.rio_host.specs.Image.{Has}
-use Rattle.rio_num.specs.Plain.{IsSpelledIn}
-use Rattle.rio_key.specs.Key.{SpellsKey}
-use Rattle.rio_key.specs.declared.head.KeyHead.{KeyHead}
-use Rattle.rio_chain.specs.declared.segment.Segment.{Segment}
-use Rattle.rio_chain.specs.declared.segment.Segment.TheVariants.{Record, Gap}
+use Rattle.rio_key.specs.{Key.{SpellsKey}, declared.head.KeyHead.{KeyHead}}
+use Rattle.rio_chain.specs.declared.segment.Segment.{Segment, TheVariants.{Record, Gap}}
 
 -- A segment with what it holds: a record with its place and its bytes, those of its length word first; a gap with its place and
 -- its length.

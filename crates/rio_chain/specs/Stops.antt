@@ -1,7 +1,6 @@
 -- What a stop leaves while a record is put or released.
 use Rattle.std.specs.Prelude.{◌≡◌, ◌⊎◌, ℕ, ◌+◌, ◌<◌, List, length, Some, slice_get}
-use Rattle.rio_host.specs.Image.{Torn, Put, PutOrNot}
-use Rattle.rio_host.specs.Host.{View}
+use Rattle.rio_host.specs.{Image.{Torn, Put, PutOrNot}, Host.{View}}
 use Rattle.rio_chain.specs.Segments.{Link, IsChain}
 
 -- bytes 0 to 99 stay
@@ -26,9 +25,6 @@ BodyThenWord file place tail word image = (staged : List ℕ) × Put (place + 4)
 pub record IsBodyBehind (v : View) (file : List ℕ) (place : ℕ) (tail word : List ℕ) (image said : List ℕ) : Type 0 where
   pub image_is : Torn (place + 4) (length tail) file image ⊎ BodyThenWord file place tail word image
   pub text : IsSaidText v said
-
-abbrev pub Any : List ℕ → List ℕ → Type 0
-Any old new = Unit {0}
 
 -- an image with the word, or without it
 pub record IsWordOrNot (v : View) (file : List ℕ) (place : ℕ) (word : List ℕ) (image said : List ℕ) : Type 0 where

@@ -1,12 +1,8 @@
 -- What a walk answers, of the file that its host tells, and why it fails.
 use Rattle.std.specs.Prelude.{◌≡◌, ◌*◌, ◌≤◌, ℕ, List, length, Some, Result, Ok, Err}
 use Rattle.rio_host.specs.Host.{View, Rose}
-use Rattle.rio_chain.specs.declared.segment.Segment.{Segment}
-use Rattle.rio_chain.specs.declared.fault.WalkFault.{WalkFault}
-use Rattle.rio_chain.specs.declared.fault.WalkFault.TheVariants.{NoChain, NoMemory, HostFault}
-use Rattle.rio_chain.specs.declared.fault.ReadFault.{ReadFault}
-use Rattle.rio_chain.specs.declared.fault.ReadFault.TheVariants.{NoMemory as NoRoom, HostFault as DiskFault}
-use Rattle.rio_chain.specs.Segments.{BreaksAt}
+use Rattle.rio_chain.specs.{declared.segment.Segment.{Segment}, declared.fault.WalkFault.{WalkFault, TheVariants.{NoChain, NoMemory, HostFault}}}
+use Rattle.rio_chain.specs.{declared.fault.ReadFault.{ReadFault, TheVariants.{NoMemory as NoRoom, HostFault as DiskFault}}, Segments.{BreaksAt}}
 
 -- it holds of the file, where the host tells it
 abbrev pub Told : View → (List ℕ → Type 0) → Type 0

@@ -1,9 +1,9 @@
 //! A word that makes what stands behind it count.
-ghost use Rattle.std.specs.Prelude.{◌≡◌, ◌≤◌, ◌<◌, ◌^◌, ◌+◌, ◌%◌, ℕ, List, Some, length, OnOk, IsOk, IsErr};
+ghost use Rattle.std.specs.Prelude.{◌≡◌, ◌≤◌, ◌<◌, ◌^◌, ◌+◌, ◌%◌, ℕ, List, Some, length, OnOk};
 ghost use Rattle.byteorder.specs.Endian.{big_bytes};
 ghost use Rattle.rio_host.specs.Image.{Put};
-ghost use Rattle.rio_host.specs.Host.{Becomes, Elapses, IsQuiet, IsWithin, Rose};
-ghost use Rattle.rio_chain.specs.Stops.{Any, BodyThenWord, IsBodyBehind, IsWordOrNot};
+ghost use Rattle.rio_host.specs.Host.{Elapses, IsDiskCause, IsQuiet, IsWithin, OnlyWrites};
+ghost use Rattle.rio_chain.specs.Stops.{BodyThenWord, IsBodyBehind, IsWordOrNot};
 
 use rio_host::{Failed, Host};
 
@@ -21,13 +21,8 @@ pub fn put_behind<H: Host>(host: &mut H, place: u64, tail: &[u8], word: u32) -> 
         → (new : List ℕ) × ((H.view host.new).holds ≡ Some new)
         × BodyThenWord file place tail.now (big_bytes 4 word) new) }
     ensures quiet { OnOk result (IsQuiet (H.view host.new)) }
-    ensures told { Becomes Any (H.view host.old).holds (H.view host.new).holds }
-    ensures said { (H.view host.new).said ≡ (H.view host.old).said }
-    ensures reads { (H.view host.new).reads ≡ (H.view host.old).reads }
-    ensures say_faults { (H.view host.new).say_faults ≡ (H.view host.old).say_faults }
-    ensures counted { IsOk result → (H.view host.new).disk_faults ≡ (H.view host.old).disk_faults }
-    ensures cause { IsErr result
-        → Rose (H.view host.old).disk_faults (H.view host.new).disk_faults }
+    ensures writes { OnlyWrites (H.view host.old) (H.view host.new) }
+    ensures cause { IsDiskCause (H.view host.old) (H.view host.new) result }
 {
     host.write(place + 4, tail)?;
     host.sync()?;
@@ -48,13 +43,8 @@ pub fn put_word<H: Host>(host: &mut H, place: u64, word: u32) -> Result<(), Fail
         → (new : List ℕ) × ((H.view host.new).holds ≡ Some new)
         × Put place (big_bytes 4 word) file new) }
     ensures quiet { OnOk result (IsQuiet (H.view host.new)) }
-    ensures told { Becomes Any (H.view host.old).holds (H.view host.new).holds }
-    ensures said { (H.view host.new).said ≡ (H.view host.old).said }
-    ensures reads { (H.view host.new).reads ≡ (H.view host.old).reads }
-    ensures say_faults { (H.view host.new).say_faults ≡ (H.view host.old).say_faults }
-    ensures counted { IsOk result → (H.view host.new).disk_faults ≡ (H.view host.old).disk_faults }
-    ensures cause { IsErr result
-        → Rose (H.view host.old).disk_faults (H.view host.new).disk_faults }
+    ensures writes { OnlyWrites (H.view host.old) (H.view host.new) }
+    ensures cause { IsDiskCause (H.view host.old) (H.view host.new) result }
 {
     host.write_word(place, word)?;
     host.sync()

@@ -26,13 +26,13 @@ fn append_word(body: &mut Bytes, rest: Option<u64>)
 }
 
 impl Chain {
-    ghost use Rattle.std.specs.Prelude.{◌≡◌, ◌+◌, ◌-◌, ◌≤◌, ℕ, List, Some, length, true, false, IsOk, IsErr, OnOk, OnErr};
-    ghost use Rattle.rio_host.specs.Host.{Becomes, Elapses, IsQuiet, Rose};
+    ghost use Rattle.std.specs.Prelude.{◌≡◌, ◌+◌, ◌-◌, ◌≤◌, ℕ, List, Some, length, true, false, OnOk, OnErr};
+    ghost use Rattle.rio_host.specs.Host.{Elapses, IsDiskCause, IsQuiet, OnlyWrites};
     ghost use Rattle.rio_chain.specs.Chains.{HasChain, HoldsChain};
     ghost use Rattle.rio_chain.specs.Changes.{with_record};
     ghost use Rattle.rio_chain.specs.Placing.{IsPlaceFor, file_end, with_segment};
     ghost use Rattle.rio_chain.specs.Segments.{Link, IsRecord};
-    ghost use Rattle.rio_chain.specs.Stops.{Any, IsEither, KeepsFront};
+    ghost use Rattle.rio_chain.specs.Stops.{IsEither, KeepsFront};
 
     /// Puts a record at `place`, which is the rule's for its length, or END. The body is the whole
     /// record for this place, with four bytes spare, which are used. A stop at any moment leaves the
@@ -68,14 +68,8 @@ impl Chain {
           spare = self.old.spare - 1;
         }) }
         ensures spent { OnErr result (self.new.spent ≡ true) }
-        ensures told { Becomes Any (H.view host.old).holds (H.view host.new).holds }
-        ensures said { (H.view host.new).said ≡ (H.view host.old).said }
-        ensures reads { (H.view host.new).reads ≡ (H.view host.old).reads }
-        ensures say_faults { (H.view host.new).say_faults ≡ (H.view host.old).say_faults }
-        ensures counted { IsOk result
-            → (H.view host.new).disk_faults ≡ (H.view host.old).disk_faults }
-        ensures cause { IsErr result
-            → Rose (H.view host.old).disk_faults (H.view host.new).disk_faults }
+        ensures writes { OnlyWrites (H.view host.old) (H.view host.new) }
+        ensures cause { IsDiskCause (H.view host.old) (H.view host.new) result }
     {
         let n = body.len() as u64;
         let rest = self.rest_behind(place, n);

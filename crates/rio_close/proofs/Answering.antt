@@ -1,12 +1,10 @@
 -- A fault of a function that calls no host is passed on.
 use Rattle.std.proofs.Common.{Result, Ok, Err}
-use Rattle.rio_head.specs.declared.fault.FileFault.{FileFault}
-use Rattle.rio_head.specs.declared.fault.FileFault.TheVariants.{NotRoot, Short, BadBegin, BadUnits, NotClosed, BadDir, BadKeyList, Compressed, BadInfo}
+use Rattle.rio_head.specs.declared.fault.FileFault.{FileFault, TheVariants.{NotRoot, Short, BadBegin, BadUnits, NotClosed, BadDir, BadKeyList, Compressed, BadInfo}}
 use Rattle.rio_head.specs.Head.{IsHeaderKind}
 use Rattle.rio_host.specs.Host.{View}
 use Rattle.rio_close.specs.Causes.{IsHostCause, IsOwnCause, IsTested, NoDiskFault}
-use Rattle.rio_close.specs.declared.fault.ReportFault.{ReportFault}
-use Rattle.rio_close.specs.declared.fault.ReportFault.TheVariants.{BadFile, NoMemory, HostFault, SayFault}
+use Rattle.rio_close.specs.declared.fault.ReportFault.{ReportFault, TheVariants.{BadFile, NoMemory, HostFault, SayFault}}
 
 pub own_cause : {X : Type 0} (old new : View) (r : Result X ReportFault) → NoDiskFault old new → IsOwnCause r → IsHostCause old new r
 own_cause old new (Ok x) calm cause = calm

@@ -1,64 +1,41 @@
 -- The file that a close leaves: it reads as before, by the walk and by its key list.
 use Rattle.std.proofs.Common.{◌≡◌, ◌↔◌, ◌⊎◌, inl, inr, ℕ, ◌+◌, ◌^◌, ◌<◌, ◌≤◌, Bool, true, false, cond, ltb, nat_lt, not, List, [], ◌∷◌, ◌++◌, length, length-append, map, take, drop, Option, Some, None, Result, Ok, Err, refl, sym, ap, subst, ◌∙◌, arith}
-use Rattle.std.specs.List.{All, Contains, flat_map, slice_get}
-use Rattle.std.specs.Int.{w32, cast_unsigned}
-use Rattle.std.proofs.lemmas.Bool.{le-ltb}
-use Rattle.std.proofs.lemmas.List.Elements.{All-cons, All-nil}
-use Rattle.std.proofs.lemmas.Option.{same_Some, slice_get_within}
+use Rattle.std.proofs.{lemmas.Bool.{le-ltb}, lemmas.List.Elements.{All-cons, All-nil}, lemmas.Option.{same_Some, slice_get_within}}
 use Rattle.std.proofs.lemmas.List.Sums.{sum_by-cons}
-use Rattle.byteorder.specs.Endian.{big_bytes, big_number}
-use Rattle.byteorder.specs.Numbers.{length-bytes_high_first}
+use Rattle.std.specs.{List.{All, Contains, flat_map, slice_get}, Int.{w32, cast_unsigned}}
+use Rattle.byteorder.specs.{Endian.{big_bytes, big_number}, Numbers.{length-bytes_high_first}}
 use Rattle.rio_num.proofs.ReadLaws.{bind_is}
 use Rattle.rio_num.specs.Reading.{◌>>=◌}
-use Rattle.rio_key.specs.Written.{written_key}
-use Rattle.rio_key.specs.declared.head.KeyHead.{KeyHead}
+use Rattle.rio_key.specs.{Written.{written_key}, declared.head.KeyHead.{KeyHead}}
 use Rattle.rio_key.proofs.KeyParts.{parts_of_key}
-use Rattle.rio_head.specs.Head.{fault_at, head_at}
-use Rattle.rio_head.specs.declared.head.FileHead.{FileHead}
-use Rattle.rio_head.specs.declared.dir.DirRecord.{DirRecord}
-use Rattle.rio_head.specs.declared.fault.HeadFault.{HeadFault}
-use Rattle.rio_head.specs.declared.fault.FileFault.TheVariants.{BadDir, NotClosed}
-use Rattle.rio_dir.specs.Closed.{closed_dir, closed_file, closed_head, closed_keys, dir_place, or_fault}
-use Rattle.rio_dir.specs.Table.{AreWritable, heads_size, key_list_bytes}
+use Rattle.rio_head.specs.{Head.{fault_at, head_at}, declared.head.FileHead.{FileHead}, declared.dir.DirRecord.{DirRecord}}
+use Rattle.rio_head.specs.{declared.fault.HeadFault.{HeadFault}, declared.fault.FileFault.TheVariants.{BadDir, NotClosed}}
+use Rattle.rio_dir.specs.{Closed.{closed_dir, closed_file, closed_head, closed_keys, dir_place, or_fault}, Table.{AreWritable, heads_size, key_list_bytes}}
 use Rattle.rio_dir.specs.declared.closed.Closed.{Closed}
 use Rattle.rio_dir.proofs.TableWritten.{length-flat}
 use Rattle.rio_free.specs.Record.{free_bytes}
 use Rattle.rio_host.specs.Image.{Has, Put}
 use Rattle.rio_host.proofs.Images.{has_back, has_front, has_keeps}
-use Rattle.rio_chain.specs.Adjoining.{AreSegments}
-use Rattle.rio_chain.specs.Changes.{with_record}
-use Rattle.rio_chain.specs.Placing.{file_end, gaps_in, with_segment}
+use Rattle.rio_chain.specs.{Adjoining.{AreSegments}, Changes.{with_record}, Placing.{file_end, gaps_in, with_segment}}
 use Rattle.rio_chain.specs.Segments.{IsChain, IsRecord, Link, RecordAt, chain_end, end_from, segment_of}
-use Rattle.rio_chain.specs.declared.segment.Segment.{Segment}
-use Rattle.rio_chain.specs.declared.segment.Segment.TheVariants.{Record}
-use Rattle.rio_chain.proofs.Words.{record_long, record_word}
-use Rattle.rio_chain.proofs.Chains.{end-le}
-use Rattle.rio_chain.proofs.Laying.{laid_put}
-use Rattle.rio_chain.proofs.Placed.{end_grows as grows_at_end}
+use Rattle.rio_chain.specs.declared.segment.Segment.{Segment, TheVariants.{Record}}
+use Rattle.rio_chain.proofs.{Words.{record_long, record_word}, Chains.{end-le}, Laying.{laid_put}, Placed.{end_grows as grows_at_end}}
 use Rattle.rio_chain.proofs.PutChain.{map_end, map_with}
 use Rattle.rio_machine.specs.State.{State}
 use Rattle.rio_record.specs.Record.{new_key}
-use Rattle.rio_state.specs.Closing.{item_heads}
-use Rattle.rio_state.specs.DirectoryKeys.{AreKeysOf}
+use Rattle.rio_state.specs.{Closing.{item_heads}, DirectoryKeys.{AreKeysOf}}
 use Rattle.rio_state.specs.KeyedRecords.{KeyedRecord, info_key, is_info_key, is_internal, later_info, keyed_records, top_keys, is_top_key, is_tree_key, is_tree_record}
-use Rattle.rio_state.specs.Left.{info_head}
-use Rattle.rio_state.specs.Reads.{AreRecordsOf, IsFreeRecordAt, ReadsAsState, ReadsClosed, info_place}
-use Rattle.rio_state.specs.OneMore.{keyed_bytes}
-use Rattle.rio_state.proofs.KeyRecords.{ObjectOf, TreeOf, key_record}
-use Rattle.rio_state.proofs.Members.{In, contains_in, filter_in}
-use Rattle.rio_close.specs.Fields.{FieldsThenEnd, IsOutsideFields, WritesFields}
-use Rattle.rio_close.specs.Leaving.{IsClosedWith, IsKeptByte, IsKeptInFirst}
+use Rattle.rio_state.specs.{Left.{info_head}, Reads.{AreRecordsOf, IsFreeRecordAt, ReadsAsState, ReadsClosed, info_place}, OneMore.{keyed_bytes}}
+use Rattle.rio_state.proofs.{KeyRecords.{ObjectOf, TreeOf, key_record}, Members.{In, contains_in, filter_in}}
+use Rattle.rio_close.specs.{Fields.{FieldsThenEnd, IsOutsideFields, WritesFields}, Leaving.{IsClosedWith, IsKeptByte, IsKeptInFirst}}
 use Rattle.rio_close.specs.Written.{AreCloseRecords, OpenFile, dir_field_bytes, free_field_bytes, free_place, info_field_bytes, list_place, own_words, with_both, with_list}
 use Rattle.rio_close.specs.declared.parts.CloseRecords.{CloseRecords}
 use Rattle.rio_close.proofs.FieldsChain.{FirstLink, OtherFields, first_link, other_fields}
-use Rattle.rio_close.proofs.FirstBytes.{first_internal, first_keyed, info_changes, records_change, tops_change}
-use Rattle.rio_close.proofs.LeftImages.{reads_made}
-use Rattle.rio_close.proofs.ListRead.{Writable, all_writable, list_read, writable}
-use Rattle.rio_close.proofs.ListedRecords.{Listing, in_records, listed_stand, listed_tops, listing}
+use Rattle.rio_close.proofs.{FirstBytes.{first_internal, first_keyed, info_changes, records_change, tops_change}, LeftImages.{reads_made}}
+use Rattle.rio_close.proofs.{ListRead.{Writable, all_writable, list_read, writable}, ListedRecords.{Listing, in_records, listed_stand, listed_tops, listing}}
 use Rattle.rio_close.proofs.Numbers.{HasNumber, any_number, number_of_bytes, word_of_number}
 use Rattle.rio_close.proofs.OwnRecords.{own_data, own_info, own_keys, own_link, own_nbytes, own_padding, own_spelled, own_stays, own_whole, own_zeros}
-use Rattle.rio_close.proofs.RecordPlaces.{in_keyed, in_put, in_with, stands_there, whole_records}
-use Rattle.rio_close.proofs.SmallDir.{SmallDir, dir_read}
+use Rattle.rio_close.proofs.{RecordPlaces.{in_keyed, in_put, in_with, stands_there, whole_records}, SmallDir.{SmallDir, dir_read}}
 use Rattle.rio_close.proofs.SmallHead.{IsFixed, SmallHead, head_changes, small_read}
 
 -- ---- lists

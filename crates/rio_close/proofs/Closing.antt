@@ -6,31 +6,19 @@ use Rattle.rio_free.specs.Record.{free_bytes}
 use Rattle.rio_dir.specs.Table.{key_list_bytes}
 use Rattle.rio_host.specs.Host.{Elapses, View}
 use Rattle.rio_host.proofs.Moments.{elapses_as, elapses_join}
-use Rattle.rio_chain.specs.Adjoining.{AreSegments}
-use Rattle.rio_chain.specs.Chains.{HasChain}
-use Rattle.rio_chain.specs.Changes.{with_record}
-use Rattle.rio_chain.specs.Placing.{FreeSpace, file_end, gaps_in, space_of, with_segment}
-use Rattle.rio_chain.specs.Segments.{HasWord, IsChain, IsRecord, Link, RecordAt, chain_end}
-use Rattle.rio_chain.proofs.Chains.{KeepsIn, end-le}
-use Rattle.rio_chain.specs.declared.segment.Segment.{Segment}
-use Rattle.rio_chain.proofs.PutChain.{map_end}
-use Rattle.rio_chain.specs.Stops.{IsEither, KeepsFront}
-use Rattle.rio_chain.proofs.Laying.{end_grows, laid_put}
-use Rattle.rio_chain.proofs.Placed.{end_grows as grows_at_end}
+use Rattle.rio_chain.specs.{Adjoining.{AreSegments}, Chains.{HasChain}, Changes.{with_record}, Placing.{FreeSpace, file_end, gaps_in, space_of, with_segment}}
+use Rattle.rio_chain.specs.{Segments.{HasWord, IsChain, IsRecord, Link, RecordAt, chain_end}, declared.segment.Segment.{Segment}, Stops.{IsEither, KeepsFront}}
+use Rattle.rio_chain.proofs.{Chains.{KeepsIn, end-le}, PutChain.{map_end}, Laying.{end_grows, laid_put}, Placed.{end_grows as grows_at_end}}
 use Rattle.rio_chain.proofs.Words.{record_long, record_word, word_within}
 use Rattle.rio_machine.specs.State.{State}
-use Rattle.rio_state.specs.KeyedRecords.{keyed_records}
-use Rattle.rio_state.specs.Reads.{AreRecordsOf, ReadsAsState, ReadsClosed}
+use Rattle.rio_state.specs.{KeyedRecords.{keyed_records}, Reads.{AreRecordsOf, ReadsAsState, ReadsClosed}}
 use Rattle.rio_close.specs.Fields.{FieldsThenEnd, IsFieldsThenEnd}
 use Rattle.rio_close.specs.Leaving.{DirectoryInFront, HoldsClosed, HoldsClosedWith, HoldsOpen, IsClosedWith, IsKeptByte, StaysAs}
 use Rattle.rio_close.specs.Written.{AreCloseRecords, OpenFile, free_place, info_field_bytes, list_place, record_size, with_both, with_list}
 use Rattle.rio_close.specs.declared.parts.CloseRecords.{CloseRecords}
-use Rattle.rio_close.proofs.ClosedFile.{last_closed, last_reads, last_written, records_1, records_2}
-use Rattle.rio_close.proofs.OwnRecords.{own_whole}
-use Rattle.rio_close.proofs.LeftImages.{keeps_head, left_fields, left_open, open_head}
-use Rattle.rio_close.proofs.FieldsChain.{first_link, other_fields}
-use Rattle.rio_close.proofs.Numbers.{bytes_keep, number_keeps, within_keeps, word_of_number}
-use Rattle.rio_close.proofs.SmallHead.{SmallHead}
+use Rattle.rio_close.proofs.{ClosedFile.{last_closed, last_reads, last_written, records_1, records_2}, OwnRecords.{own_whole}}
+use Rattle.rio_close.proofs.{LeftImages.{keeps_head, left_fields, left_open, open_head}, FieldsChain.{first_link, other_fields}}
+use Rattle.rio_close.proofs.{Numbers.{bytes_keep, number_keeps, within_keeps, word_of_number}, SmallHead.{SmallHead}}
 
 -- ---- the header stays in front of what is put
 

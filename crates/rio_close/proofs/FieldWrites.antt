@@ -1,10 +1,8 @@
 -- What a stop leaves while fields of header and directory record are written, and then END.
 use Rattle.std.proofs.Common.{◌≡◌, ◌⊎◌, inl, inr, ⊎_elim, ℕ, ◌+◌, ◌<◌, ◌≤◌, List, length, Some, subst, sym, ◌∙◌, arith}
 use Rattle.byteorder.specs.Endian.{big_bytes}
-use Rattle.rio_host.specs.Host.{Becomes, Elapses, IsLawful, IsQuiet, OnDisk, View}
-use Rattle.rio_host.specs.Image.{Put, PutOrNot, Same, Torn}
-use Rattle.rio_host.proofs.Images.{becomes_some, has_keeps}
-use Rattle.rio_host.proofs.Moments.{Outcomes, Run, begins, elapses_as, stays, writes, writes_word}
+use Rattle.rio_host.specs.{Host.{Becomes, Elapses, IsLawful, IsQuiet, OnDisk, View}, Image.{Put, PutOrNot, Same, Torn}}
+use Rattle.rio_host.proofs.{Images.{becomes_some, has_keeps}, Moments.{Outcomes, Run, begins, elapses_as, stays, writes, writes_word}}
 use Rattle.rio_close.specs.Fields.{FieldsThenEnd, IsFieldsOrNot, IsFieldsThenEnd, IsOutsideFields, KeepsAllButFields, WritesFields}
 
 -- ---- ranges

@@ -1,22 +1,19 @@
 -- The fields of the header and of the directory record may be anything: a file still has its chain.
 use Rattle.std.proofs.Common.{◌≡◌, inl, inr, ℕ, suc, ◌+◌, ◌-◌, ◌%◌, ◌<◌, ◌≤◌, pos, List, [], ◌∷◌, ◌++◌, length, length-append, length-take, length-drop, take, drop, Some, refl, sym, ap, subst, ◌∙◌, arith}
+use Rattle.std.proofs.{lemmas.List.{drop-append-le, drop-drop, drop-take, take-append-drop, take-take, take_at}, Math.Seq.{drop-append_seam, take-append-add}}
+use Rattle.std.proofs.lemmas.Option.{slice_get_within}
 use Rattle.std.specs.List.{slice_get}
-use Rattle.std.proofs.lemmas.List.{drop-append-le, drop-drop, drop-take, take-append-drop, take-take, take_at}
-use Rattle.std.proofs.Math.Seq.{drop-append_seam, take-append-add}
 use Rattle.byteorder.specs.Endian.{big_number}
 use Rattle.rio_host.specs.ImageLaws.{slice_get-drop, slice_get-take}
-use Rattle.std.proofs.lemmas.Option.{slice_get_within}
 use Rattle.rio_num.specs.Plain.{IsSpelledIn}
-use Rattle.rio_key.specs.Key.{SpellsKey}
-use Rattle.rio_key.specs.declared.head.KeyHead.{KeyHead}
+use Rattle.rio_num.proofs.Plain.{standing}
+use Rattle.rio_key.specs.{Key.{SpellsKey}, declared.head.KeyHead.{KeyHead}}
 use Rattle.rio_key.proofs.KeyParts.{parts_of_key}
 use Rattle.rio_chain.specs.Segments.{GapAt, HasWord, HoldsEnd, HoldsRecord, IsChain, IsFirst, IsRecord, Link, RecordAt, chain_end, end_from}
-use Rattle.rio_chain.proofs.Chains.{KeepsIn, Parts, PlainLinks, chain_of, end-le, end_keeps, parts_of, plain_held}
-use Rattle.rio_chain.proofs.Keys.{spelled_in_whole, spelled_one}
+use Rattle.rio_chain.proofs.{Chains.{KeepsIn, Parts, PlainLinks, chain_of, end-le, end_keeps, parts_of, plain_held}, Keys.{spelled_in_whole, spelled_one}}
 use Rattle.rio_chain.proofs.Words.{has_own, word_keeps, word_one, word_within}
 use Rattle.rio_close.specs.Fields.{IsOutsideFields}
-use Rattle.rio_close.proofs.FirstTexts.{HasTexts, has_texts}
-use Rattle.rio_close.proofs.Numbers.{HasNumber, any_number, bytes_keep, number_keeps, number_within, standing}
+use Rattle.rio_close.proofs.{FirstTexts.{HasTexts, has_texts}, Numbers.{HasNumber, any_number, bytes_keep, number_keeps, number_within}}
 
 -- ---- the first link
 

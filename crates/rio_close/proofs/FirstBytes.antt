@@ -1,18 +1,13 @@
 -- The records of a file whose first record has other bytes stand for the same state.
 use Rattle.std.proofs.Common.{◌≡◌, ℕ, ◌∙◌, List, ◌∷◌, codes, true, ◌||◌, Option, sym, ap, subst}
-use Rattle.std.specs.List.{cons_option}
-use Rattle.std.specs.Str.{bytes_eq}
+use Rattle.std.specs.{List.{cons_option}, Str.{bytes_eq}}
 use Rattle.rio_key.specs.declared.head.KeyHead.{KeyHead}
 use Rattle.rio_chain.proofs.Keys.{spelled_one}
 use Rattle.rio_chain.specs.Segments.{IsFirst, IsRecord, Link, RecordAt}
 use Rattle.rio_machine.specs.State.{State}
-use Rattle.rio_state.specs.Contents.{tree_of}
-use Rattle.rio_state.specs.KeyedRecords.{KeyedRecord, info_key, is_internal, keyed_records, top_keys}
-use Rattle.rio_state.specs.Reads.{AreRecordsOf, StandsForState}
-use Rattle.rio_state.specs.OneMore.{keyed_bytes}
-use Rattle.rio_state.proofs.Insertion.{here}
-use Rattle.rio_state.proofs.MoreRecords.{keyed_link, own_key}
-use Rattle.rio_state.proofs.Stays.{info_same, not_info, not_top, tops_same}
+use Rattle.rio_state.specs.{Contents.{tree_of}, KeyedRecords.{KeyedRecord, info_key, is_internal, keyed_records, top_keys}}
+use Rattle.rio_state.specs.{Reads.{AreRecordsOf, StandsForState}, OneMore.{keyed_bytes}}
+use Rattle.rio_state.proofs.{Insertion.{here}, MoreRecords.{keyed_link, own_key}, Stays.{info_same, not_info, not_top, tops_same}}
 
 -- a whole record is the first of those that follow
 pub first_keyed : (place : ℕ) (bytes : List ℕ) (others : List Link) (w : IsRecord place bytes) → keyed_records (RecordAt place bytes ∷ others) ≡ keyed_bytes w.head bytes ∷ keyed_records others

@@ -1,13 +1,9 @@
 -- Where the texts of a first record end depends on the bytes up to there alone.
 use Rattle.std.proofs.Common.{◌≡◌, ℕ, ◌+◌, ◌-◌, Bool, false, cond, ltb, List, [], ◌++◌, length, drop, Result, Ok, Err, refl, sym, ap, subst, ◌∙◌, arith}
 use Rattle.std.proofs.lemmas.Bool.{le-ltb}
-use Rattle.rio_num.specs.At.{At, standing_at}
-use Rattle.rio_num.specs.Reading.{◌>>=◌, text_at}
-use Rattle.rio_num.specs.declared.cursor.Short.{Short}
-use Rattle.rio_num.proofs.ReadLaws.{bind_is, bind_ok, ok_is}
-use Rattle.rio_num.proofs.Front.{text_front, then_front}
+use Rattle.rio_num.specs.{At.{At, standing_at}, Reading.{◌>>=◌, text_at}, declared.cursor.Short.{Short}}
+use Rattle.rio_num.proofs.{ReadLaws.{bind_is, bind_ok, ok_is}, Front.{text_front, then_front}, Plain.{standing}}
 use Rattle.rio_chain.specs.Segments.{texts_end_at}
-use Rattle.rio_close.proofs.Numbers.{standing}
 
 abbrev Text : Type 0
 Text = List ℕ × At

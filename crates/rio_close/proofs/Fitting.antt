@@ -1,30 +1,22 @@
 -- The records of a close fit behind one another, and each fits its fields.
 use Rattle.std.proofs.Common.{◌≡◌, inl, ℕ, Bool, true, false, cond, ◌==◌, ◌+◌, ◌-◌, ◌*◌, ◌%◌, ◌^◌, ◌<◌, ◌≤◌, List, [], ◌∷◌, codes, length, length-append, Option, Some, None, refl, sym, ap, subst, ◌∙◌, arith}
-use Rattle.std.specs.List.{All, flat_map}
 use Rattle.std.proofs.lemmas.List.Elements.{All-cons, All-nil}
+use Rattle.std.specs.List.{All, flat_map}
 use Rattle.byteorder.specs.Endian.{big_bytes}
-use Rattle.rio_key.specs.Written.{written_key}
-use Rattle.rio_key.specs.declared.head.KeyHead.{KeyHead}
-use Rattle.rio_free.specs.Gaps.{best_place, gap_end, gap_of}
-use Rattle.rio_free.specs.Record.{free_bytes}
-use Rattle.rio_free.specs.declared.gap.Gap.{Gap as FreeGap}
+use Rattle.rio_key.specs.{Written.{padded_size, written_key}, declared.head.KeyHead.{KeyHead}}
+use Rattle.rio_free.specs.{Gaps.{best_place, gap_end, gap_of}, Record.{free_bytes}, declared.gap.Gap.{Gap as FreeGap}}
 use Rattle.rio_free.proofs.Written.{length-free}
 use Rattle.rio_dir.specs.Table.{heads_size, key_list_bytes}
 use Rattle.rio_dir.proofs.TableWritten.{length-flat}
 use Rattle.rio_chain.specs.Adjoining.{AreAdjacent, AreGapsApart, AreSegments, BeginsWithRecord, segments_end}
 use Rattle.rio_chain.specs.Placing.{FreeSpace, file_end, gaps_in, laid_at, place_of, record_count, rest_of_gap, space_of, with_segment}
-use Rattle.rio_chain.specs.declared.segment.Segment.{Segment}
-use Rattle.rio_chain.specs.declared.segment.Segment.TheVariants.{Record, Gap}
-use Rattle.rio_chain.proofs.Laying.{laid_put}
-use Rattle.rio_chain.proofs.Placed.{end-le, end_segments, gaps_end, low_place, place_free}
+use Rattle.rio_chain.specs.declared.segment.Segment.{Segment, TheVariants.{Record, Gap}}
+use Rattle.rio_chain.proofs.{Laying.{laid_put}, Placed.{end-le, end_segments, gaps_end, low_place, place_free}}
 use Rattle.rio_machine.specs.Limits.{head_length}
-use Rattle.rio_record.specs.Record.{FitsWords, key_size, padded_size, record_bytes}
-use Rattle.rio_record.specs.declared.words.KeyWords.{KeyWords}
+use Rattle.rio_record.specs.{Record.{FitsWords, key_size, record_bytes}, declared.words.KeyWords.{KeyWords}, declared.record.NewRecord.{NewRecord}}
 use Rattle.rio_record.proofs.Records.{are_new_records}
 use Rattle.rio_state.specs.Closing.{list_length, padded_length}
-use Rattle.rio_close.specs.Sizes.{close_size, headless}
-use Rattle.rio_record.specs.declared.record.NewRecord.{NewRecord}
-use Rattle.rio_close.specs.Written.{IsOwnRecord, own_words, record_size}
+use Rattle.rio_close.specs.{Sizes.{close_size, headless}, Written.{IsOwnRecord, own_words, record_size}}
 
 -- ---- lengths
 
@@ -119,7 +111,7 @@ own_as p q datime name contents others r same is own =
 
 -- ---- room for both
 
-count_with : (place n : ℕ) (segments : List Segment) → record_count (with_segment place n segments) ≡ record_count segments + 1
+pub count_with : (place n : ℕ) (segments : List Segment) → record_count (with_segment place n segments) ≡ record_count segments + 1
 count_with place n [] = refl
 count_with place n (Record p m ∷ segments) = omega (arith, count_with place n segments)
 count_with place n (Gap p m ∷ segments) = by (p == place) (count_with place n segments)

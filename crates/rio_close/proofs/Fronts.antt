@@ -1,17 +1,11 @@
 -- What is read of the front of a file's header, or of its directory record, is read of the file.
 use Rattle.std.proofs.Common.{◌≡◌, ℕ, ◌<◌, ◌≤◌, true, false, cond, ltb, List, length, take, drop, Result, Ok, Err, refl, sym, ap, ◌∙◌}
 use Rattle.std.proofs.lemmas.Bool.{le-ltb, lt-ltb}
-use Rattle.rio_num.specs.At.{At}
-use Rattle.rio_num.specs.Reading.{◌>>=◌}
-use Rattle.rio_num.specs.declared.cursor.Short.{Short}
-use Rattle.rio_head.specs.declared.head.FileHead.{FileHead}
-use Rattle.rio_head.specs.declared.dir.DirRecord.{DirRecord}
-use Rattle.rio_head.specs.declared.fault.FileFault.TheVariants.{NotClosed, BadDir}
-use Rattle.rio_head.specs.declared.fault.HeadFault.{HeadFault}
-use Rattle.rio_head.specs.Head.{fault_at, head_at}
-use Rattle.rio_head.specs.Dir.{dir_at}
-use Rattle.rio_head.proofs.HeadCut.{head_in_front}
-use Rattle.rio_head.proofs.DirCut.{dir_in_front_lem}
+use Rattle.rio_num.specs.{Reading.{◌>>=◌}, declared.cursor.Short.{Short}}
+use Rattle.rio_num.proofs.Plain.{standing}
+use Rattle.rio_head.specs.{declared.head.FileHead.{FileHead}, declared.dir.DirRecord.{DirRecord}, declared.fault.FileFault.TheVariants.{NotClosed, BadDir}}
+use Rattle.rio_head.specs.{declared.fault.HeadFault.{HeadFault}, Head.{fault_at, head_at}, Dir.{dir_at}}
+use Rattle.rio_head.proofs.{HeadCut.{head_in_front}, DirCut.{dir_in_front_lem}}
 use Rattle.rio_dir.specs.Closed.{closed_head, closed_dir, or_fault}
 
 abbrev Headed : Type 0
@@ -36,9 +30,6 @@ module _ (file front : List ℕ) (is : front ≡ take 100 file) where
   unfolding closed_head
   head_whole h read le = let within : ltb (length file) h.end ≡ false = le-ltb _ _ le in ap (tested file) (whole_head (Ok h) read) ∙ rw within refl
 
-abbrev in_front : ℕ → List ℕ → At
-in_front place front = record { place = place; rest = front }
-
 module _ (file : List ℕ) (place : ℕ) (front : List ℕ) (is : front ≡ take 60 (drop place file)) where
   pub dir_same : (read : Result DirRecord Short) → read ≡ dir_at (record { place = place; rest = front }) → closed_dir file place ≡ or_fault (fault_at place BadDir) read
-  dir_same read e = ap (or_fault (fault_at place BadDir)) (sym (dir_in_front_lem place (drop place file)) ∙ ap (λ (b : List ℕ). dir_at (in_front place b)) (sym is) ∙ sym e)
+  dir_same read e = ap (or_fault (fault_at place BadDir)) (sym (dir_in_front_lem place (drop place file)) ∙ ap (λ (b : List ℕ). dir_at (standing place b)) (sym is) ∙ sym e)

@@ -1,23 +1,18 @@
 -- What a stop leaves of an open file: an image that reads as before and is marked as open.
 use Rattle.std.proofs.Common.{◌≡◌, ◌⊎◌, inl, inr, ⊎_elim, ℕ, ◌+◌, ◌<◌, ◌≤◌, ◌==◌, ◌||◌, Bool, false, ltb, List, ◌∷◌, length, Some, sym, ap, subst, ◌∙◌, arith}
-use Rattle.std.specs.Prelude.{MatchBool}
-use Rattle.std.specs.List.{slice_get}
 use Rattle.std.proofs.lemmas.Bool.{le-ltb}
+use Rattle.std.specs.{Prelude.{MatchBool}, List.{slice_get}}
 use Rattle.byteorder.specs.Endian.{big_number}
 use Rattle.rio_head.specs.declared.head.FileHead.{FileHead}
 use Rattle.rio_key.specs.declared.head.KeyHead.{KeyHead}
 use Rattle.rio_dir.specs.Unborn.{is_unborn}
-use Rattle.rio_chain.specs.Segments.{HasWord, IsChain, Link, RecordAt, chain_end}
-use Rattle.rio_chain.specs.Stops.{KeepsFront}
+use Rattle.rio_chain.specs.{Segments.{HasWord, IsChain, Link, RecordAt, chain_end}, Stops.{KeepsFront}}
 use Rattle.rio_chain.proofs.Words.{word_one, word_within}
 use Rattle.rio_machine.specs.State.{State, empty_state}
-use Rattle.rio_state.specs.KeyedRecords.{KeyedRecord, keyed_records}
-use Rattle.rio_state.specs.Left.{HasOpenHead, IsLeftAs, open_end}
-use Rattle.rio_state.specs.Reads.{AreRecordsOf, ReadsAsMade, ReadsAsState}
+use Rattle.rio_state.specs.{KeyedRecords.{KeyedRecord, keyed_records}, Left.{HasOpenHead, IsLeftAs, open_end}, Reads.{AreRecordsOf, ReadsAsMade, ReadsAsState}}
 use Rattle.rio_state.specs.OneMore.{keyed_bytes}
 use Rattle.rio_close.specs.Fields.{IsOutsideFields, KeepsAllButFields}
-use Rattle.rio_close.proofs.FieldsChain.{first_link, other_fields}
-use Rattle.rio_close.proofs.FirstBytes.{first_internal, first_keyed, records_change}
+use Rattle.rio_close.proofs.{FieldsChain.{first_link, other_fields}, FirstBytes.{first_internal, first_keyed, records_change}}
 use Rattle.rio_close.proofs.Numbers.{HasNumber, any_number, number_keeps, word_of_number}
 use Rattle.rio_close.proofs.SmallHead.{IsFixed, SmallHead, head_changes, small_head, small_read}
 

@@ -1,22 +1,17 @@
 -- A key list that stands in a file is read.
-use Rattle.std.proofs.Common.{◌≡◌, ◌≢◌, inl, inr, append_assoc, ℕ, Bool, true, false, cond, ltb, ◌-◌, ◌^◌, ◌<◌, ◌≤◌, List, [], ◌∷◌, ◌++◌, length, length-append, length-take, length-drop, take, drop, Ok, refl, sym, ap, ◌∙◌, arith}
-use Rattle.std.proofs.lemmas.Bool.{ltb-false}
+use Rattle.std.proofs.Common.{◌≡◌, ◌≢◌, inl, inr, append_assoc, ℕ, ◌-◌, ◌^◌, ◌<◌, ◌≤◌, List, [], ◌∷◌, ◌++◌, length, length-append, length-take, length-drop, take, drop, Ok, refl, sym, ap, ◌∙◌, arith}
 use Rattle.std.proofs.lemmas.List.{take-append-drop}
 use Rattle.std.specs.Int.{w32, cast_unsigned}
-use Rattle.rio_num.specs.Text.{SpellsText, long_form, short_form, text_bytes}
-use Rattle.rio_num.specs.Plain.{IsSpelledIn}
-use Rattle.rio_key.specs.Key.{SpellsKey}
-use Rattle.rio_key.specs.Written.{FitsKey, HoldsItself, number_bytes}
-use Rattle.rio_key.specs.declared.head.KeyHead.{KeyHead}
+use Rattle.rio_num.specs.{Text.{SpellsText, text_bytes}, Plain.{IsSpelledIn}}
+use Rattle.rio_num.proofs.TextLengths.{shortest_text}
+use Rattle.rio_key.specs.{Key.{SpellsKey}, Written.{FitsKey, HoldsItself, number_bytes}, declared.head.KeyHead.{KeyHead}}
 use Rattle.rio_key.proofs.KeyParts.{parts_of_key}
 use Rattle.rio_host.specs.Image.{Has}
 use Rattle.rio_host.proofs.Images.{has_length}
 use Rattle.rio_chain.specs.Segments.{IsRecord}
 use Rattle.rio_chain.proofs.Words.{has_own, has_same}
-use Rattle.rio_dir.specs.Closed.{closed_keys}
-use Rattle.rio_dir.specs.Table.{AreWritable, key_list_bytes}
-use Rattle.rio_dir.proofs.ClosedLaws.{keys_again}
-use Rattle.rio_dir.proofs.TableLaws.{list_spelled}
+use Rattle.rio_dir.specs.{Closed.{closed_keys}, Table.{AreWritable, key_list_bytes}}
+use Rattle.rio_dir.proofs.{ClosedLaws.{keys_again}, TableLaws.{list_spelled}}
 use Rattle.rio_state.proofs.Members.{In}
 
 -- ---- bytes that a file has
@@ -31,15 +26,6 @@ parts_there file place bytes some has =
     sym (take-append-drop (length bytes) (drop place file)) ∙ ap (λ (l : List ℕ). l ++ drop (length bytes) (drop place file)) (taken_there file place bytes some has)
 
 -- ---- keys of whole records can be written
-
-short_text : (text bytes : List ℕ) → SpellsText text bytes → length (text_bytes text) ≤ length bytes
-short_text text bytes s = by (ltb (length text) 255) refl s
-  where
-    by : (b : Bool) → ltb (length text) 255 ≡ b → SpellsText text bytes → length (cond b (short_form text) (long_form text)) ≤ length bytes
-    by true e (inl x) = omega (arith, ap length x.1)
-    by true e (inr x) = omega (arith, ap length x.1)
-    by false e (inl x) = absurd (omega (arith, ltb-false _ _ e, x.0))
-    by false e (inr x) = omega (arith, ap length x.1)
 
 text_fits : (text bytes : List ℕ) → SpellsText text bytes → length text < 2 ^ 32
 text_fits text bytes (inl x) = omega (arith, x.0)
@@ -82,9 +68,9 @@ writable place bytes w =
           length-append s.name_bytes s.title_bytes,
           length-append (text_bytes h.class) (text_bytes h.name ++ text_bytes h.title),
           length-append (text_bytes h.name) (text_bytes h.title),
-          short_text h.class s.class_bytes s.class_spelled,
-          short_text h.name s.name_bytes s.name_spelled,
-          short_text h.title s.title_bytes s.title_spelled,
+          shortest_text h.class s.class_bytes s.class_spelled,
+          shortest_text h.name s.name_bytes s.name_spelled,
+          shortest_text h.title s.title_bytes s.title_spelled,
         );
       };
     }

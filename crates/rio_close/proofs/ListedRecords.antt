@@ -1,20 +1,16 @@
 -- The records that a key list names stand for the same state as all those of objects and trees.
 use Rattle.std.proofs.Common.{◌≡◌, ◌⊎◌, inl, inr, ⊎_elim, ℕ, ◌∙◌, List, [], ◌∷◌, map, Bool, true, false, not, ◌&&◌, ◌==◌, Option, Some, None, refl, sym, ap, subst}
-use Rattle.std.specs.Prelude.{is_some, option_and_then}
-use Rattle.std.specs.List.{find, list_all, list_any}
-use Rattle.std.specs.Str.{bytes_eq}
-use Rattle.std.proofs.lemmas.Bool.{and_from, and_parts}
-use Rattle.std.proofs.lemmas.Option.{same_Some}
+use Rattle.std.proofs.{lemmas.Bool.{and_from, and_parts}, lemmas.Option.{same_Some}}
+use Rattle.std.specs.{Prelude.{is_some, option_and_then}, List.{find, list_all, list_any}, Str.{bytes_eq}}
 use Rattle.rio_types.specs.declared.class.ClassDef.{ClassDef}
 use Rattle.rio_key.specs.declared.head.KeyHead.{KeyHead}
 use Rattle.rio_dir.specs.Table.{AreBehind, AreOrdered, comes_before}
 use Rattle.rio_dir.proofs.TableOrder.{before_itself}
 use Rattle.rio_machine.specs.State.{NameAndCycle, State}
-use Rattle.rio_state.specs.Contents.{object_in, state_classes, tree_of}
-use Rattle.rio_state.specs.DirectoryKeys.{AreKeysOf}
+use Rattle.rio_state.specs.{Contents.{object_in, state_classes, tree_of}, DirectoryKeys.{AreKeysOf}}
 use Rattle.rio_state.specs.KeyedRecords.{KeyedRecord, has_item, info_key, is_mixed_name, is_top_key, is_tree_key, is_tree_record, item_of_key, object_records, top_keys, tree_records}
 use Rattle.rio_state.specs.Reads.{AreRecordsOf, StandsForState, are_distinct, is_named_key}
-use Rattle.rio_state.proofs.KeyRecords.{ObjectOf, TreeOf, distinct_filter, distinct_found, item_is, key_record, own_item, record_key}
+use Rattle.rio_state.proofs.{KeyRecords.{ObjectOf, TreeOf, distinct_filter, distinct_found, item_is, key_record, record_key}, Collected.{own_item}}
 use Rattle.rio_state.proofs.Members.{In, all_at, filter_in, found, in_filter, map_in, none_from}
 
 -- ---- lists

@@ -1,24 +1,14 @@
 -- Numbers at places of a file, and that they are read there.
 use Rattle.std.proofs.Common.{◌≡◌, ℕ, suc, ◌+◌, ◌<◌, ◌≤◌, ◌^◌, Bool, true, false, cond, ltb, List, length, length-take, length-drop, take, drop, Ok, Err, Some, refl, sym, ap, subst, ◌∙◌, arith}
-use Rattle.std.proofs.lemmas.Bool.{ltb-false, le-ltb}
-use Rattle.std.proofs.lemmas.List.{drop-drop}
+use Rattle.std.proofs.{lemmas.Bool.{ltb-false, le-ltb}, lemmas.List.{drop-drop}, lemmas.Option.{slice_get_within}}
 use Rattle.std.specs.List.{slice_get}
-use Rattle.byteorder.specs.Endian.{big_bytes, big_number}
-use Rattle.byteorder.specs.Numbers.{big_from-take}
-use Rattle.rio_num.specs.At.{At}
-use Rattle.rio_num.specs.Reading.{bytes_at, number_at, short, skip}
-use Rattle.rio_num.specs.declared.cursor.Short.{Short}
-use Rattle.rio_num.proofs.ReadLaws.{ok_is}
-use Rattle.rio_host.specs.Image.{Has}
-use Rattle.rio_host.specs.ImageLaws.{slice_get-drop, slice_get-take}
+use Rattle.byteorder.specs.{Endian.{big_bytes, big_number}, Numbers.{big_from-take}}
+use Rattle.rio_num.specs.{At.{At}, Reading.{bytes_at, number_at, short, skip}, declared.cursor.Short.{Short}}
+use Rattle.rio_num.proofs.{ReadLaws.{ok_is}, Plain.{standing}}
+use Rattle.rio_host.specs.{Image.{Has}, ImageLaws.{slice_get-drop, slice_get-take}}
 use Rattle.rio_host.proofs.Images.{has_keeps, has_length}
-use Rattle.std.proofs.lemmas.Option.{slice_get_within}
 use Rattle.rio_chain.specs.Segments.{HasWord}
-use Rattle.rio_chain.proofs.Words.{has_own, has_same, word_of_bytes, word_within}
-use Rattle.rio_chain.proofs.Chains.{KeepsIn}
-
-abbrev pub standing : ℕ → List ℕ → At
-standing place rest = record { place = place; rest = rest }
+use Rattle.rio_chain.proofs.{Words.{has_own, has_same, word_of_bytes, word_within}, Chains.{KeepsIn}}
 
 -- the n bytes at a place give this number
 pub record HasNumber (n : ℕ) (file : List ℕ) (place w : ℕ) : Type 0 where

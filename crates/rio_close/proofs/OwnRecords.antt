@@ -1,33 +1,18 @@
 -- A key list or a free record in the chain of a file: its key, its data, and that the file reads as before.
-use Rattle.std.proofs.Common.{◌≡◌, ℕ, zero, suc, ◌^◌, ◌<◌, pos, List, ◌++◌, length, drop, replicate, true, Some, refl, sym, ap, subst, ◌∙◌, arith}
+use Rattle.std.proofs.Common.{◌≡◌, ℕ, List, ◌++◌, length, drop, replicate, true, Some, refl, sym, ap, subst, ◌∙◌}
 use Rattle.std.specs.Int.{w32, cast_unsigned}
-use Rattle.std.proofs.lemmas.Int.{ints}
-use Rattle.rio_num.specs.Plain.{IsSpelledIn}
-use Rattle.rio_key.specs.Key.{SpellsKey}
-use Rattle.rio_key.specs.declared.head.KeyHead.{KeyHead}
-use Rattle.rio_chain.specs.Changes.{with_record}
-use Rattle.rio_chain.specs.Segments.{IsRecord, Link, RecordAt}
+use Rattle.rio_num.specs.{Plain.{IsSpelledIn}, Room.{is_padding}}
+use Rattle.rio_num.proofs.Puts.{zeros_pad}
+use Rattle.rio_key.specs.{Key.{SpellsKey}, declared.head.KeyHead.{KeyHead}}
+use Rattle.rio_key.proofs.KeyRecord.{unsigned_is}
+use Rattle.rio_chain.specs.{Changes.{with_record}, Segments.{IsRecord, Link, RecordAt}}
 use Rattle.rio_machine.specs.State.{State}
-use Rattle.rio_record.specs.Laws.{IsNewRecord}
-use Rattle.rio_record.specs.Record.{FitsWords, key_size, new_key, record_bytes}
-use Rattle.rio_record.specs.declared.words.KeyWords.{KeyWords}
+use Rattle.rio_record.specs.{Laws.{IsNewRecord}, Record.{FitsWords, key_size, new_key, record_bytes}, declared.words.KeyWords.{KeyWords}}
 use Rattle.rio_record.proofs.Records.{are_new_records}
-use Rattle.rio_state.specs.Contents.{is_padding}
-use Rattle.rio_state.specs.DirectoryKeys.{AreKeysOf}
-use Rattle.rio_state.specs.KeyedRecords.{KeyedRecord, info_key, is_internal, keyed_records, record_in_link}
-use Rattle.rio_state.specs.Reads.{AreRecordsOf}
-use Rattle.rio_state.specs.OneMore.{KeyIsRead, keyed_bytes}
-use Rattle.rio_state.specs.OneMore.{HasOneMoreIn}
-use Rattle.rio_state.proofs.MoreRecords.{keyed_link, record_more}
-use Rattle.rio_state.proofs.Stays.{info_same, internal_stays, keys_stay, not_info}
+use Rattle.rio_state.specs.{DirectoryKeys.{AreKeysOf}, KeyedRecords.{KeyedRecord, info_key, is_internal, keyed_records, record_in_link}}
+use Rattle.rio_state.specs.{Reads.{AreRecordsOf}, OneMore.{KeyIsRead, keyed_bytes, HasOneMoreIn}}
+use Rattle.rio_state.proofs.{MoreRecords.{keyed_link, record_more}, Stays.{info_same, internal_stays, keys_stay, not_info}}
 use Rattle.rio_close.specs.Written.{own_words}
-
-zeros_pad : (n : ℕ) → n < 4 → is_padding (replicate n 0) ≡ true
-zeros_pad zero lt = refl
-zeros_pad (suc zero) lt = refl
-zeros_pad (suc (suc zero)) lt = refl
-zeros_pad (suc (suc (suc zero))) lt = refl
-zeros_pad (suc (suc (suc (suc n)))) lt = absurd (omega arith)
 
 module _ (place datime : ℕ) (name contents bytes : List ℕ) (fits : FitsWords (own_words place datime name) (length contents)) (is : bytes ≡ record_bytes (own_words place datime name) contents) where
   abbrev words : KeyWords
@@ -59,9 +44,6 @@ module _ (place datime : ℕ) (name contents bytes : List ℕ) (fits : FitsWords
   own_nbytes =
       let size = new.size in
       unsigned_is _ fits.whole ∙ sym (ap length is ∙ size)
-    where
-      unsigned_is : (n : ℕ) → n < 2 ^ 31 → cast_unsigned w32 (pos n) ≡ n
-      unsigned_is n lt = grind (arith, ints)
 
   -- the data, and zero bytes
   pub own_zeros : List ℕ

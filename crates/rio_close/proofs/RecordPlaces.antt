@@ -2,12 +2,9 @@
 use Rattle.std.proofs.Common.{◌≡◌, ◌⊎◌, inl, inr, ℕ, ◌+◌, ◌-◌, ◌≤◌, ◌==◌, List, [], ◌∷◌, length, Bool, true, false, cond, Option, Some, None, refl, sym, ap, subst, ◌∙◌, arith}
 use Rattle.std.specs.List.{cons_option}
 use Rattle.rio_host.specs.Image.{Has}
-use Rattle.rio_chain.specs.Changes.{with_record, with_rest}
-use Rattle.rio_chain.specs.Segments.{GapAt, HoldsLinks, IsRecord, Link, RecordAt}
-use Rattle.rio_state.specs.KeyedRecords.{KeyedRecord, keyed_records, record_in_link}
-use Rattle.rio_state.specs.OneMore.{keyed_bytes}
-use Rattle.rio_state.proofs.Members.{In}
-use Rattle.rio_state.proofs.MoreRecords.{keyed_link, own_key}
+use Rattle.rio_chain.specs.{Changes.{with_record, with_rest}, Segments.{GapAt, HoldsLinks, IsRecord, Link, RecordAt}}
+use Rattle.rio_state.specs.{KeyedRecords.{KeyedRecord, keyed_records, record_in_link}, OneMore.{keyed_bytes}}
+use Rattle.rio_state.proofs.{Members.{In}, MoreRecords.{keyed_link, own_key}}
 
 -- ---- what a record put leaves
 

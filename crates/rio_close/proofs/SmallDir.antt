@@ -1,15 +1,9 @@
 -- A directory record of the small form is read from its numbers.
 use Rattle.std.proofs.Common.{◌≡◌, ℕ, ◌+◌, ◌≤◌, false, List, length, take, drop, Result, Ok, refl, ap, ◌∙◌, arith}
-use Rattle.rio_num.specs.At.{At}
-use Rattle.rio_num.specs.Meanings.{Reading}
-use Rattle.rio_num.specs.Plain.{plain, value_of}
-use Rattle.rio_num.specs.Reading.{number_at, skip}
-use Rattle.rio_num.specs.declared.cursor.Short.{Short}
-use Rattle.rio_num.proofs.InOrder.{Reads, reads_bytes, reads_done, reads_number}
-use Rattle.rio_head.specs.Dir.{dir_at, dir_layout}
-use Rattle.rio_head.specs.Form.{is_large_dir, place_len}
-use Rattle.rio_head.specs.declared.dir.DirRecord.{DirRecord}
-use Rattle.rio_close.proofs.Numbers.{HasNumber, bytes_read, number_read, standing}
+use Rattle.rio_num.specs.{At.{At}, Meanings.{Reading}, Plain.{plain, value_of}, Reading.{number_at, skip}, declared.cursor.Short.{Short}}
+use Rattle.rio_num.proofs.{InOrder.{Reads, reads_bytes, reads_done, reads_number}, Plain.{standing}}
+use Rattle.rio_head.specs.{Dir.{dir_at, dir_layout}, Form.{is_large_dir, place_len}, declared.dir.DirRecord.{DirRecord}}
+use Rattle.rio_close.proofs.Numbers.{HasNumber, bytes_read, number_read}
 
 -- the record's numbers in the file
 pub record SmallDir (b : List ℕ) (p : ℕ) (d : DirRecord) : Type 0 where

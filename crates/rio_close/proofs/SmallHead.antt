@@ -1,21 +1,13 @@
 -- A header of the small form is read from its numbers, and they are there where it is read.
 use Rattle.std.proofs.Common.{◌≡◌, ◌⊎◌, inl, inr, ◌==◌, ℕ, suc, ◌+◌, ◌<◌, ◌≤◌, false, List, length, take, drop, Result, Ok, Err, Some, refl, sym, ap, subst, ◌∙◌, arith}
-use Rattle.std.specs.List.{slice_get}
 use Rattle.std.proofs.lemmas.Bool.{eq-eqb, eqb-true}
-use Rattle.rio_num.specs.At.{At}
-use Rattle.rio_num.specs.Layout.{bytes, number}
-use Rattle.rio_num.specs.Meanings.{Reading, Standing, of_bytes, read}
-use Rattle.rio_num.specs.Plain.{plain, value_of}
-use Rattle.rio_num.specs.Reading.{bytes_at, number_at, skip}
-use Rattle.rio_num.specs.declared.cursor.Short.{Short}
-use Rattle.rio_num.proofs.Plain.{value_ok}
-use Rattle.rio_num.proofs.ReadLaws.{ok_is}
-use Rattle.rio_num.proofs.InOrder.{Reads, kept_of, next_of, reads_bytes, reads_done, reads_kept, reads_number}
-use Rattle.rio_head.specs.Form.{is_large_head, place_len}
-use Rattle.rio_head.specs.Head.{behind_layout, head_at, header_layout, root_number, short_head}
-use Rattle.rio_head.specs.declared.head.FileHead.{FileHead}
-use Rattle.rio_head.specs.declared.fault.HeadFault.{HeadFault}
-use Rattle.rio_close.proofs.Numbers.{HasNumber, bytes_keep, bytes_read, number_keeps, number_read, number_was_read, standing, within_keeps}
+use Rattle.std.specs.List.{slice_get}
+use Rattle.rio_num.specs.{At.{At}, Layout.{bytes, number}, Meanings.{Reading, Standing, of_bytes, read}, Plain.{plain, value_of}}
+use Rattle.rio_num.specs.{Reading.{bytes_at, number_at, skip}, declared.cursor.Short.{Short}}
+use Rattle.rio_num.proofs.{Plain.{standing, value_ok}, ReadLaws.{ok_is}, InOrder.{Reads, kept_of, next_of, reads_bytes, reads_done, reads_kept, reads_number}}
+use Rattle.rio_head.specs.{Form.{is_large_head, place_len}, Head.{behind_layout, head_at, header_layout, root_number, short_head}}
+use Rattle.rio_head.specs.{declared.head.FileHead.{FileHead}, declared.fault.HeadFault.{HeadFault}}
+use Rattle.rio_close.proofs.Numbers.{HasNumber, bytes_keep, bytes_read, number_keeps, number_read, number_was_read, within_keeps}
 use Rattle.rio_chain.proofs.Chains.{KeepsIn}
 
 -- the header's numbers in the file

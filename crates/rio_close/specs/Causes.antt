@@ -1,10 +1,8 @@
 -- Why a call over a host fails. A count of faults rises where a call of the host failed, and only there.
 use Rattle.std.specs.Prelude.{◌≡◌, Result, Ok, Err}
-use Rattle.rio_head.specs.declared.fault.FileFault.{FileFault}
-use Rattle.rio_head.specs.declared.fault.FileFault.TheVariants.{NotRoot, Short, BadBegin, BadUnits, NotClosed, BadDir, BadKeyList, Compressed, BadInfo}
+use Rattle.rio_head.specs.declared.fault.FileFault.{FileFault, TheVariants.{NotRoot, Short, BadBegin, BadUnits, NotClosed, BadDir, BadKeyList, Compressed, BadInfo}}
 use Rattle.rio_host.specs.Host.{View, Rose}
-use Rattle.rio_close.specs.declared.fault.ReportFault.{ReportFault}
-use Rattle.rio_close.specs.declared.fault.ReportFault.TheVariants.{BadFile, NoMemory, HostFault, SayFault}
+use Rattle.rio_close.specs.declared.fault.ReportFault.{ReportFault, TheVariants.{BadFile, NoMemory, HostFault, SayFault}}
 
 -- no call on the file failed
 abbrev pub NoDiskFault : View → View → Type 0

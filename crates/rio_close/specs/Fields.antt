@@ -1,8 +1,7 @@
 -- The last writes of a close: fields of the header and of the directory record, and then the word that says END.
 use Rattle.std.specs.Prelude.{◌≡◌, ◌⊎◌, ℕ, ◌+◌, ◌<◌, ◌≤◌, List, Some, slice_get}
 use Rattle.byteorder.specs.Endian.{big_bytes}
-use Rattle.rio_host.specs.Host.{View}
-use Rattle.rio_host.specs.Image.{Has, Put}
+use Rattle.rio_host.specs.{Host.{View}, Image.{Has, Put}}
 use Rattle.rio_chain.specs.Stops.{IsSaidText}
 
 -- a place outside the fields: 12 bytes at 16, 8 bytes at 37, and 24 bytes of the directory record from its place on

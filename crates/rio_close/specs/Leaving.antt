@@ -1,21 +1,13 @@
 -- What a close makes of a file, and what a stop leaves of it meanwhile.
 use Rattle.std.specs.Prelude.{◌≡◌, ◌⊎◌, ◌<◌, ◌≤◌, ℕ, ◌+◌, List, ◌∷◌, length, Some, slice_get}
 use Rattle.byteorder.specs.Endian.{big_bytes}
-use Rattle.rio_host.specs.Host.{View}
-use Rattle.rio_host.specs.Image.{Has}
-use Rattle.rio_chain.specs.Chains.{HasChain}
-use Rattle.rio_chain.specs.Changes.{with_record}
-use Rattle.rio_chain.specs.Placing.{file_end}
-use Rattle.rio_chain.specs.Segments.{Link, RecordAt}
-use Rattle.rio_chain.specs.Stops.{IsSaidText}
+use Rattle.rio_host.specs.{Host.{View}, Image.{Has}}
+use Rattle.rio_chain.specs.{Chains.{HasChain}, Changes.{with_record}, Placing.{file_end}, Segments.{Link, RecordAt}, Stops.{IsSaidText}}
 use Rattle.rio_chain.specs.declared.segment.Segment.{Segment}
 use Rattle.rio_machine.specs.State.{State}
-use Rattle.rio_state.specs.DirectoryKeys.{AreKeysOf}
-use Rattle.rio_state.specs.KeyedRecords.{first_place, info_key, keyed_records}
-use Rattle.rio_state.specs.Left.{HasOpenHead, IsLeftAs, info_head}
+use Rattle.rio_state.specs.{DirectoryKeys.{AreKeysOf}, KeyedRecords.{first_place, info_key, keyed_records}, Left.{HasOpenHead, IsLeftAs, info_head}}
 use Rattle.rio_state.specs.Reads.{AreRecordsOf, ReadsAsState, ReadsClosed}
-use Rattle.rio_close.specs.Written.{AreCloseRecords, OpenFile, free_place, list_place, record_size, with_both}
-use Rattle.rio_close.specs.declared.parts.CloseRecords.{CloseRecords}
+use Rattle.rio_close.specs.{Written.{AreCloseRecords, OpenFile, free_place, list_place, record_size, with_both}, declared.parts.CloseRecords.{CloseRecords}}
 
 -- The host holds an open file that reads as the state by the walk, and this is kept beside it.
 pub record HoldsOpen (v : View) (f : OpenFile) (m : State) : Type 0 where

@@ -1,17 +1,12 @@
 -- What a call that reads a file answers, of the file that its host tells.
 use Rattle.std.specs.Prelude.{◌≡◌, ◌⊎◌, ℕ, ◌+◌, ◌<◌, ◌≤◌, ◌^◌, List, length, take, drop, Option, Some, None, Result, Ok, Err}
 use Rattle.byteorder.specs.Endian.{big_number}
-use Rattle.rio_num.specs.Reading.{◌>>=◌}
-use Rattle.rio_num.specs.At.{At}
-use Rattle.rio_key.specs.declared.head.KeyHead.{KeyHead}
-use Rattle.rio_key.specs.Key.{key_at}
-use Rattle.rio_head.specs.declared.fault.FileFault.TheVariants.{BadKeyList}
-use Rattle.rio_head.specs.declared.fault.HeadFault.{HeadFault}
-use Rattle.rio_head.specs.Head.{fault_at}
+use Rattle.rio_num.specs.{Reading.{◌>>=◌}, At.{At}}
+use Rattle.rio_key.specs.{declared.head.KeyHead.{KeyHead}, Key.{key_at}}
+use Rattle.rio_head.specs.{declared.fault.FileFault.TheVariants.{BadKeyList}, declared.fault.HeadFault.{HeadFault}, Head.{fault_at}}
 use Rattle.rio_dir.specs.Closed.{heads_of, or_fault}
 use Rattle.rio_host.specs.Host.{View}
-use Rattle.rio_close.specs.declared.fault.ReportFault.{ReportFault}
-use Rattle.rio_close.specs.declared.fault.ReportFault.TheVariants.{BadFile, NoMemory, HostFault, SayFault}
+use Rattle.rio_close.specs.declared.fault.ReportFault.{ReportFault, TheVariants.{BadFile, NoMemory, HostFault, SayFault}}
 
 -- the answer is what the bytes give, unless memory ran out or the host failed
 abbrev pub Opens : {X : Type 0} → Result X ReportFault → Result X HeadFault → Type 0

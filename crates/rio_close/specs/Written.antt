@@ -1,18 +1,12 @@
 -- What a close writes: the key list, the free record, and fields of the header and of the directory record.
-use Rattle.std.specs.Prelude.{◌≡◌, ℕ, ◌+◌, ◌≤◌, List, [], ◌++◌, length, codes, Option, Some, None}
-use Rattle.std.specs.Int.{w32, cast_unsigned}
+use Rattle.std.specs.{Prelude.{◌≡◌, ℕ, ◌+◌, ◌≤◌, List, [], ◌++◌, length, codes, Option, Some, None}, Int.{w32, cast_unsigned}}
 use Rattle.byteorder.specs.Endian.{big_bytes}
 use Rattle.rio_key.specs.declared.head.KeyHead.{KeyHead}
 use Rattle.rio_free.specs.Record.{free_bytes}
 use Rattle.rio_dir.specs.Table.{key_list_bytes}
-use Rattle.rio_chain.specs.Adjoining.{AreSegments}
-use Rattle.rio_chain.specs.Placing.{file_end, gaps_in, place_of, with_segment}
-use Rattle.rio_chain.specs.declared.segment.Segment.{Segment}
-use Rattle.rio_record.specs.Record.{FitsWords, new_key, record_bytes}
-use Rattle.rio_record.specs.declared.record.NewRecord.{NewRecord}
-use Rattle.rio_record.specs.declared.words.KeyWords.{KeyWords}
-use Rattle.rio_state.specs.Closing.{end_limit}
-use Rattle.rio_state.specs.KeyedRecords.{first_place}
+use Rattle.rio_chain.specs.{Adjoining.{AreSegments}, Placing.{file_end, gaps_in, place_of, with_segment}, declared.segment.Segment.{Segment}}
+use Rattle.rio_record.specs.{Record.{FitsWords, new_key, record_bytes}, declared.record.NewRecord.{NewRecord}, declared.words.KeyWords.{KeyWords}}
+use Rattle.rio_state.specs.{Closing.{end_limit}, KeyedRecords.{first_place}}
 use Rattle.rio_close.specs.declared.parts.CloseRecords.{CloseRecords}
 
 -- What is kept beside a file that is open, as far as its close writes of it, and the time of the close.

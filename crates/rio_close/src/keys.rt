@@ -1,5 +1,5 @@
 //! The heads of a key list.
-ghost use Rattle.std.specs.Prelude.{◌≡◌, ◌+◌, ◌<◌, ◌^◌, length, drop};
+ghost use Rattle.std.specs.Prelude.{◌≡◌, ◌+◌, ◌<◌, ◌^◌, length};
 ghost use Rattle.rio_host.specs.Host.{IsLength};
 ghost use Rattle.rio_host.specs.OnlyReads.{OnlyReads};
 ghost use Rattle.rio_dir.specs.Closed.{closed_keys, listed_at};
@@ -7,7 +7,7 @@ ghost use Rattle.rio_close.specs.Causes.{IsHostCause, IsOwnCause};
 ghost use Rattle.rio_close.specs.Opens.{Opens, OpensTold, listed_in};
 
 use crate::ReportFault;
-use crate::record::{data_of, read_record};
+use crate::record::read_record;
 use rio_dir::{Heads, read_heads};
 use rio_head::FileFault;
 use rio_host::Host;
@@ -38,7 +38,7 @@ fn read_listed(alloc: Global, bytes: &[u8], place: u64) -> Result<Heads, ReportF
     if usize::from(key.keylen) > bytes.len() {
         return Err(bad_list(place));
     }
-    match read_heads(alloc, data_of(&key, bytes), place + u64::from(key.keylen)) {
+    match read_heads(alloc, key.data_of(bytes), place + u64::from(key.keylen)) {
         Ok(heads) => Ok(heads),
         Err(fault) => match fault.fault {
             KeyFault::NoMemory => Err(ReportFault::NoMemory),

@@ -27,6 +27,6 @@ pub use length::close_length;
 pub use making::close_records;
 pub use open::{open_closed, read_closed};
 pub use parts::CloseRecords;
-pub use record::{data_of, read_record, read_up_to};
+pub use record::{read_record, read_up_to};
 pub use rio_dir::Closed;
 pub use writing::write_close;

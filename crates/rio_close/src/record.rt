@@ -9,7 +9,6 @@ ghost use Rattle.rio_close.specs.Opens.{IsRecordAt};
 use crate::ReportFault;
 use crate::range::{read_front, read_range};
 use rio_host::Host;
-use rio_key::KeyHead;
 use rio_num::Cursor;
 use std::alloc::Global;
 
@@ -74,18 +73,5 @@ pub fn read_record<H: Host>(
     match record_length(&word[..n]) {
         None => Ok(None),
         Some(nbytes) => Ok(Some(read_up_to(alloc, host, file_length, place, nbytes)?)),
-    }
-}
-
-/// The data of a record, where these are its bytes and this is its key: they begin at KeyLen. There are
-/// none where the bytes end before.
-pub fn data_of<'a>(key: &KeyHead, bytes: &'a [u8]) -> &'a [u8]
-    ensures { result.now ≡ drop key.now.keylen bytes.now }
-{
-    let keylen = usize::from(key.keylen);
-    if keylen < bytes.len() {
-        &bytes[keylen..]
-    } else {
-        &[]
     }
 }

@@ -1,9 +1,8 @@
 //! A close is written.
-ghost use Rattle.std.specs.Prelude.{◌≡◌, ◌+◌, ◌-◌, ◌<◌, ◌≤◌, ◌^◌, ℕ, List, Some, false, length, IsErr, IsOk, OnOk};
-ghost use Rattle.rio_host.specs.Host.{Becomes, Elapses, IsQuiet, IsWithin, Rose};
+ghost use Rattle.std.specs.Prelude.{◌≡◌, ◌+◌, ◌-◌, ◌<◌, ◌≤◌, ◌^◌, ℕ, List, Some, false, length, OnOk};
+ghost use Rattle.rio_host.specs.Host.{Elapses, IsDiskCause, IsQuiet, IsWithin, OnlyWrites};
 ghost use Rattle.rio_chain.specs.Chains.{HoldsChain};
 ghost use Rattle.rio_chain.specs.Placing.{file_end};
-ghost use Rattle.rio_chain.specs.Stops.{Any};
 ghost use Rattle.rio_chain.specs.Walks.{Told};
 ghost use Rattle.rio_machine.specs.State.{State};
 ghost use Rattle.rio_close.specs.Fields.{FieldsThenEnd, IsFieldsOrNot, IsFieldsThenEnd, WritesFields};
@@ -36,13 +35,8 @@ fn write_fields<H: Host>(
         → (new : List ℕ) × ((H.view host.new).holds ≡ Some new)
         × WritesFields free.now info.now place directory.now file new) }
     ensures quiet { OnOk result (IsQuiet (H.view host.new)) }
-    ensures told { Becomes Any (H.view host.old).holds (H.view host.new).holds }
-    ensures said { (H.view host.new).said ≡ (H.view host.old).said }
-    ensures reads { (H.view host.new).reads ≡ (H.view host.old).reads }
-    ensures say_faults { (H.view host.new).say_faults ≡ (H.view host.old).say_faults }
-    ensures counted { IsOk result → (H.view host.new).disk_faults ≡ (H.view host.old).disk_faults }
-    ensures cause { IsErr result
-        → Rose (H.view host.old).disk_faults (H.view host.new).disk_faults }
+    ensures writes { OnlyWrites (H.view host.old) (H.view host.new) }
+    ensures cause { IsDiskCause (H.view host.old) (H.view host.new) result }
 {
     host.write(16, free)?;
     host.write(37, info)?;
@@ -73,13 +67,8 @@ fn finish<H: Host>(
         → (new : List ℕ) × ((H.view host.new).holds ≡ Some new)
         × FieldsThenEnd free.now info.now place directory.now end file new) }
     ensures quiet { OnOk result (IsQuiet (H.view host.new)) }
-    ensures told { Becomes Any (H.view host.old).holds (H.view host.new).holds }
-    ensures said { (H.view host.new).said ≡ (H.view host.old).said }
-    ensures reads { (H.view host.new).reads ≡ (H.view host.old).reads }
-    ensures say_faults { (H.view host.new).say_faults ≡ (H.view host.old).say_faults }
-    ensures counted { IsOk result → (H.view host.new).disk_faults ≡ (H.view host.old).disk_faults }
-    ensures cause { IsErr result
-        → Rose (H.view host.old).disk_faults (H.view host.new).disk_faults }
+    ensures writes { OnlyWrites (H.view host.old) (H.view host.new) }
+    ensures cause { IsDiskCause (H.view host.old) (H.view host.new) result }
 {
     write_fields(host, free, info, place, directory)?;
     host.write_word(12, end)?;
@@ -113,13 +102,8 @@ fn put_and_finish<H: Host>(
       segments = with_records records.old chain.old.segments;
       spare = chain.old.spare - 2;
     }) }
-    ensures told { Becomes Any (H.view host.old).holds (H.view host.new).holds }
-    ensures said { (H.view host.new).said ≡ (H.view host.old).said }
-    ensures reads { (H.view host.new).reads ≡ (H.view host.old).reads }
-    ensures say_faults { (H.view host.new).say_faults ≡ (H.view host.old).say_faults }
-    ensures counted { IsOk result → (H.view host.new).disk_faults ≡ (H.view host.old).disk_faults }
-    ensures cause { IsErr result
-        → Rose (H.view host.old).disk_faults (H.view host.new).disk_faults }
+    ensures writes { OnlyWrites (H.view host.old) (H.view host.new) }
+    ensures cause { IsDiskCause (H.view host.old) (H.view host.new) result }
 {
     chain.put_record(host, records.list.head.seek, &mut records.list.bytes)?;
     chain.put_record(host, records.free.head.seek, &mut records.free.bytes)?;
@@ -170,13 +154,8 @@ pub fn write_close<H: Host>(
       segments = with_records records chain.old.segments;
       spare = chain.old.spare - 2;
     }) }
-    ensures told { Becomes Any (H.view host.old).holds (H.view host.new).holds }
-    ensures said { (H.view host.new).said ≡ (H.view host.old).said }
-    ensures reads { (H.view host.new).reads ≡ (H.view host.old).reads }
-    ensures say_faults { (H.view host.new).say_faults ≡ (H.view host.old).say_faults }
-    ensures counted { IsOk result → (H.view host.new).disk_faults ≡ (H.view host.old).disk_faults }
-    ensures cause { IsErr result
-        → Rose (H.view host.old).disk_faults (H.view host.new).disk_faults }
+    ensures writes { OnlyWrites (H.view host.old) (H.view host.new) }
+    ensures cause { IsDiskCause (H.view host.old) (H.view host.new) result }
 {
     put_and_finish(host, chain, &mut records)
 }

@@ -1,29 +1,16 @@
 -- What is built agrees with the whole language.
 use Rattle.std.proofs.Common.{◌≡◌, ℕ, zero, suc, ◌+◌, List, [], ◌∷◌, length, Bool, true, false, Option, Some, None, Ok, Err, refl, sym, ◌∙◌, ap, codes}
-use Rattle.std.specs.List.{list_all}
-use Rattle.std.specs.Option.{option_map_or}
-use Rattle.std.specs.Prelude.{if◌then◌else◌, pos, slice_get, ℤ}
-use Rattle.std.specs.Str.{bytes_eq}
-use Rattle.std.specs.Str.Lines.{lines}
-use Rattle.std.proofs.lemmas.Slice.Eq.{bytes_eq-Decides}
-use Rattle.std.proofs.lemmas.Bool.{and_from, and_parts}
-use Rattle.rio_num.specs.At.{At}
-use Rattle.rio_num.specs.Reading.{◌>>=◌}
-use Rattle.rio_token.specs.declared.fault.TextFault.TheVariants.{BadText, NoMemory}
-use Rattle.rio_token.specs.declared.token.Token.{Token}
-use Rattle.rio_token.specs.declared.token.Token.TheVariants.{Word}
-use Rattle.rio_token.specs.Marks.{semicolon}
+use Rattle.std.proofs.{lemmas.Slice.Eq.{bytes_eq-Decides}, lemmas.Bool.{and_from, and_parts}}
+use Rattle.std.specs.{List.{list_all}, Option.{option_map_or}, Prelude.{if◌then◌else◌, pos, slice_get, ℤ}, Str.{bytes_eq, Lines.{lines}}}
+use Rattle.rio_num.specs.{At.{At}, Reading.{◌>>=◌}}
+use Rattle.rio_token.specs.{declared.fault.TextFault.TheVariants.{BadText, NoMemory}, declared.token.Token.{Token, TheVariants.{Word}}, Marks.{semicolon}}
 use Rattle.rio_token.specs.Reading.{Read, bad_at, end_at, is_end, is_word, item_at, mark_at, next_word, num_at, some_if, taken_at, version_at}
 use Rattle.rio_token.specs.Tokens.{behind, next_at, standing_in}
-use Rattle.rio_model.specs.ClassGrammar.{class_at}
-use Rattle.rio_model.specs.ValueGrammar.{bracket_limit, enclosed_at, row_at, value_in_text}
-use Rattle.rio_machine.specs.declared.command.Command.{Command}
-use Rattle.rio_machine.specs.declared.command.Command.TheVariants.{Bad, Class, Put, Delete, Tree as MakeTree, Fill, Save, Get, Scan, Ls}
-use Rattle.rio_step.proofs.GivenLaws.{Given, one_given, then_any, then_given}
-use Rattle.rio_step.proofs.ScriptLaws.{scripts_are_statable}
+use Rattle.rio_model.specs.{ClassGrammar.{class_at}, ValueGrammar.{bracket_limit, enclosed_at, row_at, value_in_text}}
+use Rattle.rio_machine.specs.declared.command.Command.{Command, TheVariants.{Bad, Class, Put, Delete, Tree as MakeTree, Fill, Save, Get, Scan, Ls}}
+use Rattle.rio_step.proofs.{GivenLaws.{Given, one_given, then_any, then_given}, ScriptLaws.{scripts_are_statable}}
 use Rattle.rio_step.specs.Script.{asked_class_at, asked_version_at, class_command_at, command_at, comes_next, commands_from, cycle_at, delete_command_at, ended_at, fill_command_at, get_command_at, is_command_line, line_command, or_bad_line, put_command_at, save_command_at, scan_command_at, tree_command_at}
-use Rattle.rio_step.specs.Statable.{is_statable}
-use Rattle.rio_step.specs.TreeGrammar.{branches_at}
+use Rattle.rio_step.specs.{Statable.{is_statable}, TreeGrammar.{branches_at}}
 use Rattle.rio_cmd.specs.Built.{built_command_at, built_from, built_get_at, built_line}
 use Rattle.rio_cmd.specs.Laws.{BuiltCommandsAreInTheLanguage, BuiltScriptsAreBuilt, BuiltScriptsAreStatable, BuiltScriptsHaveAllLines, CommandsOfBuiltVerbsAreRead, has_built_verb, is_bad_line, is_built}
 

@@ -1,11 +1,7 @@
 -- The lines of a text, from its first one on.
 use Rattle.std.proofs.Common.{◌≡◌, ℕ, ◌+◌, ◌-◌, ◌<◌, List, [], ◌∷◌, ◌++◌, length, take, drop, Bool, true, false, cond, Some, None, refl, sym, ◌∙◌, ap, append_assoc, arith, length-drop}
-use Rattle.std.proofs.Math.Seq.{take-length}
-use Rattle.std.proofs.lemmas.Bool.Decides.{nat_tests}
-use Rattle.std.proofs.lemmas.List.{append-nil}
-use Rattle.std.proofs.lemmas.List.Splits.{slice_split_first}
-use Rattle.std.specs.List.{onto_first, position_or_len, slice_split}
-use Rattle.std.specs.Prelude.{◌==◌, if◌then◌else◌, nat_lt, not, position}
+use Rattle.std.proofs.{Math.Seq.{take-length}, lemmas.Bool.Decides.{nat_tests}, lemmas.List.{append-nil, Splits.{slice_split_first}}}
+use Rattle.std.specs.{List.{onto_first, position_or_len, slice_split}, Prelude.{◌==◌, if◌then◌else◌, nat_lt, not, position}}
 use Rattle.std.specs.Str.Lines.{lines, lines_of_parts, strip_carriage_return}
 use Rattle.rio_machine.specs.declared.command.Command.{Command}
 use Rattle.rio_step.specs.Script.{is_command_line}

@@ -2,14 +2,10 @@
 -- an `as` behind `get`. All else is that of the whole language, which stands in rio_step/specs/Script.antt.
 --
 -- These definitions go out when all verbs are built: `script_of` then takes the place of `built_script`.
-use Rattle.std.specs.Prelude.{ℕ, ◌+◌, List, [], ◌∷◌, codes, None, Ok, if◌then◌else◌}
-use Rattle.std.specs.Str.Lines.{lines}
-use Rattle.rio_num.specs.At.{At}
-use Rattle.rio_num.specs.Reading.{◌>>=◌}
-use Rattle.rio_token.specs.Reading.{Read, bad_at, item_at}
-use Rattle.rio_token.specs.Tokens.{behind, standing_in}
-use Rattle.rio_machine.specs.declared.command.Command.{Command}
-use Rattle.rio_machine.specs.declared.command.Command.TheVariants.{Get, Ls}
+use Rattle.std.specs.{Prelude.{ℕ, ◌+◌, List, [], ◌∷◌, codes, None, Ok, if◌then◌else◌}, Str.Lines.{lines}}
+use Rattle.rio_num.specs.{At.{At}, Reading.{◌>>=◌}}
+use Rattle.rio_token.specs.{Reading.{Read, bad_at, item_at}, Tokens.{behind, standing_in}}
+use Rattle.rio_machine.specs.declared.command.Command.{Command, TheVariants.{Get, Ls}}
 use Rattle.rio_step.specs.Script.{comes_next, cycle_at, ended_at, is_command_line, or_bad_line, put_command_at}
 
 -- get = "get" ITEM [";" NUM], behind its verb

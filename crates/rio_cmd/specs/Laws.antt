@@ -1,10 +1,7 @@
 -- What is built agrees with the whole language. These definitions go out when all verbs are built.
-use Rattle.std.specs.Prelude.{◌≡◌, ℕ, List, length, slice_get, Some, None, Bool, true, false}
-use Rattle.std.specs.List.{list_all}
-use Rattle.rio_machine.specs.declared.command.Command.{Command}
-use Rattle.rio_machine.specs.declared.command.Command.TheVariants.{Bad, Put, Get, Ls}
-use Rattle.rio_step.specs.Script.{script_of}
-use Rattle.rio_step.specs.Statable.{is_statable}
+use Rattle.std.specs.{Prelude.{◌≡◌, ℕ, List, length, slice_get, Some, None, Bool, true, false}, List.{list_all}}
+use Rattle.rio_machine.specs.declared.command.Command.{Command, TheVariants.{Bad, Put, Get, Ls}}
+use Rattle.rio_step.specs.{Script.{script_of}, Statable.{is_statable}}
 use Rattle.rio_cmd.specs.Built.{built_script}
 
 abbrev pub is_bad_line : Command → Bool

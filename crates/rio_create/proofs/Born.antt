@@ -1,17 +1,14 @@
 -- A file that isn't made yet, and one that is, by its first word.
 use Rattle.std.proofs.Common.{◌≡◌, true≢false, ℕ, ◌≤◌, ◌||◌, Bool, true, false, List, ◌++◌, length, length-take, take, drop, codes, refl, sym, ap, subst, ◌∙◌, arith}
+use Rattle.std.proofs.{lemmas.Bool.{le-ltb}, lemmas.List.{take-append-drop}, Math.Bool.{or-true}}
 use Rattle.std.specs.Prelude.{MatchBool}
-use Rattle.std.proofs.lemmas.Bool.{le-ltb}
-use Rattle.std.proofs.lemmas.List.{take-append-drop}
-use Rattle.std.proofs.Math.Bool.{or-true}
 use Rattle.byteorder.specs.Endian.{big_bytes}
 use Rattle.rio_host.specs.Image.{Has}
 use Rattle.rio_host.proofs.Images.{has_length}
 use Rattle.rio_chain.proofs.Words.{has_own, has_same}
 use Rattle.rio_dir.specs.Unborn.{is_unborn}
 use Rattle.rio_machine.specs.State.{empty_state}
-use Rattle.rio_state.specs.Left.{IsLeftAs}
-use Rattle.rio_state.specs.Reads.{ReadsAsMade}
+use Rattle.rio_state.specs.{Left.{IsLeftAs}, Reads.{ReadsAsMade}}
 
 -- a file that has bytes at its beginning begins with them
 pub begins_with : (file bytes : List ℕ) → length bytes ≤ length file → Has file 0 bytes → file ≡ bytes ++ drop (length bytes) file

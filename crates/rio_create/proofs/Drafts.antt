@@ -3,16 +3,11 @@ use Rattle.std.proofs.Common.{◌≡◌, ℕ, ◌+◌, ◌-◌, ◌^◌, ◌<◌
 use Rattle.std.proofs.lemmas.List.{take_all}
 use Rattle.byteorder.specs.Endian.{big_bytes}
 use Rattle.rio_num.specs.Room.{Room, room_of, with_more}
-use Rattle.rio_head.specs.Uuid.{uuid_of_file}
-use Rattle.rio_head.specs.Written.{FitsHead, written_dir, written_head}
-use Rattle.rio_head.specs.declared.dir.DirRecord.{DirRecord}
+use Rattle.rio_head.specs.{Uuid.{uuid_of_file}, Written.{FitsHead, written_dir, written_head}, declared.dir.DirRecord.{DirRecord}}
 use Rattle.rio_head.specs.declared.head.FileHead.{FileHead}
-use Rattle.rio_record.specs.Record.{record_bytes}
-use Rattle.rio_record.specs.declared.words.KeyWords.{KeyWords}
+use Rattle.rio_record.specs.{Record.{record_bytes}, declared.words.KeyWords.{KeyWords}}
 use Rattle.rio_create.specs.NewFile.{file_texts, first_length, first_record, first_words, nbytes_name_of, new_directory, new_file, new_head}
-use Rattle.rio_create.proofs.Lengths.{first_low, head_long}
-use Rattle.rio_create.proofs.NewFiles.{first_size}
-use Rattle.rio_create.proofs.Uuids.{length-uuid}
+use Rattle.rio_create.proofs.{Lengths.{first_low, head_long}, NewFiles.{first_size}, Uuids.{length-uuid}}
 
 -- the first record by what was put into its data
 pub first_is : (name uuid : List ℕ) (datime : ℕ) (words : KeyWords) (texts filled : Room) (directory : DirRecord) (contents bytes : List ℕ) → words ≡ first_words name datime → texts.bytes ≡ file_texts name → directory ≡ new_directory uuid datime

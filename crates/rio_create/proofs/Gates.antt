@@ -1,22 +1,14 @@
 -- What a stop leaves while a file is made.
 use Rattle.std.proofs.Common.{◌≡◌, inl, inr, ⊎_elim, true, ℕ, ◌-◌, ◌^◌, ◌<◌, ◌≤◌, List, ◌++◌, length, take, drop, codes, Some, sym, subst, ◌∙◌, arith}
 use Rattle.byteorder.specs.Endian.{big_bytes}
-use Rattle.rio_host.specs.Host.{Elapses, View}
-use Rattle.rio_host.specs.Image.{Has, Put, PutOrNot, Torn}
-use Rattle.rio_host.proofs.Images.{has_keeps}
-use Rattle.rio_host.proofs.Moments.{elapses_as, elapses_join}
+use Rattle.rio_host.specs.{Host.{Elapses, View}, Image.{Has, Put, PutOrNot, Torn}}
+use Rattle.rio_host.proofs.{Images.{has_keeps}, Moments.{elapses_as, elapses_join}}
+use Rattle.rio_head.specs.Head.{root_number}
 use Rattle.rio_chain.proofs.Puts.{has_join}
 use Rattle.rio_chain.specs.Stops.{BodyThenWord, IsBodyBehind, IsWordOrNot}
 use Rattle.rio_dir.specs.Unborn.{is_unborn}
-use Rattle.rio_create.specs.Creation.{IsLeftEmpty, IsMadeOrNot}
-use Rattle.rio_create.specs.NewFile.{IsNewFile, new_file}
-use Rattle.rio_create.proofs.Born.{unborn_left, zero_unborn}
-use Rattle.rio_create.proofs.Drafts.{rooted}
-use Rattle.rio_create.proofs.Read.{new_files}
-
--- the word root, as a number
-abbrev pub root_word : ℕ
-root_word = 0x726F_6F74
+use Rattle.rio_create.specs.{Creation.{IsLeftEmpty, IsMadeOrNot}, NewFile.{IsNewFile, new_file}}
+use Rattle.rio_create.proofs.{Born.{unborn_left, zero_unborn}, Drafts.{rooted}, Read.{new_files}}
 
 abbrev pub zero_word : List ℕ
 zero_word = big_bytes 4 0
@@ -30,7 +22,7 @@ torn_unborn : (file image : List ℕ) (n : ℕ) → Has file 0 zero_word → Tor
 torn_unborn file image n has torn = zero_unborn image (has_keeps file image 0 zero_word (λ i x low high was. torn.outside i x (inl (omega (arith, high))) was) has)
 
 -- all of them, and the word root in front
-made_has : (file tail image : List ℕ) → BodyThenWord file 0 tail (big_bytes 4 root_word) image → Has image 0 (codes "root" ++ tail)
+made_has : (file tail image : List ℕ) → BodyThenWord file 0 tail (big_bytes 4 root_number) image → Has image 0 (codes "root" ++ tail)
 made_has file tail image made =
     let behind = has_keeps made.0 image 4 tail (λ i x low high was. made.2.outside i x (inr (omega (arith, low))) was) made.1.written in
     has_join image 0 (codes "root") tail made.2.written behind
@@ -43,14 +35,14 @@ module _ (v0 : View) (file tail : List ℕ) (unborn : is_unborn file ≡ true) w
   word_time v1 time = elapses_as MadeOrNot (IsWordOrNot v0 file 0 zero_word) time (λ i s w. record { image_is = inl (word_unborn file i unborn w.image_is); text = w.text })
 
   pub both_time : (v1 v2 : View) (new : List ℕ) → Elapses v0 v1 (IsWordOrNot v0 file 0 zero_word) → v1.said ≡ v0.said → Put 0 zero_word file new
-      → Elapses v1 v2 (IsBodyBehind v1 new 0 tail (big_bytes 4 root_word)) → Elapses v0 v2 (IsMadeOrNot v0 (codes "root" ++ tail))
-  both_time v1 v2 new one same put two = elapses_join (IsBodyBehind v1 new 0 tail (big_bytes 4 root_word)) (word_time v1 one) two (λ i s b. record {
+      → Elapses v1 v2 (IsBodyBehind v1 new 0 tail (big_bytes 4 root_number)) → Elapses v0 v2 (IsMadeOrNot v0 (codes "root" ++ tail))
+  both_time v1 v2 new one same put two = elapses_join (IsBodyBehind v1 new 0 tail (big_bytes 4 root_number)) (word_time v1 one) two (λ i s b. record {
     image_is = ⊎_elim (λ torn. inl (torn_unborn new i (length tail) put.written torn)) (λ made. inr (made_has new tail i made)) b.image_is;
     text = λ all told. b.text all (same ∙ told);
   })
 
 -- the file as it is then
-pub made_file : (v2 : View) (new tail : List ℕ) → (made : List ℕ) × (v2.holds ≡ Some made) × BodyThenWord new 0 tail (big_bytes 4 root_word) made
+pub made_file : (v2 : View) (new tail : List ℕ) → (made : List ℕ) × (v2.holds ≡ Some made) × BodyThenWord new 0 tail (big_bytes 4 root_number) made
     → (made : List ℕ) × (v2.holds ≡ Some made) × Has made 0 (codes "root" ++ tail)
 made_file v2 new tail made = (made.0, made.1, made_has new tail made.0 made.2)
 

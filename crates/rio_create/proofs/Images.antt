@@ -1,42 +1,29 @@
 -- A file that begins with the bytes of a new one.
 use Rattle.std.proofs.Common.{◌≡◌, ℕ, ◌+◌, ◌-◌, ◌^◌, ◌<◌, ◌≤◌, ltb, cond, Bool, false, List, [], ◌∷◌, ◌++◌, length, drop, codes, Ok, Some, slice_get, refl, sym, ap, subst, ◌∙◌, append_assoc, length-append, arith}
-use Rattle.std.specs.Prelude.{MatchBool, replicate}
 use Rattle.std.proofs.lemmas.Bool.{le-ltb}
+use Rattle.std.specs.Prelude.{MatchBool, replicate}
 use Rattle.byteorder.specs.Endian.{big_bytes}
-use Rattle.rio_num.specs.At.{At, standing_at}
-use Rattle.rio_num.specs.Text.{text_bytes}
-use Rattle.rio_num.proofs.ReadLaws.{text_again}
-use Rattle.rio_host.specs.Image.{Has}
-use Rattle.rio_host.specs.ImageLaws.{slice_get-drop}
+use Rattle.rio_num.specs.{At.{At, standing_at}, Text.{text_bytes}}
+use Rattle.rio_num.proofs.{ReadLaws.{text_again}, Plain.{standing}}
+use Rattle.rio_host.specs.{Image.{Has}, ImageLaws.{slice_get-drop}}
 use Rattle.rio_host.proofs.Images.{has_back, has_front, has_length}
-use Rattle.rio_head.specs.Head.{IsHead, head_at, head_bytes}
-use Rattle.rio_head.specs.Written.{written_dir, written_head}
-use Rattle.rio_head.specs.declared.dir.DirRecord.{DirRecord}
+use Rattle.rio_head.specs.{Head.{IsHead, head_at, head_bytes}, Written.{written_dir, written_head}, declared.dir.DirRecord.{DirRecord}}
 use Rattle.rio_head.specs.declared.head.FileHead.{FileHead}
 use Rattle.rio_head.proofs.HeadAgain.{head_only}
-use Rattle.rio_chain.specs.Chains.{HasChain}
-use Rattle.rio_chain.specs.Segments.{HasWord, HoldsRecord, IsChain, IsFirst, texts_end_at}
-use Rattle.rio_chain.specs.declared.segment.Segment.{Segment}
-use Rattle.rio_chain.specs.declared.segment.Segment.TheVariants.{Record}
+use Rattle.rio_chain.specs.{Chains.{HasChain}, Segments.{HasWord, HoldsRecord, IsChain, IsFirst, texts_end_at}}
+use Rattle.rio_chain.specs.declared.segment.Segment.{Segment, TheVariants.{Record}}
 use Rattle.rio_chain.proofs.Words.{word_of_bytes, word_one}
-use Rattle.rio_record.specs.Laws.{IsNewRecord}
-use Rattle.rio_record.specs.Record.{key_size}
+use Rattle.rio_record.specs.{Laws.{IsNewRecord}, Record.{key_size}}
 use Rattle.rio_machine.specs.State.{empty_state}
-use Rattle.rio_state.specs.Left.{HasOpenHead, IsLeftAs, open_end}
-use Rattle.rio_state.specs.Reads.{ReadsAsMade}
+use Rattle.rio_state.specs.{Left.{HasOpenHead, IsLeftAs, open_end}, Reads.{ReadsAsMade}}
 use Rattle.rio_create.specs.NewFile.{file_bytes, file_texts, first_data, first_record, first_segments, first_words, nbytes_name_of, new_directory, new_head}
-use Rattle.rio_create.proofs.Born.{begins_with, root_born}
-use Rattle.rio_create.proofs.Lengths.{dir_long, head_long, nbytes_name_low, short_spelled}
+use Rattle.rio_create.proofs.{Born.{begins_with, root_born}, Lengths.{dir_long, head_long, nbytes_name_low, short_spelled}}
 use Rattle.rio_create.proofs.NewFiles.{first_size, head_of_first, links, made, new_records}
 
 -- what stands behind the first bytes of some that a file has
 has_drop : (file : List ℕ) (place k : ℕ) (bytes : List ℕ) → Has file place bytes → Has file (place + k) (drop k bytes)
 has_drop file place k bytes has i x at =
     subst (λ (j : ℕ). slice_get file j ≡ Some x) (let e : place + (k + i) ≡ place + k + i = omega arith in e) (has (k + i) x (sym (slice_get-drop k i (k + i) bytes refl) ∙ at))
-
--- reading at a place of bytes whose first has place 0
-abbrev standing : ℕ → List ℕ → At
-standing place rest = record { place = place; rest = rest }
 
 stands_at : (k : ℕ) (bytes rest : List ℕ) → drop k bytes ≡ rest → standing_at 0 k bytes ≡ standing k rest
 stands_at k bytes rest is =

@@ -1,17 +1,13 @@
 -- What a new file's bytes stand for.
 use Rattle.std.proofs.Common.{◌≡◌, ℕ, ◌+◌, ◌^◌, ◌<◌, ◌≤◌, List, [], ◌∷◌, length, Result, None, refl, sym, ap, subst, ◌∙◌, arith}
 use Rattle.std.specs.List.{cons_option, sum_by}
-use Rattle.rio_key.specs.declared.head.KeyHead.{KeyHead}
-use Rattle.rio_key.specs.declared.fault.KeyFault.{KeyFault}
+use Rattle.rio_key.specs.{declared.head.KeyHead.{KeyHead}, declared.fault.KeyFault.{KeyFault}}
 use Rattle.rio_chain.specs.Segments.{Link, RecordAt}
-use Rattle.rio_record.specs.Laws.{IsNewRecord}
-use Rattle.rio_record.specs.Record.{new_key}
+use Rattle.rio_record.specs.{Laws.{IsNewRecord}, Record.{new_key}}
 use Rattle.rio_record.proofs.Records.{are_new_records}
 use Rattle.rio_machine.specs.State.{empty_state}
 use Rattle.rio_state.specs.Closing.{KeptRecords, closing_lengths, free_length, held_of, item_heads, kept_count, kept_in, list_length, name_in}
-use Rattle.rio_state.specs.DirectoryKeys.{AreKeysOf}
-use Rattle.rio_state.specs.KeyedRecords.{KeyedRecord, info_key, keyed_records, record_with_head, top_keys}
-use Rattle.rio_state.specs.Reads.{AreRecordsOf}
+use Rattle.rio_state.specs.{DirectoryKeys.{AreKeysOf}, KeyedRecords.{KeyedRecord, info_key, keyed_records, record_with_head, top_keys}, Reads.{AreRecordsOf}}
 use Rattle.rio_state.proofs.EmptyState.{none_counts}
 use Rattle.rio_create.specs.NewFile.{first_data, first_length, first_record, first_words}
 use Rattle.rio_create.proofs.Lengths.{first_low, key_long, size_is, words_fit}

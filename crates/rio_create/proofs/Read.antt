@@ -4,8 +4,7 @@ use Rattle.rio_head.specs.Uuid.{uuid_of_file}
 use Rattle.rio_state.specs.Closing.{KeptRecords}
 use Rattle.rio_create.specs.NewFile.{NewFilesAreRead, new_file}
 use Rattle.rio_create.proofs.Images.{end_word, has_directory, new_chain, new_left, open_head}
-use Rattle.rio_create.proofs.NewFiles.{links, new_held, new_info, new_kept, new_keys, new_records}
-use Rattle.rio_create.proofs.Uuids.{length-uuid}
+use Rattle.rio_create.proofs.{NewFiles.{links, new_held, new_info, new_kept, new_keys, new_records}, Uuids.{length-uuid}}
 
 pub new_files : NewFilesAreRead
 unfolding new_file

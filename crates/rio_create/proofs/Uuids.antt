@@ -1,8 +1,7 @@
 -- An identifier has 18 bytes.
 use Rattle.std.proofs.Common.{◌≡◌, ℕ, zero, suc, ◌*◌, ◌/◌, List, ◌++◌, length, length-append, length-take, take, set, refl, ◌∙◌, arith}
-use Rattle.std.specs.Prelude.{slice_index}
-use Rattle.std.specs.Int.{w32, to_be_bytes}
 use Rattle.std.proofs.lemmas.List.{length-set}
+use Rattle.std.specs.{Prelude.{slice_index}, Int.{w32, to_be_bytes}}
 use Rattle.sha1.specs.Sha1.{digest_bytes, hash_after, padded_message, sha1}
 use Rattle.uuid.specs.Uuid.{namespace_url}
 use Rattle.rio_head.specs.Uuid.{url_uuid, uuid_of_file}

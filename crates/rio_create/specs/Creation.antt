@@ -1,13 +1,11 @@
 -- What a stop leaves while a file is made, and why it could not be made.
 use Rattle.std.specs.Prelude.{◌≡◌, ◌⊎◌, ℕ, List, true, Result, Ok, Err}
-use Rattle.rio_host.specs.Host.{Leaves, Rose, View}
-use Rattle.rio_host.specs.Image.{Has}
+use Rattle.rio_host.specs.{Host.{Leaves, Rose, View}, Image.{Has}}
 use Rattle.rio_chain.specs.Stops.{IsSaidText}
 use Rattle.rio_dir.specs.Unborn.{is_unborn}
 use Rattle.rio_machine.specs.State.{empty_state}
 use Rattle.rio_state.specs.Left.{IsLeftAs, IsMarkedOpen}
-use Rattle.rio_create.specs.declared.fault.CreateFault.{CreateFault}
-use Rattle.rio_create.specs.declared.fault.CreateFault.TheVariants.{NoMemory, HostFault}
+use Rattle.rio_create.specs.declared.fault.CreateFault.{CreateFault, TheVariants.{NoMemory, HostFault}}
 
 -- an image that no close has come to: it isn't made yet, or it is marked as open
 abbrev pub IsUnclosed : List ℕ → Type 0

@@ -3,23 +3,12 @@ use Rattle.std.specs.Prelude.{◌≡◌, ℕ, ◌+◌, ◌<◌, ◌≤◌, ◌^�
 use Rattle.byteorder.specs.Endian.{big_bytes}
 use Rattle.rio_num.specs.Text.{text_bytes}
 use Rattle.rio_host.specs.Image.{Has}
-use Rattle.rio_head.specs.Uuid.{uuid_of_file}
-use Rattle.rio_head.specs.Written.{written_dir, written_head}
-use Rattle.rio_head.specs.declared.dir.DirRecord.{DirRecord}
-use Rattle.rio_head.specs.declared.head.FileHead.{FileHead}
-use Rattle.rio_chain.specs.Chains.{HasChain}
-use Rattle.rio_chain.specs.Segments.{Link}
-use Rattle.rio_chain.specs.declared.segment.Segment.{Segment}
-use Rattle.rio_chain.specs.declared.segment.Segment.TheVariants.{Record}
-use Rattle.rio_record.specs.Record.{record_bytes}
-use Rattle.rio_record.specs.declared.words.KeyWords.{KeyWords}
-use Rattle.rio_machine.specs.Limits.{head_length}
-use Rattle.rio_machine.specs.State.{empty_state}
-use Rattle.rio_state.specs.Closing.{held_of, kept_in, padded_length}
-use Rattle.rio_state.specs.DirectoryKeys.{AreKeysOf}
-use Rattle.rio_state.specs.KeyedRecords.{first_place, info_key, keyed_records}
-use Rattle.rio_state.specs.Left.{HasOpenHead, IsLeftAs, IsMarkedOpen, open_end}
-use Rattle.rio_state.specs.Reads.{AreRecordsOf}
+use Rattle.rio_head.specs.{Uuid.{uuid_of_file}, Written.{written_dir, written_head}, declared.dir.DirRecord.{DirRecord}, declared.head.FileHead.{FileHead}}
+use Rattle.rio_chain.specs.{Chains.{HasChain}, Segments.{Link}, declared.segment.Segment.{Segment, TheVariants.{Record}}}
+use Rattle.rio_record.specs.{Record.{record_bytes}, declared.words.KeyWords.{KeyWords}}
+use Rattle.rio_machine.specs.{Limits.{head_length}, State.{empty_state}}
+use Rattle.rio_state.specs.{Closing.{held_of, kept_in, padded_length}, DirectoryKeys.{AreKeysOf}, KeyedRecords.{first_place, info_key, keyed_records}}
+use Rattle.rio_state.specs.{Left.{HasOpenHead, IsLeftAs, IsMarkedOpen, open_end}, Reads.{AreRecordsOf}}
 
 -- ---- the bytes
 

@@ -1,8 +1,7 @@
 //! The gate: a file is made by the word at its beginning.
-ghost use Rattle.std.specs.Prelude.{◌≡◌, ◌≤◌, ◌<◌, ◌^◌, ◌+◌, ◌++◌, ℕ, List, Some, codes, length, true, OnOk, IsOk, IsErr};
-ghost use Rattle.rio_host.specs.Host.{Becomes, Elapses, IsQuiet, Rose};
+ghost use Rattle.std.specs.Prelude.{◌≡◌, ◌≤◌, ◌<◌, ◌^◌, ◌+◌, ◌++◌, ℕ, List, Some, codes, length, true, OnOk};
+ghost use Rattle.rio_host.specs.Host.{Elapses, IsDiskCause, IsQuiet, OnlyWrites};
 ghost use Rattle.rio_host.specs.Image.{Has};
-ghost use Rattle.rio_chain.specs.Stops.{Any};
 ghost use Rattle.rio_dir.specs.Unborn.{is_unborn};
 ghost use Rattle.rio_create.specs.Creation.{IsMadeOrNot};
 
@@ -24,13 +23,8 @@ pub(crate) fn put_file<H: Host>(host: &mut H, tail: &[u8]) -> Result<(), Failed>
         → (new : List ℕ) × ((H.view host.new).holds ≡ Some new)
         × Has new 0 (codes "root" ++ tail.now)) }
     ensures quiet { OnOk result (IsQuiet (H.view host.new)) }
-    ensures told { Becomes Any (H.view host.old).holds (H.view host.new).holds }
-    ensures said { (H.view host.new).said ≡ (H.view host.old).said }
-    ensures reads { (H.view host.new).reads ≡ (H.view host.old).reads }
-    ensures say_faults { (H.view host.new).say_faults ≡ (H.view host.old).say_faults }
-    ensures counted { IsOk result → (H.view host.new).disk_faults ≡ (H.view host.old).disk_faults }
-    ensures cause { IsErr result
-        → Rose (H.view host.old).disk_faults (H.view host.new).disk_faults }
+    ensures writes { OnlyWrites (H.view host.old) (H.view host.new) }
+    ensures cause { IsDiskCause (H.view host.old) (H.view host.new) result }
 {
     put_word(host, 0, 0)?;
     put_behind(host, 0, tail, ROOT)

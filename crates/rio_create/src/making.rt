@@ -1,8 +1,7 @@
 //! A file is made.
 ghost use Rattle.std.specs.Prelude.{◌≡◌, ◌≤◌, ℕ, List, Some, length, true, false, IfOk, OnOk, IsErrOf};
-ghost use Rattle.rio_host.specs.Host.{Becomes, Elapses, IsQuiet};
+ghost use Rattle.rio_host.specs.Host.{Elapses, IsQuiet, OnlyWrites};
 ghost use Rattle.rio_chain.specs.Placing.{file_end};
-ghost use Rattle.rio_chain.specs.Stops.{Any};
 ghost use Rattle.rio_chain.specs.Walks.{Told};
 ghost use Rattle.rio_dir.specs.Unborn.{is_unborn};
 ghost use Rattle.rio_create.specs.Creation.{IsCreateCause, IsLeftEmpty};
@@ -53,10 +52,7 @@ pub fn create<H: Host>(
     ensures low { IfOk result (λ created. file_end created.chain.segments ≤ 700) }
     ensures name { IfOk result (λ created. created.nbytes_name ≡ nbytes_name_of name.now) }
     ensures no_memory { IsErrOf result CreateFault.NoMemory → host.new ≡ host.old }
-    ensures told { Becomes Any (H.view host.old).holds (H.view host.new).holds }
-    ensures said { (H.view host.new).said ≡ (H.view host.old).said }
-    ensures reads { (H.view host.new).reads ≡ (H.view host.old).reads }
-    ensures say_faults { (H.view host.new).say_faults ≡ (H.view host.old).say_faults }
+    ensures writes { OnlyWrites (H.view host.old) (H.view host.new) }
     ensures cause { IsCreateCause (H.view host.old) (H.view host.new) result }
 {
     let Draft { bytes, created } = draft_of(alloc, name, datime)?;

@@ -1,17 +1,15 @@
 -- What is known by name of the members before a member, and of what counts, decides whether it can be declared.
 use Rattle.std.proofs.Common.{◌≡◌, ℕ, ◌+◌, ◌<◌, List, [], ◌∷◌, ◌++◌, length, get_or, drop, Bool, true, false, ◌==◌, ◌&&◌, ◌||◌, not, refl, sym, ap, ◌∙◌, append_assoc}
+use Rattle.std.proofs.{lemmas.Bool.{and_parts, false_from_ne_true, not-true}, lemmas.List.{drop_more, Folds.{list_any-append}}}
 use Rattle.std.specs.List.{list_any}
-use Rattle.std.proofs.lemmas.Bool.{and_parts, false_from_ne_true, not-true}
-use Rattle.std.proofs.lemmas.List.{drop_more}
-use Rattle.std.proofs.lemmas.List.Folds.{list_any-append}
-use Rattle.rio_num.specs.Word.{is_name_text}
+use Rattle.rio_num.specs.Word.{is_among, is_name_text}
+use Rattle.rio_num.proofs.Cases.{or_turned}
 use Rattle.rio_types.specs.declared.class.Member.{Member}
-use Rattle.rio_types.specs.declared.kind.Kind.{Kind}
-use Rattle.rio_types.specs.declared.kind.Kind.TheVariants.{Plain, Counter, Fixed, Counted, Text, Inline, Pointer, Other}
+use Rattle.rio_types.specs.declared.kind.Kind.{Kind, TheVariants.{Plain, Counter, Fixed, Counted, Text, Inline, Pointer, Other}}
 use Rattle.rio_model.specs.ClassGrammar.{counts_by, has_member, is_counted_by, is_i32_of}
 use Rattle.rio_model.specs.Stated.{are_stated_members, has_counter, is_stated_kind, is_stated_member}
 use Rattle.rio_model.proofs.ReadClasses.{Known, known_more}
-use Rattle.rio_decl.specs.Known.{KnowsCounters, KnowsPassed, has_name, is_known_kind, is_known_member}
+use Rattle.rio_decl.specs.Known.{KnowsCounters, KnowsPassed, is_known_kind, is_known_member}
 
 same_tests : (a b k j t : Bool) → (b ≡ true → k ≡ j) → (a && b && k && t) ≡ (a && b && j && t)
 same_tests a true k j t e = ap (λ (c : Bool). a && true && c && t) (e refl)
@@ -29,7 +27,7 @@ same_kind before name after (Pointer class) counters counts has e = refl
 same_kind before name after (Other code) counters counts has e = refl
 
 module _ (before : List Member) (m : Member) (after all : List Member) (parts : before ++ m ∷ after ≡ all) (known : Known before) (passed counters counting : List (List ℕ)) (knows : KnowsPassed before passed counters) (counts : KnowsCounters all counting) where
-  counted_behind : not (has_member before m.name) ≡ true → has_name counting m.name ≡ (counts_by m.kind m.name || is_counted_by after m.name)
+  counted_behind : not (has_member before m.name) ≡ true → is_among counting m.name ≡ (counts_by m.kind m.name || is_counted_by after m.name)
   counted_behind new =
       let none : is_counted_by before m.name ≡ false = false_from_ne_true (is_counted_by before m.name) (λ t. let clash : true ≡ false = sym (known.counted m.name t) ∙ not-true (has_member before m.name) new in cc) in
       counts m.name
@@ -37,11 +35,11 @@ module _ (before : List Member) (m : Member) (after all : List Member) (parts : 
       ∙ list_any-append (λ (c : Member). counts_by c.kind m.name) before (m ∷ after)
       ∙ ap (λ (b : Bool). b || (counts_by m.kind m.name || is_counted_by after m.name)) none
 
-  pub same_member : is_known_member (has_name passed) (has_name counters) (has_name counting) m ≡ is_stated_member before m after
+  pub same_member : is_known_member (is_among passed) (is_among counters) (is_among counting) m ≡ is_stated_member before m after
   same_member =
-      let kind = is_known_kind (has_name counters) (has_name counting m.name) m.kind in
+      let kind = is_known_kind (is_among counters) (is_among counting m.name) m.kind in
       ap (λ (b : Bool). is_name_text m.name && not b && kind && (length m.title == 0)) (knows.all m.name)
-      ∙ same_tests (is_name_text m.name) (not (has_member before m.name)) kind (is_stated_kind before m.name after m.kind) (length m.title == 0) (λ new. same_kind before m.name after m.kind (has_name counters) (has_name counting m.name) knows.count (counted_behind new))
+      ∙ same_tests (is_name_text m.name) (not (has_member before m.name)) kind (is_stated_kind before m.name after m.kind) (length m.title == 0) (λ new. same_kind before m.name after m.kind (is_among counters) (is_among counting m.name) knows.count (counted_behind new))
 
 module _ (before : List Member) (m : Member) (after : List Member) where
   pub known_stated : Known before → is_stated_member before m after ≡ true → Known (before ++ m ∷ [])
@@ -73,12 +71,6 @@ module _ (members : List Member) (k : ℕ) (m : Member) (lt : k < length members
 
 -- ---- a test's answer of one item more
 
-or_last : (a b : Bool) → (a || b) ≡ (b || (a || false))
-or_last true true = refl
-or_last true false = refl
-or_last false true = refl
-or_last false false = refl
-
 pub true_and : (a b : Bool) → b ≡ true → a ≡ (a && b)
 true_and true b h = sym h
 true_and false b h = refl
@@ -90,4 +82,4 @@ false_and false b h = refl
 module _ {X : Type 0} (p : X → Bool) (xs more : List X) (x : X) where
   pub with_last : (b c : Bool) → more ≡ xs ++ x ∷ [] → b ≡ (p x || c) → c ≡ list_any p xs → b ≡ list_any p more
   with_last b c is told before =
-      told ∙ ap (λ (d : Bool). p x || d) before ∙ or_last (p x) (list_any p xs) ∙ sym (list_any-append p xs (x ∷ [])) ∙ ap (list_any p) (sym is)
+      told ∙ ap (λ (d : Bool). p x || d) before ∙ or_turned (p x) (list_any p xs) ∙ sym (list_any-append p xs (x ∷ [])) ∙ ap (list_any p) (sym is)

@@ -1,6 +1,7 @@
 //! Members and bases that were read, with their names kept beside them.
 ghost use Rattle.std.specs.Prelude.{◌≡◌, ℕ, List, ◌||◌, IfOk, OnOk};
-ghost use Rattle.rio_decl.specs.Known.{KnowsCounters, has_name};
+ghost use Rattle.rio_num.specs.Word.{is_among};
+ghost use Rattle.rio_decl.specs.Known.{KnowsCounters};
 ghost use Rattle.rio_model.specs.ClassGrammar.{counts_by};
 
 use crate::read_kind::may_count;
@@ -13,8 +14,8 @@ use std::marker::Model;
 fn put_counter<'a>(counters: &mut Names<'a>, kind: &'a Kind) -> Result<(), NoMemory>
     ensures { OnOk result
         ((name : List ℕ) →
-        has_name counters.new name
-        ≡ (counts_by kind.now name || has_name counters.old name)) }
+        is_among counters.new name
+        ≡ (counts_by kind.now name || is_among counters.old name)) }
 {
     match kind {
         Kind::Counted { counter, .. } => counters.note(counter.as_slice()),

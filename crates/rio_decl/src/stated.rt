@@ -1,11 +1,11 @@
 //! Whether a declaration can give a class.
 ghost use Rattle.std.specs.Prelude.{◌≡◌, ◌++◌, List, [], ◌∷◌, ◌&&◌, not, IfOk, OnOk};
-ghost use Rattle.rio_num.specs.Word.{is_name_text};
+ghost use Rattle.rio_num.specs.Word.{is_among, is_name_text};
 ghost use Rattle.rio_types.specs.declared.class.Base.{Base};
 ghost use Rattle.rio_types.specs.declared.class.Member.{Member};
 ghost use Rattle.rio_types.specs.Members.{is_counter};
 ghost use Rattle.rio_model.specs.Stated.{are_stated_bases, are_stated_members, has_stated_parts, is_class_version, is_class_word, is_stated_base, is_stated_class};
-ghost use Rattle.rio_decl.specs.Known.{KnowsBases, KnowsPassed, has_name, is_known_kind, is_known_member};
+ghost use Rattle.rio_decl.specs.Known.{KnowsBases, KnowsPassed, is_known_kind, is_known_member};
 
 use crate::checksum;
 use crate::known::counters_of;
@@ -29,7 +29,7 @@ fn names_class(word: &[u8]) -> bool
 
 // A kind behind these counters, of a member that counts or doesn't.
 fn kind_is_stated(counters: &Names, counts: bool, kind: &Kind) -> bool
-    ensures { result ≡ is_known_kind (has_name counters.now) counts kind.now }
+    ensures { result ≡ is_known_kind (is_among counters.now) counts kind.now }
 {
     match kind {
         Kind::Plain { of } => !(is_i32_primitive(*of) && counts),
@@ -45,7 +45,7 @@ fn kind_is_stated(counters: &Names, counts: bool, kind: &Kind) -> bool
 
 // A name that is none of these.
 fn is_new(passed: &Names, name: &[u8]) -> bool
-    ensures { result ≡ (is_name_text name.now && not (has_name passed.now name.now)) }
+    ensures { result ≡ (is_name_text name.now && not (is_among passed.now name.now)) }
 {
     is_name(name) && !passed.has(name)
 }
@@ -53,7 +53,7 @@ fn is_new(passed: &Names, name: &[u8]) -> bool
 // A member behind those of these names, among them these counters, where these names count.
 fn member_is_stated(passed: &Names, counters: &Names, counting: &Names, member: &Member) -> bool
     ensures { result
-        ≡ is_known_member (has_name passed.now) (has_name counters.now) (has_name counting.now)
+        ≡ is_known_member (is_among passed.now) (is_among counters.now) (is_among counting.now)
         member.now }
 {
     let name = member.name.as_slice();

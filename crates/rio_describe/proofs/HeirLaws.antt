@@ -1,54 +1,20 @@
 -- How the heirs of TObject are found.
 use Rattle.std.proofs.Common.{◌≡◌, ◌<◌, ◌+◌, ◌∙◌, ℕ, zero, suc, List, [], ◌∷◌, ◌++◌, length, get_or, take, map, Bool, true, false, cond, ◌||◌, ◌&&◌, if◌then◌else◌, Option, Some, None, refl, sym, ap, subst, append_assoc, length-append, arith}
-use Rattle.std.specs.Prelude.{ℤ, codes, is_some}
-use Rattle.std.specs.Cmp.Lexicographic.{same_text}
-use Rattle.std.specs.List.{All, list_any}
-use Rattle.std.specs.Option.{option_map}
-use Rattle.std.specs.Ordering.{int_eq}
-use Rattle.std.specs.Str.{bytes_eq}
-use Rattle.std.proofs.lemmas.Bool.Decides.{Decides-int_eq}
-use Rattle.std.proofs.lemmas.List.{append-nil, map-append, take_more}
-use Rattle.std.proofs.lemmas.List.Elements.{All-append, All-cons, All-head, All-nil, All-tail, All-weaker}
-use Rattle.std.proofs.lemmas.List.Folds.{list_any-append}
-use Rattle.std.proofs.lemmas.Slice.Eq.{bytes_eq-Decides}
-use Rattle.std.proofs.lemmas.Bool.{and_parts, or_left, or_right}
-use Rattle.rio_types.specs.Classes.{find_in}
-use Rattle.rio_types.specs.declared.class.Base.{Base}
-use Rattle.rio_types.specs.declared.class.ClassDef.{ClassDef}
-use Rattle.rio_format.specs.Bases.{visit_bases}
-use Rattle.rio_format.specs.Bodies.{Body, described, built_in, form_of, headed_classes}
-use Rattle.rio_format.specs.Slots.{body_bases, declared_body, has_base, headed_body, is_headed}
-use Rattle.rio_format.specs.Visits.{base_of, is_visited, same_base, with_visit}
-use Rattle.rio_format.proofs.BaseDepth.{no_base_is_deeper}
-use Rattle.rio_format.proofs.BuiltInLaws.{of_body}
+use Rattle.std.proofs.lemmas.List.{append-nil, map-append, take_more, Elements.{All-append, All-cons, All-head, All-nil, All-tail, All-weaker}, Folds.{list_any-append}}
+use Rattle.std.proofs.lemmas.Bool.{and_parts, cond_both, or_left, or_right, Decides.{Decides-int_eq}}
+use Rattle.std.specs.{Prelude.{ℤ, codes, is_some}, Cmp.Lexicographic.{same_text}, List.{All, list_any}, Option.{option_map}, Ordering.{int_eq}, Str.{bytes_eq}}
+use Rattle.rio_num.proofs.Cases.{any_weaker, both_or_none, either}
+use Rattle.rio_types.specs.{Classes.{find_in}, declared.class.Base.{Base}, declared.class.ClassDef.{ClassDef}}
+use Rattle.rio_format.specs.{Bases.{visit_bases}, Bodies.{Body, described, built_in, form_of, headed_classes}}
+use Rattle.rio_format.specs.{Slots.{body_bases, declared_body, has_base, headed_body, is_headed}, Visits.{base_of, is_visited, same_base, with_visit}}
+use Rattle.rio_format.proofs.{BaseDepth.{first_of_both, no_base_is_deeper}, BuiltInLaws.{of_body}, BaseLaws.{same_itself, visited_longer}}
 use Rattle.rio_describe.specs.Heirs.{AreHeirs, AreTheHeirs, IsTaken, Judged, built_in_bases, candidates_of, class_base, has_reaching, is_heir}
 
 -- what has a TObject among its bases at most so many levels deep is known
 abbrev pub AreKnown : List ClassDef → List Base → ℕ → Type 0
 AreKnown classes heirs levels = (class : List ℕ) (version : ℤ) → has_base levels classes (codes "TObject") class version ≡ true → is_visited heirs (base_of class version) ≡ true
 
-either : {P : Type 0} (a b : Bool) → (a ≡ true → P) → (b ≡ true → P) → (a || b) ≡ true → P
-either true b f g e = f refl
-either false b f g e = g e
-
-both_or_none : (a b : Bool) → (a ≡ true → b ≡ true) → (b ≡ true → a ≡ true) → a ≡ b
-both_or_none true b f g = sym (f refl)
-both_or_none false true f g = g refl
-both_or_none false false f g = refl
-
-choose : {A : Type 0} (P : A → Type 0) (b : Bool) (x y : A) → P x → P y → P (if b then x else y)
-choose P true x y p q = p
-choose P false x y p q = q
-
-any_weaker : {X : Type 0} (p q : X → Bool) → ((x : X) → p x ≡ true → q x ≡ true) → (xs : List X) → list_any p xs ≡ true → list_any q xs ≡ true
-any_weaker p q f [] e = absurd cc
-any_weaker p q f (x ∷ xs) e =
-    either (p x) (list_any p xs) (λ h. or_left (q x) (list_any q xs) (f x h)) (λ h. or_right (q x) (list_any q xs) (any_weaker p q f xs h)) e
-
 -- ---- known heirs
-
-same_itself : (b : Base) → same_base b b ≡ true
-same_itself b = rw ((bytes_eq-Decides b.name b.name).1 refl, (Decides-int_eq b.version b.version).1 refl) refl
 
 -- what holds of each of them holds of one that is known
 of_known : (P : Base → Type 0) (bs : List Base) (class : List ℕ) (version : ℤ) → All P bs → is_visited bs (base_of class version) ≡ true → P (base_of class version)
@@ -63,16 +29,13 @@ of_known P (b ∷ bs) class version all e =
     (λ t. of_known P bs class version (All-tail P b bs all) t)
     e
 
-known_longer : (old more : List Base) (b : Base) → is_visited old b ≡ true → is_visited (old ++ more) b ≡ true
-known_longer old more b e = list_any-append (same_base b) old more ∙ or_left (list_any (same_base b) old) (list_any (same_base b) more) e
-
 reaching_longer : (old more bases : List Base) → has_reaching old bases ≡ true → has_reaching (old ++ more) bases ≡ true
 reaching_longer old more bases e =
     any_weaker (λ b. bytes_eq b.name (codes "TObject") || is_visited old b) (λ b. bytes_eq b.name (codes "TObject") || is_visited (old ++ more) b)
     (λ b h.
     either (bytes_eq b.name (codes "TObject")) (is_visited old b)
     (λ t. or_left (bytes_eq b.name (codes "TObject")) (is_visited (old ++ more) b) t)
-    (λ t. or_right (bytes_eq b.name (codes "TObject")) (is_visited (old ++ more) b) (known_longer old more b t))
+    (λ t. or_right (bytes_eq b.name (codes "TObject")) (is_visited (old ++ more) b) (visited_longer old more b t))
     h)
     bases e
 
@@ -99,17 +62,13 @@ found_is_candidate (d ∷ ds) class version c e =
       | false ↦ λ t h. or_right here (is_visited (map class_base ds) (base_of class version)) (rest h)
     ] refl e
 
-abbrev first_of_both : Option Body → Option Body → Option Body
-first_of_both other (Some body) = Some body
-first_of_both other None = other
-
 module _ (classes : List ClassDef) where
   -- a class that has bases is a candidate
   abbrev IsCandidate : (Base → Bool) → List ℕ → ℤ → Option Body → Type 0
   IsCandidate test class version body = list_any test (body_bases body) ≡ true → is_visited (candidates_of classes) (base_of class version) ≡ true
 
   built_first : (class : List ℕ) (version : ℤ) → is_visited built_in_bases (base_of class version) ≡ true → is_visited (candidates_of classes) (base_of class version) ≡ true
-  built_first class version e = known_longer built_in_bases (map class_base classes) (base_of class version) e
+  built_first class version e = visited_longer built_in_bases (map class_base classes) (base_of class version) e
 
   described_behind : (class : List ℕ) (version : ℤ) → is_visited (map class_base classes) (base_of class version) ≡ true → is_visited (candidates_of classes) (base_of class version) ≡ true
   described_behind class version e =
@@ -127,8 +86,8 @@ module _ (classes : List ClassDef) where
 
   has_bases : (test : Base → Bool) (class : List ℕ) (version : ℤ) → IsCandidate test class version (headed_body classes class version)
   has_bases test class version =
-      choose (IsCandidate test class version) (is_headed (form_of class)) (declared_body classes class version) None
-      (first_candidate test class version (built_in class version) refl) (λ e. absurd cc)
+      cond_both (is_headed (form_of class)) (declared_body classes class version) None (IsCandidate test class version)
+      (λ t. first_candidate test class version (built_in class version) refl) (λ t e. absurd cc)
 
   -- ---- judging
 
@@ -146,7 +105,7 @@ module _ (classes : List ClassDef) where
     is = rw (q.is, p.is) (append_assoc a p.more q.more);
     sound = λ h. q.sound (p.sound h);
     taken = All-append (IsTaken classes a c) bs cs
-        (All-weaker (IsTaken classes a b) (IsTaken classes a c) (λ x t r. subst (λ heirs. is_visited heirs x ≡ true) (sym q.is) (known_longer b q.more x (t r))) bs p.taken)
+        (All-weaker (IsTaken classes a b) (IsTaken classes a c) (λ x t r. subst (λ heirs. is_visited heirs x ≡ true) (sym q.is) (visited_longer b q.more x (t r))) bs p.taken)
         (All-weaker (IsTaken classes b c) (IsTaken classes a c)
         (λ x t r. t (subst (λ heirs. has_reaching heirs (visit_bases classes x) ≡ true) (sym p.is) (reaching_longer a p.more (visit_bases classes x) r))) cs q.taken);
   }

@@ -2,29 +2,17 @@
 use Rattle.std.proofs.Common.{◌≡◌, ◌≢◌, inl, inr, ℕ, ◌≤◌, Bool, true, false, cond, ltb, eqb, List, [], length, drop, Result, Ok, Err, refl, sym, ap, subst, ◌∙◌}
 use Rattle.std.proofs.lemmas.Bool.{le-ltb, ltb-false, eq-eqb, ne_eqb, eqb-true, eqb-false}
 use Rattle.std.specs.Int.{w32, cast_unsigned}
-use Rattle.rio_num.specs.Meanings.{Reading, Standing}
-use Rattle.rio_num.specs.Reading.{◌>>=◌}
-use Rattle.rio_num.proofs.ReadLaws.{IsBytes, IsBytes-drop, IsBytes-take, bind_is, bind_ok, guard_ok, ok_is}
-use Rattle.rio_key.specs.declared.head.KeyHead.{KeyHead}
-use Rattle.rio_key.specs.declared.fault.ListFault.{ListFault}
-use Rattle.rio_num.specs.Plain.{IsSpelledIn, value_of}
-use Rattle.rio_key.specs.Key.{SpellsKey, key_at, key_head_at}
+use Rattle.rio_num.specs.{Meanings.{Reading, Standing}, Reading.{◌>>=◌}, Plain.{IsSpelledIn, value_of}}
+use Rattle.rio_num.proofs.{ReadLaws.{IsBytes, IsBytes-drop, IsBytes-take, bind_is, bind_ok, guard_ok, ok_is}, Plain.{standing, value_ok}}
+use Rattle.rio_key.specs.{declared.head.KeyHead.{KeyHead}, declared.fault.ListFault.{ListFault}, Key.{SpellsKey, key_at, key_head_at}}
 use Rattle.rio_key.specs.KeyList.{SpellsKeyList, key_list_at}
-use Rattle.rio_num.proofs.Plain.{standing, value_ok}
-use Rattle.rio_key.proofs.KeyAgain.{key_again, key_found}
-use Rattle.rio_key.proofs.KeyListLaws.{key_list_again, key_list_found}
-use Rattle.rio_head.specs.declared.head.FileHead.{FileHead}
-use Rattle.rio_head.specs.declared.dir.DirRecord.{DirRecord}
-use Rattle.rio_head.specs.declared.fault.HeadFault.{HeadFault}
-use Rattle.rio_head.specs.declared.fault.FileFault.TheVariants.{NotClosed, BadDir, BadKeyList}
-use Rattle.rio_head.specs.Head.{fault_at, head_at, BeginsAsHead}
-use Rattle.rio_head.specs.Dir.{dir_at}
-use Rattle.rio_head.proofs.HeadAgain.{head_only, header_found}
-use Rattle.rio_head.proofs.DirLaws.{dir_found, dir_only}
+use Rattle.rio_key.proofs.{KeyAgain.{key_again, key_found}, KeyListLaws.{key_list_again, key_list_found}}
+use Rattle.rio_head.specs.{declared.head.FileHead.{FileHead}, declared.dir.DirRecord.{DirRecord}, declared.fault.HeadFault.{HeadFault}}
+use Rattle.rio_head.specs.{declared.fault.FileFault.TheVariants.{NotClosed, BadDir, BadKeyList}, Head.{fault_at, head_at, BeginsAsHead}, Dir.{dir_at}}
+use Rattle.rio_head.proofs.{HeadAgain.{head_only, header_found}, DirLaws.{dir_found, dir_only}}
 use Rattle.rio_dir.specs.declared.closed.Closed.{Closed}
 use Rattle.rio_dir.specs.Closed.{file_at, dir_place, closed_head, closed_dir, closed_keys, closed_file, data_at, heads_of, listed_at, or_bad_list, or_fault}
-use Rattle.rio_dir.specs.Grammar.{IsKeyList, HasKeys, IsClosedFile, ClosedIsSpelled, SpelledIsClosed, IsListedOnce}
-use Rattle.rio_dir.specs.Listing.{key_lines}
+use Rattle.rio_dir.specs.{Grammar.{IsKeyList, HasKeys, IsClosedFile, ClosedIsSpelled, SpelledIsClosed, IsListedOnce}, Listing.{key_lines}}
 
 -- ---- what is spelled is read
 

@@ -2,10 +2,8 @@
 use Rattle.std.proofs.Common.{◌≡◌, ◌++◌, ℕ, List, [], ◌∷◌, take, Err, refl}
 use Rattle.std.specs.Prelude.{codes, replicate}
 use Rattle.byteorder.specs.Endian.{big_bytes}
-use Rattle.rio_head.specs.Head.{behind_layout, fault_at, header_layout}
-use Rattle.rio_head.specs.declared.fault.FileFault.TheVariants.{NotRoot, Short, BadBegin, NotClosed}
-use Rattle.rio_dir.specs.Closed.{closed_file, closed_head}
-use Rattle.rio_dir.specs.Listing.{listed_file}
+use Rattle.rio_head.specs.{Head.{behind_layout, fault_at, header_layout}, declared.fault.FileFault.TheVariants.{NotRoot, Short, BadBegin, NotClosed}}
+use Rattle.rio_dir.specs.{Closed.{closed_file, closed_head}, Listing.{listed_file}}
 
 uuid : List ℕ
 uuid = big_bytes 2 1 ++ big_bytes 16 0x9793EE8C819451089DD8D6014DF945E7

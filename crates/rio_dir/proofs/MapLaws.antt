@@ -1,16 +1,11 @@
 -- The key table is a map from name and cycle.
-use Rattle.std.proofs.Common.{◌≡◌, ℕ, ◌&&◌, Bool, true, false, eqb, cond, List, [], ◌∷◌, Option, Some, None, refl, sym, subst, ◌∙◌}
-use Rattle.std.specs.List.{find}
-use Rattle.std.specs.Option.{option_map_or}
-use Rattle.std.specs.Set.{remove_key}
-use Rattle.std.specs.Str.{bytes_eq}
-use Rattle.std.proofs.lemmas.Bool.{eqb-true}
+use Rattle.std.proofs.{Common.{◌≡◌, ℕ, ◌&&◌, Bool, true, false, eqb, cond, List, [], ◌∷◌, Option, Some, None, refl, sym, subst, ◌∙◌}, lemmas.Bool.{eqb-true}}
 use Rattle.std.proofs.lemmas.Slice.Eq.{bytes_eq-Decides}
+use Rattle.std.specs.{List.{find}, Option.{option_map_or}, Set.{remove_key}, Str.{bytes_eq}}
 use Rattle.rio_key.specs.declared.head.KeyHead.{KeyHead}
 use Rattle.rio_dir.specs.Table.{AreBehind, AreOrdered, is_at_cycle, is_before, is_of_name, with_head}
 use Rattle.rio_dir.specs.TableMap.{GreatestIsFound, PutInIsFound, TakenOutIsGone}
-use Rattle.rio_dir.proofs.TableOrder.{at_is}
-use Rattle.rio_dir.proofs.TableLists.{cycle_of, greatest_is, none_behind}
+use Rattle.rio_dir.proofs.{TableOrder.{at_is}, TableLists.{cycle_of, greatest_is, none_behind}}
 
 -- ---- one more
 

@@ -1,11 +1,8 @@
 -- A key list that is written is spelled by what was written.
 use Rattle.std.proofs.Common.{◌^◌, ◌<◌, List, [], ◌∷◌, length}
 use Rattle.std.specs.List.{flat_map}
-use Rattle.rio_key.specs.KeyList.{SpellsKeyList}
-use Rattle.rio_key.specs.Written.{written_key}
-use Rattle.rio_key.specs.declared.head.KeyHead.{KeyHead}
-use Rattle.rio_key.proofs.KeyListLaws.{SpellsHeads, list_of, more_heads, no_heads}
-use Rattle.rio_key.proofs.KeyWritten.{key_spelled}
+use Rattle.rio_key.specs.{KeyList.{SpellsKeyList}, Written.{written_key}, declared.head.KeyHead.{KeyHead}}
+use Rattle.rio_key.proofs.{KeyListLaws.{SpellsHeads, list_of, more_heads, no_heads}, KeyWritten.{key_spelled}}
 use Rattle.rio_dir.specs.Table.{AreWritable, key_list_bytes}
 
 heads_spelled : (heads : List KeyHead) → AreWritable heads → SpellsHeads heads (flat_map written_key heads)

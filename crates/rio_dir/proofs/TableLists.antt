@@ -1,13 +1,8 @@
 -- What a search among ordered heads finds, and what they are once one is put in or taken out.
-use Rattle.std.proofs.Common.{◌≡◌, inl, inr, ℕ, zero, suc, ◌+◌, ◌<◌, ◌≤◌, Bool, true, false, cond, max, pos, List, [], ◌∷◌, length, get_or, Option, Some, None, Result, Ok, Err, IsOk, is_ok, rules, refl, ap, sym, ◌∙◌, arith}
-use Rattle.std.specs.List.{find, insert, prefix_len, remove, slice_get}
-use Rattle.std.specs.List.Sorted.{IsPartitionedBy, IsPartitionPoint}
-use Rattle.std.specs.Option.{option_map_or}
-use Rattle.std.specs.Set.{remove_key}
-use Rattle.std.proofs.Math.Numerals.{one-add}
-use Rattle.std.proofs.lemmas.Bool.{cases_lt}
-use Rattle.std.proofs.lemmas.Option.{get_or_from_slice_get}
+use Rattle.std.proofs.Common.{◌≡◌, inl, inr, ℕ, zero, suc, ◌+◌, ◌<◌, ◌≤◌, Bool, true, false, cond, max, pos, List, [], ◌∷◌, length, get_or, Option, Some, None, Result, Ok, Err, IsOk, is_ok, rules, refl, ap, subst, sym, ◌∙◌, arith}
+use Rattle.std.proofs.{Math.Numerals.{one-add}, lemmas.Bool.{cases_lt}, lemmas.Option.{get_or_from_slice_get}}
 use Rattle.std.proofs.lemmas.List.Sums.{prefix_len-le-length, prefix_len_passes, prefix_len_stops}
+use Rattle.std.specs.{List.{find, insert, prefix_len, remove, slice_get, Sorted.{IsPartitionedBy, IsPartitionPoint}}, Option.{option_map_or}, Set.{remove_key}}
 use Rattle.rio_dir.specs.Table.{AreBehind, AreOrdered, comes_before, greatest_cycle, if_matching, is_at_cycle, is_before, is_name_before, is_of_name, with_head}
 use Rattle.rio_key.specs.declared.head.KeyHead.{KeyHead}
 use Rattle.rio_dir.proofs.TableOrder.{before_trans, before_not_at, behind_not_at, else_behind, name_before_too, name_not_of, else_name_behind, IsNameBehind, names_behind, name_behind_not_of, same_name_lower}
@@ -52,7 +47,7 @@ module _ (p t : KeyHead → Bool) (s : IsSearch p t) where
   partitioned (h ∷ hs) are (suc i) zero d le lt holds = absurd (omega (arith, le))
   partitioned (h ∷ hs) are (suc i) (suc j) d le lt holds = partitioned hs are.1 i j d (omega (arith, le)) (omega (arith, lt)) holds
 
-  pub searched : (heads : List KeyHead) → AreOrdered heads → if_matching t (slice_get heads (prefix_len p heads)) ≡ find t heads
+  searched : (heads : List KeyHead) → AreOrdered heads → if_matching t (slice_get heads (prefix_len p heads)) ≡ find t heads
   searched [] are = refl
   searched (h ∷ hs) are = by (searched hs are.1) (p h) refl
     where
@@ -64,7 +59,7 @@ module _ (p t : KeyHead → Bool) (s : IsSearch p t) where
           first true f = refl
           first false f = sym (s.none h hs are.0 e f)
 
-  pub removed : (heads : List KeyHead) → AreOrdered heads → option_map_or t (slice_get heads (prefix_len p heads)) false ≡ true → remove heads (prefix_len p heads) ≡ remove_key t heads
+  removed : (heads : List KeyHead) → AreOrdered heads → option_map_or t (slice_get heads (prefix_len p heads)) false ≡ true → remove heads (prefix_len p heads) ≡ remove_key t heads
   removed [] are found = absurd cc
   removed (h ∷ hs) are found = by (removed hs are.1) (p h) refl found
     where
@@ -170,7 +165,7 @@ ordered_without t (k ∷ ks) are = by (ordered_without t ks are.1) (t k)
 
 -- ---- what the code reads at the place where its search ends
 
-pub taken_head : (t : KeyHead → Bool) (heads : List KeyHead) (at : ℕ) (d : KeyHead) → option_map_or t (slice_get heads at) false ≡ true → d ≡ get_or heads at d → if_matching t (slice_get heads at) ≡ Some d
+taken_head : (t : KeyHead → Bool) (heads : List KeyHead) (at : ℕ) (d : KeyHead) → option_map_or t (slice_get heads at) false ≡ true → d ≡ get_or heads at d → if_matching t (slice_get heads at) ≡ Some d
 taken_head t heads at d found read = by (slice_get heads at) refl found
   where
     by : (o : Option KeyHead) → slice_get heads at ≡ o → option_map_or t o false ≡ true → if_matching t o ≡ Some d
@@ -179,9 +174,41 @@ taken_head t heads at d found read = by (slice_get heads at) refl found
         let same : d ≡ h = read ∙ get_or_from_slice_get heads at h d is in
         rw found (ap (λ (k : KeyHead). let o : Option KeyHead = Some k in o) (sym same))
 
-pub not_taken : (t : KeyHead → Bool) (o : Option KeyHead) → option_map_or t o false ≡ false → if_matching t o ≡ None
+not_taken : (t : KeyHead → Bool) (o : Option KeyHead) → option_map_or t o false ≡ false → if_matching t o ≡ None
 not_taken t None found = refl
 not_taken t (Some h) found = rw found refl
+
+-- a search among the items of a table, which are its heads, ends at a place; `seen` are the items that the code looks at
+module _ (p t : KeyHead → Bool) (s : IsSearch p t) (items heads seen : List KeyHead) (at : ℕ) (same : items ≡ heads) (seen_is : seen ≡ items) (are : AreOrdered items) (at_is : at ≡ prefix_len p heads) where
+  ends : at ≡ prefix_len p items
+  ends = at_is ∙ ap (prefix_len p) (sym same)
+
+  pub found_there : if_matching t (slice_get seen at) ≡ find t heads
+  found_there = ap (λ (l : List KeyHead). if_matching t (slice_get l at)) seen_is ∙ ap (λ (k : ℕ). if_matching t (slice_get items k)) ends ∙ searched p t s items are ∙ ap (find t) same
+
+  module _ (b : Bool) (test : b ≡ option_map_or t (slice_get seen at) false) where
+    tested : option_map_or t (slice_get items at) false ≡ b
+    tested = ap (λ (l : List KeyHead). option_map_or t (slice_get l at) false) (sym seen_is) ∙ sym test
+
+    found_in : if_matching t (slice_get items at) ≡ find t heads
+    found_in = ap (λ (l : List KeyHead). if_matching t (slice_get l at)) (sym seen_is) ∙ found_there
+
+    pub taken_there : b ≡ true → (d : KeyHead) → d ≡ get_or items at d → find t heads ≡ Some d
+    taken_there hit d read = sym found_in ∙ taken_head t items at d (tested ∙ hit) read
+
+    pub removed_there : b ≡ true → remove items at ≡ remove_key t heads
+    removed_there hit =
+        let here = subst (λ (k : ℕ). option_map_or t (slice_get items k) false ≡ true) ends (tested ∙ hit) in
+        ap (remove items) ends ∙ removed p t s items are here ∙ ap (remove_key t) same
+
+    pub none_there : b ≡ false → find t heads ≡ None
+    none_there miss = sym found_in ∙ not_taken t (slice_get items at) (tested ∙ miss)
+
+pub greatest_there : (name : List ℕ) (items heads seen : List KeyHead) (at : ℕ) (o : Option KeyHead) → items ≡ heads → seen ≡ items → AreOrdered items → at ≡ prefix_len (is_name_before name) heads
+    → o ≡ if_matching (is_of_name name) (slice_get seen at) → greatest_cycle name heads ≡ cycle_of o
+greatest_there name items heads seen at o same seen_is are at_is is =
+    greatest_is name heads (subst AreOrdered same are)
+    ∙ ap cycle_of (sym (is ∙ found_there (is_name_before name) (is_of_name name) (by_name name) items heads seen at same seen_is are at_is))
 
 pub nothing_removed : (t : KeyHead → Bool) (heads : List KeyHead) → find t heads ≡ None → remove_key t heads ≡ heads
 nothing_removed t [] none = refl
@@ -195,7 +222,3 @@ nothing_removed t (h ∷ hs) none = by (nothing_removed t hs) (t h) none
 pub found_room : {A E : Type 0} (r : Result A E) (new one other : List KeyHead) → IsOk r → new ≡ cond (is_ok r) one other → new ≡ one
 found_room (Ok x) new one other ok is = is
 found_room (Err e) new one other ok is = absurd (search rules)
-
-pub one_more : (b : Bool) (new old : ℕ) → new ≡ cond b (old + 1) old → new ≤ old + 1
-one_more true new old is = omega (arith, is)
-one_more false new old is = omega (arith, is)

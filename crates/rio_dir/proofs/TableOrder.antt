@@ -1,43 +1,35 @@
 -- The order of the key list.
 use Rattle.std.proofs.Common.{◌≡◌, ℕ, ◌<◌, ◌&&◌, Bool, true, false, ltb, eqb, List, refl, ap, sym, subst, ◌∙◌, arith}
-use Rattle.std.specs.Str.{bytes_eq}
-use Rattle.std.specs.Ordering.{nat_cmp, ordering_reverse, is_eq}
-use Rattle.std.specs.Cmp.Lexicographic.{slice_cmp}
-use Rattle.std.specs.declared.cmp.Ordering.{Ordering}
-use Rattle.std.specs.declared.cmp.Ordering.TheVariants.{Less, Equal, Greater}
-use Rattle.std.proofs.lemmas.Bool.{ltb-true, ltb-false, lt-ltb, le-ltb, eqb-true, eqb-false}
-use Rattle.std.proofs.lemmas.Bool.Decides.{nat_tests}
-use Rattle.std.proofs.lemmas.Cmp.{nat_list_cmp_total}
-use Rattle.std.proofs.lemmas.Map.Text.{is_eq-slice_cmp}
-use Rattle.std.proofs.lemmas.Slice.Eq.{bytes_eq-Decides}
+use Rattle.std.proofs.{lemmas.Bool.{ltb-true, ltb-false, lt-ltb, le-ltb, eqb-true, eqb-false, Decides.{nat_tests}}, lemmas.Cmp.{nat_list_cmp_total}}
+use Rattle.std.proofs.{lemmas.Map.Text.{is_eq-slice_cmp}, lemmas.Slice.Eq.{bytes_eq-Decides}}
+use Rattle.std.specs.{Str.{bytes_eq}, Ordering.{ordering_reverse, is_eq}, Cmp.Lexicographic.{slice_cmp}}
+use Rattle.std.specs.declared.cmp.Ordering.{Ordering, TheVariants.{Less, Equal, Greater}}
+use Rattle.rio_num.specs.Word.{name_order}
 use Rattle.rio_dir.specs.Table.{comes_before, first_by, is_at_cycle, is_before, is_name_before, is_of_name}
 use Rattle.rio_key.specs.declared.head.KeyHead.{KeyHead}
 
-abbrev compared : List ℕ → List ℕ → Ordering
-compared = slice_cmp nat_cmp
-
-equal_right : (a b c : List ℕ) → compared b c ≡ Equal → compared a c ≡ compared a b
+equal_right : (a b c : List ℕ) → name_order b c ≡ Equal → name_order a c ≡ name_order a b
 equal_right a b c e =
     nat_list_cmp_total.antisymm a c ∙ ap ordering_reverse (sym (nat_list_cmp_total.congr b c a e)) ∙ sym (nat_list_cmp_total.antisymm a b)
 
-equal_names : (a b : List ℕ) → compared a b ≡ Equal → a ≡ b
+equal_names : (a b : List ℕ) → name_order a b ≡ Equal → a ≡ b
 equal_names a b e = (bytes_eq-Decides a b).0 (sym (is_eq-slice_cmp a b) ∙ ap is_eq e)
 
-same_names : (a b : List ℕ) → bytes_eq a b ≡ true → compared a b ≡ Equal
-same_names a b e = by (compared a b) refl
+same_names : (a b : List ℕ) → bytes_eq a b ≡ true → name_order a b ≡ Equal
+same_names a b e = by (name_order a b) refl
   where
-    by : (r : Ordering) → compared a b ≡ r → compared a b ≡ Equal
-    by Less is = let eq : is_eq (compared a b) ≡ true = is_eq-slice_cmp a b ∙ e in absurd (cc (ap is_eq is))
+    by : (r : Ordering) → name_order a b ≡ r → name_order a b ≡ Equal
+    by Less is = let eq : is_eq (name_order a b) ≡ true = is_eq-slice_cmp a b ∙ e in absurd (cc (ap is_eq is))
     by Equal is = is
-    by Greater is = let eq : is_eq (compared a b) ≡ true = is_eq-slice_cmp a b ∙ e in absurd (cc (ap is_eq is))
+    by Greater is = let eq : is_eq (name_order a b) ≡ true = is_eq-slice_cmp a b ∙ e in absurd (cc (ap is_eq is))
 
-other_names : (a b : List ℕ) (r : Ordering) → compared a b ≡ r → is_eq r ≡ false → bytes_eq a b ≡ false
+other_names : (a b : List ℕ) (r : Ordering) → name_order a b ≡ r → is_eq r ≡ false → bytes_eq a b ≡ false
 other_names a b r is differ = sym (is_eq-slice_cmp a b) ∙ ap is_eq is ∙ differ
 
 pub before_trans : (a : List ℕ) (m : ℕ) (b : List ℕ) (n : ℕ) (c : List ℕ) (k : ℕ) → comes_before a m b n ≡ true → comes_before b n c k ≡ true → comes_before a m c k ≡ true
-before_trans a m b n c k one two = by (compared a b) (compared b c) refl refl one two
+before_trans a m b n c k one two = by (name_order a b) (name_order b c) refl refl one two
   where
-    by : (r s : Ordering) → compared a b ≡ r → compared b c ≡ s → first_by r (ltb n m) ≡ true → first_by s (ltb k n) ≡ true → comes_before a m c k ≡ true
+    by : (r s : Ordering) → name_order a b ≡ r → name_order b c ≡ s → first_by r (ltb n m) ≡ true → first_by s (ltb k n) ≡ true → comes_before a m c k ≡ true
     by Less Less p q x y = ap (λ (o : Ordering). first_by o (ltb k m)) (nat_list_cmp_total.trans a b c p q)
     by Less Equal p q x y = ap (λ (o : Ordering). first_by o (ltb k m)) (equal_right a b c q ∙ p)
     by Less Greater p q x y = absurd cc
@@ -85,9 +77,9 @@ module _ (name : List ℕ) (cycle : ℕ) (h : KeyHead) where
 
   -- one of the three holds
   pub else_behind : is_before name cycle h ≡ false → is_at_cycle name cycle h ≡ false → comes_before name cycle h.name h.cycle ≡ true
-  else_behind e f = by (compared h.name name) refl e
+  else_behind e f = by (name_order h.name name) refl e
     where
-      by : (r : Ordering) → compared h.name name ≡ r → first_by r (ltb cycle h.cycle) ≡ false → comes_before name cycle h.name h.cycle ≡ true
+      by : (r : Ordering) → name_order h.name name ≡ r → first_by r (ltb cycle h.cycle) ≡ false → comes_before name cycle h.name h.cycle ≡ true
       by Less is e = absurd cc
       by Equal is e =
           let named : bytes_eq h.name name ≡ true = sym (is_eq-slice_cmp h.name name) ∙ ap is_eq is in
@@ -99,30 +91,30 @@ module _ (name : List ℕ) (cycle : ℕ) (h : KeyHead) where
 -- ---- one head and a name
 
 pub name_not_of : (name : List ℕ) (h : KeyHead) → is_name_before name h ≡ true → is_of_name name h ≡ false
-name_not_of name h e = by (compared h.name name) refl e
+name_not_of name h e = by (name_order h.name name) refl e
   where
-    by : (r : Ordering) → compared h.name name ≡ r → first_by r false ≡ true → is_of_name name h ≡ false
+    by : (r : Ordering) → name_order h.name name ≡ r → first_by r false ≡ true → is_of_name name h ≡ false
     by Less is e = other_names h.name name Less is refl
     by Equal is e = absurd cc
     by Greater is e = absurd cc
 
 -- the name comes before that of a head
 abbrev pub IsNameBehind : List ℕ → KeyHead → Type 0
-IsNameBehind name h = compared name h.name ≡ Less
+IsNameBehind name h = name_order name h.name ≡ Less
 
 pub else_name_behind : (name : List ℕ) (h : KeyHead) → is_name_before name h ≡ false → is_of_name name h ≡ false → IsNameBehind name h
-else_name_behind name h e f = by (compared h.name name) refl e
+else_name_behind name h e f = by (name_order h.name name) refl e
   where
-    by : (r : Ordering) → compared h.name name ≡ r → first_by r false ≡ false → IsNameBehind name h
+    by : (r : Ordering) → name_order h.name name ≡ r → first_by r false ≡ false → IsNameBehind name h
     by Less is e = absurd cc
     by Equal is e = let named : bytes_eq h.name name ≡ true = sym (is_eq-slice_cmp h.name name) ∙ ap is_eq is in absurd cc
     by Greater is e = nat_list_cmp_total.antisymm name h.name ∙ ap ordering_reverse is
 
 -- and so of those behind that head
 pub names_behind : (name : List ℕ) (h k : KeyHead) → IsNameBehind name h → comes_before h.name h.cycle k.name k.cycle ≡ true → IsNameBehind name k
-names_behind name h k less e = by (compared h.name k.name) refl e
+names_behind name h k less e = by (name_order h.name k.name) refl e
   where
-    by : (r : Ordering) → compared h.name k.name ≡ r → first_by r (ltb k.cycle h.cycle) ≡ true → IsNameBehind name k
+    by : (r : Ordering) → name_order h.name k.name ≡ r → first_by r (ltb k.cycle h.cycle) ≡ true → IsNameBehind name k
     by Less is e = nat_list_cmp_total.trans name h.name k.name less is
     by Equal is e = equal_right name h.name k.name is ∙ less
     by Greater is e = absurd cc
@@ -132,9 +124,9 @@ name_behind_not_of name h less = other_names h.name name Greater (nat_list_cmp_t
 
 -- a head before one whose name comes before is so too
 pub name_before_too : (name : List ℕ) (h k : KeyHead) → comes_before h.name h.cycle k.name k.cycle ≡ true → is_name_before name k ≡ true → is_name_before name h ≡ true
-name_before_too name h k e f = by (compared h.name k.name) (compared k.name name) refl refl e f
+name_before_too name h k e f = by (name_order h.name k.name) (name_order k.name name) refl refl e f
   where
-    by : (r s : Ordering) → compared h.name k.name ≡ r → compared k.name name ≡ s → first_by r (ltb k.cycle h.cycle) ≡ true → first_by s false ≡ true → is_name_before name h ≡ true
+    by : (r s : Ordering) → name_order h.name k.name ≡ r → name_order k.name name ≡ s → first_by r (ltb k.cycle h.cycle) ≡ true → first_by s false ≡ true → is_name_before name h ≡ true
     by Less Less p q e f = ap (λ (o : Ordering). first_by o false) (nat_list_cmp_total.trans h.name k.name name p q)
     by Equal Less p q e f = ap (λ (o : Ordering). first_by o false) (nat_list_cmp_total.congr h.name k.name name p ∙ q)
     by Greater Less p q e f = absurd cc
@@ -145,5 +137,5 @@ name_before_too name h k e f = by (compared h.name k.name) (compared k.name name
 pub same_name_lower : (name : List ℕ) (h k : KeyHead) → comes_before h.name h.cycle k.name k.cycle ≡ true → is_of_name name h ≡ true → is_of_name name k ≡ true → k.cycle < h.cycle
 same_name_lower name h k e one two =
     let same : h.name ≡ k.name = (bytes_eq-Decides h.name name).0 one ∙ sym ((bytes_eq-Decides k.name name).0 two) in
-    let is : compared h.name k.name ≡ Equal = subst (λ (n : List ℕ). compared h.name n ≡ Equal) same (same_names h.name h.name ((bytes_eq-Decides h.name h.name).1 refl)) in
+    let is : name_order h.name k.name ≡ Equal = subst (λ (n : List ℕ). name_order h.name n ≡ Equal) same (same_names h.name h.name ((bytes_eq-Decides h.name h.name).1 refl)) in
     ltb-true _ _ (rw is at e)

@@ -1,10 +1,8 @@
 -- How long what is written of heads is, and what is left of it.
 use Rattle.std.proofs.Common.{◌≡◌, ◌∙◌, ℕ, zero, suc, ◌+◌, ◌<◌, ◌≤◌, List, [], ◌∷◌, ◌++◌, length, get_or, drop, Result, Ok, Err, OnOk, OnErr, add-one, rules, refl, ap, sym, append_assoc, arith}
+use Rattle.std.proofs.lemmas.List.{append-nil, drop_all, length-append, Sums.{sum_by-cons}}
 use Rattle.std.specs.List.{flat_map, sum_by}
-use Rattle.std.proofs.lemmas.List.Sums.{sum_by-cons}
-use Rattle.std.proofs.lemmas.List.{append-nil, drop_all, length-append}
-use Rattle.rio_num.specs.Room.{Room, Appends, with_more}
-use Rattle.rio_num.specs.declared.no_memory.NoMemory.{NoMemory}
+use Rattle.rio_num.specs.{Room.{Room, Appends, with_more}, declared.no_memory.NoMemory.{NoMemory}}
 use Rattle.rio_key.specs.declared.head.KeyHead.{KeyHead}
 
 module _ (f : KeyHead → List ℕ) where

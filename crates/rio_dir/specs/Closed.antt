@@ -1,18 +1,10 @@
 -- A file by its header, directory record and key list, or its first fault.
-use Rattle.std.specs.Prelude.{ℕ, ◌+◌, ◌==◌, List, [], length, take, drop, Option, Some, None, Result, Ok, Err, nat_lt, if◌then◌else◌}
-use Rattle.std.specs.Option.{unwrap_or}
+use Rattle.std.specs.{Prelude.{ℕ, ◌+◌, ◌==◌, List, [], length, take, drop, Option, Some, None, Result, Ok, Err, nat_lt, if◌then◌else◌}, Option.{unwrap_or}}
 use Rattle.std.specs.Int.{w32, cast_unsigned}
-use Rattle.rio_num.specs.At.{At}
-use Rattle.rio_num.specs.Reading.{◌>>=◌}
-use Rattle.rio_key.specs.declared.head.KeyHead.{KeyHead}
-use Rattle.rio_key.specs.declared.fault.ListFault.{ListFault}
-use Rattle.rio_key.specs.Key.{key_at}
-use Rattle.rio_key.specs.KeyList.{key_list_at}
-use Rattle.rio_head.specs.declared.head.FileHead.{FileHead}
-use Rattle.rio_head.specs.declared.dir.DirRecord.{DirRecord}
-use Rattle.rio_head.specs.declared.fault.FileFault.TheVariants.{NotClosed, BadDir, BadKeyList}
-use Rattle.rio_head.specs.declared.fault.HeadFault.{HeadFault}
-use Rattle.rio_head.specs.Head.{fault_at, head_at}
+use Rattle.rio_num.specs.{At.{At}, Reading.{◌>>=◌}}
+use Rattle.rio_key.specs.{declared.head.KeyHead.{KeyHead}, declared.fault.ListFault.{ListFault}, Key.{key_at}, KeyList.{key_list_at}}
+use Rattle.rio_head.specs.{declared.head.FileHead.{FileHead}, declared.dir.DirRecord.{DirRecord}}
+use Rattle.rio_head.specs.{declared.fault.FileFault.TheVariants.{NotClosed, BadDir, BadKeyList}, declared.fault.HeadFault.{HeadFault}, Head.{fault_at, head_at}}
 use Rattle.rio_head.specs.Dir.{dir_at}
 use Rattle.rio_dir.specs.declared.closed.Closed.{Closed}
 

@@ -1,15 +1,9 @@
 -- A closed file by the grammar of its parts: what stands where, and no order of reading.
 use Rattle.std.specs.Prelude.{◌≡◌, ◌≢◌, ◌⊎◌, ℕ, ◌≤◌, List, [], length, drop, Ok}
-use Rattle.rio_num.specs.At.{AreBytes}
-use Rattle.rio_key.specs.declared.head.KeyHead.{KeyHead}
-use Rattle.rio_num.specs.Plain.{IsSpelledIn}
-use Rattle.rio_key.specs.Key.{SpellsKey}
-use Rattle.rio_key.specs.KeyList.{SpellsKeyList}
-use Rattle.rio_head.specs.Head.{BeginsAsHead}
-use Rattle.rio_head.specs.Dir.{BeginsAsDir}
-use Rattle.rio_dir.specs.declared.closed.Closed.{Closed}
-use Rattle.rio_dir.specs.Closed.{closed_file, data_at, dir_place}
-use Rattle.rio_dir.specs.Listing.{key_lines}
+use Rattle.rio_num.specs.{At.{AreBytes}, Plain.{IsSpelledIn}}
+use Rattle.rio_key.specs.{declared.head.KeyHead.{KeyHead}, Key.{SpellsKey}, KeyList.{SpellsKeyList}}
+use Rattle.rio_head.specs.{Head.{BeginsAsHead}, Dir.{BeginsAsDir}}
+use Rattle.rio_dir.specs.{declared.closed.Closed.{Closed}, Closed.{closed_file, data_at, dir_place}, Listing.{key_lines}}
 
 -- at this place a key is spelled, and in the data of its record these heads
 pub record IsKeyList (file : List ℕ) (place : ℕ) (keys : List KeyHead) : Type 0 where

@@ -1,17 +1,9 @@
 -- What the verb ls says of a file.
-use Rattle.std.specs.Prelude.{ℕ, ◌++◌, List, [], codes, Result, Ok, Err, if◌then◌else◌}
-use Rattle.std.specs.List.{flat_map}
-use Rattle.std.specs.Fmt.{decimal}
-use Rattle.rio_num.specs.Printed.{name_text}
-use Rattle.rio_num.specs.Reading.{◌>>=◌}
-use Rattle.rio_key.specs.declared.head.KeyHead.{KeyHead}
-use Rattle.rio_key.specs.Key.{is_compressed}
+use Rattle.std.specs.{Prelude.{ℕ, ◌++◌, List, [], codes, Result, Ok, Err, if◌then◌else◌}, List.{flat_map}}
+use Rattle.rio_num.specs.{Printed.{item_text, name_text}, Reading.{◌>>=◌}}
+use Rattle.rio_key.specs.{declared.head.KeyHead.{KeyHead}, Key.{is_compressed}}
 use Rattle.rio_head.specs.declared.fault.HeadFault.{HeadFault}
 use Rattle.rio_dir.specs.Closed.{closed_file}
-
--- NAME;CYCLE
-abbrev pub named_cycle : KeyHead → List ℕ
-named_cycle key = name_text key.name ++ codes ";" ++ decimal key.cycle
 
 -- what stands behind a key that is compressed
 abbrev pub mark_of : KeyHead → List ℕ
@@ -19,7 +11,7 @@ mark_of key = if is_compressed key then codes " compressed" else []
 
 -- NAME;CYCLE CLASS, and compressed where that holds
 abbrev pub key_line : KeyHead → List ℕ
-key_line key = named_cycle key ++ codes " " ++ name_text key.class ++ mark_of key ++ codes "\n"
+key_line key = item_text key.name key.cycle ++ codes " " ++ name_text key.class ++ mark_of key ++ codes "\n"
 
 -- a line for each key of the key list, in its order
 unfoldable pub key_lines : List KeyHead → List ℕ

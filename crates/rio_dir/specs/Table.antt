@@ -1,16 +1,9 @@
 -- The key table: heads in the order of the key list, no two of one name and cycle.
 use Rattle.std.specs.Prelude.{◌≡◌, ◌==◌, ◌&&◌, ℕ, ◌^◌, ◌<◌, Bool, true, false, List, [], ◌∷◌, ◌++◌, length, max, Option, None, Some, nat_lt, if◌then◌else◌}
-use Rattle.std.specs.List.{find, flat_map, sum_by}
-use Rattle.std.specs.Set.{remove_key}
-use Rattle.std.specs.Str.{bytes_eq}
-use Rattle.std.specs.Ordering.{nat_cmp}
-use Rattle.std.specs.Cmp.Lexicographic.{slice_cmp}
-use Rattle.std.specs.declared.cmp.Ordering.{Ordering}
-use Rattle.std.specs.declared.cmp.Ordering.TheVariants.{Less, Equal, Greater}
+use Rattle.std.specs.{List.{find, flat_map, sum_by}, Set.{remove_key}, Str.{bytes_eq}, Ordering.{nat_cmp}, Cmp.Lexicographic.{slice_cmp}}
+use Rattle.std.specs.declared.cmp.Ordering.{Ordering, TheVariants.{Less, Equal, Greater}}
 use Rattle.byteorder.specs.Endian.{big_bytes}
-use Rattle.rio_key.specs.declared.head.KeyHead.{KeyHead}
-use Rattle.rio_key.specs.KeyList.{SpellsKeyList}
-use Rattle.rio_key.specs.Written.{FitsKey, HoldsItself, written_key}
+use Rattle.rio_key.specs.{declared.head.KeyHead.{KeyHead}, KeyList.{SpellsKeyList}, Written.{FitsKey, HoldsItself, written_key}}
 
 -- heads in order, and for how many more there is room
 pub record TableRoom : Type 0 where

@@ -1,7 +1,5 @@
 -- The key table is a map from name and cycle: what is found once a key was put in, or taken out.
-use Rattle.std.specs.Prelude.{◌≡◌, ◌==◌, ◌&&◌, ℕ, List, Some, None, if◌then◌else◌}
-use Rattle.std.specs.Option.{option_map_or}
-use Rattle.std.specs.Str.{bytes_eq}
+use Rattle.std.specs.{Prelude.{◌≡◌, ◌==◌, ◌&&◌, ℕ, List, Some, None, if◌then◌else◌}, Option.{option_map_or}, Str.{bytes_eq}}
 use Rattle.rio_key.specs.declared.head.KeyHead.{KeyHead}
 use Rattle.rio_dir.specs.Table.{AreOrdered, greatest_cycle, head_of, is_at_cycle, with_head, without_head}
 

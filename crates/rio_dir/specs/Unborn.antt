@@ -1,8 +1,7 @@
 -- A file that isn't made yet, and the rules that are tested before anything is written to a file.
 use Rattle.std.specs.Prelude.{ℕ, List, length, Option, None, Bool, ◌==◌, ◌||◌, nat_lt, if◌then◌else◌}
 use Rattle.byteorder.specs.Endian.{big_number}
-use Rattle.rio_head.specs.declared.fault.HeadFault.{HeadFault}
-use Rattle.rio_head.specs.Head.{head_at}
+use Rattle.rio_head.specs.{declared.fault.HeadFault.{HeadFault}, Head.{head_at}}
 use Rattle.rio_dir.specs.Closed.{fault_of}
 
 -- it has fewer than four bytes, or its first word is zero

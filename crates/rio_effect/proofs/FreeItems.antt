@@ -1,17 +1,11 @@
 -- What a state doesn't have, none of the records that stand for it has.
 use Rattle.std.proofs.Common.{◌≡◌, inl, inr, ⊎_elim, ℕ, ◌≤◌, ◌∙◌, List, [], ◌∷◌, Bool, true, false, not, ◌&&◌, ◌||◌, Option, Some, None, refl, sym, ap, subst, arith}
-use Rattle.std.specs.Prelude.{is_some, nat_lt, option_and_then}
-use Rattle.std.specs.FinMap.{get}
-use Rattle.std.specs.List.{find, list_all, list_any}
-use Rattle.std.specs.Str.{bytes_eq}
-use Rattle.std.proofs.lemmas.Bool.{and_from, and_parts, cases_lt, ltb-true}
-use Rattle.std.proofs.lemmas.Slice.Eq.{bytes_eq-Decides}
+use Rattle.std.proofs.{lemmas.Bool.{and_from, and_parts, cases_lt, ltb-true}, lemmas.Slice.Eq.{bytes_eq-Decides}}
+use Rattle.std.specs.{Prelude.{is_some, nat_lt, option_and_then}, FinMap.{get}, List.{find, list_all, list_any}, Str.{bytes_eq}}
 use Rattle.rio_machine.specs.State.{NameAndCycle, State, names_tree}
 use Rattle.rio_state.specs.Contents.{object_in, state_classes, tree_of}
-use Rattle.rio_state.specs.KeyedRecords.{KeyedRecord, has_item, is_tree_key, is_tree_record, object_records, tree_records}
-use Rattle.rio_state.specs.Reads.{StandsForState}
-use Rattle.rio_state.proofs.Insertion.{any_none}
-use Rattle.rio_state.proofs.Members.{In, all_at, found, in_filter, none_at, none_from}
+use Rattle.rio_state.specs.{KeyedRecords.{KeyedRecord, has_item, is_tree_key, is_tree_record, object_records, tree_records}, Reads.{StandsForState}}
+use Rattle.rio_state.proofs.{Insertion.{any_none}, Members.{In, all_at, found, in_filter, none_at, none_from}}
 
 abbrev pub is_tree_named : List ℕ → KeyedRecord → Bool
 is_tree_named name s = bytes_eq s.head.name name && is_tree_key s.head
@@ -77,10 +71,6 @@ module _ (name : List ℕ) where
         in_filter (is_tree_record tops) h.top tops h.among (and_from _ _ own_parts.1 (ap not last))
 
 -- ---- names and cycles
-
-none_if_not : {A : Type 0} (o : Option A) → is_some o ≡ false → o ≡ None
-none_if_not None e = refl
-none_if_not (Some x) e = absurd cc
 
 -- a record that is found is read, where all are
 none_found : {A : Type 0} (read : KeyedRecord → Option A) (p : KeyedRecord → Bool) (rs : List KeyedRecord) → list_all (λ s. is_some (read s)) rs ≡ true

@@ -1,15 +1,13 @@
 -- A file that keeps its first 100 bytes keeps its header.
 use Rattle.std.proofs.Common.{◌≡◌, ℕ, zero, suc, ◌<◌, ◌≤◌, ◌∙◌, List, [], ◌∷◌, length, take, Bool, true, false, ◌||◌, ◌==◌, MatchBool, Some, Ok, refl, sym, ap, subst, arith}
-use Rattle.std.specs.Prelude.{nat_lt, slice_get}
 use Rattle.std.proofs.lemmas.Bool.{eqb-true}
+use Rattle.std.specs.Prelude.{nat_lt, slice_get}
 use Rattle.byteorder.specs.Endian.{big_number}
 use Rattle.rio_chain.proofs.Words.{word_within}
-use Rattle.rio_chain.specs.Segments.{IsChain, Link, chain_end}
-use Rattle.rio_chain.specs.Stops.{KeepsFront}
+use Rattle.rio_chain.specs.{Segments.{IsChain, Link, chain_end}, Stops.{KeepsFront}}
 use Rattle.rio_dir.specs.Unborn.{is_unborn}
 use Rattle.rio_head.proofs.HeadCut.{head_in_front}
-use Rattle.rio_head.specs.Head.{head_at, header_layout}
-use Rattle.rio_head.specs.declared.head.FileHead.{FileHead}
+use Rattle.rio_head.specs.{Head.{head_at, header_layout}, declared.head.FileHead.{FileHead}}
 use Rattle.rio_machine.specs.State.{empty_state}
 use Rattle.rio_state.specs.Reads.{ReadsAsMade}
 use Rattle.rio_effect.specs.Laws.{FrontTells}

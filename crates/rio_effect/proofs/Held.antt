@@ -1,29 +1,19 @@
 -- The record of a put's object raises what a file holds by no more than the put's cost.
 use Rattle.std.proofs.Common.{◌≡◌, inl, inr, ℕ, ◌+◌, ◌-◌, ◌%◌, ◌^◌, ◌≤◌, ◌∙◌, List, [], ◌∷◌, length, map, Option, Some, None, refl, sym, ap, subst, arith}
 use Rattle.std.specs.Prelude.{if◌then◌else◌, is_some}
-use Rattle.rio_chain.specs.declared.segment.Segment.{Segment}
-use Rattle.rio_chain.proofs.Laying.{laid_put}
-use Rattle.rio_chain.proofs.Placed.{end_grows}
-use Rattle.rio_chain.proofs.PutChain.{map_end, map_with}
-use Rattle.rio_chain.proofs.Words.{held_long}
-use Rattle.rio_chain.specs.Adjoining.{AreAdjacent, AreGapsApart, AreSegments, BeginsWithRecord}
-use Rattle.rio_chain.specs.Changes.{with_record}
+use Rattle.rio_chain.specs.{declared.segment.Segment.{Segment}, Adjoining.{AreAdjacent, AreGapsApart, AreSegments, BeginsWithRecord}, Changes.{with_record}}
 use Rattle.rio_chain.specs.Placing.{FreeSpace, IsPlaceFor, file_end, laid, laid_at, place_of, space_of, with_segment}
 use Rattle.rio_chain.specs.Segments.{GapAt, HasWord, HoldsEnd, HoldsLinks, IsChain, IsPositive, Link, RecordAt, chain_end, end_from, segment_of}
+use Rattle.rio_chain.proofs.{Laying.{laid_put}, Placed.{end_grows}, PutChain.{map_end, map_with}, Words.{held_long}}
 use Rattle.rio_free.specs.Gaps.{best_place}
 use Rattle.rio_format.specs.Written.{written_form}
-use Rattle.rio_machine.specs.declared.command.Command.TheVariants.{Put}
-use Rattle.rio_machine.specs.declared.refusal.Refusal.{Refusal}
+use Rattle.rio_machine.specs.{declared.command.Command.TheVariants.{Put}, declared.refusal.Refusal.{Refusal}}
 use Rattle.rio_record.proofs.Records.{key_long}
 use Rattle.rio_record.specs.Record.{key_size}
 use Rattle.rio_state.specs.Closing.{free_length, held_of, kept_in, list_length}
-use Rattle.rio_step.specs.Costs.{accepted_cost, cost_of}
-use Rattle.rio_step.specs.Refusing.{put_value}
-use Rattle.rio_effect.specs.Laws.{HeldGrows}
-use Rattle.rio_effect.specs.ObjectRecord.{data_of_put, object_record, words_of_put}
-use Rattle.rio_effect.proofs.Needs.{need_grows}
-use Rattle.rio_effect.proofs.PutEffect.{is_object_key}
-use Rattle.rio_effect.proofs.PutObject.{accepted, key_short, new_record, own_class, put_record}
+use Rattle.rio_step.specs.{Costs.{accepted_cost, cost_of}, Refusing.{put_value}}
+use Rattle.rio_effect.specs.{Laws.{HeldGrows}, ObjectRecord.{data_of_put, object_record, words_of_put}}
+use Rattle.rio_effect.proofs.{Needs.{need_grows}, PutEffect.{is_object_key}, PutObject.{accepted, key_short, new_record, own_class, put_record}}
 use Rattle.rio_effect.proofs.WrittenLengths.{written_length}
 
 -- ---- the segments of a file

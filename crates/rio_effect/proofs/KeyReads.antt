@@ -1,23 +1,18 @@
 -- The record of an object is found at the place that its key says, and read back as the object.
 use Rattle.std.proofs.Common.{◌≡◌, ◌⊎◌, inl, inr, ℕ, ◌+◌, ◌∙◌, List, [], ◌∷◌, drop, length, not, Option, Some, Result, Ok, refl, sym, ap, subst}
-use Rattle.std.specs.FinMap.{get}
-use Rattle.std.specs.List.{Contains, cons_option}
 use Rattle.std.proofs.lemmas.Option.{same_Some}
+use Rattle.std.specs.{FinMap.{get}, List.{Contains, cons_option}}
 use Rattle.rio_value.specs.declared.value.Value.{Value}
 use Rattle.rio_buffer.specs.declared.fault.ObjFault.{ObjFault}
 use Rattle.rio_format.specs.Objects.{value_at}
-use Rattle.rio_key.specs.declared.head.KeyHead.{KeyHead}
-use Rattle.rio_key.specs.declared.fault.KeyFault.{KeyFault}
+use Rattle.rio_key.specs.{declared.head.KeyHead.{KeyHead}, declared.fault.KeyFault.{KeyFault}}
 use Rattle.rio_chain.specs.Segments.{GapAt, HoldsLinks, IsChain, IsRecord, Link, RecordAt}
 use Rattle.rio_machine.specs.State.{State}
-use Rattle.rio_state.specs.DirectoryKeys.{AreKeysOf}
-use Rattle.rio_state.specs.KeyedRecords.{KeyedRecord, is_top_key, is_tree_key, item_of_key, keyed_records, top_keys}
-use Rattle.rio_state.specs.Reads.{AreRecordsOf}
-use Rattle.rio_state.specs.OneMore.{keyed_bytes}
+use Rattle.rio_state.specs.{DirectoryKeys.{AreKeysOf}, KeyedRecords.{KeyedRecord, is_top_key, is_tree_key, item_of_key, keyed_records, top_keys}}
+use Rattle.rio_state.specs.{Reads.{AreRecordsOf}, OneMore.{keyed_bytes}}
 use Rattle.rio_effect.specs.Laws.{HasRecordOf, KeysHaveRecords}
 use Rattle.rio_state.proofs.KeyRecords.{ObjectOf, TreeOf, holder, item_is, key_record, object_of, tree_apart}
-use Rattle.rio_state.proofs.Members.{In, contains_in, filter_in, in_contained}
-use Rattle.rio_state.proofs.MoreRecords.{keyed_link, own_key}
+use Rattle.rio_state.proofs.{Members.{In, contains_in, filter_in, in_contained}, MoreRecords.{keyed_link, own_key}}
 use Rattle.rio_effect.proofs.ReadClasses.{object_is_read}
 
 -- the record stands at the place of its key

@@ -1,49 +1,33 @@
 -- The keys of a file stand for the objects of the state that its records stand for.
 use Rattle.std.proofs.Common.{◌≡◌, ◌⊎◌, inl, inr, ℕ, ◌∙◌, List, [], ◌∷◌, map, Bool, true, false, cond, ◌&&◌, ◌==◌, Option, Some, None, refl, sym, ap, subst}
+use Rattle.std.proofs.{lemmas.Bool.{and_from}, lemmas.Map.Views.{tells_apart}, lemmas.Option.{same_Some}}
 use Rattle.std.specs.Prelude.{T, is_some, nat_lt, option_and_then, unwrap_or}
 use Rattle.std.specs.FinMap.{contains_key-keys, empty, entries, entries-from_sorted, entries_sorted, find as find_key, from_sorted, get, get-empty, get-entries, get-from_sorted, is_sorted, keys, same_map}
-use Rattle.std.specs.List.{find as find_by, list_all}
-use Rattle.std.specs.Option.{option_map}
-use Rattle.std.specs.Ordering.{eq_by_cmp, is_lt, nat_cmp, ordering_then}
-use Rattle.std.specs.Cmp.Lexicographic.{slice_cmp}
-use Rattle.std.specs.Cmp.{eq_by_cmp_equiv}
-use Rattle.std.specs.Str.{bytes_eq}
-use Rattle.std.specs.declared.cmp.Ordering.{Ordering}
-use Rattle.std.specs.declared.cmp.Ordering.TheVariants.{Less, Equal, Greater}
-use Rattle.std.proofs.lemmas.Bool.{and_from}
-use Rattle.std.proofs.lemmas.Map.Views.{tells_apart}
-use Rattle.std.proofs.lemmas.Option.{same_Some}
+use Rattle.std.specs.{List.{find as find_by, list_all}, Option.{option_map}, Ordering.{eq_by_cmp, is_lt, nat_cmp, ordering_then}}
+use Rattle.std.specs.{Cmp.{eq_by_cmp_equiv, Lexicographic.{slice_cmp}}, Str.{bytes_eq}, declared.cmp.Ordering.{Ordering, TheVariants.{Less, Equal, Greater}}}
+use Rattle.rio_num.specs.Word.{name_order}
+use Rattle.rio_num.proofs.Cases.{is_true, some_of}
 use Rattle.rio_types.specs.declared.class.ClassDef.{ClassDef}
 use Rattle.rio_value.specs.declared.value.Value.{Value}
 use Rattle.rio_key.specs.declared.head.KeyHead.{KeyHead}
 use Rattle.rio_dir.specs.Table.{AreBehind, AreOrdered, comes_before, first_by}
 use Rattle.rio_machine.proofs.OrderLaws.{items_tie, items_total, names_tie, names_total}
-use Rattle.rio_machine.specs.State.{NameAndCycle, State, item_order, name_order}
-use Rattle.rio_state.proofs.Collected.{item_same}
-use Rattle.rio_state.specs.Contents.{state_classes, tree_of}
-use Rattle.rio_state.specs.DirectoryKeys.{AreKeysOf}
-use Rattle.rio_state.specs.KeyedRecords.{KeyedRecord, info_key, item_of_key, top_keys, tree_records}
-use Rattle.rio_state.specs.Reads.{AreRecordsOf}
-use Rattle.rio_step.specs.ItemKeys.{AreKeysOfState, told_by_key}
-use Rattle.rio_step.specs.Refusing.{object_class}
-use Rattle.rio_step.specs.Step.{Listed, listed_object, object_listed}
-use Rattle.rio_effect.specs.Laws.{KeysNameObjects, KeysStandForState}
-use Rattle.rio_state.proofs.KeyRecords.{ObjectOf, TreeOf, holder, key_record, object_of, record_key}
+use Rattle.rio_machine.specs.State.{NameAndCycle, State, item_order}
+use Rattle.rio_state.proofs.{Collected.{item_same}, KeyRecords.{ObjectOf, TreeOf, holder, key_record, object_of, record_key}}
 use Rattle.rio_state.proofs.Members.{In, all_at, any_from, in_contained, in_map, map_in}
+use Rattle.rio_state.specs.{Contents.{state_classes, tree_of}, DirectoryKeys.{AreKeysOf}}
+use Rattle.rio_state.specs.{KeyedRecords.{KeyedRecord, info_key, item_of_key, top_keys, tree_records}, Reads.{AreRecordsOf}}
+use Rattle.rio_step.specs.{ItemKeys.{AreKeysOfState, told_by_key}, Refusing.{object_class}, Step.{Listed, listed_object, object_listed}}
+use Rattle.rio_effect.specs.Laws.{KeysNameObjects, KeysStandForState}
 use Rattle.rio_effect.proofs.ReadClasses.{object_is_read}
-use Rattle.rio_effect.proofs.NextCycles.{some_of}
+
+abbrev pub Told : Type 0
+Told = NameAndCycle × Listed
 
 -- ---- one order
 
-abbrev Told : Type 0
-Told = NameAndCycle × Listed
-
 true_is : (b : Bool) → b ≡ true → T b
 true_is b e = subst T (sym e) tt
-
-is_true : (b : Bool) → T b → b ≡ true
-is_true true h = refl
-is_true false h = absurd h
 
 first_is : (r b : Ordering) (c : Bool) → is_lt b ≡ c → is_lt (ordering_then r b) ≡ first_by r c
 first_is Less b c e = refl

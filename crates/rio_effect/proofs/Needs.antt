@@ -1,23 +1,15 @@
 -- What a close needs with one more record in the file, and by the keys that are kept beside it.
 use Rattle.std.proofs.Common.{◌≡◌, ℕ, ◌+◌, ◌≤◌, ◌∙◌, codes, List, ◌∷◌, length, Bool, true, false, not, ◌&&◌, Option, Some, None, sym, ap, subst, arith}
+use Rattle.std.proofs.{lemmas.Bool.{and_parts}, lemmas.List.{length-append, Sums.{sum_by-append, sum_by-cons}}}
 use Rattle.std.specs.List.{sum_by}
-use Rattle.std.proofs.lemmas.Bool.{and_parts}
-use Rattle.std.proofs.lemmas.List.{length-append}
-use Rattle.std.proofs.lemmas.List.Sums.{sum_by-append, sum_by-cons}
-use Rattle.rio_key.specs.Written.{written_key}
-use Rattle.rio_key.specs.declared.head.KeyHead.{KeyHead}
+use Rattle.rio_key.specs.{Written.{written_key}, declared.head.KeyHead.{KeyHead}}
 use Rattle.rio_chain.specs.Changes.{with_record}
 use Rattle.rio_machine.specs.Limits.{head_length}
 use Rattle.rio_state.specs.Closing.{KeptRecords, close_need, free_length, item_heads, kept_count, kept_in, list_length, padded_length}
 use Rattle.rio_state.specs.KeyedRecords.{KeyedRecord, has_info_name, info_key, is_in_directory, is_info_key, is_top_key, keyed_records, top_keys}
-use Rattle.rio_state.specs.OneMore.{keyed_bytes}
-use Rattle.rio_effect.specs.Laws.{NeedGrows}
-use Rattle.rio_state.specs.OneMore.{HasOneMoreIn}
-use Rattle.rio_effect.specs.More.{KeepsOneMore}
-use Rattle.rio_state.proofs.Insertion.{filter_more}
-use Rattle.rio_state.proofs.KeysFollow.{items_more}
-use Rattle.rio_state.proofs.MoreRecords.{first_stays, record_more}
-use Rattle.rio_state.proofs.Stays.{info_same}
+use Rattle.rio_state.specs.OneMore.{keyed_bytes, HasOneMoreIn}
+use Rattle.rio_effect.specs.{Laws.{NeedGrows}, More.{KeepsOneMore}}
+use Rattle.rio_state.proofs.{Insertion.{filter_more}, KeysFollow.{items_more}, MoreRecords.{first_stays, record_more}, Stays.{info_same}}
 
 -- ---- sums
 

@@ -1,25 +1,16 @@
 -- The keys beside a file tell what its close needs.
 use Rattle.std.proofs.Common.{◌≡◌, inl, inr, ⊎_elim, ℕ, ◌+◌, ◌*◌, ◌∙◌, codes, List, [], ◌∷◌, ◌++◌, length, map, Bool, true, false, not, Option, refl, sym, ap, subst, arith}
-use Rattle.std.specs.List.{list_any, sum_by}
-use Rattle.std.specs.Option.{option_map_or}
-use Rattle.std.proofs.lemmas.Bool.{and_parts}
-use Rattle.std.proofs.lemmas.List.{map-append}
-use Rattle.std.proofs.lemmas.List.Sums.{sum_by-cons}
-use Rattle.rio_key.specs.Written.{written_key}
-use Rattle.rio_key.specs.declared.head.KeyHead.{KeyHead}
+use Rattle.std.proofs.{lemmas.Bool.{and_parts}, lemmas.List.{map-append, Sums.{sum_by-cons}}}
+use Rattle.std.specs.{List.{list_any, sum_by}, Option.{option_map_or}}
+use Rattle.rio_key.specs.{Written.{written_key}, declared.head.KeyHead.{KeyHead}}
 use Rattle.rio_dir.proofs.TableOrder.{before_itself}
 use Rattle.rio_dir.specs.Table.{AreBehind, AreOrdered, comes_before}
-use Rattle.rio_machine.specs.Limits.{head_length}
-use Rattle.rio_machine.specs.State.{State}
-use Rattle.rio_state.specs.Closing.{item_heads, kept_count, kept_in, name_in}
-use Rattle.rio_state.specs.DirectoryKeys.{AreKeysOf}
+use Rattle.rio_machine.specs.{Limits.{head_length}, State.{State}}
+use Rattle.rio_state.specs.{Closing.{item_heads, kept_count, kept_in, name_in}, DirectoryKeys.{AreKeysOf}}
 use Rattle.rio_state.specs.KeyedRecords.{KeyedRecord, has_item, info_key, is_tree_key, is_tree_record, item_of_key, keyed_records, object_records, top_keys, tree_records}
-use Rattle.rio_state.specs.Reads.{AreRecordsOf, are_distinct}
+use Rattle.rio_state.specs.{Reads.{AreRecordsOf, are_distinct}, OneMore.{HasOneMoreIn}}
 use Rattle.rio_effect.specs.Laws.{NeedByKeys}
-use Rattle.rio_state.specs.OneMore.{HasOneMoreIn}
-use Rattle.rio_state.proofs.Insertion.{behind, here}
-use Rattle.rio_state.proofs.KeyRecords.{distinct_filter, own_item}
-use Rattle.rio_state.proofs.KeysFollow.{heads_in, in_before, in_still, items_in}
+use Rattle.rio_state.proofs.{Insertion.{behind, here}, KeyRecords.{distinct_filter}, KeysFollow.{heads_in, in_before, in_still, items_in}, Collected.{own_item}}
 use Rattle.rio_state.proofs.Members.{In, any_from, filter_in, in_either, map_in}
 use Rattle.rio_effect.proofs.Needs.{length_more, sum_more}
 

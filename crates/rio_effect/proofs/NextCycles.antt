@@ -1,28 +1,20 @@
 -- The keys beside a file tell the next cycle of a name.
-use Rattle.std.proofs.Common.{◌≡◌, ◌⊎◌, inl, inr, ℕ, ◌+◌, ◌≤◌, ◌∙◌, max, List, [], ◌∷◌, Bool, true, false, cond, Option, Some, None, refl, sym, ap, subst, arith}
-use Rattle.std.specs.Prelude.{is_some}
-use Rattle.std.specs.Cmp.{eq_by_cmp_equiv}
-use Rattle.std.specs.FinMap.{contains_key-keys, get, keys}
-use Rattle.std.specs.List.{filter, list_any}
-use Rattle.std.specs.Ordering.{eq_by_cmp}
+use Rattle.std.proofs.Common.{◌≡◌, ◌⊎◌, inl, inr, ℕ, ◌+◌, ◌≤◌, ◌∙◌, max, List, [], ◌∷◌, Bool, true, false, cond, Some, refl, sym, ap, subst, arith}
+use Rattle.std.proofs.{lemmas.Bool.{and_from, and_parts}, lemmas.Map.Views.{tells_apart}, lemmas.Slice.Eq.{bytes_eq-Decides}}
+use Rattle.std.specs.{Prelude.{is_some}, Cmp.{eq_by_cmp_equiv}, FinMap.{contains_key-keys, get, keys}, List.{filter, list_any}, Ordering.{eq_by_cmp}}
 use Rattle.std.specs.Str.{bytes_eq}
-use Rattle.std.proofs.lemmas.Bool.{and_from, and_parts}
-use Rattle.std.proofs.lemmas.Map.Views.{tells_apart}
-use Rattle.std.proofs.lemmas.Slice.Eq.{bytes_eq-Decides}
-use Rattle.rio_value.specs.Depth.{greatest}
-use Rattle.rio_value.specs.declared.value.Value.{Value}
+use Rattle.rio_num.proofs.Cases.{some_of}
+use Rattle.rio_value.specs.{Depth.{greatest}, declared.value.Value.{Value}}
 use Rattle.rio_key.specs.declared.head.KeyHead.{KeyHead}
 use Rattle.rio_dir.proofs.TableOrder.{at_is}
 use Rattle.rio_dir.specs.Table.{greatest_cycle, is_at_cycle, is_of_name}
 use Rattle.rio_machine.proofs.OrderLaws.{items_tie, items_total}
 use Rattle.rio_machine.specs.State.{NameAndCycle, State, cycles_of, item_order, last_cycle, names_tree, next_cycle}
-use Rattle.rio_state.specs.DirectoryKeys.{AreKeysOf}
-use Rattle.rio_state.specs.KeyedRecords.{KeyedRecord, info_key, is_tree_key, is_tree_record, top_keys, tree_records}
+use Rattle.rio_state.specs.{DirectoryKeys.{AreKeysOf}, KeyedRecords.{KeyedRecord, info_key, is_tree_key, is_tree_record, top_keys, tree_records}}
 use Rattle.rio_state.specs.Reads.{AreRecordsOf}
 use Rattle.rio_effect.specs.Laws.{IsNextCycle, KeysTellNextCycle}
 use Rattle.rio_effect.proofs.FreeItems.{is_tree_named, no_tree_named}
-use Rattle.rio_state.proofs.Insertion.{find_none}
-use Rattle.rio_state.proofs.KeyRecords.{ObjectOf, TreeOf, holder, item_is, key_record, object_of, record_key}
+use Rattle.rio_state.proofs.{Insertion.{find_none}, KeyRecords.{ObjectOf, TreeOf, holder, item_is, key_record, object_of, record_key}}
 use Rattle.rio_state.proofs.Members.{In, any_from, filter_in, in_filter, in_map, map_in, none_at, none_from, passing}
 
 -- ---- greatest cycles
@@ -57,10 +49,6 @@ greatest_high (y ∷ ys) x (inl same) = omega (arith, same)
 greatest_high (y ∷ ys) x (inr i) = let rest = greatest_high ys x i in omega (arith, rest)
 
 -- ---- items of a state
-
-pub some_of : {A : Type 0} (o : Option A) → is_some o ≡ true → (x : A) × (o ≡ Some x)
-some_of None e = absurd cc
-some_of (Some x) e = (x, refl)
 
 module _ (m : State) (item : NameAndCycle) where
   key_held : In item (keys m.objects) → (v : Value) × (get m.objects item ≡ Some v)

@@ -1,21 +1,15 @@
 -- The class of an object that a put takes: its name is short, and not one of the classes that the format keeps for itself.
 use Rattle.std.proofs.Common.{◌≡◌, ⊎_elim, ℕ, ℤ, pos, negsuc, ◌≤◌, ◌∙◌, codes, List, [], ◌∷◌, ◌++◌, length, Bool, true, false, cond, not, ◌&&◌, Some, None, refl, sym, ap, subst, arith}
-use Rattle.std.specs.Prelude.{is_some}
-use Rattle.std.specs.List.{list_all}
-use Rattle.std.specs.Str.{bytes_eq}
-use Rattle.std.proofs.lemmas.Bool.{and_from, and_parts, leb-true, or_cases}
-use Rattle.std.proofs.lemmas.Int.{ints}
-use Rattle.std.proofs.lemmas.Slice.Eq.{bytes_eq-Decides}
+use Rattle.std.proofs.{lemmas.Bool.{and_from, and_parts, leb-true, or_cases}, lemmas.Int.{ints}, lemmas.Slice.Eq.{bytes_eq-Decides}}
+use Rattle.std.specs.{Prelude.{is_some}, List.{list_all}, Str.{bytes_eq}}
 use Rattle.rio_num.specs.Word.{is_item_text, is_name_text}
-use Rattle.rio_types.specs.Classes.{newer_of, newest_in}
-use Rattle.rio_types.specs.declared.class.ClassDef.{ClassDef}
-use Rattle.rio_format.specs.Bodies.{form_of, headed_classes}
-use Rattle.rio_format.specs.Slots.{can_be_put, is_headed}
+use Rattle.rio_types.specs.{Classes.{newer_of, newest_in}, declared.class.ClassDef.{ClassDef}}
+use Rattle.rio_format.specs.{Bodies.{form_of, headed_classes}, Slots.{can_be_put, is_headed}}
 use Rattle.rio_format.proofs.BuiltInLaws.{of_each}
-use Rattle.rio_model.specs.Declaring.{is_reserved_name}
-use Rattle.rio_model.specs.StateClasses.{AreAccepted, IsDeclared, StateClasses}
+use Rattle.rio_model.specs.{Declaring.{is_reserved_name}, StateClasses.{AreAccepted, IsDeclared, StateClasses}}
 use Rattle.rio_model.specs.Stated.{has_stated_parts, is_class_version, is_stated_class}
-use Rattle.rio_effect.proofs.Versions.{are_in_range, in_range}
+use Rattle.rio_model.proofs.ListDepth.{in_range}
+use Rattle.rio_effect.proofs.Versions.{are_in_range}
 
 -- ---- declared classes
 

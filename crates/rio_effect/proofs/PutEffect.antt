@@ -1,36 +1,25 @@
 -- With the record of an object that a put adds the records stand for the state behind the put.
 use Rattle.std.proofs.Common.{◌≡◌, ℕ, ◌+◌, ◌-◌, ◌%◌, ◌^◌, ◌<◌, ◌∙◌, List, length, true, false, not, ◌||◌, ◌==◌, Option, Some, None, refl, sym, ap, subst, arith}
-use Rattle.std.specs.FinMap.{insert}
 use Rattle.std.proofs.lemmas.Bool.{and_from, and_left, and_right}
+use Rattle.std.specs.FinMap.{insert}
 use Rattle.rio_num.specs.Word.{is_item_text}
 use Rattle.rio_types.specs.declared.class.ClassDef.{ClassDef}
 use Rattle.rio_value.specs.declared.value.Value.{Value}
 use Rattle.rio_key.specs.declared.head.KeyHead.{KeyHead}
-use Rattle.rio_chain.specs.Changes.{with_record}
-use Rattle.rio_chain.specs.Segments.{Link}
+use Rattle.rio_chain.specs.{Changes.{with_record}, Segments.{Link}}
 use Rattle.rio_model.specs.StateClasses.{StateClasses}
 use Rattle.rio_machine.specs.State.{State, next_cycle}
 use Rattle.rio_state.specs.Contents.{HasStateClasses, object_in, state_classes}
 use Rattle.rio_state.specs.KeyedRecords.{KeyedRecord, first_place, has_info_name, info_key, is_elsewhere, is_in_directory, is_internal, is_top_key, keyed_records, top_keys}
-use Rattle.rio_state.specs.Reads.{AreRecordsOf, StandsForState}
+use Rattle.rio_state.specs.{Reads.{AreRecordsOf, StandsForState}, Closing.{padded_length}, OneMore.{HasOneMoreIn}}
 use Rattle.rio_record.specs.Record.{key_size}
-use Rattle.rio_step.specs.Costs.{value_size}
-use Rattle.rio_state.specs.Closing.{padded_length}
-use Rattle.rio_effect.proofs.WrittenLengths.{written_length}
+use Rattle.rio_step.specs.{Costs.{value_size}, Refusing.{put_value}, Runs.{saved_of}}
+use Rattle.rio_effect.proofs.{WrittenLengths.{written_length}, FreeItems.{no_item, no_tree_named}, PutClasses.{IsObjectClass}}
+use Rattle.rio_effect.proofs.{PutObject.{IsAccepted, accepted, object_read, own_class, new_record, put_record, words_fit}, SavedPuts.{puts_ignore_pending}}
 use Rattle.rio_step.proofs.StepLaws.{next_is_free}
-use Rattle.rio_step.specs.Refusing.{put_value}
-use Rattle.rio_step.specs.Runs.{saved_of}
 use Rattle.rio_effect.specs.Laws.{IsObjectKey, PutTakesEffect, PutsHaveRecords, SavedPutTakesEffect}
-use Rattle.rio_state.specs.OneMore.{HasOneMoreIn}
 use Rattle.rio_effect.specs.ObjectRecord.{data_of_put, object_key, object_record, record_of_put, words_of_put}
-use Rattle.rio_effect.proofs.FreeItems.{no_item, no_tree_named}
-use Rattle.rio_state.proofs.Insertion.{all_more, filter_more}
-use Rattle.rio_state.proofs.MoreRecords.{record_more}
-use Rattle.rio_state.proofs.ObjectStands.{IsNewObject, object_stands}
-use Rattle.rio_effect.proofs.PutClasses.{IsObjectClass}
-use Rattle.rio_effect.proofs.PutObject.{IsAccepted, accepted, object_read, own_class, new_record, put_record, words_fit}
-use Rattle.rio_effect.proofs.SavedPuts.{puts_ignore_pending}
-use Rattle.rio_state.proofs.Stays.{info_same}
+use Rattle.rio_state.proofs.{Insertion.{all_more, filter_more}, MoreRecords.{record_more}, ObjectStands.{IsNewObject, object_stands}, Stays.{info_same}}
 
 -- ---- the key of an object
 

@@ -2,12 +2,9 @@
 use Rattle.std.proofs.Common.{◌∙◌}
 use Rattle.rio_chain.specs.Changes.{with_record}
 use Rattle.rio_state.specs.KeyedRecords.{keyed_records}
-use Rattle.rio_effect.specs.Laws.{PutKeyFollows, SavedPutKeyFollows}
-use Rattle.rio_effect.specs.ObjectRecord.{object_key, record_of_put}
+use Rattle.rio_effect.specs.{Laws.{PutKeyFollows, SavedPutKeyFollows}, ObjectRecord.{object_key, record_of_put}}
 use Rattle.rio_state.proofs.KeysFollow.{keys_follow}
-use Rattle.rio_effect.proofs.NextCycles.{is_next_cycle}
-use Rattle.rio_effect.proofs.PutEffect.{classes_of_records, put_key, put_more}
-use Rattle.rio_effect.proofs.PutObject.{accepted, put_record}
+use Rattle.rio_effect.proofs.{NextCycles.{is_next_cycle}, PutEffect.{classes_of_records, put_key, put_more}, PutObject.{accepted, put_record}}
 use Rattle.rio_effect.proofs.SavedPuts.{puts_ignore_pending}
 use Rattle.rio_step.specs.Runs.{saved_of}
 

@@ -1,55 +1,38 @@
 -- The record of an object that a put adds holds the object.
-use Rattle.std.proofs.Common.{◌≡◌, ℕ, zero, suc, ◌^◌, ◌<◌, ◌≤◌, ◌∙◌, List, [], ◌++◌, length, replicate, Bool, true, false, cond, not, ltb, ◌==◌, Option, Some, None, Ok, refl, ap, arith}
-use Rattle.std.specs.Prelude.{if◌then◌else◌, unwrap_or}
-use Rattle.std.specs.List.{list_all}
-use Rattle.std.specs.Option.{option_map_or}
-use Rattle.std.proofs.lemmas.Bool.{and_from, lt-ltb, ltb-false, not-false, or_parts}
-use Rattle.std.proofs.lemmas.List.{length-replicate}
-use Rattle.rio_num.specs.Text.{long_form, short_form, text_bytes}
-use Rattle.rio_num.specs.Word.{is_item_text}
+use Rattle.std.proofs.Common.{◌≡◌, ℕ, ◌^◌, ◌<◌, ◌≤◌, ◌∙◌, List, [], ◌++◌, length, replicate, Bool, true, false, not, ltb, Option, Some, None, Ok, refl, ap, arith}
+use Rattle.std.proofs.lemmas.Bool.{and_from, ltb-false, not-false, or_parts}
+use Rattle.std.specs.{Prelude.{if◌then◌else◌, unwrap_or}, Option.{option_map_or}}
+use Rattle.rio_num.specs.{Text.{text_bytes}, Word.{is_item_text}, Room.{is_padding}}
+use Rattle.rio_num.proofs.{Puts.{zeros_pad}, TextLengths.{short_text_bytes}}
 use Rattle.rio_types.specs.declared.class.ClassDef.{ClassDef}
-use Rattle.rio_value.specs.Depth.{depth_of}
-use Rattle.rio_value.specs.declared.value.Value.{Value}
+use Rattle.rio_value.specs.{Depth.{depth_of}, declared.value.Value.{Value}}
+use Rattle.rio_key.specs.Written.{padded_size}
 use Rattle.rio_buffer.specs.ReaderState.{ReaderState}
-use Rattle.rio_format.specs.Fits.{fits}
-use Rattle.rio_format.specs.Objects.{SpellsObject, depth_limit, first_at}
-use Rattle.rio_format.specs.Slots.{can_be_put}
-use Rattle.rio_format.specs.WrittenBytes.{length_limit}
-use Rattle.rio_format.proofs.ObjectLaws.{spelled_is_read}
-use Rattle.rio_format.proofs.WrittenValues.{written_is_spelled}
+use Rattle.rio_format.specs.{Fits.{fits}, Objects.{SpellsObject, depth_limit, first_at}, Slots.{can_be_put}, WrittenBytes.{length_limit}}
+use Rattle.rio_format.proofs.{ObjectLaws.{spelled_is_read}, WrittenValues.{written_is_spelled}}
 use Rattle.rio_model.specs.StateClasses.{StateClasses}
-use Rattle.rio_machine.specs.Limits.{cycle_limit, data_length, has_long_list, is_too_deep, is_too_long}
-use Rattle.rio_machine.specs.State.{State, names_tree, next_cycle}
+use Rattle.rio_machine.specs.{Limits.{cycle_limit, data_length, has_long_list, is_too_deep, is_too_long}, State.{State, names_tree, next_cycle}}
 use Rattle.rio_machine.specs.declared.command.Command.TheVariants.{Put}
 use Rattle.rio_machine.specs.declared.refusal.Refusal.TheVariants.{BadName, NameIsTree, NoSuchClass, CycleLimit, TooLarge, TooDeep, TooMany}
-use Rattle.rio_record.specs.Record.{FitsWords, key_size, new_key, padded_size, record_bytes}
+use Rattle.rio_record.specs.{Record.{FitsWords, key_size, new_key, record_bytes}, Laws.{IsNewRecord}, declared.words.KeyWords.{KeyWords}}
 use Rattle.rio_record.proofs.Records.{are_new_records}
-use Rattle.rio_record.specs.Laws.{IsNewRecord}
-use Rattle.rio_record.specs.declared.words.KeyWords.{KeyWords}
-use Rattle.rio_state.specs.Contents.{can_be_stored, is_padding, object_in, stored_in}
-use Rattle.rio_state.specs.KeyedRecords.{KeyedRecord, record_data}
-use Rattle.rio_step.proofs.ApartLaws.{none_at, not_refused}
-use Rattle.rio_step.proofs.FitStays.{unrefused_fit}
-use Rattle.rio_step.specs.Refusing.{FullMark, goes_too_deep, has_too_many, is_at_last_cycle, is_list_name, is_too_large, is_tree_name, lacks_class, object_class, put_value, refusal_of, refusals}
+use Rattle.rio_state.specs.{Contents.{can_be_stored, object_in, stored_in}, KeyedRecords.{KeyedRecord, record_data}}
+use Rattle.rio_step.proofs.{ApartLaws.{none_at, not_refused}, FitStays.{unrefused_fit}}
+use Rattle.rio_step.specs.Refusing.{FullMark, goes_too_deep, has_too_many, is_at_last_cycle, is_list_name, is_too_large, is_tree_name, lacks_class, object_class, object_class_name, put_value, refusal_of, refusals}
 use Rattle.rio_effect.specs.ObjectRecord.{data_of_put, words_of_put}
-use Rattle.rio_effect.proofs.PutClasses.{IsObjectClass, object_class_is, short_item, versions_in_range}
-use Rattle.rio_effect.proofs.Versions.{fits_in_versions}
+use Rattle.rio_effect.proofs.{PutClasses.{IsObjectClass, object_class_is, short_item, versions_in_range}, Versions.{fits_in_versions}}
 use Rattle.rio_effect.proofs.WrittenLengths.{written_length}
 
 -- ---- what an accepted put knows
-
--- the class of an object, none of another value
-abbrev pub class_of : Value → List ℕ
-class_of v = unwrap_or (object_class v) []
 
 -- an object of a class that a put takes, which fits and passes no limit, under a name that an object may have
 pub record IsAccepted (m : State) (name : List ℕ) (v : Value) : Type 0 where
   pub free : is_list_name name ≡ false
   pub no_tree : names_tree m name ≡ false
-  pub fit : fits m.classes (class_of v) v ≡ true
-  pub taken : can_be_put m.classes (class_of v) ≡ true
+  pub fit : fits m.classes (object_class_name v) v ≡ true
+  pub taken : can_be_put m.classes (object_class_name v) ≡ true
   pub cycle : next_cycle m name ≤ cycle_limit
-  pub short : is_too_long (data_length m.classes (class_of v) name v) ≡ false
+  pub short : is_too_long (data_length m.classes (object_class_name v) name v) ≡ false
   pub shallow : is_too_deep v ≡ false
   pub few : has_long_list v ≡ false
 
@@ -89,28 +72,12 @@ accepted m name v mark e =
 
 -- ---- the record
 
-zeros_pass : (n : ℕ) → list_all (λ b. b == 0) (replicate n 0) ≡ true
-zeros_pass zero = refl
-zeros_pass (suc n) = zeros_pass n
-
-pads : (n : ℕ) → n < 4 → is_padding (replicate n 0) ≡ true
-pads n few =
-    let long = length-replicate {A = ℕ} n 0 in
-    and_from _ _ (lt-ltb _ _ (omega (arith, long, few))) (zeros_pass n)
-
-text_long : (text : List ℕ) → length text ≤ 100 → length (text_bytes text) ≤ 101
-text_long text le = by (ltb (length text) 255) refl
-  where
-    by : (b : Bool) → ltb (length text) 255 ≡ b → length (cond b (short_form text) (long_form text)) ≤ 101
-    by true e = omega (arith, le)
-    by false e = let no = ltb-false (length text) 255 e in absurd (omega (arith, le, no))
-
 module _ (m : State) (place datime : ℕ) (name : List ℕ) (v : Value) (ok : IsAccepted m name (put_value m v)) (are : StateClasses m.classes) (named : is_item_text name ≡ true) where
   abbrev value : Value
   value = put_value m v
 
   abbrev class : List ℕ
-  class = class_of value
+  class = object_class_name value
 
   abbrev words : KeyWords
   words = words_of_put m place datime name v
@@ -126,8 +93,8 @@ module _ (m : State) (place datime : ℕ) (name : List ℕ) (v : Value) (ok : Is
 
   pub key_short : keylen ≤ 229
   key_short =
-      let one = text_long class own_class.short in
-      let two = text_long name (short_item name named) in
+      let one = short_text_bytes class own_class.short in
+      let two = short_text_bytes name (short_item name named) in
       let title : length (text_bytes []) ≡ 1 = refl in
       omega (arith, one, two, title)
 
@@ -167,7 +134,7 @@ module _ (m : State) (place datime : ℕ) (name : List ℕ) (v : Value) (ok : Is
     stored : (bytes : List ℕ) (s : ReaderState) → s.at.rest ≡ zeros → bytes ≡ contents ++ zeros → first_at m.classes class keylen (contents ++ zeros) ≡ Ok (value, s)
         → stored_in m.classes put_record (first_at m.classes class keylen bytes) ≡ Some value
     stored bytes s rest is read =
-        let padded : is_padding s.at.rest ≡ true = ap is_padding rest ∙ pads new_record.zeros new_record.few in
+        let padded : is_padding s.at.rest ≡ true = ap is_padding rest ∙ zeros_pad new_record.zeros new_record.few in
         let short : is_too_long (padded_size keylen (length contents)) ≡ false = ap is_too_long same_length ∙ ok.short in
         let fit = and_from _ _ ok.fit ok.taken in
         let long = and_from _ _ fit (ap not short) in

@@ -1,47 +1,23 @@
 -- The class of an object that a record holds is that of the record's key.
-use Rattle.std.proofs.Common.{◌≡◌, ℕ, ℤ, ◌==◌, ◌∙◌, List, [], ◌∷◌, ◌++◌, length, slice_get, Bool, true, false, cond, ◌&&◌, Option, Some, None, Ok, Err, refl, sym, ap, subst}
-use Rattle.std.specs.Prelude.{if◌then◌else◌}
-use Rattle.std.specs.Str.{bytes_eq}
-use Rattle.std.proofs.lemmas.Bool.{and_parts}
-use Rattle.std.proofs.lemmas.Slice.Eq.{bytes_eq-Decides}
-use Rattle.std.proofs.lemmas.Option.{same_Some}
-use Rattle.rio_types.specs.declared.class.ClassDef.{ClassDef}
-use Rattle.rio_types.specs.declared.kind.Kind.TheVariants.{Inline}
+use Rattle.std.proofs.Common.{◌≡◌, ℕ, ◌∙◌, List, [], slice_get, Bool, true, false, cond, ◌&&◌, Option, Some, None, Ok, Err, refl, sym, ap, subst}
+use Rattle.std.proofs.{lemmas.Bool.{and_parts}, lemmas.Slice.Eq.{bytes_eq-Decides}, lemmas.Option.{same_Some}}
+use Rattle.std.specs.{Prelude.{if◌then◌else◌}, Str.{bytes_eq}}
+use Rattle.rio_num.specs.Room.{is_padding}
+use Rattle.rio_num.proofs.Cases.{some_of}
+use Rattle.rio_types.specs.{declared.class.ClassDef.{ClassDef}, declared.kind.Kind.TheVariants.{Inline}}
 use Rattle.rio_value.specs.declared.value.Part.{Part}
-use Rattle.rio_value.specs.declared.value.Value.{Value, out-Value, map-Value}
-use Rattle.rio_value.specs.declared.value.Value.TheOpen.{Value-F}
+use Rattle.rio_value.specs.declared.value.Value.{Value, out-Value, TheOpen.{Value-F}, TheFolds.{fold_out-Value}}
 use Rattle.rio_value.specs.declared.value.Value.TheOpen as layer
-use Rattle.rio_value.specs.declared.value.Value.TheFolds.{fold-Part, fold_out-Value}
 use Rattle.rio_buffer.specs.Frames.{Step}
-use Rattle.rio_format.specs.Fits.{Fitting, Labels, back_fits, fits, fitting_of, fitting_step, pass, pointed_fits}
-use Rattle.rio_format.specs.Objects.{first_at, only_value, value_at}
+use Rattle.rio_format.specs.{Fits.{Fitting, Labels, fits, fitting_of, fitting_step}, Objects.{first_at, only_value, value_at}}
 use Rattle.rio_format.specs.Slots.{kinded}
-use Rattle.rio_state.specs.Contents.{can_be_stored, is_padding, object_in, stored_in}
-use Rattle.rio_state.specs.KeyedRecords.{KeyedRecord, record_data}
+use Rattle.rio_format.proofs.WrittenPointers.{fit_layer, no_pointer, no_reference}
+use Rattle.rio_state.specs.{Contents.{can_be_stored, object_in, stored_in}, KeyedRecords.{KeyedRecord, record_data}}
 use Rattle.rio_step.specs.Refusing.{object_class}
-use Rattle.rio_effect.proofs.NextCycles.{some_of}
-
-abbrev fit_layer : List ClassDef → Value-F Value Part → Fitting
-fit_layer classes x =
-    fitting_step classes (map-Value Value Part Fitting (List ℕ × Fitting) (fitting_of classes) (fold-Part Fitting (List ℕ × Fitting) (fitting_step classes) (λ p. (p.name, p.value))) x)
 
 abbrev class_in : Value-F Value Part → Option (List ℕ)
 class_in (layer.Object class version parts) = Some class
 class_in other = None
-
--- only an object stands where its class is named
-no_pointer : (classes : List ClassDef) (label : ℕ) (object : Fitting) (own : Option (List ℕ × ℤ)) (class : List ℕ) (labels after : Labels)
-    → pointed_fits classes label object own (kinded (Inline class)) labels ≡ Some after → ⊥
-no_pointer classes label object None class labels after e = cc
-no_pointer classes label object (Some own) class labels after e = by (label == length labels) e
-  where
-    by : (b : Bool) → cond (b && false) (object.fits (kinded (Inline own.0)) (labels ++ own ∷ [])) None ≡ Some after → ⊥
-    by true e = cc
-    by false e = cc
-
-no_reference : (classes : List ClassDef) (own : Option (List ℕ × ℤ)) (class : List ℕ) (labels after : Labels) → pass (back_fits classes own (kinded (Inline class))) labels ≡ Some after → ⊥
-no_reference classes None class labels after e = cc
-no_reference classes (Some own) class labels after e = cc
 
 named_class : (own class : List ℕ) (x : Option Labels) (after : Labels) (b : Bool) → bytes_eq own class ≡ b → cond b x None ≡ Some after → own ≡ class
 named_class own class x after true is e = (bytes_eq-Decides own class).0 is

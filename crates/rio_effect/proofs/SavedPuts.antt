@@ -1,21 +1,15 @@
 -- A put doesn't look at pending rows.
-use Rattle.std.proofs.Common.{◌≡◌, ℕ, ◌∙◌, List, [], ◌∷◌, length, map, Bool, true, ◌&&◌, Option, Some, None, refl, sym, ap, subst}
+use Rattle.std.proofs.{Common.{◌≡◌, ℕ, ◌∙◌, List, [], ◌∷◌, length, map, Bool, true, ◌&&◌, Option, Some, None, refl, sym, ap, subst}, lemmas.List.{length-map}}
 use Rattle.std.specs.Prelude.{T, is_some}
 use Rattle.std.specs.FinMap.{entries, entries-from_sorted, entries_sorted, from_entries, from_sorted, get, get-from_entries, get-from_sorted, is_sorted, len, len-entries, same_map}
-use Rattle.std.specs.Option.{option_map}
-use Rattle.std.specs.Ordering.{is_lt}
-use Rattle.std.proofs.lemmas.List.{length-map}
+use Rattle.std.specs.{Option.{option_map}, Ordering.{is_lt}}
+use Rattle.rio_num.specs.Word.{name_order}
 use Rattle.rio_value.specs.declared.value.Value.{Value}
 use Rattle.rio_machine.proofs.OrderLaws.{names_tie, names_total}
-use Rattle.rio_machine.specs.State.{State, Tree, name_order, names_tree}
-use Rattle.rio_machine.specs.declared.command.Command.TheVariants.{Put}
-use Rattle.rio_step.proofs.ClosedLaws.{saved_keeps_the_rest}
-use Rattle.rio_step.specs.Refusing.{FullMark, refusal_of}
-use Rattle.rio_step.specs.Runs.{saved_of, saved_tree}
+use Rattle.rio_machine.specs.{State.{State, Tree, names_tree}, declared.command.Command.TheVariants.{Put}}
+use Rattle.rio_step.proofs.ClosedLaws.{Named, saved_keeps_the_rest}
+use Rattle.rio_step.specs.{Refusing.{FullMark, refusal_of}, Runs.{saved_of, saved_tree}}
 use Rattle.rio_effect.specs.Laws.{PutsIgnorePending}
-
-abbrev Named : Type 0
-Named = List ℕ × Tree
 
 abbrev changed : List Named → List Named
 changed es = map (λ e. (e.0, saved_tree e.1)) es

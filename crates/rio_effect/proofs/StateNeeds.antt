@@ -1,45 +1,28 @@
 -- What a close needs by the objects of the state.
-use Rattle.std.proofs.Common.{◌≡◌, ◌⊎◌, inl, inr, ℕ, ◌+◌, ◌*◌, ◌≤◌, ◌∙◌, List, [], ◌∷◌, ◌++◌, length, map, Bool, true, false, not, ltb, ◌==◌, refl, sym, ap, subst, arith}
-use Rattle.std.specs.Prelude.{if◌then◌else◌}
-use Rattle.std.specs.FinMap.{entries}
-use Rattle.std.specs.Int.{w32, cast_unsigned}
-use Rattle.std.specs.List.{sum_by}
-use Rattle.std.specs.Option.{option_map_or}
-use Rattle.std.proofs.lemmas.Bool.{and_parts, eqb-true, le-ltb}
-use Rattle.std.proofs.lemmas.List.{length-append, length-map}
-use Rattle.std.proofs.lemmas.List.Sums.{sum_by-cons}
-use Rattle.byteorder.specs.Endian.{big_bytes}
-use Rattle.byteorder.specs.Numbers.{length-bytes_high_first}
-use Rattle.rio_num.specs.Text.{text_bytes}
+use Rattle.std.proofs.Common.{◌≡◌, ◌⊎◌, inl, inr, ℕ, ◌+◌, ◌*◌, ◌≤◌, ◌∙◌, List, [], ◌∷◌, ◌++◌, length, map, Bool, false, not, ltb, ◌==◌, refl, sym, ap, subst, arith}
+use Rattle.std.proofs.{lemmas.Bool.{and_parts, le-ltb}, lemmas.List.{length-append, length-map, Sums.{sum_by-cons}}}
+use Rattle.std.specs.{Prelude.{if◌then◌else◌}, FinMap.{entries}, Int.{w32, cast_unsigned}, List.{sum_by}, Option.{option_map_or}}
+use Rattle.byteorder.specs.{Endian.{big_bytes}, Numbers.{length-bytes_high_first}}
+use Rattle.rio_num.specs.{Text.{text_bytes}, At.{place_len_of}}
+use Rattle.rio_num.proofs.Cases.{nothing_left}
 use Rattle.rio_value.specs.declared.value.Value.{Value}
-use Rattle.rio_key.specs.Key.{key_place_len}
-use Rattle.rio_key.specs.Written.{number_bytes, written_key}
-use Rattle.rio_key.specs.declared.head.KeyHead.{KeyHead}
+use Rattle.rio_key.specs.{Written.{number_bytes, written_key}, declared.head.KeyHead.{KeyHead}}
 use Rattle.rio_chain.specs.Segments.{IsChain, Link}
-use Rattle.rio_machine.specs.Limits.{head_length}
-use Rattle.rio_machine.specs.State.{NameAndCycle, State}
-use Rattle.rio_state.specs.Closing.{item_heads, kept_in}
-use Rattle.rio_state.specs.DirectoryKeys.{AreKeysOf}
+use Rattle.rio_machine.specs.{Limits.{head_length}, State.{NameAndCycle, State}}
+use Rattle.rio_state.specs.{Closing.{item_heads, kept_in}, DirectoryKeys.{AreKeysOf}}
 use Rattle.rio_state.specs.KeyedRecords.{KeyedRecord, info_key, is_top_key, is_tree_key, is_tree_record, keyed_records, top_keys}
 use Rattle.rio_state.specs.Reads.{AreRecordsOf, is_named_key}
-use Rattle.rio_step.specs.ItemKeys.{told_by_key}
-use Rattle.rio_step.specs.Step.{Listed, listed_object, object_listed, tree_listed}
+use Rattle.rio_step.specs.{ItemKeys.{told_by_key}, Step.{Listed, listed_object, object_listed, tree_listed}}
 use Rattle.rio_effect.specs.Laws.{NeedOfState, listed_length}
-use Rattle.rio_effect.proofs.KeyReads.{placed}
-use Rattle.rio_state.proofs.KeyRecords.{ObjectOf, TreeOf, key_record}
-use Rattle.rio_effect.proofs.KeysOfState.{keys_stand}
-use Rattle.rio_state.proofs.Members.{In, all_at, filter_in}
-use Rattle.rio_effect.proofs.NeedsByKeys.{items_same}
-
-abbrev Told : Type 0
-Told = NameAndCycle × Listed
+use Rattle.rio_effect.proofs.{KeyReads.{placed}, KeysOfState.{Told, keys_stand}, NeedsByKeys.{items_same}}
+use Rattle.rio_state.proofs.{KeyRecords.{ObjectOf, TreeOf, key_record}, Members.{In, all_at, filter_in}}
 
 -- ---- the length of a head
 
 number_length : (n x : ℕ) → length (big_bytes n x) ≡ n
 number_length n x = length-bytes_high_first n x
 
-numbers_length : (h : KeyHead) (nbytes : ℕ) → length (number_bytes h nbytes) ≡ 18 + 2 * key_place_len h.version
+numbers_length : (h : KeyHead) (nbytes : ℕ) → length (number_bytes h nbytes) ≡ 18 + 2 * place_len_of h.version
 numbers_length h nbytes = simp (length-append, number_length) (omega arith)
 
 -- a small key without a title
@@ -47,17 +30,13 @@ head_long : (h : KeyHead) → h.version ≤ 1000 → h.title ≡ [] → length (
 head_long h small none =
     let nbytes = cast_unsigned w32 h.nbytes in
     let large : ltb 1000 h.version ≡ false = le-ltb 1000 h.version small in
-    let place : key_place_len h.version ≡ 4 = ap (λ (b : Bool). if b then 8 else 4) large in
+    let place : place_len_of h.version ≡ 4 = ap (λ (b : Bool). if b then 8 else 4) large in
     let numbers = numbers_length h nbytes in
     let title : length (text_bytes h.title) ≡ length (text_bytes []) = ap (λ (t : List ℕ). length (text_bytes t)) none in
     let whole = length-append (number_bytes h nbytes) (text_bytes h.class ++ (text_bytes h.name ++ text_bytes h.title)) in
     let texts = length-append (text_bytes h.class) (text_bytes h.name ++ text_bytes h.title) in
     let last = length-append (text_bytes h.name) (text_bytes h.title) in
     omega (arith, whole, texts, last, numbers, place, title)
-
-no_bytes : (xs : List ℕ) → (length xs == 0) ≡ true → xs ≡ []
-no_bytes [] e = refl
-no_bytes (x ∷ xs) e = let zero_long = eqb-true (length (x ∷ xs)) 0 e in absurd (omega (arith, zero_long))
 
 -- ---- sums
 
@@ -97,7 +76,7 @@ module _ (file : List ℕ) (links : List Link) (heads : List KeyHead) (m : State
       let untitled = (and_parts _ (length r.head.title == 0) (all_at (λ t. is_named_key t.head) r (top_keys records) is.stand.named i)).1 in
       let p = placed file 100 links chain.links_are r (filter_in (λ t. is_top_key t.head) r records i).0 in
       let small : r.head.version ≤ 1000 = subst (λ (h : KeyHead). h.version ≤ 1000) p.key p.whole.small in
-      head_long r.head small (no_bytes r.head.title untitled)
+      head_long r.head small (nothing_left r.head.title untitled)
 
   key_long : (h : KeyHead) → In h heads → length (written_key h) ≡ head_length h.class h.name
   key_long h i = by (key_record records m is heads are h i)

@@ -1,34 +1,21 @@
 -- The objects of a value that fits have versions that can be written.
-use Rattle.std.proofs.Common.{◌≡◌, ◌==◌, ℕ, ℤ, pos, int_le, List, [], ◌∷◌, ◌++◌, length, map, Bool, true, false, cond, ◌&&◌, Option, Some, None, refl, sym, ap, ◌∙◌}
-use Rattle.std.specs.Prelude.{if◌then◌else◌, is_some}
-use Rattle.std.specs.List.{list_all}
-use Rattle.std.specs.Option.{option_map}
-use Rattle.std.specs.Ordering.{int_eq}
-use Rattle.std.specs.Str.{bytes_eq}
-use Rattle.std.proofs.lemmas.Bool.{and_from}
-use Rattle.std.proofs.lemmas.Bool.Decides.{Decides-int_eq}
-use Rattle.rio_types.specs.Classes.{find_in}
-use Rattle.rio_types.specs.declared.class.ClassDef.{ClassDef}
+use Rattle.std.proofs.Common.{◌≡◌, ◌==◌, ℕ, ℤ, pos, List, [], ◌∷◌, ◌++◌, length, map, Bool, true, false, cond, ◌&&◌, Option, Some, None, refl, sym, ap, ◌∙◌}
+use Rattle.std.proofs.lemmas.Bool.{and_from, and_parts, Decides.{Decides-int_eq}}
+use Rattle.std.specs.{Prelude.{if◌then◌else◌, is_some}, List.{list_all}, Option.{option_map}, Ordering.{int_eq}, Str.{bytes_eq}}
+use Rattle.rio_num.proofs.Cases.{if_some, some_of}
+use Rattle.rio_types.specs.{Classes.{find_in}, declared.class.ClassDef.{ClassDef}}
 use Rattle.rio_types.specs.declared.kind.Kind.TheVariants.{Plain, Counter, Fixed, Counted, Text as Texted, Inline, Pointer, Other}
-use Rattle.rio_value.specs.declared.value.Value.{Value, List as Items, Object, Pointed}
-use Rattle.rio_value.specs.declared.value.Part.{Part}
-use Rattle.rio_value.specs.declared.value.Value.TheFolds.{fold-Part, fold_out-Part}
-use Rattle.rio_format.specs.declared.shape.Shape.{Shape as Form}
-use Rattle.rio_format.specs.declared.shape.Shape.TheVariants.{Bare as bare, Numbers as numbers, Headed as headed}
+use Rattle.rio_value.specs.{declared.value.Value.{Value, List as Items, Object, Pointed}, declared.value.Part.{Part}}
+use Rattle.rio_format.specs.declared.shape.Shape.{Shape as Form, TheVariants.{Bare as bare, Numbers as numbers, Headed as headed}}
 use Rattle.rio_format.specs.Bodies.{Body, Counters, described, form_of, headed_classes}
 use Rattle.rio_format.specs.Fits.{Fitting, Labels, all_fit, counted_slot, counted_so_far, fields_fit, fits, fitting_of, fitting_step, link_fits, list_fits, may_point, object_may_stand, parts_fit, pointed_fits}
 use Rattle.rio_format.specs.Laws.{has_versions, versions_step}
 use Rattle.rio_format.specs.Slots.{Field, Slot, body_fields, declared_body, fields_of, form_fields, kinded, based, flags, any_pointer, link, many}
 use Rattle.rio_format.proofs.BuiltInLaws.{of_body}
-use Rattle.rio_format.proofs.Tests.{both_true}
 use Rattle.rio_format.proofs.ValueCases.{Each, by_cases, fold_Int, fold_Bits32, fold_Bits64, fold_Bool, fold_Text, fold_List, fold_Object, fold_Pointed, fold_Null, fold_Back, fold_Opaque}
-use Rattle.rio_format.proofs.WrittenLists.{fittings}
-use Rattle.rio_format.proofs.WrittenValues.{fit_object}
+use Rattle.rio_format.proofs.{WrittenLists.{fittings}, WrittenValues.{fit_object, part_versions}}
+use Rattle.rio_model.proofs.ListDepth.{in_range}
 use Rattle.rio_step.proofs.GrowthLaws.{then_some}
-
--- a version that can be written
-abbrev pub in_range : ℤ → Bool
-in_range version = int_le (pos 1) version && int_le version (pos 65535)
 
 abbrev pub are_in_range : List ClassDef → Bool
 are_in_range classes = list_all (λ c. in_range c.version) classes
@@ -41,12 +28,12 @@ is_in_range version own range e = ap in_range ((Decides-int_eq version own).0 e)
 found_version : (classes : List ClassDef) (class : List ℕ) (version : ℤ) → are_in_range classes ≡ true → is_some (find_in classes class version) ≡ true → in_range version ≡ true
 found_version [] class version all e = absurd cc
 found_version (c ∷ cs) class version all e =
-    let parts = both_true (in_range c.version) (are_in_range cs) all in
+    let parts = and_parts (in_range c.version) (are_in_range cs) all in
     by (bytes_eq c.name class && int_eq c.version version) refl e parts.0 (found_version cs class version parts.1)
   where
     by : (b : Bool) → (bytes_eq c.name class && int_eq c.version version) ≡ b → is_some (cond b (Some c) (find_in cs class version)) ≡ true → in_range c.version ≡ true
         → (is_some (find_in cs class version) ≡ true → in_range version ≡ true) → in_range version ≡ true
-    by true is f own rest = ap in_range (sym ((Decides-int_eq c.version version).0 (both_true (bytes_eq c.name class) (int_eq c.version version) is).1)) ∙ own
+    by true is f own rest = ap in_range (sym ((Decides-int_eq c.version version).0 (and_parts (bytes_eq c.name class) (int_eq c.version version) is).1)) ∙ own
     by false is f own rest = rest f
 
 -- a class that is built in has one version
@@ -101,10 +88,6 @@ module _ (classes : List ClassDef) (all : are_in_range classes ≡ true) where
       and_from _ _ (known.0 any_pointer labels first.0 first.1) (and_from _ _ (known.1.0 (kinded Texted) first.0 after first.2) refl)
   link_ranged (p ∷ t ∷ u ∷ vs) known labels after e = absurd cc
 
-  if_some : {A : Type 0} (b : Bool) (x : Option A) (a : A) → cond b x None ≡ Some a → x ≡ Some a
-  if_some true x a e = e
-  if_some false x a e = absurd cc
-
   items_ranged : (vs : List Value) → Each Ranged vs → (slot : Slot) (labels after : Labels) → list_fits (map (fitting_of classes) vs) slot labels ≡ Some after → all_ranged vs ≡ true
   items_ranged vs known (kinded (Fixed of count)) labels after e = each_ranged (kinded (Plain of)) vs known labels after (if_some (length (map (fitting_of classes) vs) == count) _ after e)
   items_ranged vs known link labels after e = link_ranged vs known labels after e
@@ -144,9 +127,6 @@ module _ (classes : List ClassDef) (all : are_in_range classes ≡ true) where
   known_parts class version ps known (Some fields) is labels after e =
       and_from _ _ (known_version classes class version all (ap is_some is)) (fields_ranged fields ps known [] labels after e)
 
-  part_versions : (p : Part) → fold-Part Bool Bool versions_step (λ p. p.value) p ≡ has_versions p.value
-  part_versions p = fold_out-Part Bool Bool versions_step (λ p. p.value) p
-
   object_ranged : (class : List ℕ) (version : ℤ) (ps : List Part) → Each (λ p. Ranged p.value) ps → Ranged (Object class version ps)
   object_ranged class version ps known slot labels after e =
       let fit : cond (object_may_stand class version slot) (parts_fit (fields_of classes class version) (fittings classes ps) labels) None ≡ Some after =
@@ -181,11 +161,7 @@ module _ (classes : List ClassDef) (all : are_in_range classes ≡ true) where
     opaque = λ class len slot labels after e. fold_Opaque versions_step (λ p. p.value) class len;
   })
 
-  some_there : {A : Type 0} (x : Option A) → is_some x ≡ true → (a : A) × (x ≡ Some a)
-  some_there None e = absurd cc
-  some_there (Some a) e = (a, refl)
-
   pub fits_in_versions : (class : List ℕ) (v : Value) → fits classes class v ≡ true → has_versions v ≡ true
   fits_in_versions class v e =
-      let there = some_there ((fitting_of classes v).fits (kinded (Inline class)) []) e in
+      let there = some_of ((fitting_of classes v).fits (kinded (Inline class)) []) e in
       ranged v (kinded (Inline class)) [] there.0 there.1

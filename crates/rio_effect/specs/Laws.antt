@@ -1,38 +1,22 @@
 -- What the record of a put makes of what a file reads as, of the keys that are kept beside it, and of what its close needs.
-use Rattle.std.specs.Prelude.{◌≡◌, ◌<◌, ◌≤◌, ℕ, ◌+◌, ◌^◌, List, [], drop, length, map, true, false, Option, Some, None, Ok, unwrap_or}
-use Rattle.std.specs.FinMap.{entries, get}
-use Rattle.std.specs.List.{Contains, find, sum_by}
-use Rattle.std.specs.Option.{option_map_or}
+use Rattle.std.specs.{Prelude.{◌≡◌, ◌<◌, ◌≤◌, ℕ, ◌+◌, ◌^◌, List, [], drop, length, map, true, false, Option, Some, None, Ok, unwrap_or}, FinMap.{entries, get}}
+use Rattle.std.specs.{List.{Contains, find, sum_by}, Option.{option_map_or}}
 use Rattle.rio_num.specs.Word.{is_item_text}
 use Rattle.rio_value.specs.declared.value.Value.{Value}
 use Rattle.rio_format.specs.Objects.{value_at}
-use Rattle.rio_key.specs.Written.{written_key}
-use Rattle.rio_key.specs.declared.head.KeyHead.{KeyHead}
-use Rattle.rio_head.specs.Form.{is_large_head}
-use Rattle.rio_head.specs.Head.{head_at}
-use Rattle.rio_head.specs.declared.head.FileHead.{FileHead}
+use Rattle.rio_key.specs.{Written.{written_key}, declared.head.KeyHead.{KeyHead}}
+use Rattle.rio_head.specs.{Form.{is_large_head}, Head.{head_at}, declared.head.FileHead.{FileHead}}
 use Rattle.rio_model.specs.StateClasses.{StateClasses}
-use Rattle.rio_machine.specs.Limits.{head_length}
-use Rattle.rio_machine.specs.State.{NameAndCycle, State, names_tree, next_cycle}
-use Rattle.rio_machine.specs.declared.command.Command.TheVariants.{Put}
+use Rattle.rio_machine.specs.{Limits.{head_length}, State.{NameAndCycle, State, names_tree, next_cycle}, declared.command.Command.TheVariants.{Put}}
 use Rattle.rio_dir.specs.Table.{greatest_cycle, is_at_cycle, with_head}
-use Rattle.rio_chain.specs.Changes.{with_record}
-use Rattle.rio_chain.specs.Placing.{IsPlaceFor}
-use Rattle.rio_chain.specs.Segments.{IsChain, IsRecord, Link, RecordAt, segment_of}
-use Rattle.rio_chain.specs.Stops.{KeepsFront}
+use Rattle.rio_chain.specs.{Changes.{with_record}, Placing.{IsPlaceFor}, Segments.{IsChain, IsRecord, Link, RecordAt, segment_of}, Stops.{KeepsFront}}
 use Rattle.rio_record.specs.Record.{FitsWords}
-use Rattle.rio_state.specs.Closing.{KeptRecords, closing_lengths, held_of, kept_count, kept_in, name_in, padded_length}
-use Rattle.rio_state.specs.DirectoryKeys.{AreKeysOf}
+use Rattle.rio_state.specs.{Closing.{KeptRecords, closing_lengths, held_of, kept_count, kept_in, name_in, padded_length}, DirectoryKeys.{AreKeysOf}}
 use Rattle.rio_state.specs.KeyedRecords.{KeyedRecord, info_key, is_elsewhere, is_info_key, is_top_key, is_tree_key, keyed_records}
-use Rattle.rio_state.specs.Reads.{AreRecordsOf, ReadsAsMade, ReadsAsState}
-use Rattle.rio_step.specs.Costs.{cost_of, value_size}
-use Rattle.rio_step.specs.ItemKeys.{AreKeysOfState}
-use Rattle.rio_step.specs.Refusing.{FullMark, object_class, put_value, refusal_of}
-use Rattle.rio_step.specs.Runs.{saved_of}
+use Rattle.rio_state.specs.{Reads.{AreRecordsOf, ReadsAsMade, ReadsAsState}, OneMore.{KeyIsRead}}
+use Rattle.rio_step.specs.{Costs.{cost_of, value_size}, ItemKeys.{AreKeysOfState}, Refusing.{FullMark, object_class, put_value, refusal_of}, Runs.{saved_of}}
 use Rattle.rio_step.specs.Step.{state_behind}
-use Rattle.rio_state.specs.OneMore.{KeyIsRead}
-use Rattle.rio_effect.specs.More.{KeepsOneMore}
-use Rattle.rio_effect.specs.ObjectRecord.{data_of_put, key_of_put, record_of_put, words_of_put}
+use Rattle.rio_effect.specs.{More.{KeepsOneMore}, ObjectRecord.{data_of_put, key_of_put, record_of_put, words_of_put}}
 
 -- ---- what the records stand for
 

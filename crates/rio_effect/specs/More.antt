@@ -1,9 +1,7 @@
 -- One key more among those that a close lists.
 use Rattle.std.specs.Prelude.{◌≡◌, ◌≤◌, ◌+◌, length}
-use Rattle.rio_key.specs.Written.{written_key}
-use Rattle.rio_key.specs.declared.head.KeyHead.{KeyHead}
-use Rattle.rio_state.specs.Closing.{KeptRecords, close_need, free_length, list_length, padded_length}
-use Rattle.rio_state.specs.OneMore.{HasOneMoreIn}
+use Rattle.rio_key.specs.{Written.{written_key}, declared.head.KeyHead.{KeyHead}}
+use Rattle.rio_state.specs.{Closing.{KeptRecords, close_need, free_length, list_length, padded_length}, OneMore.{HasOneMoreIn}}
 
 -- A file keeps one key more, and so one record more. A close then needs what one head more in the key list and one more part
 -- in the free record take.

@@ -1,43 +1,22 @@
 -- How the reading, spelling and writing of entries belong together.
 use Rattle.std.proofs.Common.{◌≡◌, ◌==◌, ◌&&◌, ◌⊎◌, inl, inr, ℕ, ◌+◌, ◌^◌, ◌<◌, ◌≤◌, ◌-◌, Bool, true, false, cond, List, [], ◌∷◌, ◌++◌, length, Result, Ok, Err, refl, sym, ap, subst, ◌∙◌, arith}
-use Rattle.std.proofs.lemmas.Bool.{eqb-true, leb-true, ne_eqb}
-use Rattle.std.proofs.lemmas.List.{append-nil, length-append}
-use Rattle.std.specs.List.{list_all}
-use Rattle.std.specs.Prelude.{IfOk, IsTrue, nat_le}
-use Rattle.rio_num.specs.At.{AreBytes, end_place}
-use Rattle.rio_num.specs.Meanings.{Breaks, Spells, read}
+use Rattle.std.proofs.{lemmas.Bool.{and_parts, leb-true, ne_eqb}, lemmas.List.{append-nil, length-append}}
+use Rattle.std.specs.{List.{list_all}, Prelude.{IfOk, IsTrue, nat_le}}
+use Rattle.rio_num.specs.{At.{AreBytes, end_place}, Meanings.{Breaks, Spells, read}, Answers.{GivesUnless}}
 use Rattle.rio_num.proofs.Agree as Agree
-use Rattle.rio_num.proofs.Intro.{IsSo, done_is, ends_with, so_by, still_then}
-use Rattle.rio_num.proofs.ReadLaws.{ok_is}
-use Rattle.rio_leaf.specs.declared.branch.Shape.{Shape}
-use Rattle.rio_leaf.specs.declared.branch.Shape.TheVariants.{Leaves, Class}
-use Rattle.rio_buffer.specs.Frames.{Step}
-use Rattle.rio_buffer.specs.ReaderState.{ReaderState, WordsMet, no_words, standing}
-use Rattle.rio_buffer.specs.declared.fault.ObjFault.{ObjFault}
-use Rattle.rio_format.specs.Fits.{fits}
-use Rattle.rio_format.specs.Laws.{has_versions}
-use Rattle.rio_format.specs.Objects.{SpellsObject, depth_limit, object_of}
-use Rattle.rio_format.specs.Written.{written_form}
+use Rattle.rio_num.proofs.{Intro.{IsSo, done_is, ends_with, so_by, still_then}, ReadLaws.{ok_is}, Cases.{nothing_left}}
+use Rattle.rio_leaf.specs.declared.branch.Shape.{Shape, TheVariants.{Leaves, Class}}
+use Rattle.rio_buffer.specs.{Frames.{Step}, ReaderState.{ReaderState, WordsMet, no_words, standing}, declared.fault.ObjFault.{ObjFault}}
+use Rattle.rio_format.specs.{Fits.{fits}, Laws.{has_versions}, Objects.{SpellsObject, depth_limit, object_of}, Written.{written_form}}
 use Rattle.rio_format.specs.WrittenBytes.{length_limit}
-use Rattle.rio_format.proofs.ObjectLaws.{not_both}
-use Rattle.rio_format.proofs.Tests.{both_true}
-use Rattle.rio_format.proofs.WrittenValues.{written_is_spelled}
+use Rattle.rio_format.proofs.{ObjectLaws.{not_both}, WrittenValues.{written_is_spelled}}
 use Rattle.rio_types.specs.declared.class.ClassDef.{ClassDef}
-use Rattle.rio_value.specs.Depth.{depth_of}
-use Rattle.rio_value.specs.declared.value.Value.{Value}
-use Rattle.rio_entry.specs.Entries.{branch_entry_bytes, entry_fits}
-use Rattle.rio_num.specs.Answers.{GivesUnless}
-use Rattle.rio_entry.specs.Faults.{entry_fault}
-use Rattle.rio_entry.specs.declared.fault.EntryFault.TheVariants.{NoMemory}
-use Rattle.rio_entry.specs.Laws.{EntriesHaveOneAnswer, WrittenEntriesAreRead, can_be_read_back}
-use Rattle.rio_entry.specs.Leaves.{leaves_bytes, leaves_fit}
+use Rattle.rio_value.specs.{Depth.{depth_of}, declared.value.Value.{Value}}
+use Rattle.rio_entry.specs.{Entries.{branch_entry_bytes, entry_fits}, Faults.{entry_fault}}
+use Rattle.rio_entry.specs.{Laws.{EntriesHaveOneAnswer, WrittenEntriesAreRead, can_be_read_back}, Leaves.{leaves_bytes, leaves_fit}}
 use Rattle.rio_entry.specs.Reading.{BreaksEntry, HasMore, SpellsEntry, columns_values, entry_in, entry_values, only_values}
-use Rattle.rio_entry.specs.declared.fault.EntryFault.{EntryFault}
-use Rattle.rio_entry.specs.declared.fault.EntryFault.TheVariants.{BadEntry}
-use Rattle.rio_entry.proofs.Answered.{what_is_written}
-use Rattle.rio_entry.proofs.ClassBytes.{object_bytes}
-use Rattle.rio_entry.proofs.LeafBytes.{bytes_is, fits_is}
-use Rattle.rio_entry.proofs.LeafSpells.{leaves_spelled}
+use Rattle.rio_entry.specs.declared.fault.EntryFault.{EntryFault, TheVariants.{NoMemory, BadEntry}}
+use Rattle.rio_entry.proofs.{Answered.{what_is_written}, ClassBytes.{object_bytes}, LeafBytes.{bytes_is, fits_is}, LeafSpells.{leaves_spelled}}
 
 module _ (classes : List ClassDef) (shape : Shape) (counts : List Value) (bytes : List ℕ) where
   abbrev reading : Step (List Value)
@@ -55,10 +34,6 @@ module _ (classes : List ClassDef) (shape : Shape) (counts : List Value) (bytes 
   some_left : (rest : List ℕ) → (length rest == 0) ≡ false → 0 < length rest
   some_left [] e = absurd cc
   some_left (b ∷ rest) e = omega arith
-
-  nothing_left : (rest : List ℕ) → (length rest == 0) ≡ true → rest ≡ []
-  nothing_left [] e = refl
-  nothing_left (b ∷ rest) e = absurd (omega (arith, eqb-true _ _ e))
 
   whole_read : AreBytes bytes → (row : List Value) (x : List Value × ReaderState) → reading ≡ Ok x → (b : Bool) → (length x.1.at.rest == 0) ≡ b → cond b (Ok x.0) (Err (BadEntry x.1.at.place)) ≡ Ok row → (t : WordsMet) × Spells (entry_values classes shape counts) (length bytes) 0 no_words row bytes t
   whole_read fits row x is true none g =
@@ -168,7 +143,7 @@ module _ (classes : List ClassDef) where
   object_spelled : (class : List ℕ) (counts : List Value) (v : Value) → IsTrue (fits classes class v) → IsTrue (can_be_read_back v) → length (branch_entry_bytes classes (Class class) counts (v ∷ [])) ≤ length_limit → SpellsEntry classes (Class class) counts (v ∷ []) (branch_entry_bytes classes (Class class) counts (v ∷ []))
   unfolding SpellsEntry columns_values SpellsObject
   object_spelled class counts v fit back room =
-      let parts = both_true (nat_le (depth_of v) depth_limit) (has_versions v) back in
+      let parts = and_parts (nat_le (depth_of v) depth_limit) (has_versions v) back in
       let le : depth_of v ≤ depth_limit = leb-true _ _ parts.0 in
       let bytes = branch_entry_bytes classes (Class class) counts (v ∷ []) in
       let same : written_form classes 0 v ≡ bytes = object_bytes classes class counts v fit in
@@ -196,8 +171,8 @@ written_spelled classes (Class class) counts (v ∷ w ∷ vs) fit back room = ab
     two true e = cc
     two false e = cc
 written_spelled classes (Class class) counts (v ∷ []) fit back room =
-    let first = both_true (fits classes class v) true fit in
-    let one = both_true (can_be_read_back v) true back in
+    let first = and_parts (fits classes class v) true fit in
+    let one = and_parts (can_be_read_back v) true back in
     object_spelled classes class counts v first.0 one.0 room
 
 pub written_are_read : WrittenEntriesAreRead

@@ -1,27 +1,18 @@
 -- Entries of whose values no more is kept than what a function says of them.
 use Rattle.std.proofs.Common.{◌≡◌, ◌==◌, ℕ, Bool, true, false, cond, List, [], ◌∷◌, length, map, Result, Ok, Err, refl, sym, ap, subst, ◌∙◌}
-use Rattle.std.specs.Prelude.{ℤ, pos, IfOk}
-use Rattle.std.specs.Result.{result_map_both}
-use Rattle.rio_num.specs.Answers.{GivesUnless}
-use Rattle.rio_num.specs.At.{AreBytes}
-use Rattle.rio_num.specs.Meanings.{read}
+use Rattle.std.specs.{Prelude.{ℤ, pos, IfOk}, Result.{result_map_both}}
+use Rattle.rio_num.specs.{Answers.{GivesUnless}, At.{AreBytes}, Meanings.{read}}
 use Rattle.rio_num.proofs.ReadLaws.{ok_is}
-use Rattle.rio_leaf.specs.declared.branch.Shape.{Shape}
-use Rattle.rio_leaf.specs.declared.branch.Shape.TheVariants.{Class}
-use Rattle.rio_buffer.specs.Frames.{Step}
-use Rattle.rio_buffer.specs.ReaderState.{ReaderState, no_words, standing}
-use Rattle.rio_buffer.specs.declared.fault.ObjFault.{ObjFault}
+use Rattle.rio_leaf.specs.declared.branch.Shape.{Shape, TheVariants.{Class}}
+use Rattle.rio_buffer.specs.{Frames.{Step}, ReaderState.{ReaderState, no_words, standing}, declared.fault.ObjFault.{ObjFault}}
 use Rattle.rio_format.specs.Objects.{depth_limit, object_of}
 use Rattle.rio_read.specs.Passing.{pass_of}
 use Rattle.rio_read.proofs.Steps.{step_as, step_as-err, step_as-ok, step_as-twice}
 use Rattle.rio_types.specs.declared.class.ClassDef.{ClassDef}
 use Rattle.rio_value.specs.declared.value.Value.{Value, Int}
-use Rattle.rio_entry.specs.Leaves.{number_alone, numbers_of_values}
-use Rattle.rio_entry.specs.Reading.{BreaksEntry, SpellsEntry, columns_values, entry_in, entry_values, only_values}
-use Rattle.rio_entry.specs.declared.fault.EntryFault.{EntryFault}
-use Rattle.rio_entry.specs.declared.fault.EntryFault.TheVariants.{BadEntry, NoMemory}
-use Rattle.rio_entry.proofs.EntryLaws.{broken_is_fault, read_is_spelled}
-use Rattle.rio_entry.proofs.ObjectNumbers.{object_is_no_number}
+use Rattle.rio_entry.specs.{Leaves.{number_alone, numbers_of_values}, Reading.{BreaksEntry, SpellsEntry, columns_values, entry_in, entry_values, only_values}}
+use Rattle.rio_entry.specs.declared.fault.EntryFault.{EntryFault, TheVariants.{BadEntry, NoMemory}}
+use Rattle.rio_entry.proofs.{EntryLaws.{broken_is_fault, read_is_spelled}, ObjectNumbers.{object_is_no_number}}
 
 -- ---- the one object of a branch of a class
 

@@ -1,20 +1,15 @@
 -- Entries of leaves: what fits, and the bytes, by the leaves alone; and the loops that go over them.
-use Rattle.std.proofs.Common.{◌≡◌, ◌&&◌, ℕ, zero, suc, ◌+◌, ◌<◌, ◌≤◌, List, [], ◌∷◌, ◌++◌, length, map, take, drop, Bool, true, false, refl, sym, ap, ◌∙◌, slice_index_or, arith}
+use Rattle.std.proofs.{Common.{◌≡◌, ◌&&◌, ℕ, zero, suc, ◌+◌, ◌<◌, ◌≤◌, List, [], ◌∷◌, ◌++◌, length, map, take, drop, Bool, true, false, refl, sym, ap, ◌∙◌, slice_index_or, arith}, lemmas.Bool.{and_parts}}
 use Rattle.std.proofs.lemmas.List.{drop-drop, drop_all, drop_more, length-append, length-take, take_more}
 use Rattle.rio_leaf.specs.declared.leaf.Leaf.{Leaf}
 use Rattle.rio_buffer.specs.ReaderState.{WordsMet, no_words}
-use Rattle.rio_format.specs.Bodies.{Counters}
-use Rattle.rio_format.specs.Slots.{kinded}
-use Rattle.rio_format.specs.Written.{writing_of}
-use Rattle.rio_format.proofs.Tests.{both_true}
+use Rattle.rio_format.specs.{Bodies.{Counters}, Slots.{kinded}, Written.{writing_of}}
 use Rattle.rio_machine.specs.Rows.{leaf_column, letter_kind}
 use Rattle.rio_types.specs.declared.class.ClassDef.{ClassDef}
 use Rattle.rio_value.specs.declared.value.Value.{Value}
 use Rattle.rio_entry.specs.Entries.{counter_saying, given_count, said_count, values_bytes, values_fit}
 use Rattle.rio_entry.specs.Leaves.{entry_kind, kind_fits, leaves_bytes, leaves_fit, numbers_after, numbers_with, value_bytes}
-use Rattle.rio_entry.proofs.Counting.{numbers_more}
-use Rattle.rio_entry.proofs.LeafKinds.{kind_leafy}
-use Rattle.rio_entry.proofs.Singles.{leaf_written, stands_is}
+use Rattle.rio_entry.proofs.{Counting.{left_begins, numbers_more}, LeafKinds.{kind_leafy}, Singles.{leaf_written, stands_is}}
 
 -- ---- leaves as columns
 
@@ -33,7 +28,7 @@ module _ (classes : List ClassDef) where
   bytes_is (l ∷ ls) counts [] own fit = refl
   bytes_is (l ∷ ls) counts (v ∷ vs) own fit =
       let counters = counter_saying l.dim (said_count l.dim (given_count counts) own) in
-      let parts = both_true (kind_fits (entry_kind l counts own) v) (leaves_fit ls (drop 1 counts) vs (numbers_with l v own)) fit in
+      let parts = and_parts (kind_fits (entry_kind l counts own) v) (leaves_fit ls (drop 1 counts) vs (numbers_with l v own)) fit in
       let one = leaf_written classes counters l v 0 no_words parts.0 in
       let own_bytes : ((writing_of classes v).bytes (kinded (entry_kind l counts own)) 0 no_words).0 ≡ value_bytes (letter_kind l.letter) v = ap (λ (b : List ℕ × WordsMet). b.0) one in
       ap (λ (b : List ℕ). b ++ values_bytes classes (map leaf_column ls) (drop 1 counts) vs (numbers_with l v own)) own_bytes
@@ -53,8 +48,8 @@ module _ (ls : List Leaf) (counts row : List Value) (k : ℕ) (l : Leaf) (v : Va
 
   step : fits_from ls counts row k ≡ (kind_fits (entry_kind l (drop k counts) own) v && fits_from ls counts row (k + 1))
   step =
-      let leaf : drop k ls ≡ l ∷ drop (k + 1) ls = drop_more ls k l lt ∙ ap (λ (z : Leaf). z ∷ drop (k + 1) ls) (sym e) in
-      let value : drop k row ≡ v ∷ drop (k + 1) row = drop_more row k v low ∙ ap (λ (z : Value). z ∷ drop (k + 1) row) (sym f) in
+      let leaf : drop k ls ≡ l ∷ drop (k + 1) ls = left_begins ls k l lt e in
+      let value : drop k row ≡ v ∷ drop (k + 1) row = left_begins row k v low f in
       let taken : take (k + 1) row ≡ take k row ++ v ∷ [] = take_more row k v low ∙ ap (λ (z : Value). take k row ++ z ∷ []) (sym f) in
       let same : length (take k ls) ≡ length (take k row) = omega (arith, length-take k ls, length-take k row, lt, low) in
       let numbers : numbers_after (take (k + 1) ls) (take (k + 1) row) [] ≡ numbers_with l v own = ap (λ (vs : List Value). numbers_after (take (k + 1) ls) vs []) taken ∙ numbers_more ls (take k row) k l v lt e same in
@@ -81,7 +76,7 @@ other_length [] counts [] own fit = refl
 other_length [] counts (v ∷ vs) own fit = absurd cc
 other_length (l ∷ ls) counts [] own fit = absurd cc
 other_length (l ∷ ls) counts (v ∷ vs) own fit =
-    let parts = both_true (kind_fits (entry_kind l counts own) v) (leaves_fit ls (drop 1 counts) vs (numbers_with l v own)) fit in
+    let parts = and_parts (kind_fits (entry_kind l counts own) v) (leaves_fit ls (drop 1 counts) vs (numbers_with l v own)) fit in
     ap suc (other_length ls (drop 1 counts) vs (numbers_with l v own) parts.1)
 
 -- ---- loops over bytes
@@ -89,8 +84,8 @@ other_length (l ∷ ls) counts (v ∷ vs) own fit =
 module _ (ls : List Leaf) (row : List Value) (k : ℕ) (l : Leaf) (v : Value) (lt : k < length ls) (low : k < length row) (e : l ≡ slice_index_or ls k l) (f : v ≡ slice_index_or row k v) where
   pub bytes_step : leaves_bytes (drop k ls) (drop k row) ≡ value_bytes (letter_kind l.letter) v ++ leaves_bytes (drop (k + 1) ls) (drop (k + 1) row)
   bytes_step =
-      let leaf : drop k ls ≡ l ∷ drop (k + 1) ls = drop_more ls k l lt ∙ ap (λ (z : Leaf). z ∷ drop (k + 1) ls) (sym e) in
-      let value : drop k row ≡ v ∷ drop (k + 1) row = drop_more row k v low ∙ ap (λ (z : Value). z ∷ drop (k + 1) row) (sym f) in
+      let leaf : drop k ls ≡ l ∷ drop (k + 1) ls = left_begins ls k l lt e in
+      let value : drop k row ≡ v ∷ drop (k + 1) row = left_begins row k v low f in
       rw (leaf, value) refl
 
   pub length_step : length (leaves_bytes (drop k ls) (drop k row)) ≡ length (value_bytes (letter_kind l.letter) v) + length (leaves_bytes (drop (k + 1) ls) (drop (k + 1) row))

@@ -1,32 +1,20 @@
 -- What the values of leaves say is kept, one number after the other, as a loop does.
 use Rattle.std.proofs.Common.{◌≡◌, ℕ, ◌+◌, ◌<◌, ◌≤◌, List, [], ◌∷◌, ◌++◌, length, map, take, drop, slice_index_or, Ok, Err, refl, sym, ap, ◌∙◌, arith}
-use Rattle.std.proofs.lemmas.List.{append-nil, drop_all, drop_more, length-take}
+use Rattle.std.proofs.lemmas.List.{append-nil, drop_all, length-take}
 use Rattle.std.specs.Prelude.{ℤ}
 use Rattle.rio_leaf.specs.declared.leaf.Leaf.{Leaf}
-use Rattle.rio_num.specs.Meanings.{read}
-use Rattle.rio_num.specs.Reading.{◌>>=◌}
-use Rattle.rio_buffer.specs.Frames.{Step}
-use Rattle.rio_buffer.specs.ReaderState.{ReaderState}
-use Rattle.rio_buffer.specs.declared.fault.ObjFault.{ObjFault}
-use Rattle.rio_format.specs.Bodies.{Counters}
-use Rattle.rio_format.specs.Objects.{depth_limit, kind_value, object_of}
+use Rattle.rio_num.specs.{Meanings.{read}, Reading.{◌>>=◌}}
+use Rattle.rio_buffer.specs.{Frames.{Step}, ReaderState.{ReaderState}, declared.fault.ObjFault.{ObjFault}}
+use Rattle.rio_format.specs.{Bodies.{Counters}, Objects.{depth_limit, kind_value, object_of}}
 use Rattle.rio_machine.specs.Rows.{leaf_column}
 use Rattle.rio_read.specs.Lists.{with_front}
-use Rattle.rio_read.proofs.Each.{with_front-more}
-use Rattle.rio_read.proofs.Steps.{step_as, step_as-err, step_as-ok, step_as-twice, unkept}
-use Rattle.rio_types.specs.declared.class.ClassDef.{ClassDef}
-use Rattle.rio_types.specs.declared.kind.Kind.{Kind}
-use Rattle.rio_value.specs.Accessors.{number_in}
-use Rattle.rio_value.specs.declared.value.Value.{Value, Int, out-Value, out-roll-Value}
+use Rattle.rio_read.proofs.{Each.{with_front-more}, Steps.{step_as, step_as-err, step_as-ok, step_as-twice, unkept}}
+use Rattle.rio_types.specs.{declared.class.ClassDef.{ClassDef}, declared.kind.Kind.{Kind}}
+use Rattle.rio_value.specs.{Accessors.{number_in}, declared.value.Value.{Value, Int, out-Value, out-roll-Value, TheVariants.{rolls-Int}}}
 use Rattle.rio_value.specs.declared.value.Value.TheOpen as layer
-use Rattle.rio_value.specs.declared.value.Value.TheVariants.{rolls-Int}
-use Rattle.rio_entry.specs.Entries.{counter_saying, given_count, said_count}
 use Rattle.rio_entry.specs.Leaves.{entry_kind, kind_layout, number_alone, numbers_after, numbers_with, said_by, number_of_value, numbers_of_values}
 use Rattle.rio_entry.specs.Reading.{columns_values}
-use Rattle.rio_entry.proofs.Counting.{numbers_more}
-use Rattle.rio_entry.proofs.LeafBytes.{drop_next}
-use Rattle.rio_entry.proofs.LeafKinds.{kind_leafy}
-use Rattle.rio_entry.proofs.LeafReads.{layout_is}
+use Rattle.rio_entry.proofs.{Counting.{left_begins, numbers_more}, LeafBytes.{drop_next}, LeafReads.{leaf_alone}}
 
 -- an integer says itself
 pub integer_says : (n : ℤ) → said_by (Int n) ≡ n
@@ -60,23 +48,17 @@ module _ (classes : List ClassDef) (ls : List Leaf) (counts kept : List Value) (
     abbrev kind : Kind
     kind = entry_kind l (drop k counts) own
 
-    abbrev leaf : drop k ls ≡ l ∷ drop (k + 1) ls
-    leaf = drop_more ls k l lt ∙ ap (λ (z : Leaf). z ∷ drop (k + 1) ls) (sym e)
-
-    one : read (kind_value (object_of depth_limit classes) [] kind) s ≡ read (kind_layout kind) s
-    one = layout_is (object_of depth_limit classes) kind s (kind_leafy (counter_saying l.dim (said_count l.dim (given_count (drop k counts)) own)) l)
-
     pub numbers_go_on : (n : ℤ) (s1 : ReaderState) → length kept ≡ k → read (number_of_value (kind_layout kind)) s ≡ Ok (n, s1) → numbers_from k kept own s ≡ total
         → numbers_from (k + 1) (kept ++ Int n ∷ []) (numbers_after (take (k + 1) ls) (kept ++ Int n ∷ []) []) s1 ≡ total
     unfolding columns_values
     numbers_go_on n s1 len h so_far =
         let there = step_as-ok said_by (read (kind_layout kind) s) n s1 h in
         let v = there.0 in
-        let first : read (kind_value (object_of depth_limit classes) [] kind) s ≡ Ok (v, s1) = one ∙ there.1 in
+        let first : read (kind_value (object_of depth_limit classes) [] kind) s ≡ Ok (v, s1) = leaf_alone classes counts k own s l ∙ there.1 in
         let same : length (take k ls) ≡ length kept = omega (arith, length-take k ls, lt, len) in
         let numbers = numbers_more ls kept k l (Int n) lt e same in
         let rest = read (columns_values classes (map leaf_column (drop (k + 1) ls)) (drop 1 (drop k counts)) (numbers_with l v own)) s1 in
-        let split : numbers_from k kept own s ≡ with_front (kept ++ number_alone v ∷ []) (only_numbers rest) = rw (leaf, first) (numbers_front kept v rest) in
+        let split : numbers_from k kept own s ≡ with_front (kept ++ number_alone v ∷ []) (only_numbers rest) = rw (left_begins ls k l lt e, first) (numbers_front kept v rest) in
         ap (λ (ns : Counters). numbers_from (k + 1) (kept ++ Int n ∷ []) ns s1) numbers
         ∙ ap (λ (m : ℤ). numbers_from (k + 1) (kept ++ Int n ∷ []) ((l.name, m) ∷ own) s1) (integer_says n)
         ∙ ap (λ (m : ℤ). numbers_from (k + 1) (kept ++ Int m ∷ []) ((l.name, m) ∷ own) s1) (sym there.2)
@@ -88,8 +70,8 @@ module _ (classes : List ClassDef) (ls : List Leaf) (counts kept : List Value) (
     unfolding columns_values
     numbers_fail d h so_far =
         let there = step_as-err said_by (read (kind_layout kind) s) d h in
-        let first : read (kind_value (object_of depth_limit classes) [] kind) s ≡ Err d = one ∙ there in
-        let split : numbers_from k kept own s ≡ Err d = rw (leaf, first) refl in
+        let first : read (kind_value (object_of depth_limit classes) [] kind) s ≡ Err d = leaf_alone classes counts k own s l ∙ there in
+        let split : numbers_from k kept own s ≡ Err d = rw (left_begins ls k l lt e, first) refl in
         sym so_far ∙ split
 
   pub numbers_done : length ls ≤ k → numbers_from k kept own s ≡ total → total ≡ Ok (kept, s)

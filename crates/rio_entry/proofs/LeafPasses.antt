@@ -1,48 +1,34 @@
 -- Passing over the values of leaves one after the other, as a loop does.
 use Rattle.std.proofs.Common.{◌≡◌, ℕ, ◌+◌, ◌<◌, ◌≤◌, Bool, true, false, ◌||◌, List, [], ◌∷◌, length, map, min, drop, slice_index_or, Ok, Err, refl, sym, ap, ◌∙◌}
-use Rattle.std.proofs.lemmas.List.{drop_all, drop_more}
+use Rattle.std.proofs.lemmas.List.{drop_all}
 use Rattle.std.specs.Prelude.{ℤ}
-use Rattle.rio_leaf.specs.declared.leaf.Dim.{Dim}
-use Rattle.rio_leaf.specs.declared.leaf.Dim.TheVariants.{One, Fixed, Counted}
-use Rattle.rio_leaf.specs.declared.leaf.Leaf.{Leaf}
-use Rattle.rio_num.specs.Layout.{times}
-use Rattle.rio_num.specs.Meanings.{read}
-use Rattle.rio_buffer.specs.Frames.{Step}
-use Rattle.rio_buffer.specs.ReaderState.{ReaderState}
-use Rattle.rio_buffer.specs.declared.fault.ObjFault.{ObjFault}
-use Rattle.rio_format.specs.Bodies.{Counters}
+use Rattle.rio_leaf.specs.{Leaves.{is_counted_dim}, declared.leaf.Dim.{Dim, TheVariants.{One, Fixed, Counted}}, declared.leaf.Leaf.{Leaf}}
+use Rattle.rio_num.specs.{Layout.{times}, Meanings.{read}}
+use Rattle.rio_buffer.specs.{Frames.{Step}, ReaderState.{ReaderState}, declared.fault.ObjFault.{ObjFault}}
+use Rattle.rio_format.specs.{Bodies.{Counters}, Objects.{depth_limit, kind_value, number_value, numbers, object_of}}
 use Rattle.rio_value.specs.Accessors.{number_in}
-use Rattle.rio_format.specs.Objects.{depth_limit, kind_value, number_value, numbers, object_of}
+use Rattle.rio_value.specs.declared.value.Value.{Value, List as Items, Null, out-Value, out-roll-Value, TheVariants.{rolls-List, rolls-Null}}
 use Rattle.rio_machine.specs.Rows.{leaf_column}
 use Rattle.rio_read.specs.Passing.{pass_of}
 use Rattle.rio_read.proofs.Steps.{step_as-err, step_as-ok, step_as-twice, unkept}
-use Rattle.rio_types.specs.declared.class.ClassDef.{ClassDef}
-use Rattle.rio_types.specs.declared.kind.Kind.{Kind}
-use Rattle.rio_types.specs.declared.kind.Primitive.{Primitive}
-use Rattle.rio_value.specs.declared.value.Value.{Value, List as Items, Null, out-Value, out-roll-Value}
+use Rattle.rio_types.specs.{declared.class.ClassDef.{ClassDef}, declared.kind.Kind.{Kind}, declared.kind.Primitive.{Primitive}}
 use Rattle.rio_value.specs.declared.value.Value.TheOpen as layer
-use Rattle.rio_value.specs.declared.value.Value.TheVariants.{rolls-List, rolls-Null}
-use Rattle.rio_entry.specs.Bounds.{most_values}
-use Rattle.rio_entry.specs.Entries.{counter_saying, given_count, said_count}
-use Rattle.rio_entry.specs.Leaves.{entry_kind, is_any_counted, is_by_counter, kind_layout, said_by, number_of_value}
-use Rattle.rio_entry.specs.Reading.{columns_values}
-use Rattle.rio_entry.proofs.LeafBytes.{drop_next}
-use Rattle.rio_entry.proofs.LeafKinds.{kind_leafy}
-use Rattle.rio_entry.proofs.LeafReads.{layout_is}
-use Rattle.rio_entry.proofs.Totals.{list_fails, list_is_read}
+use Rattle.rio_entry.specs.{Bounds.{most_values}, Entries.{counter_saying}}
+use Rattle.rio_entry.specs.{Leaves.{entry_kind, is_any_counted, kind_layout, said_by, number_of_value}, Reading.{columns_values}}
+use Rattle.rio_entry.proofs.{Counting.{left_begins}, LeafBytes.{drop_next}, LeafReads.{leaf_alone}, Totals.{list_fails, list_is_read}}
 
 -- ---- leaves that aren't counted
 
-pub same_counter : (dim : Dim) (n m : ℤ) → is_by_counter dim ≡ false → counter_saying dim n ≡ counter_saying dim m
+pub same_counter : (dim : Dim) (n m : ℤ) → is_counted_dim dim ≡ false → counter_saying dim n ≡ counter_saying dim m
 same_counter One n m e = refl
 same_counter (Fixed count) n m e = refl
 same_counter (Counted counter times) n m e = absurd cc
 
-pub none_counted : (ls : List Leaf) (k : ℕ) (l : Leaf) → k < length ls → l ≡ slice_index_or ls k l → is_any_counted (drop k ls) ≡ false → (is_by_counter l.dim ≡ false) × (is_any_counted (drop (k + 1) ls) ≡ false)
-none_counted ls k l lt e none = both (is_by_counter l.dim) (is_any_counted (drop (k + 1) ls)) (ap is_any_counted (sym split) ∙ none)
+pub none_counted : (ls : List Leaf) (k : ℕ) (l : Leaf) → k < length ls → l ≡ slice_index_or ls k l → is_any_counted (drop k ls) ≡ false → (is_counted_dim l.dim ≡ false) × (is_any_counted (drop (k + 1) ls) ≡ false)
+none_counted ls k l lt e none = both (is_counted_dim l.dim) (is_any_counted (drop (k + 1) ls)) (ap is_any_counted (sym split) ∙ none)
   where
     split : drop k ls ≡ l ∷ drop (k + 1) ls
-    split = drop_more ls k l lt ∙ ap (λ (z : Leaf). z ∷ drop (k + 1) ls) (sym e)
+    split = left_begins ls k l lt e
 
     both : (a b : Bool) → (a || b) ≡ false → (a ≡ false) × (b ≡ false)
     both true b f = absurd cc
@@ -58,20 +44,14 @@ module _ (classes : List ClassDef) (ls : List Leaf) (counts : List Value) (k : �
     abbrev kind : Kind
     kind = entry_kind l (drop k counts) own
 
-    abbrev leaf : drop k ls ≡ l ∷ drop (k + 1) ls
-    leaf = drop_more ls k l lt ∙ ap (λ (z : Leaf). z ∷ drop (k + 1) ls) (sym e)
-
-    one : read (kind_value (object_of depth_limit classes) [] kind) s ≡ read (kind_layout kind) s
-    one = layout_is (object_of depth_limit classes) kind s (kind_leafy (counter_saying l.dim (said_count l.dim (given_count (drop k counts)) own)) l)
-
     pub passes_on : (n : ℤ) (s1 : ReaderState) → read (number_of_value (kind_layout kind)) s ≡ Ok (n, s1) → passes_from k own s ≡ total → passes_from (k + 1) ((l.name, n) ∷ own) s1 ≡ total
     unfolding columns_values
     passes_on n s1 h so_far =
         let there = step_as-ok said_by (read (kind_layout kind) s) n s1 h in
         let v = there.0 in
-        let first : read (kind_value (object_of depth_limit classes) [] kind) s ≡ Ok (v, s1) = one ∙ there.1 in
+        let first : read (kind_value (object_of depth_limit classes) [] kind) s ≡ Ok (v, s1) = leaf_alone classes counts k own s l ∙ there.1 in
         let rest = read (columns_values classes (map leaf_column (drop (k + 1) ls)) (drop 1 (drop k counts)) ((l.name, said_by v) ∷ own)) s1 in
-        let split : passes_from k own s ≡ unkept rest = rw (leaf, first) (step_as-twice (λ (vs : List Value). v ∷ vs) (λ vs. tt) rest) in
+        let split : passes_from k own s ≡ unkept rest = rw (left_begins ls k l lt e, first) (step_as-twice (λ (vs : List Value). v ∷ vs) (λ vs. tt) rest) in
         ap (λ (m : ℤ). passes_from (k + 1) ((l.name, m) ∷ own) s1) (sym there.2)
         ∙ ap (λ (cs : List Value). read (pass_of (columns_values classes (map leaf_column (drop (k + 1) ls)) cs ((l.name, said_by v) ∷ own))) s1) (sym (drop_next counts k))
         ∙ sym split
@@ -81,8 +61,8 @@ module _ (classes : List ClassDef) (ls : List Leaf) (counts : List Value) (k : �
     unfolding columns_values
     passes_fail d h so_far =
         let there = step_as-err said_by (read (kind_layout kind) s) d h in
-        let first : read (kind_value (object_of depth_limit classes) [] kind) s ≡ Err d = one ∙ there in
-        let split : passes_from k own s ≡ Err d = rw (leaf, first) refl in
+        let first : read (kind_value (object_of depth_limit classes) [] kind) s ≡ Err d = leaf_alone classes counts k own s l ∙ there in
+        let split : passes_from k own s ≡ Err d = rw (left_begins ls k l lt e, first) refl in
         sym so_far ∙ split
 
   pub passes_done : length ls ≤ k → passes_from k own s ≡ total → total ≡ Ok (tt, s)

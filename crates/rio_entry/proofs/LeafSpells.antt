@@ -1,38 +1,22 @@
 -- What is written for the values of leaves that fit spells them.
 use Rattle.std.proofs.Common.{◌≡◌, ◌==◌, inl, inr, ℕ, ◌+◌, ◌*◌, ◌^◌, ◌<◌, ℤ, Bool, true, false, cond, ltb, Option, Some, None, List, [], ◌∷◌, ◌++◌, length, map, drop, refl, sym, ap, subst, ◌∙◌, arith}
-use Rattle.std.proofs.lemmas.Bool.{eqb-true, ltb-true}
-use Rattle.std.proofs.lemmas.List.{append-nil, length-append}
-use Rattle.std.specs.Prelude.{codes, negsuc, pos}
-use Rattle.std.specs.List.{flat_map, list_all}
-use Rattle.std.specs.Map.{lookup}
-use Rattle.std.specs.Str.{bytes_eq}
+use Rattle.std.proofs.{lemmas.Bool.{and_parts, eqb-true, ltb-true}, lemmas.List.{append-nil, length-append}}
+use Rattle.std.specs.{Prelude.{codes, negsuc, pos}, List.{flat_map, list_all}, Map.{lookup}, Str.{bytes_eq}}
 use Rattle.byteorder.specs.Endian.{big_bytes}
-use Rattle.rio_num.specs.Layout.{each, text, times}
-use Rattle.rio_num.specs.Text.{SpellsText, long_form, short_form, text_bytes}
+use Rattle.rio_num.specs.{Layout.{each, text, times}, Text.{SpellsText, long_form, short_form, text_bytes}}
 use Rattle.rio_num.proofs.Intro.{IsSo, both_are, done_is, ends_with, number_then, so_by}
-use Rattle.rio_leaf.specs.declared.leaf.Dim.{Dim}
-use Rattle.rio_leaf.specs.declared.leaf.Dim.TheVariants.{One, Fixed as Several, Counted}
-use Rattle.rio_leaf.specs.declared.leaf.Leaf.{Leaf}
-use Rattle.rio_buffer.specs.ReaderState.{WordsMet}
-use Rattle.rio_buffer.specs.declared.fault.ObjFault.TheVariants.{Short}
-use Rattle.rio_format.specs.Bodies.{Counters}
-use Rattle.rio_format.specs.Objects.{Objects, depth_limit, kind_value, number_value, numbers, object_of, text_value}
+use Rattle.rio_leaf.specs.{declared.leaf.Dim.{Dim, TheVariants.{One, Fixed as Several, Counted}}, declared.leaf.Leaf.{Leaf}}
+use Rattle.rio_buffer.specs.{ReaderState.{WordsMet}, declared.fault.ObjFault.TheVariants.{Short}}
+use Rattle.rio_format.specs.{Bodies.{Counters}, Objects.{Objects, depth_limit, kind_value, number_value, numbers, object_of, text_value}}
 use Rattle.rio_format.specs.Prims.{value_of_prim, width_of}
-use Rattle.rio_format.proofs.Composed.{IsNumber}
-use Rattle.rio_format.proofs.Tests.{both_true}
-use Rattle.rio_format.proofs.ValueCases.{Each, Steps, by_cases}
+use Rattle.rio_format.proofs.{Composed.{IsNumber}, ValueCases.{Each, Steps, by_cases}}
 use Rattle.rio_format.proofs.WrittenNumbers.{bits32_number, bits64_number, int_number, truth_number}
 use Rattle.rio_machine.specs.Rows.{counted_leaf_kind, kind_of_nothing, leaf_column, leaf_kind, letter_kind, sized_kind}
-use Rattle.rio_types.specs.declared.class.ClassDef.{ClassDef}
-use Rattle.rio_types.specs.declared.kind.Kind.{Kind}
-use Rattle.rio_types.specs.declared.kind.Kind.TheVariants.{Plain, Fixed, Text as Texted}
-use Rattle.rio_types.specs.declared.kind.Primitive.{Primitive}
-use Rattle.rio_types.specs.declared.kind.Primitive.TheVariants.{Bool as Boolean, F32, F64}
+use Rattle.rio_types.specs.{declared.class.ClassDef.{ClassDef}, declared.kind.Kind.{Kind, TheVariants.{Plain, Fixed, Text as Texted}}}
+use Rattle.rio_types.specs.declared.kind.Primitive.{Primitive, TheVariants.{Bool as Boolean, F32, F64}}
 use Rattle.rio_value.specs.declared.value.Part.{Part}
-use Rattle.rio_value.specs.declared.value.Value.{Value, Int, Bits32, Bits64, Bool as Truth, Text, List as Items, Object, Pointed, Null, Back, Opaque, out-Value, out-roll-Value}
-use Rattle.rio_value.specs.declared.value.Value.TheOpen.{Value-F}
+use Rattle.rio_value.specs.declared.value.Value.{Value, Int, Bits32, Bits64, Bool as Truth, Text, List as Items, Object, Pointed, Null, Back, Opaque, out-Value, out-roll-Value, TheOpen.{Value-F}, TheVariants.{rolls-Int, rolls-Bits32, rolls-Bits64, rolls-Bool, rolls-Text, rolls-List, rolls-Object, rolls-Pointed, rolls-Null, rolls-Back, rolls-Opaque}}
 use Rattle.rio_value.specs.declared.value.Value.TheOpen as layer
-use Rattle.rio_value.specs.declared.value.Value.TheVariants.{rolls-Int, rolls-Bits32, rolls-Bits64, rolls-Bool, rolls-Text, rolls-List, rolls-Object, rolls-Pointed, rolls-Null, rolls-Back, rolls-Opaque}
 use Rattle.rio_entry.specs.Entries.{counter_saying, given_count, said_count}
 use Rattle.rio_entry.specs.Leaves.{entry_kind, kind_fits, layer_bytes, layer_fits_kind, layer_value_bytes, leaves_bytes, leaves_fit, numbers_with, single_bytes, single_fits, value_bytes}
 use Rattle.rio_entry.specs.Reading.{columns_values}
@@ -104,7 +88,7 @@ module _ (object : Objects) where
   unfolding each kind_value
   times_in of [] known end p t fit room = done_is
   times_in of (v ∷ vs) known end p t fit room =
-      let parts = both_true (single_fits of v) (list_all (single_fits of) vs) fit in
+      let parts = and_parts (single_fits of v) (list_all (single_fits of) vs) fit in
       let len = length-append (single_bytes of v) (flat_map (single_bytes of) vs) in
       let first : IsSo (number_value of) end p t v (single_bytes of v) t = known.0 (Plain of) end p t parts.0 (omega (arith, room, len)) in
       let others = times_in of vs known.1 end (p + length (single_bytes of v)) t parts.1 (omega (arith, room, len)) in
@@ -113,7 +97,7 @@ module _ (object : Objects) where
   list_in : (vs : List Value) → Each IsSpelled vs → IsLayerSpelled (Items vs) (layer.List vs)
   unfolding kind_value numbers
   list_in vs known (Fixed of count) end p t fit room =
-      let parts = both_true (length vs == count) (list_all (single_fits of) vs) fit in
+      let parts = and_parts (length vs == count) (list_all (single_fits of) vs) fit in
       let own : IsSo (numbers of (length vs)) end p t (Items vs) (flat_map (single_bytes of) vs) t = ends_with vs t (times_in of vs known end p t parts.1 room) done_is in
       subst (λ (n : ℕ). IsSo (numbers of n) end p t (Items vs) (flat_map (single_bytes of) vs) t) (eqb-true _ _ parts.0) own
   list_in vs known other end p t fit room = absurd cc
@@ -199,7 +183,7 @@ module _ (classes : List ClassDef) where
   leaves_spelled [] counts (v ∷ vs) own end p t fit room = absurd cc
   leaves_spelled (l ∷ ls) counts [] own end p t fit room = absurd cc
   leaves_spelled (l ∷ ls) counts (v ∷ vs) own end p t fit room =
-      let parts = both_true (kind_fits (entry_kind l counts own) v) (leaves_fit ls (drop 1 counts) vs (numbers_with l v own)) fit in
+      let parts = and_parts (kind_fits (entry_kind l counts own) v) (leaves_fit ls (drop 1 counts) vs (numbers_with l v own)) fit in
       let same : layer_kind_bytes (entry_kind l counts own) (out-Value v) ≡ value_bytes (letter_kind l.letter) v = leaf_same (counter_saying l.dim (said_count l.dim (given_count counts) own)) l (letter_kind l.letter) refl (out-Value v) parts.0 in
       let len = length-append (value_bytes (letter_kind l.letter) v) (leaves_bytes ls vs) in
       let first = kind_spelled (object_of depth_limit classes) v (entry_kind l counts own) end p t parts.0 (omega (arith, room, len, ap length same)) in

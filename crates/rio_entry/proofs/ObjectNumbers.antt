@@ -1,24 +1,16 @@
 -- An object that is read is no integer: it says no number.
 use Rattle.std.proofs.Common.{◌≡◌, ℕ, zero, suc, List, Ok, sym, ap, ◌∙◌}
 use Rattle.std.specs.Prelude.{ℤ, pos}
-use Rattle.rio_num.specs.Layout.{behind, broken, done}
-use Rattle.rio_num.specs.Meanings.{read}
+use Rattle.rio_num.specs.{Layout.{behind, broken, done}, Meanings.{read}}
 use Rattle.rio_num.proofs.ReadLaws.{bind_ok, ok_is}
-use Rattle.rio_buffer.specs.Frames.{ObjLayout}
-use Rattle.rio_buffer.specs.ReaderState.{ReaderState}
-use Rattle.rio_buffer.specs.declared.words.Header.{Header}
-use Rattle.rio_buffer.specs.declared.fault.ObjFault.{ObjFault}
+use Rattle.rio_buffer.specs.{Frames.{ObjLayout}, ReaderState.{ReaderState}, declared.words.Header.{Header}, declared.fault.ObjFault.{ObjFault}}
 use Rattle.rio_format.specs.Bodies.{Body, described, listed, arrayed, opaque, form_of}
-use Rattle.rio_format.specs.Objects.{Objects, array, bare_layout, body, closed, depth_limit, formed, headed, object_of, unread, whole_object}
-use Rattle.rio_format.specs.declared.shape.Shape.{Shape}
-use Rattle.rio_format.specs.declared.shape.Shape.TheVariants.{Bare, Numbers, Headed}
-use Rattle.rio_types.specs.declared.class.ClassDef.{ClassDef}
-use Rattle.rio_types.specs.declared.kind.Primitive.{Primitive}
-use Rattle.rio_value.specs.Accessors.{number_in}
-use Rattle.rio_value.specs.declared.value.Part.{Part}
-use Rattle.rio_value.specs.declared.value.Value.{Value, Object, Opaque, out-Value, out-roll-Value}
+use Rattle.rio_format.specs.Objects.{Objects, number_array, bare_layout, body, closed, depth_limit, formed, headed, object_of, unread, whole_object}
+use Rattle.rio_format.specs.declared.shape.Shape.{Shape, TheVariants.{Bare, Numbers, Headed}}
+use Rattle.rio_types.specs.{declared.class.ClassDef.{ClassDef}, declared.kind.Primitive.{Primitive}}
+use Rattle.rio_value.specs.{Accessors.{number_in}, declared.value.Part.{Part}}
+use Rattle.rio_value.specs.declared.value.Value.{Value, Object, Opaque, out-Value, out-roll-Value, TheVariants.{rolls-Object, rolls-Opaque}}
 use Rattle.rio_value.specs.declared.value.Value.TheOpen as layer
-use Rattle.rio_value.specs.declared.value.Value.TheVariants.{rolls-Object, rolls-Opaque}
 use Rattle.rio_entry.specs.Leaves.{said_by}
 
 object_says : (class : List ℕ) (version : ℤ) (ps : List Part) → said_by (Object class version ps) ≡ pos 0
@@ -52,8 +44,8 @@ bare_says : SaysNone bare_layout
 unfolding bare_layout
 bare_says = then _ _ (λ place. then _ _ (λ version. then _ _ (λ x. then _ _ (λ id. then _ _ (λ bits. then _ _ (λ pid. at_end _ (object_says _ _ _)))))))
 
-array_says : (class : List ℕ) (of : Primitive) → SaysNone (array class of)
-unfolding array
+array_says : (class : List ℕ) (of : Primitive) → SaysNone (number_array class of)
+unfolding number_array
 array_says class of = then _ _ (λ count. then _ _ (λ items. at_end _ (object_says _ _ _)))
 
 unread_says : (class : List ℕ) (h : Header) → SaysNone (unread class h)

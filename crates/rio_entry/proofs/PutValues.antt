@@ -2,14 +2,9 @@
 use Rattle.std.proofs.Common.{◌≡◌, ℕ, ℤ, Bool, List, [], None, refl, sym, ap, ◌∙◌}
 use Rattle.rio_types.specs.declared.kind.Primitive.{Primitive}
 use Rattle.rio_value.specs.declared.value.Part.{Part}
-use Rattle.rio_value.specs.declared.value.Value.{Value, Int, Bits32, Bits64, Bool as Truth, Text, out-Value, out-roll-Value, roll-Value, roll-out-Value}
-use Rattle.rio_value.specs.declared.value.Value.TheOpen.{Value-F}
+use Rattle.rio_value.specs.declared.value.Value.{Value, Int, Bits32, Bits64, Bool as Truth, Text, out-Value, out-roll-Value, roll-Value, roll-out-Value, TheOpen.{Value-F}, TheVariants.{rolls-Int, rolls-Bits32, rolls-Bits64, rolls-Bool, rolls-Text}}
 use Rattle.rio_value.specs.declared.value.Value.TheOpen as layer
-use Rattle.rio_value.specs.declared.value.Value.TheVariants.{rolls-Int, rolls-Bits32, rolls-Bits64, rolls-Bool, rolls-Text}
 use Rattle.rio_entry.specs.Leaves.{layer_bytes, layer_value_bytes, single_bytes, value_bytes}
-
-pub out_int : (n : ℤ) → out-Value (Int n) ≡ layer.Int n
-out_int n = ap out-Value (sym (rolls-Int n)) ∙ out-roll-Value (layer.Int n)
 
 pub out_bits32 : (n : ℕ) → out-Value (Bits32 n) ≡ layer.Bits32 n
 out_bits32 n = ap out-Value (sym (rolls-Bits32 n)) ∙ out-roll-Value (layer.Bits32 n)

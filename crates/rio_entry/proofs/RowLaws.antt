@@ -1,35 +1,20 @@
 -- The entries of a tree's branches are those of its rows.
-use Rattle.std.proofs.Common.{◌≡◌, ◌&&◌, ℕ, ℤ, List, [], ◌∷◌, ◌++◌, drop, Bool, true, false, cond, Option, Some, None, refl, sym, ap, ◌∙◌}
-use Rattle.std.specs.Prelude.{is_some, unwrap_or}
-use Rattle.std.specs.Map.{lookup}
-use Rattle.std.specs.Str.{bytes_eq}
-use Rattle.rio_leaf.specs.declared.leaf.Dim.{Dim}
-use Rattle.rio_leaf.specs.declared.leaf.Dim.TheVariants.{One, Fixed as Several, Counted}
-use Rattle.rio_leaf.specs.declared.leaf.Leaf.{Leaf}
+use Rattle.std.proofs.Common.{◌≡◌, ◌&&◌, ℕ, ℤ, List, [], ◌∷◌, ◌++◌, drop, Bool, true, cond, Option, Some, None, refl, sym, ap, ◌∙◌}
+use Rattle.std.specs.{Prelude.{is_some, unwrap_or}, Map.{lookup}, Str.{bytes_eq}}
+use Rattle.rio_leaf.specs.{declared.leaf.Dim.{Dim, TheVariants.{One, Fixed as Several, Counted}}, declared.leaf.Leaf.{Leaf}}
 use Rattle.rio_buffer.specs.ReaderState.{no_words}
-use Rattle.rio_format.specs.Bodies.{Counters}
-use Rattle.rio_format.specs.Slots.{Slot, kinded}
-use Rattle.rio_format.specs.Written.{writing_of}
+use Rattle.rio_format.specs.{Bodies.{Counters}, Slots.{Slot, kinded}, Written.{writing_of}}
+use Rattle.rio_format.proofs.CounterLaws.{lookup_behind}
 use Rattle.rio_machine.specs.Rows.{Column, leaf_column, object_column, column_slot, columns_bytes, columns_fit, counted_leaf_kind, leaf_kind, leaf_numbers_behind, letter_kind, sized_kind, stands_in}
-use Rattle.rio_types.specs.declared.class.ClassDef.{ClassDef}
-use Rattle.rio_types.specs.declared.kind.Primitive.{Primitive}
+use Rattle.rio_types.specs.{declared.class.ClassDef.{ClassDef}, declared.kind.Primitive.{Primitive}}
 use Rattle.rio_value.specs.declared.value.Value.{Value}
 use Rattle.rio_entry.specs.Entries.{counter_saying, entry_slot, given_count, said_count, values_bytes, values_fit}
 use Rattle.rio_entry.specs.Laws.{AreCounts, EntryIsPartOfRow, IsCount, IsCountFor}
 use Rattle.rio_entry.proofs.LeafKinds.{kind_none, kind_some, sized_counted}
 
-one_more : (b : Bool) (n : ℤ) (own before all : Option ℤ) → all ≡ cond (is_some own) own before → cond b (Some n) all ≡ cond (is_some (cond b (Some n) own)) (cond b (Some n) own) before
-one_more true n own before all rest = refl
-one_more false n own before all rest = rest
-
--- what a name finds in two lists, one behind the other
-pub found_in : (name : List ℕ) (own before : Counters) → lookup (bytes_eq name) (own ++ before) ≡ cond (is_some (lookup (bytes_eq name) own)) (lookup (bytes_eq name) own) (lookup (bytes_eq name) before)
-found_in name [] before = refl
-found_in name (x ∷ own) before = one_more (bytes_eq name x.0) x.1 (lookup (bytes_eq name) own) (lookup (bytes_eq name) before) (lookup (bytes_eq name) (own ++ before)) (found_in name own before)
-
 -- what counts is found there
 found_is : (name : List ℕ) (given : ℤ) (own before : Counters) → (lookup (bytes_eq name) own ≡ None → lookup (bytes_eq name) before ≡ Some given) → lookup (bytes_eq name) (own ++ before) ≡ Some (unwrap_or (lookup (bytes_eq name) own) given)
-found_is name given own before count = found_in name own before ∙ by (lookup (bytes_eq name) own) count
+found_is name given own before count = lookup_behind (bytes_eq name) own before ∙ by (lookup (bytes_eq name) own) count
   where
     by : (o : Option ℤ) → (o ≡ None → lookup (bytes_eq name) before ≡ Some given) → cond (is_some o) o (lookup (bytes_eq name) before) ≡ Some (unwrap_or o given)
     by None count = count refl

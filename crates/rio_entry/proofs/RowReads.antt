@@ -1,17 +1,16 @@
 -- A row is read branch after branch.
 use Rattle.std.proofs.Common.{◌≡◌, ℕ, ◌+◌, ◌<◌, ◌≤◌, List, [], ◌∷◌, ◌++◌, length, map, drop, Option, Some, None, Result, Ok, Err, refl, sym, ap, ◌∙◌, append_assoc, slice_index_or, arith}
-use Rattle.std.proofs.lemmas.List.{append-nil, drop_all, drop_more}
+use Rattle.std.proofs.lemmas.List.{append-nil, drop_all}
 use Rattle.std.specs.Option.{option_map}
 use Rattle.rio_num.specs.Reading.{◌>>=◌}
-use Rattle.rio_leaf.specs.declared.branch.BranchDef.{BranchDef}
-use Rattle.rio_leaf.specs.declared.leaf.Leaf.{Leaf}
+use Rattle.rio_leaf.specs.{declared.branch.BranchDef.{BranchDef}, declared.leaf.Leaf.{Leaf}}
 use Rattle.rio_format.specs.Bodies.{Counters}
 use Rattle.rio_machine.specs.Rows.{leaf_column, leaf_numbers_after}
 use Rattle.rio_types.specs.declared.class.ClassDef.{ClassDef}
 use Rattle.rio_value.specs.declared.value.Value.{Value}
-use Rattle.rio_entry.specs.Leaves.{numbers_after, numbers_with}
-use Rattle.rio_entry.specs.Rows.{branch_values, broken_from, first_broken, numbers_behind, row_from}
+use Rattle.rio_entry.specs.{Leaves.{numbers_after, numbers_with}, Rows.{branch_values, broken_from, first_broken, numbers_behind, row_from}}
 use Rattle.rio_entry.specs.declared.fault.EntryFault.{EntryFault}
+use Rattle.rio_entry.proofs.Counting.{left_begins}
 
 -- ---- the numbers of leaves
 
@@ -27,8 +26,8 @@ nothing_left (l ∷ ls) now = refl
 module _ (ls : List Leaf) (vs : List Value) (k : ℕ) (now all : Counters) where
   pub noted_next : (l : Leaf) (v : Value) → k < length ls → k < length vs → l ≡ slice_index_or ls k l → v ≡ slice_index_or vs k v → numbers_after (drop k ls) (drop k vs) now ≡ all → numbers_after (drop (k + 1) ls) (drop (k + 1) vs) (numbers_with l v now) ≡ all
   noted_next l v lt low e f so_far =
-      let leaf : drop k ls ≡ l ∷ drop (k + 1) ls = drop_more ls k l lt ∙ ap (λ (z : Leaf). z ∷ drop (k + 1) ls) (sym e) in
-      let value : drop k vs ≡ v ∷ drop (k + 1) vs = drop_more vs k v low ∙ ap (λ (z : Value). z ∷ drop (k + 1) vs) (sym f) in
+      let leaf : drop k ls ≡ l ∷ drop (k + 1) ls = left_begins ls k l lt e in
+      let value : drop k vs ≡ v ∷ drop (k + 1) vs = left_begins vs k v low f in
       let one : numbers_after (drop k ls) (drop k vs) now ≡ numbers_after (drop (k + 1) ls) (drop (k + 1) vs) (numbers_with l v now) = rw (leaf, value) refl in
       sym one ∙ so_far
 
@@ -61,7 +60,7 @@ module _ {P : Type 0} (classes : List ClassDef) (branch : P → BranchDef) (entr
 
   module _ (p : P) (lt : k < length parts) (is : p ≡ slice_index_or parts k p) where
     next_part : drop k parts ≡ p ∷ drop (k + 1) parts
-    next_part = drop_more parts k p lt ∙ ap (λ (z : P). z ∷ drop (k + 1) parts) (sym is)
+    next_part = left_begins parts k p lt is
 
     read_next : left k now ≡ (branch_values classes (branch p) (entry p) now >>= (λ values. with_front values (left (k + 1) (numbers_behind (branch p) values now))))
     read_next = ap (λ (rest : List P). row_from classes (map branch rest) (map entry rest) now) next_part

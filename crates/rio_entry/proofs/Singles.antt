@@ -1,37 +1,20 @@
 -- The values of leaves among all values: they fit, and are written, as values of their kinds are.
-use Rattle.std.proofs.Common.{◌≡◌, ◌==◌, ◌&&◌, ℕ, ◌+◌, ◌*◌, ℤ, pos, List, [], ◌∷◌, ◌++◌, length, map, Bool, true, false, cond, Option, Some, None, refl, sym, ap, ◌∙◌, subst}
+use Rattle.std.proofs.{Common.{◌≡◌, ◌==◌, ◌&&◌, ℕ, ◌+◌, ◌*◌, ℤ, pos, List, [], ◌∷◌, ◌++◌, length, map, Bool, true, false, cond, Option, Some, None, refl, sym, ap, ◌∙◌, subst}, lemmas.Bool.{and_parts}}
 use Rattle.std.proofs.lemmas.List.{length-map}
-use Rattle.std.specs.Prelude.{codes, is_some, negsuc, option_and_then, slice_get}
-use Rattle.std.specs.Map.{lookup}
-use Rattle.std.specs.Str.{bytes_eq}
-use Rattle.std.specs.List.{flat_map, list_all}
-use Rattle.rio_leaf.specs.declared.leaf.Dim.{Dim}
-use Rattle.rio_leaf.specs.declared.leaf.Dim.TheVariants.{One, Fixed as Several, Counted}
-use Rattle.rio_leaf.specs.declared.leaf.Leaf.{Leaf}
+use Rattle.std.specs.{Prelude.{codes, is_some, negsuc, option_and_then, slice_get}, Map.{lookup}, Str.{bytes_eq}, List.{flat_map, list_all}}
+use Rattle.rio_leaf.specs.{declared.leaf.Dim.{Dim, TheVariants.{One, Fixed as Several, Counted}}, declared.leaf.Leaf.{Leaf}}
 use Rattle.rio_buffer.specs.ReaderState.{WordsMet}
-use Rattle.rio_format.specs.Bodies.{Counters}
-use Rattle.rio_format.specs.Fits.{Fitting, Labels, all_fit, back_fits, fitting_of, fitting_step, may_point, pass, pointed_fits}
-use Rattle.rio_format.specs.Slots.{Slot, kinded}
-use Rattle.rio_format.specs.Written.{Writing, all, joined_output, writing_of, writing_step}
-use Rattle.rio_format.proofs.Tests.{both_true}
+use Rattle.rio_format.specs.{Bodies.{Counters}, Fits.{Fitting, Labels, all_fit, back_fits, fitting_of, fitting_step, may_point, pass, pointed_fits}}
+use Rattle.rio_format.specs.{Slots.{Slot, kinded}, Written.{Writing, all, joined_output, writing_of, writing_step}}
 use Rattle.rio_machine.specs.Rows.{counted_leaf_kind, kind_of_nothing, leaf_kind, letter_kind, sized_kind, stands_in}
-use Rattle.rio_types.specs.declared.class.ClassDef.{ClassDef}
-use Rattle.rio_types.specs.declared.kind.Kind.{Kind}
-use Rattle.rio_types.specs.declared.kind.Kind.TheVariants.{Plain, Fixed, Text as Texted, Inline, Other}
+use Rattle.rio_types.specs.{declared.class.ClassDef.{ClassDef}, declared.kind.Kind.{Kind, TheVariants.{Plain, Fixed, Text as Texted, Inline, Other}}}
 use Rattle.rio_types.specs.declared.kind.Primitive.{Primitive}
 use Rattle.rio_value.specs.declared.value.Part.{Part}
-use Rattle.rio_value.specs.declared.value.Value.{Value, out-Value, map-Value}
-use Rattle.rio_value.specs.declared.value.Value.TheOpen.{Value-F}
+use Rattle.rio_value.specs.declared.value.Value.{Value, out-Value, TheOpen.{Value-F}, TheFolds.{fold_out-Value}}
 use Rattle.rio_value.specs.declared.value.Value.TheOpen as layer
-use Rattle.rio_value.specs.declared.value.Value.TheFolds.{fold_out-Value, fold-Part}
+use Rattle.rio_format.proofs.WrittenPointers.{fit_layer, write_layer}
 use Rattle.rio_entry.specs.Leaves.{kind_fits, layer_bytes, layer_fits, layer_fits_kind, layer_value_bytes, single_bytes, single_fits, value_bytes}
 use Rattle.rio_entry.proofs.LeafKinds.{IsLeafy, kind_none, kind_some}
-
-abbrev fit_layer : List ClassDef → Value-F Value Part → Fitting
-fit_layer classes x = fitting_step classes (map-Value Value Part Fitting (List ℕ × Fitting) (fitting_of classes) (fold-Part Fitting (List ℕ × Fitting) (fitting_step classes) (λ p. (p.name, p.value))) x)
-
-abbrev write_layer : List ClassDef → Value-F Value Part → Writing
-write_layer classes x = writing_step classes (map-Value Value Part Writing Writing (writing_of classes) (fold-Part Writing Writing (writing_step classes) (λ p. p.value)) x)
 
 fit_out : (classes : List ClassDef) (v : Value) → fitting_of classes v ≡ fit_layer classes (out-Value v)
 fit_out classes v = fold_out-Value Fitting (List ℕ × Fitting) (fitting_step classes) (λ p. (p.name, p.value)) v
@@ -165,7 +148,7 @@ module _ (classes : List ClassDef) where
   all_written : (of : Primitive) (vs : List Value) (p : ℕ) (t : WordsMet) → list_all (single_fits of) vs ≡ true → all (kinded (Plain of)) (map (writing_of classes) vs) p t ≡ (flat_map (single_bytes of) vs, t)
   all_written of [] p t fit = refl
   all_written of (v ∷ vs) p t fit =
-      let parts = both_true (single_fits of v) (list_all (single_fits of) vs) fit in
+      let parts = and_parts (single_fits of v) (list_all (single_fits of) vs) fit in
       ap (λ (a : List ℕ × WordsMet). joined_output a (all (kinded (Plain of)) (map (writing_of classes) vs) (p + length a.0) a.1)) (single_written of v p t parts.0)
       ∙ ap (λ (b : List ℕ × WordsMet). joined_output (single_bytes of v, t) b) (all_written of vs (p + length (single_bytes of v)) t parts.1)
 
@@ -181,7 +164,7 @@ module _ (classes : List ClassDef) where
   plain_written of other p t fit = absurd cc
 
   fixed_written : (of : Primitive) (count : ℕ) → IsWrittenAs (Some of) (Fixed of count)
-  fixed_written of count (layer.List vs) p t fit = all_written of vs p t (both_true (length vs == count) (list_all (single_fits of) vs) fit).1
+  fixed_written of count (layer.List vs) p t fit = all_written of vs p t (and_parts (length vs == count) (list_all (single_fits of) vs) fit).1
   fixed_written of count other p t fit = absurd cc
 
   counted_written : (of : Primitive) (times : ℕ) (n : Option ℤ) → IsWrittenAs (Some of) (counted_leaf_kind of times n)

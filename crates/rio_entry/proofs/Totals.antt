@@ -1,35 +1,15 @@
 -- Lists of numbers: as many are read as the bytes have.
 use Rattle.std.proofs.Common.{◌≡◌, ◌⊎◌, inl, inr, ℕ, zero, suc, ◌+◌, ◌<◌, ◌≤◌, min, List, length, Bool, true, false, ltb, Ok, Err, refl, sym, ap, ◌∙◌, arith}
-use Rattle.std.proofs.lemmas.Bool.{cases_lt, ltb-false}
-use Rattle.std.proofs.lemmas.List.{length-drop}
+use Rattle.std.proofs.{lemmas.Bool.{cases_lt, ltb-false}, lemmas.List.{length-drop}}
 use Rattle.byteorder.specs.Endian.{big_number}
-use Rattle.rio_num.specs.Layout.{each, number, times}
-use Rattle.rio_num.specs.Meanings.{read}
-use Rattle.rio_num.specs.Reading.{skip}
+use Rattle.rio_num.specs.{Layout.{each, number, times}, Meanings.{read}, Reading.{skip}}
 use Rattle.rio_num.proofs.ReadLaws.{bind_ok, ok_is}
-use Rattle.rio_buffer.specs.Frames.{Step}
-use Rattle.rio_buffer.specs.ReaderState.{ReaderState}
-use Rattle.rio_buffer.specs.declared.fault.ObjFault.{ObjFault}
-use Rattle.rio_buffer.specs.declared.fault.ObjFault.TheVariants.{Short}
-use Rattle.rio_format.specs.Objects.{number_value, numbers}
-use Rattle.rio_format.specs.Prims.{value_of_prim, width_of}
+use Rattle.rio_buffer.specs.{Frames.{Step}, ReaderState.{ReaderState}, declared.fault.ObjFault.{ObjFault, TheVariants.{Short}}}
+use Rattle.rio_format.specs.{Objects.{number_value, numbers}, Prims.{value_of_prim, width_of}}
 use Rattle.rio_types.specs.declared.kind.Primitive.{Primitive}
-use Rattle.rio_types.specs.declared.kind.Primitive.TheVariants.{I8, I16, I32, I64, U8, U16, U32, U64, Bool as Boolean, F32, F64}
 use Rattle.rio_value.specs.declared.value.Value.{Value, List as Items}
+use Rattle.rio_format.proofs.ComposedLengths.{width_some}
 use Rattle.rio_entry.specs.Bounds.{most_values}
-
-some_wide : (of : Primitive) → 0 < width_of of
-some_wide I8 = omega arith
-some_wide I16 = omega arith
-some_wide I32 = omega arith
-some_wide I64 = omega arith
-some_wide U8 = omega arith
-some_wide U16 = omega arith
-some_wide U32 = omega arith
-some_wide U64 = omega arith
-some_wide Boolean = omega arith
-some_wide F32 = omega arith
-some_wide F64 = omega arith
 
 -- what reading a number leaves
 number_left : (n : ℕ) (s : ReaderState) (x : ℕ) (s1 : ReaderState) → 0 < n → read (number Short n) s ≡ Ok (x, s1) → length s1.at.rest < length s.at.rest
@@ -46,7 +26,7 @@ value_left : (of : Primitive) (s : ReaderState) (v : Value) (s1 : ReaderState) �
 unfolding number_value
 value_left of s v s1 e =
     let first = bind_ok (read (number Short (width_of of)) s) (λ (x : ℕ × ReaderState). let r : Step Value = Ok (value_of_prim of x.0, x.1) in r) (v, s1) e in
-    let left = number_left (width_of of) s first.0.0 first.0.1 (some_wide of) first.1 in
+    let left = number_left (width_of of) s first.0.0 first.0.1 (width_some of) first.1 in
     let same = ok_is {E = ObjFault} (value_of_prim of first.0.0, first.0.1) (v, s1) first.2 in
     omega (arith, left, ap (λ (q : Value × ReaderState). length q.1.at.rest) same)
 

@@ -1,39 +1,21 @@
 -- What is written for a row is read as the row, and a row is read where no branch breaks.
-use Rattle.std.proofs.Common.{◌≡◌, ◌&&◌, ◌||◌, ℕ, ◌+◌, ◌≤◌, ℤ, Bool, true, false, cond, List, [], ◌∷◌, ◌++◌, length, take, drop, Option, Some, None, Result, Ok, Err, refl, sym, ap, subst, ◌∙◌, arith}
-use Rattle.std.proofs.lemmas.Bool.{ltb-false, not-true}
-use Rattle.std.proofs.lemmas.List.{take-append-drop}
-use Rattle.std.proofs.lemmas.List.Folds.{list_all-append}
-use Rattle.std.specs.List.{list_all, list_any}
-use Rattle.std.specs.Map.{lookup}
-use Rattle.std.specs.Option.{option_map}
-use Rattle.std.specs.Prelude.{IsTrue, is_none, is_ok, is_some, pos, unwrap_or}
-use Rattle.std.specs.Str.{bytes_eq}
+use Rattle.std.proofs.Common.{◌≡◌, ◌&&◌, ℕ, ◌+◌, ◌≤◌, ℤ, Bool, true, false, cond, List, [], ◌∷◌, ◌++◌, length, take, drop, Option, Some, None, Result, Ok, Err, refl, sym, ap, subst, ◌∙◌, arith}
+use Rattle.std.proofs.{lemmas.Bool.{and_parts, ltb-false, not-true, or_parts}, lemmas.List.{take-append-drop, Folds.{list_all-append}}}
+use Rattle.std.specs.{List.{list_all, list_any}, Map.{lookup}, Option.{option_map}, Prelude.{IsTrue, is_none, is_ok, is_some, pos, unwrap_or}, Str.{bytes_eq}}
 use Rattle.rio_num.specs.Reading.{◌>>=◌}
-use Rattle.rio_leaf.specs.declared.branch.BranchDef.{BranchDef}
-use Rattle.rio_leaf.specs.declared.leaf.Dim.{Dim}
-use Rattle.rio_leaf.specs.declared.leaf.Dim.TheVariants.{One, Fixed as Several, Counted}
+use Rattle.rio_leaf.specs.{declared.branch.BranchDef.{BranchDef}, declared.leaf.Dim.{Dim, TheVariants.{One, Fixed as Several, Counted}}}
 use Rattle.rio_leaf.specs.declared.leaf.Leaf.{Leaf}
-use Rattle.rio_format.specs.Bodies.{Counters}
-use Rattle.rio_value.specs.Accessors.{number_in}
-use Rattle.rio_format.specs.Slots.{kinded}
-use Rattle.rio_format.specs.WrittenBytes.{length_limit}
-use Rattle.rio_format.proofs.Tests.{both_true}
+use Rattle.rio_format.specs.{Bodies.{Counters}, Slots.{kinded}, WrittenBytes.{length_limit}}
+use Rattle.rio_value.specs.{Accessors.{number_in}, declared.value.Value.{Value, Int, out-Value, out-roll-Value, TheVariants.{rolls-Int}}}
+use Rattle.rio_format.proofs.CounterLaws.{lookup_behind}
 use Rattle.rio_machine.specs.Limits.{is_too_long}
 use Rattle.rio_machine.specs.Rows.{Column, leaf_column, object_column, column_slot, columns_bytes, columns_fit, columns_of, counted_leaf_kind, entries_from, leaf_kind, leaf_numbers_after, leaf_numbers_behind, letter_kind, shape_columns, sized_kind, stands_in, kind_of_nothing}
-use Rattle.rio_types.specs.declared.class.ClassDef.{ClassDef}
-use Rattle.rio_types.specs.declared.kind.Kind.{Kind}
-use Rattle.rio_types.specs.declared.kind.Primitive.{Primitive}
-use Rattle.rio_value.specs.declared.value.Value.{Value, Int, out-Value, out-roll-Value}
+use Rattle.rio_types.specs.{declared.class.ClassDef.{ClassDef}, declared.kind.Kind.{Kind}, declared.kind.Primitive.{Primitive}}
 use Rattle.rio_value.specs.declared.value.Value.TheOpen as layer
-use Rattle.rio_value.specs.declared.value.Value.TheVariants.{rolls-Int}
-use Rattle.rio_entry.specs.Entries.{branch_entry_bytes, entry_fits, given_count}
-use Rattle.rio_entry.specs.Laws.{AreCounts, IsCount, IsCountFor, can_be_read_back}
-use Rattle.rio_entry.specs.Reading.{entry_in}
+use Rattle.rio_entry.specs.{Entries.{branch_entry_bytes, entry_fits, given_count}, Laws.{AreCounts, IsCount, IsCountFor, can_be_read_back}, Reading.{entry_in}}
 use Rattle.rio_entry.specs.Rows.{BrokenRowsHaveABranch, WrittenRowsAreRead, branch_values, broken_from, column_count, count_before, counts_before, first_broken, numbers_behind, row_from}
 use Rattle.rio_entry.specs.declared.fault.EntryFault.{EntryFault}
-use Rattle.rio_entry.proofs.EntryLaws.{spelled_is_read, written_spelled}
-use Rattle.rio_entry.proofs.LeafKinds.{kind_some}
-use Rattle.rio_entry.proofs.RowLaws.{behind_is, entry_is_part_of_row, found_in}
+use Rattle.rio_entry.proofs.{EntryLaws.{spelled_is_read, written_spelled}, LeafKinds.{kind_some}, RowLaws.{behind_is, entry_is_part_of_row}}
 use Rattle.rio_entry.proofs.Singles.{stands_is}
 
 -- ---- the columns of one branch, and those behind
@@ -43,14 +25,14 @@ module _ (classes : List ClassDef) where
   front_fits [] rest row before fit = refl
   front_fits (c ∷ cs) rest [] before fit = absurd cc
   front_fits (c ∷ cs) rest (v ∷ vs) before fit =
-      let both = both_true (stands_in classes (column_slot before c) v) (columns_fit classes (cs ++ rest) vs (leaf_numbers_behind c v before)) fit in
+      let both = and_parts (stands_in classes (column_slot before c) v) (columns_fit classes (cs ++ rest) vs (leaf_numbers_behind c v before)) fit in
       ap (λ (b : Bool). b && columns_fit classes cs (take (length cs) vs) (leaf_numbers_behind c v before)) both.0 ∙ front_fits cs rest vs (leaf_numbers_behind c v before) both.1
 
   rest_fits : (cs rest : List Column) (row : List Value) (before : Counters) → columns_fit classes (cs ++ rest) row before ≡ true → columns_fit classes rest (drop (length cs) row) (leaf_numbers_after cs row before) ≡ true
   rest_fits [] rest row before fit = fit
   rest_fits (c ∷ cs) rest [] before fit = absurd cc
   rest_fits (c ∷ cs) rest (v ∷ vs) before fit =
-      let both = both_true (stands_in classes (column_slot before c) v) (columns_fit classes (cs ++ rest) vs (leaf_numbers_behind c v before)) fit in
+      let both = and_parts (stands_in classes (column_slot before c) v) (columns_fit classes (cs ++ rest) vs (leaf_numbers_behind c v before)) fit in
       rest_fits cs rest vs (leaf_numbers_behind c v before) both.1
 
   front_bytes : (cs : List Column) (row : List Value) (before : Counters) → columns_bytes classes cs (take (length cs) row) before ≡ columns_bytes classes cs row before
@@ -75,7 +57,7 @@ module _ (classes : List ClassDef) (before : Counters) where
 
   counted_is : (counter : List ℕ) (times : ℕ) (of : Primitive) (v : Value) (own : Counters) → stands_in classes (kinded (counted_leaf_kind of times (lookup (bytes_eq counter) (own ++ before)))) v ≡ true → lookup (bytes_eq counter) own ≡ None → lookup (bytes_eq counter) before ≡ Some (unwrap_or (lookup (bytes_eq counter) before) (pos 0))
   counted_is counter times of v own fit lacks =
-      let there : lookup (bytes_eq counter) (own ++ before) ≡ lookup (bytes_eq counter) before = found_in counter own before ∙ ap (λ (o : Option ℤ). cond (is_some o) o (lookup (bytes_eq counter) before)) lacks in
+      let there : lookup (bytes_eq counter) (own ++ before) ≡ lookup (bytes_eq counter) before = lookup_behind (bytes_eq counter) own before ∙ ap (λ (o : Option ℤ). cond (is_some o) o (lookup (bytes_eq counter) before)) lacks in
       by (lookup (bytes_eq counter) before) (ap (λ (o : Option ℤ). stands_in classes (kinded (counted_leaf_kind of times o)) v) (sym there) ∙ fit)
     where
       by : (o : Option ℤ) → stands_in classes (kinded (counted_leaf_kind of times o)) v ≡ true → o ≡ Some (unwrap_or o (pos 0))
@@ -102,15 +84,11 @@ module _ (classes : List ClassDef) (before : Counters) where
   are_counts [] row own fit = tt
   are_counts (c ∷ cs) [] own fit = tt
   are_counts (c ∷ cs) (v ∷ vs) own fit =
-      let both = both_true (stands_in classes (column_slot (own ++ before) c) v) (columns_fit classes cs vs (leaf_numbers_behind c v (own ++ before))) fit in
+      let both = and_parts (stands_in classes (column_slot (own ++ before) c) v) (columns_fit classes cs vs (leaf_numbers_behind c v (own ++ before))) fit in
       let behind : columns_fit classes cs vs (leaf_numbers_behind c v own ++ before) ≡ true = ap (columns_fit classes cs vs) (behind_is c v own before) ∙ both.1 in
       (subst (λ (n : ℤ). IsCountFor c n own before) (sym (number_is (column_count c before) (counts_before cs before))) (column_is c v own both.0), are_counts cs vs (leaf_numbers_behind c v own) behind)
 
 -- ---- what is written is read
-
-neither : (a b : Bool) → (a || b) ≡ false → (a ≡ false) × (b ≡ false)
-neither true b e = absurd cc
-neither false b e = (refl, e)
 
 module _ (classes : List ClassDef) where
   -- the entry of one branch
@@ -132,8 +110,8 @@ module _ (classes : List ClassDef) where
       let more = drop (length cs) row in
       let after = leaf_numbers_after cs row before in
       let whole : front ++ more ≡ row = take-append-drop (length cs) row in
-      let backs = both_true (list_all can_be_read_back front) (list_all can_be_read_back more) (sym (list_all-append can_be_read_back front more) ∙ ap (list_all can_be_read_back) whole ∙ back) in
-      let shorts = neither (is_too_long (length (columns_bytes classes cs row before))) (list_any (λ entry. is_too_long (length entry)) (entries_from classes bs more after)) short in
+      let backs = and_parts (list_all can_be_read_back front) (list_all can_be_read_back more) (sym (list_all-append can_be_read_back front more) ∙ ap (list_all can_be_read_back) whole ∙ back) in
+      let shorts = or_parts (is_too_long (length (columns_bytes classes cs row before))) (list_any (λ entry. is_too_long (length entry)) (entries_from classes bs more after)) short in
       let same = front_bytes classes cs row before in
       let room : length (columns_bytes classes cs row before) ≤ length_limit = ltb-false _ _ shorts.0 in
       let one : branch_values classes b (columns_bytes classes cs row before) before ≡ Ok front =

@@ -1,22 +1,14 @@
 -- The entry of a branch: which values fit it, and the bytes that are written for them. The values of leaves stand one
 -- behind the other; a branch of a class has one object.
 use Rattle.std.specs.Prelude.{ℕ, ℤ, pos, List, [], ◌∷◌, ◌++◌, drop, length, nat_lt, Bool, true, false, ◌&&◌, Result, Ok, Err, unwrap_or, if◌then◌else◌}
-use Rattle.std.specs.Map.{lookup}
-use Rattle.std.specs.Str.{bytes_eq}
-use Rattle.rio_leaf.specs.declared.branch.Shape.{Shape}
-use Rattle.rio_leaf.specs.declared.leaf.Dim.{Dim}
-use Rattle.rio_leaf.specs.declared.leaf.Dim.TheVariants.{Counted}
+use Rattle.std.specs.{Map.{lookup}, Str.{bytes_eq}}
+use Rattle.rio_leaf.specs.{declared.branch.Shape.{Shape}, declared.leaf.Dim.{Dim, TheVariants.{Counted}}}
 use Rattle.rio_buffer.specs.ReaderState.{no_words}
-use Rattle.rio_format.specs.Bodies.{Counters}
-use Rattle.rio_value.specs.Accessors.{number_in}
-use Rattle.rio_format.specs.Slots.{Slot}
-use Rattle.rio_format.specs.Written.{writing_of}
-use Rattle.rio_format.specs.WrittenBytes.{length_limit}
+use Rattle.rio_format.specs.{Bodies.{Counters}, Slots.{Slot}, Written.{writing_of}, WrittenBytes.{length_limit}}
+use Rattle.rio_value.specs.{Accessors.{number_in}, declared.value.Value.{Value, out-Value}}
 use Rattle.rio_machine.specs.Rows.{Column, leaf_column, object_column, column_slot, leaf_numbers_behind, shape_columns, stands_in}
 use Rattle.rio_types.specs.declared.class.ClassDef.{ClassDef}
-use Rattle.rio_value.specs.declared.value.Value.{Value, out-Value}
-use Rattle.rio_entry.specs.declared.fault.EntryFault.{EntryFault}
-use Rattle.rio_entry.specs.declared.fault.EntryFault.TheVariants.{BadRow, TooLarge}
+use Rattle.rio_entry.specs.declared.fault.EntryFault.{EntryFault, TheVariants.{BadRow, TooLarge}}
 
 -- ---- counts
 

@@ -1,8 +1,6 @@
 -- Why there is no entry.
-use Rattle.rio_buffer.specs.declared.fault.ObjFault.{ObjFault}
-use Rattle.rio_buffer.specs.declared.fault.ObjFault.TheVariants.{Short, BadCount, UnknownClassWord, UnknownRef, NoCount, BadFlag, CountMismatch, TooDeep, NoMemory}
-use Rattle.rio_entry.specs.declared.fault.EntryFault.{EntryFault}
-use Rattle.rio_entry.specs.declared.fault.EntryFault.TheVariants.{BadEntry, NoMemory as OutOfMemory}
+use Rattle.rio_buffer.specs.declared.fault.ObjFault.{ObjFault, TheVariants.{Short, BadCount, UnknownClassWord, UnknownRef, NoCount, BadFlag, CountMismatch, TooDeep, NoMemory}}
+use Rattle.rio_entry.specs.declared.fault.EntryFault.{EntryFault, TheVariants.{BadEntry, NoMemory as OutOfMemory}}
 
 -- the entry breaks where the value of a leaf, or the object, does
 abbrev pub entry_fault : ObjFault → EntryFault

@@ -1,21 +1,13 @@
 -- How the reading, spelling and writing of entries belong together.
-use Rattle.std.specs.Prelude.{◌≡◌, ◌⊎◌, ℕ, ℤ, List, [], ◌∷◌, drop, nat_le, Bool, ◌&&◌, Some, None, Ok, IsTrue, is_some}
-use Rattle.std.specs.List.{list_all}
-use Rattle.std.specs.Map.{lookup}
+use Rattle.std.specs.{Prelude.{◌≡◌, ◌⊎◌, ℕ, ℤ, List, [], ◌∷◌, drop, nat_le, Bool, ◌&&◌, Some, None, Ok, IsTrue, is_some}, List.{list_all}, Map.{lookup}}
 use Rattle.std.specs.Str.{bytes_eq}
 use Rattle.rio_num.specs.At.{AreBytes}
-use Rattle.rio_leaf.specs.declared.branch.Shape.{Shape}
-use Rattle.rio_leaf.specs.declared.leaf.Dim.{Dim}
-use Rattle.rio_leaf.specs.declared.leaf.Dim.TheVariants.{Counted}
-use Rattle.rio_format.specs.Bodies.{Counters}
-use Rattle.rio_format.specs.Laws.{has_versions}
-use Rattle.rio_format.specs.Objects.{depth_limit}
+use Rattle.rio_leaf.specs.{declared.branch.Shape.{Shape}, declared.leaf.Dim.{Dim, TheVariants.{Counted}}}
+use Rattle.rio_format.specs.{Bodies.{Counters}, Laws.{has_versions}, Objects.{depth_limit}}
 use Rattle.rio_machine.specs.Rows.{Column, leaf_column, object_column, columns_bytes, columns_fit, leaf_numbers_behind, letter_kind, shape_columns}
 use Rattle.rio_types.specs.declared.class.ClassDef.{ClassDef}
-use Rattle.rio_value.specs.Depth.{depth_of}
-use Rattle.rio_value.specs.declared.value.Value.{Value}
-use Rattle.rio_entry.specs.Entries.{branch_entry_bytes, entry_fits, entry_written, given_count}
-use Rattle.rio_entry.specs.Reading.{BreaksEntry, SpellsEntry, entry_in}
+use Rattle.rio_value.specs.{Depth.{depth_of}, declared.value.Value.{Value}}
+use Rattle.rio_entry.specs.{Entries.{branch_entry_bytes, entry_fits, entry_written, given_count}, Reading.{BreaksEntry, SpellsEntry, entry_in}}
 use Rattle.rio_entry.specs.declared.fault.EntryFault.{EntryFault}
 
 -- ---- one answer

@@ -1,58 +1,46 @@
 -- The values of leaves, by cases on the leaf and the value, without classes: what fits, and its bytes.
 use Rattle.std.specs.Prelude.{ℕ, ℤ, List, [], ◌∷◌, ◌++◌, codes, drop, length, map, Bool, true, false, ◌&&◌, ◌==◌, Option, Some, None, if◌then◌else◌}
-use Rattle.std.specs.List.{flat_map, list_all, list_any}
-use Rattle.std.specs.Str.{bytes_eq}
+use Rattle.std.specs.{List.{flat_map, list_all, list_any}, Str.{bytes_eq}}
 use Rattle.byteorder.specs.Endian.{big_bytes}
-use Rattle.rio_num.specs.Text.{text_bytes}
-use Rattle.rio_num.specs.Layout.{broken, done, here, ◌>>=◌}
-use Rattle.rio_leaf.specs.declared.leaf.Dim.{Dim}
-use Rattle.rio_leaf.specs.declared.leaf.Dim.TheVariants.{Counted}
-use Rattle.rio_leaf.specs.declared.leaf.Leaf.{Leaf}
-use Rattle.rio_buffer.specs.Frames.{ObjLayout}
-use Rattle.rio_buffer.specs.declared.fault.ObjFault.TheVariants.{NoCount}
-use Rattle.rio_format.specs.Bodies.{Counters}
-use Rattle.rio_value.specs.Accessors.{number_in}
-use Rattle.rio_format.specs.Fits.{bits32_fits, bits64_fits, int_fits, truth_fits}
-use Rattle.rio_format.specs.Objects.{number_value, numbers, text_value}
-use Rattle.rio_format.specs.Slots.{kinded}
-use Rattle.rio_format.specs.Written.{int_bytes, truth_byte}
+use Rattle.rio_num.specs.{Text.{text_bytes}, Layout.{broken, done, here, ◌>>=◌}}
+use Rattle.rio_leaf.specs.{declared.leaf.Leaf.{Leaf}, Leaves.{is_counted_dim}}
+use Rattle.rio_buffer.specs.{Frames.{ObjLayout}, declared.fault.ObjFault.TheVariants.{NoCount}}
+use Rattle.rio_format.specs.{Bodies.{Counters}, Fits.{bits32_fits, bits64_fits, int_fits, truth_fits}, Objects.{number_value, numbers, text_value}}
+use Rattle.rio_format.specs.{Slots.{kinded}, Written.{int_bytes, truth_byte}}
+use Rattle.rio_value.specs.{Accessors.{number_in}, declared.value.Part.{Part}}
+use Rattle.rio_value.specs.declared.value.Value.{Value, out-Value, Int as Integer, TheOpen.{Value-F, Int, Bits32, Bits64, Bool as Truth, Text, List as Items}}
 use Rattle.rio_machine.specs.Rows.{kind_of_nothing, leaf_kind, letter_kind}
-use Rattle.rio_types.specs.declared.kind.Kind.{Kind}
-use Rattle.rio_types.specs.declared.kind.Kind.TheVariants.{Plain, Fixed, Text as Texted}
-use Rattle.rio_types.specs.declared.kind.Primitive.{Primitive}
-use Rattle.rio_value.specs.declared.value.Part.{Part}
-use Rattle.rio_value.specs.declared.value.Value.{Value, out-Value, Int as Integer}
-use Rattle.rio_value.specs.declared.value.Value.TheOpen.{Value-F, Int, Bits32, Bits64, Bool as Truth, Text, List as Items}
+use Rattle.rio_types.specs.{declared.kind.Kind.{Kind, TheVariants.{Plain, Fixed, Text as Texted}}, declared.kind.Primitive.{Primitive}}
 use Rattle.rio_entry.specs.Entries.{counter_saying, given_count, said_count}
 
 -- ---- single values
 
 abbrev pub layer_fits : Primitive → Value-F Value Part → Bool
-layer_fits of (Int z) = int_fits z (kinded (Plain of))
-layer_fits of (Bits32 n) = bits32_fits n (kinded (Plain of))
-layer_fits of (Bits64 n) = bits64_fits n (kinded (Plain of))
-layer_fits of (Truth b) = truth_fits (kinded (Plain of))
-layer_fits of other = false
+layer_fits prim (Int z) = int_fits z (kinded (Plain prim))
+layer_fits prim (Bits32 n) = bits32_fits n (kinded (Plain prim))
+layer_fits prim (Bits64 n) = bits64_fits n (kinded (Plain prim))
+layer_fits prim (Truth b) = truth_fits (kinded (Plain prim))
+layer_fits prim other = false
 
 -- it is a value of the kind
 abbrev pub single_fits : Primitive → Value → Bool
-single_fits of v = layer_fits of (out-Value v)
+single_fits prim v = layer_fits prim (out-Value v)
 
 abbrev pub layer_bytes : Primitive → Value-F Value Part → List ℕ
-layer_bytes of (Int z) = int_bytes z (kinded (Plain of))
-layer_bytes of (Bits32 n) = big_bytes 4 n
-layer_bytes of (Bits64 n) = big_bytes 8 n
-layer_bytes of (Truth b) = truth_byte b ∷ []
-layer_bytes of other = []
+layer_bytes prim (Int z) = int_bytes z (kinded (Plain prim))
+layer_bytes prim (Bits32 n) = big_bytes 4 n
+layer_bytes prim (Bits64 n) = big_bytes 8 n
+layer_bytes prim (Truth b) = truth_byte b ∷ []
+layer_bytes prim other = []
 
 abbrev pub single_bytes : Primitive → Value → List ℕ
-single_bytes of v = layer_bytes of (out-Value v)
+single_bytes prim v = layer_bytes prim (out-Value v)
 
 -- ---- lists and texts
 
 abbrev pub layer_fits_kind : Kind → Value-F Value Part → Bool
-layer_fits_kind (Plain of) x = layer_fits of x
-layer_fits_kind (Fixed of count) (Items vs) = (length vs == count) && list_all (single_fits of) vs
+layer_fits_kind (Plain prim) x = layer_fits prim x
+layer_fits_kind (Fixed prim count) (Items vs) = (length vs == count) && list_all (single_fits prim) vs
 layer_fits_kind Texted (Text t) = true
 layer_fits_kind other x = false
 
@@ -61,8 +49,8 @@ kind_fits kind v = layer_fits_kind kind (out-Value v)
 
 -- what stands in the bytes
 abbrev pub kind_layout : Kind → ObjLayout Value
-kind_layout (Plain of) = number_value of
-kind_layout (Fixed of count) = numbers of count
+kind_layout (Plain prim) = number_value prim
+kind_layout (Fixed prim count) = numbers prim count
 kind_layout Texted = text_value
 kind_layout other = do place ← here; broken (NoCount place)
 
@@ -99,13 +87,13 @@ leaves_fit (l ∷ ls) counts (v ∷ vs) own = kind_fits (entry_kind l counts own
 
 -- the bytes of a value of a leaf that fits, by the kind of its single values; without one it is a text
 abbrev pub layer_value_bytes : Option Primitive → Value-F Value Part → List ℕ
-layer_value_bytes (Some of) (Items vs) = flat_map (single_bytes of) vs
-layer_value_bytes (Some of) other = layer_bytes of other
+layer_value_bytes (Some prim) (Items vs) = flat_map (single_bytes prim) vs
+layer_value_bytes (Some prim) other = layer_bytes prim other
 layer_value_bytes None (Text t) = text_bytes t
 layer_value_bytes None other = []
 
 abbrev pub value_bytes : Option Primitive → Value → List ℕ
-value_bytes of v = layer_value_bytes of (out-Value v)
+value_bytes prim v = layer_value_bytes prim (out-Value v)
 
 abbrev pub leaves_bytes : List Leaf → List Value → List ℕ
 leaves_bytes [] vs = []
@@ -130,10 +118,5 @@ number_alone v = Integer (said_by v)
 abbrev pub numbers_of_values : ObjLayout (List Value) → ObjLayout (List Value)
 numbers_of_values l = l >>= λ vs. done (map number_alone vs)
 
--- whether a leaf of the dimension is counted by a leaf
-abbrev pub is_by_counter : Dim → Bool
-is_by_counter (Counted counter times) = true
-is_by_counter other = false
-
 abbrev pub is_any_counted : List Leaf → Bool
-is_any_counted ls = list_any (λ l. is_by_counter l.dim) ls
+is_any_counted ls = list_any (λ l. is_counted_dim l.dim) ls

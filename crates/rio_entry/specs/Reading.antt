@@ -1,22 +1,14 @@
 -- Entries are read: what stands in the bytes of an entry, from left to right.
-use Rattle.std.specs.Prelude.{◌≡◌, ◌⊎◌, ◌<◌, ℕ, List, [], ◌∷◌, ◌++◌, drop, length, map, ◌==◌, Result, Ok, Err, if◌then◌else◌}
-use Rattle.std.specs.Result.{result_map_both}
+use Rattle.std.specs.{Prelude.{◌≡◌, ◌⊎◌, ◌<◌, ℕ, List, [], ◌∷◌, ◌++◌, drop, length, map, ◌==◌, Result, Ok, Err, if◌then◌else◌}, Result.{result_map_both}}
 use Rattle.rio_leaf.specs.declared.branch.Shape.{Shape}
-use Rattle.rio_num.specs.Layout.{done, ◌>>=◌}
-use Rattle.rio_num.specs.Meanings.{read, Spells, Breaks}
-use Rattle.rio_buffer.specs.Frames.{ObjLayout, Step}
-use Rattle.rio_buffer.specs.ReaderState.{WordsMet, no_words, standing}
-use Rattle.rio_buffer.specs.declared.fault.ObjFault.{ObjFault}
-use Rattle.rio_format.specs.Bodies.{Counters}
-use Rattle.rio_format.specs.Objects.{depth_limit, kind_value, object_of}
+use Rattle.rio_num.specs.{Layout.{done, ◌>>=◌}, Meanings.{read, Spells, Breaks}}
+use Rattle.rio_buffer.specs.{Frames.{ObjLayout, Step}, ReaderState.{WordsMet, no_words, standing}, declared.fault.ObjFault.{ObjFault}}
+use Rattle.rio_format.specs.{Bodies.{Counters}, Objects.{depth_limit, kind_value, object_of}}
 use Rattle.rio_machine.specs.Rows.{Column, leaf_column, object_column, leaf_kind, leaf_numbers_behind, shape_columns}
 use Rattle.rio_types.specs.declared.class.ClassDef.{ClassDef}
 use Rattle.rio_value.specs.declared.value.Value.{Value}
-use Rattle.rio_entry.specs.Entries.{counters_for, given_count}
-use Rattle.rio_entry.specs.Faults.{entry_fault}
-use Rattle.rio_entry.specs.Leaves.{number_alone}
-use Rattle.rio_entry.specs.declared.fault.EntryFault.{EntryFault}
-use Rattle.rio_entry.specs.declared.fault.EntryFault.TheVariants.{BadEntry}
+use Rattle.rio_entry.specs.{Entries.{counters_for, given_count}, Faults.{entry_fault}, Leaves.{number_alone}}
+use Rattle.rio_entry.specs.declared.fault.EntryFault.{EntryFault, TheVariants.{BadEntry}}
 
 -- What stands in a column, behind its counter. A count below 0 breaks it where the values would begin.
 abbrev pub column_value : List ClassDef → Counters → Column → ObjLayout Value

@@ -1,21 +1,13 @@
 -- A row of a tree is read of one entry for each branch.
 use Rattle.std.specs.Prelude.{◌≡◌, ℕ, ◌+◌, ℤ, pos, List, [], ◌∷◌, ◌++◌, map, Option, Some, None, Result, Ok, Err, unwrap_or, is_none, is_ok, IsTrue, not}
-use Rattle.std.specs.List.{list_all}
-use Rattle.std.specs.Map.{lookup}
-use Rattle.std.specs.Option.{option_map}
-use Rattle.std.specs.Str.{bytes_eq}
-use Rattle.rio_leaf.specs.declared.branch.BranchDef.{BranchDef}
-use Rattle.rio_leaf.specs.declared.leaf.Dim.{Dim}
-use Rattle.rio_leaf.specs.declared.leaf.Dim.TheVariants.{Counted}
+use Rattle.std.specs.{List.{list_all}, Map.{lookup}, Option.{option_map}, Str.{bytes_eq}}
+use Rattle.rio_leaf.specs.{declared.branch.BranchDef.{BranchDef}, declared.leaf.Dim.{Dim, TheVariants.{Counted}}}
 use Rattle.rio_format.specs.Bodies.{Counters}
 use Rattle.rio_num.specs.Reading.{◌>>=◌}
-use Rattle.rio_machine.specs.Limits.{has_long_entry}
-use Rattle.rio_machine.specs.Rows.{Column, leaf_column, object_column, entries_of, leaf_numbers_after, row_fits, shape_columns}
+use Rattle.rio_machine.specs.{Limits.{has_long_entry}, Rows.{Column, leaf_column, object_column, entries_of, leaf_numbers_after, row_fits, shape_columns}}
 use Rattle.rio_types.specs.declared.class.ClassDef.{ClassDef}
 use Rattle.rio_value.specs.declared.value.Value.{Value, Int}
-use Rattle.rio_entry.specs.Laws.{can_be_read_back}
-use Rattle.rio_entry.specs.Reading.{entry_in}
-use Rattle.rio_entry.specs.declared.fault.EntryFault.{EntryFault}
+use Rattle.rio_entry.specs.{Laws.{can_be_read_back}, Reading.{entry_in}, declared.fault.EntryFault.{EntryFault}}
 
 -- ---- counts
 

@@ -11,12 +11,12 @@ ghost use Rattle.rio_types.specs.declared.class.ClassDef.{ClassDef as Class};
 ghost use Rattle.rio_value.specs.declared.value.Value.{Value as Given};
 ghost use Rattle.rio_entry.specs.Bounds.{most_values};
 ghost use Rattle.rio_entry.specs.Entries.{counter_saying};
-ghost use Rattle.rio_entry.specs.Leaves.{is_any_counted, is_by_counter, kind_layout, said_by, number_of_value, numbers_of_values, without_number};
+ghost use Rattle.rio_entry.specs.Leaves.{is_any_counted, kind_layout, said_by, number_of_value, numbers_of_values, without_number};
 ghost use Rattle.rio_entry.specs.Reading.{entry_values};
 
 use crate::leaf::{given_count, letter_kind, said_count};
 use rio_buffer::{ObjFault, ObjReader};
-use rio_leaf::{Dim, Leaf};
+use rio_leaf::{Dim, Leaf, is_counted_dim};
 use rio_read::{pass_numbers, read_number};
 use rio_types::Prim;
 use rio_value::{Value, Values};
@@ -106,16 +106,10 @@ fn pass_leaf(reader: &mut ObjReader, leaf: &Leaf, count: i128) -> Result<Value, 
     }
 }
 
-fn is_by_counter(dim: &Dim) -> bool
-    ensures { result ≡ is_by_counter dim.now }
-{
-    matches!(dim, Dim::Counted { .. })
-}
-
 fn is_any_counted(leaves: &[Leaf]) -> bool
     ensures { result ≡ is_any_counted leaves.now }
 {
-    leaves.iter().any(|leaf| is_by_counter(&leaf.dim))
+    leaves.iter().any(|leaf| is_counted_dim(&leaf.dim))
 }
 
 // Leaves of which none is counted.

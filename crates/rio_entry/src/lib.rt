@@ -10,12 +10,11 @@
 //! breaks; what is written for a row is read ([`written_rows_are_read`]).
 //! `specs/Entries.antt` has what fits and the bytes, `specs/Reading.antt` what stands in the bytes, `specs/Rows.antt` rows,
 //! `specs/Faults.antt` the refusals, `specs/Laws.antt` the laws of entries. `specs/Leaves.antt` and `specs/Bounds.antt` say
-//! of leaves alone what the code does.
+//! of leaves alone what the code does. Its tests stand in `rio_rows`.
 #![tactic(auto)]
 
 mod check;
 mod check_leaves;
-mod count;
 mod fault;
 mod fit;
 mod laws;
@@ -26,10 +25,10 @@ mod put;
 mod read;
 mod read_leaves;
 mod row;
+mod said_numbers;
 mod write;
 
 pub use check::check_entry;
-pub use count::entry_numbers;
 pub use fault::EntryFault;
 pub use laws::{
     broken_rows_have_a_branch, entries_have_one_answer, entry_is_part_of_row,
@@ -38,4 +37,5 @@ pub use laws::{
 pub use part::RowPart;
 pub use read::read_entry;
 pub use row::{broken_branch, read_row};
+pub use said_numbers::entry_numbers;
 pub use write::write_entry;

@@ -2,7 +2,7 @@
 ghost use Rattle.std.specs.Prelude.{◌≡◌, ℕ, List, Some, IfOk, OnOk, map, pos, unwrap_or, if◌then◌else◌};
 ghost use Rattle.std.specs.Str.{bytes_eq};
 ghost use Rattle.rio_format.specs.Bodies.{Counters};
-ghost use Rattle.rio_format.specs.Counts.{SaysAsFirst, number_in_map};
+ghost use Rattle.rio_format.specs.Counts.{SaysAsFirst, number_by_name};
 ghost use Rattle.rio_machine.specs.Rows.{leaf_column, leaf_numbers_after, shape_columns};
 ghost use Rattle.rio_entry.specs.Leaves.{numbers_after};
 ghost use Rattle.rio_entry.specs.Rows.{count_before, counts_before};
@@ -13,32 +13,31 @@ use rio_value::{Value, Values};
 use std::alloc::Global;
 use std::collections::BTreeMap;
 
-/// What the nearest leaf of each name says.
-pub(crate) type Numbers = BTreeMap<Vec<u8>, i128>;
+/// What the nearest leaf of each name says. The names are those of the leaves.
+pub(crate) type Numbers<'a> = BTreeMap<&'a [u8], i128>;
 
 // The name leads to the number from now on.
-fn put_number(alloc: Global, numbers: &mut Numbers, name: &[u8], said: i128) -> Result<(), NoMemory>
+fn put_number<'a>(numbers: &mut Numbers<'a>, name: &'a [u8], said: i128) -> Result<(), NoMemory>
     ensures { OnOk result
         ((q : List ℕ) →
-        number_in_map numbers.new q
-        ≡ (if bytes_eq q name.now then Some said else number_in_map numbers.old q)) }
+        number_by_name numbers.new q
+        ≡ (if bytes_eq q name.now then Some said else number_by_name numbers.old q)) }
 {
-    numbers.insert(Vec::from_slice(alloc, name)?, said)?;
+    numbers.insert(name, said)?;
     Ok(())
 }
 
-fn note_leaves(
-    alloc: Global,
-    leaves: &[Leaf],
+fn note_leaves<'a>(
+    leaves: &'a [Leaf],
     values: &[Value],
-    numbers: &mut Numbers,
+    numbers: &mut Numbers<'a>,
 ) -> Result<(), NoMemory>
     ensures { (before : Counters) → SaysAsFirst numbers.old before
         → OnOk result (SaysAsFirst numbers.new (numbers_after leaves.now values.now before)) }
 {
     for (k, leaf) in leaves.iter().enumerate() {
         match values.get(k) {
-            Some(value) => put_number(alloc, numbers, leaf.name.as_slice(), value.number())?,
+            Some(value) => put_number(numbers, leaf.name.as_slice(), value.number())?,
             None => return Ok(()),
         }
     }
@@ -46,24 +45,23 @@ fn note_leaves(
 }
 
 /// The leaves of a branch with these values stand behind those before.
-pub(crate) fn note_values(
-    alloc: Global,
-    shape: &Shape,
+pub(crate) fn note_values<'a>(
+    shape: &'a Shape,
     values: &[Value],
-    numbers: &mut Numbers,
+    numbers: &mut Numbers<'a>,
 ) -> Result<(), NoMemory>
     ensures { (before : Counters) → SaysAsFirst numbers.old before
         → OnOk result (SaysAsFirst numbers.new
         (leaf_numbers_after (shape_columns shape.now) values.now before)) }
 {
     match shape {
-        Shape::Leaves(leaves) => note_leaves(alloc, leaves.as_slice(), values, numbers),
+        Shape::Leaves(leaves) => note_leaves(leaves.as_slice(), values, numbers),
         Shape::Class(_) => Ok(()),
     }
 }
 
 fn count_said(numbers: &Numbers, name: &[u8]) -> i128
-    ensures { result ≡ unwrap_or (number_in_map numbers.now name.now) (pos 0) }
+    ensures { result ≡ unwrap_or (number_by_name numbers.now name.now) (pos 0) }
 {
     numbers.get(name).copied().unwrap_or(0)
 }

@@ -3,8 +3,7 @@ ghost use Rattle.std.specs.Prelude.{◌≡◌, ◌<◌, ◌^◌, List, length, E
 ghost use Rattle.rio_num.specs.At.{GoesOn};
 ghost use Rattle.rio_num.specs.Meanings.{read};
 ghost use Rattle.rio_buffer.specs.Frames.{ReadsAs};
-ghost use Rattle.rio_leaf.specs.declared.branch.Shape.TheVariants.{Leaves as Leafy, Class as Classed};
-ghost use Rattle.rio_types.specs.declared.class.ClassDef.{ClassDef as Class};
+ghost use Rattle.rio_leaf.specs.declared.branch.Shape.TheVariants.{Class as Classed};
 ghost use Rattle.rio_value.specs.declared.value.Value.{Value as Given};
 ghost use Rattle.rio_num.specs.Answers.{GivesUnless};
 ghost use Rattle.rio_entry.specs.declared.fault.EntryFault.TheVariants.{NoMemory as OutOfMemory};
@@ -14,7 +13,7 @@ ghost use Rattle.rio_entry.specs.Reading.{BreaksEntry, SpellsEntry, entry_in, en
 use crate::EntryFault;
 use crate::read_leaves::read_leaves;
 use rio_buffer::{ObjFault, ObjReader};
-use rio_leaf::{BranchDef, Leaf, Shape};
+use rio_leaf::{BranchDef, Shape};
 use rio_read::read_next;
 use rio_types::Classes;
 use rio_value::{Value, Values};
@@ -51,36 +50,21 @@ fn read_one(
     Ok(values)
 }
 
-fn read_class(
+fn shape_values(
     alloc: Global,
     classes: &Classes,
-    class: &[u8],
-    bytes: &[u8],
-) -> Result<Values, EntryFault>
-    requires { length bytes.now < 2 ^ 32 }
-    ensures { (counts : List Given) → GivesUnless OutOfMemory (λ row. row) result
-        (entry_in classes.now (Classed class.now) counts bytes.now) }
-{
-    let mut reader = ObjReader::new(alloc, bytes, 0);
-    let values = read_one(alloc, classes, &mut reader, class)?;
-    check_end(&reader)?;
-    Ok(values)
-}
-
-fn read_values(
-    alloc: Global,
-    leaves: &[Leaf],
+    reader: &mut ObjReader,
+    shape: &Shape,
     counts: &[Value],
-    bytes: &[u8],
-) -> Result<Values, EntryFault>
-    requires { length bytes.now < 2 ^ 32 }
-    ensures { (classes : List Class) → GivesUnless OutOfMemory (λ row. row) result
-        (entry_in classes (Leafy leaves.now) counts.now bytes.now) }
+) -> Result<Values, ObjFault>
+    ensures exact { ReadsAs (λ x. x) result
+        (read (entry_values classes.now shape.now counts.now) reader.old) reader.new }
+    ensures goes { GoesOn reader.old.at reader.new.at }
 {
-    let mut reader = ObjReader::new(alloc, bytes, 0);
-    let values = read_leaves(alloc, &mut reader, leaves, counts)?;
-    check_end(&reader)?;
-    Ok(values)
+    match shape {
+        Shape::Leaves(leaves) => read_leaves(alloc, reader, leaves.as_slice(), counts),
+        Shape::Class(class) => read_one(alloc, classes, reader, class.as_slice()),
+    }
 }
 
 fn read_shape(
@@ -94,10 +78,10 @@ fn read_shape(
     ensures { GivesUnless OutOfMemory (λ row. row) result
         (entry_in classes.now shape.now counts.now bytes.now) }
 {
-    match shape {
-        Shape::Leaves(leaves) => read_values(alloc, leaves.as_slice(), counts, bytes),
-        Shape::Class(class) => read_class(alloc, classes, class.as_slice(), bytes),
-    }
+    let mut reader = ObjReader::new(alloc, bytes, 0);
+    let values = shape_values(alloc, classes, &mut reader, shape, counts)?;
+    check_end(&reader)?;
+    Ok(values)
 }
 
 /// The values of an entry of the branch: one for each leaf, or the one object of a branch of a class. `counts` is as

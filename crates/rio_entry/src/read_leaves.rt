@@ -1,10 +1,9 @@
 //! The values of leaves are read.
 ghost use Rattle.std.specs.Prelude.{◌≡◌, ℕ, List, Some, [], min};
 ghost use Rattle.rio_num.specs.At.{GoesOn};
-ghost use Rattle.rio_num.specs.Layout.{times};
 ghost use Rattle.rio_num.specs.Meanings.{read};
 ghost use Rattle.rio_buffer.specs.Frames.{ReadsAs};
-ghost use Rattle.rio_format.specs.Objects.{number_value, numbers, text_value};
+ghost use Rattle.rio_format.specs.Objects.{numbers};
 ghost use Rattle.rio_leaf.specs.declared.branch.Shape.TheVariants.{Leaves as Leafy};
 ghost use Rattle.rio_machine.specs.Rows.{counted_leaf_kind, leaf_kind, sized_kind};
 ghost use Rattle.rio_types.specs.declared.class.ClassDef.{ClassDef as Class};
@@ -16,23 +15,10 @@ ghost use Rattle.rio_entry.specs.Reading.{entry_values};
 use crate::leaf::{given_count, letter_kind, said_count};
 use rio_buffer::{ObjFault, ObjReader};
 use rio_leaf::{Dim, Leaf};
-use rio_num::Name;
-use rio_read::read_number;
+use rio_read::{read_number, read_text, read_times};
 use rio_types::Prim;
 use rio_value::{Value, Values};
 use std::alloc::Global;
-
-fn read_times(alloc: Global, reader: &mut ObjReader, of: Prim, n: u64) -> Result<Values, ObjFault>
-    ensures exact { ReadsAs (λ x. x) result (read (times n (number_value of)) reader.old)
-        reader.new }
-    ensures goes { GoesOn reader.old.at reader.new.at }
-{
-    let mut values = Values::new(alloc);
-    for _done in 0..n {
-        values.push(read_number(reader, of)?)?;
-    }
-    Ok(values)
-}
 
 // A list of values. No more are read than there are bytes, and one, which is then not there.
 fn read_list(alloc: Global, reader: &mut ObjReader, of: Prim, n: u128) -> Result<Value, ObjFault>
@@ -83,15 +69,6 @@ fn read_sized(
         Dim::Fixed(n) => read_list(alloc, reader, of, u128::from(*n)),
         Dim::Counted { times, .. } => read_counted(alloc, reader, of, *times, count),
     }
-}
-
-#[tactic(auto, unfolding(rio_format::specs::Objects::text_value))]
-fn read_text(alloc: Global, reader: &mut ObjReader) -> Result<Value, ObjFault>
-    ensures exact { ReadsAs (λ x. x) result (read text_value reader.old) reader.new }
-    ensures goes { GoesOn reader.old.at reader.new.at }
-{
-    let text = reader.take_text()?;
-    Ok(Value::Text(Name::from_slice(alloc, text)?))
 }
 
 fn read_without_number(alloc: Global, reader: &mut ObjReader, letter: u8) -> Result<Value, ObjFault>

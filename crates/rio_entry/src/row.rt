@@ -52,7 +52,7 @@ pub fn read_row(alloc: Global, classes: &Classes, parts: &[RowPart]) -> Result<V
     let mut numbers = Numbers::new(alloc);
     for part in parts {
         let values = read_part(alloc, classes, part, &numbers)?;
-        note_values(alloc, &part.branch.shape, values.as_slice(), &mut numbers)?;
+        note_values(&part.branch.shape, values.as_slice(), &mut numbers)?;
         append(alloc, &mut row, values.as_slice())?;
     }
     Ok(row)
@@ -71,7 +71,7 @@ pub fn broken_branch(
     let mut numbers = Numbers::new(alloc);
     for (k, part) in parts.iter().enumerate() {
         match read_part(alloc, classes, part, &numbers) {
-            Ok(values) => note_values(alloc, &part.branch.shape, values.as_slice(), &mut numbers)?,
+            Ok(values) => note_values(&part.branch.shape, values.as_slice(), &mut numbers)?,
             Err(EntryFault::NoMemory) => return Err(NoMemory),
             Err(_) => return Ok(Some(k)),
         }

@@ -1,16 +1,10 @@
 -- Whether the parts of an object fit, one after the other.
 use Rattle.std.proofs.Common.{◌≡◌, ◌≤◌, ◌<◌, ℕ, ◌+◌, List, [], ◌∷◌, length, drop, map, Bool, true, false, Option, Some, None, if◌then◌else◌, not, refl, sym, ap, ◌∙◌, slice_index_or, Ok, arith, inl, inr, length-drop}
-use Rattle.std.specs.Prelude.{ℤ, is_none, option_and_then, slice_get, unwrap_or}
-use Rattle.std.specs.Option.{option_map}
-use Rattle.std.specs.Str.{bytes_eq}
-use Rattle.std.proofs.lemmas.Bool.Decides.{leb_tells}
-use Rattle.std.proofs.lemmas.Option.{slice_get_past}
-use Rattle.std.proofs.lemmas.List.{drop_more, drop_all}
+use Rattle.std.proofs.{lemmas.Bool.Decides.{leb_tells}, lemmas.Option.{slice_get_past}, lemmas.List.{drop_more, drop_all}}
+use Rattle.std.specs.{Prelude.{ℤ, is_none, option_and_then, slice_get, unwrap_or}, Option.{option_map}, Str.{bytes_eq}}
 use Rattle.rio_types.specs.declared.kind.Kind.TheVariants.{Counter}
 use Rattle.rio_format.proofs.FieldLaws.{found_first, none_left, some_left}
-use Rattle.rio_format.specs.Bodies.{Counters}
-use Rattle.rio_format.specs.Fits.{Fitting, Labels, counted_slot, counted_so_far, fields_fit}
-use Rattle.rio_format.specs.Slots.{Field, kinded}
+use Rattle.rio_format.specs.{Bodies.{Counters}, Fits.{Fitting, Labels, counted_slot, counted_so_far, fields_fit}, Slots.{Field, kinded}}
 use Rattle.rio_fit.specs.Fitting.{Tells, counter_fits, part_fits}
 
 -- ---- one part

@@ -1,24 +1,16 @@
 -- Whether values fit, as the code tells it.
-use Rattle.std.specs.Prelude.{◌≡◌, ℕ, ℤ, List, ◌∷◌, Bool, true, false, Option, Some, None, Result, Ok, Err, if◌then◌else◌}
-use Rattle.std.specs.Option.{option_map}
+use Rattle.std.specs.{Prelude.{◌≡◌, ℕ, ℤ, List, ◌∷◌, Bool, true, false, Option, Some, None, Result, Ok, Err, if◌then◌else◌}, Option.{option_map}}
 use Rattle.std.specs.Str.{bytes_eq}
 use Rattle.rio_num.specs.declared.no_memory.NoMemory.{NoMemory}
-use Rattle.rio_types.specs.declared.class.ClassDef.{ClassDef}
 use Rattle.rio_types.specs.declared.kind.Kind.TheVariants.{Counter as CounterKind}
-use Rattle.rio_value.specs.declared.value.Part.{Part}
-use Rattle.rio_format.specs.Bodies.{Counters}
-use Rattle.rio_format.specs.Fits.{Fitting, Labels, fitting_of, counted_slot, counted_so_far}
+use Rattle.rio_format.specs.{Bodies.{Counters}, Fits.{Fitting, Labels, counted_slot, counted_so_far}, Slots.{kinded}}
 use Rattle.rio_format.specs.Slots as place
-use Rattle.rio_format.specs.Slots.{kinded}
 
 -- It tells whether there are labels behind the value, and the new ones are these.
 abbrev pub Tells : {L : Type 0} → Result Bool NoMemory → Option L → L → Type 0
 Tells (Ok true) fit new = fit ≡ Some new
 Tells (Ok false) fit new = fit ≡ None
 Tells (Err e) fit new = Unit {0}
-
-abbrev pub part_fitting : List ClassDef → Part → List ℕ × Fitting
-part_fitting classes p = (p.name, fitting_of classes p.value)
 
 -- a part fits in the field, with the labels and the counters behind it
 abbrev pub part_fits : place.Field → List ℕ × Fitting → Counters → Labels → Option (Labels × Counters)

@@ -2,12 +2,12 @@
 ghost use Rattle.rio_types.specs.declared.class.ClassDef.{ClassDef as Class};
 ghost use Rattle.std.specs.Prelude.{◌≡◌, ℕ, List, ◌∷◌, [], map, Some, None, IfOk};
 ghost use Rattle.std.specs.Option.{option_map};
-ghost use Rattle.rio_format.specs.Fits.{Labels, all_fit, back_fits, counted_slot, counted_so_far, fields_fit, fits, fitting_of, link_fits, list_fits, object_may_stand, parts_fit, pointed_fits};
+ghost use Rattle.rio_format.specs.Fits.{Labels, all_fit, back_fits, counted_slot, counted_so_far, fields_fit, fits, fitting_of, link_fits, list_fits, object_may_stand, part_fitting, parts_fit, pointed_fits};
 ghost use Rattle.rio_format.specs.Slots.{fields_of, kinded};
 ghost use Rattle.rio_types.specs.declared.kind.Kind.TheVariants.{Inline};
 ghost use Rattle.rio_value.specs.declared.value.Value.{Value as Given};
 ghost use Rattle.std.specs.Prelude.{slice_get};
-ghost use Rattle.rio_fit.specs.Fitting.{IsCounterValue, counter_fits, Tells, part_fits, part_fitting};
+ghost use Rattle.rio_fit.specs.Fitting.{IsCounterValue, counter_fits, Tells, part_fits};
 
 use crate::derive::{Owner, is_pointer, may_point};
 use crate::fit_numbers::{bits32_fits, bits64_fits, int_fits, text_fits, truth_fits};

@@ -1,42 +1,13 @@
 -- A class has no base that more levels find than there are classes and one more.
-use Rattle.std.proofs.Common.{◌≡◌, ◌≤◌, ◌<◌, ◌+◌, ◌-◌, ◌⊎◌, ℕ, zero, suc, List, [], ◌∷◌, length, Bool, true, false, cond, ◌||◌, ◌&&◌, Option, Some, None, refl, sym, inl, inr, arith}
-use Rattle.std.specs.Prelude.{ℤ, pos, codes, find, if◌then◌else◌}
-use Rattle.std.specs.Cmp.Lexicographic.{same_text}
-use Rattle.std.specs.List.{list_any}
-use Rattle.std.specs.Option.{option_map}
-use Rattle.std.specs.Ordering.{int_eq}
-use Rattle.std.specs.Str.{bytes_eq}
+use Rattle.std.proofs.{Common.{◌≡◌, ◌≤◌, ◌<◌, ◌+◌, ◌-◌, ◌⊎◌, ℕ, zero, suc, List, [], ◌∷◌, length, Bool, true, false, cond, ◌||◌, ◌&&◌, Option, Some, None, refl, sym, inl, inr, arith}, lemmas.Bool.{and_parts, cond_both, or_left, or_parts, or_right}}
 use Rattle.std.proofs.lemmas.Bool.Decides.{Decides-int_eq}
-use Rattle.rio_types.specs.Classes.{find_in}
-use Rattle.rio_types.specs.declared.class.Base.{Base}
-use Rattle.rio_types.specs.declared.class.ClassDef.{ClassDef}
+use Rattle.std.specs.{Prelude.{ℤ, pos, codes, find}, Cmp.Lexicographic.{same_text}, List.{list_any}, Option.{option_map}, Ordering.{int_eq}}
+use Rattle.std.specs.Str.{bytes_eq}
+use Rattle.rio_num.proofs.Cases.{any_weaker, either}
+use Rattle.rio_types.specs.{Classes.{find_in}, declared.class.Base.{Base}, declared.class.ClassDef.{ClassDef}}
 use Rattle.rio_format.specs.Bodies.{Body, described, built_in, form_of, headed_classes, t_object_base}
 use Rattle.rio_format.specs.Slots.{body_bases, declared_body, has_base, headed_body, is_headed}
 use Rattle.rio_format.proofs.BuiltInLaws.{of_body}
-use Rattle.rio_format.proofs.Tests.{both_true}
-
-either : {P : Type 0} (a b : Bool) → (a ≡ true → P) → (b ≡ true → P) → (a || b) ≡ true → P
-either true b f g e = f refl
-either false b f g e = g e
-
-neither : (a b : Bool) → (a || b) ≡ false → (a ≡ false) × (b ≡ false)
-neither true b e = absurd cc
-neither false b e = (refl, e)
-
-or_left : (a b : Bool) → a ≡ true → (a || b) ≡ true
-or_left a b e = rw e refl
-
-or_right : (a b : Bool) → b ≡ true → (a || b) ≡ true
-or_right true b e = refl
-or_right false b e = e
-
-choose : {A : Type 0} (P : A → Type 0) (b : Bool) (x y : A) → P x → P y → P (if b then x else y)
-choose P true x y p q = p
-choose P false x y p q = q
-
-any_weaker : {X : Type 0} (p q : X → Bool) → ((x : X) → p x ≡ true → q x ≡ true) → (xs : List X) → list_any p xs ≡ true → list_any q xs ≡ true
-any_weaker p q f [] e = absurd cc
-any_weaker p q f (x ∷ xs) e = either (p x) (list_any p xs) (λ h. or_left (q x) (list_any q xs) (f x h)) (λ h. or_right (q x) (list_any q xs) (any_weaker p q f xs h)) e
 
 -- ---- counting
 
@@ -81,6 +52,10 @@ count_found test p q f (y ∷ ys) x e gone there =
       | false ↦ λ h. omega (arith, one_weaker (p y) (q y) (f y), rest h gone there)
     ] e
 
+abbrev pub first_of_both : Option Body → Option Body → Option Body
+first_of_both other (Some body) = Some body
+first_of_both other None = other
+
 module _ (classes : List ClassDef) (target : List ℕ) where
   abbrev has_among : ℕ → List Base → Bool
   has_among k bases = list_any (λ b. bytes_eq b.name target || has_base k classes target b.name b.version) bases
@@ -105,10 +80,6 @@ module _ (classes : List ClassDef) (target : List ℕ) where
   abbrev IsKnown : List ℕ → ℤ → Option Body → Type 0
   IsKnown class version body = ((c : ClassDef) × (find_in classes class version ≡ Some c)) ⊎ IsShallow body
 
-  abbrev first_of_both : Option Body → Option Body → Option Body
-  first_of_both other (Some body) = Some body
-  first_of_both other None = other
-
   listed_is_known : (class : List ℕ) (version : ℤ) (found : Option ClassDef) → find_in classes class version ≡ found → IsKnown class version (option_map described found)
   listed_is_known class version None e = inr (λ k. refl)
   listed_is_known class version (Some c) e = inl (c, e)
@@ -119,16 +90,16 @@ module _ (classes : List ClassDef) (target : List ℕ) where
 
   is_known : (class : List ℕ) (version : ℤ) → IsKnown class version (headed_body classes class version)
   is_known class version =
-      choose (IsKnown class version) (is_headed (form_of class)) (declared_body classes class version) None
-      (first_is_known class version (built_in class version) (built_is_shallow class version)) (inr (λ k. refl))
+      cond_both (is_headed (form_of class)) (declared_body classes class version) None (IsKnown class version)
+      (λ t. first_is_known class version (built_in class version) (built_is_shallow class version)) (λ t. inr (λ k. refl))
 
   -- a base that one level more finds
   base_between : (k : ℕ) (bases : List Base) → has_among (suc k) bases ≡ true → has_among k bases ≡ false
       → (b : Base) × (has_base (suc k) classes target b.name b.version ≡ true) × (has_base k classes target b.name b.version ≡ false)
   base_between k [] there gone = absurd cc
   base_between k (b ∷ bs) there gone =
-      let parts = neither (bytes_eq b.name target || has_base k classes target b.name b.version) (has_among k bs) gone in
-      let own = neither (bytes_eq b.name target) (has_base k classes target b.name b.version) parts.0 in
+      let parts = or_parts (bytes_eq b.name target || has_base k classes target b.name b.version) (has_among k bs) gone in
+      let own = or_parts (bytes_eq b.name target) (has_base k classes target b.name b.version) parts.0 in
       either (bytes_eq b.name target || has_base (suc k) classes target b.name b.version) (has_among (suc k) bs)
       (λ h. either (bytes_eq b.name target) (has_base (suc k) classes target b.name b.version) (λ t. absurd (cc (own.0, t))) (λ t. (b, t, own.1)) h)
       (λ h. base_between k bs h parts.1)
@@ -156,7 +127,7 @@ module _ (classes : List ClassDef) (target : List ℕ) where
         | inl found ↦
             let test : ClassDef → Bool = λ c. bytes_eq c.name class && int_eq c.version version in
             let c : ClassDef = found.0 in
-            let same = both_true (bytes_eq c.name class) (int_eq c.version version) (find_passes test classes c found.1) in
+            let same = and_parts (bytes_eq c.name class) (int_eq c.version version) (find_passes test classes c found.1) in
             let name : c.name ≡ class = same_text c.name class (sym same.0) in
             let its : c.version ≡ version = (Decides-int_eq c.version version).0 same.1 in
             let more = count_found test (λ c. has_base (suc k) classes target c.name c.version) (λ c. has_base (suc (suc k)) classes target c.name c.version) (λ c. grows (suc k) c.name c.version) classes c found.1 (rw (name, its) gone) (rw (name, its) there) in

@@ -1,59 +1,25 @@
 -- Which classes have which among their bases.
 use Rattle.std.proofs.Common.{◌≡◌, ◌≤◌, ◌<◌, ◌+◌, ◌∙◌, ℕ, zero, suc, List, [], ◌∷◌, ◌++◌, length, get_or, take, Bool, true, false, ◌||◌, ◌&&◌, if◌then◌else◌, Option, Some, refl, sym, ap, subst, append_assoc, length-append, arith}
-use Rattle.std.specs.Prelude.{ℤ, not}
-use Rattle.std.specs.Cmp.Lexicographic.{same_text}
-use Rattle.std.specs.List.{All, Contains, list_all, list_any, slice_get}
-use Rattle.std.specs.Ordering.{int_eq}
-use Rattle.std.specs.Str.{bytes_eq}
-use Rattle.std.proofs.Math.ListN.{get_or-append}
-use Rattle.std.proofs.lemmas.Bool.Decides.{Decides-int_eq}
-use Rattle.std.proofs.lemmas.List.{append-nil, take_more}
-use Rattle.std.proofs.lemmas.List.Elements.{All-append, All-cons, All-head, All-nil, All-tail, All-weaker, AllWithin-more, Contains-append_left, Contains-append_right}
-use Rattle.std.proofs.lemmas.List.Folds.{list_all-append, list_any-append, list_any_at}
-use Rattle.std.proofs.lemmas.Option.{get_or_from_slice_get}
-use Rattle.std.proofs.lemmas.Slice.Eq.{bytes_eq-Decides}
-use Rattle.rio_types.specs.declared.class.Base.{Base}
-use Rattle.rio_types.specs.declared.class.ClassDef.{ClassDef}
-use Rattle.rio_format.specs.Bodies.{Body}
-use Rattle.rio_format.specs.Slots.{body_bases, has_base, headed_body}
+use Rattle.std.proofs.{Math.ListN.{get_or-append}, lemmas.Bool.{and_parts, or_left, or_right, Decides.{Decides-int_eq}}}
+use Rattle.std.proofs.lemmas.List.{append-nil, take_more, Elements.{All-append, All-cons, All-head, All-nil, All-tail, All-weaker, AllWithin-more, Contains-append_left, Contains-append_right}, Folds.{list_all-append, list_any-append, list_any_at}}
+use Rattle.std.proofs.{lemmas.Option.{get_or_from_slice_get}, lemmas.Slice.Eq.{bytes_eq-Decides}}
+use Rattle.std.specs.{Prelude.{ℤ, not}, Cmp.Lexicographic.{same_text}, List.{All, Contains, list_all, list_any, slice_get}, Ordering.{int_eq}, Str.{bytes_eq}}
+use Rattle.rio_num.proofs.Cases.{any_weaker, both_or_none, either}
+use Rattle.rio_types.specs.{declared.class.Base.{Base}, declared.class.ClassDef.{ClassDef}}
+use Rattle.rio_format.specs.{Bodies.{Body}, Slots.{body_bases, has_base, headed_body}}
 use Rattle.rio_format.specs.Bases.{Expanded, HasVisitedBases, HaveVisitedBases, Pushed, any_below, any_direct, are_targets, are_visited, has_among, visit_bases}
 use Rattle.rio_format.specs.Visits.{base_of, is_visited, same_base, with_visit}
 
-or_left : (a b : Bool) → a ≡ true → (a || b) ≡ true
-or_left a b e = rw e refl
-
-or_right : (a b : Bool) → b ≡ true → (a || b) ≡ true
-or_right true b e = refl
-or_right false b e = e
-
 and_both : (a b : Bool) → a ≡ true → b ≡ true → (a && b) ≡ true
 and_both a b e h = rw (e, h) refl
-
-and_parts : (a b : Bool) → (a && b) ≡ true → (a ≡ true) × (b ≡ true)
-and_parts true b e = (refl, e)
-and_parts false b e = absurd cc
 
 not_twice : {P : Type 0} (a : Bool) → not a ≡ true → a ≡ true → P
 not_twice true e h = absurd cc
 not_twice false e h = absurd cc
 
-either : {P : Type 0} (a b : Bool) → (a ≡ true → P) → (b ≡ true → P) → (a || b) ≡ true → P
-either true b f g e = f refl
-either false b f g e = g e
-
 not_where : (a b : Bool) → (a ≡ true → b ≡ true) → b ≡ false → a ≡ false
 not_where true b f e = sym (f refl) ∙ e
 not_where false b f e = refl
-
-both_or_none : (a b : Bool) → (a ≡ true → b ≡ true) → (b ≡ true → a ≡ true) → a ≡ b
-both_or_none true b f g = sym (f refl)
-both_or_none false true f g = g refl
-both_or_none false false f g = refl
-
-any_weaker : {X : Type 0} (p q : X → Bool) → ((x : X) → p x ≡ true → q x ≡ true) → (xs : List X) → list_any p xs ≡ true → list_any q xs ≡ true
-any_weaker p q f [] e = absurd cc
-any_weaker p q f (x ∷ xs) e =
-    either (p x) (list_any p xs) (λ h. or_left (q x) (list_any q xs) (f x h)) (λ h. or_right (q x) (list_any q xs) (any_weaker p q f xs h)) e
 
 all_weaker : {X : Type 0} (p q : X → Bool) → ((x : X) → p x ≡ true → q x ≡ true) → (xs : List X) → list_all p xs ≡ true → list_all q xs ≡ true
 all_weaker p q f [] e = refl
@@ -61,7 +27,7 @@ all_weaker p q f (x ∷ xs) e =
     let parts = and_parts (p x) (list_all p xs) e in
     and_both (q x) (list_all q xs) (f x parts.0) (all_weaker p q f xs parts.1)
 
-visited_longer : (visits more : List Base) (b : Base) → is_visited visits b ≡ true → is_visited (visits ++ more) b ≡ true
+pub visited_longer : (visits more : List Base) (b : Base) → is_visited visits b ≡ true → is_visited (visits ++ more) b ≡ true
 visited_longer visits more b e =
     list_any-append (same_base b) visits more ∙ or_left (list_any (same_base b) visits) (list_any (same_base b) more) e
 
@@ -75,7 +41,7 @@ are_visited_longer target visits more bases e =
 
 -- ---- what is pushed
 
-same_itself : (b : Base) → same_base b b ≡ true
+pub same_itself : (b : Base) → same_base b b ≡ true
 same_itself b = rw ((bytes_eq-Decides b.name b.name).1 refl, (Decides-int_eq b.version b.version).1 refl) refl
 
 module _ (target : List ℕ) where

@@ -1,9 +1,7 @@
 -- What holds of each built-in class holds of what is said of a name.
-use Rattle.std.proofs.Common.{◌≡◌, ℕ, ℤ, Bool, true, false, cond, List, [], ◌∷◌, Option, None, refl}
-use Rattle.std.proofs.lemmas.Bool.Decides.{Decides-int_eq}
+use Rattle.std.proofs.{Common.{◌≡◌, ℕ, ℤ, Bool, true, false, cond, List, [], ◌∷◌, Option, None, refl}, lemmas.Bool.Decides.{Decides-int_eq}}
 use Rattle.std.proofs.lemmas.Slice.Eq.{bytes_eq-Decides}
-use Rattle.std.specs.Ordering.{int_eq}
-use Rattle.std.specs.Str.{bytes_eq}
+use Rattle.std.specs.{Ordering.{int_eq}, Str.{bytes_eq}}
 use Rattle.rio_format.specs.Bodies.{Body, BuiltIn, by_name, own_body, row_of}
 use Rattle.rio_format.proofs.ValueCases.{Each}
 

@@ -1,27 +1,18 @@
 -- An object is spelled by its own bytes, whatever follows them.
 use Rattle.std.proofs.Common.{◌≡◌, ◌==◌, ℕ, zero, suc, ◌+◌, ◌-◌, ◌*◌, ◌^◌, ◌≤◌, ℤ, pos, negsuc, nat_le, nat_lt, Bool, true, false, List, [], ◌∷◌, length, codes, Some, None, refl, ap, subst, arith}
-use Rattle.std.proofs.lemmas.Bool.{eqb-true}
-use Rattle.std.proofs.lemmas.List.{length-append}
-use Rattle.rio_types.specs.declared.class.Base.{Base}
-use Rattle.rio_types.specs.declared.class.ClassDef.{ClassDef}
-use Rattle.rio_types.specs.declared.class.Member.{Member}
-use Rattle.rio_types.specs.declared.kind.Kind.{Kind}
-use Rattle.rio_types.specs.declared.kind.Kind.TheVariants.{Plain, Counter, Fixed, Counted, Text as Texted, Inline, Pointer, Other}
-use Rattle.rio_types.specs.declared.kind.Primitive.{Primitive}
-use Rattle.rio_types.specs.declared.kind.Primitive.TheVariants.{I32}
+use Rattle.std.proofs.{lemmas.Bool.{eqb-true}, lemmas.List.{length-append}}
+use Rattle.rio_types.specs.{declared.class.Base.{Base}, declared.class.ClassDef.{ClassDef}, declared.class.Member.{Member}}
+use Rattle.rio_types.specs.declared.kind.Kind.{Kind, TheVariants.{Plain, Counter, Fixed, Counted, Text as Texted, Inline, Pointer, Other}}
+use Rattle.rio_types.specs.declared.kind.Primitive.{Primitive, TheVariants.{I32}}
 use Rattle.rio_value.specs.declared.value.Part.{Part}
 use Rattle.rio_format.specs.Bodies.{Form, bare, numbers as numbered, headed as with_header, form_of, Body, described, listed, arrayed, opaque, body_of, Counters, counters_with, count_by}
 use Rattle.rio_format.specs.Prims.{width_of}
-use Rattle.rio_buffer.specs.ReaderState.{WordsMet, with_label, with_name}
-use Rattle.rio_buffer.specs.declared.words.Header.{Header}
-use Rattle.rio_buffer.specs.declared.words.PointerWord.{PointerWord}
-use Rattle.rio_buffer.specs.declared.words.PointerWord.TheVariants.{Null, New, Back}
-use Rattle.rio_buffer.specs.declared.fault.ObjFault.{ObjFault}
-use Rattle.rio_buffer.specs.declared.fault.ObjFault.TheVariants.{Short, BadCount, NoCount, CountMismatch}
-use Rattle.rio_num.specs.Layout.{behind, must}
-use Rattle.rio_num.specs.Meanings.{Spells}
-use Rattle.rio_buffer.specs.Frames.{ObjLayout, is_count, end_of, finish, header_end, checksum, header, new_class, class_word, new_word, pointer_word}
-use Rattle.rio_format.specs.Objects.{has_pid, Objects, pointed, pointer, number_value, numbers, filled, counted_values, text_value, kind_value, member_part, member_parts, base_part, parts, count_of, link, list_parts, array_parts, pid_of, bare_layout, array, closed as closed_by, whole_object, unread, body, headed, formed, object_of}
+use Rattle.rio_format.specs.Objects.{has_pid, Objects, pointed, pointer, number_value, numbers, filled, counted_values, text_value, kind_value, member_part, member_parts, base_part, parts, count_of, link, list_parts, array_parts, pid_of, bare_layout, number_array, closed as closed_by, whole_object, unread, body, headed, formed, object_of}
+use Rattle.rio_buffer.specs.{ReaderState.{WordsMet, with_label, with_name}, declared.words.Header.{Header}}
+use Rattle.rio_buffer.specs.declared.words.PointerWord.{PointerWord, TheVariants.{Null, New, Back}}
+use Rattle.rio_buffer.specs.declared.fault.ObjFault.{ObjFault, TheVariants.{Short, BadCount, NoCount, CountMismatch}}
+use Rattle.rio_buffer.specs.Frames.{ObjLayout, is_count, end_of, finish, header_end, checksum_behind, header, new_class, class_word, new_word, pointer_word}
+use Rattle.rio_num.specs.{Layout.{behind, must}, Meanings.{Spells}}
 use Rattle.rio_num.proofs.Within.{Within, Closed, IsLong, GoesTo, IsFree, closed_behind, closed_over, within_behind, long_first, long_next, goes_first, goes_next, closed_done, closed_broken, closed_number, closed_text, closed_any, closed_here, closed_choice, closed_must, closed_each, closed_times, within_free, within_choice, free_number, free_here, free_name, free_met, free_note, free_done, free_broken, free_known, free_choice, free_behind, free_must, long_number, long_times}
 
 -- ---- byte counts
@@ -36,7 +27,7 @@ header_end_within : (place w : ℕ) → Within (header_end place w) (λ e. e)
 header_end_within place w =
     within_choice (λ e. e) (is_count w) _ _ (end_within place w) (within_choice (λ e. e) (nat_le (3 * 2 ^ 30) w) _ _ (within_free (λ e. e) _ (free_broken (BadCount place))) (within_free (λ e. e) _ (free_broken (NoCount place))))
 
-free_checksum : (version : ℕ) → IsFree (checksum version)
+free_checksum : (version : ℕ) → IsFree (checksum_behind version)
 free_checksum version = free_choice (version == 0) _ _ (free_behind (free_number Short 4) (λ sum. free_done (Some sum))) (free_done None)
 
 abbrev header_far : Header → ℕ
@@ -191,8 +182,8 @@ unfolding bare_layout
 closed_bare =
     closed_behind closed_here (λ place. closed_behind (closed_number Short 2) (λ version. closed_behind (closed_must (version == 1) (NoCount place)) (λ u. closed_behind (closed_number Short 4) (λ id. closed_behind (closed_number Short 4) (λ bits. closed_behind (closed_pid bits) (λ pid. closed_done _))))))
 
-closed_array : (class : List ℕ) (of : Primitive) → Closed (array class of)
-unfolding array numbers
+closed_array : (class : List ℕ) (of : Primitive) → Closed (number_array class of)
+unfolding number_array numbers
 closed_array class of =
     closed_items (width_of of) _ (λ n. long_first (n * width_of of) (long_first (n * width_of of) (long_times n (width_of of) _ (long_number_value of)))) (λ n. closed_behind (closed_behind (closed_times n _ (closed_number_value of)) (λ vs. closed_done _)) (λ items. closed_done _))
 

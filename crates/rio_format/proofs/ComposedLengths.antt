@@ -1,10 +1,8 @@
 -- How many bytes the parts have at least that are put together.
 use Rattle.std.proofs.Common.{◌≡◌, inl, inr, ℕ, ◌+◌, ◌*◌, ◌/◌, ◌<◌, ◌≤◌, List, [], ◌∷◌, ◌++◌, length, replicate, ap, ◌∙◌, arith}
-use Rattle.std.proofs.lemmas.List.{length-append, length-replicate}
-use Rattle.std.proofs.Math.Nat.{suc-mul, le-div_iff_mul-le}
+use Rattle.std.proofs.{lemmas.List.{length-append, length-replicate}, Math.Nat.{suc-mul, le-div_iff_mul-le}}
 use Rattle.byteorder.specs.Numbers.{length-bytes_high_first}
-use Rattle.rio_types.specs.declared.kind.Primitive.{Primitive}
-use Rattle.rio_types.specs.declared.kind.Primitive.TheVariants.{I8, I16, I32, I64, U8, U16, U32, U64, Bool as Boolean, F32, F64}
+use Rattle.rio_types.specs.declared.kind.Primitive.{Primitive, TheVariants.{I8, I16, I32, I64, U8, U16, U32, U64, Bool as Boolean, F32, F64}}
 use Rattle.rio_value.specs.declared.value.Value.{Value}
 use Rattle.rio_buffer.specs.ReaderState.{WordsMet}
 use Rattle.rio_format.specs.Prims.{width_of}

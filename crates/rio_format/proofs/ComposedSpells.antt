@@ -1,29 +1,22 @@
 -- What is put together spells an object, by its description.
 use Rattle.std.proofs.Common.{◌≡◌, ◌==◌, inl, inr, ℕ, zero, suc, ◌+◌, ◌-◌, ◌*◌, ◌^◌, ◌<◌, ◌≤◌, ℤ, pos, nat_le, nat_lt, Bool, true, false, List, [], ◌∷◌, ◌++◌, map, length, replicate, codes, nat_eq, position, Option, Some, None, if◌then◌else◌, refl, sym, ap, subst, ◌∙◌, append_assoc, arith, lit<}
-use Rattle.std.proofs.lemmas.Bool.{le-ltb, lt-ltb, le-leb, eq-eqb, ne_eqb}
-use Rattle.std.proofs.lemmas.List.{length-append, append-nil}
+use Rattle.std.proofs.{lemmas.Bool.{le-ltb, lt-ltb, le-leb, eq-eqb, ne_eqb}, lemmas.List.{length-append, append-nil}}
 use Rattle.std.specs.Map.{lookup}
-use Rattle.byteorder.specs.Endian.{big_bytes}
-use Rattle.byteorder.specs.Numbers.{length-bytes_high_first}
-use Rattle.rio_types.specs.declared.class.Base.{Base}
-use Rattle.rio_types.specs.declared.class.ClassDef.{ClassDef}
-use Rattle.rio_types.specs.declared.class.Member.{Member}
-use Rattle.rio_types.specs.declared.kind.Kind.{Kind}
-use Rattle.rio_types.specs.declared.kind.Kind.TheVariants.{Plain, Counter, Fixed, Counted, Text as Texted, Inline, Pointer, Other}
-use Rattle.rio_types.specs.declared.kind.Primitive.{Primitive}
-use Rattle.rio_types.specs.declared.kind.Primitive.TheVariants.{I32}
+use Rattle.byteorder.specs.{Endian.{big_bytes}, Numbers.{length-bytes_high_first}}
+use Rattle.rio_types.specs.{declared.class.Base.{Base}, declared.class.ClassDef.{ClassDef}, declared.class.Member.{Member}}
+use Rattle.rio_types.specs.declared.kind.Kind.{Kind, TheVariants.{Plain, Counter, Fixed, Counted, Text as Texted, Inline, Pointer, Other}}
+use Rattle.rio_types.specs.declared.kind.Primitive.{Primitive, TheVariants.{I32}}
 use Rattle.rio_value.specs.declared.value.Value.{Value, Text, List as Items, Object, Pointed, Null as Nothing, Back as Earlier, Opaque}
 use Rattle.rio_value.specs.declared.value.Part.{Part}
 use Rattle.rio_num.specs.Layout.{done, name, text, each, times, ◌>>=◌}
 use Rattle.rio_num.proofs.Intro.{IsSo, so_by, first_is, second_is, here_then, reaches_then, met_then, number_then, still_then, note_then, done_is, known_is, ends_with, both_are, any_is}
 use Rattle.rio_num.proofs.Within.{IsLong, long_times}
-use Rattle.rio_buffer.specs.Frames.{ObjLayout, is_count, counted_end, end_of, finish, checksum, header, new_class, class_word, new_word, pointer_word}
-use Rattle.rio_buffer.specs.ReaderState.{WordsMet, with_label, with_name}
-use Rattle.rio_buffer.specs.declared.words.Header.{Header}
+use Rattle.rio_buffer.specs.Frames.{ObjLayout, is_count, counted_end, end_of, finish, checksum_behind, header, new_class, class_word, new_word, pointer_word}
+use Rattle.rio_buffer.specs.{ReaderState.{WordsMet, with_label, with_name}, declared.words.Header.{Header}}
 use Rattle.rio_buffer.specs.declared.words.PointerWord.TheVariants.{Null, New, Back}
 use Rattle.rio_buffer.specs.declared.fault.ObjFault.TheVariants.{Short, UnknownClassWord, UnknownRef}
 use Rattle.rio_format.specs.Bodies.{part, Form, bare, numbers as numbered, headed as with_header, form_of, Body, described, listed, arrayed, opaque, body_of, base_slot, Counters, counters_with, count_by}
-use Rattle.rio_format.specs.Objects.{Objects, has_pid, bare_object, pid_part, pointed, pointer, number_value, numbers, filled, counted_values, text_value, kind_value, member_part, member_parts, base_part, parts, count_of, link, list_parts, array_parts, pid_of, bare_layout, array, closed, whole_object, unread, body, headed, formed, object_of}
+use Rattle.rio_format.specs.Objects.{Objects, has_pid, bare_object, pid_part, pointed, pointer, number_value, numbers, filled, counted_values, text_value, kind_value, member_part, member_parts, base_part, parts, count_of, link, list_parts, array_parts, pid_of, bare_layout, number_array, closed, whole_object, unread, body, headed, formed, object_of}
 use Rattle.rio_format.specs.Prims.{width_of}
 use Rattle.rio_format.proofs.Composed.{Spelling, Spellings, SpellsEach, SpellsTimes, SpellsNumber, SpellsNumbers, IsText, SpellsCounted, SpellsClass, SpellsPointer, SpellsKind, IsPart, IsParts, IsLink, IsListParts, IsArrayParts, SpellsPid, IsBare, IsArray, SpellsVersion, IsWhole, SpellsBody, IsHeaded, SpellsForm, Composes}
 use Rattle.rio_format.proofs.Closed.{long_number_value, long_pointer, long_link}
@@ -275,8 +268,8 @@ bare_in = record {
       so_by all c.value c.spelled c.words;
 }
 
-array_in : (class : List ℕ) (of : Primitive) → In (λ p t v b t'. IsArray class of p t v b t') (array class of)
-unfolding array numbers
+array_in : (class : List ℕ) (of : Primitive) → In (λ p t v b t'. IsArray class of p t v b t') (number_array class of)
+unfolding number_array numbers
 array_in class of = record {
   into = λ end p t v b t' le c.
       let d = c.each in
@@ -284,7 +277,7 @@ array_in class of = record {
       let items = (times_in c.count (SpellsNumber of) (number_value of) (number_in of)).into end (p + 4) t d.items c.item_bytes t' (omega (arith, le, len)) d.each in
       let room = room_for c.count (width_of of) (long_number_value of) end (p + 4) t d.items c.item_bytes t' items in
       let own : IsSo (numbers of c.count) end (p + 4) t c.items c.item_bytes t' = so_by (ends_with d.items t' items done_is) d.value refl refl in
-      let all : IsSo (array class of) end p t (Object class (pos 1) (part (codes "items") c.items ∷ [])) (big_bytes 4 c.count ++ c.item_bytes) t' =
+      let all : IsSo (number_array class of) end p t (Object class (pos 1) (part (codes "items") c.items ∷ [])) (big_bytes 4 c.count ++ c.item_bytes) t' =
       count_then (width_of of) c.count c.low (omega (arith, le, len, room)) (ends_with c.items t' own done_is) in
       so_by all c.value c.spelled refl;
 }
@@ -341,9 +334,9 @@ module _ (object : Spellings) (layouts : Objects) (inner : (class : List ℕ) �
 
 -- ---- headers
 
-checksum_is : {end p : ℕ} {t : WordsMet} (sum : ℕ) → sum < 2 ^ 32 → IsSo (checksum 0) end p t (Some sum) (big_bytes 4 sum) t
+checksum_is : {end p : ℕ} {t : WordsMet} (sum : ℕ) → sum < 2 ^ 32 → IsSo (checksum_behind 0) end p t (Some sum) (big_bytes 4 sum) t
 checksum_is {t = t} sum low =
-    let all : IsSo (checksum 0) _ _ t (Some sum) (big_bytes 4 sum ++ []) t = first_is (0 == 0) refl (number_then sum (omega (arith, low)) done_is) in
+    let all : IsSo (checksum_behind 0) _ _ t (Some sum) (big_bytes 4 sum ++ []) t = first_is (0 == 0) refl (number_then sum (omega (arith, low)) done_is) in
     so_by all refl (sym (append-nil (big_bytes 4 sum))) refl
 
 -- the header of an object that counts n bytes

@@ -1,9 +1,7 @@
 -- Counters as a list, and their numbers by name.
 use Rattle.std.proofs.Common.{◌≡◌, ℕ, ℤ, List, [], ◌∷◌, ◌++◌, ◌+◌, ◌<◌, ◌≤◌, length, drop, map, reverse, take, get_or, Bool, true, false, cond, Option, Some, None, refl, sym, ap, ◌∙◌, Bor, arith}
-use Rattle.std.specs.Map.{lookup}
-use Rattle.std.specs.Prelude.{is_some}
-use Rattle.std.specs.Str.{bytes_eq}
 use Rattle.std.proofs.lemmas.List.{map-append, reverse-append, take-append-drop, take_more}
+use Rattle.std.specs.{Map.{lookup}, Prelude.{is_some}, Str.{bytes_eq}}
 use Rattle.rio_format.specs.Counts.{last_first}
 
 abbrev Met : Type 0
@@ -40,7 +38,8 @@ by_test : (t : Bool) (n : ℤ) (x y z : Option ℤ) → x ≡ cond (is_some y) y
 by_test true n x y z e = refl
 by_test false n x y z e = e
 
-lookup_behind : (test : List ℕ → Bool) (a b : List (List ℕ × ℤ)) → lookup test (a ++ b) ≡ cond (is_some (lookup test a)) (lookup test a) (lookup test b)
+-- what a test finds in two lists, one behind the other
+pub lookup_behind : (test : List ℕ → Bool) (a b : List (List ℕ × ℤ)) → lookup test (a ++ b) ≡ cond (is_some (lookup test a)) (lookup test a) (lookup test b)
 lookup_behind test [] b = refl
 lookup_behind test (e ∷ a) b = by_test (test e.0) e.1 _ _ _ (lookup_behind test a b)
 

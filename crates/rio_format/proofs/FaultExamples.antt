@@ -2,12 +2,9 @@
 use Rattle.std.proofs.Common.{◌<◌, pos, [], ◌∷◌, ◌++◌, codes, None, inl, inr, refl, arith, lit<, lit≤}
 use Rattle.byteorder.specs.Endian.{big_bytes}
 use Rattle.rio_types.specs.declared.kind.Primitive.TheVariants.{U8}
-use Rattle.rio_num.specs.Layout.{number}
-use Rattle.rio_num.specs.Meanings.{Breaks}
-use Rattle.rio_buffer.specs.Frames.{class_word, finish, header, pointer_word}
-use Rattle.rio_buffer.specs.ReaderState.{WordsMet, no_words}
-use Rattle.rio_buffer.specs.declared.fault.ObjFault.{ObjFault}
-use Rattle.rio_buffer.specs.declared.fault.ObjFault.TheVariants.{Short, BadCount, UnknownClassWord, UnknownRef, NoCount, BadFlag, CountMismatch, TooDeep}
+use Rattle.rio_num.specs.{Layout.{number}, Meanings.{Breaks}}
+use Rattle.rio_buffer.specs.{Frames.{class_word, finish, header, pointer_word}, ReaderState.{WordsMet, no_words}}
+use Rattle.rio_buffer.specs.declared.fault.ObjFault.{ObjFault, TheVariants.{Short, BadCount, UnknownClassWord, UnknownRef, NoCount, BadFlag, CountMismatch, TooDeep}}
 use Rattle.rio_format.specs.Objects.{BreaksObject, bare_layout, body, count_of, counted_values, formed, headed, object_of, unread}
 
 -- nothing stands where a header is wanted

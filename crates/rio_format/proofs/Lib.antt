@@ -5,7 +5,7 @@ pub mod Closed
 pub mod Composed
 pub mod ComposedLengths
 pub mod ComposedSpells
-mod CounterLaws
+pub mod CounterLaws
 pub mod Examples
 pub mod FaultExamples
 pub mod FieldLaws

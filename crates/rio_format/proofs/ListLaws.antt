@@ -1,13 +1,8 @@
 -- Looking classes up in two lists, one behind the other.
 use Rattle.std.proofs.Common.{◌≡◌, ℤ, List, [], ◌∷◌, ◌++◌, Bool, true, false, if◌then◌else◌, ◌&&◌, Option, Some, None, refl, ap, ◌∙◌, arith}
-use Rattle.std.specs.Prelude.{ℕ}
-use Rattle.std.specs.Str.{bytes_eq}
-use Rattle.std.specs.Option.{option_or}
-use Rattle.std.specs.Ordering.{int_eq}
-use Rattle.std.proofs.lemmas.Grind.{common_steps}
-use Rattle.std.proofs.lemmas.List.Folds.{find-append}
-use Rattle.rio_types.specs.Classes.{find_in, newer_of, newest_in}
-use Rattle.rio_types.specs.declared.class.ClassDef.{ClassDef}
+use Rattle.std.proofs.{lemmas.Grind.{common_steps}, lemmas.List.Folds.{find-append}}
+use Rattle.std.specs.{Prelude.{ℕ}, Str.{bytes_eq}, Option.{option_or}, Ordering.{int_eq}}
+use Rattle.rio_types.specs.{Classes.{find_in, newer_of, newest_in}, declared.class.ClassDef.{ClassDef}}
 use Rattle.rio_format.specs.Lists.{newer_of_two}
 
 newer_of_three : (d e c : ClassDef) → newer_of d (Some (newer_of e (Some c))) ≡ newer_of (newer_of d (Some e)) (Some c)

@@ -6,9 +6,7 @@ use Rattle.rio_num.proofs.ReadLaws.{ok_is}
 use Rattle.rio_types.specs.declared.class.ClassDef.{ClassDef}
 use Rattle.rio_value.specs.declared.value.Value.{Value}
 use Rattle.rio_num.proofs.Agree as Agree
-use Rattle.rio_buffer.specs.Frames.{Step}
-use Rattle.rio_buffer.specs.ReaderState.{ReaderState, no_words, standing}
-use Rattle.rio_buffer.specs.declared.fault.ObjFault.{ObjFault}
+use Rattle.rio_buffer.specs.{Frames.{Step}, ReaderState.{ReaderState, no_words, standing}, declared.fault.ObjFault.{ObjFault}}
 use Rattle.rio_format.specs.Laws.{BrokenIsFault, BrokenIsNotSpelled, FaultIsBroken, FaultIsNotSpelled, IsBrokenOnce, IsSpelledOnce, ReadIsSpelled, SpelledIsRead, SpelledOrBroken}
 use Rattle.rio_format.specs.Objects.{BreaksObject, SpellsObject, depth_limit, first_at, object_of, only_value, value_at}
 use Rattle.rio_format.proofs.Closed.{closed_object}

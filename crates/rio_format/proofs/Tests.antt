@@ -1,11 +1,6 @@
 -- Tests that passed, and what they tell.
-use Rattle.std.proofs.Common.{◌≡◌, ◌&&◌, ℕ, Bool, true, false, cond, List, Option, Some, None, refl}
-use Rattle.std.proofs.lemmas.Slice.Eq.{bytes_eq-Decides}
+use Rattle.std.proofs.{Common.{◌≡◌, ℕ, Bool, true, false, cond, List, Option, Some, None}, lemmas.Slice.Eq.{bytes_eq-Decides}}
 use Rattle.std.specs.Str.{bytes_eq}
-
-pub both_true : (a b : Bool) → (a && b) ≡ true → (a ≡ true) × (b ≡ true)
-both_true true b e = (refl, e)
-both_true false b e = absurd cc
 
 -- the name is the one that is wanted, and else there is nothing
 pub named_as : {X : Type 0} (name own : List ℕ) (x : X) (b : Bool) (o : Option X) → bytes_eq own name ≡ b → cond b o None ≡ Some x → (own ≡ name) × (o ≡ Some x)

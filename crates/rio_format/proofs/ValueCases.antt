@@ -1,11 +1,8 @@
 -- Values by cases: what a fold gives for each, and induction.
 use Rattle.std.proofs.Common.{◌≡◌, ℕ, ℤ, Bool, List, [], ◌∷◌, map, sym, ap, subst, ◌∙◌}
-use Rattle.rio_value.specs.declared.value.Value.{Value, Int, Bits32, Bits64, Bool as Truth, Text, List as Items, Object, Pointed, Null, Back, Opaque, roll-Value, map-Value}
-use Rattle.rio_value.specs.declared.value.Value.TheOpen.{Value-F}
-use Rattle.rio_value.specs.declared.value.Value.TheOpen as layer
-use Rattle.rio_value.specs.declared.value.Value.TheVariants.{rolls-Int, rolls-Bits32, rolls-Bits64, rolls-Bool, rolls-Text, rolls-List, rolls-Object, rolls-Pointed, rolls-Null, rolls-Back, rolls-Opaque}
-use Rattle.rio_value.specs.declared.value.Value.TheFolds.{fold-Value, fold-roll-Value, fold-Part, ind-Value}
+use Rattle.rio_value.specs.declared.value.Value.{Value, Int, Bits32, Bits64, Bool as Truth, Text, List as Items, Object, Pointed, Null, Back, Opaque, out-Value, out-roll-Value, roll-Value, map-Value, TheOpen.{Value-F}, TheVariants.{rolls-Int, rolls-Bits32, rolls-Bits64, rolls-Bool, rolls-Text, rolls-List, rolls-Object, rolls-Pointed, rolls-Null, rolls-Back, rolls-Opaque}, TheFolds.{fold-Value, fold-roll-Value, fold-Part, ind-Value}}
 use Rattle.rio_value.specs.declared.value.Part.{Part, Part-F}
+use Rattle.rio_value.specs.declared.value.Value.TheOpen as layer
 
 -- ---- folds
 
@@ -100,3 +97,6 @@ module _ (P : Value → Type 0) where
 
   pub by_cases : Steps → (v : Value) → P v
   by_cases s = ind-Value P (λ p. P p.value) (λ x y is. subst (λ (z : Value-F Value Part). P (roll-Value z)) is (layer_holds s y)) (λ x y is. subst (λ (z : Part-F Value Part). P z.value) is y.value.1)
+
+pub out_int : (n : ℤ) → out-Value (Int n) ≡ layer.Int n
+out_int n = ap out-Value (sym (rolls-Int n)) ∙ out-roll-Value (layer.Int n)

@@ -1,30 +1,16 @@
 -- What is written for the bodies of built-in classes that fit spells them.
 use Rattle.std.proofs.Common.{◌≡◌, ℕ, ◌+◌, ◌/◌, ◌<◌, ◌≤◌, pos, Bool, false, cond, List, [], ◌∷◌, ◌++◌, length, codes, Some, None, refl, sym, ap, subst, ◌∙◌, arith}
-use Rattle.std.proofs.lemmas.List.{length-append, length-map, append-nil}
-use Rattle.std.proofs.lemmas.Option.{option_and_then_some}
-use Rattle.std.proofs.Math.Nat.{div-le_self}
-use Rattle.std.specs.Option.{option_and_then}
-use Rattle.std.specs.Str.{bytes_eq}
+use Rattle.std.proofs.{lemmas.List.{length-append, length-map, append-nil}, lemmas.Option.{option_and_then_some}, Math.Nat.{div-le_self}}
+use Rattle.std.specs.{Option.{option_and_then}, Str.{bytes_eq}}
 use Rattle.byteorder.specs.Endian.{big_bytes}
-use Rattle.rio_types.specs.declared.class.ClassDef.{ClassDef}
-use Rattle.rio_types.specs.declared.kind.Kind.TheVariants.{Plain}
-use Rattle.rio_types.specs.declared.kind.Primitive.{Primitive}
-use Rattle.rio_types.specs.declared.kind.Primitive.TheVariants.{U32}
-use Rattle.rio_value.specs.declared.value.Value.{Value, List as Items, Object}
-use Rattle.rio_value.specs.declared.value.Part.{Part}
-use Rattle.rio_format.specs.Bodies.{part}
-use Rattle.rio_format.specs.Fits.{Labels, fields_fit, fitting_of}
-use Rattle.rio_format.specs.Prims.{width_of}
-use Rattle.rio_format.specs.Slots.{Slot, kinded, flags, many, Field, field}
-use Rattle.rio_format.proofs.Composed.{Spelling, Spellings, SpellsTimes, SpellsNumber, SpellsPid, IsBare, IsArray}
+use Rattle.rio_types.specs.{declared.class.ClassDef.{ClassDef}, declared.kind.Kind.TheVariants.{Plain}, declared.kind.Primitive.{Primitive, TheVariants.{U32}}}
+use Rattle.rio_value.specs.{declared.value.Value.{Value, List as Items, Object}, declared.value.Part.{Part}}
+use Rattle.rio_format.specs.{Bodies.{part}, Fits.{Labels, fields_fit, fitting_of}, Prims.{width_of}, Slots.{Slot, bare_fields, kinded, flags, many, Field, field}}
+use Rattle.rio_format.specs.Written.{Writing, bare_bytes, number_array_bytes, writing_step, writing_of}
+use Rattle.rio_format.proofs.{Composed.{Spelling, Spellings, SpellsTimes, SpellsNumber, SpellsPid, IsBare, IsArray}, Tests.{named_as}}
+use Rattle.rio_format.proofs.{ComposedLengths.{IsLong, times_room, number_long, width_some}, ValueCases.{fold_List}, WrittenPlaces.{Stands, stands_more}}
+use Rattle.rio_format.proofs.{WrittenWays.{in_slot, last_place}, WrittenLists.{AreKnown, fittings, writings, stands_at, some_is}}
 use Rattle.rio_buffer.specs.ReaderState.{WordsMet}
-use Rattle.rio_format.specs.Written.{Writing, bare_bytes, array_bytes, writing_step, writing_of}
-use Rattle.rio_format.proofs.Tests.{named_as}
-use Rattle.rio_format.proofs.ComposedLengths.{IsLong, times_room, number_long, width_some}
-use Rattle.rio_format.proofs.ValueCases.{fold_List}
-use Rattle.rio_format.proofs.WrittenPlaces.{Stands, stands_more}
-use Rattle.rio_format.proofs.WrittenWays.{in_slot, last_place}
-use Rattle.rio_format.proofs.WrittenLists.{AreKnown, fittings, writings, stands_at, some_is}
 
 -- how many there are is no more than how many bytes they have
 pub times_low : (n width : ℕ) (spells : Spelling Value) → 0 < width → IsLong width spells → (p : ℕ) (t : WordsMet) (ys : List Value) (bytes : List ℕ) (t' : WordsMet) → SpellsTimes n spells p t ys bytes t' → n ≤ length bytes
@@ -50,9 +36,6 @@ first_fits classes name slot fs y ys before after e =
     let n = named_as name y.name after (bytes_eq y.name name) _ refl e in
     option_and_then_some (fields_fit fs (fittings classes ys) []) ((fitting_of classes y.value).fits slot before) after n.1 (λ mid first rest.
     record { part_is = ap (λ (x : List ℕ). part x y.value) n.0; mid = mid; first = first; rest = rest })
-
-abbrev pub bare_fields : List Field
-bare_fields = field (codes "fUniqueID") (kinded (Plain U32)) ∷ field (codes "fBits") flags ∷ []
 
 module _ (object : Spellings) (classes : List ClassDef) where
   -- ---- TObject
@@ -92,8 +75,8 @@ module _ (object : Spellings) (classes : List ClassDef) where
   -- ---- arrays of numbers
 
   pub array_written : (class : List ℕ) (of : Primitive) (parts : List Part) → AreKnown object classes parts → (before after : Labels) (p : ℕ) (t : WordsMet) → fields_fit (field (codes "items") (many (kinded (Plain of))) ∷ []) (fittings classes parts) [] before ≡ Some after → Stands before p t
-      → p + length (array_bytes of (writings classes parts) p t).0 ≤ last_place
-      → IsArray class of p t (Object class (pos 1) parts) (array_bytes of (writings classes parts) p t).0 (array_bytes of (writings classes parts) p t).1 × Stands after (p + length (array_bytes of (writings classes parts) p t).0) (array_bytes of (writings classes parts) p t).1
+      → p + length (number_array_bytes of (writings classes parts) p t).0 ≤ last_place
+      → IsArray class of p t (Object class (pos 1) parts) (number_array_bytes of (writings classes parts) p t).0 (number_array_bytes of (writings classes parts) p t).1 × Stands after (p + length (number_array_bytes of (writings classes parts) p t).0) (number_array_bytes of (writings classes parts) p t).1
   array_written class of [] ih before after p t e s room = absurd cc
   array_written class of (y ∷ z ∷ ys) ih before after p t e s room =
       let f = first_fits classes (codes "items") (many (kinded (Plain of))) [] y (z ∷ ys) before after e in

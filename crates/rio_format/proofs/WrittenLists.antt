@@ -1,22 +1,15 @@
 -- What is written for a list that fits spells it.
 use Rattle.std.proofs.Common.{◌≡◌, ◌==◌, inl, inr, ℕ, ◌+◌, ◌≤◌, Bool, true, false, cond, List, [], ◌∷◌, ◌++◌, length, map, Some, None, refl, sym, ap, subst, ◌∙◌, arith}
-use Rattle.std.proofs.lemmas.Bool.{eqb-true}
-use Rattle.std.proofs.lemmas.List.{length-append, length-map}
-use Rattle.std.proofs.lemmas.Option.{option_and_then_some}
-use Rattle.rio_types.specs.declared.class.ClassDef.{ClassDef}
-use Rattle.rio_types.specs.declared.kind.Kind.TheVariants.{Plain, Fixed, Text as Texted}
+use Rattle.std.proofs.{lemmas.Bool.{eqb-true}, lemmas.List.{length-append, length-map}, lemmas.Option.{option_and_then_some}}
+use Rattle.rio_types.specs.{declared.class.ClassDef.{ClassDef}, declared.kind.Kind.TheVariants.{Plain, Fixed, Text as Texted}}
 use Rattle.rio_types.specs.declared.kind.Primitive.{Primitive}
-use Rattle.rio_value.specs.declared.value.Value.{Value, List as Items}
+use Rattle.rio_value.specs.{declared.value.Value.{Value, List as Items}, declared.value.Part.{Part}}
 use Rattle.rio_value.specs.declared.value.Value.TheOpen as layer
-use Rattle.rio_value.specs.declared.value.Part.{Part}
-use Rattle.rio_format.specs.Fits.{Labels, Fitting, all_fit, fitting_step, fitting_of}
-use Rattle.rio_format.specs.Slots.{Slot, kinded, any_pointer, link, many}
-use Rattle.rio_format.proofs.Composed.{Spellings, SpellsTimes, SpellsNumber, SpellsNumbers, IsLink}
-use Rattle.rio_buffer.specs.ReaderState.{WordsMet}
+use Rattle.rio_format.specs.{Fits.{Labels, Fitting, all_fit, fitting_step, fitting_of, part_fitting}, Slots.{Slot, kinded, any_pointer, link, many}}
 use Rattle.rio_format.specs.Written.{Writing, all, writing_step, writing_of}
-use Rattle.rio_format.proofs.ValueCases.{Each}
-use Rattle.rio_format.proofs.WrittenPlaces.{Stands, stands_more}
+use Rattle.rio_format.proofs.{Composed.{Spellings, SpellsTimes, SpellsNumber, SpellsNumbers, IsLink}, ValueCases.{Each}, WrittenPlaces.{Stands, stands_more}}
 use Rattle.rio_format.proofs.WrittenWays.{Way, in_slot, in_counted, SpellsSlot, last_place, IsWritten}
+use Rattle.rio_buffer.specs.ReaderState.{WordsMet}
 
 -- wherever it may stand
 abbrev pub IsWrittenAnywhere : Spellings → List ClassDef → Value → Type 0
@@ -24,9 +17,6 @@ IsWrittenAnywhere object classes v = (way : Way) → IsWritten object way v (fit
 
 abbrev pub AreKnown : Spellings → List ClassDef → List Part → Type 0
 AreKnown object classes parts = Each (λ y. IsWrittenAnywhere object classes y.value) parts
-
-abbrev pub part_fitting : List ClassDef → Part → List ℕ × Fitting
-part_fitting classes y = (y.name, fitting_of classes y.value)
 
 abbrev pub fittings : List ClassDef → List Part → List (List ℕ × Fitting)
 fittings classes parts = map (part_fitting classes) parts

@@ -1,17 +1,13 @@
 -- What is written for a single value that fits gives the value.
-use Rattle.std.proofs.Common.{◌≡◌, ◌&&◌, ℕ, ◌^◌, ◌<◌, ℤ, pos, negsuc, Bool, true, false, ltb, int_le, [], ◌∷◌, refl, sym, ap, arith}
-use Rattle.std.proofs.lemmas.Bool.{ltb-true}
+use Rattle.std.proofs.{Common.{◌≡◌, ◌&&◌, ℕ, ◌^◌, ◌<◌, ℤ, pos, negsuc, Bool, true, false, ltb, int_le, [], ◌∷◌, refl, sym, ap, arith}, lemmas.Bool.{ltb-true}}
 use Rattle.std.proofs.lemmas.Int.{ints}
 use Rattle.std.specs.Int.{w8, w16, w32, w64, cast_signed, cast_unsigned}
 use Rattle.byteorder.specs.Endian.{big_bytes}
-use Rattle.rio_types.specs.declared.kind.Primitive.{Primitive}
-use Rattle.rio_types.specs.declared.kind.Primitive.TheVariants.{I8, I16, I32, I64, U8, U16, U32, U64, Bool as Boolean, F32, F64}
+use Rattle.rio_types.specs.declared.kind.Primitive.{Primitive, TheVariants.{I8, I16, I32, I64, U8, U16, U32, U64, Bool as Boolean, F32, F64}}
 use Rattle.rio_value.specs.declared.value.Value.{Int, Bits32, Bits64, Bool as Truth}
-use Rattle.rio_format.specs.Fits.{fits_prim, fits_signed, fits_unsigned}
-use Rattle.rio_format.specs.Prims.{width_of, value_of_prim}
+use Rattle.rio_format.specs.{Fits.{fits_prim, fits_signed, fits_unsigned}, Prims.{width_of, value_of_prim}, Written.{truth_byte, width_in_bits}}
 use Rattle.rio_format.proofs.Composed.{IsNumber}
 use Rattle.rio_buffer.specs.ReaderState.{WordsMet}
-use Rattle.rio_format.specs.Written.{truth_byte, width_in_bits}
 
 signed_8 : (z : ℤ) → fits_signed 8 z ≡ true → cast_signed w8 (cast_unsigned w8 z) ≡ z
 signed_8 z e = grind (arith, ints)

@@ -1,30 +1,18 @@
 -- What is written for an object that fits spells it.
 use Rattle.std.proofs.Common.{◌≡◌, ◌&&◌, ℕ, ◌+◌, ◌^◌, ◌<◌, ◌≤◌, ℤ, pos, Bool, true, false, cond, List, [], ◌∷◌, ◌++◌, length, codes, unwrap_or, Option, Some, None, refl, sym, ap, subst, arith}
 use Rattle.std.proofs.lemmas.Bool.Decides.{Decides-int_eq}
-use Rattle.std.specs.Option.{option_map}
-use Rattle.std.specs.Ordering.{int_eq}
-use Rattle.std.specs.Str.{bytes_eq}
-use Rattle.std.specs.Int.{w16, cast_unsigned}
+use Rattle.std.specs.{Option.{option_map}, Ordering.{int_eq}, Str.{bytes_eq}, Int.{w16, cast_unsigned}}
 use Rattle.byteorder.specs.Endian.{big_bytes}
-use Rattle.rio_types.specs.Classes.{find_in}
-use Rattle.rio_types.specs.declared.class.ClassDef.{ClassDef}
-use Rattle.rio_types.specs.declared.kind.Kind.TheVariants.{Plain}
-use Rattle.rio_value.specs.declared.value.Value.{Value, Object}
-use Rattle.rio_value.specs.declared.value.Part.{Part}
+use Rattle.rio_types.specs.{Classes.{find_in}, declared.class.ClassDef.{ClassDef}, declared.kind.Kind.TheVariants.{Plain}, Members.{can_read_all}}
+use Rattle.rio_value.specs.{declared.value.Value.{Value, Object}, declared.value.Part.{Part}}
 use Rattle.rio_format.specs.Bodies.{Form, bare, numbers, headed, form_of, Body, described, listed, arrayed, opaque, t_named, t_obj_string, built_in, by_description, headed_classes, headless_classes, row_of}
-use Rattle.rio_types.specs.Members.{can_read_all}
-use Rattle.rio_format.specs.Fits.{Labels, Fitting, fields_fit, parts_fit}
-use Rattle.rio_format.specs.Slots.{Field, field, kinded, many, body_fields, form_fields}
-use Rattle.rio_format.proofs.BuiltInLaws.{of_body, of_each}
-use Rattle.rio_format.proofs.Composed.{Spellings, SpellsBody, SpellsForm, SpellsVersion, IsBare, IsArray}
-use Rattle.rio_buffer.specs.ReaderState.{WordsMet}
-use Rattle.rio_format.specs.Written.{bare_bytes, array_bytes, body_bytes, form_bytes}
-use Rattle.rio_format.proofs.WrittenPlaces.{Stands, stands_more}
-use Rattle.rio_format.proofs.WrittenWays.{last_place}
-use Rattle.rio_format.proofs.WrittenLists.{AreKnown, fittings, writings, stands_at}
-use Rattle.rio_format.proofs.WrittenFields.{bases_written}
-use Rattle.rio_format.proofs.WrittenBodies.{bare_fields, bare_written, array_written}
+use Rattle.rio_format.specs.{Fits.{Labels, Fitting, fields_fit, parts_fit}, Slots.{Field, bare_fields, field, kinded, many, body_fields, form_fields}}
+use Rattle.rio_format.specs.Written.{bare_bytes, number_array_bytes, body_bytes, form_bytes}
+use Rattle.rio_format.proofs.{BuiltInLaws.{of_body, of_each}, Composed.{Spellings, SpellsBody, SpellsForm, SpellsVersion, IsBare, IsArray}}
+use Rattle.rio_format.proofs.{WrittenPlaces.{Stands, stands_more}, WrittenWays.{last_place}, WrittenLists.{AreKnown, fittings, writings, stands_at}}
+use Rattle.rio_format.proofs.{WrittenFields.{bases_written}, WrittenBodies.{bare_written, array_written}}
 use Rattle.rio_format.proofs.WrittenArrays.{listed_written, arrayed_written}
+use Rattle.rio_buffer.specs.ReaderState.{WordsMet}
 
 -- ---- the bodies of classes
 
@@ -57,7 +45,7 @@ found_version (d ∷ ds) class version c e = by (bytes_eq d.name class && int_eq
     by true t e rest = let same : d ≡ c = cc in subst (λ (x : ClassDef). x.version ≡ version) same (second _ d.version version t)
     by false t e rest = rest e
 
-abbrev declared_from : Option ClassDef → Option Body → Option Body
+abbrev pub declared_from : Option ClassDef → Option Body → Option Body
 declared_from found (Some body) = Some body
 declared_from found None = option_map described found
 
@@ -133,7 +121,7 @@ module _ (object : Spellings) (classes : List ClassDef) where
       let r = bare_written object classes parts ih before after p t f.1 s room in
       (subst (λ (v : Value). IsBare t v b.0 b.1) (λ i. Object (sym (bare_class class is) i) (sym f.0 i) parts) r.0, r.1)
   formed_written class n parts ih some low same (numbers of) is before after p t e s room =
-      let b = array_bytes of (writings classes parts) p t in
+      let b = number_array_bytes of (writings classes parts) p t in
       let f = first_version (pos n) (field (codes "items") (many (kinded (Plain of))) ∷ []) (fittings classes parts) before after (int_eq (pos n) (pos 1)) refl e in
       let r = array_written object classes class of parts ih before after p t f.1 s room in
       (subst (λ (v : ℤ). IsArray class of p t (Object class v parts) b.0 b.1) (sym f.0) r.0, r.1)

@@ -1,13 +1,8 @@
 -- The words of pointers that stand before what is written.
 use Rattle.std.proofs.Common.{◌≡◌, ℕ, zero, suc, ◌<◌, ◌≤◌, ℤ, Bool, true, false, cond, ltb, eqb, List, [], ◌∷◌, ◌++◌, length, get_or, Option, Some, nat_eq, position, refl, sym, ap, subst, ◌∙◌, one-add, arith}
-use Rattle.std.proofs.lemmas.Bool.{ne_eqb, eq-eqb, lt-ltb}
-use Rattle.std.proofs.lemmas.List.{length-append}
-use Rattle.std.proofs.lemmas.Slice.Eq.{bytes_eq-Decides}
-use Rattle.std.specs.List.{find, list_any, position_or_len}
-use Rattle.std.specs.Map.{lookup}
-use Rattle.std.specs.Str.{bytes_eq}
-use Rattle.indexmap.specs.IndexMap.{insert_entry}
-use Rattle.indexmap.specs.IndexSet.{insert_key}
+use Rattle.std.proofs.{lemmas.Bool.{ne_eqb, eq-eqb, lt-ltb}, lemmas.List.{length-append}, lemmas.Slice.Eq.{bytes_eq-Decides}}
+use Rattle.std.specs.{List.{find, list_any, position_or_len}, Map.{lookup}, Str.{bytes_eq}}
+use Rattle.indexmap.specs.{IndexMap.{insert_entry}, IndexSet.{insert_key}}
 use Rattle.rio_format.specs.Fits.{Labels}
 use Rattle.rio_buffer.specs.ReaderState.{WordsMet, no_words, with_label, with_name}
 
@@ -77,10 +72,10 @@ position_of xs k lt h =
 
 -- ---- names by places in order
 
-abbrev Names : Type 0
+abbrev pub Names : Type 0
 Names = List (ℕ × List ℕ)
 
-abbrev NamesBelow : ℕ → Names → Type 0
+abbrev pub NamesBelow : ℕ → Names → Type 0
 NamesBelow p [] = Unit {0}
 NamesBelow p (e ∷ es) = (e.0 < p) × NamesBelow p es
 
@@ -92,11 +87,11 @@ abbrev NamesRising : Names → Type 0
 NamesRising [] = Unit {0}
 NamesRising (e ∷ es) = NamesAbove e.0 es × NamesRising es
 
-names_more : (p q : ℕ) (es : Names) → p ≤ q → NamesBelow p es → NamesBelow q es
+pub names_more : (p q : ℕ) (es : Names) → p ≤ q → NamesBelow p es → NamesBelow q es
 names_more p q [] le h = tt
 names_more p q (e ∷ es) le h = (omega (arith, le, h.0), names_more p q es le h.1)
 
-names_push : (p q : ℕ) (name : List ℕ) (es : Names) → p < q → NamesBelow p es → NamesBelow q (insert_entry nat_eq es p name)
+pub names_push : (p q : ℕ) (name : List ℕ) (es : Names) → p < q → NamesBelow p es → NamesBelow q (insert_entry nat_eq es p name)
 names_push p q name [] lt h = (lt, tt)
 names_push p q name (e ∷ es) lt h =
     let ne : eqb p e.0 ≡ false = ne_eqb _ _ (omega (arith, h.0)) in

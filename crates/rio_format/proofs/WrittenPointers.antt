@@ -1,40 +1,30 @@
 -- What is written for a pointer to an object that begins there spells it.
 use Rattle.std.proofs.Common.{◌≡◌, ◌&&◌, ◌||◌, ◌==◌, inl, inr, ℕ, ◌+◌, ◌-◌, ◌^◌, ◌≤◌, ℤ, Bool, true, false, cond, eqb, List, [], ◌∷◌, ◌++◌, length, Option, Some, None, not, refl, sym, ap, subst, ◌∙◌, arith}
-use Rattle.std.proofs.lemmas.Bool.{eqb-true}
-use Rattle.std.proofs.lemmas.List.{length-append}
-use Rattle.std.specs.Prelude.{slice_get}
-use Rattle.std.specs.List.{find, list_any}
-use Rattle.std.specs.Str.{bytes_eq}
+use Rattle.std.proofs.{lemmas.Bool.{and_parts, eqb-true, not-true}, lemmas.List.{length-append}}
+use Rattle.std.specs.{Prelude.{slice_get}, List.{find, list_any}, Str.{bytes_eq}}
 use Rattle.byteorder.specs.Endian.{big_bytes}
-use Rattle.rio_types.specs.declared.class.ClassDef.{ClassDef}
-use Rattle.rio_types.specs.declared.kind.Kind.TheVariants.{Inline, Pointer}
-use Rattle.rio_value.specs.declared.value.Value.{Value, Pointed, out-Value, map-Value}
-use Rattle.rio_value.specs.declared.value.Value.TheOpen.{Value-F}
-use Rattle.rio_value.specs.declared.value.Value.TheOpen as layer
-use Rattle.rio_value.specs.declared.value.Value.TheFolds.{fold_out-Value, fold-Part}
+use Rattle.rio_types.specs.{declared.class.ClassDef.{ClassDef}, declared.kind.Kind.TheVariants.{Inline, Pointer}}
+use Rattle.rio_value.specs.declared.value.Value.{Value, Pointed, out-Value, map-Value, TheOpen.{Value-F}, TheFolds.{fold_out-Value, fold-Part}}
 use Rattle.rio_value.specs.declared.value.Part.{Part}
+use Rattle.rio_value.specs.declared.value.Value.TheOpen as layer
 use Rattle.rio_format.specs.Fits.{Labels, Fitting, pass, may_point, back_fits, pointed_fits, fitting_step, fitting_of}
-use Rattle.rio_format.specs.Slots.{kinded, any_pointer, can_be_word}
+use Rattle.rio_format.specs.{Slots.{kinded, any_pointer, can_be_word}, Written.{Writing, labelled, counted, both, writing_step, writing_of}}
 use Rattle.rio_num.specs.Meanings.{HasNoZero}
-use Rattle.rio_format.proofs.Composed.{Spellings, SpellsClass, SpellsPointer, IsNew}
-use Rattle.rio_buffer.specs.ReaderState.{WordsMet, with_label}
-use Rattle.rio_buffer.specs.Writer.{class_by, class_bytes}
-use Rattle.rio_format.specs.Written.{Writing, labelled, counted, both, writing_step, writing_of}
-use Rattle.rio_format.proofs.Tests.{both_true, named_as}
+use Rattle.rio_format.proofs.{Composed.{Spellings, SpellsClass, SpellsPointer, IsNew}, Tests.{named_as}}
 use Rattle.rio_format.proofs.WrittenPlaces.{Stands, stands_more, stands_name, stands_label, named_before}
-use Rattle.rio_format.proofs.WrittenWays.{Way, in_slot, fit_slot, SpellsWay, last_place, IsWrittenAt, IsWritten}
-use Rattle.rio_format.proofs.WrittenLists.{IsWrittenAnywhere, stands_at}
+use Rattle.rio_format.proofs.{WrittenWays.{Way, in_slot, fit_slot, SpellsWay, last_place, IsWrittenAt, IsWritten}, WrittenLists.{IsWrittenAnywhere, stands_at}}
+use Rattle.rio_buffer.specs.{ReaderState.{WordsMet, with_label}, Writer.{class_by, class_bytes}}
 
 -- ---- the class of an object
 
-abbrev fit_layer : List ClassDef → Value-F Value Part → Fitting
+abbrev pub fit_layer : List ClassDef → Value-F Value Part → Fitting
 fit_layer classes x = fitting_step classes (map-Value Value Part Fitting (List ℕ × Fitting) (fitting_of classes) (fold-Part Fitting (List ℕ × Fitting) (fitting_step classes) (λ p. (p.name, p.value))) x)
 
-abbrev write_layer : List ClassDef → Value-F Value Part → Writing
+abbrev pub write_layer : List ClassDef → Value-F Value Part → Writing
 write_layer classes x = writing_step classes (map-Value Value Part Writing Writing (writing_of classes) (fold-Part Writing Writing (writing_step classes) (λ p. p.value)) x)
 
 -- only an object stands where its class is named
-no_pointer : (classes : List ClassDef) (label : ℕ) (object : Fitting) (own : Option (List ℕ × ℤ)) (class : List ℕ) (before after : Labels) → pointed_fits classes label object own (kinded (Inline class)) before ≡ Some after → ⊥
+pub no_pointer : (classes : List ClassDef) (label : ℕ) (object : Fitting) (own : Option (List ℕ × ℤ)) (class : List ℕ) (before after : Labels) → pointed_fits classes label object own (kinded (Inline class)) before ≡ Some after → ⊥
 no_pointer classes label object None class before after e = cc
 no_pointer classes label object (Some own) class before after e = by (label == length before) e
   where
@@ -42,7 +32,7 @@ no_pointer classes label object (Some own) class before after e = by (label == l
     by true e = cc
     by false e = cc
 
-no_reference : (classes : List ClassDef) (own : Option (List ℕ × ℤ)) (class : List ℕ) (before after : Labels) → pass (back_fits classes own (kinded (Inline class))) before ≡ Some after → ⊥
+pub no_reference : (classes : List ClassDef) (own : Option (List ℕ × ℤ)) (class : List ℕ) (before after : Labels) → pass (back_fits classes own (kinded (Inline class))) before ≡ Some after → ⊥
 no_reference classes None class before after e = cc
 no_reference classes (Some own) class before after e = cc
 
@@ -75,10 +65,6 @@ plain_by (b ∷ bs) e = by (b == 0) refl e (plain_by bs)
     by true t e rest = absurd cc
     by false t e rest = (t, rest e)
 
-not_false : (b : Bool) → not b ≡ true → b ≡ false
-not_false true e = absurd cc
-not_false false e = refl
-
 record IsClassWritten (labels : Labels) (class : List ℕ) (p : ℕ) (t : WordsMet) (b : List ℕ × WordsMet) : Type 0 where
   spelled : SpellsClass p t class b.0 b.1
   stands : Stands labels (p + length b.0) b.1
@@ -86,7 +72,7 @@ record IsClassWritten (labels : Labels) (class : List ℕ) (p : ℕ) (t : WordsM
 
 class_written_by : (labels : Labels) (class : List ℕ) (p : ℕ) (t : WordsMet) (o : Option (ℕ × List ℕ)) → find (λ e. bytes_eq e.1 class) t.names ≡ o → can_be_word class ≡ true → Stands labels p t → p + length (class_by class o p t).0 ≤ last_place → IsClassWritten labels class p t (class_by class o p t)
 class_written_by labels class p t None look word s room = record {
-  spelled = inl (record { plain = plain_by class (not_false _ word); spelled = refl; words = refl });
+  spelled = inl (record { plain = plain_by class (not-true _ word); spelled = refl; words = refl });
   stands = stands_name labels p (p + length (big_bytes 4 (2 ^ 32 - 1) ++ (class ++ 0 ∷ []))) class t (omega arith) s;
   same = refl;
 }
@@ -102,8 +88,8 @@ record IsPointerWay (object : Spellings) (own : List ℕ × ℤ) (way : Way) : T
   gives : (p : ℕ) (t : WordsMet) (v : Value) (bytes : List ℕ) (t' : WordsMet) → SpellsPointer object p t v bytes t' → SpellsWay object way p t v bytes t'
 
 pointer_way : (object : Spellings) (classes : List ClassDef) (own : List ℕ × ℤ) (way : Way) → may_point classes own (fit_slot way) ≡ true → IsPointerWay object own way
-pointer_way object classes own (in_slot (kinded (Pointer c))) e = record { word = (both_true _ _ e).0; gives = λ p t v bytes t' c. c }
-pointer_way object classes own (in_slot any_pointer) e = record { word = (both_true _ _ e).0; gives = λ p t v bytes t' c. c }
+pointer_way object classes own (in_slot (kinded (Pointer c))) e = record { word = (and_parts _ _ e).0; gives = λ p t v bytes t' c. c }
+pointer_way object classes own (in_slot any_pointer) e = record { word = (and_parts _ _ e).0; gives = λ p t v bytes t' c. c }
 pointer_way object classes own other e = absurd cc
 
 record PointsTo (label : ℕ) (before : Labels) (m : Bool) (o : Option Labels) (after : Labels) : Type 0 where

@@ -1,35 +1,24 @@
 -- What is written for a value that fits spells it.
-use Rattle.std.proofs.Common.{◌≡◌, ◌&&◌, ℕ, zero, suc, ◌+◌, ◌^◌, ◌<◌, ◌≤◌, ℤ, pos, Bool, true, false, cond, int_le, List, [], ◌∷◌, length, map, Option, Some, None, refl, sym, ap, subst, ◌∙◌, arith}
+use Rattle.std.proofs.{Common.{◌≡◌, ◌&&◌, ℕ, zero, suc, ◌+◌, ◌^◌, ◌<◌, ◌≤◌, ℤ, pos, Bool, true, false, cond, int_le, List, [], ◌∷◌, length, map, Option, Some, None, refl, sym, ap, subst, ◌∙◌, arith}, lemmas.Bool.{and_parts}}
 use Rattle.std.proofs.lemmas.Slice.Eq.{bytes_eq-Decides}
-use Rattle.std.specs.Prelude.{IsTrue, is_some}
-use Rattle.std.specs.Int.{w16, cast_unsigned}
-use Rattle.std.specs.List.{list_all}
-use Rattle.std.specs.Ordering.{int_eq}
-use Rattle.std.specs.Str.{bytes_eq}
-use Rattle.rio_types.specs.declared.class.ClassDef.{ClassDef}
-use Rattle.rio_types.specs.declared.kind.Kind.TheVariants.{Inline}
+use Rattle.std.specs.{Prelude.{IsTrue}, Int.{w16, cast_unsigned}, List.{list_all}, Ordering.{int_eq}, Str.{bytes_eq}}
+use Rattle.rio_num.proofs.Cases.{some_of}
+use Rattle.rio_types.specs.{declared.class.ClassDef.{ClassDef}, declared.kind.Kind.TheVariants.{Inline}}
 use Rattle.rio_value.specs.Depth.{greatest, depth_step, depth_of}
-use Rattle.rio_value.specs.declared.value.Value.{Value, Int, Bits32, Bits64, Bool as Truth, Text, List as Items, Object, Pointed, Null, Back, Opaque}
-use Rattle.rio_value.specs.declared.value.Value.TheOpen as layer
-use Rattle.rio_value.specs.declared.value.Value.TheFolds.{fold-Part, fold_out-Part}
+use Rattle.rio_value.specs.declared.value.Value.{Value, Int, Bits32, Bits64, Bool as Truth, Text, List as Items, Object, Pointed, Null, Back, Opaque, TheFolds.{fold-Part, fold_out-Part}}
 use Rattle.rio_value.specs.declared.value.Part.{Part}
-use Rattle.rio_format.specs.Bodies.{form_of}
-use Rattle.rio_format.specs.Fits.{Labels, Fitting, parts_fit, fitting_step, fitting_of}
-use Rattle.rio_format.specs.Laws.{versions_step, has_versions, WrittenIsSpelled}
-use Rattle.rio_format.specs.Objects.{depth_limit, SpellsObject}
-use Rattle.rio_format.specs.Slots.{kinded, based, fields_of}
-use Rattle.rio_format.proofs.Composed.{Spellings, Composes}
-use Rattle.rio_format.proofs.ComposedSpells.{object_in}
-use Rattle.rio_buffer.specs.ReaderState.{WordsMet, no_words}
+use Rattle.rio_value.specs.declared.value.Value.TheOpen as layer
+use Rattle.rio_value.proofs.DepthLaws.{part_depth}
+use Rattle.rio_format.specs.{Bodies.{form_of}, Fits.{Labels, Fitting, part_fitting, parts_fit, fitting_step, fitting_of}}
+use Rattle.rio_format.specs.{Laws.{versions_step, has_versions, WrittenIsSpelled}, Objects.{depth_limit, SpellsObject}, Slots.{kinded, based, fields_of}}
 use Rattle.rio_format.specs.Written.{Writing, form_bytes, writing_step, writing_of}
-use Rattle.rio_format.proofs.Tests.{both_true, named_as}
+use Rattle.rio_format.proofs.{Composed.{Spellings, Composes}, ComposedSpells.{object_in}, Tests.{named_as}}
 use Rattle.rio_format.proofs.ValueCases.{Each, Steps, by_cases, fold_Int, fold_Bits32, fold_Bits64, fold_Bool, fold_Text, fold_List, fold_Object, fold_Pointed, fold_Null, fold_Back, fold_Opaque}
-use Rattle.rio_format.proofs.WrittenNumbers.{version_bytes}
-use Rattle.rio_format.proofs.WrittenPlaces.{Stands, stands_none}
+use Rattle.rio_format.proofs.{WrittenNumbers.{version_bytes}, WrittenPlaces.{Stands, stands_none}}
 use Rattle.rio_format.proofs.WrittenWays.{Way, in_slot, last_place, IsWrittenAt, IsWritten, int_written, bits32_written, bits64_written, truth_written, text_written, null_written, back_written}
-use Rattle.rio_format.proofs.WrittenLists.{AreKnown, part_fitting, fittings, writings, IsWrittenAnywhere, list_written}
-use Rattle.rio_format.proofs.WrittenObjects.{formed_written}
+use Rattle.rio_format.proofs.{WrittenLists.{AreKnown, fittings, writings, IsWrittenAnywhere, list_written}, WrittenObjects.{formed_written}}
 use Rattle.rio_format.proofs.WrittenPointers.{pointed_written, inline_class}
+use Rattle.rio_buffer.specs.ReaderState.{WordsMet, no_words}
 
 -- ---- objects
 
@@ -37,6 +26,9 @@ based_as : (own class : List ℕ) (same : Bool) (o : Option Labels) (after : Lab
 based_as own class true o after true t e = ((bytes_eq-Decides own class).0 t, e)
 based_as own class false o after true t e = absurd cc
 based_as own class same o after false t e = absurd cc
+
+pub part_versions : (p : Part) → fold-Part Bool Bool versions_step (λ p. p.value) p ≡ has_versions p.value
+part_versions p = fold_out-Part Bool Bool versions_step (λ p. p.value) p
 
 module _ (classes : List ClassDef) where
   abbrev pub object_fitting : List ℕ → ℤ → List Part → Fitting
@@ -92,13 +84,13 @@ module _ (classes : List ClassDef) where
   each_deep : (vs : List Value) (levels : ℕ) → Each IsWrittenDeep vs → greatest (map depth_of vs) ≤ levels → list_all (λ b. b) (map has_versions vs) ≡ true → Each (IsWrittenAnywhere (Composes levels classes) classes) vs
   each_deep [] levels known le versions = tt
   each_deep (v ∷ vs) levels known le versions =
-      let e = both_true (has_versions v) (list_all (λ b. b) (map has_versions vs)) versions in
+      let e = and_parts (has_versions v) (list_all (λ b. b) (map has_versions vs)) versions in
       (known.0 levels (omega (arith, le)) e.0, each_deep vs levels known.1 (omega (arith, le)) e.1)
 
   each_part_deep : (ps : List Part) (levels : ℕ) → Each (λ y. IsWrittenDeep y.value) ps → greatest (map (λ y. depth_of y.value) ps) ≤ levels → list_all (λ b. b) (map (λ y. has_versions y.value) ps) ≡ true → Each (λ y. IsWrittenAnywhere (Composes levels classes) classes y.value) ps
   each_part_deep [] levels known le versions = tt
   each_part_deep (y ∷ ys) levels known le versions =
-      let e = both_true (has_versions y.value) (list_all (λ b. b) (map (λ y. has_versions y.value) ys)) versions in
+      let e = and_parts (has_versions y.value) (list_all (λ b. b) (map (λ y. has_versions y.value) ys)) versions in
       (known.0 levels (omega (arith, le)) e.0, each_part_deep ys levels known.1 (omega (arith, le)) e.1)
 
   opaque_written : (object : Spellings) (class : List ℕ) (len : ℕ) (way : Way) → IsWritten object way (Opaque class len) (fitting_step classes (layer.Opaque class len)) (writing_step classes (layer.Opaque class len))
@@ -119,19 +111,13 @@ module _ (classes : List ClassDef) where
       let items = each_part_deep parts levels known (omega (arith, le)) all in
       subst (λ (z : ℤ). IsWritten (Composes (suc levels) classes) way (Object class z parts) (object_fitting class z parts) (object_writing class z parts)) (sym n.1) (object_written levels class n.0 parts items n.2 n.3 n.4 way)
 
-  part_depth : (p : Part) → fold-Part ℕ ℕ depth_step (λ p. p.value) p ≡ depth_of p.value
-  part_depth p = fold_out-Part ℕ ℕ depth_step (λ p. p.value) p
-
-  part_versions : (p : Part) → fold-Part Bool Bool versions_step (λ p. p.value) p ≡ has_versions p.value
-  part_versions p = fold_out-Part Bool Bool versions_step (λ p. p.value) p
-
   object_of : (class : List ℕ) (version : ℤ) (parts : List Part) → Each (λ y. IsWrittenDeep y.value) parts → IsWrittenDeep (Object class version parts)
   object_of class version parts known levels le versions way =
       let depth : depth_of (Object class version parts) ≡ greatest (map (λ y. depth_of y.value) parts) + 1 =
       fold_Object depth_step (λ p. p.value) class version parts ∙ ap (λ (g : Part → ℕ). greatest (map g parts) + 1) (λ i p. part_depth p i) in
       let whole : (int_le (pos 1) version && int_le version (pos 65535) && list_all (λ b. b) (map (λ y. has_versions y.value) parts)) ≡ true =
       sym (fold_Object versions_step (λ p. p.value) class version parts ∙ ap (λ (g : Part → Bool). int_le (pos 1) version && int_le version (pos 65535) && list_all (λ b. b) (map g parts)) (λ i p. part_versions p i)) ∙ versions in
-      let v = both_true (int_le (pos 1) version && int_le version (pos 65535)) (list_all (λ b. b) (map (λ y. has_versions y.value) parts)) whole in
+      let v = and_parts (int_le (pos 1) version && int_le version (pos 65535)) (list_all (λ b. b) (map (λ y. has_versions y.value) parts)) whole in
       by_layer (Composes levels classes) (Object class version parts) (object_fitting class version parts) (object_writing class version parts) way (fit_object class version parts) (write_object class version parts) (object_deep class version parts levels known (omega (arith, le, depth)) v.0 v.1 way)
 
   pointed_deep : (label : ℕ) (object : Value) → IsWrittenDeep object → IsWrittenDeep (Pointed label object)
@@ -159,15 +145,11 @@ module _ (classes : List ClassDef) where
 
 -- ---- the whole
 
-has_fit : (o : Option Labels) → is_some o ≡ true → (after : Labels) × (o ≡ Some after)
-has_fit None e = absurd cc
-has_fit (Some after) e = (after, refl)
-
 pub written_is_spelled : WrittenIsSpelled
 unfolding SpellsObject
 written_is_spelled classes class start v fit le versions room =
     let w = writing_of classes v in
-    let h = has_fit ((fitting_of classes v).fits (kinded (Inline class)) []) fit in
+    let h = some_of ((fitting_of classes v).fits (kinded (Inline class)) []) fit in
     let same = inline_class classes v class [] h.0 h.1 in
     let room1 = subst (λ (c : List ℕ). start + length (w.bytes (kinded (Inline c)) start no_words).0 ≤ last_place) same room in
     let r = by_cases (IsWrittenDeep classes) (deep classes) v depth_limit le versions (in_slot (kinded (Inline class))) [] h.0 start no_words h.1 (stands_none start) room1 in

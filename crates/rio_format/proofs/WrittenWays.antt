@@ -1,25 +1,20 @@
 -- Where a value is written, and what is then spelled.
 use Rattle.std.proofs.Common.{◌≡◌, ◌==◌, ◌&&◌, inl, inr, ℕ, ◌+◌, ◌-◌, ◌^◌, ◌<◌, ◌≤◌, ℤ, pos, Bool, true, false, cond, ltb, leb, List, [], length, slice_get, slice_index, Option, Some, None, refl, ap, subst, arith}
-use Rattle.std.proofs.lemmas.Bool.{ltb-true, lt-leb}
-use Rattle.std.proofs.lemmas.Option.{slice_get_within}
+use Rattle.std.proofs.{lemmas.Bool.{and_parts, ltb-true, lt-leb}, lemmas.Option.{slice_get_within}}
 use Rattle.std.specs.Prelude.{bit_and, not}
 use Rattle.byteorder.specs.Endian.{big_bytes}
-use Rattle.rio_num.specs.Text.{SpellsText, text_bytes, short_form, long_form}
-use Rattle.rio_types.specs.declared.class.ClassDef.{ClassDef}
-use Rattle.rio_types.specs.declared.kind.Kind.TheVariants.{Plain, Counter, Fixed, Counted, Text as Texted, Pointer, Other}
-use Rattle.rio_types.specs.declared.kind.Primitive.{Primitive}
-use Rattle.rio_types.specs.declared.kind.Primitive.TheVariants.{Bool as Boolean, F32, F64}
+use Rattle.rio_num.specs.Text.{SpellsText, text_bytes}
+use Rattle.rio_num.proofs.{ReadLaws.{text_written as spelled_text}, TextLengths.{text_within}}
+use Rattle.rio_types.specs.{declared.class.ClassDef.{ClassDef}, declared.kind.Kind.TheVariants.{Plain, Counter, Fixed, Counted, Text as Texted, Pointer, Other}}
+use Rattle.rio_types.specs.declared.kind.Primitive.{Primitive, TheVariants.{Bool as Boolean, F32, F64}}
 use Rattle.rio_value.specs.declared.value.Value.{Value, Int, Bits32, Bits64, Bool as Truth, Text, List as Items, Null, Back}
 use Rattle.rio_value.specs.declared.value.Value.TheOpen as layer
-use Rattle.rio_format.specs.Fits.{Labels, Fitting, pass, fitting_step, back_fits}
-use Rattle.rio_format.specs.Objects.{has_pid}
-use Rattle.rio_format.specs.Slots.{Slot, kinded, based, flags, any_pointer, link, many}
+use Rattle.rio_format.specs.{Fits.{Labels, Fitting, pass, fitting_step, back_fits}, Objects.{has_pid}}
+use Rattle.rio_format.specs.{Slots.{Slot, kinded, based, flags, any_pointer, link, many}, Written.{Writing, writing_step}}
 use Rattle.rio_format.proofs.Composed.{Spelling, Spellings, SpellsKind, SpellsCounted, SpellsTimes, SpellsPointer, IsLink, IsBack}
-use Rattle.rio_buffer.specs.ReaderState.{WordsMet}
-use Rattle.rio_format.specs.Written.{Writing, writing_step}
-use Rattle.rio_format.proofs.Tests.{both_true}
 use Rattle.rio_format.proofs.WrittenPlaces.{Stands, stands_more, below_at, position_of}
 use Rattle.rio_format.proofs.WrittenNumbers.{int_number, counter_number, flags_bytes, bits32_number, bits64_number, truth_number}
+use Rattle.rio_buffer.specs.ReaderState.{WordsMet}
 
 -- A list behind a counter fits as a list of so many values. Without a counter nothing fits.
 pub data Way : Type 0 where
@@ -88,12 +83,8 @@ leaf_stands before after p n t same s = subst (λ (l : Labels). Stands l (p + n)
 not_true : (b : Bool) → b ≡ true → not b ≡ false
 not_true b e = ap not e
 
-text_spelled_by : (text : List ℕ) (b : Bool) → ltb (length text) 255 ≡ b → length (cond b (short_form text) (long_form text)) ≤ last_place → SpellsText text (cond b (short_form text) (long_form text))
-text_spelled_by text true t le = inl (ltb-true _ _ t, refl)
-text_spelled_by text false t le = inr (omega (arith, le), refl)
-
 text_spelled : (text : List ℕ) → length (text_bytes text) ≤ last_place → SpellsText text (text_bytes text)
-text_spelled text le = text_spelled_by text (ltb (length text) 255) refl le
+text_spelled text le = spelled_text text (omega (arith, le, text_within text))
 
 -- a reference to an object with a label
 back_found : (labels : Labels) (label p : ℕ) (t : WordsMet) → label < length labels → Stands labels p t → p ≤ last_place → IsBack t (Back label) (big_bytes 4 (slice_index t.labels label + 2)) t
@@ -118,7 +109,7 @@ module _ (object : Spellings) (classes : List ClassDef) where
   int_written z (in_slot (kinded Counter)) before after p t e s room = let f = passed _ before after e in (counter_number z t f.0, leaf_stands before after p _ t f.1 s)
   int_written (pos n) (in_slot flags) before after p t e s room =
       let f = passed _ before after e in
-      let b = both_true (ltb n (2 ^ 32)) (bit_and n 16 == 0) f.0 in
+      let b = and_parts (ltb n (2 ^ 32)) (bit_and n 16 == 0) f.0 in
       let lt : n < 2 ^ 32 = ltb-true _ _ b.0 in
       (record { n = n; value = refl; low = lt; plain = not_true _ b.1; spelled = ap (big_bytes 4) (flags_bytes n lt); words = refl }, leaf_stands before after p _ t f.1 s)
   int_written z other before after p t e s room = absurd cc

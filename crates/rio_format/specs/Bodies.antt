@@ -3,22 +3,12 @@ pub use Rattle.rio_format.specs.declared.shape.Shape.{Shape as Form}
 pub use Rattle.rio_format.specs.declared.shape.Shape.TheVariants.{Bare as bare, Numbers as numbers, Headed as headed}
 pub use Rattle.rio_format.specs.declared.built_in.BuiltIn.{BuiltIn}
 pub use Rattle.rio_format.specs.declared.built_in.BuiltIn.TheVariants.{Object, Named, ObjString, Listed, Arrayed, Chars, Shorts, Ints, Longs, Floats, Doubles}
-use Rattle.std.specs.Prelude.{ℕ, ℤ, pos, List, [], ◌∷◌, ◌++◌, map, codes, Option, Some, None, unwrap_or, if◌then◌else◌}
-use Rattle.std.specs.Str.{bytes_eq}
-use Rattle.std.specs.Map.{lookup}
-use Rattle.std.specs.Option.{option_map_or}
-use Rattle.std.specs.Ordering.{int_eq}
-use Rattle.rio_types.specs.Classes.{find_in, find_sum_in}
-use Rattle.rio_types.specs.Members.{is_counter, can_read_all}
-use Rattle.rio_types.specs.declared.class.Base.{Base}
-use Rattle.rio_types.specs.declared.class.ClassDef.{ClassDef}
-use Rattle.rio_types.specs.declared.class.Member.{Member}
-use Rattle.rio_types.specs.declared.kind.Kind.{Kind}
-use Rattle.rio_types.specs.declared.kind.Kind.TheVariants.{Text, Inline}
+use Rattle.std.specs.{Prelude.{ℕ, ℤ, pos, List, [], ◌∷◌, ◌++◌, map, codes, Option, Some, None, unwrap_or, if◌then◌else◌}, Str.{bytes_eq}, Map.{lookup}}
+use Rattle.std.specs.{Option.{option_map_or}, Ordering.{int_eq}}
+use Rattle.rio_types.specs.{Classes.{find_in, find_sum_in}, Members.{is_counter, can_read_all}, declared.class.Base.{Base}, declared.class.ClassDef.{ClassDef}}
+use Rattle.rio_types.specs.{declared.class.Member.{Member}, declared.kind.Kind.{Kind, TheVariants.{Text, Inline}}}
 use Rattle.rio_types.specs.declared.kind.Primitive.TheVariants.{I8, I16, I32, I64, F32, F64}
-use Rattle.rio_value.specs.Accessors.{number_in}
-use Rattle.rio_value.specs.declared.value.Value.{Value, out-Value}
-use Rattle.rio_value.specs.declared.value.Part.{Part}
+use Rattle.rio_value.specs.{Accessors.{number_in}, declared.value.Value.{Value, out-Value}, declared.value.Part.{Part}}
 
 abbrev pub part : List ℕ → Value → Part
 part name value = record { name = name; value = value }
@@ -28,10 +18,11 @@ member name kind = record { name = name; kind = kind; title = [] }
 
 -- ---- built-in classes
 
--- built-in classes that are like described ones
+-- TObject, as a base of others
 abbrev pub t_object_base : Base
 t_object_base = record { name = codes "TObject"; version = pos 1 }
 
+-- built-in classes whose parts are told as those of described ones are; their sum is never looked at
 abbrev pub t_named : ClassDef
 t_named = record { name = codes "TNamed"; version = pos 1; sum = 0; bases = t_object_base ∷ []; members = member (codes "fName") Text ∷ member (codes "fTitle") Text ∷ [] }
 
@@ -40,9 +31,13 @@ t_obj_string = record { name = codes "TObjString"; version = pos 1; sum = 0; bas
 
 -- what stands behind a header
 pub data Body : Type 0 where
+  -- the bases and members of the description
   described : ClassDef → Body
+  -- the parts of a TList
   listed : Body
+  -- the parts of a TObjArray
   arrayed : Body
+  -- bytes that aren't read
   opaque : Body
 
 -- a built-in class: its name, its one version, how its objects begin, and what stands behind a header
@@ -58,7 +53,7 @@ without_header name form = record { name = name; version = pos 1; form = form; b
 abbrev pub with_header : List ℕ → ℤ → Body → BuiltInRow
 with_header name version body = record { name = name; version = version; form = headed; body = Some body }
 
--- the table of them
+-- the table of the built-in classes
 abbrev pub row_of : BuiltIn → BuiltInRow
 row_of Object = without_header (codes "TObject") bare
 row_of Chars = without_header (codes "TArrayC") (numbers I8)
@@ -78,7 +73,7 @@ headless_classes = Object ∷ Chars ∷ Shorts ∷ Ints ∷ Longs ∷ Floats ∷
 abbrev pub headed_classes : List BuiltIn
 headed_classes = Named ∷ ObjString ∷ Listed ∷ Arrayed ∷ []
 
--- what is said of the one of these that has the name
+-- what is said of that one of these classes that has the name, or else the other
 abbrev pub by_name : {A : Type 0} → (BuiltIn → A) → A → List BuiltIn → List ℕ → A
 by_name say other [] class = other
 by_name say other (b ∷ bs) class = if bytes_eq class (row_of b).name then say b else by_name say other bs class
@@ -112,7 +107,8 @@ abbrev pub picked : List ClassDef → List ℕ → ℤ → Option ℕ → Option
 picked classes class version None = find_in classes class version
 picked classes class version (Some sum) = find_sum_in classes class sum
 
--- the version that a header states; a checksum that picks nothing states none, and no class has the version 0
+-- The version that a header states, by itself or by a checksum. A checksum that picks nothing gives 0, which is the version of no
+-- built-in class.
 abbrev pub stated_version : List ClassDef → List ℕ → ℤ → Option ℕ → ℤ
 stated_version classes class version None = version
 stated_version classes class version (Some sum) = option_map_or (λ c. c.version) (find_sum_in classes class sum) (pos 0)
@@ -122,7 +118,8 @@ abbrev pub by_description : Option ClassDef → Body
 by_description None = opaque
 by_description (Some c) = if can_read_all [] c.members then described c else opaque
 
--- what stands behind a header of this version, and of this checksum if there is one
+-- what stands behind a header of this version, and of this checksum if there is one: what a class has that is built in, and else
+-- what its description says
 abbrev pub body_of : List ClassDef → List ℕ → ℤ → Option ℕ → Body
 body_of classes class version sum = unwrap_or (built_in class (stated_version classes class version sum)) (by_description (picked classes class version sum))
 
@@ -140,9 +137,10 @@ slots_of c = map base_slot c.bases ++ c.members
 abbrev pub Counters : Type 0
 Counters = List (List ℕ × ℤ)
 
+-- the counters behind a member, which may be one more of them
 abbrev pub counters_with : Member → Value → Counters → Counters
 counters_with m v counters = if is_counter m.kind then (m.name, number_in (out-Value v)) ∷ counters else counters
 
--- what the last earlier counter of the name says
+-- what the last earlier counter of the name says, and 0 without one
 abbrev pub count_by : List ℕ → Counters → ℤ
 count_by name counters = unwrap_or (lookup (bytes_eq name) counters) (pos 0)

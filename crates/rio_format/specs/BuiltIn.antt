@@ -1,8 +1,6 @@
 -- The built-in classes whose objects are small.
-use Rattle.std.specs.Prelude.{List, ℕ, codes, Bool, not, ◌||◌}
-use Rattle.std.specs.Str.{bytes_eq}
-use Rattle.rio_format.specs.Bodies.{form_of}
-use Rattle.rio_format.specs.Slots.{is_headed}
+use Rattle.std.specs.{Prelude.{List, ℕ, codes, Bool, not, ◌||◌}, Str.{bytes_eq}}
+use Rattle.rio_format.specs.{Bodies.{form_of}, Slots.{is_headed}}
 
 -- TObject, the TArrays, TNamed and TObjString
 abbrev pub is_small_builtin : List ℕ → Bool

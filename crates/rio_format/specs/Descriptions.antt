@@ -1,16 +1,13 @@
 -- The classes of the objects that describe classes. A class list is a TList that points to them, so it is read as any object
 -- by these descriptions, each in the one version that is known.
 use Rattle.std.specs.Prelude.{ℕ, ℤ, pos, List, [], ◌∷◌, codes, Bool, is_some}
-use Rattle.rio_types.specs.Classes.{find_in}
-use Rattle.rio_types.specs.declared.class.Base.{Base}
-use Rattle.rio_types.specs.declared.class.ClassDef.{ClassDef}
-use Rattle.rio_types.specs.declared.class.Member.{Member}
-use Rattle.rio_types.specs.declared.kind.Kind.TheVariants.{Plain, Fixed, Text, Pointer}
-use Rattle.rio_types.specs.declared.kind.Primitive.TheVariants.{I32, U32}
+use Rattle.rio_types.specs.{Classes.{find_in}, declared.class.Base.{Base}, declared.class.ClassDef.{ClassDef}, declared.class.Member.{Member}}
+use Rattle.rio_types.specs.{declared.kind.Kind.TheVariants.{Plain, Fixed, Text, Pointer}, declared.kind.Primitive.TheVariants.{I32, U32}}
 use Rattle.rio_format.specs.Bodies.{member}
 
 -- A class with one base. The sum is that of its declaration, "class NAME VERSION : BASE { NAME: KIND, NAME: KIND }": 0 at
--- first, and for each byte three times the sum and the byte, modulo 2^32. A header of version 0 picks a class by it.
+-- first, and behind each byte three times the sum before it, plus the byte, modulo 2^32. A header of version 0 picks a class by
+-- it.
 abbrev pub describing : List ℕ → ℤ → ℕ → Base → List Member → ClassDef
 describing name version sum base members = record { name = name; version = version; sum = sum; bases = base ∷ []; members = members }
 
@@ -52,6 +49,6 @@ element_classes = base_element_class ∷ counted_element_class ∷ bare_elements
 abbrev pub is_element : List ℕ → ℤ → Bool
 is_element class version = is_some (find_in element_classes class version)
 
--- all of them
+-- the classes of all these objects
 unfoldable pub description_classes : List ClassDef
 description_classes = info_class ∷ element_class ∷ element_classes

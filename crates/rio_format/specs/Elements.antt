@@ -1,22 +1,11 @@
 -- The elements of a class in a class list: its bases, and its members with their kinds.
 use Rattle.std.specs.Prelude.{ℕ, ℤ, pos, negsuc, ◌-ℤ◌, ◌-◌, List, [], ◌∷◌, length, take, drop, codes, Bool, Option, Some, None, is_some, unwrap_or, option_map, option_and_then, if◌then◌else◌}
-use Rattle.std.specs.List.{filter_map, list_any}
-use Rattle.std.specs.Map.{lookup}
-use Rattle.std.specs.Option.{option_or}
-use Rattle.std.specs.Ordering.{int_eq}
-use Rattle.std.specs.Str.{bytes_eq}
-use Rattle.rio_types.specs.declared.class.Base.{Base}
-use Rattle.rio_types.specs.declared.class.Member.{Member}
-use Rattle.rio_types.specs.declared.kind.Kind.{Kind}
-use Rattle.rio_types.specs.declared.kind.Kind.TheVariants.{Plain, Counter, Fixed, Counted, Text, Inline, Pointer, Other}
-use Rattle.rio_types.specs.declared.kind.Primitive.{Primitive}
-use Rattle.rio_types.specs.declared.kind.Primitive.TheVariants.{I8, I16, I32, I64, U8, U16, U32, U64, Bool as Boolean, F32, F64}
-use Rattle.rio_value.specs.declared.value.Part.{Part}
-use Rattle.rio_value.specs.declared.value.Value.{Value, out-Value}
-use Rattle.rio_value.specs.declared.value.Value.TheOpen.{Value-F, Object}
-use Rattle.rio_format.specs.Descriptions.{is_element}
-use Rattle.rio_format.specs.ValueParts.{base_parts, text_in, signed_in, text_in_part, signed_of}
-use Rattle.rio_value.specs.Accessors.{pointed_object, part_of}
+use Rattle.std.specs.{List.{filter_map, list_any}, Map.{lookup}, Option.{option_or}, Ordering.{int_eq}, Str.{bytes_eq}}
+use Rattle.rio_types.specs.{declared.class.Base.{Base}, declared.class.Member.{Member}}
+use Rattle.rio_types.specs.declared.kind.Kind.{Kind, TheVariants.{Plain, Counter, Fixed, Counted, Text, Inline, Pointer, Other}}
+use Rattle.rio_types.specs.declared.kind.Primitive.{Primitive, TheVariants.{I8, I16, I32, I64, U8, U16, U32, U64, Bool as Boolean, F32, F64}}
+use Rattle.rio_value.specs.{declared.value.Part.{Part}, declared.value.Value.{Value, out-Value, TheOpen.{Value-F, Object}}, Accessors.{pointed_object, part_of}}
+use Rattle.rio_format.specs.{Descriptions.{is_element}, ValueParts.{base_parts, text_in, signed_in, text_in_part, signed_of}}
 
 -- ---- what an element says
 
@@ -71,16 +60,16 @@ unfoldable pub primitive_by_code : ℤ → Option Primitive
 primitive_by_code code = lookup (int_eq code) primitive_codes
 
 abbrev pub fixed_of : ℤ → Primitive → Option Kind
-fixed_of (pos count) of = Some (Fixed of count)
-fixed_of (negsuc n) of = None
+fixed_of (pos count) prim = Some (Fixed prim count)
+fixed_of (negsuc n) prim = None
 
 -- an array of so many values, with a code that is 20 above that of one; not of a negative number of them
 abbrev pub fixed_kind : Element → Option Kind
 fixed_kind e = option_and_then (fixed_of e.count) (primitive_by_code (e.code -ℤ pos 20))
 
 abbrev pub counted_of : List (List ℕ) → Option (List ℕ) → Primitive → Option Kind
-counted_of counters None of = None
-counted_of counters (Some counter) of = if list_any (bytes_eq counter) counters then Some (Counted of counter) else None
+counted_of counters None prim = None
+counted_of counters (Some counter) prim = if list_any (bytes_eq counter) counters then Some (Counted prim counter) else None
 
 -- an array that one of these counters counts, with a code that is 40 above that of one value
 abbrev pub counted_kind : List (List ℕ) → Element → Option Kind

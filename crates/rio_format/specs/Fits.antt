@@ -1,16 +1,11 @@
 -- Which values fit a class. Labels are counted in one walk through the value.
 use Rattle.std.specs.Prelude.{ℕ, ◌^◌, ℤ, pos, List, [], ◌∷◌, ◌++◌, length, slice_get, bit_and, Bool, true, false, ◌==◌, ◌&&◌, nat_lt, Option, Some, None, is_some, IsTrue, option_and_then, if◌then◌else◌}
-use Rattle.std.specs.Map.{lookup}
-use Rattle.std.specs.Str.{bytes_eq}
-use Rattle.std.specs.Ordering.{int_eq}
+use Rattle.std.specs.{Map.{lookup}, Str.{bytes_eq}, Ordering.{int_eq}}
 use Rattle.rio_types.specs.declared.class.ClassDef.{ClassDef}
 use Rattle.rio_types.specs.declared.kind.Kind.TheVariants.{Plain, Counter, Fixed, Counted, Text as Texted, Inline, Pointer, Other}
-use Rattle.rio_types.specs.declared.kind.Primitive.{Primitive}
-use Rattle.rio_types.specs.declared.kind.Primitive.TheVariants.{I8, I16, I32, I64, U8, U16, U32, U64, Bool as Boolean, F32, F64}
+use Rattle.rio_types.specs.declared.kind.Primitive.{Primitive, TheVariants.{I8, I16, I32, I64, U8, U16, U32, U64, Bool as Boolean, F32, F64}}
 pub use Rattle.rio_value.specs.Integers.{fits_signed, fits_unsigned}
-use Rattle.rio_value.specs.declared.value.Value.{Value}
-use Rattle.rio_value.specs.declared.value.Value.TheOpen.{Value-F, Int, Bits32, Bits64, Bool as Truth, Text, List as Items, Object, Pointed, Null, Back, Opaque}
-use Rattle.rio_value.specs.declared.value.Value.TheFolds.{fold-Value}
+use Rattle.rio_value.specs.{declared.value.Value.{Value, TheOpen.{Value-F, Int, Bits32, Bits64, Bool as Truth, Text, List as Items, Object, Pointed, Null, Back, Opaque}, TheFolds.{fold-Value}}, declared.value.Part.{Part}}
 use Rattle.rio_format.specs.Bodies.{Counters}
 use Rattle.rio_format.specs.Slots.{Slot, kinded, based, flags, any_pointer, link, many, Field, fields_of, derives_from, can_be_word, can_be_put}
 
@@ -24,8 +19,10 @@ pub record Fitting : Type 0 where
   pub class : Option (List ℕ × ℤ)
   -- the number that an integer is
   pub number : ℤ
+  -- the labels behind it, where it fits in the slot behind these labels
   pub fits : Slot → Labels → Option Labels
 
+-- the same labels, where the test holds
 abbrev pub pass : Bool → Labels → Option Labels
 pass b labels = if b then Some labels else None
 
@@ -45,7 +42,7 @@ fits_prim F32 z = false
 fits_prim F64 z = false
 
 abbrev pub int_fits : ℤ → Slot → Bool
-int_fits z (kinded (Plain of)) = fits_prim of z
+int_fits z (kinded (Plain prim)) = fits_prim prim z
 int_fits z (kinded Counter) = fits_signed 32 z
 int_fits (pos n) flags = nat_lt n (2 ^ 32) && (bit_and n 16 == 0)
 int_fits z other = false
@@ -73,25 +70,27 @@ abbrev pub all_fit : Slot → List Fitting → Labels → Option Labels
 all_fit slot [] labels = Some labels
 all_fit slot (f ∷ fs) labels = option_and_then (all_fit slot fs) (f.fits slot labels)
 
+-- a pointer fits, and behind it a text
 abbrev pub link_fits : List Fitting → Labels → Option Labels
 link_fits (pointer ∷ text ∷ []) labels = option_and_then (text.fits (kinded Texted)) (pointer.fits any_pointer labels)
 link_fits other labels = None
 
 abbrev pub list_fits : List Fitting → Slot → Labels → Option Labels
-list_fits items (kinded (Fixed of count)) labels = if length items == count then all_fit (kinded (Plain of)) items labels else None
+list_fits items (kinded (Fixed prim count)) labels = if length items == count then all_fit (kinded (Plain prim)) items labels else None
 list_fits items link labels = link_fits items labels
 list_fits items (many slot) labels = all_fit slot items labels
 list_fits items other labels = None
 
 -- ---- objects
 
--- A counted list fits as a list of as many values as the last earlier counter of the name says. Without one nothing fits.
+-- A counted list fits as a list of as many values as the last earlier counter of the name says. Without one nothing fits, as
+-- nothing fits where the kind isn't known.
 abbrev pub fixed_by : Primitive → Option ℤ → Slot
-fixed_by of (Some (pos count)) = kinded (Fixed of count)
-fixed_by of other = kinded (Other (pos 0))
+fixed_by prim (Some (pos count)) = kinded (Fixed prim count)
+fixed_by prim other = kinded (Other (pos 0))
 
 abbrev pub counted_slot : Counters → Slot → Slot
-counted_slot counters (kinded (Counted of counter)) = fixed_by of (lookup (bytes_eq counter) counters)
+counted_slot counters (kinded (Counted prim counter)) = fixed_by prim (lookup (bytes_eq counter) counters)
 counted_slot counters other = other
 
 abbrev pub counted_so_far : Field → ℤ → Counters → Counters
@@ -101,7 +100,7 @@ counted_so_far f number counters = by f.slot
     by (kinded Counter) = (f.name, number) ∷ counters
     by other = counters
 
--- the parts are those that the class has, each by its name and fitting
+-- the parts are those that the class has: the first one has the name and fits, and behind it so do the others
 abbrev pub fields_fit : List Field → List (List ℕ × Fitting) → Counters → Labels → Option Labels
 fields_fit [] [] counters labels = Some labels
 fields_fit [] (y ∷ ys) counters labels = None
@@ -147,7 +146,7 @@ back_fits classes (Some own) slot = may_point classes own slot
 abbrev pub no_class : (Slot → Labels → Option Labels) → Fitting
 no_class fits = record { class = None; number = pos 0; fits = fits }
 
--- one layer of a value, with what is known of each child in its place
+-- what is to be known of a value, by what is known of each value that stands in it
 abbrev pub fitting_step : List ClassDef → Value-F Fitting (List ℕ × Fitting) → Fitting
 fitting_step classes (Int z) = record { class = None; number = z; fits = λ slot labels. pass (int_fits z slot) labels }
 fitting_step classes (Bits32 n) = no_class (λ slot labels. pass (bits32_fits n slot) labels)
@@ -167,6 +166,9 @@ fitting_step classes (Opaque class len) = no_class (λ slot labels. None)
 
 abbrev pub fitting_of : List ClassDef → Value → Fitting
 fitting_of classes = fold-Value Fitting (List ℕ × Fitting) (fitting_step classes) (λ p. (p.name, p.value))
+
+abbrev pub part_fitting : List ClassDef → Part → List ℕ × Fitting
+part_fitting classes p = (p.name, fitting_of classes p.value)
 
 -- whether a value is an object of the class that fits it
 abbrev pub fits : List ClassDef → List ℕ → Value → Bool

@@ -1,33 +1,24 @@
 -- Objects in bytes. Each rule stands here once; the meanings of descriptions say how it is read, spelled and broken.
 use Rattle.std.specs.Prelude.{◌==◌, not, ℕ, zero, suc, ◌+◌, ◌-◌, ◌*◌, ◌^◌, ℤ, pos, negsuc, List, [], ◌∷◌, ◌++◌, length, codes, Result, Ok, Err, nat_lt, nat_le, bit_and, Bool}
-use Rattle.rio_types.specs.declared.class.Base.{Base}
-use Rattle.rio_types.specs.declared.class.ClassDef.{ClassDef}
-use Rattle.rio_types.specs.declared.class.Member.{Member}
-use Rattle.rio_types.specs.declared.kind.Kind.{Kind}
-use Rattle.rio_types.specs.declared.kind.Kind.TheVariants.{Plain, Counter, Fixed, Counted, Text as Texted, Inline, Pointer, Other}
-use Rattle.rio_types.specs.declared.kind.Primitive.{Primitive}
-use Rattle.rio_types.specs.declared.kind.Primitive.TheVariants.{I32}
+use Rattle.rio_types.specs.{declared.class.Base.{Base}, declared.class.ClassDef.{ClassDef}, declared.class.Member.{Member}}
+use Rattle.rio_types.specs.declared.kind.Kind.{Kind, TheVariants.{Plain, Counter, Fixed, Counted, Text as Texted, Inline, Pointer, Other}}
+use Rattle.rio_types.specs.declared.kind.Primitive.{Primitive, TheVariants.{I32}}
 use Rattle.rio_value.specs.declared.value.Value.{Value, Int, Text, List as Items, Object, Pointed, Null as Nothing, Back as Earlier, Opaque}
 use Rattle.rio_value.specs.declared.value.Part.{Part}
-use Rattle.rio_num.specs.Layout.{done, broken, number, text, any, here, reaches, must, each, times, ◌>>=◌, when◌then◌else◌}
-use Rattle.rio_num.specs.Meanings.{read, Spells, Breaks}
-use Rattle.rio_buffer.specs.ReaderState.{WordsMet, no_words, standing}
-use Rattle.rio_buffer.specs.Frames.{Step, ObjLayout, finish, header, pointer_word}
-use Rattle.rio_buffer.specs.declared.words.Header.{Header}
-use Rattle.rio_buffer.specs.declared.words.PointerWord.{PointerWord}
-use Rattle.rio_buffer.specs.declared.words.PointerWord.TheVariants.{Null, New, Back}
-use Rattle.rio_buffer.specs.declared.fault.ObjFault.{ObjFault}
-use Rattle.rio_buffer.specs.declared.fault.ObjFault.TheVariants.{Short, BadCount, NoCount, BadFlag, CountMismatch, TooDeep}
+use Rattle.rio_num.specs.{Layout.{done, broken, number, text, any, here, reaches, must, each, times, ◌>>=◌, when◌then◌else◌}, Meanings.{read, Spells, Breaks}}
+use Rattle.rio_buffer.specs.{ReaderState.{WordsMet, no_words, standing}, Frames.{Step, ObjLayout, finish, header, pointer_word}, declared.words.Header.{Header}}
+use Rattle.rio_buffer.specs.declared.words.PointerWord.{PointerWord, TheVariants.{Null, New, Back}}
+use Rattle.rio_buffer.specs.declared.fault.ObjFault.{ObjFault, TheVariants.{Short, BadCount, NoCount, BadFlag, CountMismatch, TooDeep}}
 use Rattle.rio_format.specs.Bodies.{part, Form, bare, numbers as numbered, headed as with_header, form_of, Body, described, listed, arrayed, opaque, body_of, Counters, counters_with, count_by}
 use Rattle.rio_format.specs.Prims.{width_of, value_of_prim}
 
--- what an object of a class is
+-- how an object of each class is read; the objects in an object are read by what is handed down to it, one level less deep
 abbrev pub Objects : Type 1
 Objects = List ℕ → ObjLayout Value
 
 -- ---- pointers
 
--- the object behind a pointer's word
+-- what a pointer's word stands for: nothing, an earlier object, or the object behind it, as far as its count says
 unfoldable pub pointed : Objects → PointerWord → ObjLayout Value
 pointed object Null = done Nothing
 pointed object (Back label) = done (Earlier label)
@@ -44,38 +35,39 @@ pointer object = do
 -- ---- members
 
 unfoldable pub number_value : Primitive → ObjLayout Value
-number_value of = do
-  n ← number Short (width_of of)
-  done (value_of_prim of n)
+number_value prim = do
+  n ← number Short (width_of prim)
+  done (value_of_prim prim n)
 
 unfoldable pub numbers : Primitive → ℕ → ObjLayout Value
-numbers of count = do
-  vs ← times count (number_value of)
+numbers prim count = do
+  vs ← times count (number_value prim)
   done (Items vs)
 
--- as many values as a counter said, behind the byte 1 at the place
+-- as many values as a counter said, behind the byte 1 at the place; a number below 0 is no count
 abbrev pub filled : Primitive → ℕ → ℤ → ObjLayout Value
-filled of place (pos count) = numbers of count
-filled of place (negsuc count) = broken (BadCount place)
+filled prim place (pos count) = numbers prim count
+filled prim place (negsuc count) = broken (BadCount place)
 
 -- the byte 0 for nothing, or the byte 1 and the values
 unfoldable pub counted_values : Primitive → ℤ → ObjLayout Value
-counted_values of count = do
+counted_values prim count = do
   place ← here
   flag ← number Short 1
-  when flag == 0 then done (Items []) else when flag == 1 then filled of place count else broken (BadFlag place)
+  when flag == 0 then done (Items []) else when flag == 1 then filled prim place count else broken (BadFlag place)
 
 unfoldable pub text_value : ObjLayout Value
 text_value = do
   t ← text Short
   done (Text t)
 
--- A value of the kind, behind these counters. An object with a member of another kind is opaque, so the last case isn't met.
+-- A value of the kind, behind these counters. An object with a member of another kind is opaque, so no value of it is read, and
+-- any fault would do.
 unfoldable pub kind_value : Objects → Counters → Kind → ObjLayout Value
-kind_value object counters (Plain of) = number_value of
+kind_value object counters (Plain prim) = number_value prim
 kind_value object counters Counter = number_value I32
-kind_value object counters (Fixed of count) = numbers of count
-kind_value object counters (Counted of counter) = counted_values of (count_by counter counters)
+kind_value object counters (Fixed prim count) = numbers prim count
+kind_value object counters (Counted prim counter) = counted_values prim (count_by counter counters)
 kind_value object counters Texted = text_value
 kind_value object counters (Inline class) = object class
 kind_value object counters (Pointer class) = pointer object
@@ -94,12 +86,13 @@ member_parts object counters (m ∷ ms) = do
   ps ← member_parts object (counters_with m p.value counters) ms
   done (p ∷ ps)
 
+-- a base, by its name alone: in the version that its own bytes state, whatever the class declares
 unfoldable pub base_part : Objects → Base → ObjLayout Part
 base_part object b = do
   v ← object b.name
   done (part [] v)
 
--- bases in order, and members in order
+-- bases in order, and behind them members in order, before which no counter was met
 unfoldable pub parts : Objects → ClassDef → ObjLayout (List Part)
 parts object c = do
   bs ← each (base_part object) c.bases
@@ -108,7 +101,7 @@ parts object c = do
 
 -- ---- built-in classes
 
--- A count of items, each of at least so many bytes: the data must have as many bytes behind the count.
+-- A count of items, each of at least so many bytes: the data must have so many bytes for each of them behind the count.
 unfoldable pub count_of : ℕ → ObjLayout ℕ
 count_of width = do
   place ← here
@@ -129,6 +122,7 @@ link object = do
   option ← text Short
   done (Items (p ∷ Text option ∷ []))
 
+-- the parts of a TList; an item has at least the four bytes of a pointer's word
 unfoldable pub list_parts : Objects → ObjLayout (List Part)
 list_parts object = do
   b ← base_object object
@@ -137,6 +131,7 @@ list_parts object = do
   items ← times count (link object)
   done (part [] b ∷ part (codes "fName") (Text n) ∷ part (codes "items") (Items items) ∷ [])
 
+-- the parts of a TObjArray; each of its pointers has at least four bytes
 unfoldable pub array_parts : Objects → ObjLayout (List Part)
 array_parts object = do
   b ← base_object object
@@ -146,17 +141,18 @@ array_parts object = do
   items ← times count (pointer object)
   done (part [] b ∷ part (codes "fName") (Text n) ∷ part (codes "fLowerBound") lower ∷ part (codes "items") (Items items) ∷ [])
 
--- whether fBits has its bit 4, behind which fPid stands
+-- whether fBits has bit 4, which is 16: then fPid stands behind fBits
 abbrev pub has_pid : ℕ → Bool
 has_pid bits = not (bit_and bits 16 == 0)
 
+-- a TObject of these numbers, and of fPid where it has one
 abbrev pub bare_object : ℕ → ℕ → List Part → Value
 bare_object id bits pid = Object (codes "TObject") (pos 1) (part (codes "fUniqueID") (Int (pos id)) ∷ part (codes "fBits") (Int (pos bits)) ∷ pid)
 
 abbrev pub pid_part : ℕ → Part
 pid_part pid = part (codes "fPid") (Int (pos pid))
 
--- fPid, which stands only where bit 4 of fBits does
+-- fPid, where it stands
 abbrev pub pid_of : ℕ → ObjLayout (List Part)
 pid_of bits =
     when has_pid bits
@@ -174,27 +170,29 @@ bare_layout = do
   pid ← pid_of bits
   done (bare_object id bits pid)
 
--- a TArray of a class, which is a count and its numbers
-unfoldable pub array : List ℕ → Primitive → ObjLayout Value
-array class of = do
-  count ← count_of (width_of of)
-  items ← numbers of count
+-- an object of one of the TArray classes, which is a count and so many numbers, without a header
+unfoldable pub number_array : List ℕ → Primitive → ObjLayout Value
+number_array class prim = do
+  count ← count_of (width_of prim)
+  items ← numbers prim count
   done (Object class (pos 1) (part (codes "items") items ∷ []))
 
 -- ---- objects
 
--- parts, as many as the header's count says
+-- an object of these parts, which end where the header's count says
 unfoldable pub closed : List ℕ → ℤ → Header → List Part → ObjLayout Value
 closed class version h ps = do
   _ ← finish h.place h.end
   done (Object class version ps)
 
+-- an object of the parts that stand inside, behind its header
 unfoldable pub whole_object : List ℕ → ℤ → Header → ObjLayout (List Part) → ObjLayout Value
 whole_object class version h inside = do
   ps ← inside
   closed class version h ps
 
--- an object that isn't read, with the bytes counted; the header that was read is among them
+-- An object that isn't read, with how many bytes the header's count word counts: those of its version and checksum, which
+-- were read, are among them, and those of the count word are not.
 unfoldable pub unread : List ℕ → Header → ObjLayout Value
 unread class h = do
   place ← here
@@ -202,20 +200,23 @@ unread class h = do
   _ ← any Short (h.end - place)
   done (Opaque class (h.end - h.place - 4))
 
+-- an object behind its header, by what stands in it
 unfoldable pub body : Objects → List ℕ → Header → Body → ObjLayout Value
 body object class h (described c) = whole_object class c.version h (parts object c)
 body object class h listed = whole_object class (pos 5) h (list_parts object)
 body object class h arrayed = whole_object class (pos 3) h (array_parts object)
 body object class h opaque = unread class h
 
+-- an object that begins with a header, which picks what stands in it
 unfoldable pub headed : Objects → List ClassDef → List ℕ → ObjLayout Value
 headed object classes class = do
   h ← header
   body object class h (body_of classes class h.version h.sum)
 
+-- an object, by how those of its class begin
 unfoldable pub formed : Objects → List ClassDef → List ℕ → Form → ObjLayout Value
 formed object classes class bare = bare_layout
-formed object classes class (numbered of) = array class of
+formed object classes class (numbered prim) = number_array class prim
 formed object classes class with_header = headed object classes class
 
 -- an object of a class, with at most so many levels of objects
@@ -229,19 +230,20 @@ object_of (suc levels) classes class = formed (object_of levels classes) classes
 abbrev pub depth_limit : ℕ
 depth_limit = 256
 
--- what data give whose first byte has the place, and where reading stands behind it
+-- what is read of an object of the class at the front of the data, whose first byte has the place, and where reading stands then
 abbrev pub first_at : List ClassDef → List ℕ → ℕ → List ℕ → Step Value
 first_at classes class start bytes = read (object_of depth_limit classes class) (standing start bytes no_words)
 
+-- what is read alone
 abbrev pub only_value : Step Value → Result Value ObjFault
 only_value (Ok x) = Ok x.0
 only_value (Err e) = Err e
 
--- the value that a prefix of the data spells, or the first fault
+-- the value that the front of the data spells, or the first fault
 abbrev pub value_at : List ClassDef → List ℕ → ℕ → List ℕ → Result Value ObjFault
 value_at classes class start bytes = only_value (first_at classes class start bytes)
 
--- bytes that begin the data, the first of which has the place, spell the value as an object of the class
+-- bytes at the front of the data, the first of which has the place, spell the value as an object of the class
 unfoldable pub SpellsObject : List ClassDef → ℕ → List ℕ → Value → List ℕ → Type 0
 SpellsObject classes start class v bytes =
     (t : WordsMet) × Spells (object_of depth_limit classes class) (start + length bytes) start no_words v bytes t

@@ -1,11 +1,8 @@
 -- Slots and fields as pairs of numbers and lists, and back, which a type needs that contracts see as a definition's type.
-use Rattle.std.specs.Prelude.{◌≡◌, ℕ, zero, suc, ℤ, pos, List, [], ◌==◌, if◌then◌else◌, refl}
-use Rattle.std.specs.Coded.{Coded, code_by, coded×, coded_ℕ, coded_ℤ, coded_list}
+use Rattle.std.specs.{Prelude.{◌≡◌, ℕ, zero, suc, ℤ, pos, List, [], ◌==◌, if◌then◌else◌, refl}, Coded.{Coded, code_by, coded×, coded_ℕ, coded_ℤ, coded_list}}
 use Rattle.std.proofs.Common.{ap}
-use Rattle.rio_types.specs.declared.kind.Kind.{Kind}
-use Rattle.rio_types.specs.declared.kind.Kind.TheVariants.{Plain, Counter, Fixed, Counted, Text, Inline, Pointer, Other}
-use Rattle.rio_types.specs.declared.kind.Primitive.{Primitive}
-use Rattle.rio_types.specs.declared.kind.Primitive.TheVariants.{I8, I16, I32, I64, U8, U16, U32, U64, Bool as Boolean, F32, F64}
+use Rattle.rio_types.specs.declared.kind.Kind.{Kind, TheVariants.{Plain, Counter, Fixed, Counted, Text, Inline, Pointer, Other}}
+use Rattle.rio_types.specs.declared.kind.Primitive.{Primitive, TheVariants.{I8, I16, I32, I64, U8, U16, U32, U64, Bool as Boolean, F32, F64}}
 use Rattle.rio_format.specs.Slots.{Slot, kinded, based, flags, any_pointer, link, many, Field}
 
 abbrev prim_number : Primitive → ℕ
@@ -35,7 +32,7 @@ numbered_prim n =
     else if n == 9 then F32
     else F64
 
-pub numbered_prim-number : (of : Primitive) → numbered_prim (prim_number of) ≡ of
+pub numbered_prim-number : (prim : Primitive) → numbered_prim (prim_number prim) ≡ prim
 numbered_prim-number I8 = refl
 numbered_prim-number I16 = refl
 numbered_prim-number I32 = refl
@@ -54,10 +51,10 @@ abbrev Single : Type 0
 Single = ℕ × (ℕ × (List ℕ × ℤ))
 
 abbrev kind_single : Kind → Single
-kind_single (Plain of) = (0, (prim_number of, ([], pos 0)))
+kind_single (Plain prim) = (0, (prim_number prim, ([], pos 0)))
 kind_single Counter = (1, (0, ([], pos 0)))
-kind_single (Fixed of count) = (2, (prim_number of, ([], pos count)))
-kind_single (Counted of counter) = (3, (prim_number of, (counter, pos 0)))
+kind_single (Fixed prim count) = (2, (prim_number prim, ([], pos count)))
+kind_single (Counted prim counter) = (3, (prim_number prim, (counter, pos 0)))
 kind_single Text = (4, (0, ([], pos 0)))
 kind_single (Inline class) = (5, (0, (class, pos 0)))
 kind_single (Pointer class) = (6, (0, (class, pos 0)))
@@ -99,10 +96,10 @@ abbrev parted_slot : ℕ × Single → Slot
 parted_slot p = listed_times p.0 (single_slot p.1)
 
 pub kind_again : (kind : Kind) → single_slot (kind_single kind) ≡ kinded kind
-kind_again (Plain of) = ap (λ p. kinded (Plain p)) (numbered_prim-number of)
+kind_again (Plain prim) = ap (λ p. kinded (Plain p)) (numbered_prim-number prim)
 kind_again Counter = refl
-kind_again (Fixed of count) = ap (λ p. kinded (Fixed p count)) (numbered_prim-number of)
-kind_again (Counted of counter) = ap (λ p. kinded (Counted p counter)) (numbered_prim-number of)
+kind_again (Fixed prim count) = ap (λ p. kinded (Fixed p count)) (numbered_prim-number prim)
+kind_again (Counted prim counter) = ap (λ p. kinded (Counted p counter)) (numbered_prim-number prim)
 kind_again Text = refl
 kind_again (Inline class) = refl
 kind_again (Pointer class) = refl

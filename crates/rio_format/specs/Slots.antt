@@ -1,17 +1,8 @@
 -- What may stand at a place within a value.
 use Rattle.std.specs.Prelude.{ℕ, zero, suc, ◌+◌, ℤ, pos, List, [], ◌∷◌, ◌++◌, length, map, codes, Bool, true, false, ◌&&◌, ◌||◌, not, ◌==◌, Option, Some, None, if◌then◌else◌, is_some}
-use Rattle.std.specs.Str.{bytes_eq}
-use Rattle.std.specs.List.{list_any}
-use Rattle.std.specs.Option.{option_map}
-use Rattle.std.specs.Ordering.{int_eq}
-use Rattle.rio_types.specs.Classes.{find_in, newest_in}
-use Rattle.rio_types.specs.declared.class.Base.{Base}
-use Rattle.rio_types.specs.declared.class.ClassDef.{ClassDef}
-use Rattle.rio_types.specs.declared.class.Member.{Member}
-use Rattle.rio_types.specs.declared.kind.Kind.{Kind}
-use Rattle.rio_types.specs.declared.kind.Kind.TheVariants.{Plain, Text}
-use Rattle.rio_types.specs.declared.kind.Primitive.{Primitive}
-use Rattle.rio_types.specs.declared.kind.Primitive.TheVariants.{I32, U32}
+use Rattle.std.specs.{Str.{bytes_eq}, List.{list_any}, Option.{option_map}, Ordering.{int_eq}}
+use Rattle.rio_types.specs.{Classes.{find_in, newest_in}, declared.class.Base.{Base}, declared.class.ClassDef.{ClassDef}, declared.class.Member.{Member}}
+use Rattle.rio_types.specs.{declared.kind.Kind.{Kind, TheVariants.{Plain, Text}}, declared.kind.Primitive.{Primitive, TheVariants.{I32, U32}}}
 use Rattle.rio_format.specs.Bodies.{Form, bare, numbers, headed, form_of, headed_class, Body, described, listed, arrayed, opaque, built_in, t_object_base}
 
 pub data Slot : Type 0 where
@@ -42,7 +33,7 @@ base_field b = field [] (based b.name b.version)
 abbrev pub member_field : Member → Field
 member_field m = field m.name (kinded m.kind)
 
--- the body that a class has in a version, if it is built in or described in it
+-- the body that a class has in a version, if it is built in or described in it, whether or not all of its members can be read
 abbrev pub declared_body : List ClassDef → List ℕ → ℤ → Option Body
 declared_body classes class version = first (built_in class version)
   where
@@ -66,7 +57,7 @@ abbrev pub bare_fields : List Field
 bare_fields = field (codes "fUniqueID") (kinded (Plain U32)) ∷ field (codes "fBits") flags ∷ []
 
 abbrev pub number_fields : Primitive → List Field
-number_fields of = field (codes "items") (many (kinded (Plain of))) ∷ []
+number_fields prim = field (codes "items") (many (kinded (Plain prim))) ∷ []
 
 -- the parts behind a header; none where its bytes aren't read
 abbrev pub body_fields : Option Body → Option (List Field)
@@ -78,7 +69,7 @@ body_fields (Some opaque) = None
 
 abbrev pub form_fields : List ClassDef → List ℕ → ℤ → Form → Option (List Field)
 form_fields classes class version bare = if int_eq version (pos 1) then Some bare_fields else None
-form_fields classes class version (numbers of) = if int_eq version (pos 1) then Some (number_fields of) else None
+form_fields classes class version (numbers prim) = if int_eq version (pos 1) then Some (number_fields prim) else None
 form_fields classes class version headed = body_fields (declared_body classes class version)
 
 -- the parts of an object of a class in a version, in order; none where the version isn't known
@@ -97,7 +88,7 @@ body_bases (Some opaque) = []
 -- objects of this form begin with a header
 abbrev pub is_headed : Form → Bool
 is_headed bare = false
-is_headed (numbers of) = false
+is_headed (numbers prim) = false
 is_headed headed = true
 
 -- the body of a class's objects that begin with a header; others have no bases, whatever a class list says of their class
@@ -110,8 +101,8 @@ has_base zero classes target class version = false
 has_base (suc levels) classes target class version =
     list_any (λ b. bytes_eq b.name target || has_base levels classes target b.name b.version) (body_bases (headed_body classes class version))
 
--- Whether it is the other class or has that among its bases at any depth: a way through the bases that meets no description
--- twice is no longer than the list and one built-in class.
+-- Whether it is the other class or has that among its bases at any depth. One level more than there are descriptions is enough:
+-- a way through the bases that meets no description twice is no longer than the list and one built-in class.
 abbrev pub derives_from : List ClassDef → List ℕ → List ℕ → ℤ → Bool
 derives_from classes target class version = bytes_eq class target || has_base (length classes + 1) classes target class version
 
@@ -119,6 +110,6 @@ derives_from classes target class version = bytes_eq class target || has_base (l
 abbrev pub can_be_word : List ℕ → Bool
 can_be_word class = not (list_any (λ b. b == 0) class)
 
--- whether a put can have an object of this class as its value
+-- whether an object of this class may be put into a file under a name of its own
 abbrev pub can_be_put : List ClassDef → List ℕ → Bool
 can_be_put classes class = (is_headed (form_of class) && is_some (newest_in classes class)) || is_some (headed_class class)

@@ -1,13 +1,9 @@
 -- The classes of trees, and the list of classes that is written with the declared ones.
 use Rattle.std.specs.Prelude.{ℕ, pos, List, [], ◌∷◌, ◌++◌, codes}
-use Rattle.rio_types.specs.declared.class.Base.{Base}
-use Rattle.rio_types.specs.declared.class.ClassDef.{ClassDef}
-use Rattle.rio_types.specs.declared.class.Member.{Member}
+use Rattle.rio_types.specs.{declared.class.Base.{Base}, declared.class.ClassDef.{ClassDef}, declared.class.Member.{Member}}
 use Rattle.rio_types.specs.declared.kind.Kind.TheVariants.{Plain, Counter, Counted, Text, Inline, Pointer}
-use Rattle.rio_types.specs.declared.kind.Primitive.{Primitive}
-use Rattle.rio_types.specs.declared.kind.Primitive.TheVariants.{I32, I64, Bool}
-use Rattle.rio_format.specs.Bodies.{member}
-use Rattle.rio_format.specs.Descriptions.{describing, named_base}
+use Rattle.rio_types.specs.declared.kind.Primitive.{Primitive, TheVariants.{I32, I64, Bool}}
+use Rattle.rio_format.specs.{Bodies.{member}, Descriptions.{describing, named_base}}
 
 -- ---- members
 
@@ -39,7 +35,7 @@ tree_class = describing (codes "TTree") (pos 120) 2390821405 named_base tree_mem
 
 -- an array with a number for each basket
 abbrev pub of_baskets : List ℕ → Primitive → Member
-of_baskets name of = member name (Counted of (codes "fMaxBaskets"))
+of_baskets name prim = member name (Counted prim (codes "fMaxBaskets"))
 
 unfoldable pub branch_members : List Member
 branch_members =

@@ -1,8 +1,5 @@
 -- The classes whose bases are looked through.
-use Rattle.std.specs.Prelude.{ℕ, ℤ, List, [], ◌∷◌, ◌++◌, Bool, ◌&&◌, if◌then◌else◌}
-use Rattle.std.specs.List.{list_any}
-use Rattle.std.specs.Ordering.{int_eq}
-use Rattle.std.specs.Str.{bytes_eq}
+use Rattle.std.specs.{Prelude.{ℕ, ℤ, List, [], ◌∷◌, ◌++◌, Bool, ◌&&◌, if◌then◌else◌}, List.{list_any}, Ordering.{int_eq}, Str.{bytes_eq}}
 use Rattle.rio_types.specs.declared.class.Base.{Base}
 
 abbrev pub base_of : List ℕ → ℤ → Base

@@ -3,18 +3,12 @@ use Rattle.std.specs.Prelude.{ℕ, ◌+◌, ◌^◌, ℤ, pos, List, [], ◌∷�
 use Rattle.std.specs.Int.{Width, w8, w16, w32, w64, cast_unsigned}
 use Rattle.byteorder.specs.Endian.{big_bytes}
 use Rattle.rio_num.specs.Text.{text_bytes}
-use Rattle.rio_types.specs.declared.class.ClassDef.{ClassDef}
-use Rattle.rio_types.specs.declared.kind.Kind.TheVariants.{Plain, Counter, Fixed, Counted, Text as Texted, Inline}
-use Rattle.rio_types.specs.declared.kind.Primitive.{Primitive}
-use Rattle.rio_types.specs.declared.kind.Primitive.TheVariants.{I8, I16, I32, I64, U8, U16, U32, U64, Bool as Boolean, F32, F64}
-use Rattle.rio_value.specs.declared.value.Value.{Value}
-use Rattle.rio_value.specs.declared.value.Value.TheOpen.{Value-F, Int, Bits32, Bits64, Bool as Truth, Text, List as Items, Object, Pointed, Null, Back, Opaque}
-use Rattle.rio_value.specs.declared.value.Value.TheFolds.{fold-Value}
-use Rattle.rio_format.specs.Bodies.{Form, bare, numbers, headed, form_of, Body, described, listed, arrayed, opaque}
-use Rattle.rio_format.specs.Prims.{width_of}
+use Rattle.rio_types.specs.{declared.class.ClassDef.{ClassDef}, declared.kind.Kind.TheVariants.{Plain, Counter, Fixed, Counted, Text as Texted, Inline}}
+use Rattle.rio_types.specs.declared.kind.Primitive.{Primitive, TheVariants.{I8, I16, I32, I64, U8, U16, U32, U64, Bool as Boolean, F32, F64}}
+use Rattle.rio_value.specs.declared.value.Value.{Value, TheOpen.{Value-F, Int, Bits32, Bits64, Bool as Truth, Text, List as Items, Object, Pointed, Null, Back, Opaque}, TheFolds.{fold-Value}}
+use Rattle.rio_format.specs.{Bodies.{Form, bare, numbers, headed, form_of, Body, described, listed, arrayed, opaque}, Prims.{width_of}}
 use Rattle.rio_format.specs.Slots.{Slot, kinded, based, flags, any_pointer, link, many, Field, declared_body, body_fields}
-use Rattle.rio_buffer.specs.ReaderState.{WordsMet, no_words, with_label}
-use Rattle.rio_buffer.specs.Writer.{Writer, class_bytes}
+use Rattle.rio_buffer.specs.{ReaderState.{WordsMet, no_words, with_label}, Writer.{Writer, class_bytes}}
 
 -- what is to be known of a value: what is written for it in a slot
 pub record Writing : Type 0 where
@@ -24,6 +18,7 @@ pub record Writing : Type 0 where
   pub count : ℕ
   pub bytes : Slot → Writer
 
+-- these bytes, whatever was met before
 abbrev pub just : List ℕ → Writer
 just bytes p t = (bytes, t)
 
@@ -31,6 +26,7 @@ just bytes p t = (bytes, t)
 abbrev pub joined_output : List ℕ × WordsMet → List ℕ × WordsMet → List ℕ × WordsMet
 joined_output a b = (a.0 ++ b.0, b.1)
 
+-- what f writes, and behind it what g writes
 abbrev pub both : Writer → Writer → Writer
 both f g p t = let a = f p t in joined_output a (g (p + length a.0) a.1)
 
@@ -54,29 +50,30 @@ width_in_bits F32 = w32
 width_in_bits F64 = w64
 
 abbrev pub int_bytes : ℤ → Slot → List ℕ
-int_bytes z (kinded (Plain of)) = big_bytes (width_of of) (cast_unsigned (width_in_bits of) z)
+int_bytes z (kinded (Plain prim)) = big_bytes (width_of prim) (cast_unsigned (width_in_bits prim) z)
 int_bytes z (kinded Counter) = big_bytes 4 (cast_unsigned w32 z)
 int_bytes z flags = big_bytes 4 (cast_unsigned w32 z)
 int_bytes z other = []
 
 -- the byte 0 for nothing, and else the byte 1 and the values
 abbrev pub counted_bytes : Primitive → List Writing → Writer
-counted_bytes of [] = just (0 ∷ [])
-counted_bytes of (w ∷ ws) = both (just (1 ∷ [])) (all (kinded (Plain of)) (w ∷ ws))
+counted_bytes prim [] = just (0 ∷ [])
+counted_bytes prim (w ∷ ws) = both (just (1 ∷ [])) (all (kinded (Plain prim)) (w ∷ ws))
 
 abbrev pub link_bytes : List Writing → Writer
 link_bytes (pointer ∷ text ∷ []) = both (pointer.bytes any_pointer) (text.bytes (kinded Texted))
 link_bytes other = just []
 
 abbrev pub list_bytes : List Writing → Slot → Writer
-list_bytes items (kinded (Fixed of count)) = all (kinded (Plain of)) items
-list_bytes items (kinded (Counted of counter)) = counted_bytes of items
+list_bytes items (kinded (Fixed prim count)) = all (kinded (Plain prim)) items
+list_bytes items (kinded (Counted prim counter)) = counted_bytes prim items
 list_bytes items link = link_bytes items
 list_bytes items (many slot) = all slot items
 list_bytes items other = just []
 
 -- ---- pointers
 
+-- what f writes once the object whose count word stands at the place has the next label
 abbrev pub labelled : ℕ → Writer → Writer
 labelled place f p t = f p (with_label t place)
 
@@ -84,6 +81,7 @@ labelled place f p t = f p (with_label t place)
 abbrev pub counted : List ℕ × WordsMet → List ℕ × WordsMet
 counted a = (big_bytes 4 (length a.0 + 2 ^ 30) ++ a.0, a.1)
 
+-- a byte count, a class word, and the object
 abbrev pub pointed_bytes : Writing → Writer
 pointed_bytes object p t = counted (both (class_bytes object.class) (labelled p (object.bytes (kinded (Inline object.class)))) (p + 4) t)
 
@@ -129,16 +127,16 @@ bare_bytes (id ∷ bits ∷ pid ∷ []) =
     both (just (big_bytes 2 1)) (both (id.bytes (kinded (Plain U32))) (both (bits.bytes flags) (pid.bytes (kinded (Plain U16)))))
 bare_bytes other = just []
 
-abbrev pub array_bytes : Primitive → List Writing → Writer
-array_bytes of (items ∷ []) = both (just (big_bytes 4 items.count)) (items.bytes (many (kinded (Plain of))))
-array_bytes of other = just []
+abbrev pub number_array_bytes : Primitive → List Writing → Writer
+number_array_bytes prim (items ∷ []) = both (just (big_bytes 4 items.count)) (items.bytes (many (kinded (Plain prim))))
+number_array_bytes prim other = just []
 
 abbrev pub headed_bytes : ℤ → Writer → Writer
 headed_bytes version body p t = counted (both (just (big_bytes 2 (cast_unsigned w16 version))) body (p + 4) t)
 
 abbrev pub form_bytes : List ClassDef → List ℕ → ℤ → Form → List Writing → Writer
 form_bytes classes class version bare parts = bare_bytes parts
-form_bytes classes class version (numbers of) parts = array_bytes of parts
+form_bytes classes class version (numbers prim) parts = number_array_bytes prim parts
 form_bytes classes class version headed parts = headed_bytes version (body_bytes (declared_body classes class version) parts)
 
 -- ---- values
@@ -150,7 +148,7 @@ abbrev pub truth_byte : Bool → ℕ
 truth_byte true = 1
 truth_byte false = 0
 
--- one layer of a value, with what is known of each child in its place
+-- what is written for a value, by what is written for each value that stands in it
 abbrev pub writing_step : List ClassDef → Value-F Writing Writing → Writing
 writing_step classes (Int z) = plainly (int_bytes z)
 writing_step classes (Bits32 n) = plainly (λ slot. big_bytes 4 n)

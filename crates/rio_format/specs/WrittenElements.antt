@@ -1,20 +1,11 @@
 -- The elements that are written for the bases and members of a class.
 use Rattle.std.specs.Prelude.{ℕ, ◌+◌, ◌*◌, ℤ, pos, List, [], ◌∷◌, ◌++◌, length, map, codes, Bool, false, ◌||◌, Option, option_map, if◌then◌else◌}
-use Rattle.std.specs.Option.{option_map_or, option_or}
-use Rattle.std.specs.Str.{bytes_eq}
-use Rattle.rio_types.specs.Classes.{newest_in}
-use Rattle.rio_types.specs.declared.class.Base.{Base}
-use Rattle.rio_types.specs.declared.class.ClassDef.{ClassDef}
-use Rattle.rio_types.specs.declared.class.Member.{Member}
-use Rattle.rio_types.specs.declared.kind.Kind.{Kind}
-use Rattle.rio_types.specs.declared.kind.Kind.TheVariants.{Plain, Counter, Fixed, Counted, Text as Texted, Inline, Pointer, Other}
-use Rattle.rio_types.specs.declared.kind.Primitive.{Primitive}
-use Rattle.rio_types.specs.declared.kind.Primitive.TheVariants.{I8, I16, I32, I64, U8, U16, U32, U64, Bool as Boolean, F32, F64}
-use Rattle.rio_value.specs.declared.value.Part.{Part}
-use Rattle.rio_value.specs.declared.value.Value.{Int, Text}
-use Rattle.rio_format.specs.Bodies.{headed_version, part}
-use Rattle.rio_format.specs.Prims.{width_of}
-use Rattle.rio_format.specs.Slots.{has_base}
+use Rattle.std.specs.{Option.{option_map_or, option_or}, Str.{bytes_eq}}
+use Rattle.rio_types.specs.{Classes.{newest_in}, declared.class.Base.{Base}, declared.class.ClassDef.{ClassDef}, declared.class.Member.{Member}}
+use Rattle.rio_types.specs.declared.kind.Kind.{Kind, TheVariants.{Plain, Counter, Fixed, Counted, Text as Texted, Inline, Pointer, Other}}
+use Rattle.rio_types.specs.declared.kind.Primitive.{Primitive, TheVariants.{I8, I16, I32, I64, U8, U16, U32, U64, Bool as Boolean, F32, F64}}
+use Rattle.rio_value.specs.{declared.value.Part.{Part}, declared.value.Value.{Int, Text}}
+use Rattle.rio_format.specs.{Bodies.{headed_version, part}, Prims.{width_of}, Slots.{has_base}}
 
 -- what is written for a base or a member
 pub record WrittenElement : Type 0 where
@@ -93,15 +84,15 @@ abbrev pub basic_element : List ℕ → ℤ → ℕ → List ℕ → WrittenElem
 basic_element name code size type_name = element (codes "TStreamerBasicType") (pos 2) name code size type_name
 
 abbrev pub plain_element : List ℕ → Primitive → WrittenElement
-plain_element name of = basic_element name (pos (primitive_code of)) (width_of of) (primitive_name of)
+plain_element name prim = basic_element name (pos (primitive_code prim)) (width_of prim) (primitive_name prim)
 
 abbrev pub counter_element : List ℕ → WrittenElement
 counter_element name = basic_element name (pos 6) 4 (codes "int")
 
 -- an array of so many values
 abbrev pub fixed_element : List ℕ → Primitive → ℕ → WrittenElement
-fixed_element name of count =
-    record (basic_element name (pos (primitive_code of + 20)) (width_of of * count) (primitive_name of)) { count = count; dimensions = 1 }
+fixed_element name prim count =
+    record (basic_element name (pos (primitive_code prim + 20)) (width_of prim * count) (primitive_name prim)) { count = count; dimensions = 1 }
 
 -- which member of which class counts the values
 abbrev pub count_parts : ClassDef → List ℕ → List Part
@@ -109,8 +100,8 @@ count_parts owner counter = part (codes "fCountVersion") (Int owner.version) ∷
 
 -- an array of the class that another member counts
 abbrev pub counted_element : ClassDef → List ℕ → Primitive → List ℕ → WrittenElement
-counted_element owner name of counter =
-    record (element (codes "TStreamerBasicPointer") (pos 2) name (pos (primitive_code of + 40)) 0 (starred (primitive_name of))) { added = count_parts owner counter }
+counted_element owner name prim counter =
+    record (element (codes "TStreamerBasicPointer") (pos 2) name (pos (primitive_code prim + 40)) 0 (starred (primitive_name prim))) { added = count_parts owner counter }
 
 -- ---- texts, objects and pointers
 
@@ -141,10 +132,10 @@ pointer_element reaches name class =
 
 -- a member of the class, among these classes
 abbrev pub kind_element : List ClassDef → ClassDef → List ℕ → Kind → WrittenElement
-kind_element classes owner name (Plain of) = plain_element name of
+kind_element classes owner name (Plain prim) = plain_element name prim
 kind_element classes owner name Counter = counter_element name
-kind_element classes owner name (Fixed of count) = fixed_element name of count
-kind_element classes owner name (Counted of counter) = counted_element owner name of counter
+kind_element classes owner name (Fixed prim count) = fixed_element name prim count
+kind_element classes owner name (Counted prim counter) = counted_element owner name prim counter
 kind_element classes owner name Texted = text_element name
 kind_element classes owner name (Inline class) = inline_element (reaches_object classes class) name class
 kind_element classes owner name (Pointer class) = pointer_element (reaches_object classes class) name class

@@ -15,7 +15,7 @@ const FEW: usize = 4;
 
 type Numbers<'a> = BTreeMap<&'a [u8], i32>;
 
-/// The counters of an object that were met, and what they say, the last one first. Their names lie elsewhere.
+/// The counters of an object that were met, and what they say. Their names lie elsewhere. Contracts see the last one first.
 #[derive(Drop)]
 pub struct Counters<'a> {
     // All of them, the first one first.
@@ -26,13 +26,14 @@ pub struct Counters<'a> {
 
 impl<'a> Model for Counters<'a> {
     ghost use Rattle.std.specs.Prelude.{ℕ, ℤ, List, drop};
-    ghost use Rattle.rio_format.specs.Counts.{SaysAsLast, last_first};
+    ghost use Rattle.rio_format.specs.Counts.{SaysAsFirst, last_first};
 
     ghost Value = { List (List ℕ × ℤ) };
 
     ghost view = { λ counters. last_first counters.met.items };
 
-    ghost invariant = { λ counters. SaysAsLast counters.numbers (drop 4 counters.met.items) };
+    ghost invariant = { λ counters.
+        SaysAsFirst counters.numbers (last_first (drop 4 counters.met.items)) };
 }
 
 impl<'a> Counters<'a> {

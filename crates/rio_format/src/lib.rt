@@ -1,7 +1,8 @@
 //! What bytes of a file mean: definitions that contracts cite, laws about them, and the types that they speak of.
 //! Beside them stands what objects of a class consist of: their shapes, bodies and parts, and which classes are
 //! among their bases. A [`PartList`] makes the parts of an object, and
-//! [`titled_object`], [`array_object`] and [`list_object`] make objects of built-in classes with it.
+//! [`titled_object`], [`array_object`] and [`list_object`] make objects of built-in classes with it. Its tests stand in
+//! `rio_rows`.
 #![tactic(auto)]
 
 mod base_set;

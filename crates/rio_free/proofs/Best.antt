@@ -1,10 +1,8 @@
 -- A gap that is chosen can be taken.
 use Rattle.std.proofs.Common.{◌≡◌, inl, inr, ℕ, suc, ◌+◌, ◌<◌, Bool, true, false, cond, ltb, eqb, List, [], ◌∷◌, length, get_or, Option, Some, None, refl, subst, arith}
-use Rattle.std.specs.List.{find}
-use Rattle.std.specs.Option.{option_or}
 use Rattle.std.proofs.lemmas.Bool.{ltb-true, eqb-true}
-use Rattle.rio_free.specs.Gaps.{HasGapFor, best_gap}
-use Rattle.rio_free.specs.declared.gap.Gap.{Gap}
+use Rattle.std.specs.{List.{find}, Option.{option_or}}
+use Rattle.rio_free.specs.{Gaps.{HasGapFor, best_gap}, declared.gap.Gap.{Gap}}
 
 -- where a gap is among others
 record IsAmong (g : Gap) (gaps : List Gap) : Type 0 where

@@ -1,11 +1,8 @@
 -- The gaps of entries in order, given one after the other.
 use Rattle.std.proofs.Common.{◌≡◌, inl, ℕ, zero, suc, ◌+◌, ◌-◌, ◌^◌, ◌<◌, ◌≤◌, Bool, true, false, cond, ltb, eqb, List, [], ◌∷◌, ◌++◌, length, get_or, take, Option, Some, refl, sym, ap, ◌∙◌, arith}
+use Rattle.std.proofs.{lemmas.Bool.{ltb-true, lt-ltb, eqb-true, eq-eqb}, lemmas.List.{get_or-take, length-take, take_more}}
 use Rattle.std.specs.List.{All}
-use Rattle.std.proofs.lemmas.Bool.{ltb-true, lt-ltb, eqb-true, eq-eqb}
-use Rattle.std.proofs.lemmas.List.{get_or-take, length-take, take_more}
-use Rattle.rio_free.specs.declared.entry.FreeEntry.{FreeEntry}
-use Rattle.rio_free.specs.declared.gap.Gap.{Gap}
-use Rattle.rio_free.specs.EntryList.{AreEntriesAbove, gap_of_entry, gaps_of, inner_entries}
+use Rattle.rio_free.specs.{declared.entry.FreeEntry.{FreeEntry}, declared.gap.Gap.{Gap}, EntryList.{AreEntriesAbove, gap_of_entry, gaps_of, inner_entries}}
 use Rattle.rio_free.specs.Gaps.{IsApart, gap_end, gap_of, given, joined}
 
 -- ---- entries in order

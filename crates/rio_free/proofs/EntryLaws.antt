@@ -1,15 +1,9 @@
 -- The entries of a free record: reading, spelling and first faults are one.
 use Rattle.std.proofs.Common.{◌≡◌, ℕ, zero, suc, ◌+◌, ◌-◌, ◌≤◌, Bool, true, false, cond, List, [], ◌∷◌, length, Option, None, Some, Result, Ok, Err, refl, ap, subst, ◌∙◌, arith}
-use Rattle.rio_num.specs.At.{AreBytes}
-use Rattle.rio_num.specs.Meanings.{read, stand}
-use Rattle.rio_num.proofs.Agree.{broken_is_fault, fault_is_broken}
-use Rattle.rio_num.proofs.ReadLaws.{bind_ok, ok_is}
-use Rattle.rio_free.specs.declared.entry.FreeEntry.{FreeEntry}
-use Rattle.rio_free.specs.declared.fault.FreeFault.{FreeFault}
-use Rattle.rio_free.specs.Entry.{next_entry}
-use Rattle.rio_free.specs.EntryList.{ends_entries, free_entries_at}
-use Rattle.rio_free.specs.Laws.{EntriesAgree}
-use Rattle.rio_free.specs.Spelling.{BreaksEntries, HasEntry, SpellsEntries}
+use Rattle.rio_num.specs.{At.{AreBytes}, Meanings.{read, stand}, Room.{is_padding}}
+use Rattle.rio_num.proofs.{Agree.{broken_is_fault, fault_is_broken}, ReadLaws.{bind_ok, ok_is}}
+use Rattle.rio_free.specs.{declared.entry.FreeEntry.{FreeEntry}, declared.fault.FreeFault.{FreeFault}, Entry.{next_entry}}
+use Rattle.rio_free.specs.{EntryList.{free_entries_at}, Laws.{EntriesAgree}, Spelling.{BreaksEntries, HasEntry, SpellsEntries}}
 use Rattle.rio_free.proofs.EntryReads.{Behind, Entries, at_end, before_all, nothing_left, one_less, then_at}
 use Rattle.rio_free.proofs.EntrySpells.{entry_again, entry_found, goes_on_behind, rest_shorter}
 
@@ -20,7 +14,7 @@ one_then : (n p : ℕ) (before : Option ℕ) (e : FreeEntry) (bytes rest : List 
     → free_entries_at (suc n) (stand p bytes before) ≡ before_all e (free_entries_at n (stand (p + (length bytes - length rest)) rest (Some e.last)))
 unfolding free_entries_at
 one_then n p before e bytes rest h =
-    let more : ends_entries bytes ≡ false = goes_on_behind bytes (omega (arith, rest_shorter before e bytes rest h)) in
+    let more : is_padding bytes ≡ false = goes_on_behind bytes (omega (arith, rest_shorter before e bytes rest h)) in
     rw (more, entry_again p before e bytes rest h) refl
 
 pub spelled_again : (n p : ℕ) (before : Option ℕ) (es : List FreeEntry) (bytes : List ℕ) → length bytes ≤ n → SpellsEntries before es bytes → free_entries_at n (stand p bytes before) ≡ Ok es
@@ -31,7 +25,7 @@ spelled_again (suc n) p before (e ∷ es) bytes le c =
     ∙ ap (before_all e) (spelled_again n (p + (length bytes - length c.0)) (Some e.last) es c.0 (omega (arith, le, rest_shorter before e bytes c.0 c.1)) c.2)
 
 -- no end of the list is empty
-no_end_some : (bytes : List ℕ) (n : ℕ) → length bytes ≤ 0 → ends_entries bytes ≡ false → suc n ≤ 0
+no_end_some : (bytes : List ℕ) (n : ℕ) → length bytes ≤ 0 → is_padding bytes ≡ false → suc n ≤ 0
 no_end_some bytes n le more = absurd (let ends = nothing_left bytes le in cc)
 
 pub broken_again : (n p : ℕ) (before : Option ℕ) (fault : FreeFault) (es : List FreeEntry) (bytes : List ℕ) → length bytes ≤ n → BreaksEntries before p fault es bytes → free_entries_at n (stand p bytes before) ≡ Err fault
@@ -49,7 +43,7 @@ abbrev given : List FreeEntry → Entries
 given es = Ok es
 
 -- what is read where the list has ended
-ended : (s : Behind) (es : List FreeEntry) → ends_entries s.at.rest ≡ true → given [] ≡ Ok es → SpellsEntries s.words es s.at.rest
+ended : (s : Behind) (es : List FreeEntry) → is_padding s.at.rest ≡ true → given [] ≡ Ok es → SpellsEntries s.words es s.at.rest
 ended s es ends h = subst (λ (l : List FreeEntry). SpellsEntries s.words l s.at.rest) (ok_is {E = FreeFault} [] es h) ends
 
 abbrev Spelled : ℕ → Type 0
@@ -68,9 +62,9 @@ spelled_behind n others s es (Ok y) le fits is h =
 pub found_spelled : (n : ℕ) → Spelled n
 unfolding free_entries_at
 found_spelled zero s es le fits h = ended s es (nothing_left s.at.rest le) h
-found_spelled (suc n) s es le fits h = by (found_spelled n) (ends_entries s.at.rest) refl h
+found_spelled (suc n) s es le fits h = by (found_spelled n) (is_padding s.at.rest) refl h
   where
-    by : Spelled n → (b : Bool) → ends_entries s.at.rest ≡ b → cond b (Ok []) (then_at n (read next_entry s)) ≡ Ok es → SpellsEntries s.words es s.at.rest
+    by : Spelled n → (b : Bool) → is_padding s.at.rest ≡ b → cond b (Ok []) (then_at n (read next_entry s)) ≡ Ok es → SpellsEntries s.words es s.at.rest
     by others true ends h = ended s es ends h
     by others false more h = spelled_behind n others s es (read next_entry s) le fits refl h
 
@@ -84,7 +78,7 @@ then_broken : (e : FreeEntry) (r : Entries) (fault : FreeFault) → before_all e
 then_broken e (Ok es) fault h = absurd cc
 then_broken e (Err d) fault h = let same : d ≡ fault = cc in ap (λ (f : FreeFault). let r : Entries = Err f in r) same
 
-broken_behind : (n : ℕ) → Broken n → (s : Behind) (fault : FreeFault) (r : Result (FreeEntry × Behind) FreeFault) → length s.at.rest ≤ suc n → AreBytes s.at.rest → ends_entries s.at.rest ≡ false → read next_entry s ≡ r → then_at n r ≡ Err fault → IsBroken fault s
+broken_behind : (n : ℕ) → Broken n → (s : Behind) (fault : FreeFault) (r : Result (FreeEntry × Behind) FreeFault) → length s.at.rest ≤ suc n → AreBytes s.at.rest → is_padding s.at.rest ≡ false → read next_entry s ≡ r → then_at n r ≡ Err fault → IsBroken fault s
 broken_behind n others s fault (Err d) le fits more is h =
     let same : d ≡ fault = cc in
     let here : read next_entry s ≡ Err fault = is ∙ ap (λ (f : FreeFault). let r : Result (FreeEntry × Behind) FreeFault = Err f in r) same in
@@ -100,9 +94,9 @@ broken_behind n others s fault (Ok y) le fits more is h =
 pub found_broken : (n : ℕ) → Broken n
 unfolding free_entries_at
 found_broken zero s fault le fits h = absurd cc
-found_broken (suc n) s fault le fits h = by (found_broken n) (ends_entries s.at.rest) refl h
+found_broken (suc n) s fault le fits h = by (found_broken n) (is_padding s.at.rest) refl h
   where
-    by : Broken n → (b : Bool) → ends_entries s.at.rest ≡ b → cond b (Ok []) (then_at n (read next_entry s)) ≡ Err fault → IsBroken fault s
+    by : Broken n → (b : Bool) → is_padding s.at.rest ≡ b → cond b (Ok []) (then_at n (read next_entry s)) ≡ Err fault → IsBroken fault s
     by others true ends h = absurd cc
     by others false more h = broken_behind n others s fault (read next_entry s) le fits more refl h
 

@@ -2,15 +2,10 @@
 use Rattle.std.proofs.Common.{◌≡◌, ℕ, zero, suc, ◌-◌, ◌^◌, ◌<◌, ◌≤◌, Bool, true, false, cond, List, [], ◌∷◌, ◌++◌, length, drop, Option, Some, Result, Ok, Err, refl, sym, ap, subst, ◌∙◌, append_assoc, arith}
 use Rattle.std.proofs.lemmas.List.{append-nil, drop_at, length-append}
 use Rattle.byteorder.specs.Numbers.{length-bytes_high_first}
-use Rattle.rio_num.specs.At.{AreBytes}
-use Rattle.rio_num.specs.Meanings.{HasTaken, Standing, read}
-use Rattle.rio_num.specs.Reading.{◌>>=◌}
-use Rattle.rio_num.proofs.Agree.{read_is_spelled}
-use Rattle.rio_num.proofs.ReadLaws.{IsBytes-drop}
-use Rattle.rio_free.specs.declared.entry.FreeEntry.{FreeEntry}
-use Rattle.rio_free.specs.declared.fault.FreeFault.{FreeFault}
-use Rattle.rio_free.specs.Entry.{is_above, next_entry}
-use Rattle.rio_free.specs.EntryList.{AreEntriesAbove, ends_entries, free_entries_at}
+use Rattle.rio_num.specs.{At.{AreBytes}, Meanings.{HasTaken, Standing, read}, Reading.{◌>>=◌}, Room.{is_padding}}
+use Rattle.rio_num.proofs.{Agree.{read_is_spelled}, ReadLaws.{IsBytes-drop}}
+use Rattle.rio_free.specs.{declared.entry.FreeEntry.{FreeEntry}, declared.fault.FreeFault.{FreeFault}, Entry.{is_above, next_entry}}
+use Rattle.rio_free.specs.EntryList.{AreEntriesAbove, free_entries_at}
 
 abbrev pub Behind : Type 0
 Behind = Standing (Option ℕ)
@@ -51,11 +46,11 @@ one_less s e s' fits h =
 
 -- ---- how many entries are looked for doesn't matter, where there are no fewer than bytes
 
-pub nothing_left : (rest : List ℕ) → length rest ≤ 0 → ends_entries rest ≡ true
+pub nothing_left : (rest : List ℕ) → length rest ≤ 0 → is_padding rest ≡ true
 nothing_left [] le = refl
 nothing_left (b ∷ rest) le = absurd (omega (arith, le))
 
-pub at_end : (n : ℕ) (s : Behind) → ends_entries s.at.rest ≡ true → free_entries_at n s ≡ Ok []
+pub at_end : (n : ℕ) (s : Behind) → is_padding s.at.rest ≡ true → free_entries_at n s ≡ Ok []
 unfolding free_entries_at
 at_end zero s e = refl
 at_end (suc n) s e = rw e refl
@@ -68,7 +63,7 @@ unfolding free_entries_at
 enough zero zero s fits le more = refl
 enough zero (suc m) s fits le more = rw (nothing_left s.at.rest le) refl
 enough (suc n) zero s fits le more = rw (nothing_left s.at.rest more) refl
-enough (suc n) (suc m) s fits le more = by (λ t. enough n m t) (ends_entries s.at.rest) (read next_entry s) refl
+enough (suc n) (suc m) s fits le more = by (λ t. enough n m t) (is_padding s.at.rest) (read next_entry s) refl
   where
     by : ((t : Behind) → AreBytes t.at.rest → length t.at.rest ≤ n → length t.at.rest ≤ m → free_entries_at n t ≡ free_entries_at m t) → (b : Bool) (r : Result (FreeEntry × Behind) FreeFault) → read next_entry s ≡ r → cond b (Ok []) (then_at n r) ≡ cond b (Ok []) (then_at m r)
     by same true r h = refl
@@ -80,11 +75,11 @@ enough (suc n) (suc m) s fits le more = by (λ t. enough n m t) (ends_entries s.
 -- ---- the loop
 
 module _ (front : List FreeEntry) (s : Behind) (total : Entries) (so_far : with_entries front (free_entries_at (length s.at.rest) s) ≡ total) where
-  some_left : (rest : List ℕ) → ends_entries rest ≡ false → length rest ≡ suc (length rest - 1)
+  some_left : (rest : List ℕ) → is_padding rest ≡ false → length rest ≡ suc (length rest - 1)
   some_left [] e = absurd cc
   some_left (b ∷ rest) e = omega arith
 
-  pub goes_on : (e : FreeEntry) (s' : Behind) → AreBytes s.at.rest → ends_entries s.at.rest ≡ false → read next_entry s ≡ Ok (e, s') → with_entries (front ++ e ∷ []) (free_entries_at (length s'.at.rest) s') ≡ total
+  pub goes_on : (e : FreeEntry) (s' : Behind) → AreBytes s.at.rest → is_padding s.at.rest ≡ false → read next_entry s ≡ Ok (e, s') → with_entries (front ++ e ∷ []) (free_entries_at (length s'.at.rest) s') ≡ total
   unfolding free_entries_at
   goes_on e s' fits more h =
       let one = one_less s e s' fits h in
@@ -93,14 +88,14 @@ module _ (front : List FreeEntry) (s : Behind) (total : Entries) (so_far : with_
       let next : free_entries_at (length s.at.rest) s ≡ before_all e (free_entries_at (length s'.at.rest) s') = rw (split, more, h) (ap (before_all e) same) in
       sym (with_entries-more front e (free_entries_at (length s'.at.rest) s')) ∙ ap (with_entries front) (sym next) ∙ so_far
 
-  pub fails : (d : FreeFault) → ends_entries s.at.rest ≡ false → read next_entry s ≡ Err d → total ≡ Err d
+  pub fails : (d : FreeFault) → is_padding s.at.rest ≡ false → read next_entry s ≡ Err d → total ≡ Err d
   unfolding free_entries_at
   fails d more h =
       let split : length s.at.rest ≡ suc (length s.at.rest - 1) = some_left s.at.rest more in
       let next : free_entries_at (length s.at.rest) s ≡ Err d = rw (split, more, h) refl in
       sym so_far ∙ ap (with_entries front) next
 
-  pub all_read : ends_entries s.at.rest ≡ true → total ≡ Ok front
+  pub all_read : is_padding s.at.rest ≡ true → total ≡ Ok front
   all_read e = sym so_far ∙ ap (with_entries front) (at_end (length s.at.rest) s e) ∙ ap (λ (l : List FreeEntry). let r : Entries = Ok l in r) (append-nil front)
 
 -- ---- entries in order

@@ -1,28 +1,18 @@
 -- One entry of a free record: what is spelled is read, and what is read is spelled.
 use Rattle.std.proofs.Common.{◌≡◌, ℕ, ◌+◌, ◌-◌, ◌^◌, ◌<◌, ◌≤◌, ◌&&◌, Bool, true, false, cond, ltb, List, [], ◌++◌, length, drop, Option, Some, Result, Ok, nat_le, refl, sym, ap, subst, ◌∙◌, append_assoc, arith}
-use Rattle.std.proofs.lemmas.Bool.{and_parts, le-ltb}
-use Rattle.std.proofs.lemmas.Bool.Decides.{nat_tests}
-use Rattle.std.proofs.lemmas.List.{append-nil, drop_at, length-append}
-use Rattle.byteorder.specs.Endian.{big_bytes}
-use Rattle.byteorder.specs.Numbers.{length-bytes_high_first}
-use Rattle.rio_num.specs.At.{AreBytes}
-use Rattle.rio_num.specs.Layout.{Layout, done, met, must, note, number, ◌>>=◌}
-use Rattle.rio_num.specs.Meanings.{HasTaken, read, stand}
+use Rattle.std.proofs.{lemmas.Bool.{and_parts, le-ltb, Decides.{nat_tests}}, lemmas.List.{append-nil, drop_at, length-append}}
+use Rattle.byteorder.specs.{Endian.{big_bytes}, Numbers.{length-bytes_high_first}}
+use Rattle.rio_num.specs.{At.{AreBytes, place_len_of}, Layout.{Layout, done, met, must, note, number, ◌>>=◌}, Meanings.{HasTaken, read, stand}, Room.{is_padding}}
 use Rattle.rio_num.proofs.Agree.{read_is_spelled, spelled_is_read}
 use Rattle.rio_num.proofs.Intro.{IsSo, done_is, first_is, here_then, met_then, note_then, number_then, so_by, still_then}
 use Rattle.rio_num.proofs.ReadLaws.{IsBytes-drop, bind_ok, ok_is}
-use Rattle.rio_free.specs.declared.entry.FreeEntry.{FreeEntry}
-use Rattle.rio_free.specs.declared.fault.FreeFault.{FreeFault}
-use Rattle.rio_free.specs.declared.fault.FreeFault.TheVariants.{BadOrder, Short}
-use Rattle.rio_free.specs.Entry.{is_above, next_entry}
-use Rattle.rio_free.specs.EntryList.{ends_entries}
-use Rattle.rio_free.specs.Record.{entry_bytes, entry_place_len}
-use Rattle.rio_free.specs.Spelling.{HasEntry}
+use Rattle.rio_free.specs.{declared.entry.FreeEntry.{FreeEntry}, declared.fault.FreeFault.{FreeFault, TheVariants.{BadOrder, Short}}}
+use Rattle.rio_free.specs.{Entry.{is_above, next_entry}, Record.{entry_bytes}, Spelling.{HasEntry}}
 use Rattle.rio_free.proofs.EntryReads.{Behind}
 
 -- ---- how long an entry is
 
-place_some : (version : ℕ) → 4 ≤ entry_place_len version
+place_some : (version : ℕ) → 4 ≤ place_len_of version
 place_some version = by (ltb 1000 version)
   where
     by : (b : Bool) → 4 ≤ cond b 8 4
@@ -31,13 +21,13 @@ place_some version = by (ltb 1000 version)
 
 pub entry_long : (version : ℕ) (e : FreeEntry) → 10 ≤ length (entry_bytes version e)
 entry_long version e =
-    let n = entry_place_len version in
+    let n = place_len_of version in
     omega (arith, place_some version, length-append (big_bytes 2 version) (big_bytes n e.first ++ big_bytes n e.last), length-append (big_bytes n e.first) (big_bytes n e.last), length-bytes_high_first 2 version, length-bytes_high_first n e.first, length-bytes_high_first n e.last)
 
 pub rest_shorter : (before : Option ℕ) (e : FreeEntry) (bytes rest : List ℕ) → HasEntry before e bytes rest → length rest + 10 ≤ length bytes
 rest_shorter before e bytes rest h = omega (arith, ap length h.parts, length-append (entry_bytes h.version e) rest, entry_long h.version e)
 
-pub goes_on_behind : (bytes : List ℕ) → 4 ≤ length bytes → ends_entries bytes ≡ false
+pub goes_on_behind : (bytes : List ℕ) → 4 ≤ length bytes → is_padding bytes ≡ false
 goes_on_behind bytes le = let long : ltb (length bytes) 4 ≡ false = le-ltb _ _ le in rw long refl
 
 -- ---- what is spelled is read
@@ -45,7 +35,7 @@ goes_on_behind bytes le = let long : ltb (length bytes) 4 ≡ false = le-ltb _ _
 entry_is : (p : ℕ) (before : Option ℕ) (e : FreeEntry) (bytes rest : List ℕ) (h : HasEntry before e bytes rest) → IsSo next_entry 0 p before e (entry_bytes h.version e) (Some e.last)
 unfolding next_entry
 entry_is p before e bytes rest h =
-    let n = entry_place_len h.version in
+    let n = place_len_of h.version in
     let in_order : nat_le e.first e.last ≡ true = grind (arith, nat_tests, h.in_order) in
     let test : (is_above before e.first && nat_le e.first e.last) ≡ true = rw (h.above, in_order) refl in
     let own : entry_bytes h.version e ≡ big_bytes 2 h.version ++ (big_bytes n e.first ++ (big_bytes n e.last ++ [])) = ap (λ (b : List ℕ). big_bytes 2 h.version ++ (big_bytes n e.first ++ b)) (sym (append-nil (big_bytes n e.last))) in
@@ -70,10 +60,10 @@ abbrev rule_behind : ℕ → ℕ → ℕ → Rules
 rule_behind place first last = met >>= λ before. must (is_above before first && nat_le first last) (BadOrder place) >>= λ ruled. note (Some last) >>= λ noted. done (entry_for first last)
 
 abbrev last_behind : ℕ → ℕ → ℕ → Rules
-last_behind place version first = number Short (entry_place_len version) >>= rule_behind place first
+last_behind place version first = number Short (place_len_of version) >>= rule_behind place first
 
 abbrev first_behind : ℕ → ℕ → Rules
-first_behind place version = number Short (entry_place_len version) >>= last_behind place version
+first_behind place version = number Short (place_len_of version) >>= last_behind place version
 
 abbrev version_behind : ℕ → Rules
 version_behind place = number Short 2 >>= first_behind place
@@ -125,7 +115,7 @@ pub entry_found : (s : Behind) (e : FreeEntry) (s' : Behind) → AreBytes s.at.r
 unfolding next_entry
 entry_found s e s' fits h =
     let v = number_and 2 (first_behind s.at.place) s e s' fits h in
-    let n = entry_place_len v.x in
+    let n = place_len_of v.x in
     let f = number_and n (last_behind s.at.place v.x) v.next e s' v.fits v.then in
     let l = number_and n (rule_behind s.at.place f.x) f.next e s' f.fits f.then in
     let r = ruled s.at.place f.x l.x l.next e s' _ refl l.then in

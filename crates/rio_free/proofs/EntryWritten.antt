@@ -1,24 +1,13 @@
 -- What is written of gaps and an end is read as they are.
 use Rattle.std.proofs.Common.{◌≡◌, ℕ, zero, suc, ◌+◌, ◌-◌, ◌<◌, ◌≤◌, true, false, eqb, List, [], ◌∷◌, ◌++◌, length, map, replicate, Option, None, Some, refl, ap, ◌∙◌, append_assoc, arith}
+use Rattle.std.proofs.{lemmas.Bool.{lt-ltb, ne_eqb}, lemmas.List.{length-append, take_at}}
 use Rattle.std.specs.List.{All}
-use Rattle.std.proofs.lemmas.Bool.{lt-ltb, ne_eqb}
-use Rattle.std.proofs.lemmas.List.{length-append, take_at}
-use Rattle.rio_free.specs.declared.entry.FreeEntry.{FreeEntry}
-use Rattle.rio_free.specs.declared.gap.Gap.{Gap}
-use Rattle.rio_free.specs.Entry.{is_above}
-use Rattle.rio_free.specs.EntryList.{ends_entries, free_gaps_in, gap_of_entry, gaps_of, inner_entries}
-use Rattle.rio_free.specs.Gaps.{AreGapsFrom, gap_end, gap_of, joined}
-use Rattle.rio_free.specs.Laws.{WrittenIsEntries, WrittenIsGaps}
-use Rattle.rio_free.specs.Record.{end_entry, entry_bytes, entry_of, free_bytes, gaps_bytes}
+use Rattle.rio_num.proofs.Puts.{zeros_pad}
+use Rattle.rio_free.specs.{declared.entry.FreeEntry.{FreeEntry}, declared.gap.Gap.{Gap}, Entry.{is_above}}
+use Rattle.rio_free.specs.{EntryList.{free_gaps_in, gap_of_entry, gaps_of, inner_entries}, Gaps.{AreGapsFrom, gap_end, gap_of, joined}}
+use Rattle.rio_free.specs.{Laws.{WrittenIsEntries, WrittenIsGaps}, Record.{end_entry, entry_bytes, entry_of, free_bytes, gaps_bytes}}
 use Rattle.rio_free.specs.Spelling.{HasEntry, SpellsEntries}
 use Rattle.rio_free.proofs.EntryLaws.{spelled_again}
-
-zeros_end : (n : ℕ) → n < 4 → ends_entries (replicate n 0) ≡ true
-zeros_end zero lt = refl
-zeros_end (suc zero) lt = refl
-zeros_end (suc (suc zero)) lt = refl
-zeros_end (suc (suc (suc zero))) lt = refl
-zeros_end (suc (suc (suc (suc n)))) lt = absurd (omega (arith, lt))
 
 -- the places from one on are above an entry
 abbrev IsAboveFrom : Option ℕ → ℕ → Type 0
@@ -39,7 +28,7 @@ module _ (end zeros : ℕ) (end_within : end ≤ 2000000000) (few : zeros < 4) w
         above = above end low_end;
         in_order = end_within;
       } in
-      (replicate zeros 0, has, zeros_end zeros few)
+      (replicate zeros 0, has, zeros_pad zeros few)
   written_spells before low from (g ∷ gaps) above le low_end are within =
       let first : gap_end g ≤ end = within 0 g (omega arith) in
       let own = entry_bytes 1 (entry_of g) in

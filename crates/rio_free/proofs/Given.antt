@@ -1,12 +1,9 @@
 -- What the gaps are once a range of bytes is given.
 use Rattle.std.proofs.Common.{◌≡◌, ◌≢◌, inl, inr, ℕ, zero, suc, ◌+◌, ◌-◌, ◌^◌, ◌<◌, ◌≤◌, ◌||◌, Bool, true, false, cond, ltb, eqb, List, [], ◌∷◌, ◌++◌, length, get_or, set, take, drop, Option, None, Result, Ok, Err, IsOk, is_ok, rules, refl, ap, sym, subst, ◌∙◌, Some, arith}
-use Rattle.std.specs.List.{prefix_len, slice_get, insert, remove}
-use Rattle.std.proofs.lemmas.Bool.{ltb-true, ltb-false, eq-eqb, ne_eqb, eqb-true, eqb-false}
-use Rattle.std.proofs.lemmas.Bool.Decides.{nat_tests}
-use Rattle.std.proofs.Math.Numerals.{one-add}
-use Rattle.std.proofs.lemmas.List.{length-append, length-set, length-take, take-append-drop, drop_at, get_or-set_same}
+use Rattle.std.proofs.{lemmas.Bool.{ltb-true, ltb-false, eq-eqb, ne_eqb, eqb-true, eqb-false, Decides.{nat_tests}}, Math.Numerals.{one-add}}
+use Rattle.std.proofs.lemmas.List.{length-append, length-set, length-take, take-append-drop, drop_at, get_or-set_same, Sums.{prefix_len-le-length}}
 use Rattle.std.proofs.lemmas.Option.{slice_get-get_or}
-use Rattle.std.proofs.lemmas.List.Sums.{prefix_len-le-length}
+use Rattle.std.specs.List.{prefix_len, slice_get, insert, remove}
 use Rattle.rio_free.specs.Gaps.{gap_of, gap_end, AreGaps, AreGapsFrom, IsApart, IsGapFrom, ends_before, is_free, length_at, lies_in, joined, given}
 use Rattle.rio_free.specs.declared.gap.Gap.{Gap}
 use Rattle.rio_free.proofs.Order.{start_of, from_lower, ends_fit}
@@ -99,10 +96,6 @@ ends_at gaps items at place end h same some within read is =
 pub inserted : {A E : Type 0} (r : Result A E) (new one other : List Gap) → IsOk r → new ≡ cond (is_ok r) one other → new ≡ one
 inserted (Ok x) new one other ok is = is
 inserted (Err e) new one other ok is = absurd (search rules)
-
-pub one_more : (b : Bool) (new old : ℕ) → new ≡ cond b (old + 1) old → new ≤ old + 1
-one_more true new old is = omega (arith, is)
-one_more false new old is = omega (arith, is)
 
 -- ---- one gap among others
 

@@ -1,12 +1,8 @@
 -- What is known of gaps in order.
 use Rattle.std.proofs.Common.{◌≡◌, inl, inr, ℕ, zero, suc, ◌+◌, ◌^◌, ◌<◌, ◌≤◌, Bool, true, false, List, [], ◌∷◌, length, get_or, ap, arith}
-use Rattle.std.specs.List.{prefix_len}
-use Rattle.std.specs.List.Sorted.{IsNonDecreasingBy, IsPartitionPoint}
-use Rattle.std.proofs.lemmas.Bool.{cases_lt}
-use Rattle.std.proofs.lemmas.Bool.Decides.{nat_tests}
-use Rattle.std.proofs.lemmas.List.Sums.{prefix_len-le-length, prefix_len_passes, prefix_len_stops}
-use Rattle.rio_free.specs.Gaps.{gap_of, gap_end, AreGapsFrom, HasGapFor, is_free}
-use Rattle.rio_free.specs.declared.gap.Gap.{Gap}
+use Rattle.std.proofs.{lemmas.Bool.{cases_lt, Decides.{nat_tests}}, lemmas.List.Sums.{prefix_len-le-length, prefix_len_passes, prefix_len_stops}}
+use Rattle.std.specs.List.{prefix_len, Sorted.{IsNonDecreasingBy, IsPartitionPoint}}
+use Rattle.rio_free.specs.{Gaps.{gap_of, gap_end, AreGapsFrom, HasGapFor, is_free}, declared.gap.Gap.{Gap}}
 
 abbrev pub start_of : Gap → ℕ
 start_of g = g.place

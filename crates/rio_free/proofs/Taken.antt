@@ -1,11 +1,8 @@
 -- What is left once the front of a gap is taken.
 use Rattle.std.proofs.Common.{◌≡◌, ◌≢◌, ◌⊎◌, inl, inr, ℕ, zero, suc, ◌+◌, ◌-◌, ◌^◌, ◌<◌, ◌≤◌, ◌&&◌, not, Bool, true, false, cond, ltb, eqb, List, [], ◌∷◌, ◌++◌, length, get_or, set, take, drop, refl, ap, sym, subst, ◌∙◌, arith}
+use Rattle.std.proofs.{lemmas.Bool.{eq-eqb, ne_eqb, Decides.{nat_tests}}, lemmas.List.{set_split}}
 use Rattle.std.specs.List.{prefix_len, remove}
-use Rattle.std.proofs.lemmas.Bool.{eq-eqb, ne_eqb}
-use Rattle.std.proofs.lemmas.Bool.Decides.{nat_tests}
-use Rattle.std.proofs.lemmas.List.{set_split}
-use Rattle.rio_free.specs.Gaps.{gap_of, gap_end, AreGaps, AreGapsFrom, HasGapFor, IsFitFor, is_free, lies_in, left_from, taken}
-use Rattle.rio_free.specs.declared.gap.Gap.{Gap}
+use Rattle.rio_free.specs.{Gaps.{gap_of, gap_end, AreGaps, AreGapsFrom, HasGapFor, IsFitFor, is_free, lies_in, left_from, taken}, declared.gap.Gap.{Gap}}
 use Rattle.rio_free.proofs.Order.{start_of, from_lower, gap_behind, free_behind}
 
 module _ (place n : ℕ) where

@@ -1,9 +1,6 @@
 -- How long the entries are.
-use Rattle.std.proofs.Common.{◌≡◌, ℕ, ◌+◌, ◌*◌, ◌≤◌, List, [], ◌∷◌, ◌++◌, length, drop, refl, arith}
-use Rattle.std.proofs.lemmas.List.{append-nil, drop_all, length-append}
-use Rattle.rio_free.specs.Record.{end_entry, entry_bytes, entry_of, free_bytes, gaps_bytes}
-use Rattle.rio_free.specs.declared.gap.Gap.{Gap}
-use Rattle.rio_free.specs.declared.entry.FreeEntry.{FreeEntry}
+use Rattle.std.proofs.{Common.{◌≡◌, ℕ, ◌+◌, ◌*◌, ◌≤◌, List, [], ◌∷◌, ◌++◌, length, drop, refl, arith}, lemmas.List.{append-nil, drop_all, length-append}}
+use Rattle.rio_free.specs.{Record.{end_entry, entry_bytes, entry_of, free_bytes, gaps_bytes}, declared.gap.Gap.{Gap}, declared.entry.FreeEntry.{FreeEntry}}
 
 pub length-entry : (e : FreeEntry) → length (entry_bytes 1 e) ≡ 10
 length-entry e = refl

@@ -1,25 +1,15 @@
 -- The data of a free record, read: its entries up to the end of the list, and the gaps that they give.
-use Rattle.std.specs.Prelude.{◌≡◌, ◌==◌, ◌&&◌, ◌<◌, ◌≤◌, ℕ, zero, suc, ◌+◌, ◌-◌, ◌^◌, Bool, true, List, [], ◌∷◌, length, take, Option, None, Some, Result, Ok, Err, nat_lt, if◌then◌else◌}
-use Rattle.std.specs.List.{list_all}
-use Rattle.rio_num.specs.At.{At}
-use Rattle.rio_num.specs.Meanings.{Standing, read, stand}
-use Rattle.rio_num.specs.Reading.{◌>>=◌}
-use Rattle.rio_free.specs.declared.entry.FreeEntry.{FreeEntry}
-use Rattle.rio_free.specs.declared.fault.FreeFault.{FreeFault}
-use Rattle.rio_free.specs.declared.gap.Gap.{Gap}
-use Rattle.rio_free.specs.Entry.{is_above, next_entry}
+use Rattle.std.specs.Prelude.{◌≡◌, ◌<◌, ◌≤◌, ℕ, zero, suc, ◌+◌, ◌-◌, ◌^◌, true, List, [], ◌∷◌, length, take, Option, None, Some, Result, Ok, Err, if◌then◌else◌}
+use Rattle.rio_num.specs.{At.{At}, Meanings.{Standing, read, stand}, Reading.{◌>>=◌}, Room.{is_padding}}
+use Rattle.rio_free.specs.{declared.entry.FreeEntry.{FreeEntry}, declared.fault.FreeFault.{FreeFault}, declared.gap.Gap.{Gap}, Entry.{is_above, next_entry}}
 use Rattle.rio_free.specs.Gaps.{gap_of, joined}
 
 -- ---- the entries
 
--- at most three zero bytes are the end of the list
-abbrev pub ends_entries : List ℕ → Bool
-ends_entries rest = nat_lt (length rest) 4 && list_all (λ b. b == 0) rest
-
 -- the entries up to the end of the list, at most so many
 unfoldable pub free_entries_at : ℕ → Standing (Option ℕ) → Result (List FreeEntry) FreeFault
 free_entries_at zero s = Ok []
-free_entries_at (suc n) s = if ends_entries s.at.rest then Ok [] else (do
+free_entries_at (suc n) s = if is_padding s.at.rest then Ok [] else (do
   entry ← read next_entry s
   entries ← free_entries_at n entry.1
   Ok (entry.0 ∷ entries))

@@ -1,7 +1,6 @@
 -- The gaps of a file, sorted by place, those that touch as one: which bytes are free, and how that changes.
 use Rattle.std.specs.Prelude.{◌≡◌, ◌⊎◌, ◌==◌, ◌&&◌, ℕ, ◌+◌, ◌-◌, ◌^◌, ◌<◌, ◌≤◌, Bool, List, [], ◌∷◌, Option, None, Some, false, slice_get, nat_lt, nat_le, if◌then◌else◌}
-use Rattle.std.specs.List.{All, Any, find, list_any}
-use Rattle.std.specs.Option.{option_map, option_map_or, option_or}
+use Rattle.std.specs.{List.{All, Any, find, list_any}, Option.{option_map, option_map_or, option_or}}
 use Rattle.rio_free.specs.declared.gap.Gap.{Gap}
 
 -- gaps, and for how many more there is room

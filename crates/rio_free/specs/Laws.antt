@@ -1,13 +1,8 @@
 -- What holds of the data of every free record.
-use Rattle.std.specs.Prelude.{◌≡◌, ℕ, ◌<◌, ◌≤◌, None, List, [], ◌∷◌, ◌++◌, map, replicate, Ok, Err}
-use Rattle.std.specs.List.{All}
+use Rattle.std.specs.{Prelude.{◌≡◌, ℕ, ◌<◌, ◌≤◌, None, List, [], ◌∷◌, ◌++◌, map, replicate, Ok, Err}, List.{All}}
 use Rattle.rio_num.specs.At.{AreBytes}
-use Rattle.rio_free.specs.declared.entry.FreeEntry.{FreeEntry}
-use Rattle.rio_free.specs.declared.fault.FreeFault.{FreeFault}
-use Rattle.rio_free.specs.declared.gap.Gap.{Gap}
-use Rattle.rio_free.specs.EntryList.{free_entries_in, free_gaps_in}
-use Rattle.rio_free.specs.Gaps.{AreGaps, gap_end}
-use Rattle.rio_free.specs.Record.{end_entry, entry_of, free_bytes}
+use Rattle.rio_free.specs.{declared.entry.FreeEntry.{FreeEntry}, declared.fault.FreeFault.{FreeFault}, declared.gap.Gap.{Gap}}
+use Rattle.rio_free.specs.{EntryList.{free_entries_in, free_gaps_in}, Gaps.{AreGaps, gap_end}, Record.{end_entry, entry_of, free_bytes}}
 use Rattle.rio_free.specs.Spelling.{BreaksEntries, SpellsEntries}
 
 -- reading, spelling and first faults are one

@@ -1,18 +1,12 @@
 -- The data of the free record: its entries, one behind the other.
-use Rattle.std.specs.Prelude.{ℕ, ◌-◌, List, ◌++◌, nat_lt, if◌then◌else◌}
-use Rattle.std.specs.List.{flat_map}
+use Rattle.std.specs.{Prelude.{ℕ, ◌-◌, List, ◌++◌}, List.{flat_map}}
 use Rattle.byteorder.specs.Endian.{big_bytes}
-use Rattle.rio_free.specs.declared.gap.Gap.{Gap}
-use Rattle.rio_free.specs.declared.entry.FreeEntry.{FreeEntry}
-use Rattle.rio_free.specs.Gaps.{gap_end}
-
--- how many bytes a place takes in entries of a version
-abbrev pub entry_place_len : ℕ → ℕ
-entry_place_len version = if nat_lt 1000 version then 8 else 4
+use Rattle.rio_num.specs.At.{place_len_of}
+use Rattle.rio_free.specs.{declared.gap.Gap.{Gap}, declared.entry.FreeEntry.{FreeEntry}, Gaps.{gap_end}}
 
 -- the bytes of an entry in a version
 abbrev pub entry_bytes : ℕ → FreeEntry → List ℕ
-entry_bytes version e = big_bytes 2 version ++ (big_bytes (entry_place_len version) e.first ++ big_bytes (entry_place_len version) e.last)
+entry_bytes version e = big_bytes 2 version ++ (big_bytes (place_len_of version) e.first ++ big_bytes (place_len_of version) e.last)
 
 -- the entry of a gap
 abbrev pub entry_of : Gap → FreeEntry

@@ -2,11 +2,11 @@
 ghost use Rattle.std.specs.Prelude.{◌≡◌, ◌+◌, ◌-◌, ◌<◌, ◌≤◌, ◌^◌, [], None, true, length, take, IfOk};
 ghost use Rattle.std.specs.List.{All};
 ghost use Rattle.rio_num.specs.Answers.{GivesUnless};
-ghost use Rattle.rio_num.specs.At.{GoesOn};
+ghost use Rattle.rio_num.specs.At.{GoesOn, place_len_of};
 ghost use Rattle.rio_num.specs.Reading.{Takes, number_at};
+ghost use Rattle.rio_num.specs.Room.{is_padding};
 ghost use Rattle.rio_free.specs.Entry.{is_above};
-ghost use Rattle.rio_free.specs.EntryList.{AreEntriesAbove, TakesEntry, ends_entries, free_entries_in, free_gaps_in, gaps_of, inner_entries};
-ghost use Rattle.rio_free.specs.Record.{entry_place_len};
+ghost use Rattle.rio_free.specs.EntryList.{AreEntriesAbove, TakesEntry, free_entries_in, free_gaps_in, gaps_of, inner_entries};
 ghost use Rattle.rio_free.specs.declared.fault.FreeFault.TheVariants.{NoMemory as OutOfMemory};
 
 use crate::{FreeEntry, FreeFault, FreeList};
@@ -15,7 +15,7 @@ use std::alloc::Global;
 
 // A place in the file, as long as entries of this version have it.
 fn take_place(cursor: &mut Cursor, version: u16) -> Result<u64, Short>
-    ensures exact { Takes (λ x. x) result (number_at (entry_place_len version) cursor.old)
+    ensures exact { Takes (λ x. x) result (number_at (place_len_of version) cursor.old)
         cursor.old cursor.new }
     ensures goes { GoesOn cursor.old cursor.new }
 {
@@ -55,8 +55,8 @@ fn take_entry(cursor: &mut Cursor, before: Option<u64>) -> Result<FreeEntry, Fre
 }
 
 // At most three zero bytes end the list.
-fn ends_entries(rest: &[u8]) -> bool
-    ensures { result ≡ ends_entries rest.now }
+fn is_padding(rest: &[u8]) -> bool
+    ensures { result ≡ is_padding rest.now }
 {
     rest.len() < 4 && rest.iter().all(|byte| *byte == 0)
 }
@@ -69,7 +69,7 @@ fn read_entries(alloc: Global, bytes: &[u8]) -> Result<Items<FreeEntry>, FreeFau
     let mut cursor = Cursor::new(bytes, 0);
     let mut entries = Items::new(alloc);
     let mut before = None;
-    while !ends_entries(cursor.rest()) {
+    while !is_padding(cursor.rest()) {
         let entry = take_entry(&mut cursor, before)?;
         before = Some(entry.last);
         entries.push(entry)?;

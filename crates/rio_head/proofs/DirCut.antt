@@ -1,11 +1,7 @@
 -- A directory record is read from its first 60 bytes alone.
 use Rattle.std.proofs.Common.{ℕ, ◌*◌, ◌-◌, ◌≤◌, refl, arith}
-use Rattle.rio_num.proofs.Cut.{TakesFew, few_bytes, few_done, few_number, value_cut}
-use Rattle.rio_num.proofs.Plain.{standing}
-use Rattle.rio_head.specs.Form.{place_len, is_large_dir}
-use Rattle.rio_head.specs.Dir.{dir_layout}
-use Rattle.rio_head.specs.Laws.{DirInFront}
-use Rattle.rio_head.specs.declared.dir.DirRecord.{DirRecord}
+use Rattle.rio_num.proofs.{Cut.{TakesFew, few_bytes, few_done, few_number, value_cut}, Plain.{standing}}
+use Rattle.rio_head.specs.{Form.{place_len, is_large_dir}, Dir.{dir_layout}, Laws.{DirInFront}, declared.dir.DirRecord.{DirRecord}}
 use Rattle.rio_head.proofs.Lengths.{place_len-le}
 
 -- how many of 60 bytes stand behind a directory record

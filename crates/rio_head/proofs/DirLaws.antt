@@ -1,16 +1,10 @@
 -- What spells a directory record is read as it, and what is read as a directory record spells it.
-use Rattle.std.proofs.Common.{◌≡◌, ℕ, ◌+◌, List, ◌++◌, length, Result, Ok, Err, refl, sym, ap, subst, ◌∙◌}
+use Rattle.std.proofs.{Common.{◌≡◌, ℕ, ◌+◌, List, ◌++◌, length, Result, Ok, Err, refl, sym, ap, subst, ◌∙◌}, lemmas.List.{append-nil}}
 use Rattle.std.specs.Prelude.{IfErr, IfOk}
-use Rattle.std.proofs.lemmas.List.{append-nil}
-use Rattle.rio_num.specs.At.{At, AreBytes, end_place}
-use Rattle.rio_num.specs.Meanings.{Reading}
-use Rattle.rio_num.specs.Plain.{value_of}
-use Rattle.rio_num.specs.declared.cursor.Short.{Short}
-use Rattle.rio_num.proofs.Apart.{bytes_of, number_of}
-use Rattle.rio_num.proofs.Intro.{IsSo, bytes_then, done_is, number_then, so_by}
+use Rattle.rio_num.specs.{At.{At, AreBytes, end_place}, Meanings.{Reading}, Plain.{value_of}, declared.cursor.Short.{Short}}
+use Rattle.rio_num.proofs.{Apart.{bytes_of, number_of}, Intro.{IsSo, bytes_then, done_is, number_then, so_by}}
 use Rattle.rio_num.proofs.Plain.{spelled_again, standing, value_broken, value_found}
-use Rattle.rio_head.specs.Dir.{BeginsAsDir, BreaksDir, IsDir, dir_at, dir_bytes, dir_layout}
-use Rattle.rio_head.specs.declared.dir.DirRecord.{DirRecord}
+use Rattle.rio_head.specs.{Dir.{BeginsAsDir, BreaksDir, IsDir, dir_at, dir_bytes, dir_layout}, declared.dir.DirRecord.{DirRecord}}
 
 dir_spelled : (end p : ℕ) (d : DirRecord) → IsDir d → IsSo dir_layout end p tt d (dir_bytes d) tt
 unfolding dir_layout

@@ -1,18 +1,13 @@
 -- What spells a header is read as it, and what is read as a header spells it.
 use Rattle.std.proofs.Common.{◌≡◌, ◌==◌, ℕ, ◌+◌, ◌^◌, ◌<◌, Bool, true, false, List, ◌++◌, length, Result, Ok, Err, refl, sym, ap, subst, ◌∙◌, arith}
+use Rattle.std.proofs.{lemmas.Bool.{eq-eqb, eqb-true}, lemmas.List.{append-nil}}
 use Rattle.std.specs.Prelude.{IfErr, IfOk}
-use Rattle.std.proofs.lemmas.Bool.{eq-eqb, eqb-true}
-use Rattle.std.proofs.lemmas.List.{append-nil}
-use Rattle.rio_num.specs.At.{At, AreBytes, end_place}
-use Rattle.rio_num.specs.Meanings.{Reading}
-use Rattle.rio_num.specs.Plain.{value_of}
-use Rattle.rio_num.proofs.Apart.{bytes_of, must_of, number_of}
-use Rattle.rio_num.proofs.Intro.{IsSo, bytes_then, done_is, must_then, number_then, so_by}
+use Rattle.rio_num.specs.{At.{At, AreBytes, end_place}, Meanings.{Reading}, Plain.{value_of}}
+use Rattle.rio_num.proofs.{Apart.{bytes_of, must_of, number_of}, Intro.{IsSo, bytes_then, done_is, must_then, number_then, so_by}}
 use Rattle.rio_num.proofs.Plain.{spelled_again, standing, value_broken, value_found}
 use Rattle.rio_head.specs.Form.{place_len, is_large_head}
 use Rattle.rio_head.specs.Head.{BeginsAsHead, BreaksHead, IsHead, behind_layout, head_at, head_bytes, header_at, header_layout, root_number}
-use Rattle.rio_head.specs.declared.head.FileHead.{FileHead}
-use Rattle.rio_head.specs.declared.fault.HeadFault.{HeadFault}
+use Rattle.rio_head.specs.{declared.head.FileHead.{FileHead}, declared.fault.HeadFault.{HeadFault}}
 
 units_small : (is_large : Bool) (units : ℕ) → units ≡ place_len is_large → units < 256 ^ 1
 units_small true units is = omega (arith, is)

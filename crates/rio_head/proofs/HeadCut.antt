@@ -1,11 +1,7 @@
 -- A header is read from the first 100 bytes of a file alone.
 use Rattle.std.proofs.Common.{ℕ, ◌*◌, ◌-◌, ◌≤◌, refl, arith}
-use Rattle.rio_num.proofs.Cut.{TakesFew, few_bytes, few_done, few_must, few_number, value_cut}
-use Rattle.rio_num.proofs.Plain.{standing}
-use Rattle.rio_head.specs.Form.{place_len, is_large_head}
-use Rattle.rio_head.specs.Head.{behind_layout, header_layout}
-use Rattle.rio_head.specs.Laws.{HeadInFront}
-use Rattle.rio_head.specs.declared.head.FileHead.{FileHead}
+use Rattle.rio_num.proofs.{Cut.{TakesFew, few_bytes, few_done, few_must, few_number, value_cut}, Plain.{standing}}
+use Rattle.rio_head.specs.{Form.{place_len, is_large_head}, Head.{behind_layout, header_layout}, Laws.{HeadInFront}, declared.head.FileHead.{FileHead}}
 use Rattle.rio_head.proofs.Lengths.{place_len-le}
 
 -- how many of 100 bytes stand behind a header

@@ -2,10 +2,8 @@
 use Rattle.std.proofs.Common.{◌≡◌, ℕ, ◌+◌, ◌≤◌, Bool, true, false, List, ◌++◌, length, replicate, codes, if◌then◌else◌, refl, sym, append_assoc, arith}
 use Rattle.std.proofs.lemmas.List.{length-append}
 use Rattle.byteorder.specs.Endian.{big_bytes}
-use Rattle.rio_head.specs.Form.{place_len, is_large_head, is_large_dir}
-use Rattle.rio_head.specs.Written.{front_bytes, back_bytes, written_dir, written_head}
-use Rattle.rio_head.specs.declared.head.FileHead.{FileHead}
-use Rattle.rio_head.specs.declared.dir.DirRecord.{DirRecord}
+use Rattle.rio_head.specs.{Form.{place_len, is_large_head, is_large_dir}, Written.{front_bytes, back_bytes, written_dir, written_head}}
+use Rattle.rio_head.specs.{declared.head.FileHead.{FileHead}, declared.dir.DirRecord.{DirRecord}}
 
 abbrev front : Bool → FileHead → List ℕ
 front is_large h = codes "root" ++ (big_bytes 4 h.version ++ (big_bytes 4 h.begin ++ (big_bytes (place_len is_large) h.end ++ (big_bytes (place_len is_large) h.seek_free ++ (big_bytes 4 h.nbytes_free ++ (big_bytes 4 h.nfree ++ big_bytes 4 h.nbytes_name))))))

@@ -1,14 +1,9 @@
 -- The record of a directory. Its layout stands here once; the meanings of descriptions say how it is read and broken.
 use Rattle.std.specs.Prelude.{◌≡◌, ℕ, ◌^◌, ◌<◌, List, ◌++◌, length, Result}
 use Rattle.byteorder.specs.Endian.{big_bytes}
-use Rattle.rio_num.specs.At.{At}
-use Rattle.rio_num.specs.Layout.{done, number, bytes, ◌>>=◌}
-use Rattle.rio_num.specs.Meanings.{read, Breaks}
-use Rattle.rio_num.specs.Plain.{Plain, plain, value_of}
-use Rattle.rio_num.specs.Reading.{short}
+use Rattle.rio_num.specs.{At.{At}, Layout.{done, number, bytes, ◌>>=◌}, Meanings.{read, Breaks}, Plain.{Plain, plain, value_of}, Reading.{short}}
 use Rattle.rio_num.specs.declared.cursor.Short.{Short}
-use Rattle.rio_head.specs.Form.{place_len, is_large_dir}
-use Rattle.rio_head.specs.declared.dir.DirRecord.{DirRecord}
+use Rattle.rio_head.specs.{Form.{place_len, is_large_dir}, declared.dir.DirRecord.{DirRecord}}
 
 -- the fields, up to the UUID
 unfoldable pub dir_layout : Plain Short DirRecord

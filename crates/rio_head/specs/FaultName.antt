@@ -1,7 +1,6 @@
 -- The names of the faults of a file.
 use Rattle.std.specs.Prelude.{ℕ, List, codes}
-use Rattle.rio_head.specs.declared.fault.FileFault.{FileFault}
-use Rattle.rio_head.specs.declared.fault.FileFault.TheVariants.{NotRoot, Short, BadBegin, BadUnits, NotClosed, BadDir, BadKeyList, Compressed, BadInfo}
+use Rattle.rio_head.specs.declared.fault.FileFault.{FileFault, TheVariants.{NotRoot, Short, BadBegin, BadUnits, NotClosed, BadDir, BadKeyList, Compressed, BadInfo}}
 
 abbrev pub fault_name : FileFault → List ℕ
 fault_name NotRoot = codes "NotRoot"

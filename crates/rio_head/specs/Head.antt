@@ -1,15 +1,9 @@
 -- The header of a file. Each rule stands here once; the meanings of descriptions say how it is read and broken.
 use Rattle.std.specs.Prelude.{◌≡◌, ◌==◌, ℕ, ◌^◌, ◌<◌, Bool, List, ◌++◌, length, codes, Result, if◌then◌else◌}
 use Rattle.byteorder.specs.Endian.{big_bytes}
-use Rattle.rio_num.specs.At.{At}
-use Rattle.rio_num.specs.Layout.{done, number, bytes, must, ◌>>=◌}
-use Rattle.rio_num.specs.Meanings.{read, Breaks}
-use Rattle.rio_num.specs.Plain.{Plain, plain, value_of}
-use Rattle.rio_head.specs.Form.{place_len, is_large_head}
-use Rattle.rio_head.specs.declared.head.FileHead.{FileHead}
-use Rattle.rio_head.specs.declared.fault.HeadFault.{HeadFault}
-use Rattle.rio_head.specs.declared.fault.FileFault.{FileFault}
-use Rattle.rio_head.specs.declared.fault.FileFault.TheVariants.{NotRoot, Short, BadBegin, BadUnits, NotClosed, BadDir, BadKeyList, Compressed, BadInfo}
+use Rattle.rio_num.specs.{At.{At}, Layout.{done, number, bytes, must, ◌>>=◌}, Meanings.{read, Breaks}, Plain.{Plain, plain, value_of}}
+use Rattle.rio_head.specs.{Form.{place_len, is_large_head}, declared.head.FileHead.{FileHead}, declared.fault.HeadFault.{HeadFault}}
+use Rattle.rio_head.specs.declared.fault.FileFault.{FileFault, TheVariants.{NotRoot, Short, BadBegin, BadUnits, NotClosed, BadDir, BadKeyList, Compressed, BadInfo}}
 
 abbrev pub fault_at : ℕ → FileFault → HeadFault
 fault_at place kind = record { place = place; kind = kind }

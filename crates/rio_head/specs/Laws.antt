@@ -1,9 +1,6 @@
 -- What holds of every header and every directory record.
 use Rattle.std.specs.Prelude.{◌≡◌, ℕ, List, take}
-use Rattle.rio_head.specs.Head.{head_at, BeginsAsHead}
-use Rattle.rio_head.specs.Dir.{dir_at, BeginsAsDir}
-use Rattle.rio_head.specs.declared.head.FileHead.{FileHead}
-use Rattle.rio_head.specs.declared.dir.DirRecord.{DirRecord}
+use Rattle.rio_head.specs.{Head.{head_at, BeginsAsHead}, Dir.{dir_at, BeginsAsDir}, declared.head.FileHead.{FileHead}, declared.dir.DirRecord.{DirRecord}}
 
 -- the first 100 bytes give the header, or its first fault, that all give
 abbrev pub HeadInFront : Type 0

@@ -1,7 +1,6 @@
 -- The names of the reasons against writing.
 use Rattle.std.specs.Prelude.{ℕ, List, codes}
-use Rattle.rio_head.specs.declared.reason.Reason.{Reason}
-use Rattle.rio_head.specs.declared.reason.Reason.TheVariants.{NotNew, LargeForm, NoChain, OtherDirectory, BadInfo, BadName, BadKey, BadObject, BadTree, DoubleKey, MixedName, TooMany, NoRoom, NotYet}
+use Rattle.rio_head.specs.declared.reason.Reason.{Reason, TheVariants.{NotNew, LargeForm, NoChain, OtherDirectory, BadInfo, BadName, BadKey, BadObject, BadTree, DoubleKey, MixedName, TooMany, NoRoom, NotYet}}
 
 abbrev pub name_of_reason : Reason → List ℕ
 name_of_reason NotNew = codes "NotNew"

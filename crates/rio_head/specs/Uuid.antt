@@ -1,10 +1,7 @@
 -- The identifier of a file.
 use Rattle.std.specs.Prelude.{ℕ, List, ◌∷◌, ◌++◌, take}
 use Rattle.sha1.specs.Sha1.{sha1}
-use Rattle.uuid.specs.Parts.{with_variant, with_version}
-use Rattle.uuid.specs.Uuid.{namespace_url}
-use Rattle.uuid.specs.declared.Variant.TheVariants.{RFC4122}
-use Rattle.uuid.specs.declared.Version.TheVariants.{Sha1}
+use Rattle.uuid.specs.{Parts.{with_variant, with_version}, Uuid.{namespace_url}, declared.Variant.TheVariants.{RFC4122}, declared.Version.TheVariants.{Sha1}}
 
 -- the UUID of version 5 of a name in the namespace of URLs
 abbrev pub url_uuid : List ℕ → List ℕ

@@ -1,11 +1,8 @@
 -- The one way in which a header and a directory record are written.
 use Rattle.std.specs.Prelude.{◌≡◌, ℕ, ◌^◌, ◌<◌, List, ◌++◌, replicate, codes, Ok, if◌then◌else◌}
 use Rattle.byteorder.specs.Endian.{big_bytes}
-use Rattle.rio_head.specs.Form.{place_len, is_large_head, is_large_dir}
-use Rattle.rio_head.specs.Head.{head_at, head_bytes, IsHead}
-use Rattle.rio_head.specs.Dir.{dir_at, dir_bytes, IsDir}
-use Rattle.rio_head.specs.declared.head.FileHead.{FileHead}
-use Rattle.rio_head.specs.declared.dir.DirRecord.{DirRecord}
+use Rattle.rio_head.specs.{Form.{place_len, is_large_head, is_large_dir}, Head.{head_at, head_bytes, IsHead}, Dir.{dir_at, dir_bytes, IsDir}}
+use Rattle.rio_head.specs.{declared.head.FileHead.{FileHead}, declared.dir.DirRecord.{DirRecord}}
 
 -- the fields of a header before its units, and those from there on
 abbrev pub front_bytes : FileHead → List ℕ

@@ -2,7 +2,8 @@
 //! kinds of faults of a file, the reasons against writing to it, and the identifier that its name gives it.
 //!
 //! A header and a directory record stand once, as descriptions (`specs/Head.antt`, `specs/Dir.antt`), of which reading,
-//! spelling and the first fault are three meanings. `specs/Written.antt` has what is written.
+//! spelling and the first fault are three meanings. `specs/Written.antt` has what is written. Its tests stand in
+//! `rio_rows`.
 #![tactic(auto)]
 
 mod dir;
@@ -24,6 +25,3 @@ pub use laws::{
 };
 pub use reason::Reason;
 pub use write::{write_dir, write_head};
-
-#[cfg(test)]
-mod tests;

@@ -1,20 +1,11 @@
 -- What one call more makes of a host in memory.
 use Rattle.std.proofs.Common.{◌≡◌, inl, inr, ℕ, ◌+◌, ◌≤◌, Option, Some, List, [], ◌∷◌, ◌++◌, length, length-append, length-take, take, min, subst, sym, refl, ap, ◌∙◌, arith}
-use Rattle.std.proofs.lemmas.Bool.{cases_lt}
-use Rattle.std.proofs.lemmas.List.{take_all, take-append-le, take-take, append-nil, append_cancel_left}
-use Rattle.std.proofs.lemmas.Option.{same_Some}
-use Rattle.rio_host.specs.Image.{Same}
-use Rattle.rio_host.specs.Host.{View, Elapses, After, OnDisk, Speaking, IsQuiet}
-use Rattle.rio_host.specs.Flight.{Flies, SaysInParts}
-use Rattle.rio_host.specs.declared.call.Call.{Call}
-use Rattle.rio_host.specs.declared.call.Call.TheVariants.{Sync, Saying, Said}
-use Rattle.rio_host.specs.declared.change.Change.{Change}
-use Rattle.rio_host.specs.declared.disk.Disk.{Disk}
+use Rattle.std.proofs.{lemmas.Bool.{cases_lt}, lemmas.List.{take_all, take-append-le, take-take, append-nil, append_cancel_left}, lemmas.Option.{same_Some}}
+use Rattle.rio_host.specs.{Image.{Same}, Host.{View, Elapses, After, OnDisk, Speaking, IsQuiet}, Flight.{Flies, SaysInParts}}
+use Rattle.rio_host.specs.{declared.call.Call.{Call, TheVariants.{Sync, Saying, Said}}, declared.change.Change.{Change}, declared.disk.Disk.{Disk}}
 use Rattle.rio_host.specs.Replay.{Makes, Flown, at_first, disk_behind, replay, MayLeave, Memory, and_then, disk_of, IsStill}
-use Rattle.rio_host.specs.ReplayLaws.{flown_push, makes_same, sound, left_now, now_left}
-use Rattle.rio_host.specs.Memory.{mem_view, text_now}
-use Rattle.rio_host.proofs.Kept.{disk_of-and_then}
-use Rattle.rio_host.proofs.Moments.{elapses_join}
+use Rattle.rio_host.specs.{ReplayLaws.{flown_push, makes_same, sound, left_now, now_left}, Memory.{mem_view, text_now}}
+use Rattle.rio_host.proofs.{Kept.{disk_of-and_then}, Moments.{elapses_join}}
 
 -- time goes on by one call
 pub elapses_call : (m : Memory) (call : Call) (m' : Memory) (d s r d' s' r' : ℕ) (R : List ℕ → List ℕ → Type 0) → m' ≡ and_then m call → ((image said : List ℕ) → MayLeave (disk_behind (disk_of m) call) image said → R image said)

@@ -2,9 +2,7 @@
 use Rattle.std.proofs.Common.{◌≡◌, ◌⊎◌, inl, inr, ℕ, zero, suc, ◌+◌, ◌<◌, ◌≤◌, List, [], ◌∷◌, ◌++◌, length, get_or, Option, Some, None, subst, sym, refl, ap, ◌∙◌, arith}
 use Rattle.std.proofs.lemmas.Option.{slice_get_within, slice_get-get_or, none-some, same_Some}
 use Rattle.std.specs.List.{slice_get}
-use Rattle.rio_host.specs.ImageLaws.{slice_get-append_left, slice_get-append_right}
-use Rattle.rio_host.specs.Image.{Has, Torn, Put, Same}
-use Rattle.rio_host.specs.Host.{Becomes}
+use Rattle.rio_host.specs.{ImageLaws.{slice_get-append_left, slice_get-append_right}, Image.{Has, Torn, Put, Same}, Host.{Becomes}}
 
 -- ---- bytes at places
 

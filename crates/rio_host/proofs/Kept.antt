@@ -1,11 +1,7 @@
 -- One call more joins those that are recorded, and what is kept is again that of the disk.
 use Rattle.std.proofs.Common.{◌≡◌, ℕ, List, [], ◌∷◌, ◌++◌, refl, sym, ◌∙◌, ap}
-use Rattle.rio_host.specs.declared.call.Call.{Call}
-use Rattle.rio_host.specs.declared.call.Call.TheVariants.{Write, FailedWrite, Sync, Saying, Said}
-use Rattle.rio_host.specs.declared.change.Change.{Change}
-use Rattle.rio_host.specs.declared.disk.Disk.{Disk}
-use Rattle.rio_host.specs.Replay.{put_by, at_first, disk_behind, replay, Memory, and_then, disk_of}
-use Rattle.rio_host.specs.Memory.{IsKept}
+use Rattle.rio_host.specs.{declared.call.Call.{Call, TheVariants.{Write, FailedWrite, Sync, Saying, Said}}, declared.change.Change.{Change}}
+use Rattle.rio_host.specs.{declared.disk.Disk.{Disk}, Replay.{put_by, at_first, disk_behind, replay, Memory, and_then, disk_of}, Memory.{IsKept}}
 
 replay_push : (d : Disk) (calls : List Call) (call : Call) → replay d (calls ++ call ∷ []) ≡ disk_behind (replay d calls) call
 replay_push d [] call = refl

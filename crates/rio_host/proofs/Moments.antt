@@ -1,7 +1,6 @@
 -- How a run of calls goes on: one line for each call.
 use Rattle.std.proofs.Common.{◌≡◌, ◌⊎◌, inl, inr, ⊎_elim, ℕ, List, Some, subst, sym, refl, ◌∙◌, arith}
-use Rattle.rio_host.specs.Image.{Torn, PutOrNot, Same}
-use Rattle.rio_host.specs.Host.{View, Leaves, Elapses, After, OnDisk, IsLawful, IsQuiet, Speaking}
+use Rattle.rio_host.specs.{Image.{Torn, PutOrNot, Same}, Host.{View, Leaves, Elapses, After, OnDisk, IsLawful, IsQuiet, Speaking}}
 
 -- what may be left, as images with their texts
 abbrev pub Outcomes : Type 1

@@ -1,14 +1,11 @@
 -- A text that is said piece by piece, with calls between that only look at the file.
 use Rattle.std.proofs.Common.{◌≡◌, ◌⊎◌, ◌++◌, ◌+◌, [], take, length, ap, inl, inr, ⊎_elim, ℕ, ◌≤◌, min, List, Option, Some, Result, Ok, Err, subst, sym, ◌∙◌, append_assoc, arith}
-use Rattle.std.proofs.lemmas.List.{append-nil, take_min, take-append-le}
-use Rattle.std.proofs.Math.Seq.{take-append-add}
+use Rattle.std.proofs.{lemmas.List.{append-nil, take_min, take-append-le}, Math.Seq.{take-append-add}}
 use Rattle.rio_host.specs.Host.{View, Leaves, Elapses, IsLawful, Speaking, Unwritten, Becomes, Longer, LongerByPart}
-use Rattle.rio_host.specs.OnlyReads.{Grown, OnlyReads, OnlySaysPieces, Pieces, Says, SaysPieces}
-use Rattle.rio_host.specs.Image.{Same}
-use Rattle.rio_host.proofs.Images.{becomes_as, becomes_join, becomes_some, same_becomes}
-use Rattle.rio_host.proofs.ReadsLaws.{reads_says, speaks_unwritten, said_grows, said_all}
+use Rattle.rio_host.specs.{OnlyReads.{Grown, OnlyReads, OnlySaysPieces, Pieces, Says, SaysPieces}, Image.{Same}}
+use Rattle.rio_host.proofs.{Images.{becomes_as, becomes_join, becomes_some, same_becomes}, ReadsLaws.{reads_says, speaks_unwritten, said_grows, said_all}}
 
-abbrev Texts : Type 0
+abbrev pub Texts : Type 0
 Texts = List ℕ → List ℕ
 
 -- how much of a text was said
@@ -29,7 +26,7 @@ reads_pieces {old} {new} calls =
       holds = calls.holds;
       images = says.images;
       text = says.text;
-      part = λ file told. becomes_as Same (Longer []) old.said new.said (λ x y same. same ∙ sym (append-nil x)) (same_becomes old.said new.said calls.said);
+      extent_said = λ file told. becomes_as Same (Longer []) old.said new.said (λ x y same. same ∙ sym (append-nil x)) (same_becomes old.said new.said calls.said);
       time = λ file said told text. says.time file told;
       reads = calls.reads;
       disk_faults = calls.disk_faults;
@@ -42,7 +39,7 @@ pieces_as {extent} {faults} {old} {new} f g same says = record {
   holds = says.holds;
   images = says.images;
   text = says.text;
-  part = λ file told. subst (λ (t : List ℕ). Becomes (extent t) old.said new.said) (same file told) (says.part file told);
+  extent_said = λ file told. subst (λ (t : List ℕ). Becomes (extent t) old.said new.said) (same file told) (says.extent_said file told);
   time = λ file said told text. subst (λ (t : List ℕ). Elapses old new (Speaking t old)) (same file told) (says.time file said told text);
   reads = says.reads;
   disk_faults = says.disk_faults;
@@ -55,7 +52,7 @@ pieces_part {old} {new} f says = record {
   holds = says.holds;
   images = says.images;
   text = says.text;
-  part = λ file told. said_all (f file) old.said new.said (says.part file told);
+  extent_said = λ file told. said_all (f file) old.said new.said (says.extent_said file told);
   time = says.time;
   reads = says.reads;
   disk_faults = says.disk_faults;
@@ -68,7 +65,7 @@ module _ {b c : View} (piece : List ℕ) (time : Elapses b c (Speaking piece b))
     holds = holds;
     images = speaks_unwritten piece time;
     text = grown;
-    part = λ file told. said;
+    extent_said = λ file told. said;
     time = λ file all told text. time;
     reads = omega (arith, reads);
     disk_faults = omega (arith, disk_faults);
@@ -137,7 +134,7 @@ module _ (a b c : View) (lawful_a : IsLawful a) (lawful_b : IsLawful b) where
       keeps = λ t i s le left. two.keeps t i s (omega (arith, le, one.later)) (one.keeps t i s le left);
     }
 
-grown_join : (a b c : Option (List ℕ)) → Becomes Grown a b → Becomes Grown b c → Becomes Grown a c
+pub grown_join : (a b c : Option (List ℕ)) → Becomes Grown a b → Becomes Grown b c → Becomes Grown a c
 grown_join a b c = becomes_join Grown Grown Grown a b c (λ x y z p q. (p.0 ++ q.0, q.1 ∙ ap (λ (t : List ℕ). t ++ q.0) p.1 ∙ append_assoc x p.0 q.0))
 
 longer_join : (f g : List ℕ) (a b c : Option (List ℕ)) → Becomes (Longer f) a b → Becomes (Longer g) b c → Becomes (Longer (f ++ g)) a c
@@ -162,7 +159,7 @@ part_front {a} {b} f g one = record {
   holds = one.holds;
   images = one.images;
   text = one.text;
-  part = λ file told. part_on (f file) (g file) a.said b.said (one.part file told);
+  extent_said = λ file told. part_on (f file) (g file) a.said b.said (one.extent_said file told);
   time = λ file said told text. speaks_on (f file) (g file) (one.time file said told text);
   reads = one.reads;
   disk_faults = one.disk_faults;
@@ -175,9 +172,9 @@ module _ {a b c : View} (f g : Texts) (lawful_a : IsLawful a) (lawful_b : IsLawf
     holds = two.holds ∙ one.holds;
     images = unwritten_join a b c lawful_a lawful_b one.images two.images;
     text = grown_join a.said b.said c.said one.text two.text;
-    part = said;
+    extent_said = said;
     time = λ file said told text.
-        let then = said_then (f file) said a.said b.said text (one.part file told) in
+        let then = said_then (f file) said a.said b.said text (one.extent_said file told) in
         time_join a b c lawful_a lawful_b (f file) (g file) said text then (one.time file said told text) (two.time file (said ++ f file) (one.holds ∙ told) then);
     reads = omega (arith, one.reads, two.reads);
     disk_faults = omega (arith, one.disk_faults, two.disk_faults);
@@ -187,12 +184,12 @@ module _ {a b c : View} (f g : Texts) (lawful_a : IsLawful a) (lawful_b : IsLawf
   -- all of one text and then all of another
   pub pieces_join : SaysPieces g b c → SaysPieces (λ file. f file ++ g file) a c
   pieces_join two =
-      join two (λ file told. longer_join (f file) (g file) a.said b.said c.said (one.part file told) (two.part file (one.holds ∙ told))) (two.say_faults ∙ one.say_faults)
+      join two (λ file told. longer_join (f file) (g file) a.said b.said c.said (one.extent_said file told) (two.extent_said file (one.holds ∙ told))) (two.say_faults ∙ one.say_faults)
 
   -- all of one text and then a front of another
   pub part_join : OnlySaysPieces g b c → OnlySaysPieces (λ file. f file ++ g file) a c
   part_join two =
-      join two (λ file told. longer_by_part_join (f file) (g file) a.said b.said c.said (one.part file told) (two.part file (one.holds ∙ told))) (omega (arith, one.say_faults, two.say_faults))
+      join two (λ file told. longer_by_part_join (f file) (g file) a.said b.said c.said (one.extent_said file told) (two.extent_said file (one.holds ∙ told))) (omega (arith, one.say_faults, two.say_faults))
 
 -- only looking says a front of any text
 pub reads_part : {old new : View} (f : Texts) → OnlyReads old new → OnlySaysPieces f old new

@@ -1,7 +1,6 @@
 -- Bytes that a file has at a place are a range of it.
 use Rattle.std.proofs.Common.{◌≡◌, ℕ, ◌+◌, ◌<◌, ◌≤◌, List, length, length-take, length-drop, take, drop, get_or, min, ap, sym, ◌∙◌, arith}
-use Rattle.std.proofs.lemmas.List.{take_min, ext_get_or, get_or-take, get_or-drop}
-use Rattle.std.proofs.lemmas.Option.{slice_get-get_or, get_or_from_slice_get}
+use Rattle.std.proofs.{lemmas.List.{take_min, ext_get_or, get_or-take, get_or-drop}, lemmas.Option.{slice_get-get_or, get_or_from_slice_get}}
 use Rattle.rio_host.specs.Image.{Has}
 
 pub has_range : (file : List ℕ) (place n : ℕ) (bytes : List ℕ) → length bytes ≡ n → place + n ≤ length file → Has file place bytes → bytes ≡ take n (drop place file)

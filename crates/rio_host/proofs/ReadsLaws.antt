@@ -1,8 +1,7 @@
 -- Calls that only look at the file, one after the other, and a say behind them.
 use Rattle.std.proofs.Common.{◌≡◌, ◌++◌, [], take, length, ap, inl, inr, ⊎_elim, ℕ, ◌≤◌, List, Option, Some, subst, sym, refl, ◌∙◌, arith}
 use Rattle.std.proofs.lemmas.List.{append-nil, take_all}
-use Rattle.rio_host.specs.Image.{Same}
-use Rattle.rio_host.specs.Host.{View, Leaves, Elapses, OnDisk, IsLawful, Rose, Speaking, Unwritten, Becomes, Longer, LongerByPart}
+use Rattle.rio_host.specs.{Image.{Same}, Host.{View, Leaves, Elapses, OnDisk, IsLawful, Rose, Speaking, Unwritten, Becomes, Longer, LongerByPart}}
 use Rattle.rio_host.specs.OnlyReads.{Grown, OnlyReads, OnlySays}
 use Rattle.rio_host.proofs.Images.{becomes_as, same_becomes}
 

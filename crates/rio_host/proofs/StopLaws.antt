@@ -1,17 +1,11 @@
 -- What a choice for each write in flight leaves is one of the images that a stop may leave.
 use Rattle.std.specs.Prelude.{◌≡◌, ℕ, ◌+◌, ◌-◌, ◌≤◌, min, List, [], ◌∷◌, ◌++◌, length, take, replicate}
-use Rattle.std.proofs.Common.{⊎_elim, inl, inr, refl, sym, subst, arith, length-append, length-take}
-use Rattle.std.proofs.lemmas.List.{length-replicate, take_min}
-use Rattle.rio_host.specs.declared.change.Change.{Change}
-use Rattle.rio_host.specs.declared.change.Change.TheVariants.{Range, Whole}
-use Rattle.rio_host.specs.declared.change.Remains.{Remains}
-use Rattle.rio_host.specs.declared.change.Remains.TheVariants.{Nothing, All, Front, Filled}
-use Rattle.rio_host.specs.Image.{Torn, Put}
-use Rattle.rio_host.specs.ImageLaws.{slice_get-append_left}
-use Rattle.rio_host.specs.declared.call.Call.{Call}
-use Rattle.rio_host.specs.declared.disk.Disk.{Disk}
-use Rattle.rio_host.specs.Replay.{Makes, Flown, at_first, replay, MayLeave, Memory, disk_after, LeftSince}
-use Rattle.rio_host.specs.ReplayLaws.{makes_same, put_at_put}
+use Rattle.std.proofs.{Common.{⊎_elim, inl, inr, refl, sym, subst, arith, length-append, length-take}, lemmas.List.{length-replicate, take_min}}
+use Rattle.byteorder.specs.Endian.{big_bytes}
+use Rattle.rio_host.specs.declared.change.Change.{Change, TheVariants.{Range, Whole}}
+use Rattle.rio_host.specs.{declared.change.Remains.{Remains, TheVariants.{Nothing, All, Front, Filled}}, Image.{Torn, Put}, ImageLaws.{slice_get-append_left}}
+use Rattle.rio_host.specs.{declared.call.Call.{Call}, declared.disk.Disk.{Disk}}
+use Rattle.rio_host.specs.{Replay.{Makes, Flown, at_first, replay, MayLeave, Memory, disk_after, LeftSince}, ReplayLaws.{makes_same, put_at_put}}
 use Rattle.rio_host.specs.Stops.{patched, left_by, left_image, IsLeft}
 
 pub patched_put : (file : List ℕ) (place : ℕ) (bytes : List ℕ) → Put place bytes file (patched file place bytes)
@@ -43,12 +37,12 @@ patched_torn file place n bytes le =
 left_by_makes : (remains : Remains) (change : Change) (file : List ℕ) → Makes change file (left_by remains change file)
 left_by_makes Nothing change file = makes_same change file
 left_by_makes All (Range place bytes) file = patched_torn file place (length bytes) bytes (omega arith)
-left_by_makes All (Whole place bytes) file = inr (patched_put file place bytes)
+left_by_makes All (Whole place word) file = inr (patched_put file place (big_bytes 4 word))
 left_by_makes (Front n) (Range place bytes) file = patched_torn file place (length bytes) (take n bytes) (omega (arith, length-take n bytes))
-left_by_makes (Front n) (Whole place bytes) file = inl refl
+left_by_makes (Front n) (Whole place word) file = inl refl
 left_by_makes (Filled byte) (Range place bytes) file =
     patched_torn file place (length bytes) (replicate (length bytes) byte) (omega (arith, length-replicate {A = ℕ} (length bytes) byte))
-left_by_makes (Filled byte) (Whole place bytes) file = inl refl
+left_by_makes (Filled byte) (Whole place word) file = inl refl
 
 flown_same : (base : List ℕ) (changes : List Change) → Flown base changes base
 flown_same base [] = refl

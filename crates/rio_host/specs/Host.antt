@@ -1,5 +1,5 @@
 -- What a host is to its callers, what a stop may leave of its disk, and what a call may do to both.
-use Rattle.std.specs.Prelude.{◌≡◌, ◌⊎◌, ℕ, ◌<◌, ◌≤◌, List, ◌++◌, length, take, Option, Some, None}
+use Rattle.std.specs.Prelude.{◌≡◌, ◌⊎◌, ℕ, ◌<◌, ◌≤◌, List, ◌++◌, length, take, Option, Some, None, Result, IsOk, IsErr}
 
 pub record View : Type 1 where
   -- the bytes that reads give, where told
@@ -61,6 +61,9 @@ abbrev pub Becomes : (List ℕ → List ℕ → Type 0) → Option (List ℕ) �
 Becomes change (Some old) after = (new : List ℕ) × (after ≡ Some new) × change old new
 Becomes change None after = after ≡ None
 
+abbrev pub Any : List ℕ → List ℕ → Type 0
+Any old new = Unit {0}
+
 -- where the bytes are told, the place is within them or at their end
 abbrev pub IsWithin : View → ℕ → Type 0
 IsWithin v place = (bytes : List ℕ) → v.holds ≡ Some bytes → place ≤ length bytes
@@ -81,6 +84,11 @@ LongerByPart bytes old new = (k : ℕ) × (new ≡ old ++ take k bytes)
 abbrev pub Rose : ℕ → ℕ → Type 0
 Rose old new = (old ≤ new) × ((old < new) ⊎ (new ≡ 18446744073709551615))
 
+-- A call on the file failed where this call fails, and only there.
+pub record IsDiskCause {X E : Type 0} (old new : View) (result : Result X E) : Type 0 where
+  pub counted : IsOk result → new.disk_faults ≡ old.disk_faults
+  pub rose : IsErr result → Rose old.disk_faults new.disk_faults
+
 -- ---- calls on the file
 
 -- A call on the file that answered. It changes what reads give, and each image that a stop may leave, in no other way than this.
@@ -89,4 +97,11 @@ pub record OnDisk (change : List ℕ → List ℕ → Type 0) (old new : View) :
   pub told : Becomes change old.holds new.holds
   pub said : new.said ≡ old.said
   pub disk_faults : old.disk_faults ≤ new.disk_faults
+  pub say_faults : new.say_faults ≡ old.say_faults
+
+-- Calls that write the file or bring it to the disk, neither look at it nor say a text.
+pub record OnlyWrites (old new : View) : Type 0 where
+  pub told : Becomes Any old.holds new.holds
+  pub said : new.said ≡ old.said
+  pub reads : new.reads ≡ old.reads
   pub say_faults : new.say_faults ≡ old.say_faults

@@ -1,8 +1,7 @@
 -- Elements of lists that are joined and cut, and that a put is one.
 use Rattle.std.specs.Prelude.{◌≡◌, ℕ, zero, suc, ◌+◌, ◌-◌, ◌≤◌, ◌<◌, List, [], ◌∷◌, ◌++◌, length, take, drop, Some, slice_get}
-use Rattle.std.proofs.Common.{⊎_elim, refl, ◌∙◌, ap, arith, length-append, length-take, length-drop}
-use Rattle.std.proofs.lemmas.Option.{none-some}
-use Rattle.rio_host.specs.Image.{Put}
+use Rattle.std.proofs.{Common.{⊎_elim, refl, ◌∙◌, ap, arith, length-append, length-take, length-drop}, lemmas.Option.{none-some}}
+use Rattle.rio_host.specs.{Image.{Put}, Replay.{spliced}}
 
 pub slice_get-append_left : (front back : List ℕ) (i x : ℕ) → slice_get front i ≡ Some x → slice_get (front ++ back) i ≡ Some x
 slice_get-append_left [] back i x at = absurd (none-some x at)
@@ -25,10 +24,6 @@ slice_get-drop zero i k l is = ap (λ (m : ℕ). slice_get l m) (let e : i ≡ k
 slice_get-drop (suc n) i k [] is = refl
 slice_get-drop (suc n) i zero (x ∷ l) is = absurd (omega arith)
 slice_get-drop (suc n) i (suc k) (x ∷ l) is = slice_get-drop n i k l (omega arith)
-
--- the file with these bytes at this place
-abbrev pub spliced : List ℕ → ℕ → List ℕ → List ℕ
-spliced file place bytes = take place file ++ (bytes ++ drop (place + length bytes) file)
 
 pub spliced_put : (file : List ℕ) (place : ℕ) (bytes : List ℕ) → place ≤ length file → Put place bytes file (spliced file place bytes)
 spliced_put file place bytes le = record {

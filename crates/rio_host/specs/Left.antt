@@ -1,10 +1,6 @@
 -- What a stop leaves of a small file in memory.
 use Rattle.std.specs.Prelude.{List, [], ◌∷◌}
-use Rattle.byteorder.specs.Endian.{big_bytes}
-use Rattle.rio_host.specs.Host.{View}
-use Rattle.rio_host.specs.Memory.{mem_view}
-use Rattle.rio_host.specs.declared.call.Call.{Call}
-use Rattle.rio_host.specs.declared.call.Call.TheVariants.{Write, FailedWrite, Sync, Saying, Said}
+use Rattle.rio_host.specs.{Host.{View}, Memory.{mem_view}, declared.call.Call.{Call, TheVariants.{Write, FailedWrite, Sync, Saying, Said}}}
 use Rattle.rio_host.specs.declared.change.Change.TheVariants.{Range, Whole}
 
 -- a host in memory with four zero bytes, after these calls
@@ -21,7 +17,7 @@ failed = FailedWrite (Range 3 (1 ∷ 2 ∷ 3 ∷ [])) ∷ []
 
 -- the word 01020304 at place 0
 abbrev pub word_written : List Call
-word_written = Write (Whole 0 (big_bytes 4 16909060)) ∷ []
+word_written = Write (Whole 0 16909060) ∷ []
 
 -- the text 7, 8
 abbrev pub said : List Call

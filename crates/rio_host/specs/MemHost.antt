@@ -1,10 +1,6 @@
 -- A host in memory, and which of its calls fail.
 use Rattle.std.specs.Prelude.{◌≡◌, ◌⊎◌, ℕ, List, [], ◌∷◌, ◌++◌}
-use Rattle.rio_host.specs.Host.{View}
-use Rattle.rio_host.specs.Failing.{Tally, RanShort}
-use Rattle.rio_host.specs.Memory.{mem_view}
-use Rattle.rio_host.specs.Replay.{Memory}
-use Rattle.rio_host.specs.declared.memory.MemHost.{MemHost}
+use Rattle.rio_host.specs.{Host.{View}, Failing.{Tally, RanShort}, Memory.{mem_view}, Replay.{Memory}, declared.memory.MemHost.{MemHost}}
 
 abbrev pub memory_of : MemHost → Memory
 memory_of h = h.recording

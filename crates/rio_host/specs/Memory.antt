@@ -1,12 +1,8 @@
 -- A host in memory as its callers see it, and that it is lawful.
 use Rattle.std.specs.Prelude.{◌≡◌, ℕ, List, [], ◌++◌, length, take, Some, Option, None}
-use Rattle.std.proofs.Common.{refl, sym, ◌∙◌, ap, subst, arith}
-use Rattle.std.proofs.lemmas.List.{take_all, append-nil}
-use Rattle.std.proofs.lemmas.Option.{same_Some}
+use Rattle.std.proofs.{Common.{refl, sym, ◌∙◌, ap, subst, arith}, lemmas.List.{take_all, append-nil}, lemmas.Option.{same_Some}}
 use Rattle.rio_num.specs.Room.{Room}
-use Rattle.rio_host.specs.Host.{View, IsLawful}
-use Rattle.rio_host.specs.Replay.{Flown, Memory, at_first, disk_of, LeftSince, IsStill}
-use Rattle.rio_host.specs.ReplayLaws.{sound, left_now, now_left}
+use Rattle.rio_host.specs.{Host.{View, IsLawful}, Replay.{Flown, Memory, at_first, disk_of, LeftSince, IsStill}, ReplayLaws.{sound, left_now, now_left}}
 
 abbrev pub mem_view : Memory → ℕ → ℕ → ℕ → View
 mem_view m disk_faults say_faults reads = record {

@@ -35,7 +35,7 @@ pub record Pieces (extent : List ℕ → List ℕ → List ℕ → Type 0) (faul
   pub holds : new.holds ≡ old.holds
   pub images : Unwritten old new
   pub text : Becomes Grown old.said new.said
-  pub part : (file : List ℕ) → old.holds ≡ Some file → Becomes (extent (text_of file)) old.said new.said
+  pub extent_said : (file : List ℕ) → old.holds ≡ Some file → Becomes (extent (text_of file)) old.said new.said
   pub time : (file said : List ℕ) → old.holds ≡ Some file → old.said ≡ Some said → Elapses old new (Speaking (text_of file) old)
   pub reads : old.reads ≤ new.reads
   pub disk_faults : old.disk_faults ≤ new.disk_faults

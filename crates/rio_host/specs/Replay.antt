@@ -1,26 +1,23 @@
 -- The calls of a host in memory, done again: what the disk holds, and what a stop may leave of it.
 use Rattle.std.specs.Prelude.{◌≡◌, ℕ, ◌+◌, ◌≤◌, nat_le, if◌then◌else◌, List, [], ◌∷◌, ◌++◌, length, take, drop}
-use Rattle.rio_host.specs.Image.{Torn, Put, PutOrNot}
-use Rattle.rio_host.specs.declared.change.Change.{Change}
-use Rattle.rio_host.specs.declared.change.Change.TheVariants.{Range, Whole}
-use Rattle.rio_host.specs.declared.disk.Disk.{Disk}
-use Rattle.rio_host.specs.declared.call.Call.{Call}
-use Rattle.rio_host.specs.declared.call.Call.TheVariants.{Write, FailedWrite, Sync, Saying, Said}
+use Rattle.byteorder.specs.Endian.{big_bytes}
+use Rattle.rio_host.specs.{Image.{Torn, Put, PutOrNot}, declared.change.Change.{Change, TheVariants.{Range, Whole}}, declared.disk.Disk.{Disk}}
+use Rattle.rio_host.specs.declared.call.Call.{Call, TheVariants.{Write, FailedWrite, Sync, Saying, Said}}
 
 -- a stop may leave the first file as the second, by a write in flight
 abbrev pub Makes : Change → List ℕ → List ℕ → Type 0
 Makes (Range place bytes) = Torn place (length bytes)
-Makes (Whole place bytes) = PutOrNot place bytes
+Makes (Whole place word) = PutOrNot place (big_bytes 4 word)
 
 -- where it writes
 abbrev pub change_start : Change → ℕ
 change_start (Range place bytes) = place
-change_start (Whole place bytes) = place
+change_start (Whole place word) = place
 
 -- the second file is the first with all of it
 abbrev pub ChangeDone : Change → List ℕ → List ℕ → Type 0
 ChangeDone (Range place bytes) = Put place bytes
-ChangeDone (Whole place bytes) = Put place bytes
+ChangeDone (Whole place word) = Put place (big_bytes 4 word)
 
 -- an image that these changes may make of the base, the first of them first
 abbrev pub Flown : List ℕ → List Change → List ℕ → Type 0
@@ -28,13 +25,17 @@ Flown base [] image = image ≡ base
 Flown base (change ∷ changes) image = (next : List ℕ) × Makes change base next × Flown next changes image
 
 -- the file with these bytes at this place, which is within it or at its end
+abbrev pub spliced : List ℕ → ℕ → List ℕ → List ℕ
+spliced file place bytes = take place file ++ (bytes ++ drop (place + length bytes) file)
+
+-- the same, and nothing is put where the file ends before
 abbrev pub put_at : List ℕ → ℕ → List ℕ → List ℕ
-put_at file place bytes = if nat_le place (length file) then take place file ++ (bytes ++ drop (place + length bytes) file) else file
+put_at file place bytes = if nat_le place (length file) then spliced file place bytes else file
 
 -- the file with the bytes of this write
 abbrev pub put_by : Change → List ℕ → List ℕ
 put_by (Range place bytes) file = put_at file place bytes
-put_by (Whole place bytes) file = put_at file place bytes
+put_by (Whole place word) file = put_at file place (big_bytes 4 word)
 
 abbrev pub at_first : List ℕ → Disk
 at_first first = record { base = first; flight = []; contents = first; text = []; speaking = [] }

@@ -1,17 +1,11 @@
 -- What holds of calls that are done again.
 use Rattle.std.specs.Prelude.{◌≡◌, ℕ, ◌≤◌, ◌<◌, List, [], ◌∷◌, ◌++◌, length}
-use Rattle.std.proofs.Common.{inl, inr, refl, sym, subst, arith}
-use Rattle.std.proofs.lemmas.List.{take_all}
-use Rattle.std.proofs.lemmas.Bool.{cases_lt}
-use Rattle.std.proofs.lemmas.Bool.Decides.{nat_tests}
-use Rattle.rio_host.specs.ImageLaws.{spliced, spliced_put}
-use Rattle.rio_host.specs.Image.{Torn, Put, PutOrNot}
-use Rattle.rio_host.specs.declared.call.Call.{Call}
-use Rattle.rio_host.specs.declared.call.Call.TheVariants.{Write, FailedWrite, Sync, Saying, Said}
-use Rattle.rio_host.specs.declared.change.Change.{Change}
-use Rattle.rio_host.specs.declared.change.Change.TheVariants.{Range, Whole}
-use Rattle.rio_host.specs.declared.disk.Disk.{Disk}
-use Rattle.rio_host.specs.Replay.{Makes, ChangeDone, change_start, Flown, put_at, put_by, at_first, disk_behind, replay, MayLeave, Memory, disk_of, LeftSince}
+use Rattle.std.proofs.{Common.{inl, inr, refl, sym, subst, arith}, lemmas.List.{take_all}, lemmas.Bool.{cases_lt, Decides.{nat_tests}}}
+use Rattle.byteorder.specs.Endian.{big_bytes}
+use Rattle.rio_host.specs.{ImageLaws.{spliced_put}, Image.{Torn, Put, PutOrNot}}
+use Rattle.rio_host.specs.declared.call.Call.{Call, TheVariants.{Write, FailedWrite, Sync, Saying, Said}}
+use Rattle.rio_host.specs.{declared.change.Change.{Change, TheVariants.{Range, Whole}}, declared.disk.Disk.{Disk}}
+use Rattle.rio_host.specs.Replay.{Makes, ChangeDone, change_start, Flown, put_at, put_by, spliced, at_first, disk_behind, replay, MayLeave, Memory, disk_of, LeftSince}
 
 -- one change more
 pub flown_push : (base : List ℕ) (changes : List Change) (change : Change) (next image : List ℕ) → Flown base changes next → Makes change next image → Flown base (changes ++ change ∷ []) image
@@ -30,7 +24,7 @@ put_at_put file place bytes le = subst (λ (l : List ℕ). Put place bytes file 
 -- each change may leave the file as it was
 pub makes_same : (change : Change) (file : List ℕ) → Makes change file file
 makes_same (Range place bytes) file = record { outside = λ i x out at. at; no_shorter = omega arith; no_longer = omega arith }
-makes_same (Whole place bytes) file = inl refl
+makes_same (Whole place word) file = inl refl
 
 put_at_torn : (file : List ℕ) (place : ℕ) (bytes : List ℕ) → Torn place (length bytes) file (put_at file place bytes)
 put_at_torn file place bytes = elim (cases_lt (length file) place) [
@@ -48,11 +42,11 @@ put_at_whole file place bytes = elim (cases_lt (length file) place) [
 -- a write that is done is one of what may be left of it
 pub put_by_makes : (change : Change) (file : List ℕ) → Makes change file (put_by change file)
 put_by_makes (Range place bytes) file = put_at_torn file place bytes
-put_by_makes (Whole place bytes) file = put_at_whole file place bytes
+put_by_makes (Whole place word) file = put_at_whole file place (big_bytes 4 word)
 
 pub put_by_puts : (change : Change) (file : List ℕ) → change_start change ≤ length file → ChangeDone change file (put_by change file)
 put_by_puts (Range place bytes) file within = put_at_put file place bytes within
-put_by_puts (Whole place bytes) file within = put_at_put file place bytes within
+put_by_puts (Whole place word) file within = put_at_put file place (big_bytes 4 word) within
 
 -- what reads give is one of the images
 sound_step : (d : Disk) (call : Call) → Flown d.base d.flight d.contents → Flown (disk_behind d call).base (disk_behind d call).flight (disk_behind d call).contents

@@ -1,8 +1,5 @@
 -- Inputs in memory, and which reads fail.
-use Rattle.rio_host.specs.Source.{Input}
-use Rattle.rio_host.specs.SourceTold.{told_input}
-use Rattle.rio_host.specs.Failing.{Tally}
-use Rattle.rio_host.specs.declared.sources.MemSource.{MemSource}
+use Rattle.rio_host.specs.{Source.{Input}, SourceTold.{told_input}, Failing.{Tally}, declared.sources.MemSource.{MemSource}}
 use Rattle.rio_host.specs.declared.sources.SureSource.{SureSource}
 
 abbrev pub input_of : MemSource → Input

@@ -1,11 +1,8 @@
 -- One image that a stop leaves, by a choice for each write in flight.
 use Rattle.std.specs.Prelude.{◌≡◌, ℕ, ◌-◌, List, [], ◌∷◌, ◌++◌, length, take, replicate}
-use Rattle.rio_host.specs.declared.change.Change.{Change}
-use Rattle.rio_host.specs.declared.change.Change.TheVariants.{Range, Whole}
-use Rattle.rio_host.specs.declared.change.Remains.{Remains}
-use Rattle.rio_host.specs.declared.change.Remains.TheVariants.{Nothing, All, Front, Filled}
-use Rattle.rio_host.specs.declared.disk.Disk.{Disk}
-use Rattle.rio_host.specs.Replay.{put_at}
+use Rattle.byteorder.specs.Endian.{big_bytes}
+use Rattle.rio_host.specs.declared.change.Change.{Change, TheVariants.{Range, Whole}}
+use Rattle.rio_host.specs.{declared.change.Remains.{Remains, TheVariants.{Nothing, All, Front, Filled}}, declared.disk.Disk.{Disk}, Replay.{put_at}}
 
 -- the file with these bytes at any place, and zero bytes between where it ends before
 abbrev pub patched : List ℕ → ℕ → List ℕ → List ℕ
@@ -15,11 +12,11 @@ patched file place bytes = put_at (file ++ replicate (place - length file) 0) pl
 abbrev pub left_by : Remains → Change → List ℕ → List ℕ
 left_by Nothing change file = file
 left_by All (Range place bytes) file = patched file place bytes
-left_by All (Whole place bytes) file = patched file place bytes
+left_by All (Whole place word) file = patched file place (big_bytes 4 word)
 left_by (Front n) (Range place bytes) file = patched file place (take n bytes)
-left_by (Front n) (Whole place bytes) file = file
+left_by (Front n) (Whole place word) file = file
 left_by (Filled byte) (Range place bytes) file = patched file place (replicate (length bytes) byte)
-left_by (Filled byte) (Whole place bytes) file = file
+left_by (Filled byte) (Whole place word) file = file
 
 -- the same of these writes, one after the other; nothing remains of one without a choice
 abbrev pub left_image : List ℕ → List Change → List Remains → List ℕ

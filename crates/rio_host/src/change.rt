@@ -1,16 +1,16 @@
-//! A write in flight, and what a stop leaves of it.
+//! A write, as a call asked for it, and what a stop leaves of it while it is in flight.
 ghost use Rattle.std.specs.Prelude.{◌≡◌, IfOk};
 
 use rio_num::{Bytes, Items, NoMemory};
 use std::alloc::Global;
 
-/// A write that no sync has brought to the disk yet.
+/// A write, as a call asked for it.
 #[derive(Debug, Drop)]
 pub enum Change {
-    /// Bytes, of which a stop may leave any part with any other bytes in their range.
+    /// Bytes, of which a stop before the next sync may leave any part, with any other bytes in their range.
     Range { place: u64, bytes: Items<u8> },
-    /// A word, of which a stop leaves all or nothing.
-    Whole { place: u64, bytes: Items<u8> },
+    /// A word of four bytes, of which a stop leaves all or nothing.
+    Whole { place: u64, word: u32 },
 }
 
 impl Change {
@@ -23,9 +23,9 @@ impl Change {
                 place: *place,
                 bytes: Items::from_slice(alloc, bytes.as_slice())?,
             },
-            Change::Whole { place, bytes } => Change::Whole {
+            Change::Whole { place, word } => Change::Whole {
                 place: *place,
-                bytes: Items::from_slice(alloc, bytes.as_slice())?,
+                word: *word,
             },
         })
     }

@@ -31,8 +31,7 @@ fn put_over(file: &mut [u8], place: usize, bytes: &[u8])
 
 impl Contents {
     ghost use Rattle.std.specs.Prelude.{◌≡◌, ◌≤◌, ◌<◌, ◌-◌, ◌++◌, [], length, replicate, OnOk, OnErr, IfOk};
-    ghost use Rattle.rio_host.specs.ImageLaws.{spliced};
-    ghost use Rattle.rio_host.specs.Replay.{put_at, put_by};
+    ghost use Rattle.rio_host.specs.Replay.{put_at, put_by, spliced};
     ghost use Rattle.rio_host.specs.Stops.{left_by, patched};
 
     /// No bytes.
@@ -94,9 +93,8 @@ impl Contents {
         ensures err { OnErr result (self.new ≡ self.old) }
     {
         match change {
-            Change::Range { place, bytes } | Change::Whole { place, bytes } => {
-                self.put(*place, bytes.as_slice())
-            }
+            Change::Range { place, bytes } => self.put(*place, bytes.as_slice()),
+            Change::Whole { place, word } => self.put(*place, &word.to_be_bytes()),
         }
     }
 
@@ -137,8 +135,9 @@ impl Contents {
     {
         match (remains, change) {
             (Remains::Nothing, _) => Ok(()),
-            (Remains::All, Change::Range { place, bytes } | Change::Whole { place, bytes }) => {
-                self.patch(*place, bytes.as_slice())
+            (Remains::All, Change::Range { place, bytes }) => self.patch(*place, bytes.as_slice()),
+            (Remains::All, Change::Whole { place, word }) => {
+                self.patch(*place, &word.to_be_bytes())
             }
             (Remains::Front(n), Change::Range { place, bytes }) => {
                 let bytes = bytes.as_slice();

@@ -270,10 +270,7 @@ impl Host for MemHost {
             (Flies (PutOrNot place (big_bytes 4 word)) (view_of self.old) (view_of self.new))
             (tally_of self.old) (tally_of self.new) result }
     {
-        match Items::from_slice(self.writes.allocator(), &word.to_be_bytes()) {
-            Ok(bytes) => self.put(Change::Whole { place, bytes }),
-            Err(NoMemory) => Err(self.run_short()),
-        }
+        self.put(Change::Whole { place, word })
     }
 
     fn sync(&mut self) -> Result<(), Failed>
@@ -349,57 +346,133 @@ impl Host for MemHost {
 #[cfg(test)]
 mod tests {
     use super::*;
-    use std::test::Fail;
 
-    // The file of eight bytes: a word whole or not, bytes in part, a hole where the file was not
-    // made longer.
-    #[test]
-    fn leaves_what_the_choices_say(rt: HostRuntime) -> Result<(), Fail> {
-        let image = Bytes::from_slice(rt.alloc(), b"abcdefgh")?;
-        let failing = Numbers::from_slice(rt.alloc(), &[2])?;
-        let mut host = MemHost::new(rt.alloc(), image, failing);
-        host.write(8, b"ij")?;
-        host.write_word(4, 0x3031_3233)?;
-        assert!(rt; host.write(10, b"kl").is_err());
-        host.say(b"one")?;
-        host.sync()?;
-        assert_eq!(rt; host.moment(), 6);
+    // A host of a file of eight bytes, of which these calls fail.
+    fn failing_host(alloc: Global, failing: &[u64]) -> Result<MemHost, NoMemory> {
+        let failing = Numbers::from_slice(alloc, failing)?;
+        let image = Bytes::from_slice(alloc, b"abcdefgh")?;
+        Ok(MemHost::new(alloc, image, failing))
+    }
 
-        let lost = [Remains::Nothing, Remains::All, Remains::All];
-        let left = host.left(4, &lost, 2)?;
-        assert_eq!(rt; left.image.as_slice(), b"abcd0123\0\0kl".as_slice());
-        assert_eq!(rt; left.said.as_slice(), b"on".as_slice());
-        let torn = [Remains::Front(1), Remains::Front(4), Remains::Filled(b'?')];
-        let left = host.left(5, &torn, 9)?;
-        assert_eq!(rt; left.image.as_slice(), b"abcdefghi\0??".as_slice());
-        assert_eq!(rt; left.said.as_slice(), b"one".as_slice());
-        assert_eq!(rt;
-            host.left(1, &[], 0)?.image.as_slice(),
-            b"abcdefgh".as_slice()
-        );
-        let left = host.left(9, &lost, 0)?;
-        assert_eq!(rt; left.image.as_slice(), b"abcd0123ij".as_slice());
-        Ok(())
+    // What a stop at a moment leaves, where this remains of the writes in flight, and so many bytes of
+    // what is being said.
+    struct Stop {
+        moment: u64,
+        remains: &'static [Remains],
+        front: u64,
+        image: &'static [u8],
+        said: &'static [u8],
+    }
+
+    // A word whole or not, bytes in part, a hole where the file was not made longer.
+    static STOPS: [Stop; 4] = [
+        Stop {
+            moment: 4,
+            remains: &[Remains::Nothing, Remains::All, Remains::All],
+            front: 2,
+            image: b"abcd0123\0\0kl",
+            said: b"on",
+        },
+        Stop {
+            moment: 5,
+            remains: &[Remains::Front(1), Remains::Front(4), Remains::Filled(b'?')],
+            front: 9,
+            image: b"abcdefghi\0??",
+            said: b"one",
+        },
+        Stop {
+            moment: 1,
+            remains: &[],
+            front: 0,
+            image: b"abcdefgh",
+            said: b"",
+        },
+        Stop {
+            moment: 9,
+            remains: &[Remains::Nothing, Remains::All, Remains::All],
+            front: 0,
+            image: b"abcd0123ij",
+            said: b"one",
+        },
+    ];
+
+    fn does_write(host: &mut MemHost) -> bool {
+        host.image().len() == 8
+            && host.write(8, b"ij").is_ok()
+            && host.write_word(4, 0x3031_3233).is_ok()
+            && host.write(10, b"kl").is_err()
+            && host.say(b"one").is_ok()
+            && host.sync().is_ok()
+            && host.moment() == 6
+    }
+
+    fn leaves(host: &MemHost, stop: &Stop) -> bool {
+        match host.left(stop.moment, stop.remains, stop.front) {
+            Ok(left) => left.image.as_slice() == stop.image && left.said.as_slice() == stop.said,
+            Err(_) => false,
+        }
+    }
+
+    // How many rows hold, up to the first that doesn't.
+    fn count_stops(host: &MemHost) -> usize {
+        for (k, stop) in STOPS.iter().enumerate() {
+            if !leaves(host, stop) {
+                return k;
+            }
+        }
+        STOPS.len()
+    }
+
+    fn stops_that_hold(host: &mut MemHost) -> usize {
+        if does_write(host) {
+            count_stops(host)
+        } else {
+            0
+        }
+    }
+
+    fn stops_of_a_file(alloc: Global) -> usize {
+        match failing_host(alloc, &[2]) {
+            Ok(mut host) => stops_that_hold(&mut host),
+            Err(_) => 0,
+        }
     }
 
     #[test]
-    fn fails_at_its_numbers(rt: HostRuntime) -> Result<(), Fail> {
-        let image = Bytes::from_slice(rt.alloc(), b"abcdefgh")?;
-        let failing = Numbers::from_slice(rt.alloc(), &[1, 4, 7])?;
-        let mut host = MemHost::new(rt.alloc(), image, failing);
-        assert_eq!(rt; host.length()?, 8);
-        assert!(rt; host.write(0, b"no").is_err());
-        host.write(6, b"xyz")?;
-        host.write_word(4, 0x3031_3233)?;
-        assert!(rt; host.sync().is_err());
-        host.sync()?;
-        host.say(b"one ")?;
-        assert!(rt; host.say(b"more").is_err());
-        assert_eq!(rt; host.image(), b"abcd0123z".as_slice());
-        assert_eq!(rt; host.said().as_slice(), b"one mo".as_slice());
-        assert_eq!(rt; host.made, 8);
-        assert_eq!(rt; host.shortages, 0);
-        assert_eq!(rt; host.writes(), [1, 2, 3].as_slice());
-        Ok(())
+    fn leaves_what_the_choices_say(rt: HostRuntime) {
+        assert_eq!(rt; stops_of_a_file(rt.alloc()), STOPS.len());
+    }
+
+    // Whether the second call fails, the fifth and the last.
+    fn does_fail(host: &mut MemHost) -> bool {
+        host.length() == Ok(8)
+            && host.write(0, b"no").is_err()
+            && host.write(6, b"xyz").is_ok()
+            && host.write_word(4, 0x3031_3233).is_ok()
+            && host.sync().is_err()
+            && host.sync().is_ok()
+            && host.say(b"one ").is_ok()
+            && host.say(b"more").is_err()
+    }
+
+    // Nothing of a write that fails is in the file, and a say that fails says its first half.
+    fn has_done(host: &MemHost) -> bool {
+        host.image() == b"abcd0123z".as_slice()
+            && host.said().as_slice() == b"one mo".as_slice()
+            && host.made == 8
+            && host.shortages == 0
+            && host.writes() == [1, 2, 3].as_slice()
+    }
+
+    fn fails(alloc: Global) -> bool {
+        match failing_host(alloc, &[1, 4, 7]) {
+            Ok(mut host) => does_fail(&mut host) && has_done(&host),
+            Err(_) => false,
+        }
+    }
+
+    #[test]
+    fn fails_at_its_numbers(rt: HostRuntime) {
+        assert!(rt; fails(rt.alloc()));
     }
 }

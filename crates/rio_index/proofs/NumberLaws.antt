@@ -1,14 +1,12 @@
 -- The number of an entry's basket, found from a basket on that isn't behind it, and by the entries that each basket has.
 use Rattle.std.proofs.Common.{◌≡◌, ℕ, zero, suc, ◌+◌, ◌-◌, ◌<◌, ◌≤◌, List, [], ◌∷◌, length, take, drop, Bool, true, false, cond, leb, nat_le, Option, Some, refl, sym, ap, subst, ◌∙◌, arith}
+use Rattle.std.proofs.{lemmas.Bool.{le-leb}, lemmas.List.{drop-drop, length-drop, take_all}}
 use Rattle.std.specs.List.{prefix_len}
-use Rattle.std.proofs.lemmas.Bool.{le-leb}
-use Rattle.std.proofs.lemmas.List.{drop-drop, length-drop, take_all}
-use Rattle.rio_tree_head.specs.Index.{IsIndex, basket_number}
-use Rattle.rio_tree_head.specs.declared.basket_at.BasketAt.{BasketAt}
+use Rattle.rio_tree_head.specs.{Index.{IsIndex, basket_number}, declared.basket_at.BasketAt.{BasketAt}}
 use Rattle.rio_index.specs.Index.{basket_holding}
 use Rattle.rio_index.proofs.IndexLaws.{holds, passed}
 
-abbrev begins_by : ℕ → BasketAt → Bool
+abbrev pub begins_by : ℕ → BasketAt → Bool
 begins_by e at = nat_le at.first e
 
 -- ---- from one on

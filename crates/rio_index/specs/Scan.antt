@@ -4,16 +4,10 @@ use Rattle.std.specs.Option.{option_map}
 use Rattle.rio_leaf.specs.declared.branch.BranchDef.{BranchDef}
 use Rattle.rio_types.specs.declared.class.ClassDef.{ClassDef}
 use Rattle.rio_value.specs.declared.value.Value.{Value}
-use Rattle.rio_entry.specs.Rows.{broken_branch, row_in}
-use Rattle.rio_entry.specs.declared.fault.EntryFault.{EntryFault}
-use Rattle.rio_tree_head.specs.Index.{IsIndex, basket_counts}
-use Rattle.rio_tree_head.specs.declared.basket_at.BasketAt.{BasketAt}
-use Rattle.rio_tree_head.specs.declared.head.Branch.{Branch}
-use Rattle.rio_tree_head.specs.declared.head.TreeHead.{TreeHead}
-use Rattle.rio_tree_head.specs.declared.refusal.BranchRefusal.{BranchRefusal}
-use Rattle.rio_index.specs.Index.{basket_holding}
-use Rattle.rio_index.specs.declared.lane.Held.{Held}
-use Rattle.rio_index.specs.declared.lane.Lane.{Lane}
+use Rattle.rio_entry.specs.{Rows.{broken_branch, row_in}, declared.fault.EntryFault.{EntryFault}}
+use Rattle.rio_tree_head.specs.{Index.{IsIndex, basket_counts}, declared.basket_at.BasketAt.{BasketAt}, declared.head.Branch.{Branch}}
+use Rattle.rio_tree_head.specs.{declared.head.TreeHead.{TreeHead}, declared.refusal.BranchRefusal.{BranchRefusal}}
+use Rattle.rio_index.specs.{Index.{basket_holding}, declared.lane.Held.{Held}, declared.lane.Lane.{Lane}}
 
 -- A scan: the header of the tree, what the scan has of each of its branches, and the number of the next row.
 pub record RowScan : Type 0 where

@@ -4,7 +4,7 @@
 //! basket that holds an entry, by a search that halves the list; [`basket_from`] tells it to one that goes over the entries,
 //! from the basket of an earlier entry on. A [`Scanner`] holds one basket of each branch, tells which basket it wants next,
 //! and reads row after row of those that it is given. `specs/Index.antt` has which basket holds an entry, `specs/Scan.antt`
-//! what a scan holds and wants and its next row, `specs/Given.antt` what a call returns.
+//! what a scan holds and wants and its next row, `specs/Given.antt` what a call returns. Its tests stand in `rio_rows`.
 #![tactic(auto)]
 
 mod lane;
@@ -15,6 +15,3 @@ mod search;
 pub use lane::{Held, Lane};
 pub use scanner::Scanner;
 pub use search::{basket_from, basket_of, entry_count};
-
-#[cfg(test)]
-mod tests;

@@ -3,23 +3,18 @@ use Rattle.std.proofs.Common.{◌≡◌, ◌≤◌, ◌+◌, ℕ, ℤ, pos, Bool
 use Rattle.std.proofs.lemmas.List.{append-nil}
 use Rattle.byteorder.specs.Endian.{big_bytes}
 use Rattle.rio_num.specs.Text.{text_bytes}
-use Rattle.rio_types.specs.declared.class.Base.{Base}
-use Rattle.rio_types.specs.declared.class.ClassDef.{ClassDef}
-use Rattle.rio_types.specs.declared.class.Member.{Member}
-use Rattle.rio_types.specs.declared.kind.Kind.{Kind}
-use Rattle.rio_types.specs.declared.kind.Kind.TheVariants.{Plain, Counter, Fixed, Counted, Text as Texted, Inline, Pointer, Other}
+use Rattle.rio_types.specs.{declared.class.Base.{Base}, declared.class.ClassDef.{ClassDef}, declared.class.Member.{Member}}
+use Rattle.rio_types.specs.declared.kind.Kind.{Kind, TheVariants.{Plain, Counter, Fixed, Counted, Text as Texted, Inline, Pointer, Other}}
 use Rattle.rio_types.specs.declared.kind.Primitive.TheVariants.{I32, U32}
-use Rattle.rio_value.specs.declared.value.Part.{Part}
-use Rattle.rio_value.specs.declared.value.Value.{Value, Int, Text, List as Items, Object, Pointed}
-use Rattle.rio_value.specs.declared.value.Value.TheFolds.{fold_out-Part}
+use Rattle.rio_value.specs.{declared.value.Part.{Part}, declared.value.Value.{Value, Int, Text, List as Items, Object, Pointed, TheFolds.{fold_out-Part}}}
 use Rattle.rio_buffer.specs.Writer.{Writer}
-use Rattle.rio_format.specs.Bodies.{form_of, member, part}
-use Rattle.rio_format.specs.Descriptions.{description_classes, element_base}
+use Rattle.rio_format.specs.{Bodies.{form_of, member, part}, Descriptions.{description_classes, element_base}}
 use Rattle.rio_format.specs.Slots.{Slot, any_pointer, base_field, based, flags, kinded, link, many, member_field}
 use Rattle.rio_format.specs.Written.{Writing, all, fields_bytes, form_bytes, headed_bytes, int_bytes, list_bytes, pointed_bytes, writing_of, writing_step}
 use Rattle.rio_format.specs.WrittenElements.{WrittenElement, base_element, inline_element, kind_element, member_element, pointer_element, primitive_name, reaches_object, starred, written_elements}
 use Rattle.rio_format.specs.WrittenList.{array_object, class_links, class_list_value, class_pointer, element_object, element_parts, index_list, info_object, linked, list_object, number_part, plain_object, pointers_from, titled_object}
 use Rattle.rio_format.proofs.ValueCases.{fold_Int, fold_List, fold_Object, fold_Pointed, fold_Text}
+use Rattle.rio_model.proofs.ListElements.{common}
 use Rattle.rio_write.specs.Writing.{part_writing}
 use Rattle.rio_info.proofs.NamedAmounts.{Amounts, all_used, both_amounts, headed_amounts, just_amounts, pointed_classes, pointer_amounts, stands_once, total}
 
@@ -103,11 +98,7 @@ behind_name type_name = 4 + (4 + (4 + (4 + (20 + (length (text_bytes type_name) 
 abbrev stated_amount : List ℕ → List ℕ → ℕ
 stated_amount name type_name = 6 + (named_amount name + behind_name type_name)
 
--- what all elements say
-abbrev stated : WrittenElement → Value
-stated e = Object (codes "TStreamerElement") (pos 4) (element_parts e)
-
-stated_takes : (e : WrittenElement) (slot : Slot) → Takes (stated_amount e.name e.type_name) [] (stated e) slot
+stated_takes : (e : WrittenElement) (slot : Slot) → Takes (stated_amount e.name e.type_name) [] (common e) slot
 unfolding element_parts description_classes
 stated_takes e slot =
     let typed = length (text_bytes e.type_name) in
@@ -139,7 +130,7 @@ IsAmount n e = (label : ℕ) → Takes n (e.class ∷ []) (Pointed label (elemen
 element_takes : (e : WrittenElement) (members : List Member) (n : ℕ) → IsElementClass e.class e.version members → stands_once e.class pointed_classes ≡ true → Adds n e.added members → IsAmount (element_amount e.name e.type_name n) e
 unfolding element_object
 element_takes e members n is once adds label =
-    let own = part [] (stated e) ∷ e.added in
+    let own = part [] (common e) ∷ e.added in
     let inner = stated_amount e.name e.type_name in
     let body = both_amounts inner n [] [] _ _ (stated_takes e (based (codes "TStreamerElement") (pos 4))) adds in
     let object = subst (λ (w : Writer). Amounts (6 + (inner + n)) [] w) (sym (is (map (part_writing description_classes) own))) (headed_amounts e.version (inner + n) [] _ body) in

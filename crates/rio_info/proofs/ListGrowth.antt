@@ -1,18 +1,15 @@
 -- The class list that is written gets no shorter with one class more.
 use Rattle.std.proofs.Common.{◌≡◌, ◌≤◌, ◌+◌, ℕ, Bool, true, false, ◌||◌, ◌⊎◌, inl, inr, codes, List, [], ◌∷◌, ◌++◌, length, drop, refl, sym, ap, subst, ◌∙◌, append_assoc, arith}
-use Rattle.std.proofs.lemmas.List.{append-nil}
-use Rattle.std.proofs.lemmas.List.Folds.{list_any-append}
-use Rattle.std.specs.Prelude.{if◌then◌else◌}
-use Rattle.std.specs.Str.{bytes_eq}
-use Rattle.std.proofs.Math.Bool.{or-true}
+use Rattle.std.proofs.{lemmas.List.{append-nil, Folds.{list_any-append}}, Math.Bool.{or-true}}
+use Rattle.std.specs.{Prelude.{if◌then◌else◌}, Str.{bytes_eq}}
+use Rattle.rio_num.proofs.FreshNames.{is_one_of}
 use Rattle.rio_types.specs.declared.class.ClassDef.{ClassDef}
 use Rattle.rio_buffer.specs.ReaderState.{WordsMet, no_words}
 use Rattle.rio_format.specs.TreeClasses.{array_member, branch_class, leaf_class, leaf_members, object_branch_class, object_branch_members, tree_class, tree_classes, tree_members, written_classes}
-use Rattle.rio_format.specs.WrittenBytes.{class_list_bytes, written_list}
-use Rattle.rio_format.specs.WrittenElements.{inline_element, member_element, pointer_element, reaches_object}
+use Rattle.rio_format.specs.{WrittenBytes.{class_list_bytes, written_list}, WrittenElements.{inline_element, member_element, pointer_element, reaches_object}}
 use Rattle.rio_model.specs.StateClasses.{AreAccepted, AreDeclared, HasShortList, LastLengthDecides, WrittenLengthsAreOne, WrittenListsGrow}
 use Rattle.rio_info.proofs.ClassAmounts.{class_amount, class_names, least_amount, list_amount, list_names, list_takes, list_writer}
-use Rattle.rio_info.proofs.NamedAmounts.{Amount, all_used, bytes_met, is_among, is_met, names_met, pointed_classes, total-append}
+use Rattle.rio_info.proofs.NamedAmounts.{Amount, all_used, bytes_met, is_met, names_met, pointed_classes, total-append}
 
 -- ---- the names that are met at most, and at least
 
@@ -112,27 +109,27 @@ module _ (n : ℕ) (used : List (List ℕ)) (start : ℕ) (a : List ℕ × Words
 
 module _ (classes : List ClassDef) where
   abbrev uses : List ClassDef → List ℕ → Bool
-  uses cs = is_among (all_used (class_names classes) cs)
+  uses cs = is_one_of (all_used (class_names classes) cs)
 
-  first_uses : (class : List ℕ) (c : ClassDef) (more : List ClassDef) → is_among (class_names classes c) class ≡ true → uses (c ∷ more) class ≡ true
+  first_uses : (class : List ℕ) (c : ClassDef) (more : List ClassDef) → is_one_of (class_names classes c) class ≡ true → uses (c ∷ more) class ≡ true
   first_uses class c more e =
       list_any-append (λ k. bytes_eq k class) (class_names classes c) (all_used (class_names classes) more) ∙ ap (λ (b : Bool). b || uses more class) e
 
   rest_uses : (class : List ℕ) (c : ClassDef) (more : List ClassDef) → uses more class ≡ true → uses (c ∷ more) class ≡ true
   rest_uses class c more e =
       list_any-append (λ k. bytes_eq k class) (class_names classes c) (all_used (class_names classes) more)
-      ∙ ap (λ (b : Bool). is_among (class_names classes c) class || b) e ∙ or-true (is_among (class_names classes c) class)
+      ∙ ap (λ (b : Bool). is_one_of (class_names classes c) class || b) e ∙ or-true (is_one_of (class_names classes c) class)
 
-  inline_used : (reaches : Bool) (name class : List ℕ) (more : List (List ℕ)) → EitherMet (is_among ((inline_element reaches name class).class ∷ more)) (codes "TStreamerObject") (codes "TStreamerObjectAny")
+  inline_used : (reaches : Bool) (name class : List ℕ) (more : List (List ℕ)) → EitherMet (is_one_of ((inline_element reaches name class).class ∷ more)) (codes "TStreamerObject") (codes "TStreamerObjectAny")
   inline_used true name class more = inl refl
   inline_used false name class more = inr refl
 
-  pointer_used : (reaches : Bool) (name class : List ℕ) (more : List (List ℕ)) → EitherMet (is_among ((pointer_element reaches name class).class ∷ more)) (codes "TStreamerObjectPointer") (codes "TStreamerObjectAnyPointer")
+  pointer_used : (reaches : Bool) (name class : List ℕ) (more : List (List ℕ)) → EitherMet (is_one_of ((pointer_element reaches name class).class ∷ more)) (codes "TStreamerObjectPointer") (codes "TStreamerObjectAnyPointer")
   pointer_used true name class more = inl refl
   pointer_used false name class more = inr refl
 
   abbrev tree_names : List ℕ → Bool
-  tree_names = is_among (class_names classes tree_class)
+  tree_names = is_one_of (class_names classes tree_class)
 
   tree_has_info : tree_names (codes "TStreamerInfo") ≡ true
   tree_has_info = refl
@@ -152,11 +149,11 @@ module _ (classes : List ClassDef) where
   tree_has_object =
       inline_used (reaches_object classes (codes "TObjArray")) (codes "fBranches") (codes "TObjArray") ((member_element classes tree_class (array_member (codes "fLeaves"))).class ∷ [])
 
-  branch_has_text : is_among (class_names classes object_branch_class) (codes "TStreamerString") ≡ true
+  branch_has_text : is_one_of (class_names classes object_branch_class) (codes "TStreamerString") ≡ true
   unfolding object_branch_members
   branch_has_text = refl
 
-  leaf_has_pointer : EitherMet (is_among (class_names classes leaf_class)) (codes "TStreamerObjectPointer") (codes "TStreamerObjectAnyPointer")
+  leaf_has_pointer : EitherMet (is_one_of (class_names classes leaf_class)) (codes "TStreamerObjectPointer") (codes "TStreamerObjectAnyPointer")
   unfolding leaf_members
   leaf_has_pointer = pointer_used (reaches_object classes (codes "TLeaf")) (codes "fLeafCount") (codes "TLeaf") []
 
@@ -177,7 +174,7 @@ module _ (classes : List ClassDef) where
     in_third : (class : List ℕ) → uses behind_branch class ≡ true → uses all_classes class ≡ true
     in_third class e = rest_uses class tree_class (branch_class ∷ behind_branch) (rest_uses class branch_class behind_branch e)
 
-    in_leaf : (class : List ℕ) → is_among (class_names classes leaf_class) class ≡ true → uses all_classes class ≡ true
+    in_leaf : (class : List ℕ) → is_one_of (class_names classes leaf_class) class ≡ true → uses all_classes class ≡ true
     in_leaf class e = in_third class (rest_uses class object_branch_class (leaf_class ∷ more) (first_uses class leaf_class more e))
 
     enough_used : EnoughMet (uses all_classes)
@@ -188,7 +185,7 @@ module _ (classes : List ClassDef) where
       number = in_tree (codes "TStreamerBasicType") tree_has_number;
       text = in_third (codes "TStreamerString") (first_uses (codes "TStreamerString") object_branch_class (leaf_class ∷ more) branch_has_text);
       object = either_in tree_names (uses all_classes) (codes "TStreamerObject") (codes "TStreamerObjectAny") (in_tree (codes "TStreamerObject")) (in_tree (codes "TStreamerObjectAny")) tree_has_object;
-      pointer = either_in (is_among (class_names classes leaf_class)) (uses all_classes) (codes "TStreamerObjectPointer") (codes "TStreamerObjectAnyPointer") (in_leaf (codes "TStreamerObjectPointer"))
+      pointer = either_in (is_one_of (class_names classes leaf_class)) (uses all_classes) (codes "TStreamerObjectPointer") (codes "TStreamerObjectAnyPointer") (in_leaf (codes "TStreamerObjectPointer"))
           (in_leaf (codes "TStreamerObjectAnyPointer")) leaf_has_pointer;
     }
 
@@ -230,7 +227,7 @@ module _ (start : ℕ) where
       let classes = written_classes declared in
       let trees = trees_first declared in
       let used = subst (λ (cs : List ClassDef). EnoughMet (uses classes cs)) (sym trees.1) (enough_used classes trees.0) in
-      enough_met (is_met (list_writer classes start no_words).1) (is_among (list_names classes)) (list_amounts classes).met used
+      enough_met (is_met (list_writer classes start no_words).1) (is_one_of (list_names classes)) (list_amounts classes).met used
 
   shortest : (declared : List ClassDef) → list_amount (written_classes declared) + 112 ≤ length (class_list_bytes start (written_classes declared))
   shortest declared =

@@ -1,19 +1,12 @@
 -- How long what is written is, apart from the names of classes that it spells out.
 use Rattle.std.proofs.Common.{◌≡◌, ◌^◌, ◌-◌, ◌+◌, ℕ, ℤ, Bool, true, false, ◌||◌, codes, is_some, List, [], ◌∷◌, ◌++◌, length, Option, Some, None, refl, sym, ap, ◌∙◌, arith}
-use Rattle.std.proofs.lemmas.List.{length-append}
-use Rattle.std.proofs.lemmas.List.Folds.{list_any-append}
-use Rattle.std.proofs.lemmas.Slice.Eq.{bytes_eq-Decides}
-use Rattle.std.specs.Prelude.{if◌then◌else◌, not}
-use Rattle.std.specs.Int.{w16, cast_unsigned}
-use Rattle.std.specs.List.{find, list_any}
-use Rattle.std.specs.Str.{bytes_eq}
-use Rattle.std.proofs.lemmas.Bool.{not-true, or_parts}
+use Rattle.std.proofs.{lemmas.List.{length-append, Folds.{list_any-append}}, lemmas.Slice.Eq.{bytes_eq-Decides}, lemmas.Bool.{not-true, or_parts}}
+use Rattle.std.specs.{Prelude.{if◌then◌else◌, not}, Int.{w16, cast_unsigned}, List.{find, list_any}, Str.{bytes_eq}}
 use Rattle.byteorder.specs.Endian.{big_bytes}
-use Rattle.rio_buffer.specs.ReaderState.{WordsMet, with_label, with_name}
+use Rattle.rio_num.proofs.FreshNames.{is_one_of}
+use Rattle.rio_buffer.specs.{ReaderState.{WordsMet, with_label, with_name}, Writer.{Writer, class_by, class_bytes}}
 use Rattle.rio_format.specs.Written.{both, counted, headed_bytes, just}
-use Rattle.rio_buffer.specs.Writer.{Writer, class_by, class_bytes}
-use Rattle.rio_write.specs.Measuring.{AreBelow}
-use Rattle.rio_write.specs.Writing.{pointer_to}
+use Rattle.rio_write.specs.{Measuring.{AreBelow}, Writing.{pointer_to}}
 use Rattle.rio_write.proofs.MeasureLaws.{below_more, below_push, named_push}
 
 -- ---- names
@@ -21,10 +14,6 @@ use Rattle.rio_write.proofs.MeasureLaws.{below_more, below_push, named_push}
 -- a class word among these spells out the name
 abbrev pub is_met : WordsMet → List ℕ → Bool
 is_met t class = is_some (find (λ e. bytes_eq e.1 class) t.names)
-
--- the name is one of these
-abbrev pub is_among : List (List ℕ) → List ℕ → Bool
-is_among used class = list_any (λ k. bytes_eq k class) used
 
 -- how many bytes those of the names have that are met, each with a zero byte
 abbrev pub bytes_met : (List ℕ → Bool) → List (List ℕ) → ℕ
@@ -92,7 +81,7 @@ names_more class t u one unmet once = once_met class (is_met t) (is_met u) one u
 -- so many bytes are written apart from the names, and from then on those of the used classes are met
 pub record Amount (n : ℕ) (used : List (List ℕ)) (p : ℕ) (t : WordsMet) (a : List ℕ × WordsMet) : Type 0 where
   pub bytes : length a.0 + names_met t ≡ n + names_met a.1
-  pub met : (class : List ℕ) → is_met a.1 class ≡ (is_among used class || is_met t class)
+  pub met : (class : List ℕ) → is_met a.1 class ≡ (is_one_of used class || is_met t class)
   pub below : AreBelow (p + length a.0) a.1.names
 
 -- wherever it stands
@@ -119,7 +108,7 @@ both_amounts m n first second f g one two p t below =
     record {
       bytes = omega (arith, len, total, more);
       met = λ class.
-          behind.met class ∙ ap (λ (x : Bool). is_among second class || x) (before.met class) ∙ or_behind (is_among first class) (is_among second class) (is_met t class)
+          behind.met class ∙ ap (λ (x : Bool). is_one_of second class || x) (before.met class) ∙ or_behind (is_one_of first class) (is_one_of second class) (is_met t class)
           ∙ ap (λ (x : Bool). x || is_met t class) (sym (list_any-append (λ k. bytes_eq k class) first second));
       below = below_more (p + length a.0 + length b.0) (p + length (a.0 ++ b.0)) b.1.names (omega (arith, len)) behind.below;
     }

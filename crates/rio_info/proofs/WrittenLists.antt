@@ -1,15 +1,11 @@
 -- What is written for declared classes is read as the classes of trees and these.
 use Rattle.std.proofs.Common.{◌≡◌, ◌≤◌, ◌+◌, ◌-◌, ◌^◌, ◌++◌, ℕ, List, length, true, Result, Ok, Err, IfOk, sym, subst, arith}
 use Rattle.std.specs.List.{list_all}
-use Rattle.rio_num.specs.Room.{Room, room_of}
-use Rattle.rio_num.specs.declared.no_memory.NoMemory.{NoMemory}
+use Rattle.rio_num.specs.{Room.{Room, room_of}, declared.no_memory.NoMemory.{NoMemory}}
 use Rattle.rio_types.specs.declared.class.ClassDef.{ClassDef}
-use Rattle.rio_format.specs.ClassList.{class_list_at}
+use Rattle.rio_format.specs.{ClassList.{class_list_at}, TreeClasses.{written_classes}, WrittenBytes.{length_limit, written_list}}
 use Rattle.rio_model.specs.Described.{is_described}
-use Rattle.rio_format.specs.TreeClasses.{written_classes}
-use Rattle.rio_model.proofs.ListNumbers.{written_are_described}
-use Rattle.rio_model.proofs.ListSpelled.{written_classes_are_read}
-use Rattle.rio_format.specs.WrittenBytes.{length_limit, written_list}
+use Rattle.rio_model.proofs.{ListNumbers.{written_are_described}, ListSpelled.{written_classes_are_read}}
 
 module _ (start : ℕ) (declared : List ClassDef) (length_fits : length (written_list start declared) ≤ length_limit) (start_fits : start ≤ 65535) (described : list_all is_described declared ≡ true) where
   list_read : (more : List ℕ) → class_list_at start (written_list start declared ++ more) ≡ Ok (written_classes declared)

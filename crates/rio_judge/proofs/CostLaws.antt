@@ -4,16 +4,13 @@ use Rattle.std.specs.Prelude.{is_some}
 use Rattle.rio_value.specs.declared.value.Value.{Value}
 use Rattle.rio_format.specs.Written.{written_form}
 use Rattle.rio_machine.specs.State.{State}
-use Rattle.rio_machine.specs.declared.command.Command.{Command}
-use Rattle.rio_machine.specs.declared.command.Command.TheVariants.{Bad, Class, Put, Delete, Tree as MakeTree, Fill, Save, Get, Scan, Ls}
-use Rattle.rio_step.specs.Costs.{accepted_cost, cost_of}
-use Rattle.rio_step.specs.Refusing.{refusal_of}
-use Rattle.rio_judge.specs.Judging.{IsWorkOf}
-use Rattle.rio_judge.specs.declared.work.Work.TheVariants.{Put as Storing, Get as Telling, Ls as Listing}
+use Rattle.rio_machine.specs.declared.command.Command.{Command, TheVariants.{Bad, Class, Put, Delete, Tree as MakeTree, Fill, Save, Get, Scan, Ls}}
+use Rattle.rio_step.specs.{Costs.{accepted_cost, cost_of}, Refusing.{refusal_of}}
+use Rattle.rio_judge.specs.{Judging.{IsWorkOf}, declared.work.Work.TheVariants.{Put as Storing, Get as Telling, Ls as Listing}}
 
-unrefused : (m : State) (c : Command) → refusal_of m c None ≡ None → cost_of m c ≡ accepted_cost m c
+pub cost_accepted : (m : State) (c : Command) → refusal_of m c None ≡ None → cost_of m c ≡ accepted_cost m c
 unfolding cost_of
-unrefused m c none = ap (λ r. if is_some r then 0 else accepted_cost m c) none
+cost_accepted m c none = ap (λ r. if is_some r then 0 else accepted_cost m c) none
 
 stored : (m : State) (c : Command) (v : Value) (own : List ℕ) (number size : ℕ) → IsWorkOf m c (Storing v own number size) → 500 + size ≡ accepted_cost m c
 stored m (Bad line place) v own number size work = absurd work
@@ -55,10 +52,10 @@ listed m Ls work = refl
 -- a put costs 500 and what is written of its object, all else nothing
 pub put_cost : (m : State) (c : Command) (v : Value) (own : List ℕ) (number size : ℕ) → refusal_of m c None ≡ None
     → IsWorkOf m c (Storing v own number size) → 500 + size ≡ cost_of m c
-put_cost m c v own number size none work = stored m c v own number size work ∙ sym (unrefused m c none)
+put_cost m c v own number size none work = stored m c v own number size work ∙ sym (cost_accepted m c none)
 
 pub get_cost : (m : State) (c : Command) (cycle : ℕ) → refusal_of m c None ≡ None → IsWorkOf m c (Telling cycle) → 0 ≡ cost_of m c
-get_cost m c cycle none work = told m c cycle work ∙ sym (unrefused m c none)
+get_cost m c cycle none work = told m c cycle work ∙ sym (cost_accepted m c none)
 
 pub list_cost : (m : State) (c : Command) → refusal_of m c None ≡ None → IsWorkOf m c Listing → 0 ≡ cost_of m c
-list_cost m c none work = listed m c work ∙ sym (unrefused m c none)
+list_cost m c none work = listed m c work ∙ sym (cost_accepted m c none)

@@ -1,19 +1,13 @@
 -- The tests that can refuse a get, by the keys, and what it tells; and those of bad lines and lists.
 use Rattle.std.proofs.Common.{◌≡◌, ℕ, ◌∙◌, Bool, false, ◌&&◌, ◌||◌, eqb, not, List, Option, Some, None, Ok, refl, sym, ap}
-use Rattle.std.specs.Prelude.{is_some, option_and_then}
-use Rattle.std.specs.FinMap.{contains_key, get}
-use Rattle.std.specs.Option.{option_map_or, option_or}
+use Rattle.std.specs.{Prelude.{is_some, option_and_then}, FinMap.{contains_key, get}, Option.{option_map_or, option_or}}
 use Rattle.rio_key.specs.declared.head.KeyHead.{KeyHead}
 use Rattle.rio_dir.specs.Table.{head_of}
 use Rattle.rio_value.specs.declared.value.Value.{Value}
-use Rattle.rio_machine.specs.State.{State, Tree, names_object}
-use Rattle.rio_machine.specs.declared.command.Command.TheVariants.{Bad, Get, Ls}
-use Rattle.rio_machine.specs.declared.refusal.Refusal.{Refusal}
-use Rattle.rio_machine.specs.declared.refusal.Refusal.TheVariants.{BadLine, NoSuchName, NoSuchCycle, NameIsTree, NoVersion}
-use Rattle.rio_step.specs.ItemKeys.{AreKeysOfState}
-use Rattle.rio_step.specs.Refusing.{meant_object, refusal_of, refused_if}
-use Rattle.rio_judge.specs.Stops.{GoesByState}
-use Rattle.rio_judge.specs.declared.work.Work.TheVariants.{Get as Telling}
+use Rattle.rio_machine.specs.{State.{State, Tree, names_object}, declared.command.Command.TheVariants.{Bad, Get, Ls}}
+use Rattle.rio_machine.specs.declared.refusal.Refusal.{Refusal, TheVariants.{BadLine, NoSuchName, NoSuchCycle, NameIsTree, NoVersion}}
+use Rattle.rio_step.specs.{ItemKeys.{AreKeysOfState}, Refusing.{meant_object, refusal_of, refused_if}}
+use Rattle.rio_judge.specs.{Stops.{GoesByState}, declared.work.Work.TheVariants.{Get as Telling}}
 use Rattle.rio_judge.proofs.KeysOfState.{contains_is, first_is_greatest, first_is_there, names_are, no_tree}
 
 -- what the tests tell, where an object or a tree may have the name, a cycle may be there, and an object is meant

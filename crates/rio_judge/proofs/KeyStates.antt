@@ -1,21 +1,14 @@
 -- The keys of any table stand for a state.
-use Rattle.std.proofs.Common.{◌≡◌, ℕ, ◌∙◌, List, [], ◌∷◌, map, true, Option, Some, None, pos, refl, sym, ap}
-use Rattle.std.specs.Prelude.{unwrap_or}
-use Rattle.std.specs.FinMap.{empty, entries-from_sorted, from_sorted}
-use Rattle.std.specs.FinMap.Entries.{below_all, is_sorted}
-use Rattle.std.proofs.lemmas.Bool.{and_from}
+use Rattle.std.proofs.{Common.{◌≡◌, ℕ, ◌∙◌, List, [], ◌∷◌, map, true, Option, Some, None, pos, refl, sym, ap}, lemmas.Bool.{and_from}}
 use Rattle.std.proofs.lemmas.Float.{T_from_true}
+use Rattle.std.specs.{Prelude.{unwrap_or}, FinMap.{empty, entries-from_sorted, from_sorted, Entries.{below_all, is_sorted}}}
+use Rattle.rio_num.specs.Word.{name_order}
 use Rattle.rio_key.specs.declared.head.KeyHead.{KeyHead}
 use Rattle.rio_dir.specs.Table.{AreBehind, AreOrdered}
-use Rattle.rio_value.specs.declared.value.Part.{Part}
-use Rattle.rio_value.specs.declared.value.Value.{Value, Object, out-roll-Value}
+use Rattle.rio_value.specs.{declared.value.Part.{Part}, declared.value.Value.{Value, Object, out-roll-Value, TheOpen.{Value-F}, TheVariants.{rolls-Object}}}
 use Rattle.rio_value.specs.declared.value.Value.TheOpen as layer
-use Rattle.rio_value.specs.declared.value.Value.TheOpen.{Value-F}
-use Rattle.rio_value.specs.declared.value.Value.TheVariants.{rolls-Object}
-use Rattle.rio_machine.specs.State.{NameAndCycle, State, item_order, name_order}
-use Rattle.rio_step.specs.ItemKeys.{told_by_key}
-use Rattle.rio_step.specs.Refusing.{object_class}
-use Rattle.rio_step.specs.Step.{listed_object, object_listed}
+use Rattle.rio_machine.specs.State.{NameAndCycle, State, item_order}
+use Rattle.rio_step.specs.{ItemKeys.{told_by_key}, Refusing.{object_class}, Step.{listed_object, object_listed}}
 use Rattle.rio_judge.specs.Judging.{KeysHaveStates}
 use Rattle.rio_judge.proofs.KeysOfState.{first_is, item_of}
 

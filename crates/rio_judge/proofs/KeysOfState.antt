@@ -1,29 +1,20 @@
 -- What keys tell of the state for whose objects they stand: which names and cycles there are, how many, and the next cycle.
-use Rattle.std.proofs.Common.{◌≡◌, ℕ, ◌+◌, ◌<◌, ◌∙◌, List, [], ◌∷◌, map, length, Bool, true, false, cond, ◌&&◌, ◌||◌, ltb, eqb, max, T, Some, None, refl, sym, ap, subst, arith}
-use Rattle.std.specs.Prelude.{is_some}
-use Rattle.std.specs.Cmp.{both_ways, eq_by_cmp_equiv}
-use Rattle.std.specs.FinMap.{contains_key, contains_key-keys, entries, entries_sorted, keys, len, len-empty, len-entries, get, get-empty}
-use Rattle.std.specs.FinMap.Entries.{below_all, is_sorted}
-use Rattle.std.specs.List.{filter, find, list_any}
-use Rattle.std.specs.Ordering.{eq_by_cmp, is_lt, nat_cmp, ordering_then}
-use Rattle.std.specs.Str.{bytes_eq}
-use Rattle.std.specs.declared.cmp.Ordering.{Ordering}
-use Rattle.std.specs.declared.cmp.Ordering.TheVariants.{Less, Equal, Greater}
-use Rattle.std.proofs.lemmas.Bool.{and_from, and_parts, eq-eqb, eqb-true}
-use Rattle.std.proofs.lemmas.Cmp.{nat_list_eq_equiv}
-use Rattle.std.proofs.lemmas.List.{length-map}
+use Rattle.std.proofs.Common.{◌≡◌, ℕ, ◌+◌, ◌<◌, ◌∙◌, List, [], ◌∷◌, map, length, Bool, true, false, cond, ◌&&◌, ◌||◌, ltb, eqb, max, Some, None, refl, sym, ap, subst, arith}
+use Rattle.std.proofs.{lemmas.Bool.{and_from, and_parts, eq-eqb, eqb-true}, lemmas.Cmp.{nat_list_eq_equiv}, lemmas.List.{length-map}}
 use Rattle.std.proofs.lemmas.Map.Views.{tells_apart}
-use Rattle.rio_num.proofs.NameSets.{any_map}
+use Rattle.std.specs.{Prelude.{is_some}, Cmp.{both_ways, eq_by_cmp_equiv}}
+use Rattle.std.specs.FinMap.{contains_key, contains_key-keys, entries, entries_sorted, keys, len, len-empty, len-entries, get, get-empty, Entries.{below_all, is_sorted}}
+use Rattle.std.specs.{List.{filter, find, list_any}, Ordering.{eq_by_cmp, is_lt, nat_cmp, ordering_then}, Str.{bytes_eq}}
+use Rattle.std.specs.declared.cmp.Ordering.{Ordering, TheVariants.{Less, Equal, Greater}}
+use Rattle.rio_num.proofs.{NameSets.{any_map}, Cases.{is_true}}
+use Rattle.rio_num.specs.Word.{name_order}
 use Rattle.rio_key.specs.declared.head.KeyHead.{KeyHead}
 use Rattle.rio_dir.specs.Table.{AreBehind, AreOrdered, first_by, greatest_cycle, head_of, is_at_cycle, is_of_name}
-use Rattle.rio_dir.proofs.TableLists.{cycle_of, greatest_is}
-use Rattle.rio_dir.proofs.TableOrder.{at_is}
-use Rattle.rio_value.specs.Depth.{greatest}
-use Rattle.rio_value.specs.declared.value.Value.{Value}
+use Rattle.rio_dir.proofs.{TableLists.{cycle_of, greatest_is}, TableOrder.{at_is}}
+use Rattle.rio_value.specs.{Depth.{greatest}, declared.value.Value.{Value}}
 use Rattle.rio_machine.proofs.OrderLaws.{items_tie, items_total}
-use Rattle.rio_machine.specs.State.{NameAndCycle, State, Tree, item_count, item_order, last_cycle, name_order, names_object}
-use Rattle.rio_step.specs.ItemKeys.{AreKeysOfState, told_by_key}
-use Rattle.rio_step.specs.Step.{listed_object}
+use Rattle.rio_machine.specs.State.{NameAndCycle, State, Tree, item_count, item_order, last_cycle, names_object}
+use Rattle.rio_step.specs.{ItemKeys.{AreKeysOfState, told_by_key}, Step.{listed_object}}
 
 -- the name and cycle that a key tells
 abbrev pub item_of : KeyHead → NameAndCycle
@@ -137,10 +128,6 @@ next_is_new name heads = above_none name (greatest_cycle name heads + 1) heads (
 
 -- ---- the keys stand in order
 
-holds : (b : Bool) → T b → b ≡ true
-holds true t = refl
-holds false t = absurd t
-
 less_is : (a b : ℕ) → is_lt (nat_cmp a b) ≡ ltb a b
 less_is a b = by (ltb a b) (eqb a b)
   where
@@ -178,7 +165,7 @@ ordered (h ∷ hs) (e ∷ es) same rising =
 
 -- they stand in the order of the key list
 pub keys_are_ordered : (heads : List KeyHead) (m : State) → AreKeysOfState heads m → AreOrdered heads
-keys_are_ordered heads m are = ordered heads (entries m.objects) (keys_are heads m are) (holds _ (entries_sorted m.objects))
+keys_are_ordered heads m are = ordered heads (entries m.objects) (keys_are heads m are) (is_true _ (entries_sorted m.objects))
 
 -- the first key of a name has the greatest cycle of its objects
 pub first_is_greatest : (heads : List KeyHead) (m : State) (name : List ℕ) (h : KeyHead) → AreKeysOfState heads m

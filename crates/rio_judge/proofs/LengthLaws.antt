@@ -1,6 +1,5 @@
 -- A length that is told up to a limit, with the zero bytes behind it.
-use Rattle.std.proofs.Common.{◌≡◌, ℕ, ◌+◌, ◌<◌, ◌≤◌, min, true, false, inl, inr, ap, ◌∙◌, arith}
-use Rattle.std.proofs.lemmas.Bool.{cases_lt, le-ltb, lt-ltb}
+use Rattle.std.proofs.{Common.{◌≡◌, ℕ, ◌+◌, ◌<◌, ◌≤◌, min, true, false, inl, inr, ap, ◌∙◌, arith}, lemmas.Bool.{cases_lt, le-ltb, lt-ltb}}
 use Rattle.rio_format.specs.WrittenBytes.{length_limit}
 use Rattle.rio_machine.specs.Limits.{is_too_long, zeros_behind}
 use Rattle.rio_write.specs.Measuring.{too_long}

@@ -1,23 +1,18 @@
 -- A put that passes all tests can be done, and does what the state's step does.
 use Rattle.std.proofs.Common.{◌≡◌, ℕ, ◌+◌, ◌∙◌, List, [], ◌∷◌, length, false, ◌||◌, ltb, leb, not, Some, None, Ok, sym, ap, subst, arith}
-use Rattle.std.specs.Prelude.{is_some, unwrap_or}
-use Rattle.std.specs.Option.{option_or}
 use Rattle.std.proofs.lemmas.Bool.{le-ltb, leb-false, lt-leb, ltb-false, not-false, or_from, or_parts}
+use Rattle.std.specs.{Prelude.{is_some, unwrap_or}, Option.{option_or}}
 use Rattle.rio_key.specs.declared.head.KeyHead.{KeyHead}
 use Rattle.rio_dir.specs.Table.{greatest_cycle, head_of}
 use Rattle.rio_types.specs.declared.class.ClassDef.{ClassDef}
 use Rattle.rio_value.specs.declared.value.Value.{Value}
 use Rattle.rio_format.specs.Written.{written_form}
 use Rattle.rio_model.specs.Resolving.{resolved}
-use Rattle.rio_machine.specs.Limits.{cycle_limit, data_length, has_long_list, is_too_deep, is_too_long, item_limit}
-use Rattle.rio_machine.specs.State.{State}
+use Rattle.rio_machine.specs.{Limits.{cycle_limit, data_length, has_long_list, is_too_deep, is_too_long, item_limit}, State.{State}}
 use Rattle.rio_machine.specs.declared.command.Command.TheVariants.{Put}
 use Rattle.rio_machine.specs.declared.refusal.Refusal.TheVariants.{BadName, NoSuchClass, DoesNotFit, CycleLimit, TooLarge, TooDeep, TooMany}
-use Rattle.rio_step.specs.ItemKeys.{AreKeysOfState}
-use Rattle.rio_step.specs.Refusing.{first_of, is_fit, is_kept_out, is_list_name, object_class, put_value, refused_if}
-use Rattle.rio_judge.specs.Judging.{CanBeStored, IsStep}
-use Rattle.rio_judge.specs.Stops.{GoesByState}
-use Rattle.rio_judge.specs.declared.work.Work.TheVariants.{Put as Storing}
+use Rattle.rio_step.specs.{ItemKeys.{AreKeysOfState}, Refusing.{first_of, is_fit, is_kept_out, is_list_name, object_class, put_value, refused_if}}
+use Rattle.rio_judge.specs.{Judging.{CanBeStored, IsStep}, Stops.{GoesByState}, declared.work.Work.TheVariants.{Put as Storing}}
 use Rattle.rio_judge.proofs.KeysOfState.{cycles_are, next_is_new}
 use Rattle.rio_judge.proofs.PutTests.{count_tests, cycle_tests, fit_tests, name_tests, passes_one, passes_two, put_refusal, put_tests}
 

@@ -1,23 +1,17 @@
 -- The tests that can refuse a put, by the classes and the keys.
 use Rattle.std.proofs.Common.{◌≡◌, ℕ, ◌+◌, ◌∙◌, List, [], ◌∷◌, ◌++◌, length, Bool, true, false, ◌||◌, not, Option, Some, None, Result, Err, refl, sym, ap, subst}
-use Rattle.std.specs.Prelude.{is_some, nat_le, nat_lt, unwrap_or}
-use Rattle.std.specs.Option.{option_or}
+use Rattle.std.specs.{Prelude.{is_some, nat_le, nat_lt, unwrap_or}, Option.{option_or}}
 use Rattle.rio_key.specs.declared.head.KeyHead.{KeyHead}
 use Rattle.rio_dir.specs.Table.{greatest_cycle}
 use Rattle.rio_types.specs.declared.class.ClassDef.{ClassDef}
 use Rattle.rio_value.specs.declared.value.Value.{Value}
 use Rattle.rio_model.specs.Resolving.{resolved}
 use Rattle.rio_machine.specs.Limits.{cycle_limit, data_length, has_long_list, is_too_deep, is_too_long, item_limit}
-use Rattle.rio_machine.specs.State.{State, item_count, last_cycle, names_tree}
-use Rattle.rio_machine.specs.declared.command.Command.TheVariants.{Put}
-use Rattle.rio_machine.specs.declared.refusal.Refusal.{Refusal}
-use Rattle.rio_machine.specs.declared.refusal.Refusal.TheVariants.{BadName, NameIsTree, NoSuchClass, DoesNotFit, CycleLimit, TooLarge, TooDeep, TooMany}
+use Rattle.rio_machine.specs.{State.{State, item_count, last_cycle, names_tree}, declared.command.Command.TheVariants.{Put}}
+use Rattle.rio_machine.specs.declared.refusal.Refusal.{Refusal, TheVariants.{BadName, NameIsTree, NoSuchClass, DoesNotFit, CycleLimit, TooLarge, TooDeep, TooMany}}
 use Rattle.rio_step.specs.ItemKeys.{AreKeysOfState}
 use Rattle.rio_step.specs.Refusing.{first_of, is_fit, is_kept_out, is_list_name, object_class, object_length, put_value, refusal_of, refused_if}
-use Rattle.rio_judge.specs.Stops.{GoesByState, StopsAt}
-use Rattle.rio_judge.specs.declared.stop.Stop.{Stop}
-use Rattle.rio_judge.specs.declared.stop.Stop.TheVariants.{Refused, NoMemory}
-use Rattle.rio_judge.specs.declared.work.Work.{Work}
+use Rattle.rio_judge.specs.{Stops.{GoesByState, StopsAt}, declared.stop.Stop.{Stop, TheVariants.{Refused, NoMemory}}, declared.work.Work.{Work}}
 use Rattle.rio_judge.proofs.KeysOfState.{count_is, cycles_are, no_tree}
 
 -- ---- tests in order

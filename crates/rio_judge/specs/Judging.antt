@@ -6,17 +6,11 @@ use Rattle.rio_types.specs.declared.class.ClassDef.{ClassDef}
 use Rattle.rio_value.specs.declared.value.Value.{Value}
 use Rattle.rio_format.specs.Written.{written_form}
 use Rattle.rio_model.specs.Resolving.{resolved}
-use Rattle.rio_machine.specs.Limits.{cycle_limit, item_limit}
-use Rattle.rio_machine.specs.State.{State, next_cycle}
-use Rattle.rio_machine.specs.declared.command.Command.{Command}
-use Rattle.rio_machine.specs.declared.command.Command.TheVariants.{Bad, Put, Get, Ls}
-use Rattle.rio_step.specs.ItemKeys.{AreKeysOfState}
-use Rattle.rio_step.specs.Refusing.{is_list_name, meant_cycle, meant_object, object_class, put_value, refusal_of}
+use Rattle.rio_machine.specs.{Limits.{cycle_limit, item_limit}, State.{State, next_cycle}, declared.command.Command.{Command, TheVariants.{Bad, Put, Get, Ls}}}
+use Rattle.rio_step.specs.{ItemKeys.{AreKeysOfState}, Refusing.{is_list_name, meant_cycle, meant_object, object_class, put_value, refusal_of}}
 use Rattle.rio_step.specs.Storable.{IsStoredObject}
-use Rattle.rio_judge.specs.declared.work.Judged.{Judged}
-use Rattle.rio_judge.specs.declared.work.Judged.TheVariants.{Accepted, Refused}
-use Rattle.rio_judge.specs.declared.work.Work.{Work}
-use Rattle.rio_judge.specs.declared.work.Work.TheVariants.{Put as Storing, Get as Telling, Ls as Listing}
+use Rattle.rio_judge.specs.declared.work.Judged.{Judged, TheVariants.{Accepted, Refused}}
+use Rattle.rio_judge.specs.declared.work.Work.{Work, TheVariants.{Put as Storing, Get as Telling, Ls as Listing}}
 
 -- The commands that are judged as of now. It goes out when the others are built.
 abbrev pub is_judged : Command → Bool

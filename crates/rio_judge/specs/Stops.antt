@@ -1,16 +1,9 @@
 -- Where a judgement stops.
 use Rattle.std.specs.Prelude.{◌≡◌, List, Option, Some, None, Result, Ok, Err}
-use Rattle.rio_machine.specs.State.{State}
-use Rattle.rio_machine.specs.declared.command.Command.{Command}
-use Rattle.rio_machine.specs.declared.refusal.Refusal.{Refusal}
-use Rattle.rio_machine.specs.declared.refusal.Refusal.TheVariants.{NoSuchClass}
+use Rattle.rio_machine.specs.{State.{State}, declared.command.Command.{Command}, declared.refusal.Refusal.{Refusal, TheVariants.{NoSuchClass}}}
 use Rattle.rio_step.specs.Refusing.{first_of, refusal_of}
-use Rattle.rio_valtext.specs.declared.resolving.ResolveFault.{ResolveFault}
-use Rattle.rio_valtext.specs.declared.resolving.ResolveFault.TheVariants.{NoSuchClass as Unknown, NoMemory as NoRoom}
-use Rattle.rio_judge.specs.Judging.{IsWorkOf}
-use Rattle.rio_judge.specs.declared.stop.Stop.{Stop}
-use Rattle.rio_judge.specs.declared.stop.Stop.TheVariants.{Refused, NoMemory}
-use Rattle.rio_judge.specs.declared.work.Work.{Work}
+use Rattle.rio_valtext.specs.declared.resolving.ResolveFault.{ResolveFault, TheVariants.{NoSuchClass as Unknown, NoMemory as NoRoom}}
+use Rattle.rio_judge.specs.{Judging.{IsWorkOf}, declared.stop.Stop.{Stop, TheVariants.{Refused, NoMemory}}, declared.work.Work.{Work}}
 
 -- a class that isn't known refuses a command
 abbrev pub stop_of : ResolveFault → Stop

@@ -1,26 +1,14 @@
 -- The key of a basket with its head: the head is read within the key as where no more bytes are left.
 use Rattle.std.proofs.Common.{◌≡◌, ℕ, ◌+◌, ◌-◌, ◌≤◌, Bool, true, false, ltb, length, take, drop, Result, Ok, Err, refl, sym, ap, ◌∙◌, arith}
-use Rattle.std.proofs.lemmas.Bool.{lt-ltb, le-ltb, ltb-false, ltb-true}
-use Rattle.std.proofs.lemmas.List.{drop-take, length-take}
-use Rattle.byteorder.specs.Endian.{big_number}
-use Rattle.byteorder.specs.Numbers.{big_from-take}
-use Rattle.rio_num.specs.At.{At, AreBytes}
-use Rattle.rio_num.specs.Layout.{number, ◌>>=◌}
-use Rattle.rio_num.specs.Meanings.{Reading, Standing, read}
-use Rattle.rio_num.specs.Plain.{Plain, plain, value_of}
-use Rattle.rio_num.specs.Reading.{short, skip}
+use Rattle.std.proofs.{lemmas.Bool.{lt-ltb, le-ltb, ltb-false, ltb-true}, lemmas.List.{drop-take, length-take}}
+use Rattle.byteorder.specs.{Endian.{big_number}, Numbers.{big_from-take}}
+use Rattle.rio_num.specs.{At.{At, AreBytes}, Layout.{number, ◌>>=◌}, Meanings.{Reading, Standing, read}, Plain.{Plain, plain, value_of}, Reading.{short, skip}}
 use Rattle.rio_num.specs.declared.cursor.Short.{Short as Shortage}
-use Rattle.rio_num.proofs.ReadLaws.{ok_is}
-use Rattle.rio_key.specs.BasketFront.{basket_front, number_within}
-use Rattle.rio_key.specs.BasketHead.{basket_head_at, basket_head_layout, basket_head_of}
-use Rattle.rio_key.specs.Key.{key_head_at, key_layout}
-use Rattle.rio_key.specs.declared.basket_head.BasketFront.{BasketFront}
-use Rattle.rio_key.specs.declared.basket_head.BasketHead.{BasketHead}
-use Rattle.rio_key.specs.declared.head.KeyHead.{KeyHead}
-use Rattle.rio_key.specs.declared.fault.KeyFault.{KeyFault}
-use Rattle.rio_key.specs.declared.fault.KeyFault.TheVariants.{Short}
-use Rattle.rio_key.proofs.KeyAgain.{key_found}
-use Rattle.rio_key.proofs.KeyFront.{IsKept, kept}
+use Rattle.rio_num.proofs.{ReadLaws.{ok_is}, Cut.{cut}}
+use Rattle.rio_key.specs.{BasketFront.{basket_front, number_within}, BasketHead.{basket_head_at, basket_head_layout, basket_head_of}}
+use Rattle.rio_key.specs.{Key.{key_head_at, key_layout}, declared.basket_head.BasketFront.{BasketFront}, declared.basket_head.BasketHead.{BasketHead}}
+use Rattle.rio_key.specs.{declared.head.KeyHead.{KeyHead}, declared.fault.KeyFault.{KeyFault, TheVariants.{Short}}}
+use Rattle.rio_key.proofs.{KeyAgain.{key_found}, KeyFront.{IsKept, kept}}
 
 -- ---- a head within some bytes
 
@@ -29,18 +17,14 @@ abbrev pub whole : {A : Type 0} → Result A Shortage → Result A KeyFault
 whole (Ok x) = Ok x
 whole (Err s) = Err (Short s.place s.wanted)
 
--- no more than the next n bytes
-abbrev pub within : ℕ → At → At
-within n s = record { place = s.place; rest = take n s.rest }
-
 -- reading l up to the end gives what reading m gives of no more bytes
 record IsSame {A : Type 0} (end : ℕ) (l : Plain KeyFault A) (m : Plain Shortage A) : Type 0 where
-  same : (k : ℕ) (s : At) → s.place + k ≡ end → value_of (read l (plain s)) ≡ whole (value_of (read m (plain (within k s))))
+  same : (k : ℕ) (s : At) → s.place + k ≡ end → value_of (read l (plain s)) ≡ whole (value_of (read m (plain (cut k s))))
 
 same_number : {A : Type 0} (end n : ℕ) (l : ℕ → Plain KeyFault A) (m : ℕ → Plain Shortage A) → ((x : ℕ) → IsSame end (l x) (m x)) → IsSame end (number_within end n >>= l) (number short n >>= m)
 same_number end n l m each = record { same = λ k s e. by k s e (ltb k n) (ltb (length s.rest) n) refl refl }
   where
-    by : (k : ℕ) (s : At) → s.place + k ≡ end → (past few : Bool) → ltb k n ≡ past → ltb (length s.rest) n ≡ few → value_of (read (number_within end n >>= l) (plain s)) ≡ whole (value_of (read (number short n >>= m) (plain (within k s))))
+    by : (k : ℕ) (s : At) → s.place + k ≡ end → (past few : Bool) → ltb k n ≡ past → ltb (length s.rest) n ≡ few → value_of (read (number_within end n >>= l) (plain s)) ≡ whole (value_of (read (number short n >>= m) (plain (cut k s))))
     by k s e true few p f =
         let behind : ltb end (s.place + n) ≡ true = lt-ltb _ _ (omega (arith, e, ltb-true _ _ p)) in
         let none : ltb (length (take k s.rest)) n ≡ true = lt-ltb _ _ (omega (arith, ltb-true _ _ p, length-take k s.rest)) in
@@ -64,7 +48,7 @@ unfolding basket_head_of
 head_same end =
     same_number end 2 _ _ (λ version. same_number end 4 _ _ (λ buffer_size. same_number end 4 _ _ (λ nev_size. same_number end 4 _ _ (λ nev. same_number end 4 _ _ (λ last. same_number end 1 _ _ (λ flag. record { same = λ k s e. refl }))))))
 
-pub head_within : (n : ℕ) (s : At) → value_of (read (basket_head_of (number_within (s.place + n))) (plain s)) ≡ whole (value_of (basket_head_at (within n s)))
+pub head_within : (n : ℕ) (s : At) → value_of (read (basket_head_of (number_within (s.place + n))) (plain s)) ≡ whole (value_of (basket_head_at (cut n s)))
 head_within n s = (head_same (s.place + n)).same n s refl
 
 -- ---- behind the key

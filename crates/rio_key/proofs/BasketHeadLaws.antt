@@ -1,20 +1,12 @@
 -- The head of a basket: what is written spells it, and what spells it is written so.
 use Rattle.std.proofs.Common.{◌≡◌, ℕ, ◌+◌, ◌^◌, ◌<◌, ◌≤◌, ℤ, List, ◌++◌, length, Result, Ok, Err, IfErr, IfOk, refl, sym, ap, subst, ◌∙◌, append_assoc, arith}
-use Rattle.std.proofs.lemmas.Int.{ints, of_z-to_z, to_z-of_z}
-use Rattle.std.proofs.lemmas.List.{append-nil, length-append}
-use Rattle.std.specs.Int.{w32, cast_signed, cast_unsigned}
-use Rattle.std.specs.Int.RustNames.{FitsSigned}
+use Rattle.std.proofs.{lemmas.Int.{ints, of_z-to_z, to_z-of_z}, lemmas.List.{append-nil, length-append}}
+use Rattle.std.specs.Int.{w32, cast_signed, cast_unsigned, RustNames.{FitsSigned}}
 use Rattle.byteorder.specs.Endian.{big_bytes}
-use Rattle.rio_num.specs.At.{At, AreBytes, end_place}
-use Rattle.rio_num.specs.declared.cursor.Short.{Short as Shortage}
-use Rattle.rio_num.proofs.Intro.{IsSo, done_is, number_then, so_by}
+use Rattle.rio_num.specs.{At.{At, AreBytes, end_place}, declared.cursor.Short.{Short as Shortage}, Plain.{IsSpelledBy, plain, value_of}}
+use Rattle.rio_num.proofs.{Intro.{IsSo, done_is, number_then, so_by}, Apart.{number_of}, Plain.{spelled_again, standing, value_broken, value_found}}
 use Rattle.rio_key.specs.BasketHead.{AreInRange, BreaksBasketHead, basket_head_at, basket_head_bytes, basket_head_layout, basket_head_of, integer_bytes, sizes_bytes}
-use Rattle.rio_key.specs.declared.basket_head.BasketHead.{BasketHead}
-use Rattle.rio_num.specs.Plain.{IsSpelledBy, plain, value_of}
-use Rattle.rio_key.specs.Key.{key_head_at}
-use Rattle.rio_key.specs.declared.head.KeyHead.{KeyHead}
-use Rattle.rio_num.proofs.Apart.{number_of}
-use Rattle.rio_num.proofs.Plain.{spelled_again, standing, value_broken, value_found}
+use Rattle.rio_key.specs.{declared.basket_head.BasketHead.{BasketHead}, Key.{key_head_at}, declared.head.KeyHead.{KeyHead}}
 use Rattle.rio_key.proofs.KeyAgain.{key_found}
 
 small : (z : ℤ) → FitsSigned w32 z → cast_unsigned w32 z < 2 ^ 32

@@ -1,12 +1,9 @@
 -- What spells a key is read as it, whatever follows, and what is read as a key spells it.
 use Rattle.std.proofs.Common.{◌≡◌, ℕ, ◌+◌, List, ◌++◌, length, Ok}
-use Rattle.rio_num.specs.At.{At, AreBytes}
-use Rattle.rio_num.specs.Plain.{plain}
-use Rattle.rio_key.specs.Key.{SpellsKey, key_head_at, key_layout}
-use Rattle.rio_key.specs.declared.head.KeyHead.{KeyHead}
+use Rattle.rio_num.specs.{At.{At, AreBytes}, Plain.{plain}}
+use Rattle.rio_key.specs.{Key.{SpellsKey, key_head_at, key_layout}, declared.head.KeyHead.{KeyHead}}
 use Rattle.rio_key.proofs.KeyParts.{key_moves}
-use Rattle.rio_num.proofs.Moves.{IsFound, found}
-use Rattle.rio_num.proofs.Plain.{spelled_again, standing}
+use Rattle.rio_num.proofs.{Moves.{IsFound, found}, Plain.{spelled_again, standing}}
 
 pub key_again : (h : KeyHead) (bytes : List ℕ) (p : ℕ) (rest : List ℕ) → SpellsKey h bytes → key_head_at (standing p (bytes ++ rest)) ≡ Ok (h, plain (standing (p + length bytes) rest))
 unfolding SpellsKey

@@ -1,19 +1,10 @@
 -- A key ends within its KeyLen: so many bytes give it as all do.
 use Rattle.std.proofs.Common.{◌≡◌, ℕ, ◌+◌, ◌-◌, ◌≤◌, pos, Bool, true, false, cond, int_lt, ltb, nat_lt, List, ◌++◌, length, take, drop, Ok, Err, refl, sym, ap, subst, ◌∙◌, append_assoc, arith}
-use Rattle.std.proofs.lemmas.Bool.{ltb-false, le-ltb}
-use Rattle.std.proofs.lemmas.List.{take-append-drop}
-use Rattle.std.proofs.Math.Seq.{take-append-add}
-use Rattle.rio_num.specs.At.{At}
-use Rattle.rio_num.specs.Meanings.{Reading, Standing, read}
-use Rattle.rio_num.proofs.ReadLaws.{bind_ok, ok_is}
-use Rattle.rio_num.specs.Plain.{plain}
-use Rattle.rio_key.specs.Key.{key_at, key_fields, key_head_at, key_layout}
-use Rattle.rio_key.specs.Laws.{KeyFromFront, KeyInFront}
-use Rattle.rio_key.specs.declared.head.KeyHead.{KeyHead}
-use Rattle.rio_key.specs.declared.fault.KeyFault.{KeyFault}
-use Rattle.rio_key.specs.declared.fault.KeyFault.TheVariants.{BadLength, BadKeyLen}
-use Rattle.rio_num.proofs.Plain.{standing, value_ok}
-use Rattle.rio_num.proofs.LayoutFront.{AreFields, front_again}
+use Rattle.std.proofs.{lemmas.Bool.{ltb-false, le-ltb}, lemmas.List.{take-append-drop}, Math.Seq.{take-append-add}}
+use Rattle.rio_num.specs.{At.{At}, Meanings.{Reading, Standing, read}, Plain.{plain}}
+use Rattle.rio_num.proofs.{ReadLaws.{bind_ok, ok_is}, Plain.{standing, value_ok}, LayoutFront.{AreFields, front_again}}
+use Rattle.rio_key.specs.{Key.{key_at, key_fields, key_head_at, key_layout}, Laws.{KeyFromFront, KeyInFront}, declared.head.KeyHead.{KeyHead}}
+use Rattle.rio_key.specs.declared.fault.KeyFault.{KeyFault, TheVariants.{BadLength, BadKeyLen}}
 
 abbrev pub Read : Type 0
 Read = Reading (Unit {0}) KeyFault KeyHead

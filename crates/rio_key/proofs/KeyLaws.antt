@@ -1,8 +1,7 @@
 -- One key, and one list of key heads, is spelled at the beginning of some bytes.
 use Rattle.rio_num.specs.Plain.{IsOne}
 use Rattle.rio_num.proofs.Plain.{one_spelled}
-use Rattle.rio_key.specs.Key.{SpellsKey, key_layout}
-use Rattle.rio_key.specs.KeyList.{SpellsKeyList, key_list_layout}
+use Rattle.rio_key.specs.{Key.{SpellsKey, key_layout}, KeyList.{SpellsKeyList, key_list_layout}}
 
 pub one_key_lem : IsOne SpellsKey
 unfolding SpellsKey

@@ -2,23 +2,15 @@
 use Rattle.std.proofs.Common.{◌≡◌, ℕ, ◌+◌, ◌<◌, ◌^◌, Some, List, [], ◌∷◌, ◌++◌, length, Result, Ok, Err, ap, subst, ◌∙◌, arith}
 use Rattle.std.specs.Prelude.{IfOk}
 use Rattle.byteorder.specs.Endian.{big_bytes}
-use Rattle.rio_num.specs.Answers.{GivesUnless, ReadsUnless, TellsUnless}
-use Rattle.rio_num.specs.At.{At, AreBytes}
-use Rattle.rio_num.specs.Layout.{each, times}
-use Rattle.rio_num.specs.Meanings.{Spells}
-use Rattle.rio_num.proofs.Agree as Agree
-use Rattle.rio_num.proofs.Intro.{IsSo, both_are, done_is, ends_with, here_then, number_then}
-use Rattle.rio_num.proofs.Retold.{retold_spelled, told_before}
+use Rattle.rio_num.specs.{Answers.{GivesUnless, ReadsUnless, TellsUnless}, At.{At, AreBytes}, Layout.{each, times}, Meanings.{Spells}}
 use Rattle.rio_num.specs.Plain.{IsSpelledIn, plain, value_of}
+use Rattle.rio_num.proofs.Agree as Agree
+use Rattle.rio_num.proofs.{Intro.{IsSo, both_are, done_is, ends_with, here_then, number_then}, Retold.{retold_spelled, told_before}, Apart.{here_of}}
+use Rattle.rio_num.proofs.{Plain.{spelled_again, standing}, Moves.{IsFound, Moves, found, moves_behind, moves_number, moves_times}}
 use Rattle.rio_key.specs.Key.{SpellsKey, key_layout}
 use Rattle.rio_key.specs.KeyList.{BreaksKeyList, SpellsKeyList, listed_fault, key_list_at, key_list_layout, list_memory, listed_key}
-use Rattle.rio_key.specs.declared.head.KeyHead.{KeyHead}
-use Rattle.rio_key.specs.declared.fault.ListFault.{ListFault}
-use Rattle.rio_num.proofs.Apart.{here_of}
-use Rattle.rio_num.proofs.Plain.{spelled_again, standing}
-use Rattle.rio_key.proofs.KeyParts.{key_moves}
-use Rattle.rio_key.proofs.KeyRead.{value_given}
-use Rattle.rio_num.proofs.Moves.{IsFound, Moves, found, moves_behind, moves_number, moves_times}
+use Rattle.rio_key.specs.{declared.head.KeyHead.{KeyHead}, declared.fault.ListFault.{ListFault}}
+use Rattle.rio_key.proofs.{KeyParts.{key_moves}, KeyRead.{value_given}}
 
 -- ---- a list stands anywhere
 

@@ -1,16 +1,11 @@
 -- What spells a key, part by part.
 use Rattle.std.proofs.Common.{◌≡◌, ℕ, ◌+◌, ◌-◌, ◌^◌, ◌<◌, ◌≤◌, pos, false, ltb, int_lt, List, ◌++◌, length, refl, sym, ap, subst, ◌∙◌, append_assoc, arith}
-use Rattle.std.proofs.lemmas.Bool.{le-ltb, ltb-false}
-use Rattle.std.proofs.lemmas.List.{append-nil}
+use Rattle.std.proofs.{lemmas.Bool.{le-ltb, ltb-false}, lemmas.List.{append-nil}}
 use Rattle.std.specs.Int.{w32, cast_signed}
-use Rattle.rio_num.specs.Text.{SpellsText}
-use Rattle.rio_num.specs.Meanings.{Spells}
+use Rattle.rio_num.specs.{Text.{SpellsText}, Meanings.{Spells}}
 use Rattle.rio_num.proofs.Intro.{IsSo, done_is, ends_with, here_then, number_then, second_is, so_by, text_then}
-use Rattle.rio_key.specs.Key.{SpellsKey, key_fields, key_layout}
-use Rattle.rio_key.specs.Written.{AreWithinFields, number_bytes}
-use Rattle.rio_key.specs.declared.head.KeyHead.{KeyHead}
-use Rattle.rio_num.proofs.Apart.{both_of, here_of, number_of, text_of, unbroken}
-use Rattle.rio_num.proofs.Moves.{Moves}
+use Rattle.rio_num.proofs.{Apart.{both_of, here_of, number_of, text_of, unbroken}, Moves.{Moves}}
+use Rattle.rio_key.specs.{Key.{SpellsKey, key_fields, key_layout}, Written.{AreWithinFields, number_bytes}, declared.head.KeyHead.{KeyHead}}
 use Rattle.rio_key.proofs.Signed.{at_least, not_below, signed_is}
 
 -- the fields, and the bytes of each text

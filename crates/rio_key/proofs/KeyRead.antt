@@ -1,14 +1,10 @@
 -- What a reader of a key returned is spelled, and what is spelled is returned.
 use Rattle.std.proofs.Common.{◌≡◌, ℕ, List, ◌++◌, Result, Ok, Err, ap, subst, ◌∙◌}
 use Rattle.std.specs.Prelude.{IfOk}
-use Rattle.rio_num.specs.Answers.{GivesUnless, ReadsUnless, TellsUnless}
-use Rattle.rio_num.specs.At.{At, AreBytes}
+use Rattle.rio_num.specs.{Answers.{GivesUnless, ReadsUnless, TellsUnless}, At.{At, AreBytes}, Plain.{IsSpelledIn, plain, value_of}}
 use Rattle.rio_num.proofs.Agree as Agree
-use Rattle.rio_num.specs.Plain.{IsSpelledIn, plain, value_of}
-use Rattle.rio_key.specs.Key.{BreaksKey, SpellsKey, key_head_at, key_layout}
-use Rattle.rio_key.specs.declared.head.KeyHead.{KeyHead}
-use Rattle.rio_key.specs.declared.fault.KeyFault.{KeyFault}
-use Rattle.rio_key.specs.declared.fault.KeyFault.TheVariants.{NoMemory}
+use Rattle.rio_key.specs.{Key.{BreaksKey, SpellsKey, key_head_at, key_layout}, declared.head.KeyHead.{KeyHead}}
+use Rattle.rio_key.specs.declared.fault.KeyFault.{KeyFault, TheVariants.{NoMemory}}
 use Rattle.rio_num.proofs.Plain.{standing}
 use Rattle.rio_key.proofs.KeyAgain.{key_again, key_found}
 

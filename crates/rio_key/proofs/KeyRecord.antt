@@ -1,21 +1,12 @@
 -- A key's first number is the length of its record, which holds the key.
 use Rattle.std.proofs.Common.{◌≡◌, ℕ, ◌≤◌, ◌<◌, ◌^◌, pos, Bool, true, false, cond, int_lt, ltb, List, length, Ok, Err, refl, sym, ap, ◌∙◌, arith}
-use Rattle.std.proofs.lemmas.Bool.{ltb-false}
+use Rattle.std.proofs.{lemmas.Bool.{ltb-false}, lemmas.Int.{ints}}
 use Rattle.std.specs.Int.{w32, cast_signed, cast_unsigned}
-use Rattle.std.proofs.lemmas.Int.{ints}
 use Rattle.byteorder.specs.Endian.{big_number}
-use Rattle.rio_num.specs.At.{At}
-use Rattle.rio_num.specs.Meanings.{Standing, of_bytes}
-use Rattle.rio_num.specs.Reading.{short, skip}
-use Rattle.rio_num.proofs.ReadLaws.{ok_is}
-use Rattle.rio_num.specs.Plain.{plain}
-use Rattle.rio_num.proofs.InOrder.{Reads, next_of}
-use Rattle.rio_key.specs.Key.{key_at, key_fields}
-use Rattle.rio_key.specs.declared.head.KeyHead.{KeyHead}
-use Rattle.rio_key.specs.declared.fault.KeyFault.{KeyFault}
-use Rattle.rio_key.specs.declared.fault.KeyFault.TheVariants.{Short}
-use Rattle.rio_key.proofs.KeyFront.{kept}
-use Rattle.rio_key.proofs.Signed.{at_least, signed_is}
+use Rattle.rio_num.specs.{At.{At}, Meanings.{Standing, of_bytes}, Reading.{short, skip}, Plain.{plain}}
+use Rattle.rio_num.proofs.{ReadLaws.{ok_is}, InOrder.{Reads, next_of}}
+use Rattle.rio_key.specs.{Key.{key_at, key_fields}, declared.head.KeyHead.{KeyHead}, declared.fault.KeyFault.{KeyFault, TheVariants.{Short}}}
+use Rattle.rio_key.proofs.{KeyFront.{kept}, Signed.{at_least, signed_is}}
 
 -- ---- the first number
 
@@ -50,7 +41,7 @@ pub record HasRecord (bytes : List ℕ) (h : KeyHead) : Type 0 where
   pub length_is : cast_unsigned w32 h.nbytes ≡ big_number 4 bytes
   pub key_held : h.keylen ≤ big_number 4 bytes
 
-unsigned_is : (n : ℕ) → n < 2 ^ 31 → cast_unsigned w32 (pos n) ≡ n
+pub unsigned_is : (n : ℕ) → n < 2 ^ 31 → cast_unsigned w32 (pos n) ≡ n
 unsigned_is n lt = grind (arith, ints)
 
 -- and these four bytes are there

@@ -1,14 +1,10 @@
 -- A key that is written is spelled by what was written.
-use Rattle.std.proofs.Common.{◌≡◌, pos, refl, ap, sym, ◌∙◌, arith}
+use Rattle.std.proofs.{Common.{◌≡◌, pos, refl, ap, sym, ◌∙◌, arith}, lemmas.Int.{of_z-to_z}}
 use Rattle.std.specs.Int.{w32, cast_signed, cast_unsigned}
-use Rattle.std.proofs.lemmas.Int.{of_z-to_z}
-use Rattle.rio_key.proofs.Signed.{signed_is}
+use Rattle.rio_key.proofs.{Signed.{signed_is}, KeyParts.{HasKey, key_of_parts}}
 use Rattle.rio_num.specs.Text.{text_bytes}
 use Rattle.rio_num.proofs.ReadLaws.{text_written}
-use Rattle.rio_key.specs.Key.{SpellsKey}
-use Rattle.rio_key.specs.Written.{FitsKey, HoldsItself, written_key}
-use Rattle.rio_key.specs.declared.head.KeyHead.{KeyHead}
-use Rattle.rio_key.proofs.KeyParts.{HasKey, key_of_parts}
+use Rattle.rio_key.specs.{Key.{SpellsKey}, Written.{FitsKey, HoldsItself, written_key}, declared.head.KeyHead.{KeyHead}}
 
 pub key_spelled : (h : KeyHead) → FitsKey h → HoldsItself h → SpellsKey h (written_key h)
 key_spelled h fits holds =

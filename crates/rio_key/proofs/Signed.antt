@@ -1,6 +1,5 @@
 -- Numbers of 4 bytes that stand for integers.
-use Rattle.std.proofs.Common.{◌≡◌, ℕ, ◌^◌, ◌<◌, ◌≤◌, pos, false, int_lt, arith}
-use Rattle.std.proofs.lemmas.Int.{ints}
+use Rattle.std.proofs.{Common.{◌≡◌, ℕ, ◌^◌, ◌<◌, ◌≤◌, pos, false, int_lt, arith}, lemmas.Int.{ints}}
 use Rattle.std.specs.Int.{w32, cast_signed}
 
 pub signed_is : (n : ℕ) → n < 2 ^ 31 → cast_signed w32 n ≡ pos n

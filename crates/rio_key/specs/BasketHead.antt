@@ -1,13 +1,7 @@
 -- What the key of a basket has behind its title: as it is read, and as it is written.
-use Rattle.std.specs.Prelude.{ℕ, ◌^◌, ◌<◌, ℤ, List, ◌++◌}
-use Rattle.std.specs.Int.{w32, cast_signed, cast_unsigned}
-use Rattle.std.specs.Int.RustNames.{FitsSigned}
+use Rattle.std.specs.{Prelude.{ℕ, ◌^◌, ◌<◌, ℤ, List, ◌++◌}, Int.{w32, cast_signed, cast_unsigned, RustNames.{FitsSigned}}}
 use Rattle.byteorder.specs.Endian.{big_bytes}
-use Rattle.rio_num.specs.At.{At}
-use Rattle.rio_num.specs.Layout.{done, number, ◌>>=◌}
-use Rattle.rio_num.specs.Meanings.{Reading, read, Breaks}
-use Rattle.rio_num.specs.Reading.{short}
-use Rattle.rio_num.specs.declared.cursor.Short.{Short as Shortage}
+use Rattle.rio_num.specs.{At.{At}, Layout.{done, number, ◌>>=◌}, Meanings.{Reading, read, Breaks}, Reading.{short}, declared.cursor.Short.{Short as Shortage}}
 use Rattle.rio_num.specs.Plain.{Plain, plain}
 use Rattle.rio_key.specs.declared.basket_head.BasketHead.{BasketHead}
 

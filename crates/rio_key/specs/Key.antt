@@ -1,19 +1,10 @@
 -- A key. Each rule stands here once; the meanings of descriptions say how it is read, spelled and broken.
-use Rattle.std.specs.Prelude.{ℕ, ◌-◌, pos, List, Result, nat_lt, if◌then◌else◌, int_lt, ◌-ℤ◌, Bool}
-use Rattle.std.specs.Int.{w32, cast_signed}
-use Rattle.rio_num.specs.At.{At}
-use Rattle.rio_num.specs.Layout.{done, broken, number, text, here, ◌>>=◌, when◌then◌else◌}
-use Rattle.rio_num.specs.Meanings.{Reading, read, Breaks}
+use Rattle.std.specs.{Prelude.{ℕ, ◌-◌, pos, List, Result, nat_lt, int_lt, ◌-ℤ◌, Bool}, Int.{w32, cast_signed}}
+use Rattle.rio_num.specs.{At.{At, place_len_of}, Layout.{done, broken, number, text, here, ◌>>=◌, when◌then◌else◌}, Meanings.{Reading, read, Breaks}}
 use Rattle.rio_num.specs.Plain.{IsSpelledBy, Plain, plain, value_of}
-use Rattle.rio_key.specs.declared.head.KeyHead.{KeyHead}
-use Rattle.rio_key.specs.declared.fault.KeyFault.{KeyFault}
-use Rattle.rio_key.specs.declared.fault.KeyFault.TheVariants.{Short, BadLength, BadKeyLen}
+use Rattle.rio_key.specs.{declared.head.KeyHead.{KeyHead}, declared.fault.KeyFault.{KeyFault, TheVariants.{Short, BadLength, BadKeyLen}}}
 
 -- ---- the layout
-
--- how many bytes a place in the file takes: 8 in keys of the large form
-abbrev pub key_place_len : ℕ → ℕ
-key_place_len version = if nat_lt 1000 version then 8 else 4
 
 -- the fields, each of them whole
 unfoldable pub key_fields : Plain KeyFault KeyHead
@@ -24,8 +15,8 @@ key_fields = do
   datime ← number Short 4
   keylen ← number Short 2
   cycle ← number Short 2
-  seek ← number Short (key_place_len version)
-  pdir ← number Short (key_place_len version)
+  seek ← number Short (place_len_of version)
+  pdir ← number Short (place_len_of version)
   class ← text Short
   name ← text Short
   title ← text Short

@@ -1,13 +1,7 @@
 -- A list of key heads: their count, and so many heads, one behind the other.
 use Rattle.std.specs.Prelude.{ℕ, List, Option, Some, None}
-use Rattle.rio_num.specs.At.{At}
-use Rattle.rio_num.specs.Layout.{number, here, times, retold, ◌>>=◌}
-use Rattle.rio_num.specs.Meanings.{Reading, read, Breaks}
-use Rattle.rio_num.specs.Plain.{IsSpelledBy, Plain, plain}
-use Rattle.rio_key.specs.Key.{key_layout}
-use Rattle.rio_key.specs.declared.head.KeyHead.{KeyHead}
-use Rattle.rio_key.specs.declared.fault.KeyFault.{KeyFault}
-use Rattle.rio_key.specs.declared.fault.KeyFault.TheVariants.{Short, NoMemory}
+use Rattle.rio_num.specs.{At.{At}, Layout.{number, here, times, retold, ◌>>=◌}, Meanings.{Reading, read, Breaks}, Plain.{IsSpelledBy, Plain, plain}}
+use Rattle.rio_key.specs.{Key.{key_layout}, declared.head.KeyHead.{KeyHead}, declared.fault.KeyFault.{KeyFault, TheVariants.{Short, NoMemory}}}
 use Rattle.rio_key.specs.declared.fault.ListFault.{ListFault}
 
 -- a fault of the list, in the head at a place or in the count

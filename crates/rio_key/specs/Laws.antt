@@ -1,7 +1,6 @@
 -- What holds of every key and every list of key heads.
 use Rattle.std.specs.Prelude.{◌≡◌, ℕ, ◌≤◌, List, take, Ok}
-use Rattle.rio_key.specs.Key.{key_at}
-use Rattle.rio_key.specs.declared.head.KeyHead.{KeyHead}
+use Rattle.rio_key.specs.{Key.{key_at}, declared.head.KeyHead.{KeyHead}}
 
 -- a key ends within its KeyLen: it is read from so many bytes as from all
 abbrev pub KeyInFront : Type 0

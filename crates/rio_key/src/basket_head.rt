@@ -150,29 +150,3 @@ pub fn write_basket_head(head: &BasketHead, into: &mut Bytes) -> Result<(), NoMe
     put_basket_head(head, &mut bytes)?;
     into.put(bytes.as_slice())
 }
-
-#[cfg(test)]
-mod tests {
-    use super::*;
-    use std::test::Fail;
-
-    // Of the basket of three entries of 4 bytes each, behind a key of 57 bytes.
-    const HEAD: &[u8] = b"\0\x03\0\0\x7d\0\0\0\0\x04\0\0\0\x03\0\0\0\x45\0";
-
-    #[test]
-    fn reads_and_writes_the_head_of_a_basket(rt: HostRuntime) -> Result<(), Fail> {
-        let head = BasketHead {
-            version: 3,
-            buffer_size: 32000,
-            nev_size: 4,
-            nev: 3,
-            last: 69,
-            flag: 0,
-        };
-        assert_eq!(rt; read_basket_head(HEAD, 38)?, head);
-        let mut bytes = Bytes::new(rt.alloc());
-        write_basket_head(&head, &mut bytes)?;
-        assert!(rt; bytes.as_slice() == HEAD);
-        Ok(())
-    }
-}

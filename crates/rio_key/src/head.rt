@@ -1,8 +1,8 @@
 //! The head of a record.
-ghost use Rattle.std.specs.Prelude.{◌≡◌, IfOk};
+ghost use Rattle.std.specs.Prelude.{◌≡◌, IfOk, drop};
 ghost use Rattle.rio_key.specs.Key.{is_compressed};
 
-use rio_num::{Name, NoMemory};
+use rio_num::{Name, NoMemory, bytes_from};
 
 /// The head of a record.
 #[derive(Debug, PartialEq, Drop)]
@@ -32,6 +32,14 @@ impl KeyHead {
         ensures { result ≡ is_compressed self.now }
     {
         i64::from(self.objlen) > i64::from(self.nbytes) - i64::from(self.keylen)
+    }
+
+    /// The data of the record that has these bytes: they begin behind the key. There are none where
+    /// the bytes end before.
+    pub fn data_of<'a>(&self, bytes: &'a [u8]) -> &'a [u8]
+        ensures { result.now ≡ drop self.now.keylen bytes.now }
+    {
+        bytes_from(bytes, usize::from(self.keylen))
     }
 
     /// An equal head.

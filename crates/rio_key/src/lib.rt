@@ -2,7 +2,7 @@
 //!
 //! A key, a list of heads, the head of a basket and a basket's key with the head behind it stand once, as descriptions
 //! (`specs/Key.antt`, `KeyList.antt`, `BasketHead.antt`, `BasketFront.antt`), of which reading, spelling and the first fault
-//! are three meanings. `specs/Written.antt` has what is written.
+//! are three meanings. `specs/Written.antt` has what is written. Its tests stand in `rio_rows`.
 #![tactic(auto)]
 
 mod basket_head;
@@ -22,6 +22,3 @@ pub use laws::{key_in_front, meanings_agree, one_key, one_key_list, written_key_
 pub use list::{Heads, read_heads};
 pub use read::read_key;
 pub use write::{key_length, write_key};
-
-#[cfg(test)]
-mod tests;

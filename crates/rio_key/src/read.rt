@@ -1,11 +1,11 @@
 //! A key is read at its place.
 ghost use Rattle.std.specs.Prelude.{◌≡◌, ◌+◌, ◌<◌, ◌^◌, ◌++◌, ℕ, List, Ok, length, IfOk};
 ghost use Rattle.rio_num.specs.Answers.{GivesUnless, ReadsUnless, TellsUnless};
-ghost use Rattle.rio_num.specs.At.{GoesOn, standing_at};
+ghost use Rattle.rio_num.specs.At.{GoesOn, place_len_of, standing_at};
 ghost use Rattle.rio_num.specs.Reading.{Takes, number_at};
 ghost use Rattle.rio_num.specs.Meanings.{read};
 ghost use Rattle.rio_num.specs.Plain.{IsSpelledIn, plain};
-ghost use Rattle.rio_key.specs.Key.{BreaksKey, SpellsKey, key_at, key_fields, key_head_at, key_place_len};
+ghost use Rattle.rio_key.specs.Key.{BreaksKey, SpellsKey, key_at, key_fields, key_head_at};
 ghost use Rattle.rio_key.specs.declared.fault.KeyFault.TheVariants.{NoMemory as OutOfMemory};
 
 use crate::{KeyFault, KeyHead};
@@ -14,7 +14,7 @@ use std::alloc::Global;
 
 // A place in the file, as long as keys of this version have it.
 fn take_place(cursor: &mut Cursor, version: u16) -> Result<u64, Short>
-    ensures exact { Takes (λ x. x) result (number_at (key_place_len version) cursor.old) cursor.old
+    ensures exact { Takes (λ x. x) result (number_at (place_len_of version) cursor.old) cursor.old
         cursor.new }
     ensures goes { GoesOn cursor.old cursor.new }
 {

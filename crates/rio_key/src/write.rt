@@ -4,7 +4,7 @@ ghost use Rattle.std.specs.Int.{w32, cast_unsigned};
 ghost use Rattle.byteorder.specs.Endian.{big_bytes};
 ghost use Rattle.rio_num.specs.Room.{Appends};
 ghost use Rattle.rio_num.specs.Text.{text_bytes};
-ghost use Rattle.rio_key.specs.Key.{key_place_len};
+ghost use Rattle.rio_num.specs.At.{place_len_of};
 ghost use Rattle.rio_key.specs.Written.{FitsKey, number_bytes, written_key};
 
 use crate::KeyHead;
@@ -12,8 +12,8 @@ use rio_num::{Bytes, NoMemory};
 
 // A place in the file, as long as keys of this version have it.
 fn put_place(version: u16, place: u64, into: &mut Bytes) -> Result<(), NoMemory>
-    requires { place < 256 ^ key_place_len version }
-    ensures { Appends into.old into.new (big_bytes (key_place_len version) place) result }
+    requires { place < 256 ^ place_len_of version }
+    ensures { Appends into.old into.new (big_bytes (place_len_of version) place) result }
 {
     if version > 1000 {
         into.put_u64(place)

@@ -1,13 +1,8 @@
 -- Words that are no dimension.
 use Rattle.std.proofs.Common.{◌≡◌, ℕ, ◌+◌, ◌*◌, ◌<◌, ◌≤◌, List, [], ◌∷◌, length, drop, get_or, slice_index, false, ◌==◌, ◌&&◌, not, refl, sym, ap, ◌∙◌, arith, le_refl, le_trans}
-use Rattle.std.specs.Char.{is_ascii_digit, digit_value}
-use Rattle.std.specs.Str.{all_ascii_digits}
-use Rattle.std.specs.Str.Parse.{digits_value, digits_value_after}
-use Rattle.std.proofs.lemmas.Bool.{and_left, and_right}
-use Rattle.std.proofs.lemmas.Bool.Decides.{nat_tests}
-use Rattle.std.proofs.lemmas.List.{drop_more}
-use Rattle.rio_leaf.specs.Leaves.{is_leaf_count}
-use Rattle.rio_leaf.specs.Reading.{is_dimension}
+use Rattle.std.proofs.{lemmas.Bool.{and_left, and_right, Decides.{nat_tests}}, lemmas.List.{drop_more}}
+use Rattle.std.specs.{Char.{is_ascii_digit, digit_value}, Str.{all_ascii_digits, Parse.{digits_value, digits_value_after}}}
+use Rattle.rio_leaf.specs.{Leaves.{is_leaf_count}, Reading.{is_dimension}}
 
 -- digits that follow make no number smaller
 pub grows : (n : ℕ) (ds : List ℕ) → n ≤ digits_value_after 10 n ds

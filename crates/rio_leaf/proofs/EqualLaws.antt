@@ -1,16 +1,10 @@
 -- The comparisons of branches and of their parts tell whether they are the same.
-use Rattle.std.proofs.Common.{◌≡◌, List, Decides, ap, rules}
-use Rattle.std.proofs.lemmas.Bool.Decides.{Decides-and, Decides-eqb, Decides-like}
+use Rattle.std.proofs.{Common.{◌≡◌, List, Decides, ap, rules}, lemmas.Bool.Decides.{Decides-and, Decides-eqb, Decides-like}}
 use Rattle.std.specs.Cmp.Lexicographic.{pointwise, pointwise_decides, bytes_decides}
 use Rattle.rio_leaf.specs.contracts.branch.BranchDefPartialEq.TheImpl.{eq-value as branch_equal}
-use Rattle.rio_leaf.specs.contracts.branch.ShapePartialEq.TheImpl.{eq-value as shape_equal}
-use Rattle.rio_leaf.specs.contracts.leaf.DimPartialEq.TheImpl.{eq-value as dim_equal}
-use Rattle.rio_leaf.specs.contracts.leaf.LeafPartialEq.TheImpl.{eq-value as leaf_equal}
-use Rattle.rio_leaf.specs.declared.branch.BranchDef.{BranchDef as Branch}
-use Rattle.rio_leaf.specs.declared.branch.Shape.{Shape}
-use Rattle.rio_leaf.specs.declared.branch.Shape.TheVariants.{Leaves, Class}
-use Rattle.rio_leaf.specs.declared.leaf.Dim.{Dim}
-use Rattle.rio_leaf.specs.declared.leaf.Leaf.{Leaf}
+use Rattle.rio_leaf.specs.{contracts.branch.ShapePartialEq.TheImpl.{eq-value as shape_equal}, contracts.leaf.DimPartialEq.TheImpl.{eq-value as dim_equal}}
+use Rattle.rio_leaf.specs.{contracts.leaf.LeafPartialEq.TheImpl.{eq-value as leaf_equal}, declared.branch.BranchDef.{BranchDef as Branch}}
+use Rattle.rio_leaf.specs.{declared.branch.Shape.{Shape, TheVariants.{Leaves, Class}}, declared.leaf.Dim.{Dim}, declared.leaf.Leaf.{Leaf}}
 
 dim_decides : (a b : Dim) → Decides (dim_equal.it a b) (a ≡ b)
 dim_decides a b = search rules

@@ -1,21 +1,11 @@
 -- What is written for a leaf is read as it.
 use Rattle.std.proofs.Common.{◌≡◌, ℕ, ◌+◌, ◌^◌, ◌<◌, ◌≤◌, List, [], ◌∷◌, ◌++◌, length, get_or, slice_index, Bool, true, false, ◌==◌, ◌&&◌, ◌||◌, not, nat_le, Option, Some, Ok, refl, sym, ap, ◌∙◌, arith, append_assoc, length-append}
-use Rattle.std.specs.Char.{is_ascii_digit}
-use Rattle.std.specs.Fmt.{decimal}
-use Rattle.std.specs.List.{list_all}
-use Rattle.std.specs.Str.{all_ascii_digits}
-use Rattle.std.specs.Str.Parse.{digits_value}
-use Rattle.std.proofs.lemmas.Bool.{and_parts, eqb-true, not-true}
-use Rattle.std.proofs.lemmas.Bool.Decides.{nat_tests}
-use Rattle.std.proofs.lemmas.Fmt.{digits_decimal, digits_value-decimal, first_decimal}
-use Rattle.std.proofs.lemmas.List.{take_at, drop_at}
-use Rattle.std.proofs.lemmas.Str.Parse.{IsNumeralModel, numerals_by_value, tells_all_ascii_digits}
-use Rattle.rio_num.specs.At.{At}
-use Rattle.rio_num.specs.Word.{begins_name, goes_on_name, is_item_byte, is_name_text}
+use Rattle.std.proofs.{lemmas.Bool.{and_parts, eqb-true, not-true, Decides.{nat_tests}}, lemmas.Fmt.{digits_decimal, digits_value-decimal, first_decimal}}
+use Rattle.std.proofs.{lemmas.List.{take_at, drop_at}, lemmas.Str.Parse.{IsNumeralModel, numerals_by_value, tells_all_ascii_digits}}
+use Rattle.std.specs.{Char.{is_ascii_digit}, Fmt.{decimal}, List.{list_all}, Str.{all_ascii_digits, Parse.{digits_value}}}
+use Rattle.rio_num.specs.{At.{At}, Word.{begins_name, goes_on_name, is_word_byte, is_name_text}}
 use Rattle.rio_num.proofs.Words.{IsOfWord, Stops, name_of_word, word_ends_there}
-use Rattle.rio_leaf.specs.declared.leaf.Dim.{Dim}
-use Rattle.rio_leaf.specs.declared.leaf.Dim.TheVariants.{One, Fixed, Counted}
-use Rattle.rio_leaf.specs.declared.leaf.Leaf.{Leaf}
+use Rattle.rio_leaf.specs.{declared.leaf.Dim.{Dim, TheVariants.{One, Fixed, Counted}}, declared.leaf.Leaf.{Leaf}}
 use Rattle.rio_leaf.specs.Leaves.{counts_for, is_dim, is_leaf_count, is_letter_of, is_one, is_taken}
 use Rattle.rio_leaf.specs.Marks.{before_dimension, is_leaf_letter, letter_of_texts}
 use Rattle.rio_leaf.specs.Reading.{ReadLeaf, begins_with, byte_at, dim_at, dim_of, from_place, leaf_at, leaf_name_of, letter_in, no_more_at, said_at}
@@ -39,7 +29,7 @@ name_no_digits (b ∷ bs) h =
     let inner = and_parts (begins_name b) (list_all goes_on_name bs) outer.0 in
     rw (no_digit_first b inner.0) refl
 
-digit_item : (b : ℕ) → is_ascii_digit b ≡ true → is_item_byte b ≡ true
+digit_item : (b : ℕ) → is_ascii_digit b ≡ true → is_word_byte b ≡ true
 digit_item b h = grind arith
 
 pub digits_of_word : (bs : List ℕ) → all_ascii_digits bs ≡ true → IsOfWord bs
@@ -49,7 +39,7 @@ digits_of_word (b ∷ bs) h = let parts = and_parts (is_ascii_digit b) (all_asci
 pub own : IsNumeralModel (λ ds. all_ascii_digits ds ≡ true) (digits_value 10)
 own = numerals_by_value (λ ds. all_ascii_digits ds ≡ true) tells_all_ascii_digits
 
-pub letter_item : (b : ℕ) → is_leaf_letter b ≡ true → is_item_byte b ≡ true
+pub letter_item : (b : ℕ) → is_leaf_letter b ≡ true → is_word_byte b ≡ true
 letter_item b h = grind (arith, nat_tests)
 
 -- ---- dimensions

@@ -1,27 +1,15 @@
 -- What is read as a leaf is written so.
 use Rattle.std.proofs.Common.{inl, inr, ◌≡◌, ℕ, ◌+◌, ◌<◌, ◌≤◌, List, [], ◌∷◌, ◌++◌, length, take, drop, get_or, slice_index, true, false, ◌==◌, ◌&&◌, not, Option, Some, None, Ok, refl, sym, ap, subst, ◌∙◌, arith, append_assoc, length-append}
-use Rattle.std.specs.Fmt.{decimal}
-use Rattle.std.specs.List.{list_all}
-use Rattle.std.specs.Str.{all_ascii_digits}
-use Rattle.std.specs.Str.Parse.{digits_value}
-use Rattle.std.proofs.lemmas.Bool.{and_parts, eqb-true}
-use Rattle.std.proofs.lemmas.Fmt.{decimal-digits_value}
-use Rattle.std.proofs.lemmas.List.{take-append-drop}
-use Rattle.std.proofs.lemmas.List.Folds.{length-prefix_len}
+use Rattle.std.proofs.{lemmas.Bool.{and_parts, eqb-true}, lemmas.Fmt.{decimal-digits_value}, lemmas.List.{take-append-drop, Folds.{length-prefix_len}}}
 use Rattle.std.proofs.lemmas.Option.{same_Some}
-use Rattle.rio_num.specs.At.{At}
-use Rattle.rio_num.specs.Reading.{◌>>=◌, skip, some_if}
-use Rattle.rio_num.specs.Word.{is_item_byte, is_name_text}
-use Rattle.rio_num.proofs.ReadLaws.{bind_ok, ok_is, chosen, if_is}
-use Rattle.rio_leaf.specs.declared.fault.LeafFault.{LeafFault}
-use Rattle.rio_leaf.specs.declared.leaf.Dim.{Dim}
-use Rattle.rio_leaf.specs.declared.leaf.Dim.TheVariants.{One, Fixed, Counted}
-use Rattle.rio_leaf.specs.declared.leaf.Leaf.{Leaf}
+use Rattle.std.specs.{Fmt.{decimal}, List.{list_all}, Str.{all_ascii_digits, Parse.{digits_value}}}
+use Rattle.rio_num.specs.{At.{At}, Reading.{◌>>=◌, skip, some_if}, Word.{is_word_byte, is_name_text}}
+use Rattle.rio_num.proofs.{ReadLaws.{bind_ok, ok_is, chosen, if_is}, Cases.{nothing_left}}
+use Rattle.rio_leaf.specs.{declared.fault.LeafFault.{LeafFault}, declared.leaf.Dim.{Dim, TheVariants.{One, Fixed, Counted}}, declared.leaf.Leaf.{Leaf}}
 use Rattle.rio_leaf.specs.Leaves.{counts_for, is_dim, is_leaf_count, is_letter_of, is_taken}
 use Rattle.rio_leaf.specs.Reading.{ReadLeaf, begins_with, bracketed_at, byte_at, dim_at, dim_of, found_at, is_dimension, leaf_at, leaf_name_of, letter_in, no_more_at, said_at, word_length}
 use Rattle.rio_leaf.specs.Spelling.{is_leaf_behind, text_of_dim, text_of_leaf}
-use Rattle.rio_leaf.proofs.LeafAgain.{count_bounds, ends_dim, own}
-use Rattle.rio_leaf.proofs.TokenLaws.{all_of_word, word_stops}
+use Rattle.rio_leaf.proofs.{LeafAgain.{count_bounds, ends_dim, own}, TokenLaws.{all_of_word, word_stops}}
 
 -- a word was passed, which says this
 pub record Said {A : Type 0} (says : List ℕ → Option A) (x : A) (s s' : At) : Type 0 where
@@ -29,7 +17,7 @@ pub record Said {A : Type 0} (says : List ℕ → Option A) (x : A) (s s' : At) 
   pub is : says word ≡ Some x
   pub parts : s.rest ≡ word ++ s'.rest
   pub place : s'.place ≡ s.place + length word
-  pub all : list_all is_item_byte word ≡ true
+  pub all : list_all is_word_byte word ≡ true
   pub ends : word_length s'.rest ≡ 0
 
 module _ {A : Type 0} (x : A) (s s' : At) where
@@ -48,7 +36,7 @@ module _ {A : Type 0} (x : A) (s s' : At) where
         word = take n s.rest;
         is = both.0;
         parts = sym (take-append-drop n s.rest) ∙ ap (λ (t : At). take n s.rest ++ t.rest) both.1;
-        place = ap (λ (t : At). t.place) (sym both.1) ∙ ap (λ (k : ℕ). s.place + k) (sym (length-prefix_len is_item_byte s.rest));
+        place = ap (λ (t : At). t.place) (sym both.1) ∙ ap (λ (k : ℕ). s.place + k) (sym (length-prefix_len is_word_byte s.rest));
         all = all_of_word s.rest;
         ends = ap (λ (t : At). word_length t.rest) (sym both.1) ∙ word_stops s.rest;
       }
@@ -64,15 +52,11 @@ byte_found b s u s' e =
     let both = found_some u s s' (some_if (begins_with b s.rest) tt) 1 e in
     (begins b s.rest (if_is (begins_with b s.rest) tt u both.0).0 ∙ ap (λ (t : At). b ∷ t.rest) both.1, ap (λ (t : At). t.place) (sym both.1))
 
-none_left : (rest : List ℕ) → (length rest == 0) ≡ true → rest ≡ []
-none_left [] e = refl
-none_left (b ∷ bs) e = absurd (let none : length (b ∷ bs) ≡ 0 = eqb-true _ _ e in omega arith)
-
 end_found : (s : At) (u : Unit {0}) (s' : At) → no_more_at s ≡ Ok (u, s') → s.rest ≡ []
 unfolding no_more_at
 end_found s u s' e =
     let both = found_some u s s' (some_if (length s.rest == 0) tt) 0 e in
-    none_left s.rest (if_is (length s.rest == 0) tt u both.0).0
+    nothing_left s.rest (if_is (length s.rest == 0) tt u both.0).0
 
 -- ---- dimensions
 

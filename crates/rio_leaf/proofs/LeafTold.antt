@@ -1,22 +1,14 @@
 -- The first token that can't stand in the text of a leaf.
 use Rattle.std.proofs.Common.{◌≡◌, inl, inr, ℕ, ◌+◌, ◌^◌, ◌<◌, List, [], ◌∷◌, ◌++◌, length, true, false, ◌&&◌, not, Option, Some, Ok, Err, refl, sym, ap, subst, ◌∙◌, append_assoc}
+use Rattle.std.proofs.{lemmas.Bool.{and_parts, eq-eqb, not-true}, lemmas.List.{append-nil}}
 use Rattle.std.specs.Fmt.{decimal}
-use Rattle.std.proofs.lemmas.Bool.{and_parts, eq-eqb, not-true}
-use Rattle.std.proofs.lemmas.List.{append-nil}
-use Rattle.rio_num.specs.At.{At}
-use Rattle.rio_num.specs.Reading.{◌>>=◌, skip}
-use Rattle.rio_num.specs.Word.{is_item_byte, is_name_text}
+use Rattle.rio_num.specs.{At.{At}, Reading.{◌>>=◌, skip}, Word.{is_word_byte, is_name_text}}
 use Rattle.rio_num.proofs.ReadLaws.{chosen, if_is}
-use Rattle.rio_leaf.specs.declared.fault.LeafFault.{LeafFault}
-use Rattle.rio_leaf.specs.declared.leaf.Dim.{Dim}
-use Rattle.rio_leaf.specs.declared.leaf.Dim.TheVariants.{One, Fixed, Counted}
-use Rattle.rio_leaf.specs.declared.leaf.Leaf.{Leaf}
+use Rattle.rio_leaf.specs.{declared.fault.LeafFault.{LeafFault}, declared.leaf.Dim.{Dim, TheVariants.{One, Fixed, Counted}}, declared.leaf.Leaf.{Leaf}}
 use Rattle.rio_leaf.specs.Leaves.{counts_for, is_dim, is_letter_of, is_taken}
 use Rattle.rio_leaf.specs.Reading.{ReadLeaf, begins_with, bracketed_at, byte_at, dim_at, dim_of, from_place, leaf_at, leaf_name_of, letter_in, no_more_at, said_at}
-use Rattle.rio_leaf.specs.Spelling.{is_leaf_behind, text_of_dim, text_of_leaf}
-use Rattle.rio_leaf.specs.ToldPlaces.{next_token}
-use Rattle.rio_leaf.proofs.FreshNames.{name_left}
-use Rattle.rio_leaf.proofs.LeafAgain.{dim_again, ends_dim, said_there}
+use Rattle.rio_leaf.specs.{Spelling.{is_leaf_behind, text_of_dim, text_of_leaf}, ToldPlaces.{next_token}}
+use Rattle.rio_leaf.proofs.{FreshNames.{name_left}, LeafAgain.{dim_again, ends_dim, said_there}}
 use Rattle.rio_leaf.proofs.LeafFound.{begins, byte_found, dim_found, dim_word, leaf_is, letter_one, said_found, to_dim, to_leaf, to_letter, to_slash}
 use Rattle.rio_leaf.proofs.TokenLaws.{same_begins, same_length}
 use Rattle.rio_leaf.proofs.ToldLaws.{Known, NoWordRuns, Told, bind_told, byte_told, end_told, ends_behind, ends_in_word, handed_told, said_told, told_behind}
@@ -39,7 +31,7 @@ byte_there : (b p : ℕ) (q : List ℕ) → byte_at b (from_place p (b ∷ q)) �
 unfolding byte_at
 byte_there b p q = rw (eq-eqb b b refl) refl
 
-byte_known : (b : ℕ) → is_item_byte b ≡ false → (s : At) (u : Unit {0}) (m : At) → byte_at b s ≡ Ok (u, m) → Known (λ _ bytes. bytes ≡ b ∷ []) (byte_at b) s u m
+byte_known : (b : ℕ) → is_word_byte b ≡ false → (s : At) (u : Unit {0}) (m : At) → byte_at b s ≡ Ok (u, m) → Known (λ _ bytes. bytes ≡ b ∷ []) (byte_at b) s u m
 byte_known b mark s u m h =
     let f = byte_found b s u m h in
     record {

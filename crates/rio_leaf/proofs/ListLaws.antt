@@ -1,27 +1,15 @@
 -- Lists of leaves: what is written is read, and what is read is written so.
 use Rattle.std.proofs.Common.{◌≡◌, inl, inr, ℕ, ◌+◌, List, [], ◌∷◌, ◌++◌, length, Bool, true, ◌==◌, ◌&&◌, ◌||◌, not, Result, Ok, refl, sym, ap, subst, ◌∙◌, arith, append_assoc, length-append}
-use Rattle.std.specs.Fmt.{decimal}
-use Rattle.std.specs.List.{flat_map, list_all, onto_first}
-use Rattle.std.proofs.lemmas.Bool.{and_from, and_parts}
-use Rattle.std.proofs.lemmas.Fmt.{digits_decimal}
-use Rattle.std.proofs.lemmas.Grind.{flat_map-append}
-use Rattle.std.proofs.lemmas.List.{append-nil}
-use Rattle.std.proofs.lemmas.List.Folds.{list_all-append}
-use Rattle.std.proofs.lemmas.List.Splits.{slice_split-cons_no, slice_split-cons_yes}
-use Rattle.rio_num.specs.At.{At}
-use Rattle.rio_num.specs.Word.{is_item_byte, is_name_text}
-use Rattle.rio_num.proofs.ReadLaws.{bind_ok, ok_is}
-use Rattle.rio_num.proofs.Words.{name_of_word}
-use Rattle.rio_leaf.specs.declared.fault.LeafFault.{LeafFault}
-use Rattle.rio_leaf.specs.declared.leaf.Dim.{Dim}
-use Rattle.rio_leaf.specs.declared.leaf.Dim.TheVariants.{One, Fixed, Counted}
-use Rattle.rio_leaf.specs.declared.leaf.Leaf.{Leaf}
-use Rattle.rio_leaf.specs.Leaves.{counts_for, is_dim, is_letter_of, is_one, is_taken}
-use Rattle.rio_leaf.specs.Marks.{between_leaves, is_leaf_letter, letter_of_texts}
+use Rattle.std.proofs.{lemmas.Bool.{and_from, and_parts}, lemmas.Fmt.{digits_decimal}, lemmas.Grind.{flat_map-append}}
+use Rattle.std.proofs.lemmas.List.{append-nil, Folds.{list_all-append}, Splits.{slice_split-cons_no, slice_split-cons_yes}}
+use Rattle.std.specs.{Fmt.{decimal}, List.{flat_map, list_all, onto_first}}
+use Rattle.rio_num.specs.{At.{At}, Word.{is_word_byte, is_name_text}}
+use Rattle.rio_num.proofs.{ReadLaws.{bind_ok, ok_is}, Words.{name_of_word}}
+use Rattle.rio_leaf.specs.{declared.fault.LeafFault.{LeafFault}, declared.leaf.Dim.{Dim, TheVariants.{One, Fixed, Counted}}, declared.leaf.Leaf.{Leaf}}
+use Rattle.rio_leaf.specs.{Leaves.{counts_for, is_dim, is_letter_of, is_one, is_taken}, Marks.{between_leaves, is_leaf_letter, letter_of_texts}}
 use Rattle.rio_leaf.specs.Reading.{from_place, leaf_at, leaves_at, leaves_in, pieces}
 use Rattle.rio_leaf.specs.Spelling.{are_leaves_behind, is_leaf_behind, is_leaf_list, text_of_dim, text_of_leaf, text_of_leaves}
-use Rattle.rio_leaf.proofs.LeafAgain.{count_bounds, digits_of_word, leaf_again, letter_item, own}
-use Rattle.rio_leaf.proofs.LeafFound.{leaf_found}
+use Rattle.rio_leaf.proofs.{LeafAgain.{count_bounds, digits_of_word, leaf_again, letter_item, own}, LeafFound.{leaf_found}}
 use Rattle.rio_leaf.proofs.PieceLaws.{before_colon, item_no_colon, is_no_colon, more_pieces, no_colon, pieces_cut, rest_is}
 
 -- ---- no colon stands in a leaf's text
@@ -38,9 +26,9 @@ cut_none (x ∷ xs) h =
     let parts = and_parts (no_colon x) (list_all no_colon xs) h in
     slice_split-cons_no (λ b. b == between_leaves) x xs (is_no_colon x parts.0) ∙ ap (onto_first x) (cut_none xs parts.1)
 
-word_no_colon : (bs : List ℕ) → list_all is_item_byte bs ≡ true → list_all no_colon bs ≡ true
+word_no_colon : (bs : List ℕ) → list_all is_word_byte bs ≡ true → list_all no_colon bs ≡ true
 word_no_colon [] h = refl
-word_no_colon (b ∷ bs) h = let parts = and_parts (is_item_byte b) (list_all is_item_byte bs) h in rw (item_no_colon b parts.0, word_no_colon bs parts.1) refl
+word_no_colon (b ∷ bs) h = let parts = and_parts (is_word_byte b) (list_all is_word_byte bs) h in rw (item_no_colon b parts.0, word_no_colon bs parts.1) refl
 
 both_no_colon : (xs ys : List ℕ) → list_all no_colon xs ≡ true → list_all no_colon ys ≡ true → list_all no_colon (xs ++ ys) ≡ true
 both_no_colon xs ys p q = list_all-append no_colon xs ys ∙ rw (p, q) refl

@@ -1,22 +1,15 @@
 -- The first token that can't stand in a list of leaves.
 use Rattle.std.proofs.Common.{◌≡◌, inl, inr, ℕ, ◌+◌, ◌≤◌, List, [], ◌∷◌, ◌++◌, length, true, false, Result, Err, refl, sym, ap, subst, ◌∙◌, arith, append_assoc, length-append}
+use Rattle.std.proofs.{lemmas.Bool.{and_parts}, lemmas.List.{append-nil, Folds.{list_all-append}}}
 use Rattle.std.specs.List.{list_all}
-use Rattle.std.proofs.lemmas.Bool.{and_parts}
-use Rattle.std.proofs.lemmas.List.{append-nil}
-use Rattle.std.proofs.lemmas.List.Folds.{list_all-append}
 use Rattle.rio_num.specs.At.{At}
-use Rattle.rio_leaf.specs.declared.fault.LeafFault.{LeafFault}
-use Rattle.rio_leaf.specs.declared.fault.LeafFault.TheVariants.{BadLeaf}
-use Rattle.rio_leaf.specs.declared.leaf.Leaf.{Leaf}
+use Rattle.rio_leaf.specs.{declared.fault.LeafFault.{LeafFault, TheVariants.{BadLeaf}}, declared.leaf.Leaf.{Leaf}}
 use Rattle.rio_leaf.specs.Reading.{from_place, leaf_at, leaves_at, leaves_in, pieces, word_length}
-use Rattle.rio_leaf.specs.Spelling.{are_leaves_behind, is_leaf_behind, text_of_leaf, text_of_leaves}
-use Rattle.rio_leaf.specs.ToldPlaces.{IsFirstBadLeaf, next_token}
-use Rattle.rio_leaf.proofs.LeafFound.{leaf_found}
-use Rattle.rio_leaf.proofs.LeafTold.{leaf_told}
+use Rattle.rio_leaf.specs.{Spelling.{are_leaves_behind, is_leaf_behind, text_of_leaf, text_of_leaves}, ToldPlaces.{IsFirstBadLeaf, next_token}}
+use Rattle.rio_leaf.proofs.{LeafFound.{leaf_found}, LeafTold.{leaf_told}}
 use Rattle.rio_leaf.proofs.ListLaws.{cons_is, cut_there, lead, lead_first, lead_last, lead_place, lead_whole, leaf_no_colon, listed, one_behind, one_more, to_leaves, with_colon}
 use Rattle.rio_leaf.proofs.PieceLaws.{before_behind, before_colon, blanks_before, from_colon, more_pieces, no_colon, none_at_colon, none_before, pieces_cut, rest_is, stops_before, token_before, whole_cut}
-use Rattle.rio_leaf.proofs.TokenLaws.{blanks}
-use Rattle.rio_leaf.proofs.ToldLaws.{apart_behind, apart_by, bind_bad, ends_behind, ends_both, ends_in_word, place_behind}
+use Rattle.rio_leaf.proofs.{TokenLaws.{blanks}, ToldLaws.{apart_behind, apart_by, bind_bad, ends_behind, ends_both, ends_in_word, place_behind}}
 
 -- ---- the leaves before
 

@@ -1,13 +1,9 @@
 -- A text up to its first colon, and what stands from there on.
 use Rattle.std.proofs.Common.{◌≡◌, ◌⊎◌, inl, inr, ℕ, ◌+◌, List, [], ◌∷◌, ◌++◌, Bool, true, false, ◌==◌, not, if◌then◌else◌, refl, sym, ap, ◌∙◌, arith}
+use Rattle.std.proofs.{lemmas.Bool.{and_parts, eqb-true, Decides.{nat_tests}}, lemmas.List.Splits.{slice_split-cons_no, slice_split-cons_yes}}
 use Rattle.std.specs.List.{list_all, onto_first}
-use Rattle.std.proofs.lemmas.Bool.{and_parts, eqb-true}
-use Rattle.std.proofs.lemmas.Bool.Decides.{nat_tests}
-use Rattle.std.proofs.lemmas.List.Splits.{slice_split-cons_no, slice_split-cons_yes}
-use Rattle.rio_num.specs.Word.{is_blank_byte, is_item_byte}
-use Rattle.rio_leaf.specs.Marks.{between_leaves}
-use Rattle.rio_leaf.specs.Reading.{pieces, word_length}
-use Rattle.rio_leaf.specs.ToldPlaces.{next_token}
+use Rattle.rio_num.specs.Word.{is_blank_byte, is_word_byte}
+use Rattle.rio_leaf.specs.{Marks.{between_leaves}, Reading.{pieces, word_length}, ToldPlaces.{next_token}}
 use Rattle.rio_leaf.proofs.TokenLaws.{Kind, blank, item, other, blanks, kind_of, passes_blank, takes_byte, takes_word, word_ends, word_goes, word_of}
 
 abbrev pub no_colon : ℕ → Bool
@@ -16,7 +12,7 @@ no_colon b = not (b == between_leaves)
 pub is_no_colon : (b : ℕ) → no_colon b ≡ true → (b == between_leaves) ≡ false
 is_no_colon b h = grind (arith, nat_tests)
 
-pub item_no_colon : (b : ℕ) → is_item_byte b ≡ true → no_colon b ≡ true
+pub item_no_colon : (b : ℕ) → is_word_byte b ≡ true → no_colon b ≡ true
 item_no_colon b h = grind (arith, nat_tests)
 
 abbrev pub before_colon : List ℕ → List ℕ
@@ -95,26 +91,26 @@ none_at_colon (b ∷ bs) = from_by b bs (b == between_leaves) refl (none_at_colo
 
 -- ---- the next token, up to the first colon
 
-item_goes : (b : ℕ) (bs : List ℕ) → is_item_byte b ≡ true → before_colon (b ∷ bs) ≡ b ∷ before_colon bs
+item_goes : (b : ℕ) (bs : List ℕ) → is_word_byte b ≡ true → before_colon (b ∷ bs) ≡ b ∷ before_colon bs
 item_goes b bs h = goes b bs (is_no_colon b (item_no_colon b h))
 
 blank_goes : (b : ℕ) (bs : List ℕ) → is_blank_byte b ≡ true → before_colon (b ∷ bs) ≡ b ∷ before_colon bs
 blank_goes b bs h = let other : (b == between_leaves) ≡ false = grind (arith, nat_tests) in goes b bs other
 
-no_word_by : (b : ℕ) (bs : List ℕ) (t : Bool) → (b == between_leaves) ≡ t → is_item_byte b ≡ false → word_of (before_colon (b ∷ bs)) ≡ []
+no_word_by : (b : ℕ) (bs : List ℕ) (t : Bool) → (b == between_leaves) ≡ t → is_word_byte b ≡ false → word_of (before_colon (b ∷ bs)) ≡ []
 no_word_by b bs true t h = ap word_of (stops b bs t)
 no_word_by b bs false t h = ap word_of (goes b bs t) ∙ word_ends b (before_colon bs) h
 
-word_by : (b : ℕ) (bs : List ℕ) (t : Bool) → is_item_byte b ≡ t → word_of (before_colon bs) ≡ before_colon (word_of bs) → word_of (before_colon (b ∷ bs)) ≡ before_colon (word_of (b ∷ bs))
+word_by : (b : ℕ) (bs : List ℕ) (t : Bool) → is_word_byte b ≡ t → word_of (before_colon bs) ≡ before_colon (word_of bs) → word_of (before_colon (b ∷ bs)) ≡ before_colon (word_of (b ∷ bs))
 word_by b bs true t ih =
     ap word_of (item_goes b bs t) ∙ word_goes b (before_colon bs) t ∙ ap (λ (w : List ℕ). b ∷ w) ih ∙ sym (item_goes b (word_of bs) t) ∙ ap before_colon (sym (word_goes b bs t))
 word_by b bs false t ih = no_word_by b bs (b == between_leaves) refl t ∙ ap before_colon (sym (word_ends b bs t))
 
 word_before : (q : List ℕ) → word_of (before_colon q) ≡ before_colon (word_of q)
 word_before [] = refl
-word_before (b ∷ bs) = word_by b bs (is_item_byte b) refl (word_before bs)
+word_before (b ∷ bs) = word_by b bs (is_word_byte b) refl (word_before bs)
 
-other_by : (b : ℕ) (bs : List ℕ) (t : Bool) → (b == between_leaves) ≡ t → is_blank_byte b ≡ false → is_item_byte b ≡ false → next_token (before_colon (b ∷ bs)) ≡ before_colon (b ∷ [])
+other_by : (b : ℕ) (bs : List ℕ) (t : Bool) → (b == between_leaves) ≡ t → is_blank_byte b ≡ false → is_word_byte b ≡ false → next_token (before_colon (b ∷ bs)) ≡ before_colon (b ∷ [])
 other_by b bs true t h k = ap next_token (stops b bs t) ∙ sym (stops b [] t)
 other_by b bs false t h k = ap next_token (goes b bs t) ∙ takes_byte b (before_colon bs) h k ∙ sym (goes b [] t)
 
@@ -141,11 +137,11 @@ pub blanks_before : (q : List ℕ) → blanks (before_colon q) ≡ blanks q
 blanks_before [] = refl
 blanks_before (b ∷ bs) = blanks_by b bs (is_blank_byte b) refl (blanks_before bs)
 
-stops_by : (b : ℕ) (bs : List ℕ) (t : Bool) → is_item_byte b ≡ t → word_length (before_colon (b ∷ bs)) ≡ 0 → word_length (b ∷ bs) ≡ 0
+stops_by : (b : ℕ) (bs : List ℕ) (t : Bool) → is_word_byte b ≡ t → word_length (before_colon (b ∷ bs)) ≡ 0 → word_length (b ∷ bs) ≡ 0
 stops_by b bs true t h = absurd (let some : 1 + word_length (before_colon bs) ≡ 0 = (let one : word_length (b ∷ before_colon bs) ≡ 1 + word_length (before_colon bs) = rw t refl in sym one ∙ ap word_length (sym (item_goes b bs t)) ∙ h) in omega arith)
 stops_by b bs false t h = rw t refl
 
 -- where no word begins before the colon, none begins at all
 pub stops_before : (q : List ℕ) → word_length (before_colon q) ≡ 0 → word_length q ≡ 0
 stops_before [] h = refl
-stops_before (b ∷ bs) h = stops_by b bs (is_item_byte b) refl h
+stops_before (b ∷ bs) h = stops_by b bs (is_word_byte b) refl h

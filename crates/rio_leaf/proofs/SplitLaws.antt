@@ -1,11 +1,8 @@
 -- Leaves are read up to the first colon, and then the others.
 use Rattle.std.proofs.Common.{◌≡◌, ℕ, ◌+◌, ◌-◌, ◌<◌, ◌≤◌, List, [], ◌∷◌, length, take, drop, ◌==◌, refl, sym, ap, ◌∙◌, arith}
+use Rattle.std.proofs.lemmas.List.{take_all, length-drop, drop-drop, Splits.{slice_split_first, slice_split_none}, Sums.{fails_before_first}}
 use Rattle.std.specs.List.{position_or_len}
-use Rattle.std.proofs.lemmas.List.{take_all, length-drop, drop-drop}
-use Rattle.std.proofs.lemmas.List.Splits.{slice_split_first, slice_split_none}
-use Rattle.std.proofs.lemmas.List.Sums.{fails_before_first}
-use Rattle.rio_leaf.specs.Marks.{between_leaves}
-use Rattle.rio_leaf.specs.Reading.{pieces}
+use Rattle.rio_leaf.specs.{Marks.{between_leaves}, Reading.{pieces}}
 
 abbrev pub colon_place : List ℕ → ℕ
 colon_place = position_or_len (λ b. b == between_leaves)

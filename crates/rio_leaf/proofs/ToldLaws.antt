@@ -1,13 +1,9 @@
 -- How first tokens that can't stand are found, one reading after the other.
 use Rattle.std.proofs.Common.{◌≡◌, ◌⊎◌, inl, inr, ℕ, suc, ◌+◌, ◌-◌, List, [], ◌∷◌, ◌++◌, length, slice_index, Bool, true, false, ◌==◌, Option, Some, None, Result, Ok, Err, refl, sym, ap, subst, ◌∙◌, arith, append_assoc, length-append}
+use Rattle.std.proofs.{lemmas.Bool.{and_left, and_right}, lemmas.List.{append-nil}}
 use Rattle.std.specs.List.{prefix_len}
-use Rattle.std.proofs.lemmas.Bool.{and_left, and_right}
-use Rattle.std.proofs.lemmas.List.{append-nil}
-use Rattle.rio_num.specs.At.{At}
-use Rattle.rio_num.specs.Reading.{◌>>=◌, some_if}
-use Rattle.rio_num.specs.Word.{is_blank_byte, is_item_byte}
-use Rattle.rio_leaf.specs.declared.fault.LeafFault.{LeafFault}
-use Rattle.rio_leaf.specs.declared.fault.LeafFault.TheVariants.{BadLeaf}
+use Rattle.rio_num.specs.{At.{At}, Reading.{◌>>=◌, some_if}, Word.{is_blank_byte, is_word_byte}}
+use Rattle.rio_leaf.specs.declared.fault.LeafFault.{LeafFault, TheVariants.{BadLeaf}}
 use Rattle.rio_leaf.specs.Reading.{ReadLeaf, bad_leaf_at, begins_with, byte_at, found_at, from_place, no_more_at, said_at, word_length}
 use Rattle.rio_leaf.specs.ToldPlaces.{NoWordGoesOn, next_token}
 use Rattle.rio_leaf.proofs.TokenLaws.{same_begins, same_behind, same_blanks, same_empty, same_word, word_of}
@@ -17,26 +13,26 @@ use Rattle.rio_leaf.proofs.TokenLaws.{same_begins, same_behind, same_blanks, sam
 -- whether the last byte is one of a word
 abbrev pub ends_in_word : List ℕ → Bool
 ends_in_word [] = false
-ends_in_word (b ∷ []) = is_item_byte b
+ends_in_word (b ∷ []) = is_word_byte b
 ends_in_word (b ∷ c ∷ bs) = ends_in_word (c ∷ bs)
 
 abbrev pub NoWordRuns : List ℕ → List ℕ → Type 0
 NoWordRuns front behind = (ends_in_word front ≡ false) ⊎ (word_length behind ≡ 0)
 
-last_is : (bs : List ℕ) → is_item_byte (slice_index bs (length bs - 1)) ≡ ends_in_word bs
+last_is : (bs : List ℕ) → is_word_byte (slice_index bs (length bs - 1)) ≡ ends_in_word bs
 last_is [] = refl
 last_is (b ∷ []) = refl
 last_is (b ∷ c ∷ bs) =
     let place : length (b ∷ c ∷ bs) - 1 ≡ suc (length (c ∷ bs) - 1) = omega arith in
-    ap (λ (k : ℕ). is_item_byte (slice_index (b ∷ c ∷ bs) k)) place ∙ last_is (c ∷ bs)
+    ap (λ (k : ℕ). is_word_byte (slice_index (b ∷ c ∷ bs) k)) place ∙ last_is (c ∷ bs)
 
-first_by : (b : ℕ) (bs : List ℕ) (t : Bool) → is_item_byte b ≡ t → word_length (b ∷ bs) ≡ 0 → t ≡ false
+first_by : (b : ℕ) (bs : List ℕ) (t : Bool) → is_word_byte b ≡ t → word_length (b ∷ bs) ≡ 0 → t ≡ false
 first_by b bs true t h = absurd (let some : 1 + word_length bs ≡ 0 = rw t at h in omega arith)
 first_by b bs false t h = refl
 
-first_is : (bs : List ℕ) → word_length bs ≡ 0 → is_item_byte (slice_index bs 0) ≡ false
+first_is : (bs : List ℕ) → word_length bs ≡ 0 → is_word_byte (slice_index bs 0) ≡ false
 first_is [] h = refl
-first_is (b ∷ bs) h = first_by b bs (is_item_byte b) refl h
+first_is (b ∷ bs) h = first_by b bs (is_word_byte b) refl h
 
 pub apart_by : (front behind : List ℕ) → NoWordRuns front behind → NoWordGoesOn front behind
 apart_by front behind (inl h) = and_left _ _ (last_is front ∙ h)

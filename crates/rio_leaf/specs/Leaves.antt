@@ -1,16 +1,17 @@
 -- Which leaves may stand in a branch: names, dimensions, counters.
-use Rattle.std.specs.Prelude.{ℕ, List, Bool, true, false, nat_le, ◌==◌, ◌&&◌, ◌||◌, not}
-use Rattle.std.specs.List.{list_any}
-use Rattle.std.specs.Str.{bytes_eq}
+use Rattle.std.specs.{Prelude.{ℕ, List, Bool, true, false, nat_le, ◌==◌, ◌&&◌, ◌||◌, not}, List.{list_any}, Str.{bytes_eq}}
 use Rattle.rio_num.specs.Word.{is_name_text}
-use Rattle.rio_leaf.specs.declared.leaf.Dim.{Dim}
-use Rattle.rio_leaf.specs.declared.leaf.Dim.TheVariants.{One, Fixed, Counted}
-use Rattle.rio_leaf.specs.declared.leaf.Leaf.{Leaf}
+use Rattle.rio_leaf.specs.{declared.leaf.Dim.{Dim, TheVariants.{One, Fixed, Counted}}, declared.leaf.Leaf.{Leaf}}
 use Rattle.rio_leaf.specs.Marks.{is_leaf_letter, letter_of_counters, letter_of_texts}
 
 abbrev pub is_one : Dim → Bool
 is_one One = true
 is_one other = false
+
+-- a list that a counter counts
+abbrev pub is_counted_dim : Dim → Bool
+is_counted_dim (Counted counter times) = true
+is_counted_dim other = false
 
 -- a leaf by which others may be counted: a signed integer of 4 bytes, without a dimension
 abbrev pub can_count : Leaf → Bool

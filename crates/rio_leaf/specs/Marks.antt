@@ -1,6 +1,5 @@
 -- The bytes that stand for something in a list of leaves, by their names.
-use Rattle.std.specs.Prelude.{ℕ, codes, Bool, ◌==◌}
-use Rattle.std.specs.List.{list_any}
+use Rattle.std.specs.{Prelude.{ℕ, codes, Bool, ◌==◌}, List.{list_any}}
 
 -- a colon
 abbrev pub between_leaves : ℕ

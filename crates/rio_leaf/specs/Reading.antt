@@ -1,18 +1,10 @@
 -- Lists of leaves as texts are read: the leaves, or the place of the first token that can't stand.
 -- A token is a word, a longest run of letters, digits and _ . - +, or another single byte. No blanks stand in the list.
 use Rattle.std.specs.Prelude.{ℕ, ◌+◌, List, [], ◌∷◌, ◌++◌, length, take, slice_index, Result, Ok, Err, Option, Some, None, Bool, false, ◌==◌, ◌&&◌, not, if◌then◌else◌}
-use Rattle.std.specs.List.{prefix_len, slice_split}
-use Rattle.std.specs.Str.{all_ascii_digits}
-use Rattle.std.specs.Str.Parse.{digits_value}
-use Rattle.rio_num.specs.At.{At}
-use Rattle.rio_num.specs.Reading.{◌>>=◌, skip, some_if}
-use Rattle.rio_num.specs.Word.{is_blank_byte, is_item_byte, is_name_text}
-use Rattle.rio_leaf.specs.declared.fault.LeafFault.{LeafFault}
-use Rattle.rio_leaf.specs.declared.fault.LeafFault.TheVariants.{BadLeaf}
-use Rattle.rio_leaf.specs.declared.leaf.Dim.{Dim}
-use Rattle.rio_leaf.specs.declared.leaf.Dim.TheVariants.{One, Fixed, Counted}
-use Rattle.rio_leaf.specs.declared.leaf.Leaf.{Leaf}
-use Rattle.rio_leaf.specs.Leaves.{counts_for, is_leaf_count, is_letter_of, is_taken}
+use Rattle.std.specs.{List.{prefix_len, slice_split}, Str.{all_ascii_digits, Parse.{digits_value}}}
+use Rattle.rio_num.specs.{At.{At}, Reading.{◌>>=◌, skip, some_if}, Word.{is_blank_byte, is_word_byte, is_name_text}}
+use Rattle.rio_leaf.specs.{declared.fault.LeafFault.{LeafFault, TheVariants.{BadLeaf}}, declared.leaf.Dim.{Dim, TheVariants.{One, Fixed, Counted}}}
+use Rattle.rio_leaf.specs.{declared.leaf.Leaf.{Leaf}, Leaves.{counts_for, is_leaf_count, is_letter_of, is_taken}}
 use Rattle.rio_leaf.specs.Marks.{before_dimension, before_letter, behind_dimension, between_leaves}
 
 -- what was read and where reading stands, or the first token that can't stand
@@ -29,7 +21,7 @@ found_at None n s = bad_leaf_at s
 found_at (Some x) n s = Ok (x, skip n s)
 
 abbrev pub word_length : List ℕ → ℕ
-word_length bytes = prefix_len is_item_byte bytes
+word_length bytes = prefix_len is_word_byte bytes
 
 -- the next word, if it says something
 unfoldable pub said_at : {A : Type 0} → (List ℕ → Option A) → At → ReadLeaf A

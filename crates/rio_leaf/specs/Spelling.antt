@@ -3,13 +3,8 @@
 --
 --   leaves = leaf {":" leaf}
 --   leaf   = NAME ["[" (NUM | NAME) "]"] "/" LETTER
-use Rattle.std.specs.Prelude.{◌≡◌, ℕ, List, [], ◌∷◌, ◌++◌, Bool, true, false, ◌&&◌, IsTrue}
-use Rattle.std.specs.Fmt.{decimal}
-use Rattle.std.specs.List.{flat_map}
-use Rattle.rio_leaf.specs.declared.leaf.Dim.{Dim}
-use Rattle.rio_leaf.specs.declared.leaf.Dim.TheVariants.{One, Fixed, Counted}
-use Rattle.rio_leaf.specs.declared.leaf.Leaf.{Leaf}
-use Rattle.rio_leaf.specs.Leaves.{counts_for, is_leaf, is_taken}
+use Rattle.std.specs.{Prelude.{◌≡◌, ℕ, List, [], ◌∷◌, ◌++◌, Bool, true, false, ◌&&◌, IsTrue}, Fmt.{decimal}, List.{flat_map}}
+use Rattle.rio_leaf.specs.{declared.leaf.Dim.{Dim, TheVariants.{One, Fixed, Counted}}, declared.leaf.Leaf.{Leaf}, Leaves.{counts_for, is_leaf, is_taken}}
 use Rattle.rio_leaf.specs.Marks.{before_dimension, before_letter, behind_dimension, between_leaves}
 
 -- What stands in square brackets behind a leaf's name, if something does. How many values there are for each that a counter counts isn't told: one.

@@ -1,6 +1,6 @@
 //! Which names, dimensions and letters leaves may have.
 ghost use Rattle.std.specs.Prelude.{◌≡◌};
-ghost use Rattle.rio_leaf.specs.Leaves.{can_count, counts_for, has_counted_leaf, has_counting_leaf, has_leaf, is_dim_by, is_leaf_count, is_letter_of, is_one, is_taken};
+ghost use Rattle.rio_leaf.specs.Leaves.{can_count, counts_for, has_counted_leaf, has_counting_leaf, has_leaf, is_counted_dim, is_dim_by, is_leaf_count, is_letter_of, is_one, is_taken};
 ghost use Rattle.rio_leaf.specs.Marks.{is_leaf_letter};
 
 use crate::{Dim, Leaf};
@@ -9,6 +9,13 @@ fn is_one(dim: &Dim) -> bool
     ensures { result ≡ is_one dim.now }
 {
     matches!(dim, Dim::One)
+}
+
+/// Whether a counter counts what a leaf of the dimension has.
+pub fn is_counted_dim(dim: &Dim) -> bool
+    ensures { result ≡ is_counted_dim dim.now }
+{
+    matches!(dim, Dim::Counted { .. })
 }
 
 fn can_count(leaf: &Leaf) -> bool

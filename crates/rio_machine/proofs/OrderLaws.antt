@@ -1,12 +1,10 @@
 -- The orders of objects and of trees.
 use Rattle.std.proofs.Common.{◌≡◌, ℕ, List, refl, sym}
-use Rattle.std.specs.Cmp.{IsTotalOrder, then_total, on_total, back_total, nat_cmp_total}
-use Rattle.std.specs.Cmp.Lexicographic.{nat_list_cmp_total}
-use Rattle.std.specs.FinMap.{IsAntisymmetric, nat_cmp-IsAntisymmetric, slice_cmp-IsAntisymmetric, get, same_map}
-use Rattle.std.specs.Ordering.{ordering_then}
-use Rattle.std.specs.declared.cmp.Ordering.{Ordering}
-use Rattle.std.specs.declared.cmp.Ordering.TheVariants.{Less, Equal, Greater}
-use Rattle.rio_machine.specs.State.{NameAndCycle, OrdersAreTotal, State, item_order, name_order}
+use Rattle.std.specs.Cmp.{IsTotalOrder, then_total, on_total, back_total, nat_cmp_total, Lexicographic.{nat_list_cmp_total}}
+use Rattle.std.specs.{FinMap.{IsAntisymmetric, nat_cmp-IsAntisymmetric, slice_cmp-IsAntisymmetric, get, same_map}, Ordering.{ordering_then}}
+use Rattle.std.specs.declared.cmp.Ordering.{Ordering, TheVariants.{Less, Equal, Greater}}
+use Rattle.rio_num.specs.Word.{name_order}
+use Rattle.rio_machine.specs.State.{NameAndCycle, OrdersAreTotal, State, item_order}
 
 pub names_total : IsTotalOrder name_order
 names_total = nat_list_cmp_total

@@ -1,19 +1,11 @@
 -- What is too large, too deep or too many.
-use Rattle.std.specs.Prelude.{ℕ, ◌+◌, ◌-◌, ◌%◌, List, [], length, Bool, false, ◌||◌, nat_lt, nat_le}
-use Rattle.std.specs.List.{list_any}
+use Rattle.std.specs.{Prelude.{ℕ, ◌+◌, ◌-◌, ◌%◌, List, [], length, Bool, false, ◌||◌, nat_lt, nat_le}, List.{list_any}}
 use Rattle.rio_num.specs.Text.{text_bytes}
-use Rattle.rio_leaf.specs.declared.branch.BranchDef.{BranchDef}
-use Rattle.rio_leaf.specs.declared.branch.Shape.{Shape}
-use Rattle.rio_leaf.specs.declared.branch.Shape.TheVariants.{Leaves, Class}
-use Rattle.rio_format.specs.Objects.{depth_limit}
-use Rattle.rio_format.specs.Written.{written_form}
-use Rattle.rio_format.specs.WrittenBytes.{length_limit}
+use Rattle.rio_leaf.specs.{declared.branch.BranchDef.{BranchDef}, declared.branch.Shape.{Shape, TheVariants.{Leaves, Class}}}
+use Rattle.rio_format.specs.{Objects.{depth_limit}, Written.{written_form}, WrittenBytes.{length_limit}}
 use Rattle.rio_types.specs.declared.class.ClassDef.{ClassDef}
-use Rattle.rio_value.specs.Depth.{depth_of}
-use Rattle.rio_value.specs.LongestList.{longest_list_of}
-use Rattle.rio_value.specs.declared.value.Value.{Value}
-use Rattle.rio_machine.specs.Rows.{entries_of}
-use Rattle.rio_machine.specs.State.{State, item_count}
+use Rattle.rio_value.specs.{Depth.{depth_of}, LongestList.{longest_list_of}, declared.value.Value.{Value}}
+use Rattle.rio_machine.specs.{Rows.{entries_of}, State.{State, item_count}}
 
 -- the greatest cycle that a command gives, and the greatest that a tree may have to be filled or saved is one less
 abbrev pub cycle_limit : ℕ

@@ -1,26 +1,13 @@
 -- Which rows fit the branches of a tree, and the bytes of their entries.
 use Rattle.std.specs.Prelude.{ℕ, ◌*◌, ℤ, pos, List, [], ◌∷◌, ◌++◌, codes, drop, length, map, Option, Some, None, is_some, Bool, true, false, ◌&&◌, if◌then◌else◌}
-use Rattle.std.specs.List.{flat_map}
-use Rattle.std.specs.Map.{lookup}
-use Rattle.std.specs.Str.{bytes_eq}
-use Rattle.rio_leaf.specs.declared.branch.BranchDef.{BranchDef}
-use Rattle.rio_leaf.specs.declared.branch.Shape.{Shape}
-use Rattle.rio_leaf.specs.declared.branch.Shape.TheVariants.{Leaves, Class}
-use Rattle.rio_leaf.specs.declared.leaf.Dim.{Dim}
-use Rattle.rio_leaf.specs.declared.leaf.Dim.TheVariants.{One, Fixed as Several, Counted}
-use Rattle.rio_leaf.specs.declared.leaf.Leaf.{Leaf}
+use Rattle.std.specs.{List.{flat_map}, Map.{lookup}, Str.{bytes_eq}}
+use Rattle.rio_leaf.specs.{declared.branch.BranchDef.{BranchDef}, declared.branch.Shape.{Shape, TheVariants.{Leaves, Class}}}
+use Rattle.rio_leaf.specs.{declared.leaf.Dim.{Dim, TheVariants.{One, Fixed as Several, Counted}}, declared.leaf.Leaf.{Leaf}}
 use Rattle.rio_buffer.specs.ReaderState.{no_words}
-use Rattle.rio_format.specs.Bodies.{Counters}
-use Rattle.rio_value.specs.Accessors.{number_in}
-use Rattle.rio_format.specs.Fits.{fitting_of}
-use Rattle.rio_format.specs.Slots.{Slot, kinded}
-use Rattle.rio_format.specs.Written.{writing_of}
-use Rattle.rio_types.specs.declared.class.ClassDef.{ClassDef}
-use Rattle.rio_types.specs.declared.kind.Kind.{Kind}
-use Rattle.rio_types.specs.declared.kind.Kind.TheVariants.{Plain, Fixed, Text, Inline, Other}
-use Rattle.rio_types.specs.declared.kind.Primitive.{Primitive}
-use Rattle.rio_types.specs.declared.kind.Primitive.TheVariants.{I8, I16, I32, I64, U8, U16, U32, U64, Bool as Truth, F32, F64}
-use Rattle.rio_value.specs.declared.value.Value.{Value, out-Value}
+use Rattle.rio_format.specs.{Bodies.{Counters}, Fits.{fitting_of}, Slots.{Slot, kinded}, Written.{writing_of}}
+use Rattle.rio_value.specs.{Accessors.{number_in}, declared.value.Value.{Value, out-Value}}
+use Rattle.rio_types.specs.{declared.class.ClassDef.{ClassDef}, declared.kind.Kind.{Kind, TheVariants.{Plain, Fixed, Text, Inline, Other}}}
+use Rattle.rio_types.specs.declared.kind.Primitive.{Primitive, TheVariants.{I8, I16, I32, I64, U8, U16, U32, U64, Bool as Truth, F32, F64}}
 
 -- ---- leaves
 
@@ -47,21 +34,21 @@ kind_of_nothing = Other (pos 0)
 
 -- a list of so many values for each that was counted; a count below 0 leaves nothing that fits
 abbrev pub counted_leaf_kind : Primitive → ℕ → Option ℤ → Kind
-counted_leaf_kind of times (Some (pos count)) = Fixed of (count * times)
-counted_leaf_kind of times other = kind_of_nothing
+counted_leaf_kind prim times (Some (pos count)) = Fixed prim (count * times)
+counted_leaf_kind prim times other = kind_of_nothing
 
 -- one value, or a list
 abbrev pub sized_kind : Counters → Primitive → Dim → Kind
-sized_kind counters of One = Plain of
-sized_kind counters of (Several count) = Fixed of count
-sized_kind counters of (Counted counter times) = counted_leaf_kind of times (lookup (bytes_eq counter) counters)
+sized_kind counters prim One = Plain prim
+sized_kind counters prim (Several count) = Fixed prim count
+sized_kind counters prim (Counted counter times) = counted_leaf_kind prim times (lookup (bytes_eq counter) counters)
 
 -- A text, for the letter C, has no dimension.
 abbrev pub leaf_kind : Counters → Leaf → Kind
 leaf_kind counters leaf = by (letter_kind leaf.letter)
   where
     by : Option Primitive → Kind
-    by (Some of) = sized_kind counters of leaf.dim
+    by (Some prim) = sized_kind counters prim leaf.dim
     by None = if bytes_eq (leaf.letter ∷ []) (codes "C") then Text else kind_of_nothing
 
 -- ---- columns

@@ -1,26 +1,17 @@
 -- The state that commands change: declared classes, objects and trees. It has no keys, records or places.
-use Rattle.std.specs.Prelude.{◌≡◌, ℕ, ◌+◌, List, [], map, Bool, ◌||◌}
-use Rattle.std.specs.List.{filter, list_any}
-use Rattle.std.specs.Str.{bytes_eq}
-use Rattle.std.specs.Cmp.{IsTotalOrder}
-use Rattle.std.specs.Cmp.Lexicographic.{slice_cmp}
-use Rattle.std.specs.FinMap.{FinMap, IsAntisymmetric, contains_key, empty, get, keys, len}
-use Rattle.std.specs.Ordering.{flip_args, nat_cmp, on, then_cmp}
+use Rattle.std.specs.{Prelude.{◌≡◌, ℕ, ◌+◌, List, [], map, Bool, ◌||◌}, List.{filter, list_any}, Str.{bytes_eq}, Cmp.{IsTotalOrder}}
+use Rattle.std.specs.{FinMap.{FinMap, IsAntisymmetric, contains_key, empty, get, keys, len}, Ordering.{flip_args, nat_cmp, on, then_cmp}}
 use Rattle.std.specs.declared.cmp.Ordering.{Ordering}
+use Rattle.rio_num.specs.Word.{name_order}
 use Rattle.rio_leaf.specs.declared.branch.BranchDef.{BranchDef}
 use Rattle.rio_types.specs.declared.class.ClassDef.{ClassDef}
-use Rattle.rio_value.specs.Depth.{greatest}
-use Rattle.rio_value.specs.declared.value.Value.{Value}
+use Rattle.rio_value.specs.{Depth.{greatest}, declared.value.Value.{Value}}
 
 -- ---- orders
 
 -- the name and the cycle of an object
 abbrev pub NameAndCycle : Type 0
 NameAndCycle = List ℕ × ℕ
-
--- names by their bytes, ascending
-abbrev pub name_order : List ℕ → List ℕ → Ordering
-name_order = slice_cmp nat_cmp
 
 -- by name, and of one name the greatest cycle first: the order in which a file lists what it has
 abbrev pub item_order : NameAndCycle → NameAndCycle → Ordering

@@ -4,7 +4,7 @@
 //!
 //! A `Command` ends in an `Outcome`: accepted, or refused for a `Refusal`, which `print_refusal` says with its `number` and
 //! `name`. `specs/State.antt` has the state (law: `orders_are_total`), `Rows.antt` which rows fit a tree, `Limits.antt`
-//! what is too large, too deep or too many.
+//! what is too large, too deep or too many. Its tests stand in `rio_rows`.
 #![tactic(auto)]
 
 mod command;

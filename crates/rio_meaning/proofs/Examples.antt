@@ -1,13 +1,10 @@
 -- First faults and texts of faults, computed.
 use Rattle.std.proofs.Common.{◌≡◌, [], ◌∷◌, refl}
-use Rattle.std.specs.Prelude.{codes, Some, None}
-use Rattle.std.specs.Fmt.{digits}
+use Rattle.std.specs.{Prelude.{codes, Some, None}, Fmt.{digits}}
 use Rattle.rio_buffer.specs.declared.fault.ObjFault.TheVariants.{CountMismatch, UnknownClassWord}
-use Rattle.rio_head.specs.Head.{fault_at, header_layout}
+use Rattle.rio_head.specs.{Head.{fault_at, header_layout}, declared.fault.FileFault.TheVariants.{NotRoot, Short}}
 use Rattle.rio_dir.specs.Closed.{closed_file, closed_head}
-use Rattle.rio_head.specs.declared.fault.FileFault.TheVariants.{NotRoot, Short}
-use Rattle.rio_meaning.specs.Dump.{object_fault_text}
-use Rattle.rio_meaning.specs.FirstFault.{HeaderAlone, ToKeyList, first_fault}
+use Rattle.rio_meaning.specs.{Dump.{object_fault_text}, FirstFault.{HeaderAlone, ToKeyList, first_fault}}
 
 -- a file that isn't made yet breaks no rule of a verb that tests the header alone
 empty_is_unborn : first_fault HeaderAlone [] ≡ None

@@ -1,32 +1,18 @@
 -- What the verb dump says of a file.
-use Rattle.std.specs.Prelude.{ℕ, Bool, ◌++◌, List, codes, Option, Some, None, Result, Ok, Err, if◌then◌else◌}
-use Rattle.std.specs.List.{flat_map}
-use Rattle.std.specs.Str.{bytes_eq}
-use Rattle.std.specs.Fmt.{decimal}
-use Rattle.rio_num.specs.Printed.{name_text}
-use Rattle.rio_num.specs.Reading.{◌>>=◌}
+use Rattle.std.specs.{Prelude.{ℕ, Bool, ◌++◌, List, codes, Option, Some, None, Result, Ok, Err, if◌then◌else◌}, List.{flat_map}, Str.{bytes_eq}, Fmt.{decimal}}
+use Rattle.rio_num.specs.{Printed.{item_text, name_text}, Reading.{◌>>=◌}}
 use Rattle.rio_types.specs.declared.class.ClassDef.{ClassDef}
 use Rattle.rio_value.specs.declared.value.Value.{Value}
-use Rattle.rio_key.specs.declared.head.KeyHead.{KeyHead}
-use Rattle.rio_key.specs.Key.{is_compressed}
+use Rattle.rio_key.specs.{declared.head.KeyHead.{KeyHead}, Key.{is_compressed}}
 use Rattle.rio_head.specs.declared.fault.HeadFault.{HeadFault}
 use Rattle.rio_format.specs.Objects.{value_at}
-use Rattle.rio_buffer.specs.declared.fault.ObjFault.{ObjFault}
-use Rattle.rio_buffer.specs.declared.fault.ObjFault.TheVariants.{Short, BadCount, UnknownClassWord, UnknownRef, NoCount, BadFlag, CountMismatch, TooDeep, NoMemory}
-use Rattle.rio_model.specs.ValueText.{text_of_value}
-use Rattle.rio_model.specs.ClassText.{text_of_class}
-use Rattle.rio_tree_head.specs.declared.fault.TreeFault.{TreeFault}
-use Rattle.rio_tree_head.specs.declared.fault.TreeFault.TheVariants.{MissingMember, NoMemory as OutOfMemory}
-use Rattle.rio_tree_head.specs.declared.head.TreeHead.{TreeHead}
+use Rattle.rio_buffer.specs.declared.fault.ObjFault.{ObjFault, TheVariants.{Short, BadCount, UnknownClassWord, UnknownRef, NoCount, BadFlag, CountMismatch, TooDeep, NoMemory}}
+use Rattle.rio_model.specs.{ValueText.{text_of_value}, ClassText.{text_of_class}}
+use Rattle.rio_tree_head.specs.{declared.fault.TreeFault.{TreeFault, TheVariants.{MissingMember, NoMemory as OutOfMemory}}, declared.head.TreeHead.{TreeHead}}
 use Rattle.rio_tree_head.specs.Header.{tree_head_in}
-use Rattle.rio_meaning.specs.declared.described.Described.{Described}
-use Rattle.rio_meaning.specs.declared.item.Item.{Item}
-use Rattle.rio_meaning.specs.declared.item.Missing.{Missing}
-use Rattle.rio_meaning.specs.declared.item.Missing.TheVariants.{NoSuchName, NoSuchCycle}
+use Rattle.rio_meaning.specs.{declared.described.Described.{Described}, declared.item.Item.{Item}}
+use Rattle.rio_meaning.specs.{declared.item.Missing.{Missing, TheVariants.{NoSuchName, NoSuchCycle}}, Described.{described_file}, Item.{found_item}}
 use Rattle.rio_dir.specs.Closed.{data_at}
-use Rattle.rio_dir.specs.Listing.{named_cycle}
-use Rattle.rio_meaning.specs.Described.{described_file}
-use Rattle.rio_meaning.specs.Item.{found_item}
 
 -- a word and the numbers behind it
 abbrev pub with_number : List ℕ → ℕ → List ℕ
@@ -95,7 +81,7 @@ content_text file classes key =
 
 -- NAME;CYCLE and what the key holds
 abbrev pub stored_line : List ℕ → List ClassDef → KeyHead → List ℕ
-stored_line file classes key = named_cycle key ++ codes " " ++ content_text file classes key ++ codes "\n"
+stored_line file classes key = item_text key.name key.cycle ++ codes " " ++ content_text file classes key ++ codes "\n"
 
 abbrev pub class_line : ClassDef → List ℕ
 class_line class = text_of_class class ++ codes "\n"

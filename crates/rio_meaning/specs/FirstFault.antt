@@ -1,8 +1,7 @@
 -- The rules of a file that a verb tests, and the first of them that the file breaks.
 use Rattle.std.specs.Prelude.{ℕ, List, Option}
 use Rattle.rio_head.specs.declared.fault.HeadFault.{HeadFault}
-use Rattle.rio_dir.specs.Closed.{closed_file, fault_of}
-use Rattle.rio_dir.specs.Unborn.{header_fault}
+use Rattle.rio_dir.specs.{Closed.{closed_file, fault_of}, Unborn.{header_fault}}
 use Rattle.rio_meaning.specs.Described.{described_file}
 
 -- How far a verb tests a file before it does anything: the header alone, where the file is made; or that the file is closed,

@@ -1,11 +1,8 @@
 -- Looking a key up by name and cycle.
-use Rattle.std.specs.Prelude.{ℕ, List, [], ◌∷◌, Option, Some, None, Result, Ok, Err, Bool, ◌==◌, ◌&&◌, nat_le, find, if◌then◌else◌}
-use Rattle.std.specs.List.{list_any}
+use Rattle.std.specs.{Prelude.{ℕ, List, [], ◌∷◌, Option, Some, None, Result, Ok, Err, Bool, ◌==◌, ◌&&◌, nat_le, find, if◌then◌else◌}, List.{list_any}}
 use Rattle.rio_key.specs.declared.head.KeyHead.{KeyHead}
 use Rattle.rio_dir.specs.Table.{is_of_name}
-use Rattle.rio_meaning.specs.declared.item.Item.{Item}
-use Rattle.rio_meaning.specs.declared.item.Missing.{Missing}
-use Rattle.rio_meaning.specs.declared.item.Missing.TheVariants.{NoSuchName, NoSuchCycle}
+use Rattle.rio_meaning.specs.{declared.item.Item.{Item}, declared.item.Missing.{Missing, TheVariants.{NoSuchName, NoSuchCycle}}}
 
 -- the first key, or one of the rest that has a greater cycle
 abbrev pub greater_cycle_of : KeyHead → Option KeyHead → KeyHead

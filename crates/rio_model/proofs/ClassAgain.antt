@@ -1,26 +1,16 @@
 -- What tokens spell as a declaration is read as its class.
 use Rattle.std.proofs.Common.{◌≡◌, ℕ, ℤ, pos, List, [], ◌∷◌, codes, Bool, true, false, ◌==◌, ◌&&◌, not, Option, Some, None, Ok, refl, sym, ◌∙◌, ap, subst}
-use Rattle.std.specs.Str.{bytes_eq}
 use Rattle.std.proofs.lemmas.Bool.{and_parts, not-true}
-use Rattle.rio_num.specs.At.{At}
-use Rattle.rio_num.specs.Reading.{◌>>=◌}
-use Rattle.rio_num.specs.Word.{is_name_text}
-use Rattle.rio_types.specs.declared.class.Base.{Base}
-use Rattle.rio_types.specs.declared.class.ClassDef.{ClassDef}
-use Rattle.rio_types.specs.declared.class.Member.{Member}
-use Rattle.rio_types.specs.declared.kind.Kind.{Kind}
-use Rattle.rio_types.specs.declared.kind.Kind.TheVariants.{Plain, Fixed, Counted, Text, Inline, Pointer}
-use Rattle.rio_types.specs.declared.kind.Primitive.{Primitive}
-use Rattle.rio_token.specs.declared.token.Token.TheVariants.{End}
-use Rattle.rio_token.specs.Reading.{Read, end_at, mark_at, marked, word_that_at}
-use Rattle.rio_token.specs.Tokens.{behind, next_at}
+use Rattle.std.specs.Str.{bytes_eq}
+use Rattle.rio_num.specs.{At.{At}, Reading.{◌>>=◌}, Word.{is_name_text}}
+use Rattle.rio_types.specs.{declared.class.Base.{Base}, declared.class.ClassDef.{ClassDef}, declared.class.Member.{Member}}
+use Rattle.rio_types.specs.{declared.kind.Kind.{Kind, TheVariants.{Plain, Fixed, Counted, Text, Inline, Pointer}}, declared.kind.Primitive.{Primitive}}
+use Rattle.rio_token.specs.{declared.token.Token.TheVariants.{End}, Reading.{Read, end_at, mark_at, marked, word_that_at}, Tokens.{behind, next_at}}
 use Rattle.rio_token.specs.Words.{num_between_of}
 use Rattle.rio_format.specs.Bodies.{member}
 use Rattle.rio_model.specs.ClassGrammar.{base, base_at, bases_at, class_at, class_of, dimension_of, has_i32, is_new_base, is_new_member, kind_at, member_at, plain_at, primitive_of, sized_at}
 use Rattle.rio_model.specs.ClassSpelling.{SpelledClassesAreRead, SpellsBase, SpellsBases, SpellsDeclaration, SpellsKind, SpellsMember, ends_kind}
-use Rattle.rio_model.specs.ClassText.{primitive_text}
-use Rattle.rio_model.specs.Lexemes.{IsNext, Lexeme, Stand, mark, word}
-use Rattle.rio_model.specs.Stated.{is_class_word, is_none}
+use Rattle.rio_model.specs.{ClassText.{primitive_text}, Lexemes.{IsNext, Lexeme, Stand, mark, word}, Stated.{is_class_word, is_none}}
 use Rattle.rio_model.proofs.ItemLaws.{ItemAgain, ended, items_again, some_again}
 use Rattle.rio_model.proofs.LexemeLaws.{bounded_again, mark_again, marked_again, stand_split, then_ok, word_not_marked, word_that_again, word_that_found}
 use Rattle.rio_model.proofs.ReadKinds.{primitive_back, primitive_named}

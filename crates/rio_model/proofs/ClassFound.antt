@@ -1,31 +1,21 @@
 -- A class that is read is declared by the tokens that were passed over.
 use Rattle.std.proofs.Common.{◌≡◌, ℕ, List, [], ◌∷◌, ◌++◌, codes, Bool, true, false, not, if◌then◌else◌, Option, Some, None, option_and_then, Ok, refl, sym, ◌∙◌, ap, subst}
+use Rattle.std.proofs.{lemmas.Bool.{and_from, not_from_false}, lemmas.Slice.Eq.{bytes_eq-Decides}}
 use Rattle.std.specs.Str.{bytes_eq}
-use Rattle.std.proofs.lemmas.Bool.{and_from, not_from_false}
-use Rattle.std.proofs.lemmas.Slice.Eq.{bytes_eq-Decides}
-use Rattle.rio_num.specs.At.{At}
-use Rattle.rio_num.specs.Reading.{◌>>=◌}
-use Rattle.rio_num.specs.Word.{is_name_text}
-use Rattle.rio_types.specs.declared.class.Base.{Base}
-use Rattle.rio_types.specs.declared.class.ClassDef.{ClassDef}
-use Rattle.rio_types.specs.declared.class.Member.{Member}
-use Rattle.rio_types.specs.declared.kind.Kind.{Kind}
-use Rattle.rio_types.specs.declared.kind.Kind.TheVariants.{Plain, Fixed, Counted, Text, Inline, Pointer}
-use Rattle.rio_types.specs.declared.kind.Primitive.{Primitive}
-use Rattle.rio_types.specs.declared.kind.Primitive.TheVariants.{I8, I16, I32, I64, U8, U16, U32, U64, Bool as Truth, F32, F64}
-use Rattle.rio_token.specs.declared.token.Token.{Token}
-use Rattle.rio_token.specs.declared.token.Token.TheVariants.{Word, Text as Chars, Mark, Bad, Cut, End}
+use Rattle.rio_num.specs.{At.{At}, Reading.{◌>>=◌}, Word.{is_name_text}}
+use Rattle.rio_num.proofs.ReadLaws.{if_is}
+use Rattle.rio_types.specs.{declared.class.Base.{Base}, declared.class.ClassDef.{ClassDef}, declared.class.Member.{Member}}
+use Rattle.rio_types.specs.declared.kind.Kind.{Kind, TheVariants.{Plain, Fixed, Counted, Text, Inline, Pointer}}
+use Rattle.rio_types.specs.declared.kind.Primitive.{Primitive, TheVariants.{I8, I16, I32, I64, U8, U16, U32, U64, Bool as Truth, F32, F64}}
+use Rattle.rio_token.specs.declared.token.Token.{Token, TheVariants.{Word, Text as Chars, Mark, Bad, Cut, End}}
 use Rattle.rio_token.specs.Reading.{Read, end_at, is_end, keyword_at, list_at, mark_at, marked, name_at, next_word, some_at, some_if, version_at, word_that_at}
-use Rattle.rio_token.specs.Tokens.{behind, next_at}
-use Rattle.rio_token.specs.Words.{num_between_of}
+use Rattle.rio_token.specs.{Tokens.{behind, next_at}, Words.{num_between_of}}
 use Rattle.rio_format.specs.Bodies.{member}
 use Rattle.rio_model.specs.ClassGrammar.{base, base_at, bases_at, class_at, class_of, counted_by, dimension_at, dimension_of, fixed_or, has_i32, is_new_base, is_new_member, kind_at, member_at, plain_at, primitive_of, sized_at}
 use Rattle.rio_model.specs.ClassSpelling.{ReadClassesAreSpelled, SpellsBase, SpellsBases, SpellsDeclaration, SpellsKind, SpellsMember, ends_kind}
-use Rattle.rio_model.specs.ClassText.{primitive_text}
-use Rattle.rio_model.specs.Lexemes.{IsNext, Lexeme, SpellsItems, Stand, mark, word}
-use Rattle.rio_model.specs.Stated.{is_class_word}
+use Rattle.rio_model.specs.{ClassText.{primitive_text}, Lexemes.{IsNext, Lexeme, SpellsItems, Stand, mark, word}, Stated.{is_class_word}}
 use Rattle.rio_model.proofs.ItemLaws.{ended, items_found, read_is, some_found}
-use Rattle.rio_model.proofs.LexemeLaws.{bounded_found, if_is, mark_found, marked_is, next_word_is, stand_joined, taken_is, then_is, then_ok, word_that_found, with_place}
+use Rattle.rio_model.proofs.LexemeLaws.{bounded_found, mark_found, marked_is, next_word_is, stand_joined, taken_is, then_is, then_ok, word_that_found, with_place}
 
 abbrev read_to : {A : Type 0} → A → At → Read A
 read_to x t = Ok (x, t)

@@ -1,30 +1,19 @@
 -- The list of classes is read as these classes.
 use Rattle.std.proofs.Common.{◌≡◌, ◌∙◌, ℤ, ℕ, ◌+◌, ◌^◌, pos, negsuc, List, [], ◌∷◌, ◌++◌, codes, length, map, true, ◌&&◌, leb, ltb, Option, Some, option_and_then, option_map, slice_get, refl, ap, arith, append-nil}
-use Rattle.std.specs.List.{filter_map, list_all}
-use Rattle.std.specs.Ordering.{int_eq}
-use Rattle.std.specs.Str.{bytes_eq}
-use Rattle.std.proofs.lemmas.Bool.{and_parts}
-use Rattle.std.proofs.lemmas.Bool.Decides.{nat_tests}
-use Rattle.std.proofs.lemmas.List.{map-append}
+use Rattle.std.proofs.{lemmas.Bool.{and_parts, Decides.{nat_tests}}, lemmas.List.{map-append}}
+use Rattle.std.specs.{List.{filter_map, list_all}, Ordering.{int_eq}, Str.{bytes_eq}}
 use Rattle.rio_num.specs.Word.{is_name_text}
 use Rattle.rio_types.specs.declared.class.ClassDef.{ClassDef}
-use Rattle.rio_value.specs.declared.value.Part.{Part}
-use Rattle.rio_value.specs.declared.value.Value.{Value, Int, Text, List as Items, Object, Pointed}
-use Rattle.rio_format.specs.Bodies.{part}
-use Rattle.rio_format.specs.ClassList.{class_with, classes_of, described_class, element_items, elements_of, item_class, list_items}
-use Rattle.rio_format.specs.Elements.{Element, bases_of, element_of, members_of}
-use Rattle.rio_format.specs.Fits.{fits_signed}
-use Rattle.rio_format.specs.ValueParts.{parts_behind}
-use Rattle.rio_value.specs.Accessors.{parts_of}
-use Rattle.rio_model.specs.Stated.{are_stated_bases, are_stated_members, has_stated_parts, is_class_version}
-use Rattle.rio_model.specs.Described.{has_class_numbers, is_base_number, is_described, WrittenListIsRead}
+use Rattle.rio_value.specs.{declared.value.Part.{Part}, declared.value.Value.{Value, Int, Text, List as Items, Object, Pointed}, Accessors.{parts_of}}
+use Rattle.rio_format.specs.{Bodies.{part}, ClassList.{class_with, classes_of, described_class, element_items, elements_of, item_class, list_items}}
+use Rattle.rio_format.specs.{Elements.{Element, bases_of, element_of, members_of}, Fits.{fits_signed}, ValueParts.{parts_behind}}
 use Rattle.rio_format.specs.WrittenElements.{base_element, member_element, written_elements}
 use Rattle.rio_format.specs.WrittenList.{array_object, class_links, class_list_value, class_pointer, element_object, info_object, label_count, linked, list_object, number_part, plain_object, pointers_from, titled_object}
-use Rattle.rio_model.proofs.DescribedBases.{bases_are_said, bases_pass, bases_read, bases_said}
-use Rattle.rio_model.proofs.DescribedElements.{named_back, named_parts}
+use Rattle.rio_model.specs.Stated.{are_stated_bases, are_stated_members, has_stated_parts, is_class_version}
+use Rattle.rio_model.specs.Described.{has_class_numbers, is_base_number, is_described, WrittenListIsRead}
+use Rattle.rio_model.proofs.{DescribedBases.{bases_are_said, bases_pass, bases_read, bases_said}, DescribedElements.{named_back, named_parts}}
 use Rattle.rio_model.proofs.DescribedMembers.{Counts, members_are_said, members_read, members_said, no_member_is_base}
-use Rattle.rio_model.proofs.DescribedValues.{items_back, object_back, pointer_back, signed_back, text_back, unsigned_back}
-use Rattle.rio_model.proofs.PointerLaws.{by_parts}
+use Rattle.rio_model.proofs.{DescribedValues.{items_back, object_back, pointer_back, signed_back, text_back, unsigned_back}, PointerLaws.{by_parts}}
 
 -- ---- what such a class keeps to
 

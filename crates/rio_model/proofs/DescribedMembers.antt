@@ -1,28 +1,18 @@
 -- The elements of members are read as these members.
 use Rattle.std.proofs.Common.{◌≡◌, inl, inr, ◌∙◌, ℕ, ◌+◌, pos, List, [], ◌∷◌, ◌++◌, codes, map, Bool, true, false, ◌&&◌, ◌||◌, not, leb, Option, Some, None, refl, sym, ap, arith, if◌then◌else◌}
-use Rattle.std.specs.List.{list_any}
-use Rattle.std.specs.Ordering.{int_eq}
-use Rattle.std.specs.Str.{bytes_eq}
-use Rattle.std.proofs.lemmas.Bool.{and_parts, or_cases, or_left, or_right}
-use Rattle.std.proofs.lemmas.Bool.Decides.{nat_tests}
-use Rattle.std.proofs.lemmas.List.Folds.{list_any-append}
+use Rattle.std.proofs.{lemmas.Bool.{and_parts, or_cases, or_left, or_right, Decides.{nat_tests}}, lemmas.List.Folds.{list_any-append}}
+use Rattle.std.specs.{List.{list_any}, Ordering.{int_eq}, Str.{bytes_eq}}
 use Rattle.rio_num.specs.Word.{is_name_text}
 use Rattle.rio_num.proofs.BytesEq.{bytes_eq-sym}
-use Rattle.rio_types.specs.declared.class.ClassDef.{ClassDef}
-use Rattle.rio_types.specs.declared.class.Member.{Member}
-use Rattle.rio_types.specs.declared.kind.Kind.{Kind}
-use Rattle.rio_types.specs.declared.kind.Kind.TheVariants.{Plain, Counter, Fixed, Counted, Text, Inline, Pointer, Other}
-use Rattle.rio_types.specs.declared.kind.Primitive.{Primitive}
-use Rattle.rio_types.specs.declared.kind.Primitive.TheVariants.{I8, I16, I32, I64, U8, U16, U32, U64, Bool as Boolean, F32, F64}
+use Rattle.rio_types.specs.{declared.class.ClassDef.{ClassDef}, declared.class.Member.{Member}}
+use Rattle.rio_types.specs.declared.kind.Kind.{Kind, TheVariants.{Plain, Counter, Fixed, Counted, Text, Inline, Pointer, Other}}
+use Rattle.rio_types.specs.declared.kind.Primitive.{Primitive, TheVariants.{I8, I16, I32, I64, U8, U16, U32, U64, Bool as Boolean, F32, F64}}
 use Rattle.rio_types.specs.Members.{is_counter}
 use Rattle.rio_format.specs.Descriptions.{is_element}
-use Rattle.rio_format.specs.Elements.{Element, base_of_element, bases_of, counters_behind, element_of, kind_of, member_of, members_of}
-use Rattle.rio_format.specs.Fits.{fits_signed}
-use Rattle.rio_model.specs.Stated.{are_stated_members, has_counter, is_none, is_stated_kind, is_stated_member}
-use Rattle.rio_model.specs.ClassGrammar.{primitive_of}
-use Rattle.rio_format.specs.WrittenElements.{counted_element, fixed_element, inline_element, kind_element, member_element, plain_element, pointer_element, primitive_code, reaches_object}
+use Rattle.rio_format.specs.{Elements.{Element, base_of_element, bases_of, counters_behind, element_of, kind_of, member_of, members_of}, Fits.{fits_signed}}
+use Rattle.rio_format.specs.WrittenElements.{counted_element, fixed_element, inline_element, kind_element, member_element, plain_element, pointer_element, primitive_code, reaches_object, WrittenElement as Written}
 use Rattle.rio_format.specs.WrittenList.{element_object, pointers_from}
-use Rattle.rio_format.specs.WrittenElements.{WrittenElement as Written}
+use Rattle.rio_model.specs.{Stated.{are_stated_members, has_counter, is_none, is_stated_kind, is_stated_member}, ClassGrammar.{primitive_of}}
 use Rattle.rio_model.proofs.DescribedElements.{element_said, said}
 use Rattle.rio_model.proofs.DescribedKinds.{counted_kind_back, counter_kind, fixed_kind_back, inline_kind, plain_kind, pointer_kind, text_kind}
 use Rattle.rio_model.proofs.ReadClasses.{stated_parts}

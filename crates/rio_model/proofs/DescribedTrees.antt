@@ -2,10 +2,7 @@
 use Rattle.std.proofs.Common.{◌≡◌, true, codes, refl}
 use Rattle.std.specs.Fmt.{digits}
 use Rattle.rio_num.specs.Printed.{name_text}
-use Rattle.rio_model.specs.ClassGrammar.{checksum_of, primitive_of}
-use Rattle.rio_model.specs.ClassText.{text_of_class}
-use Rattle.rio_model.specs.Stated.{is_stated_class}
-use Rattle.rio_model.specs.Described.{TreeClassesAreStated}
+use Rattle.rio_model.specs.{ClassGrammar.{checksum_of, primitive_of}, ClassText.{text_of_class}, Stated.{is_stated_class}, Described.{TreeClassesAreStated}}
 use Rattle.rio_format.specs.TreeClasses.{branch_class, branch_members, kind_leaf, leaf_class, leaf_members, object_branch_class, object_branch_members, tree_class, tree_classes, tree_members}
 
 tree_stated : is_stated_class tree_class ≡ true

@@ -3,9 +3,7 @@ use Rattle.std.proofs.Common.{◌≡◌, pos, codes, ℕ, ℤ, List, refl}
 use Rattle.std.specs.Fmt.{digits}
 use Rattle.rio_num.specs.Printed.{name_text}
 use Rattle.rio_format.specs.Descriptions.{bare_element, base_element_class, counted_element_class, description_classes, element_class, info_class}
-use Rattle.rio_model.specs.ClassGrammar.{checksum_of}
-use Rattle.rio_model.specs.ClassText.{text_of_class}
-use Rattle.rio_model.specs.Described.{DescriptionsHaveSums}
+use Rattle.rio_model.specs.{ClassGrammar.{checksum_of}, ClassText.{text_of_class}, Described.{DescriptionsHaveSums}}
 
 info_sum : checksum_of info_class ≡ 1978760737
 unfolding checksum_of text_of_class name_text digits

@@ -1,13 +1,9 @@
 -- Lists of items with commas between them: what is spelled is read, and what is read is spelled.
 use Rattle.std.proofs.Common.{◌≡◌, ℕ, zero, suc, ◌<◌, List, [], ◌∷◌, ◌++◌, length, Bool, true, false, ◌==◌, if◌then◌else◌, Ok, refl, sym, ◌∙◌, ap, subst, arith, append_assoc, length-append}
-use Rattle.std.proofs.lemmas.Bool.{eq-eqb}
-use Rattle.std.proofs.lemmas.List.{append-nil}
-use Rattle.rio_num.specs.At.{At}
-use Rattle.rio_num.specs.Reading.{◌>>=◌}
+use Rattle.std.proofs.{lemmas.Bool.{eq-eqb}, lemmas.List.{append-nil}}
+use Rattle.rio_num.specs.{At.{At}, Reading.{◌>>=◌}}
 use Rattle.rio_num.proofs.ReadLaws.{ok_is}
-use Rattle.rio_token.specs.declared.fault.TextFault.{TextFault}
-use Rattle.rio_token.specs.Reading.{Read, list_at, mark_at, marked, more_at, some_at}
-use Rattle.rio_token.specs.Tokens.{behind}
+use Rattle.rio_token.specs.{declared.fault.TextFault.{TextFault}, Reading.{Read, list_at, mark_at, marked, more_at, some_at}, Tokens.{behind}}
 use Rattle.rio_model.specs.Lexemes.{IsNext, Lexeme, SpellsItems, SpellsFurther, Stand, mark}
 use Rattle.rio_model.proofs.LexemeLaws.{bad_not_ok, mark_again, mark_found, marked_again, marked_is, stand_joined, stand_split, stand_within, then_ok}
 

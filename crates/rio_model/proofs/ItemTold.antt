@@ -1,16 +1,11 @@
 -- Lists of items with commas between them: the first token that can't stand.
 use Rattle.std.proofs.Common.{◌≡◌, inl, inr, ℕ, zero, suc, ◌<◌, ◌≤◌, List, [], ◌∷◌, ◌++◌, length, Bool, true, false, if◌then◌else◌, Ok, Err, refl, sym, ◌∙◌, ap, subst, arith, append_assoc}
 use Rattle.std.proofs.lemmas.List.{append-nil}
-use Rattle.rio_num.specs.At.{At}
-use Rattle.rio_num.specs.Reading.{◌>>=◌}
-use Rattle.rio_token.specs.declared.fault.TextFault.{TextFault}
-use Rattle.rio_token.specs.declared.token.Token.TheVariants.{End}
-use Rattle.rio_token.specs.Reading.{Read, bad_at, list_at, mark_at, marked, more_at, some_at}
-use Rattle.rio_token.specs.Tokens.{behind, next_at, scan_of}
-use Rattle.rio_model.specs.Lexemes.{IsNext, Lexeme, SpellsItems, SpellsFurther, mark}
-use Rattle.rio_model.specs.ToldPlaces.{Begin, HaveSameNext, TellsBadToken}
-use Rattle.rio_model.proofs.ItemLaws.{ItemAgain, ItemFound}
-use Rattle.rio_model.proofs.LexemeLaws.{mark_again, mark_found, marked_again, stand_within, takes_some}
+use Rattle.rio_num.specs.{At.{At}, Reading.{◌>>=◌}}
+use Rattle.rio_token.specs.{declared.fault.TextFault.{TextFault}, declared.token.Token.TheVariants.{End}}
+use Rattle.rio_token.specs.{Reading.{Read, bad_at, list_at, mark_at, marked, more_at, some_at}, Tokens.{behind, next_at, scan_of}}
+use Rattle.rio_model.specs.{Lexemes.{IsNext, Lexeme, SpellsItems, SpellsFurther, mark}, ToldPlaces.{Begin, HaveSameNext, TellsBadToken}}
+use Rattle.rio_model.proofs.{ItemLaws.{ItemAgain, ItemFound}, LexemeLaws.{mark_again, mark_found, marked_again, stand_within, takes_some}}
 use Rattle.rio_model.proofs.ToldLaws.{bad_here, bad_is, bind_bad, err_is, mark_bad, marked_same, told_behind, told_here}
 
 -- ---- how far reading may go, by the bytes that are left

@@ -1,17 +1,11 @@
 -- Takes at tokens that are known, and which tokens takes pass over.
 use Rattle.std.proofs.Common.{◌≡◌, ℕ, ◌+◌, ◌<◌, ◌≤◌, List, [], ◌∷◌, ◌++◌, length, Bool, true, false, ◌==◌, ◌&&◌, nat_le, if◌then◌else◌, Option, Some, None, option_and_then, Ok, Err, refl, sym, ap, subst, arith}
-use Rattle.std.proofs.lemmas.Bool.{and_parts, eq-eqb, eqb-true}
-use Rattle.std.proofs.lemmas.Bool.Decides.{nat_tests}
-use Rattle.rio_num.specs.At.{At}
-use Rattle.rio_num.specs.Reading.{◌>>=◌}
-use Rattle.rio_num.proofs.ReadLaws.{ok_is}
-use Rattle.rio_token.specs.declared.token.Token.{Token}
-use Rattle.rio_token.specs.declared.token.Token.TheVariants.{Word, Text, Mark, Bad, Cut, End}
-use Rattle.rio_token.specs.declared.fault.TextFault.{TextFault}
+use Rattle.std.proofs.lemmas.Bool.{and_parts, eq-eqb, eqb-true, Decides.{nat_tests}}
+use Rattle.rio_num.specs.{At.{At}, Reading.{◌>>=◌}}
+use Rattle.rio_num.proofs.ReadLaws.{if_is, ok_is}
+use Rattle.rio_token.specs.{declared.token.Token.{Token, TheVariants.{Word, Text, Mark, Bad, Cut, End}}, declared.fault.TextFault.{TextFault}}
 use Rattle.rio_token.specs.Reading.{Read, bad_at, is_mark, is_word, mark_at, marked, next_word, num_at, num_between_at, some_if, string_at, string_by, taken_at, word_at, word_that_at}
-use Rattle.rio_token.specs.Tokens.{behind, next_at}
-use Rattle.rio_token.specs.Words.{num_between_of, num_of}
-use Rattle.rio_token.specs.Further.{can_be_passed}
+use Rattle.rio_token.specs.{Tokens.{behind, next_at}, Words.{num_between_of, num_of}, Further.{can_be_passed}}
 use Rattle.rio_token.proofs.PassLaws.{passed_takes_some}
 use Rattle.rio_model.specs.Lexemes.{IsNext, Lexeme, Stand, chars, glued, mark, word}
 
@@ -84,10 +78,6 @@ taken_is None s x t h = absurd (cc)
 taken_is {A} (Some y) s x t h =
     let e = ok_is {A = A × At} {E = TextFault} (y, behind s) (x, t) h in
     (ap (λ (q : A × At). Some q.0) e, sym (ap (λ (q : A × At). q.1) e))
-
-pub if_is : {A : Type 0} (b : Bool) (x w : A) → some_if b x ≡ Some w → (b ≡ true) × (x ≡ w)
-if_is true x w h = (refl, cc)
-if_is false x w h = absurd (cc)
 
 is_mark_is : (b : ℕ) (token : Token) → is_mark b token ≡ true → token ≡ Mark b
 is_mark_is b (Mark k) h = ap (λ (i : ℕ). let t : Token = Mark i in t) (eqb-true k b h)

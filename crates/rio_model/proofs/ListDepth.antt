@@ -1,21 +1,16 @@
 -- The class list isn't too deep, and the versions of its objects can be written.
 use Rattle.std.proofs.Common.{◌≡◌, ◌≤◌, ◌∙◌, ◌&&◌, ℕ, ◌+◌, ℤ, pos, int_le, Bool, true, false, List, [], ◌∷◌, ◌++◌, map, codes, refl, ap, arith}
-use Rattle.std.specs.List.{list_all}
 use Rattle.std.proofs.lemmas.Bool.{and_from}
-use Rattle.rio_types.specs.declared.class.Base.{Base}
-use Rattle.rio_types.specs.declared.class.ClassDef.{ClassDef}
-use Rattle.rio_types.specs.declared.class.Member.{Member}
-use Rattle.rio_types.specs.declared.kind.Kind.{Kind}
-use Rattle.rio_types.specs.declared.kind.Kind.TheVariants.{Plain, Counter, Fixed, Counted, Text as Texted, Inline, Pointer, Other}
-use Rattle.rio_value.specs.Depth.{greatest, depth_step, depth_of}
-use Rattle.rio_value.specs.declared.value.Part.{Part}
+use Rattle.std.specs.List.{list_all}
+use Rattle.rio_types.specs.{declared.class.Base.{Base}, declared.class.ClassDef.{ClassDef}, declared.class.Member.{Member}}
+use Rattle.rio_types.specs.declared.kind.Kind.{Kind, TheVariants.{Plain, Counter, Fixed, Counted, Text as Texted, Inline, Pointer, Other}}
+use Rattle.rio_value.specs.{Depth.{greatest, depth_step, depth_of}, declared.value.Part.{Part}}
 use Rattle.rio_value.specs.declared.value.Value.{Value, Int, Text, List as Items, Object, Pointed}
-use Rattle.rio_value.specs.declared.value.Value.TheFolds.{fold-Part, fold_out-Part}
+use Rattle.rio_value.proofs.DepthLaws.{part_depth}
 use Rattle.rio_format.specs.Laws.{versions_step, has_versions}
-use Rattle.rio_format.proofs.ValueCases.{Each, fold_Int, fold_Text, fold_List, fold_Object, fold_Pointed}
-use Rattle.rio_format.specs.WrittenElements.{base_element, inline_element, kind_element, member_element, pointer_element, reaches_object, written_elements}
+use Rattle.rio_format.specs.WrittenElements.{base_element, inline_element, kind_element, member_element, pointer_element, reaches_object, written_elements, WrittenElement}
 use Rattle.rio_format.specs.WrittenList.{array_object, class_links, class_list_value, class_pointer, element_object, element_parts, info_object, label_count, list_object, plain_object, pointers_from, titled_object}
-use Rattle.rio_format.specs.WrittenElements.{WrittenElement}
+use Rattle.rio_format.proofs.{ValueCases.{Each, fold_Int, fold_Text, fold_List, fold_Object, fold_Pointed}, WrittenValues.{part_versions}}
 use Rattle.rio_model.specs.Described.{WrittenListHasVersions, WrittenListIsShallow}
 
 -- it is at most so deep, and the versions of its objects can be written
@@ -25,8 +20,8 @@ IsWithin n v = (depth_of v ≤ n) × (has_versions v ≡ true)
 abbrev AreWithin : ℕ → List Part → Type 0
 AreWithin n parts = Each (λ p. IsWithin n p.value) parts
 
-abbrev is_version : ℤ → Bool
-is_version version = int_le (pos 1) version && int_le version (pos 65535)
+abbrev pub in_range : ℤ → Bool
+in_range version = int_le (pos 1) version && int_le version (pos 65535)
 
 -- ---- values
 
@@ -58,17 +53,11 @@ pointed_within n label v within =
 
 -- ---- objects
 
-part_depth : (p : Part) → fold-Part ℕ ℕ depth_step (λ p. p.value) p ≡ depth_of p.value
-part_depth p = fold_out-Part ℕ ℕ depth_step (λ p. p.value) p
-
-part_versions : (p : Part) → fold-Part Bool Bool versions_step (λ p. p.value) p ≡ has_versions p.value
-part_versions p = fold_out-Part Bool Bool versions_step (λ p. p.value) p
-
 object_depth : (class : List ℕ) (version : ℤ) (parts : List Part) → depth_of (Object class version parts) ≡ greatest (map (λ (p : Part). depth_of p.value) parts) + 1
 object_depth class version parts = fold_Object depth_step (λ p. p.value) class version parts ∙ ap (λ (g : Part → ℕ). greatest (map g parts) + 1) (λ i p. part_depth p i)
 
-object_versions : (class : List ℕ) (version : ℤ) (parts : List Part) → has_versions (Object class version parts) ≡ (is_version version && list_all (λ b. b) (map (λ (p : Part). has_versions p.value) parts))
-object_versions class version parts = fold_Object versions_step (λ p. p.value) class version parts ∙ ap (λ (g : Part → Bool). is_version version && list_all (λ b. b) (map g parts)) (λ i p. part_versions p i)
+object_versions : (class : List ℕ) (version : ℤ) (parts : List Part) → has_versions (Object class version parts) ≡ (in_range version && list_all (λ b. b) (map (λ (p : Part). has_versions p.value) parts))
+object_versions class version parts = fold_Object versions_step (λ p. p.value) class version parts ∙ ap (λ (g : Part → Bool). in_range version && list_all (λ b. b) (map g parts)) (λ i p. part_versions p i)
 
 greatest_part : (n : ℕ) (ps : List Part) → AreWithin n ps → greatest (map (λ (p : Part). depth_of p.value) ps) ≤ n
 greatest_part n [] each = omega arith
@@ -78,9 +67,9 @@ parts_have_versions : (n : ℕ) (ps : List Part) → AreWithin n ps → list_all
 parts_have_versions n [] each = refl
 parts_have_versions n (p ∷ ps) each = and_from (has_versions p.value) (list_all (λ b. b) (map (λ (p : Part). has_versions p.value) ps)) each.0.1 (parts_have_versions n ps each.1)
 
-object_within : (n : ℕ) (class : List ℕ) (version : ℤ) (parts : List Part) → is_version version ≡ true → AreWithin n parts → IsWithin (n + 1) (Object class version parts)
+object_within : (n : ℕ) (class : List ℕ) (version : ℤ) (parts : List Part) → in_range version ≡ true → AreWithin n parts → IsWithin (n + 1) (Object class version parts)
 object_within n class version parts stated each =
-    (rw (object_depth class version parts) (omega (arith, greatest_part n parts each)), object_versions class version parts ∙ and_from (is_version version) (list_all (λ b. b) (map (λ (p : Part). has_versions p.value) parts)) stated (parts_have_versions n parts each))
+    (rw (object_depth class version parts) (omega (arith, greatest_part n parts each)), object_versions class version parts ∙ and_from (in_range version) (list_all (λ b. b) (map (λ (p : Part). has_versions p.value) parts)) stated (parts_have_versions n parts each))
 
 -- ---- elements
 
@@ -118,7 +107,7 @@ element_within e =
 
 -- its version can be written, and what it adds isn't deep
 abbrev IsShallow : WrittenElement → Type 0
-IsShallow e = (is_version e.version ≡ true) × AreWithin 4 e.added
+IsShallow e = (in_range e.version ≡ true) × AreWithin 4 e.added
 
 element_object_within : (e : WrittenElement) → IsShallow e → IsWithin 5 (element_object e)
 unfolding element_object

@@ -1,29 +1,18 @@
 -- The elements of the class list fit its descriptions.
 use Rattle.std.proofs.Common.{◌≡◌, ◌<◌, ◌∙◌, ◌^◌, ◌*◌, ℕ, ◌+◌, ℤ, pos, Bool, true, false, cond, List, [], ◌∷◌, ◌++◌, length, map, codes, Some, refl, ap, sym, arith, append-nil, append_assoc, bytes_eq, nat_lt}
-use Rattle.std.proofs.lemmas.Bool.{ltb-true, lt-ltb}
-use Rattle.std.proofs.lemmas.List.{length-append}
+use Rattle.std.proofs.{lemmas.Bool.{and_parts, ltb-true, lt-ltb}, lemmas.List.{length-append}}
 use Rattle.std.specs.List.{list_all}
-use Rattle.rio_types.specs.declared.class.Base.{Base}
-use Rattle.rio_types.specs.declared.class.ClassDef.{ClassDef}
-use Rattle.rio_types.specs.declared.class.Member.{Member}
-use Rattle.rio_types.specs.declared.kind.Kind.{Kind}
-use Rattle.rio_types.specs.declared.kind.Kind.TheVariants.{Plain, Counter, Fixed, Counted, Text as Texted, Inline, Pointer, Other}
-use Rattle.rio_types.specs.declared.kind.Primitive.{Primitive}
-use Rattle.rio_types.specs.declared.kind.Primitive.TheVariants.{I8, I16, I32, I64, U8, U16, U32, U64, Bool as Boolean, F32, F64}
+use Rattle.rio_types.specs.{declared.class.Base.{Base}, declared.class.ClassDef.{ClassDef}, declared.class.Member.{Member}}
+use Rattle.rio_types.specs.declared.kind.Kind.{Kind, TheVariants.{Plain, Counter, Fixed, Counted, Text as Texted, Inline, Pointer, Other}}
+use Rattle.rio_types.specs.declared.kind.Primitive.{Primitive, TheVariants.{I8, I16, I32, I64, U8, U16, U32, U64, Bool as Boolean, F32, F64}}
 use Rattle.rio_value.specs.declared.value.Value.{Value, Object, Pointed}
-use Rattle.rio_format.specs.Bodies.{part}
-use Rattle.rio_format.specs.Descriptions.{description_classes}
-use Rattle.rio_format.specs.Fits.{Labels, all_fit, fits_signed, fitting_of, may_point}
-use Rattle.rio_format.specs.Prims.{width_of}
+use Rattle.rio_format.specs.{Bodies.{part}, Descriptions.{description_classes}, Fits.{Labels, all_fit, fits_signed, fitting_of, may_point}, Prims.{width_of}}
 use Rattle.rio_format.specs.Slots.{kinded, based, any_pointer}
-use Rattle.rio_format.proofs.Tests.{both_true}
-use Rattle.rio_format.proofs.ValueCases.{Each}
-use Rattle.rio_format.proofs.WrittenParts.{FitsIn, index_list_fits, int_fits, pointer_fits, text_fits, titled_fits}
+use Rattle.rio_format.specs.WrittenElements.{base_element, counted_element, inline_element, kind_element, member_element, pointer_element, primitive_code, reaches_object, WrittenElement}
+use Rattle.rio_format.specs.WrittenList.{element_object, element_parts, pointers_from}
+use Rattle.rio_format.proofs.{ValueCases.{Each}, WrittenParts.{FitsIn, index_list_fits, int_fits, pointer_fits, text_fits, titled_fits}}
 use Rattle.rio_format.proofs.WrittenValues.{object_fitting, fit_object}
 use Rattle.rio_model.specs.Described.{is_base_number, kind_has_numbers, member_has_numbers}
-use Rattle.rio_format.specs.WrittenElements.{base_element, counted_element, inline_element, kind_element, member_element, pointer_element, primitive_code, reaches_object}
-use Rattle.rio_format.specs.WrittenList.{element_object, element_parts, pointers_from}
-use Rattle.rio_format.specs.WrittenElements.{WrittenElement}
 
 -- its numbers are i32
 record HasWords (e : WrittenElement) : Type 0 where
@@ -33,7 +22,7 @@ record HasWords (e : WrittenElement) : Type 0 where
   dimensions : fits_signed 32 (pos e.dimensions) ≡ true
 
 -- what all elements say
-abbrev common : WrittenElement → Value
+abbrev pub common : WrittenElement → Value
 common e = Object (codes "TStreamerElement") (pos 4) (element_parts e)
 
 common_fits : (e : WrittenElement) (labels : Labels) → HasWords e → FitsIn description_classes (based (codes "TStreamerElement") (pos 4)) (common e) labels labels
@@ -171,12 +160,12 @@ kind_fits classes owner name (Other code) v e =
 
 pub bases_fit : (bases : List Base) (rest : List WrittenElement) → list_all is_base_number bases ≡ true → Each ElementFits rest → Each ElementFits (map base_element bases ++ rest)
 bases_fit [] rest e each = each
-bases_fit (b ∷ bs) rest e each = let h = both_true (is_base_number b) (list_all is_base_number bs) e in (base_fits b h.0, bases_fit bs rest h.1 each)
+bases_fit (b ∷ bs) rest e each = let h = and_parts (is_base_number b) (list_all is_base_number bs) e in (base_fits b h.0, bases_fit bs rest h.1 each)
 
 pub members_fit : (classes : List ClassDef) (owner : ClassDef) (members : List Member) → fits_signed 32 owner.version ≡ true → list_all member_has_numbers members ≡ true → Each ElementFits (map (member_element classes owner) members)
 members_fit classes owner [] v e = tt
 members_fit classes owner (m ∷ ms) v e =
-    let h = both_true (member_has_numbers m) (list_all member_has_numbers ms) e in
+    let h = and_parts (member_has_numbers m) (list_all member_has_numbers ms) e in
     (kind_fits classes owner m.name m.kind v h.0, members_fit classes owner ms v h.1)
 
 -- pointers to elements fit one behind the other

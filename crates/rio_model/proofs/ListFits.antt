@@ -1,22 +1,17 @@
 -- The class list fits its descriptions.
 use Rattle.std.proofs.Common.{◌≡◌, ◌∙◌, ◌&&◌, ◌^◌, ℕ, ◌+◌, pos, true, List, [], ◌∷◌, ◌++◌, length, map, codes, Option, Some, refl, ap, append_assoc, arith, nat_lt, is_some}
-use Rattle.std.proofs.lemmas.Bool.{le-leb}
-use Rattle.std.proofs.lemmas.List.{length-append, length-map}
+use Rattle.std.proofs.{lemmas.Bool.{and_parts, le-leb}, lemmas.List.{length-append, length-map}}
 use Rattle.std.specs.List.{list_all}
-use Rattle.rio_types.specs.declared.class.ClassDef.{ClassDef}
-use Rattle.rio_types.specs.declared.kind.Kind.TheVariants.{Inline, Pointer}
+use Rattle.rio_types.specs.{declared.class.ClassDef.{ClassDef}, declared.kind.Kind.TheVariants.{Inline, Pointer}}
 use Rattle.rio_types.specs.declared.kind.Primitive.TheVariants.{I32, U32}
 use Rattle.rio_value.specs.declared.value.Value.{Value, Pointed}
-use Rattle.rio_format.specs.Descriptions.{description_classes}
-use Rattle.rio_format.specs.Fits.{Labels, Fitting, all_fit, fits_signed, fits_unsigned, fitting_of, fitting_step}
-use Rattle.rio_format.specs.Slots.{kinded, any_pointer, link}
-use Rattle.rio_format.proofs.Tests.{both_true}
+use Rattle.rio_format.specs.{Descriptions.{description_classes}, Fits.{Labels, Fitting, all_fit, fits_signed, fits_unsigned, fitting_of, fitting_step}}
+use Rattle.rio_format.specs.{Slots.{kinded, any_pointer, link}, WrittenElements.{base_element, member_element, written_elements}}
+use Rattle.rio_format.specs.WrittenList.{array_object, class_links, class_list_value, class_pointer, element_object, info_object, label_count, list_object, pointers_from}
 use Rattle.rio_format.proofs.ValueCases.{Each, fold_List}
 use Rattle.rio_format.proofs.WrittenParts.{FitsIn, array_fits, int_fits, linked_fits, plain_fits, pointer_fits, pointer_to, text_fits, titled_fits}
 use Rattle.rio_format.proofs.WrittenValues.{fit_object}
 use Rattle.rio_model.specs.Described.{WrittenListFits, has_numbers, is_base_number, member_has_numbers}
-use Rattle.rio_format.specs.WrittenElements.{base_element, member_element, written_elements}
-use Rattle.rio_format.specs.WrittenList.{array_object, class_links, class_list_value, class_pointer, element_object, info_object, label_count, list_object, pointers_from}
 use Rattle.rio_model.proofs.ListElements.{ElementFits, bases_fit, members_fit, own_label, pointers_fit}
 
 -- ---- one class
@@ -59,9 +54,9 @@ class_fits classes label c labels next numbers =
     let array : Labels = info ++ (codes "TObjArray", pos 3) ∷ [] in
     let info_length = length-append labels ((codes "TStreamerInfo", pos 9) ∷ []) in
     let array_length = length-append info ((codes "TObjArray", pos 3) ∷ []) in
-    let members = both_true (nat_lt c.sum (2 ^ 32) && fits_signed 32 c.version && list_all is_base_number c.bases) (list_all member_has_numbers c.members) numbers in
-    let bases = both_true (nat_lt c.sum (2 ^ 32) && fits_signed 32 c.version) (list_all is_base_number c.bases) members.0 in
-    let version = both_true (nat_lt c.sum (2 ^ 32)) (fits_signed 32 c.version) bases.0 in
+    let members = and_parts (nat_lt c.sum (2 ^ 32) && fits_signed 32 c.version && list_all is_base_number c.bases) (list_all member_has_numbers c.members) numbers in
+    let bases = and_parts (nat_lt c.sum (2 ^ 32) && fits_signed 32 c.version) (list_all is_base_number c.bases) members.0 in
+    let version = and_parts (nat_lt c.sum (2 ^ 32)) (fits_signed 32 c.version) bases.0 in
     let same : array ++ map own_label es ≡ labels ++ class_labels classes c =
     append_assoc info ((codes "TObjArray", pos 3) ∷ []) (map own_label es) ∙ append_assoc labels ((codes "TStreamerInfo", pos 9) ∷ []) ((codes "TObjArray", pos 3) ∷ map own_label es) in
     let each = pointers_fit es (elements_fit classes c version.1 bases.1 members.1) (label + 2) array (omega (arith, next, info_length, array_length)) ∙ ap (λ (l : Labels). Some l) same in
@@ -83,7 +78,7 @@ unfolding class_links
 links_fit classes [] label labels next numbers = (labels, refl)
 links_fit classes (c ∷ cs) label labels next numbers =
     let own : Labels = labels ++ class_labels classes c in
-    let h = both_true (has_numbers c) (list_all has_numbers cs) numbers in
+    let h = and_parts (has_numbers c) (list_all has_numbers cs) numbers in
     let rest = links_fit classes cs (label + label_count c) own (omega (arith, next, length-append labels (class_labels classes c), labels_counted classes c)) h.1 in
     (rest.0, rw (linked_fits description_classes (class_pointer classes label c) labels own (class_fits classes label c labels next h.0)) rest.1)
 

@@ -1,18 +1,11 @@
 -- The bytes of the class list spell it, and are read as it.
 use Rattle.std.proofs.Common.{codes, Result, refl, ap}
 use Rattle.rio_value.specs.declared.value.Value.{Value}
-use Rattle.rio_format.specs.Descriptions.{description_classes}
-use Rattle.rio_format.specs.Objects.{only_value}
-use Rattle.rio_buffer.specs.ReaderState.{ReaderState}
-use Rattle.rio_buffer.specs.declared.fault.ObjFault.{ObjFault}
-use Rattle.rio_format.proofs.ObjectLaws.{spelled_is_read}
-use Rattle.rio_format.proofs.WrittenValues.{written_is_spelled}
-use Rattle.rio_format.specs.WrittenBytes.{class_list_bytes}
+use Rattle.rio_format.specs.{Descriptions.{description_classes}, Objects.{only_value}, WrittenBytes.{class_list_bytes}, WrittenList.{class_list_value}}
+use Rattle.rio_buffer.specs.{ReaderState.{ReaderState}, declared.fault.ObjFault.{ObjFault}}
+use Rattle.rio_format.proofs.{ObjectLaws.{spelled_is_read}, WrittenValues.{written_is_spelled}}
 use Rattle.rio_model.specs.Described.{WrittenBytesAreRead, WrittenClassesAreRead, WrittenListIsSpelled}
-use Rattle.rio_format.specs.WrittenList.{class_list_value}
-use Rattle.rio_model.proofs.DescribedClasses.{written_list_read}
-use Rattle.rio_model.proofs.ListDepth.{written_list_has_versions, written_list_is_shallow}
-use Rattle.rio_model.proofs.ListFits.{written_list_fits}
+use Rattle.rio_model.proofs.{DescribedClasses.{written_list_read}, ListDepth.{written_list_has_versions, written_list_is_shallow}, ListFits.{written_list_fits}}
 use Rattle.rio_model.proofs.ListNumbers.{described_have_numbers}
 
 pub written_list_is_spelled : WrittenListIsSpelled

@@ -1,10 +1,7 @@
 -- No part of a text has a byte below a space.
 use Rattle.std.proofs.Common.{◌≡◌, ℕ, zero, suc, ◌+◌, ◌/◌, ◌%◌, ◌≤◌, Bool, true, false, cond, nat_lt, nat_le, nat_eq, ◌&&◌, not, length, ℤ, pos, negsuc, List, [], ◌∷◌, ◌++◌, codes, map, refl, ◌∙◌, arith}
-use Rattle.std.specs.List.{flat_map, list_all, All}
-use Rattle.std.specs.Fmt.{decimal, digits, digits_onto, digit_glyph, signed_decimal}
-use Rattle.std.proofs.lemmas.Bool.{and_parts, le-leb, leb-true}
-use Rattle.std.proofs.lemmas.List.Folds.{list_all-append}
-use Rattle.std.proofs.lemmas.List.Sums.{AllPass-from_list_all}
+use Rattle.std.proofs.{lemmas.Bool.{and_parts, le-leb, leb-true}, lemmas.List.Folds.{list_all-append}, lemmas.List.Sums.{AllPass-from_list_all}}
+use Rattle.std.specs.{List.{flat_map, list_all, All}, Fmt.{decimal, digits, digits_onto, digit_glyph, signed_decimal}}
 use Rattle.rio_num.specs.Printed.{escaped, hex_digit, hex_text, is_bare, is_bare_name, name_text, string_text}
 use Rattle.rio_model.specs.Lists.{separated}
 

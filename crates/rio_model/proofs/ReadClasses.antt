@@ -1,26 +1,19 @@
 -- The declaration of a class is read as the class.
-use Rattle.std.proofs.Common.{◌≡◌, ◌⊎◌, inl, inr, ℕ, suc, List, [], ◌∷◌, ◌++◌, map, length, Bool, true, false, ◌==◌, ◌&&◌, ◌||◌, not, if◌then◌else◌, refl, sym, ◌∙◌, ap, arith, subst, append_assoc}
-use Rattle.std.specs.List.{list_any}
-use Rattle.std.specs.Str.{bytes_eq}
-use Rattle.std.proofs.lemmas.Bool.{and_parts, eqb-true, false_from_ne_true, not-true, or_cases, or_left, or_right}
-use Rattle.std.proofs.lemmas.List.{map-append}
-use Rattle.std.proofs.lemmas.List.Folds.{list_any-append}
-use Rattle.std.proofs.lemmas.Slice.Eq.{bytes_eq-Decides}
-use Rattle.std.proofs.Math.Bool.{or-false}
+use Rattle.std.proofs.Common.{◌≡◌, ◌⊎◌, inl, inr, ℕ, List, [], ◌∷◌, ◌++◌, map, length, Bool, true, false, ◌==◌, ◌&&◌, ◌||◌, not, if◌then◌else◌, refl, sym, ◌∙◌, ap, subst, append_assoc}
+use Rattle.std.proofs.lemmas.Bool.{and_parts, false_from_ne_true, not-true, or_cases, or_left, or_right}
+use Rattle.std.proofs.{lemmas.List.{map-append, Folds.{list_any-append}}, lemmas.Slice.Eq.{bytes_eq-Decides}, Math.Bool.{or-false}}
+use Rattle.std.specs.{List.{list_any}, Str.{bytes_eq}}
 use Rattle.rio_num.specs.Word.{is_name_text}
-use Rattle.rio_types.specs.declared.class.Base.{Base}
-use Rattle.rio_types.specs.declared.class.Member.{Member}
-use Rattle.rio_types.specs.declared.kind.Kind.{Kind}
-use Rattle.rio_types.specs.declared.kind.Kind.TheVariants.{Plain, Counter, Fixed, Counted, Text, Inline, Pointer, Other}
-use Rattle.rio_types.specs.declared.kind.Primitive.TheVariants.{I32}
-use Rattle.rio_types.specs.Members.{is_counter}
+use Rattle.rio_num.proofs.Cases.{nothing_left}
+use Rattle.rio_types.specs.{declared.class.Base.{Base}, declared.class.Member.{Member}}
+use Rattle.rio_types.specs.declared.kind.Kind.{Kind, TheVariants.{Plain, Counter, Fixed, Counted, Text, Inline, Pointer, Other}}
+use Rattle.rio_types.specs.{declared.kind.Primitive.TheVariants.{I32}, Members.{is_counter}}
 use Rattle.rio_token.proofs.SeparatedLaws.{AllBack}
 use Rattle.rio_format.specs.Bodies.{member}
 use Rattle.rio_model.specs.ClassGrammar.{base, base_at, counting, counts_by, has_base_named, has_i32, has_member, is_counted_by, is_i32, is_i32_of, member_at, with_counters}
 use Rattle.rio_model.specs.ClassText.{base_text, kind_text, member_text}
 use Rattle.rio_model.specs.Stated.{are_stated_bases, are_stated_members, has_counter, is_stated_base, is_stated_kind, is_stated_member}
-use Rattle.rio_model.proofs.ReadKinds.{IsEnd, is_read_kind}
-use Rattle.rio_model.proofs.ReadMembers.{base_back, member_back}
+use Rattle.rio_model.proofs.{ReadKinds.{IsEnd, is_read_kind}, ReadMembers.{base_back, member_back}}
 
 -- ---- members as they are read, before it is known which count
 
@@ -167,16 +160,12 @@ pub record Stated (before : List Member) (m : Member) (after : List Member) : Ty
   pub kind : is_stated_kind before m.name after m.kind ≡ true
   pub title : m.title ≡ []
 
-pub empty_title : (t : List ℕ) → (length t == 0) ≡ true → t ≡ []
-empty_title [] h = refl
-empty_title (b ∷ bs) h = absurd (let e : suc (length bs) ≡ 0 = eqb-true (suc (length bs)) 0 h in omega (arith, e))
-
 pub stated_parts : (before : List Member) (m : Member) (after : List Member) → is_stated_member before m after ≡ true → Stated before m after
 stated_parts before m after h =
     let outer = and_parts (is_name_text m.name && not (has_member before m.name) && is_stated_kind before m.name after m.kind) (length m.title == 0) h in
     let middle = and_parts (is_name_text m.name && not (has_member before m.name)) (is_stated_kind before m.name after m.kind) outer.0 in
     let inner = and_parts (is_name_text m.name) (not (has_member before m.name)) middle.0 in
-    record { named = inner.0; new = not-true (has_member before m.name) inner.1; kind = middle.1; title = empty_title m.title outer.1 }
+    record { named = inner.0; new = not-true (has_member before m.name) inner.1; kind = middle.1; title = nothing_left m.title outer.1 }
 
 pub members_back : (before ms : List Member) → Known before → are_stated_members before ms ≡ true → AllBack 125 member_at member_text IsEnd (map as_read before) (map as_read ms)
 members_back before [] known h = tt

@@ -1,28 +1,18 @@
 -- The declaration of a class is read as the class: the whole line.
 use Rattle.std.proofs.Common.{◌≡◌, ℕ, ◌+◌, ◌≤◌, min, ℤ, pos, negsuc, int_le, List, [], ◌∷◌, ◌++◌, codes, map, length, true, false, ◌==◌, ◌&&◌, Ok, refl, sym, ◌∙◌, ap, arith, append_assoc, length-append}
-use Rattle.std.specs.Fmt.{decimal}
-use Rattle.std.specs.List.{flat_map}
-use Rattle.std.specs.Str.{bytes_eq}
 use Rattle.std.proofs.lemmas.Bool.{and_parts, eqb-true}
-use Rattle.rio_num.specs.At.{At}
-use Rattle.rio_num.specs.Word.{is_name_text}
-use Rattle.rio_types.specs.declared.class.Base.{Base}
-use Rattle.rio_types.specs.declared.class.ClassDef.{ClassDef}
-use Rattle.rio_types.specs.declared.class.Member.{Member}
-use Rattle.rio_token.specs.Tokens.{behind, scan_of}
-use Rattle.rio_token.specs.Reading.{end_at, list_at, mark_at, marked, name_at, some_at, version_at}
-use Rattle.rio_token.proofs.DecimalLaws.{nums_are_read}
-use Rattle.rio_token.proofs.SeparatedLaws.{list_back, some_back}
+use Rattle.std.specs.{Fmt.{decimal}, List.{flat_map}, Str.{bytes_eq}}
+use Rattle.rio_num.specs.{At.{At}, Word.{is_name_text}}
+use Rattle.rio_types.specs.{declared.class.Base.{Base}, declared.class.ClassDef.{ClassDef}, declared.class.Member.{Member}}
+use Rattle.rio_token.specs.{Tokens.{behind, scan_of}, Reading.{end_at, list_at, mark_at, marked, name_at, some_at, version_at}}
+use Rattle.rio_token.proofs.{DecimalLaws.{nums_are_read}, SeparatedLaws.{list_back, some_back}}
 use Rattle.rio_token.proofs.StandLaws.{IsWord, Stops, at, blank_alike, drop_front, name_is_word, num_between_back, word_that_back}
 use Rattle.rio_model.specs.ClassGrammar.{base, base_at, bases_at, checksum_of, class_at, class_of, member_at, only_class}
-use Rattle.rio_model.specs.ClassText.{base_text, bases_text, member_text, members_text, text_of_class}
-use Rattle.rio_model.specs.Lists.{separated}
+use Rattle.rio_model.specs.{ClassText.{base_text, bases_text, member_text, members_text, text_of_class}, Lists.{separated}}
 use Rattle.rio_model.specs.Stated.{ClassesAreRead, are_stated_bases, are_stated_members, has_stated_parts, is_class_version, is_stated_class, with_plain_bases}
 use Rattle.rio_model.proofs.ReadAlike.{list_alike, num_between_alike, some_alike, word_that_alike}
-use Rattle.rio_model.proofs.ReadClasses.{as_read, bases_back, counters_again, known_none, members_back, same_kind_text}
-use Rattle.rio_model.proofs.ReadKinds.{IsEnd}
-use Rattle.rio_model.proofs.ReadMembers.{base_behind_blank, base_ends, member_behind_blank, member_ends}
-use Rattle.rio_model.proofs.ReadLayers.{at_least, at_most}
+use Rattle.rio_model.proofs.{ReadClasses.{as_read, bases_back, counters_again, known_none, members_back, same_kind_text}, ReadKinds.{IsEnd}}
+use Rattle.rio_model.proofs.{ReadMembers.{base_behind_blank, base_ends, member_behind_blank, member_ends}, ReadLayers.{at_least, at_most}}
 use Rattle.rio_model.proofs.ReadWords.{decimal_word, name_as_it_is}
 
 -- ---- the members, behind the opening brace

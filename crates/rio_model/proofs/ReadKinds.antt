@@ -1,24 +1,14 @@
 -- The kinds of members that are printed are read again.
 use Rattle.std.proofs.Common.{◌≡◌, ℕ, ◌+◌, ◌≤◌, List, [], ◌∷◌, ◌++◌, codes, length, Bool, true, false, ◌==◌, ◌&&◌, ◌||◌, not, nat_le, if◌then◌else◌, Option, Some, None, option_and_then, Ok, refl, ◌∙◌, ap, arith, append_assoc, length-append}
-use Rattle.std.specs.Fmt.{decimal}
-use Rattle.std.specs.List.{list_all}
-use Rattle.std.specs.Str.{bytes_eq}
-use Rattle.std.proofs.lemmas.Bool.{and_parts, leb-true, not-true}
-use Rattle.std.proofs.lemmas.Bool.Decides.{nat_tests}
-use Rattle.rio_num.specs.At.{At}
-use Rattle.rio_num.specs.Word.{begins_name, goes_on_name, is_name_text}
+use Rattle.std.proofs.lemmas.Bool.{and_parts, leb-true, not-true, Decides.{nat_tests}}
+use Rattle.std.specs.{Fmt.{decimal}, List.{list_all}, Str.{bytes_eq}}
+use Rattle.rio_num.specs.{At.{At}, Word.{begins_name, goes_on_name, is_name_text}}
 use Rattle.rio_types.specs.declared.class.Member.{Member}
-use Rattle.rio_types.specs.declared.kind.Kind.{Kind}
-use Rattle.rio_types.specs.declared.kind.Kind.TheVariants.{Plain, Counter, Fixed, Counted, Text, Inline, Pointer, Other}
-use Rattle.rio_types.specs.declared.kind.Primitive.{Primitive}
-use Rattle.rio_types.specs.declared.kind.Primitive.TheVariants.{I8, I16, I32, I64, U8, U16, U32, U64, Bool as Truth, F32, F64}
-use Rattle.rio_token.specs.Tokens.{behind, scan_of}
-use Rattle.rio_token.specs.Reading.{mark_at, marked}
-use Rattle.rio_token.specs.Words.{decimal as decimal_of, num_between_of, written}
-use Rattle.rio_token.proofs.DecimalLaws.{nums_are_read}
-use Rattle.rio_token.proofs.StandLaws.{IsWord, Stops, at, behind_word, name_is_word, next_is_word, word_that_back}
-use Rattle.rio_model.specs.ClassGrammar.{dimension_of, has_i32, kind_at, plain_at, primitive_of, sized_at}
-use Rattle.rio_model.specs.ClassText.{kind_text, primitive_text}
+use Rattle.rio_types.specs.declared.kind.Kind.{Kind, TheVariants.{Plain, Counter, Fixed, Counted, Text, Inline, Pointer, Other}}
+use Rattle.rio_types.specs.declared.kind.Primitive.{Primitive, TheVariants.{I8, I16, I32, I64, U8, U16, U32, U64, Bool as Truth, F32, F64}}
+use Rattle.rio_token.specs.{Tokens.{behind, scan_of}, Reading.{mark_at, marked}, Words.{decimal as decimal_of, num_between_of, written}}
+use Rattle.rio_token.proofs.{DecimalLaws.{nums_are_read}, StandLaws.{IsWord, Stops, at, behind_word, name_is_word, next_is_word, word_that_back}}
+use Rattle.rio_model.specs.{ClassGrammar.{dimension_of, has_i32, kind_at, plain_at, primitive_of, sized_at}, ClassText.{kind_text, primitive_text}}
 use Rattle.rio_model.specs.Stated.{is_class_word, is_none}
 use Rattle.rio_model.proofs.ReadWords.{decimal_word, name_as_it_is, no_digit}
 
@@ -122,7 +112,7 @@ fixed_says before of count low high =
     let b : nat_le count 100000 ≡ true = grind (arith, nat_tests) in
     rw (num, a, b) refl
 
-none_of : (f : ℕ → Option ℕ) (b : Bool) → (let none : Option ℕ = None in option_and_then f (if b then none else none) ≡ none)
+pub none_of : (f : ℕ → Option ℕ) (b : Bool) → (let none : Option ℕ = None in option_and_then f (if b then none else none) ≡ none)
 none_of f true = refl
 none_of f false = refl
 

@@ -1,25 +1,17 @@
 -- What is printed of a value is read as the value: each layer, and the whole.
 use Rattle.std.proofs.Common.{◌≡◌, ℕ, zero, suc, ◌+◌, ◌-◌, ◌^◌, ◌<◌, ◌≤◌, min, ℤ, pos, negsuc, int_le, List, [], ◌∷◌, ◌++◌, codes, map, length, Bool, true, false, ◌&&◌, nat_lt, Ok, refl, sym, ◌∙◌, ap, arith, subst, length-append}
-use Rattle.std.specs.Fmt.{decimal, signed_decimal}
-use Rattle.std.specs.List.{list_all}
-use Rattle.std.proofs.lemmas.Bool.{and_parts}
-use Rattle.std.proofs.lemmas.Bool.Decides.{nat_tests}
-use Rattle.rio_num.specs.Printed.{string_text}
-use Rattle.rio_num.specs.Word.{is_name_text}
-use Rattle.rio_value.specs.declared.value.Value.{Value, Int, Bits32, Bits64, Bool as Truth, Text as Chars, List as Items, Object, Pointed, Null, Back, Opaque, roll-Value, map-Value}
-use Rattle.rio_value.specs.declared.value.Value.TheOpen.{Value-F}
-use Rattle.rio_value.specs.declared.value.Value.TheOpen as layer
-use Rattle.rio_value.specs.declared.value.Value.TheVariants.{rolls-Int, rolls-Bits32, rolls-Bits64, rolls-Bool, rolls-Text, rolls-List, rolls-Object, rolls-Pointed, rolls-Null, rolls-Back, rolls-Opaque}
-use Rattle.rio_value.specs.declared.value.Value.TheFolds.{fold-roll-Value, ind-Value}
+use Rattle.std.proofs.lemmas.Bool.{and_parts, Decides.{nat_tests}}
+use Rattle.std.specs.{Fmt.{decimal, signed_decimal}, List.{list_all}}
+use Rattle.rio_num.specs.{Printed.{string_text}, Word.{is_name_text}, At.{AreBytes}}
+use Rattle.rio_value.specs.declared.value.Value.{Value, Int, Bits32, Bits64, Bool as Truth, Text as Chars, List as Items, Object, Pointed, Null, Back, Opaque, roll-Value, map-Value, TheOpen.{Value-F}, TheVariants.{rolls-Int, rolls-Bits32, rolls-Bits64, rolls-Bool, rolls-Text, rolls-List, rolls-Object, rolls-Pointed, rolls-Null, rolls-Back, rolls-Opaque}, TheFolds.{fold-roll-Value, ind-Value}}
 use Rattle.rio_value.specs.declared.value.Part.{Part, Part-F}
-use Rattle.rio_num.specs.At.{AreBytes}
+use Rattle.rio_value.specs.declared.value.Value.TheOpen as layer
 use Rattle.rio_token.specs.Laws.{IsNumber}
 use Rattle.rio_token.proofs.StandLaws.{at, drop_front}
 use Rattle.rio_model.specs.Readable.{Follows, PartReadability, Readability, ValuesAreRead, are_bases_first, are_parts_within, is_number, part_readable, part_within, readability_of, readable_step, single}
-use Rattle.rio_model.specs.Stated.{is_class_version}
-use Rattle.rio_model.specs.ValueGrammar.{Reader, bracket_limit, enclosed_at, value_in_text}
-use Rattle.rio_model.specs.ValueText.{PrintedPart, PrintedValue, printed_value, text_of_value, text_step}
-use Rattle.rio_model.proofs.ReadWords.{bits_is_word, bits_word, eight_value, four_value, integer_value, integer_word, plain_word_back}
+use Rattle.rio_model.specs.{Stated.{is_class_version}, ValueGrammar.{Reader, bracket_limit, enclosed_at, value_in_text}}
+use Rattle.rio_model.specs.ValueText.{PrintedPart, PrintedValue, bits_text, printed_value, text_of_value, text_step}
+use Rattle.rio_model.proofs.ReadWords.{bits_is_word, eight_value, four_value, integer_value, integer_word, plain_word_back}
 use Rattle.rio_model.proofs.ValueTextLaws.{part_folded as printed_folded, printed_rolled}
 use Rattle.rio_model.proofs.ReadValues.{IsBackValue, Known, KnownPart, ReadableParts, ValueBack, back_back, false_back, list_value_back, null_back, object_back, object_value_back, part_folded, part_folds, pointed_back, text_back, true_back}
 
@@ -68,12 +60,12 @@ int_back z = leaf (layer.Int z) (Int z) (signed_decimal z) (is_number z) (rolls-
     let n = number_is z h in plain_word_back E p q (signed_decimal z) rest (integer_word z n) f e (Int z) (integer_value z n))
 
 four_back : (n : ℕ) → IsBackValue (Bits32 n)
-four_back n = leaf (layer.Bits32 n) (Bits32 n) (bits_word 4 n) (nat_lt n (2 ^ 32)) (rolls-Bits32 n) refl refl (λ h E p q rest f e.
-    let small = below n (2 ^ 32) h in plain_word_back E p q (bits_word 4 n) rest (bits_is_word 4 n small) f e (Bits32 n) (four_value n small))
+four_back n = leaf (layer.Bits32 n) (Bits32 n) (bits_text 4 n) (nat_lt n (2 ^ 32)) (rolls-Bits32 n) refl refl (λ h E p q rest f e.
+    let small = below n (2 ^ 32) h in plain_word_back E p q (bits_text 4 n) rest (bits_is_word 4 n small) f e (Bits32 n) (four_value n small))
 
 eight_back : (n : ℕ) → IsBackValue (Bits64 n)
-eight_back n = leaf (layer.Bits64 n) (Bits64 n) (bits_word 8 n) (nat_lt n (2 ^ 64)) (rolls-Bits64 n) refl refl (λ h E p q rest f e.
-    let small = below n (2 ^ 64) h in plain_word_back E p q (bits_word 8 n) rest (bits_is_word 8 n small) f e (Bits64 n) (eight_value n small))
+eight_back n = leaf (layer.Bits64 n) (Bits64 n) (bits_text 8 n) (nat_lt n (2 ^ 64)) (rolls-Bits64 n) refl refl (λ h E p q rest f e.
+    let small = below n (2 ^ 64) h in plain_word_back E p q (bits_text 8 n) rest (bits_is_word 8 n small) f e (Bits64 n) (eight_value n small))
 
 truth_back : (b : Bool) → IsBackValue (Truth b)
 truth_back true = leaf (layer.Bool true) (Truth true) (codes "true") true (rolls-Bool true) refl refl (λ h E p q rest f e. true_back E p q rest f e)

@@ -1,30 +1,16 @@
 -- Words that values are printed as.
 use Rattle.std.proofs.Common.{◌≡◌, inl, inr, ℕ, zero, suc, ◌+◌, ◌-◌, ◌*◌, ◌/◌, ◌%◌, ◌^◌, ◌<◌, ℤ, pos, negsuc, List, [], ◌∷◌, ◌++◌, codes, length, true, false, ◌==◌, ◌&&◌, nat_le, nat_lt, Option, Some, None, Ok, refl, sym, ◌∙◌, ap, arith, subst}
-use Rattle.std.specs.Fmt.{decimal, signed_decimal}
-use Rattle.std.specs.Int.{byte_at}
-use Rattle.std.specs.List.{list_all}
-use Rattle.std.specs.Str.{bytes_eq}
-use Rattle.std.proofs.lemmas.Bool.{and_parts, false_from_ne_true}
-use Rattle.std.proofs.lemmas.Bool.Decides.{nat_tests}
-use Rattle.std.proofs.lemmas.List.{append-nil}
-use Rattle.std.proofs.lemmas.Slice.Eq.{bytes_eq-Decides}
-use Rattle.std.proofs.Math.Nat.{pow-succ'}
-use Rattle.std.proofs.Math.Bool.{and-false}
-use Rattle.byteorder.specs.Endian.{big_bytes, big_from}
-use Rattle.byteorder.specs.Numbers.{big_from-cons, big_number-reads_back, length-bytes_high_first}
-use Rattle.rio_num.specs.Word.{is_name_text, begins_name, goes_on_name}
-use Rattle.rio_num.specs.Printed.{hex_digit, hex_text, is_bare, name_text}
+use Rattle.std.proofs.{lemmas.Bool.{and_parts, false_from_ne_true, Decides.{nat_tests}}, lemmas.List.{append-nil}, lemmas.Slice.Eq.{bytes_eq-Decides}}
+use Rattle.std.proofs.{Math.Nat.{pow-succ'}, Math.Bool.{and-false}}
+use Rattle.std.specs.{Fmt.{decimal, signed_decimal}, Int.{byte_at}, List.{list_all}, Str.{bytes_eq}}
+use Rattle.byteorder.specs.{Endian.{big_bytes, big_from}, Numbers.{big_from-cons, big_number-reads_back, length-bytes_high_first}}
+use Rattle.rio_num.specs.{Word.{is_name_text, begins_name, goes_on_name}, Printed.{hex_digit, hex_text, is_bare, name_text}}
 use Rattle.rio_value.specs.declared.value.Value.{Value, Int, Bits32, Bits64}
-use Rattle.rio_token.specs.declared.words.Bits.{Bits}
-use Rattle.rio_token.specs.declared.words.Bits.TheVariants.{Four, Eight}
-use Rattle.rio_token.specs.Tokens.{scan_of}
-use Rattle.rio_token.specs.Reading.{marked}
-use Rattle.rio_token.specs.Laws.{IsNumber}
+use Rattle.rio_token.specs.{declared.words.Bits.{Bits, TheVariants.{Four, Eight}}, Tokens.{scan_of}, Reading.{marked}, Laws.{IsNumber}}
 use Rattle.rio_token.specs.Words.{bits_of, decimal as decimal_of, digit_in, has_no_leading_zero, number_after, number_of, written}
 use Rattle.rio_token.proofs.DecimalLaws.{decimal_after, decimal_plain, integers_are_read}
 use Rattle.rio_token.proofs.StandLaws.{IsWord, Stops, at, digits_are_items, next_is_word, word_back}
-use Rattle.rio_model.specs.Readable.{Follows}
-use Rattle.rio_model.specs.ValueGrammar.{Reader, value_in_text, value_of_bits, word_value, word_value_at}
+use Rattle.rio_model.specs.{Readable.{Follows}, ValueGrammar.{Reader, value_in_text, value_of_bits, word_value, word_value_at}, ValueText.{bits_text}}
 
 -- ---- what follows a value
 
@@ -144,9 +130,6 @@ hex_back k n h =
     let none : 0 * 256 ^ k + big_from 0 k (big_bytes k n) ≡ n = omega (arith, value) in
     hex_after 0 (big_bytes k n) (bytes_small k n) ∙ rw (size, none) refl
 
-abbrev pub bits_word : ℕ → ℕ → List ℕ
-bits_word k n = codes "0x" ++ hex_text (big_bytes k n)
-
 pub not_empty : (b : ℕ) (bs : List ℕ) → (length (b ∷ bs) == 0) ≡ false
 not_empty b bs = grind (arith, nat_tests)
 
@@ -158,21 +141,21 @@ pub bits_value_of : (ds : List ℕ) (bits : Bits) → bits_of (48 ∷ 120 ∷ ds
 unfolding word_value
 bits_value_of ds bits h = rw (bits_no_number ds, h) refl
 
-pub four_value : (n : ℕ) → n < 2 ^ 32 → word_value (bits_word 4 n) ≡ Some (Bits32 n)
+pub four_value : (n : ℕ) → n < 2 ^ 32 → word_value (bits_text 4 n) ≡ Some (Bits32 n)
 unfolding bits_of written hex_text
 four_value n h =
     let back : number_after 16 0 (hex_text (big_bytes 4 n)) ≡ Some n = hex_back 4 n h in
     let small : nat_le n (2 ^ 32 - 1) ≡ true = grind (arith, nat_tests) in
     bits_value_of (hex_text (big_bytes 4 n)) (Four n) (rw (back, small) refl)
 
-pub eight_value : (n : ℕ) → n < 2 ^ 64 → word_value (bits_word 8 n) ≡ Some (Bits64 n)
+pub eight_value : (n : ℕ) → n < 2 ^ 64 → word_value (bits_text 8 n) ≡ Some (Bits64 n)
 unfolding bits_of written hex_text
 eight_value n h =
     let back : number_after 16 0 (hex_text (big_bytes 8 n)) ≡ Some n = hex_back 8 n h in
     let small : nat_le n (2 ^ 64 - 1) ≡ true = grind (arith, nat_tests) in
     bits_value_of (hex_text (big_bytes 8 n)) (Eight n) (rw (back, small) refl)
 
-pub bits_is_word : (k n : ℕ) → n < 256 ^ k → IsWord (bits_word k n)
+pub bits_is_word : (k n : ℕ) → n < 256 ^ k → IsWord (bits_text k n)
 bits_is_word k n h =
     let all = digits_are_items 16 0 n (hex_text (big_bytes k n)) (hex_back k n h) in
     record { first = 48; others = 120 ∷ hex_text (big_bytes k n); parts = refl; all = all }

@@ -1,20 +1,12 @@
 -- What a text declares is a class that a declaration can give.
-use Rattle.std.proofs.Common.{◌≡◌, ℕ, pos, List, [], codes, true, ◌==◌, ◌&&◌, Ok, Err, refl, ap, subst}
-use Rattle.std.proofs.lemmas.Bool.{and_from, eq-eqb}
-use Rattle.rio_num.specs.At.{At}
-use Rattle.rio_num.specs.Reading.{◌>>=◌}
-use Rattle.rio_num.specs.Word.{is_name_text}
+use Rattle.std.proofs.{Common.{◌≡◌, ℕ, pos, List, [], codes, true, ◌==◌, ◌&&◌, Ok, Err, refl, ap, subst}, lemmas.Bool.{and_from, eq-eqb}}
+use Rattle.rio_num.specs.{At.{At}, Reading.{◌>>=◌}, Word.{is_name_text}}
 use Rattle.rio_num.proofs.ReadLaws.{bind_ok, ok_is}
-use Rattle.rio_types.specs.declared.class.Base.{Base}
-use Rattle.rio_types.specs.declared.class.ClassDef.{ClassDef}
-use Rattle.rio_types.specs.declared.class.Member.{Member}
-use Rattle.rio_token.specs.Tokens.{standing_in}
-use Rattle.rio_token.specs.Reading.{Read, end_at, keyword_at, list_at, name_at, version_at}
-use Rattle.rio_model.specs.ClassText.{text_of_class}
-use Rattle.rio_model.specs.ClassGrammar.{bases_at, checksum_of, class_at, class_of, member_at, only_class, with_counters, with_sum}
+use Rattle.rio_types.specs.{declared.class.Base.{Base}, declared.class.ClassDef.{ClassDef}, declared.class.Member.{Member}}
+use Rattle.rio_token.specs.{Tokens.{standing_in}, Reading.{Read, end_at, keyword_at, list_at, name_at, version_at}}
+use Rattle.rio_model.specs.{ClassText.{text_of_class}, ClassGrammar.{bases_at, checksum_of, class_at, class_of, member_at, only_class, with_counters, with_sum}}
 use Rattle.rio_model.specs.Stated.{ReadClassesAreStated, are_stated_bases, are_stated_members, has_stated_parts, is_class_version, is_stated_class, with_plain_bases}
-use Rattle.rio_model.proofs.StatedKinds.{version_ok, word_that_ok}
-use Rattle.rio_model.proofs.StatedMembers.{bases_plain, bases_stated, members_stated}
+use Rattle.rio_model.proofs.{StatedKinds.{version_ok, word_that_ok}, StatedMembers.{bases_plain, bases_stated, members_stated}}
 use Rattle.rio_model.proofs.StatedParts.{AllKeep, RawBase, RawMember, bases_ok, members_ok}
 
 -- what is true of a class that is read

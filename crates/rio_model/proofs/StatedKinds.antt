@@ -1,20 +1,15 @@
 -- What is read of a kind.
 use Rattle.std.proofs.Common.{◌≡◌, inl, inr, ℕ, pos, List, codes, Bool, true, false, ◌&&◌, nat_le, if◌then◌else◌, Option, Some, None, option_and_then, Ok, refl, ap, subst}
 use Rattle.std.specs.Str.{bytes_eq}
-use Rattle.rio_num.specs.At.{At}
-use Rattle.rio_num.specs.Reading.{◌>>=◌}
-use Rattle.rio_num.specs.Word.{is_name_text}
-use Rattle.rio_num.proofs.ReadLaws.{bind_ok, chosen, ok_is}
+use Rattle.rio_num.specs.{At.{At}, Reading.{◌>>=◌}, Word.{is_name_text}}
+use Rattle.rio_num.proofs.ReadLaws.{bind_ok, chosen, if_is, ok_is}
 use Rattle.rio_types.specs.declared.class.Member.{Member}
-use Rattle.rio_types.specs.declared.kind.Kind.{Kind}
-use Rattle.rio_types.specs.declared.kind.Kind.TheVariants.{Plain, Counter, Fixed, Counted, Text, Inline, Pointer, Other}
+use Rattle.rio_types.specs.declared.kind.Kind.{Kind, TheVariants.{Plain, Counter, Fixed, Counted, Text, Inline, Pointer, Other}}
 use Rattle.rio_types.specs.declared.kind.Primitive.{Primitive}
-use Rattle.rio_token.specs.Tokens.{behind}
-use Rattle.rio_token.specs.Reading.{mark_at, marked, name_at, next_word, num_between_at, some_if, taken_at, version_at, word_that_at}
+use Rattle.rio_token.specs.{Tokens.{behind}, Reading.{mark_at, marked, name_at, next_word, num_between_at, some_if, taken_at, version_at, word_that_at}}
 use Rattle.rio_token.specs.Words.{num_between_of, num_of}
 use Rattle.rio_model.specs.ClassGrammar.{counted_by, dimension_of, fixed_or, has_i32, kind_at, plain_at, primitive_at, primitive_of, sized_at}
 use Rattle.rio_model.specs.Stated.{is_class_version, is_class_word}
-use Rattle.rio_model.proofs.LexemeLaws.{if_is}
 
 -- ---- single tokens
 

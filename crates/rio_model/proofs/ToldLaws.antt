@@ -1,16 +1,11 @@
 -- How first tokens that can't stand are found, one reading after the other.
 use Rattle.std.proofs.Common.{◌≡◌, ◌⊎◌, inl, inr, ℕ, List, [], ◌∷◌, ◌++◌, Bool, true, false, ◌||◌, Option, Some, None, option_and_then, Result, Ok, Err, refl, sym, ◌∙◌, ap, subst, append_assoc}
-use Rattle.rio_num.specs.At.{At, end_place}
-use Rattle.rio_num.specs.Reading.{◌>>=◌}
-use Rattle.rio_token.specs.declared.fault.TextFault.{TextFault}
-use Rattle.rio_token.specs.declared.fault.TextFault.TheVariants.{BadText}
-use Rattle.rio_token.specs.declared.token.Token.{Token}
-use Rattle.rio_token.specs.declared.token.Token.TheVariants.{Word, Text, Mark, Bad, Cut, End}
+use Rattle.rio_num.specs.{At.{At, end_place}, Reading.{◌>>=◌}}
+use Rattle.rio_token.specs.declared.fault.TextFault.{TextFault, TheVariants.{BadText}}
+use Rattle.rio_token.specs.declared.token.Token.{Token, TheVariants.{Word, Text, Mark, Bad, Cut, End}}
 use Rattle.rio_token.specs.Reading.{Read, bad_at, cut_at, end_at, is_end, is_mark, mark_at, marked, next_word, num_at, num_between_at, some_if, string_at, string_by, taken_at, word_at, word_that_at}
-use Rattle.rio_token.specs.Tokens.{next_at, token_place}
-use Rattle.rio_token.specs.Words.{num_between_of, num_of}
-use Rattle.rio_model.specs.Lexemes.{IsNext, Lexeme, Stand, chars, glued, mark, word}
-use Rattle.rio_model.specs.ToldPlaces.{HaveSameNext, TellsBadToken, told_place}
+use Rattle.rio_token.specs.{Tokens.{next_at, token_place}, Words.{num_between_of, num_of}}
+use Rattle.rio_model.specs.{Lexemes.{IsNext, Lexeme, Stand, chars, glued, mark, word}, ToldPlaces.{HaveSameNext, TellsBadToken, told_place}}
 use Rattle.rio_model.proofs.LexemeLaws.{next_word_is, stand_joined, stand_split, with_place}
 
 -- ---- the same token

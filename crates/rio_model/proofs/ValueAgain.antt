@@ -1,20 +1,12 @@
 -- What tokens spell as a value is read as it.
 use Rattle.std.proofs.Common.{◌≡◌, ℕ, zero, suc, nat_le, length, ℤ, pos, negsuc, List, [], ◌∷◌, ◌++◌, codes, Bool, true, false, ◌==◌, ◌&&◌, ◌||◌, not, if◌then◌else◌, Option, Some, None, Ok, refl, sym, ◌∙◌, ap, subst, arith}
-use Rattle.std.specs.List.{list_all}
-use Rattle.std.specs.Option.{option_map}
-use Rattle.std.proofs.lemmas.Bool.{and_left, and_parts, and_right, eqb-true, false_from_ne_true, not-true}
-use Rattle.std.proofs.lemmas.Bool.Decides.{nat_tests}
-use Rattle.rio_num.specs.At.{At}
-use Rattle.rio_num.specs.Word.{begins_name, goes_on_name, is_name_text}
+use Rattle.std.proofs.lemmas.Bool.{and_left, and_parts, and_right, eqb-true, false_from_ne_true, not-true, Decides.{nat_tests}}
+use Rattle.std.specs.{List.{list_all}, Option.{option_map}}
+use Rattle.rio_num.specs.{At.{At}, Word.{begins_name, goes_on_name, is_name_text}}
 use Rattle.rio_value.specs.declared.value.Part.{Part}
-use Rattle.rio_value.specs.declared.value.Value.{Value, Int, Bits32, Bits64, Bool as Truth, Text as Chars, List as Items, Object, Pointed, Null, Back, Opaque, out-Value, roll-Value, roll-out-Value}
-use Rattle.rio_value.specs.declared.value.Value.TheOpen.{Value-F}
+use Rattle.rio_value.specs.declared.value.Value.{Value, Int, Bits32, Bits64, Bool as Truth, Text as Chars, List as Items, Object, Pointed, Null, Back, Opaque, out-Value, roll-Value, roll-out-Value, TheOpen.{Value-F}, TheVariants.{rolls-Int, rolls-Bits32, rolls-Bits64, rolls-Bool, rolls-Text, rolls-List, rolls-Object, rolls-Pointed, rolls-Null, rolls-Back}}
 use Rattle.rio_value.specs.declared.value.Value.TheOpen as layer
-use Rattle.rio_value.specs.declared.value.Value.TheVariants.{rolls-Int, rolls-Bits32, rolls-Bits64, rolls-Bool, rolls-Text, rolls-List, rolls-Object, rolls-Pointed, rolls-Null, rolls-Back}
-use Rattle.rio_token.specs.declared.words.Bits.{Bits}
-use Rattle.rio_token.specs.declared.words.Bits.TheVariants.{Four, Eight}
-use Rattle.rio_token.specs.Reading.{Read, marked}
-use Rattle.rio_token.specs.Tokens.{behind}
+use Rattle.rio_token.specs.{declared.words.Bits.{Bits, TheVariants.{Four, Eight}}, Reading.{Read, marked}, Tokens.{behind}}
 use Rattle.rio_token.specs.Words.{bits_of, decimal as decimal_of, digit_in, has_no_leading_zero, num_of, number_of, written}
 use Rattle.rio_format.specs.Bodies.{part}
 use Rattle.rio_model.specs.Lexemes.{IsNext, Lexeme, SpellsItems, Stand, chars, mark, word}

@@ -1,29 +1,19 @@
 -- A value that is read is spelled by the tokens that were passed over.
 use Rattle.std.proofs.Common.{◌≡◌, ℕ, zero, suc, ◌≤◌, ℤ, pos, List, [], ◌∷◌, ◌++◌, codes, Bool, true, false, ◌==◌, ◌&&◌, not, if◌then◌else◌, Option, Some, None, Ok, refl, sym, ◌∙◌, ap, subst, arith}
+use Rattle.std.proofs.{lemmas.Bool.{and_left, and_right, eqb-true, not_from_false}, lemmas.Slice.Eq.{bytes_eq-Decides}}
 use Rattle.std.specs.Str.{bytes_eq}
-use Rattle.std.proofs.lemmas.Bool.{and_left, and_right, eqb-true, not_from_false}
-use Rattle.std.proofs.lemmas.Slice.Eq.{bytes_eq-Decides}
-use Rattle.rio_num.specs.At.{At}
-use Rattle.rio_num.specs.Reading.{◌>>=◌}
-use Rattle.rio_num.specs.Word.{is_name_text}
+use Rattle.rio_num.specs.{At.{At}, Reading.{◌>>=◌}, Word.{is_name_text}}
 use Rattle.rio_value.specs.declared.value.Part.{Part}
-use Rattle.rio_value.specs.declared.value.Value.{Value, Int, Bits32, Bits64, Bool as Truth, Text as Chars, List as Items, Object, Pointed, Null, Back, out-Value}
-use Rattle.rio_value.specs.declared.value.Value.TheOpen.{Value-F}
+use Rattle.rio_value.specs.declared.value.Value.{Value, Int, Bits32, Bits64, Bool as Truth, Text as Chars, List as Items, Object, Pointed, Null, Back, out-Value, TheOpen.{Value-F}, TheVariants.{outs-Int, outs-Bits32, outs-Bits64, outs-Bool, outs-Text, outs-List, outs-Object, outs-Pointed, outs-Null, outs-Back}}
 use Rattle.rio_value.specs.declared.value.Value.TheOpen as layer
-use Rattle.rio_value.specs.declared.value.Value.TheVariants.{outs-Int, outs-Bits32, outs-Bits64, outs-Bool, outs-Text, outs-List, outs-Object, outs-Pointed, outs-Null, outs-Back}
-use Rattle.rio_token.specs.declared.token.Token.{Token}
-use Rattle.rio_token.specs.declared.token.Token.TheVariants.{Word, Text, Mark, Bad, Cut, End}
-use Rattle.rio_token.specs.declared.words.Bits.{Bits}
-use Rattle.rio_token.specs.declared.words.Bits.TheVariants.{Four, Eight}
-use Rattle.rio_token.specs.Reading.{bad_at, list_at, mark_at, marked, name_at, num_at, string_at, version_at, word_at}
-use Rattle.rio_token.specs.Tokens.{behind, next_at}
+use Rattle.rio_token.specs.{declared.token.Token.{Token, TheVariants.{Word, Text, Mark, Bad, Cut, End}}, declared.words.Bits.{Bits, TheVariants.{Four, Eight}}}
+use Rattle.rio_token.specs.{Reading.{bad_at, list_at, mark_at, marked, name_at, num_at, string_at, version_at, word_at}, Tokens.{behind, next_at}}
 use Rattle.rio_token.specs.Words.{bits_of, num_of, number_of}
 use Rattle.rio_format.specs.Bodies.{part}
 use Rattle.rio_model.specs.Lexemes.{IsNext, Lexeme, SpellsItems, Stand, chars, mark, word}
 use Rattle.rio_model.specs.ValueGrammar.{Reader, bits_value, class_version_at, enclosed_at, enclosed_by, listed, named_object_at, number_or, object_at, object_of, opens_object, part_at, pointer_at, text_value_at, value_by, value_in_text, values_at, word_value, word_value_at, worded}
 use Rattle.rio_model.specs.ValueSpelling.{ReadAreSpelled, Spelling, SpellsAsObject, SpellsBrackets, SpellsLayer, SpellsNamed, SpellsRow, SpellsValue, SpellsVersion, SpellsWithin, ends_here, in_brackets}
-use Rattle.rio_model.proofs.ItemLaws.{items_found, read_is}
-use Rattle.rio_model.proofs.ValueAgain.{ends_part, ends_version}
+use Rattle.rio_model.proofs.{ItemLaws.{items_found, read_is}, ValueAgain.{ends_part, ends_version}}
 use Rattle.rio_model.proofs.LexemeLaws.{bad_not_ok, mark_found, marked_is, num_between_found, num_found, stand_joined, string_found, then_ok, word_found, word_that_found, with_place}
 
 -- ---- versions

@@ -1,14 +1,10 @@
 -- The reading of a value goes on in the same text.
 use Rattle.std.proofs.Common.{◌&&◌, ◌==◌, ℕ, zero, suc, ◌-◌, List, Bool, true, false, Option, Some, None}
-use Rattle.rio_num.specs.At.{At}
-use Rattle.rio_num.specs.Word.{is_name_text}
+use Rattle.rio_num.specs.{At.{At}, Word.{is_name_text}}
 use Rattle.rio_value.specs.declared.value.Value.{Value}
-use Rattle.rio_token.specs.declared.token.Token.{Token}
-use Rattle.rio_token.specs.declared.token.Token.TheVariants.{Word, Mark}
-use Rattle.rio_token.specs.Further.{EndsFurther}
+use Rattle.rio_token.specs.{declared.token.Token.{Token, TheVariants.{Word, Mark}}, Further.{EndsFurther}}
 use Rattle.rio_token.specs.Marks.{at_sign, closing_brace, closing_bracket, colon, equals_sign, number_sign, opening_brace, opening_bracket}
-use Rattle.rio_token.specs.Reading.{list_at, mark_at, marked, name_at, num_at, string_at, version_at, word_at}
-use Rattle.rio_token.specs.Tokens.{behind, next_at}
+use Rattle.rio_token.specs.{Reading.{list_at, mark_at, marked, name_at, num_at, string_at, version_at, word_at}, Tokens.{behind, next_at}}
 use Rattle.rio_token.proofs.FurtherLaws.{behind_further, bind_further, from_further, further_here, if_further, list_further, takes_end_further}
 use Rattle.rio_model.specs.ValueGrammar.{Enclosed, Reader, ValuesEndFurther, bracket_limit, class_version_at, enclosed_at, enclosed_by, listed, marked_value_at, named_object_at, object_at, object_of, opens_object, part_at, pointer_at, text_value_at, value_by, value_in_text, values_at, word_value, word_value_at, worded}
 

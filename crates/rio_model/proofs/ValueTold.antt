@@ -1,23 +1,15 @@
 -- The first token that can't stand in a value.
 use Rattle.std.proofs.Common.{◌≡◌, ◌⊎◌, inl, inr, ℕ, zero, suc, ℤ, pos, List, [], ◌∷◌, ◌++◌, codes, Bool, true, false, ◌==◌, ◌&&◌, not, if◌then◌else◌, Option, Some, None, Ok, Err, refl, sym, ◌∙◌, ap, subst, append_assoc, arith, ◌≤◌}
 use Rattle.std.proofs.lemmas.Bool.{eqb-true}
-use Rattle.rio_num.specs.At.{At}
-use Rattle.rio_num.specs.Reading.{◌>>=◌}
-use Rattle.rio_num.specs.Word.{is_name_text}
+use Rattle.rio_num.specs.{At.{At}, Reading.{◌>>=◌}, Word.{is_name_text}}
 use Rattle.rio_value.specs.declared.value.Part.{Part}
-use Rattle.rio_value.specs.declared.value.Value.{Value, Text as Chars, List as Items, Object, Pointed, Null, Back, out-Value}
-use Rattle.rio_value.specs.declared.value.Value.TheOpen.{Value-F}
+use Rattle.rio_value.specs.declared.value.Value.{Value, Text as Chars, List as Items, Object, Pointed, Null, Back, out-Value, TheOpen.{Value-F}, TheVariants.{outs-Text, outs-List, outs-Object, outs-Pointed, outs-Null, outs-Back}}
 use Rattle.rio_value.specs.declared.value.Value.TheOpen as layer
-use Rattle.rio_value.specs.declared.value.Value.TheVariants.{outs-Text, outs-List, outs-Object, outs-Pointed, outs-Null, outs-Back}
-use Rattle.rio_token.specs.declared.fault.TextFault.{TextFault}
-use Rattle.rio_token.specs.declared.token.Token.{Token}
-use Rattle.rio_token.specs.declared.token.Token.TheVariants.{Word, Text, Mark, Bad, Cut, End}
-use Rattle.rio_token.specs.Reading.{bad_at, list_at, mark_at, marked, name_at, num_at, string_at, version_at, word_at}
-use Rattle.rio_token.specs.Tokens.{behind, next_at}
+use Rattle.rio_token.specs.{declared.fault.TextFault.{TextFault}, declared.token.Token.{Token, TheVariants.{Word, Text, Mark, Bad, Cut, End}}}
+use Rattle.rio_token.specs.{Reading.{bad_at, list_at, mark_at, marked, name_at, num_at, string_at, version_at, word_at}, Tokens.{behind, next_at}}
 use Rattle.rio_token.specs.Words.{decimal as decimal_of, num_of, written}
 use Rattle.rio_format.specs.Bodies.{part}
-use Rattle.rio_model.specs.Lexemes.{IsNext, Lexeme, SpellsItems, chars, mark, word}
-use Rattle.rio_model.specs.ToldPlaces.{Begin, HaveSameNext, TellsBadToken, PlacesAreTold}
+use Rattle.rio_model.specs.{Lexemes.{IsNext, Lexeme, SpellsItems, chars, mark, word}, ToldPlaces.{Begin, HaveSameNext, TellsBadToken, PlacesAreTold}}
 use Rattle.rio_model.specs.ValueGrammar.{Reader, class_version_at, enclosed_at, enclosed_by, listed, named_object_at, object_at, object_of, opens_object, part_at, pointer_at, text_value_at, value_by, value_in_text, values_at, word_value, word_value_at, worded}
 use Rattle.rio_model.specs.ValueSpelling.{Spelling, SpellsAsObject, SpellsBrackets, SpellsLayer, SpellsNamed, SpellsRow, SpellsValue, SpellsVersion, SpellsWithin, ends_here, in_brackets}
 use Rattle.rio_model.proofs.ItemTold.{ItemTold, items_told}

@@ -4,22 +4,13 @@
 --   kind  = prim | prim "[" (NUM | NAME) "]" | "text" | NAME | NAME "*"
 --   prim  = i8 i16 i32 i64 u8 u16 u32 u64 bool f32 f64 (one of)
 use Rattle.std.specs.Prelude.{ℕ, ◌+◌, ◌*◌, ◌%◌, ◌^◌, pos, List, [], codes, map, Option, Some, None, option_and_then, Result, Ok, Err, Bool, true, false, ◌&&◌, not, if◌then◌else◌}
-use Rattle.std.specs.List.{fold, list_any}
-use Rattle.std.specs.Str.{bytes_eq}
-use Rattle.rio_num.specs.At.{At}
-use Rattle.rio_num.specs.Reading.{◌>>=◌}
-use Rattle.rio_num.specs.Word.{is_name_text}
-use Rattle.rio_types.specs.declared.class.Base.{Base}
-use Rattle.rio_types.specs.declared.class.ClassDef.{ClassDef}
-use Rattle.rio_types.specs.declared.class.Member.{Member}
-use Rattle.rio_types.specs.declared.kind.Kind.{Kind}
-use Rattle.rio_types.specs.declared.kind.Kind.TheVariants.{Plain, Counter, Fixed, Counted, Text, Inline, Pointer}
-use Rattle.rio_types.specs.declared.kind.Primitive.{Primitive}
-use Rattle.rio_types.specs.declared.kind.Primitive.TheVariants.{I8, I16, I32, I64, U8, U16, U32, U64, Bool as Truth, F32, F64}
-use Rattle.rio_token.specs.declared.fault.TextFault.{TextFault}
-use Rattle.rio_token.specs.Further.{EndsFurther}
-use Rattle.rio_token.specs.Marks.{asterisk, closing_brace, closing_bracket, colon, opening_brace, opening_bracket}
-use Rattle.rio_token.specs.Tokens.{behind, standing_in}
+use Rattle.std.specs.{List.{fold, list_any}, Str.{bytes_eq}}
+use Rattle.rio_num.specs.{At.{At}, Reading.{◌>>=◌}, Word.{is_name_text}}
+use Rattle.rio_types.specs.{declared.class.Base.{Base}, declared.class.ClassDef.{ClassDef}, declared.class.Member.{Member}}
+use Rattle.rio_types.specs.declared.kind.Kind.{Kind, TheVariants.{Plain, Counter, Fixed, Counted, Text, Inline, Pointer}}
+use Rattle.rio_types.specs.declared.kind.Primitive.{Primitive, TheVariants.{I8, I16, I32, I64, U8, U16, U32, U64, Bool as Truth, F32, F64}}
+use Rattle.rio_token.specs.{declared.fault.TextFault.{TextFault}, Further.{EndsFurther}}
+use Rattle.rio_token.specs.{Marks.{asterisk, closing_brace, closing_bracket, colon, opening_brace, opening_bracket}, Tokens.{behind, standing_in}}
 use Rattle.rio_token.specs.Words.{num_between_of}
 use Rattle.rio_token.specs.Reading.{Read, taken_at, some_if, next_word, marked, mark_at, name_at, word_that_at, keyword_at, version_at, end_at, list_at, some_at}
 use Rattle.rio_format.specs.Bodies.{member}
@@ -49,7 +40,7 @@ is_i32_of other = false
 
 -- an i32 that may count
 abbrev pub is_i32 : Kind → Bool
-is_i32 (Plain of) = is_i32_of of
+is_i32 (Plain prim) = is_i32_of prim
 is_i32 other = false
 
 -- whether one of the members has the name, and is an i32
@@ -58,33 +49,33 @@ has_i32 members name = list_any (λ m. bytes_eq m.name name && is_i32 m.kind) me
 
 -- what a word in square brackets says: how many values there are, or which member before counts them
 abbrev pub counted_by : List Member → Primitive → List ℕ → Option Kind
-counted_by before of word = some_if (has_i32 before word) (Counted of word)
+counted_by before prim word = some_if (has_i32 before word) (Counted prim word)
 
 abbrev pub fixed_or : Primitive → Option ℕ → Option Kind → Option Kind
-fixed_or of (Some count) other = Some (Fixed of count)
-fixed_or of None other = other
+fixed_or prim (Some count) other = Some (Fixed prim count)
+fixed_or prim None other = other
 
 unfoldable pub dimension_of : List Member → Primitive → List ℕ → Option Kind
-dimension_of before of word = fixed_or of (num_between_of 1 100000 word) (counted_by before of word)
+dimension_of before prim word = fixed_or prim (num_between_of 1 100000 word) (counted_by before prim word)
 
 -- what stands in square brackets
 abbrev pub dimension_at : List Member → Primitive → At → Read Kind
-dimension_at before of s = taken_at (option_and_then (dimension_of before of) (next_word s)) s
+dimension_at before prim s = taken_at (option_and_then (dimension_of before prim) (next_word s)) s
 
 -- a list of values, behind its opening bracket
 unfoldable pub sized_at : List Member → Primitive → At → Read Kind
-sized_at before of s = do
-  kind ← dimension_at before of s
+sized_at before prim s = do
+  kind ← dimension_at before prim s
   close ← mark_at closing_bracket kind.1
   Ok (kind.0, close.1)
 
 -- a kind that begins with a primitive one
 abbrev pub primitive_at : List Member → Primitive → At → Read Kind
-primitive_at before of s = if marked opening_bracket s then sized_at before of (behind s) else Ok (Plain of, s)
+primitive_at before prim s = if marked opening_bracket s then sized_at before prim (behind s) else Ok (Plain prim, s)
 
 -- a kind behind its first word, which is no pointer's
 abbrev pub plain_at : List Member → List ℕ → Option Primitive → At → Read Kind
-plain_at before word (Some of) s = primitive_at before of s
+plain_at before word (Some prim) s = primitive_at before prim s
 plain_at before word None s = if bytes_eq word (codes "text") then Ok (Text, s) else Ok (Inline word, s)
 
 -- the kind of a member, in knowledge of the members before
@@ -137,7 +128,7 @@ bases_at s =
 -- ---- counters
 
 abbrev pub counts_by : Kind → List ℕ → Bool
-counts_by (Counted of counter) name = bytes_eq counter name
+counts_by (Counted prim counter) name = bytes_eq counter name
 counts_by other name = false
 
 -- whether one of the members is counted by the name

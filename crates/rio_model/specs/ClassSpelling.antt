@@ -1,35 +1,25 @@
 -- Declarations of classes as tokens spell them, by cases on what is declared. Texts that declare the same class differ in
 -- the blanks between their tokens.
 use Rattle.std.specs.Prelude.{◌≡◌, ℕ, pos, List, [], ◌∷◌, ◌++◌, codes, Ok, Some, None, Bool, true, not, ◌&&◌}
-use Rattle.rio_num.specs.At.{At}
-use Rattle.rio_num.specs.Word.{is_name_text}
-use Rattle.rio_types.specs.declared.class.Base.{Base}
-use Rattle.rio_types.specs.declared.class.ClassDef.{ClassDef}
-use Rattle.rio_types.specs.declared.class.Member.{Member}
-use Rattle.rio_types.specs.declared.kind.Kind.{Kind}
-use Rattle.rio_types.specs.declared.kind.Kind.TheVariants.{Plain, Fixed, Counted, Text, Inline, Pointer}
-use Rattle.rio_token.specs.declared.token.Token.TheVariants.{End}
-use Rattle.rio_token.specs.Marks.{asterisk, closing_brace, closing_bracket, colon, opening_brace, opening_bracket}
-use Rattle.rio_token.specs.Reading.{marked}
-use Rattle.rio_token.specs.Tokens.{behind, next_at}
-use Rattle.rio_token.specs.Words.{num_between_of}
-use Rattle.rio_model.specs.ClassGrammar.{class_at, class_of, has_i32, is_new_base, is_new_member}
-use Rattle.rio_model.specs.ClassText.{primitive_text}
-use Rattle.rio_model.specs.Lexemes.{Lexeme, SpellsItems, Stand, mark, word}
-use Rattle.rio_model.specs.Stated.{is_class_word}
-use Rattle.rio_model.specs.ValueSpelling.{in_brackets}
+use Rattle.rio_num.specs.{At.{At}, Word.{is_name_text}}
+use Rattle.rio_types.specs.{declared.class.Base.{Base}, declared.class.ClassDef.{ClassDef}, declared.class.Member.{Member}}
+use Rattle.rio_types.specs.declared.kind.Kind.{Kind, TheVariants.{Plain, Fixed, Counted, Text, Inline, Pointer}}
+use Rattle.rio_token.specs.{declared.token.Token.TheVariants.{End}, Marks.{asterisk, closing_brace, closing_bracket, colon, opening_brace, opening_bracket}}
+use Rattle.rio_token.specs.{Reading.{marked}, Tokens.{behind, next_at}, Words.{num_between_of}}
+use Rattle.rio_model.specs.{ClassGrammar.{class_at, class_of, has_i32, is_new_base, is_new_member}, ClassText.{primitive_text}}
+use Rattle.rio_model.specs.{Lexemes.{Lexeme, SpellsItems, Stand, mark, word}, Stated.{is_class_word}, ValueSpelling.{in_brackets}}
 
 -- ---- kinds
 
 -- The kind of a member as it is declared, in knowledge of the members before. Where an i32 counts, it is declared as an i32.
 abbrev pub SpellsKind : List Member → Kind → List Lexeme → Type 0
-SpellsKind before (Plain of) ls = ls ≡ word (primitive_text of) ∷ []
-SpellsKind before (Fixed of count) ls =
+SpellsKind before (Plain prim) ls = ls ≡ word (primitive_text prim) ∷ []
+SpellsKind before (Fixed prim count) ls =
     (digits : List ℕ) × (num_between_of 1 100000 digits ≡ Some count)
-    × (ls ≡ word (primitive_text of) ∷ in_brackets opening_bracket (word digits ∷ []) closing_bracket)
-SpellsKind before (Counted of counter) ls =
+    × (ls ≡ word (primitive_text prim) ∷ in_brackets opening_bracket (word digits ∷ []) closing_bracket)
+SpellsKind before (Counted prim counter) ls =
     (num_between_of 1 100000 counter ≡ None) × (has_i32 before counter ≡ true)
-    × (ls ≡ word (primitive_text of) ∷ in_brackets opening_bracket (word counter ∷ []) closing_bracket)
+    × (ls ≡ word (primitive_text prim) ∷ in_brackets opening_bracket (word counter ∷ []) closing_bracket)
 SpellsKind before Text ls = ls ≡ word (codes "text") ∷ []
 SpellsKind before (Inline class) ls = (is_class_word class ≡ true) × (ls ≡ word class ∷ [])
 SpellsKind before (Pointer class) ls = (is_name_text class ≡ true) × (ls ≡ word class ∷ mark asterisk ∷ [])
@@ -37,7 +27,7 @@ SpellsKind before other ls = ⊥
 
 -- where a kind ends: behind a word no asterisk comes next, behind one of single values no bracket either
 abbrev pub ends_kind : Kind → At → Bool
-ends_kind (Plain of) s = not (marked asterisk s) && not (marked opening_bracket s)
+ends_kind (Plain prim) s = not (marked asterisk s) && not (marked opening_bracket s)
 ends_kind Text s = not (marked asterisk s)
 ends_kind (Inline class) s = not (marked asterisk s)
 ends_kind other s = true

@@ -1,14 +1,9 @@
 -- Classes as their declarations are printed, on one line.
-use Rattle.std.specs.Prelude.{ℕ, List, [], ◌∷◌, ◌++◌, codes}
-use Rattle.std.specs.Fmt.{decimal, signed_decimal}
+use Rattle.std.specs.{Prelude.{ℕ, List, [], ◌∷◌, ◌++◌, codes}, Fmt.{decimal, signed_decimal}}
 use Rattle.rio_num.specs.Printed.{name_text}
-use Rattle.rio_types.specs.declared.class.Base.{Base}
-use Rattle.rio_types.specs.declared.class.ClassDef.{ClassDef}
-use Rattle.rio_types.specs.declared.class.Member.{Member}
-use Rattle.rio_types.specs.declared.kind.Kind.{Kind}
-use Rattle.rio_types.specs.declared.kind.Kind.TheVariants.{Plain, Counter, Fixed, Counted, Text, Inline, Pointer, Other}
-use Rattle.rio_types.specs.declared.kind.Primitive.{Primitive}
-use Rattle.rio_types.specs.declared.kind.Primitive.TheVariants.{I8, I16, I32, I64, U8, U16, U32, U64, Bool, F32, F64}
+use Rattle.rio_types.specs.{declared.class.Base.{Base}, declared.class.ClassDef.{ClassDef}, declared.class.Member.{Member}}
+use Rattle.rio_types.specs.declared.kind.Kind.{Kind, TheVariants.{Plain, Counter, Fixed, Counted, Text, Inline, Pointer, Other}}
+use Rattle.rio_types.specs.declared.kind.Primitive.{Primitive, TheVariants.{I8, I16, I32, I64, U8, U16, U32, U64, Bool, F32, F64}}
 use Rattle.rio_model.specs.Lists.{separated}
 
 abbrev pub primitive_text : Primitive → List ℕ
@@ -25,10 +20,10 @@ primitive_text F32 = codes "f32"
 primitive_text F64 = codes "f64"
 
 abbrev pub kind_text : Kind → List ℕ
-kind_text (Plain of) = primitive_text of
+kind_text (Plain prim) = primitive_text prim
 kind_text Counter = codes "i32"
-kind_text (Fixed of count) = primitive_text of ++ codes "[" ++ decimal count ++ codes "]"
-kind_text (Counted of counter) = primitive_text of ++ codes "[" ++ name_text counter ++ codes "]"
+kind_text (Fixed prim count) = primitive_text prim ++ codes "[" ++ decimal count ++ codes "]"
+kind_text (Counted prim counter) = primitive_text prim ++ codes "[" ++ name_text counter ++ codes "]"
 kind_text Text = codes "text"
 kind_text (Inline class) = name_text class
 kind_text (Pointer class) = name_text class ++ codes "*"

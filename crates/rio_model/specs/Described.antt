@@ -1,23 +1,12 @@
 -- The class list that is written for classes, read again.
-use Rattle.std.specs.Prelude.{◌≡◌, ◌≤◌, ℕ, ◌+◌, ◌-◌, ◌*◌, ◌^◌, codes, List, ◌++◌, length, Ok, Bool, true, ◌==◌, ◌&&◌, nat_lt, IsTrue}
-use Rattle.std.specs.List.{list_all}
-use Rattle.rio_types.specs.declared.class.Base.{Base}
-use Rattle.rio_types.specs.declared.class.ClassDef.{ClassDef}
-use Rattle.rio_types.specs.declared.class.Member.{Member}
-use Rattle.rio_types.specs.declared.kind.Kind.{Kind}
-use Rattle.rio_types.specs.declared.kind.Kind.TheVariants.{Fixed, Other}
+use Rattle.std.specs.{Prelude.{◌≡◌, ◌≤◌, ℕ, ◌+◌, ◌-◌, ◌*◌, ◌^◌, codes, List, ◌++◌, length, Ok, Bool, true, ◌==◌, ◌&&◌, nat_lt, IsTrue}, List.{list_all}}
+use Rattle.rio_types.specs.{declared.class.Base.{Base}, declared.class.ClassDef.{ClassDef}, declared.class.Member.{Member}}
+use Rattle.rio_types.specs.declared.kind.Kind.{Kind, TheVariants.{Fixed, Other}}
 use Rattle.rio_value.specs.Depth.{depth_of}
-use Rattle.rio_format.specs.ClassList.{class_list_at, classes_of}
-use Rattle.rio_format.specs.Descriptions.{description_classes}
-use Rattle.rio_format.specs.Fits.{Fits, fits_signed}
-use Rattle.rio_format.specs.Laws.{has_versions}
-use Rattle.rio_format.specs.Objects.{SpellsObject, depth_limit, value_at}
-use Rattle.rio_format.specs.Prims.{width_of}
-use Rattle.rio_format.specs.TreeClasses.{tree_classes, written_classes}
-use Rattle.rio_format.specs.WrittenBytes.{class_list_bytes}
-use Rattle.rio_format.specs.WrittenList.{class_list_value}
-use Rattle.rio_model.specs.ClassGrammar.{checksum_of}
-use Rattle.rio_model.specs.Stated.{has_stated_parts, is_stated_class}
+use Rattle.rio_format.specs.{ClassList.{class_list_at, classes_of}, Descriptions.{description_classes}, Fits.{Fits, fits_signed}, Laws.{has_versions}}
+use Rattle.rio_format.specs.{Objects.{SpellsObject, depth_limit, value_at}, Prims.{width_of}, TreeClasses.{tree_classes, written_classes}}
+use Rattle.rio_format.specs.{WrittenBytes.{class_list_bytes}, WrittenList.{class_list_value}}
+use Rattle.rio_model.specs.{ClassGrammar.{checksum_of}, Stated.{has_stated_parts, is_stated_class}}
 
 abbrev pub is_base_number : Base → Bool
 is_base_number b = fits_signed 32 b.version
@@ -38,7 +27,7 @@ WrittenListIsRead = (classes : List ClassDef) → list_all is_described classes 
 
 -- the bytes of an array, and a code, are an i32
 abbrev pub kind_has_numbers : Kind → Bool
-kind_has_numbers (Fixed of count) = nat_lt (width_of of * count) (2 ^ 31)
+kind_has_numbers (Fixed prim count) = nat_lt (width_of prim * count) (2 ^ 31)
 kind_has_numbers (Other code) = fits_signed 32 code
 kind_has_numbers kind = true
 

@@ -2,9 +2,7 @@
 -- says the bytes that it spells, with escapes or without. Where no blank may stand before a token, it is glued.
 use Rattle.std.specs.Prelude.{◌≡◌, ℕ, List, [], ◌∷◌, ◌++◌, true}
 use Rattle.rio_num.specs.At.{At}
-use Rattle.rio_token.specs.declared.token.Token.TheVariants.{Word, Text, Mark}
-use Rattle.rio_token.specs.Marks.{comma}
-use Rattle.rio_token.specs.Tokens.{behind, is_glued, next_at}
+use Rattle.rio_token.specs.{declared.token.Token.TheVariants.{Word, Text, Mark}, Marks.{comma}, Tokens.{behind, is_glued, next_at}}
 
 pub data Lexeme : Type 0 where
   word : List ℕ → Lexeme

@@ -2,13 +2,9 @@
 use Rattle.std.specs.Prelude.{◌≡◌, ◌⊎◌, ℕ, ◌+◌, ◌-◌, ◌^◌, ℤ, pos, negsuc, List, [], ◌∷◌, ◌++◌, length, map, nat_lt, Ok, Bool, true, false, ◌==◌, ◌&&◌, if◌then◌else◌}
 use Rattle.std.specs.List.{list_all}
 use Rattle.rio_num.specs.Word.{is_name_text}
-use Rattle.rio_value.specs.declared.value.Value.{Value}
-use Rattle.rio_value.specs.declared.value.Value.TheOpen.{Value-F, Int, Bits32, Bits64, Bool as Truth, Text, List as Items, Object, Pointed, Null, Back, Opaque}
-use Rattle.rio_value.specs.declared.value.Value.TheFolds.{fold-Value}
+use Rattle.rio_value.specs.declared.value.Value.{Value, TheOpen.{Value-F, Int, Bits32, Bits64, Bool as Truth, Text, List as Items, Object, Pointed, Null, Back, Opaque}, TheFolds.{fold-Value}}
 use Rattle.rio_token.specs.Marks.{closing_brace, closing_bracket, comma}
-use Rattle.rio_model.specs.Stated.{is_class_version}
-use Rattle.rio_model.specs.ValueGrammar.{bracket_limit, value_in}
-use Rattle.rio_model.specs.ValueText.{text_of_value}
+use Rattle.rio_model.specs.{Stated.{is_class_version}, ValueGrammar.{bracket_limit, value_in}, ValueText.{text_of_value}}
 
 -- whether a value's text says everything with at most so many brackets within one another, and whether it is an object
 pub record Readability : Type 0 where

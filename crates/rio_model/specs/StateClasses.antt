@@ -2,8 +2,7 @@
 use Rattle.std.specs.Prelude.{◌≡◌, ◌≤◌, ℕ, List, [], ◌∷◌, ◌++◌, length, not, IsTrue, None}
 use Rattle.rio_types.specs.declared.class.ClassDef.{ClassDef}
 use Rattle.rio_format.specs.WrittenBytes.{length_limit, written_list}
-use Rattle.rio_model.specs.Declaring.{declare_fault, declared, is_reserved_name}
-use Rattle.rio_model.specs.Stated.{is_stated_class}
+use Rattle.rio_model.specs.{Declaring.{declare_fault, declared, is_reserved_name}, Stated.{is_stated_class}}
 
 -- a class command declares the class behind these: a declaration can give it, no rule forbids it, and each of its bases has
 -- the newest version of its name

@@ -1,15 +1,10 @@
 -- The classes that a declaration can give, whatever versions their bases have got since.
 use Rattle.std.specs.Prelude.{◌≡◌, Ok, map, ℕ, ℤ, pos, int_le, List, [], ◌∷◌, ◌++◌, codes, length, nat_le, Option, Some, None, Bool, true, false, ◌==◌, ◌&&◌, not}
-use Rattle.std.specs.List.{list_any}
-use Rattle.std.specs.Str.{bytes_eq}
+use Rattle.std.specs.{List.{list_any}, Str.{bytes_eq}}
 use Rattle.rio_num.specs.Word.{is_name_text}
-use Rattle.rio_types.specs.declared.class.Base.{Base}
-use Rattle.rio_types.specs.declared.class.ClassDef.{ClassDef}
-use Rattle.rio_types.specs.declared.class.Member.{Member}
-use Rattle.rio_types.specs.declared.kind.Kind.{Kind}
-use Rattle.rio_types.specs.declared.kind.Kind.TheVariants.{Plain, Counter, Fixed, Counted, Text, Inline, Pointer, Other}
-use Rattle.rio_types.specs.declared.kind.Primitive.{Primitive}
-use Rattle.rio_types.specs.Members.{is_counter}
+use Rattle.rio_types.specs.{declared.class.Base.{Base}, declared.class.ClassDef.{ClassDef}, declared.class.Member.{Member}}
+use Rattle.rio_types.specs.declared.kind.Kind.{Kind, TheVariants.{Plain, Counter, Fixed, Counted, Text, Inline, Pointer, Other}}
+use Rattle.rio_types.specs.{declared.kind.Primitive.{Primitive}, Members.{is_counter}}
 use Rattle.rio_model.specs.ClassText.{text_of_class}
 use Rattle.rio_model.specs.ClassGrammar.{base, checksum_of, class_in, has_base_named, has_member, is_counted_by, is_i32_of, primitive_of}
 
@@ -19,7 +14,7 @@ has_counter members name = list_any (λ m. bytes_eq m.name name && is_counter m.
 
 abbrev pub is_none : Option Primitive → Bool
 is_none None = true
-is_none (Some of) = false
+is_none (Some prim) = false
 
 -- a word that is no kind of its own, and so the class of an object
 abbrev pub is_class_word : List ℕ → Bool
@@ -27,10 +22,10 @@ is_class_word word = is_name_text word && is_none (primitive_of word) && not (by
 
 -- The kind of a member of the name, between the members before and those after: an i32 is a counter where one after counts by it, and only there.
 abbrev pub is_stated_kind : List Member → List ℕ → List Member → Kind → Bool
-is_stated_kind before name after (Plain of) = not (is_i32_of of && is_counted_by after name)
+is_stated_kind before name after (Plain prim) = not (is_i32_of prim && is_counted_by after name)
 is_stated_kind before name after Counter = is_counted_by after name
-is_stated_kind before name after (Fixed of count) = nat_le 1 count && nat_le count 100000
-is_stated_kind before name after (Counted of counter) = has_counter before counter
+is_stated_kind before name after (Fixed prim count) = nat_le 1 count && nat_le count 100000
+is_stated_kind before name after (Counted prim counter) = has_counter before counter
 is_stated_kind before name after Text = true
 is_stated_kind before name after (Inline class) = is_class_word class
 is_stated_kind before name after (Pointer class) = is_name_text class

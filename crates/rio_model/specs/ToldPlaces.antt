@@ -1,14 +1,9 @@
 -- The place that is told of a text that isn't read, and what the tokens before that place begin.
 use Rattle.std.specs.Prelude.{◌≡◌, ℕ, suc, List, [], ◌∷◌, ◌++◌, Err, Bool, true, false, if◌then◌else◌}
 use Rattle.rio_num.specs.At.{At, end_place}
-use Rattle.rio_token.specs.declared.fault.TextFault.{TextFault}
-use Rattle.rio_token.specs.declared.fault.TextFault.TheVariants.{BadText}
-use Rattle.rio_token.specs.declared.token.Token.TheVariants.{Cut}
-use Rattle.rio_token.specs.Reading.{Read, next_word}
+use Rattle.rio_token.specs.{declared.fault.TextFault.{TextFault, TheVariants.{BadText}}, declared.token.Token.TheVariants.{Cut}, Reading.{Read, next_word}}
 use Rattle.rio_token.specs.Tokens.{next_at, token_place}
-use Rattle.rio_model.specs.Lexemes.{Lexeme, Stand, chars}
-use Rattle.rio_model.specs.ValueGrammar.{enclosed_at, value_in_text, values_at}
-use Rattle.rio_model.specs.ValueSpelling.{SpellsRow, SpellsValue}
+use Rattle.rio_model.specs.{Lexemes.{Lexeme, Stand, chars}, ValueGrammar.{enclosed_at, value_in_text, values_at}, ValueSpelling.{SpellsRow, SpellsValue}}
 
 -- the same token comes next: one of the same kind, and the same word
 pub record HaveSameNext (s t : At) : Type 0 where

@@ -1,17 +1,13 @@
 -- Values as tokens spell them, by cases on the value. Texts that spell the same value differ in the blanks between their
 -- tokens and in the escapes of their strings. An object of version 0 is one whose version is left out.
 use Rattle.std.specs.Prelude.{◌≡◌, ℕ, zero, suc, ◌≤◌, ℤ, pos, negsuc, List, [], ◌∷◌, ◌++◌, codes, Some, Ok, Bool, true, false, not}
-use Rattle.rio_num.specs.At.{At}
-use Rattle.rio_num.specs.Word.{is_name_text}
+use Rattle.rio_num.specs.{At.{At}, Word.{is_name_text}}
 use Rattle.rio_value.specs.declared.value.Part.{Part}
-use Rattle.rio_value.specs.declared.value.Value.{Value, out-Value}
-use Rattle.rio_value.specs.declared.value.Value.TheOpen.{Value-F, Int, Bits32, Bits64, Bool as Truth, Text, List as Items, Object, Pointed, Null, Back, Opaque}
+use Rattle.rio_value.specs.declared.value.Value.{Value, out-Value, TheOpen.{Value-F, Int, Bits32, Bits64, Bool as Truth, Text, List as Items, Object, Pointed, Null, Back, Opaque}}
 use Rattle.rio_token.specs.declared.words.Bits.TheVariants.{Four, Eight}
-use Rattle.rio_token.specs.Marks.{at_sign, closing_brace, closing_bracket, colon, equals_sign, number_sign, opening_brace, opening_bracket}
-use Rattle.rio_token.specs.Reading.{marked}
+use Rattle.rio_token.specs.{Marks.{at_sign, closing_brace, closing_bracket, colon, equals_sign, number_sign, opening_brace, opening_bracket}, Reading.{marked}}
 use Rattle.rio_token.specs.Words.{bits_of, num_of, number_of}
-use Rattle.rio_model.specs.Lexemes.{Lexeme, SpellsItems, Stand, chars, mark, word}
-use Rattle.rio_model.specs.ValueGrammar.{enclosed_at, opens_object, value_in_text, values_at}
+use Rattle.rio_model.specs.{Lexemes.{Lexeme, SpellsItems, Stand, chars, mark, word}, ValueGrammar.{enclosed_at, opens_object, value_in_text, values_at}}
 
 -- one layer of a value, and the tokens that spell it
 abbrev pub Spelling : Type 1

@@ -1,19 +1,12 @@
 -- The meanings of a description agree, by one induction each.
 use Rattle.std.proofs.Common.{◌≡◌, ◌⊎◌, inl, inr, ℕ, ◌+◌, ◌<◌, ◌≤◌, Bool, true, false, cond, ltb, List, [], ◌∷◌, ◌++◌, length, take, drop, Result, Ok, Err, refl, sym, ap, subst, ◌∙◌, append_assoc, arith}
-use Rattle.std.proofs.lemmas.Bool.{lt-ltb, le-ltb, ltb-true, ltb-false}
-use Rattle.std.proofs.lemmas.List.{length-append, length-take, take-append-drop, take_at, drop_at}
-use Rattle.byteorder.specs.Endian.{big_bytes, big_number}
-use Rattle.byteorder.specs.Numbers.{big_from-lt, big_number-reads_back, length-bytes_high_first}
-use Rattle.rio_num.specs.At.{At, AreBytes, end_place}
-use Rattle.rio_num.specs.Reading.{◌>>=◌, skip, short, text_at}
-use Rattle.rio_num.specs.declared.cursor.Short.{Short}
-use Rattle.rio_num.proofs.ReadLaws.{IsBytes-drop, ok_is, bind_ok, text_again, text_found}
+use Rattle.std.proofs.{lemmas.Bool.{lt-ltb, le-ltb, ltb-true, ltb-false}, lemmas.List.{length-append, length-take, take-append-drop, take_at, drop_at}}
+use Rattle.byteorder.specs.{Endian.{big_bytes, big_number}, Numbers.{big_from-lt, big_number-reads_back, length-bytes_high_first}}
+use Rattle.rio_num.specs.{At.{At, AreBytes, end_place}, Reading.{◌>>=◌, skip, short, text_at}, declared.cursor.Short.{Short}}
 use Rattle.rio_num.specs.Layout.{Layout, done, broken, number, bytes, text, name, here, reaches, met, note, choice, behind}
-use Rattle.rio_num.specs.Meanings.{Standing, Reading, read, of_bytes, stand, Spells, Breaks, HasTaken}
-use Rattle.rio_num.specs.Laws.{Agrees}
-use Rattle.rio_num.proofs.LayoutBytes.{reads_back}
-use Rattle.rio_num.proofs.LayoutNames.{name_again, name_endless, name_found, name_told}
-use Rattle.rio_num.proofs.LayoutTexts.{text_fault, text_told}
+use Rattle.rio_num.specs.{Meanings.{Standing, Reading, read, of_bytes, stand, Spells, Breaks, HasTaken}, Laws.{Agrees}}
+use Rattle.rio_num.proofs.{ReadLaws.{IsBytes-drop, ok_is, bind_ok, text_again, text_found}, LayoutBytes.{reads_back}}
+use Rattle.rio_num.proofs.{LayoutNames.{name_again, name_endless, name_found, name_told}, LayoutTexts.{text_fault, text_told}}
 
 -- nothing is taken of the bytes
 still : {W F A : Type 0} (p : ℕ) (b more : List ℕ) (u : W) (a : A) → b ≡ [] → read {F = F} (done a) (stand p (b ++ more) u) ≡ Ok (a, stand (p + length b) more u)

@@ -1,10 +1,7 @@
 -- How a spelling is taken apart into those of its parts.
 use Rattle.std.proofs.Common.{◌≡◌, ℕ, ◌+◌, ◌^◌, ◌<◌, Bool, true, false, List, ◌++◌, length, refl, sym, ap, subst, ◌∙◌, arith}
-use Rattle.byteorder.specs.Endian.{big_bytes}
-use Rattle.byteorder.specs.Numbers.{length-bytes_high_first}
-use Rattle.rio_num.specs.Text.{SpellsText}
-use Rattle.rio_num.specs.Layout.{Layout, broken, number, bytes, text, here, choice, behind, must}
-use Rattle.rio_num.specs.Meanings.{Spells}
+use Rattle.byteorder.specs.{Endian.{big_bytes}, Numbers.{length-bytes_high_first}}
+use Rattle.rio_num.specs.{Text.{SpellsText}, Layout.{Layout, broken, number, bytes, text, here, choice, behind, must}, Meanings.{Spells}}
 use Rattle.rio_num.proofs.Intro.{IsSo}
 
 module _ {W F A : Type 0} {end p : ℕ} {t : W} {y : A} {b : List ℕ} {t' : W} where

@@ -1,7 +1,5 @@
 -- Bytes that are compared.
-use Rattle.std.proofs.Common.{◌≡◌, ℕ, List, sym}
-use Rattle.std.proofs.lemmas.Bool.Decides.{same_from_decides}
-use Rattle.std.proofs.lemmas.Slice.Eq.{bytes_eq-Decides}
+use Rattle.std.proofs.{Common.{◌≡◌, ℕ, List, sym}, lemmas.Bool.Decides.{same_from_decides}, lemmas.Slice.Eq.{bytes_eq-Decides}}
 use Rattle.std.specs.Str.{bytes_eq}
 
 pub bytes_eq-sym : (a b : List ℕ) → bytes_eq a b ≡ bytes_eq b a

@@ -1,14 +1,9 @@
 -- What is read of so many bytes at most is read of a front of them that holds as many.
 use Rattle.std.proofs.Common.{◌≡◌, ℕ, ◌+◌, ◌≤◌, ◌<◌, Bool, true, false, cond, ltb, List, length, take, drop, Ok, Err, refl, ap, ◌∙◌, arith}
-use Rattle.std.proofs.lemmas.Bool.{ltb-false, ltb-true, le-ltb, lt-ltb}
-use Rattle.std.proofs.lemmas.List.{length-take, drop-take, take-take}
-use Rattle.byteorder.specs.Endian.{big_number}
-use Rattle.byteorder.specs.Numbers.{big_from-take}
-use Rattle.rio_num.specs.At.{At}
-use Rattle.rio_num.specs.Reading.{◌>>=◌, short, skip}
-use Rattle.rio_num.specs.Layout.{Layout, done, number, bytes, behind, must}
-use Rattle.rio_num.specs.Meanings.{Reading, Standing, of_bytes, read}
-use Rattle.rio_num.specs.Plain.{Plain, plain, value_of}
+use Rattle.std.proofs.{lemmas.Bool.{ltb-false, ltb-true, le-ltb, lt-ltb}, lemmas.List.{length-take, drop-take, take-take}}
+use Rattle.byteorder.specs.{Endian.{big_number}, Numbers.{big_from-take}}
+use Rattle.rio_num.specs.{At.{At}, Reading.{◌>>=◌, short, skip}, Layout.{Layout, done, number, bytes, behind, must}}
+use Rattle.rio_num.specs.{Meanings.{Reading, Standing, of_bytes, read}, Plain.{Plain, plain, value_of}}
 
 -- the same place, with so many bytes left at most
 abbrev pub cut : ℕ → At → At

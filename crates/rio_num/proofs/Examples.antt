@@ -1,11 +1,8 @@
 -- Some bytes, what they are read as, what spells them, and how they break. All hold by computation.
-use Rattle.std.proofs.Common.{◌≡◌, ℕ, List, [], ◌∷◌, ◌++◌, codes, Ok, Err, nat_lt, if◌then◌else◌, inl, inr, refl, lit<}
+use Rattle.std.proofs.Common.{◌≡◌, ℕ, List, [], ◌∷◌, ◌++◌, codes, Ok, Err, inl, inr, refl, lit<}
 use Rattle.byteorder.specs.Endian.{big_bytes}
-use Rattle.rio_num.specs.Reading.{short, text_at}
-use Rattle.rio_num.specs.declared.cursor.Short.{Short}
-use Rattle.rio_num.specs.Books.{Authors, Book, too_few, too_far, nobody, book, books, author}
-use Rattle.rio_num.specs.Layout.{Layout, done, number, text, each, times, retold, ◌>>=◌}
-use Rattle.rio_num.specs.Meanings.{read, stand, Spells, Breaks}
+use Rattle.rio_num.specs.{Reading.{short, text_at}, declared.cursor.Short.{Short}, Books.{Authors, Book, too_few, too_far, nobody, book, books, author}, At.{place_len_of}}
+use Rattle.rio_num.specs.{Layout.{Layout, done, number, text, each, times, retold, ◌>>=◌}, Meanings.{read, stand, Spells, Breaks}}
 
 -- ---- books
 
@@ -104,16 +101,12 @@ nobody_there = inr (105, [], 0 ∷ 7 ∷ [], [], refl, (refl, refl, refl), inr (
 abbrev Plain : Type 0 → Type 1
 Plain A = Layout (Unit {0}) Short A
 
--- how many bytes a place in the file takes in a record of this version
-abbrev place_width : ℕ → ℕ
-place_width version = if nat_lt 1000 version then 8 else 4
-
 -- an entry of a free list: the first and the last free byte of a gap
 unfoldable free_entry : Plain (ℕ × ℕ)
 free_entry = do
   version ← number short 2
-  first ← number short (place_width version)
-  last ← number short (place_width version)
+  first ← number short (place_len_of version)
+  last ← number short (place_len_of version)
   done (first, last)
 
 -- the entry of a file that ends at 304
@@ -160,8 +153,8 @@ key_fields = do
   datime ← number short 4
   keylen ← number short 2
   cycle ← number short 2
-  seek ← number short (place_width version)
-  pdir ← number short (place_width version)
+  seek ← number short (place_len_of version)
+  pdir ← number short (place_len_of version)
   class ← text short
   title ← times 2 (text short)
   done (nbytes ∷ version ∷ objlen ∷ datime ∷ keylen ∷ cycle ∷ seek ∷ pdir ∷ [], class ∷ title)

@@ -1,8 +1,7 @@
 -- Of fewer than 2^33 names there is always one more.
 use Rattle.std.proofs.Common.{◌≡◌, inl, inr, ℕ, zero, suc, ◌+◌, ◌*◌, ◌^◌, ◌<◌, ◌≤◌, List, [], ◌∷◌, length, Bool, true, false, ◌==◌, if◌then◌else◌, refl, arith}
-use Rattle.std.specs.List.{list_all, list_any}
-use Rattle.std.specs.Str.{bytes_eq}
 use Rattle.std.proofs.lemmas.Bool.{cases_lt, eqb-true, or_parts}
+use Rattle.std.specs.{List.{list_all, list_any}, Str.{bytes_eq}}
 use Rattle.rio_num.specs.Word.{goes_on_name, is_name_text}
 
 -- one of the names is this one

@@ -1,15 +1,10 @@
 -- What is read depends on the bytes that it takes, and not on those behind.
 use Rattle.std.proofs.Common.{◌≡◌, ℕ, ◌+◌, ◌<◌, ◌≤◌, Bool, true, false, cond, ltb, eqb, List, [], ◌∷◌, ◌++◌, length, take, drop, Result, Ok, Err, refl, sym, ap, subst, ◌∙◌, append_assoc, arith}
 use Rattle.std.proofs.lemmas.Bool.{ltb-false, ltb-true, le-ltb}
-use Rattle.std.proofs.lemmas.List.{length-append, length-take, length-drop, take-append-drop, drop_at, take-append-le, drop-append-le}
-use Rattle.std.proofs.Math.Seq.{take-add}
-use Rattle.byteorder.specs.Endian.{big_number}
-use Rattle.byteorder.specs.Numbers.{big_from-append, big_from-take}
-use Rattle.rio_num.specs.At.{At}
-use Rattle.rio_num.specs.Reading.{◌>>=◌, number_at, text_at, text_head, skip, short}
-use Rattle.rio_num.specs.declared.cursor.Short.{Short}
-use Rattle.rio_num.proofs.Plain.{standing}
-use Rattle.rio_num.proofs.ReadLaws.{ok_is}
+use Rattle.std.proofs.{lemmas.List.{length-append, length-take, length-drop, take-append-drop, drop_at, take-append-le, drop-append-le}, Math.Seq.{take-add}}
+use Rattle.byteorder.specs.{Endian.{big_number}, Numbers.{big_from-append, big_from-take}}
+use Rattle.rio_num.specs.{At.{At}, Reading.{◌>>=◌, number_at, text_at, text_head, skip, short}, declared.cursor.Short.{Short}}
+use Rattle.rio_num.proofs.{Plain.{standing}, ReadLaws.{ok_is}}
 
 -- what was taken from the front is taken again, whatever follows
 pub record TakesFront {X E : Type 0} (read : At → Result (X × At) E) (s : At) (x : X) (s' : At) : Type 0 where

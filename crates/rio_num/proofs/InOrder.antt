@@ -1,9 +1,6 @@
 -- What is read by one part behind the other, put together and taken apart.
 use Rattle.std.proofs.Common.{◌≡◌, ℕ, Bool, true, false, List, Ok, refl, ap, ◌∙◌}
-use Rattle.rio_num.specs.At.{At}
-use Rattle.rio_num.specs.Reading.{bytes_at, number_at}
-use Rattle.rio_num.specs.Layout.{Layout, done, number, bytes, behind, must}
-use Rattle.rio_num.specs.Meanings.{Standing, of_bytes, read}
+use Rattle.rio_num.specs.{At.{At}, Reading.{bytes_at, number_at}, Layout.{Layout, done, number, bytes, behind, must}, Meanings.{Standing, of_bytes, read}}
 use Rattle.rio_num.proofs.ReadLaws.{bind_is, bind_ok}
 
 -- `read`, as a type that tells its description

@@ -1,10 +1,8 @@
 -- How spellings are put together from those of their parts.
 use Rattle.std.proofs.Common.{◌≡◌, ℕ, ◌+◌, ◌^◌, ◌<◌, ◌≤◌, Bool, true, false, List, [], ◌++◌, length, Option, Some, None, refl, sym, subst, arith}
 use Rattle.std.proofs.lemmas.List.{append-nil}
-use Rattle.byteorder.specs.Endian.{big_bytes}
-use Rattle.byteorder.specs.Numbers.{length-bytes_high_first}
-use Rattle.rio_num.specs.Layout.{Layout, done, number, bytes, text, here, reaches, met, note, choice, behind, known, must, any}
-use Rattle.rio_num.specs.Meanings.{Spells}
+use Rattle.byteorder.specs.{Endian.{big_bytes}, Numbers.{length-bytes_high_first}}
+use Rattle.rio_num.specs.{Layout.{Layout, done, number, bytes, text, here, reaches, met, note, choice, behind, known, must, any}, Meanings.{Spells}}
 use Rattle.rio_num.specs.Text.{SpellsText}
 
 abbrev nothing : List ℕ

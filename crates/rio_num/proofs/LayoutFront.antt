@@ -1,14 +1,10 @@
 -- What is read by numbers and texts depends on the bytes that it takes, and not on those behind.
 use Rattle.std.proofs.Common.{◌≡◌, ℕ, ◌+◌, true, false, List, [], ◌++◌, length, Result, Ok, Err, refl, sym, ap, subst, ◌∙◌, append_assoc, arith}
 use Rattle.std.proofs.lemmas.List.{length-append}
-use Rattle.rio_num.specs.At.{At}
-use Rattle.rio_num.specs.Reading.{number_at, text_at}
-use Rattle.rio_num.specs.declared.cursor.Short.{Short}
+use Rattle.rio_num.specs.{At.{At}, Reading.{number_at, text_at}, declared.cursor.Short.{Short}}
 use Rattle.rio_num.specs.Layout.{done, broken, number, bytes, text, name, here, reaches, met, note, choice, behind}
-use Rattle.rio_num.specs.Meanings.{Reading, Standing, of_bytes, read, stand}
-use Rattle.rio_num.proofs.ReadLaws.{bind_ok, ok_is}
-use Rattle.rio_num.specs.Plain.{Plain, plain}
-use Rattle.rio_num.proofs.Front.{TakesFront, number_front, text_front}
+use Rattle.rio_num.specs.{Meanings.{Reading, Standing, of_bytes, read, stand}, Plain.{Plain, plain}}
+use Rattle.rio_num.proofs.{ReadLaws.{bind_ok, ok_is}, Front.{TakesFront, number_front, text_front}}
 
 -- numbers and texts, one behind the other
 abbrev pub AreFields : {F A : Type 0} → Plain F A → Type 0

@@ -1,12 +1,9 @@
 -- Names with a zero byte behind them: what is spelled is read, and back.
 use Rattle.std.proofs.Common.{◌≡◌, ◌==◌, ℕ, ◌+◌, ◌<◌, ◌≤◌, Bool, true, false, cond, ltb, List, [], ◌∷◌, ◌++◌, length, take, drop, Some, None, Ok, Err, refl, sym, ap, subst, ◌∙◌, append_assoc, one-add, add-one, arith}
-use Rattle.std.proofs.lemmas.Bool.{lt-ltb, le-ltb, ltb-false, ltb-true, eqb-true}
-use Rattle.std.proofs.lemmas.List.{length-append, length-take, take_at, take_all, drop_at}
+use Rattle.std.proofs.{lemmas.Bool.{lt-ltb, le-ltb, ltb-false, ltb-true, eqb-true}, lemmas.List.{length-append, length-take, take_at, take_all, drop_at}}
 use Rattle.std.specs.List.{position_or_len}
-use Rattle.rio_num.specs.Reading.{skip}
+use Rattle.rio_num.specs.{Reading.{skip}, Layout.{name}, Meanings.{Standing, HasNoZero, ended_name, read, stand}}
 use Rattle.rio_num.proofs.ReadLaws.{ok_is}
-use Rattle.rio_num.specs.Layout.{name}
-use Rattle.rio_num.specs.Meanings.{Standing, HasNoZero, ended_name, read, stand}
 
 -- how many bytes stand before the first zero byte
 abbrev pub before_zero : List ℕ → ℕ

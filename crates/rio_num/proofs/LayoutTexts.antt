@@ -1,15 +1,9 @@
 -- Texts of which too few bytes are left: where they are cut, reading tells how many are wanted, and back.
 use Rattle.std.proofs.Common.{◌≡◌, ◌≢◌, inl, inr, ℕ, suc, ◌+◌, ◌<◌, ◌≤◌, Bool, true, false, cond, ltb, eqb, List, [], ◌∷◌, ◌++◌, length, take, drop, Result, Ok, Err, refl, sym, ap, ◌∙◌, arith}
-use Rattle.std.proofs.lemmas.Bool.{lt-ltb, ltb-false, ltb-true, eqb-true, eqb-false, ne_eqb}
-use Rattle.std.proofs.lemmas.List.{length-drop, take-append-drop}
-use Rattle.byteorder.specs.Endian.{big_bytes, big_number}
-use Rattle.byteorder.specs.Numbers.{big_from-lt}
-use Rattle.rio_num.specs.At.{At}
-use Rattle.rio_num.specs.Reading.{skip, short, text_at, text_head}
-use Rattle.rio_num.specs.declared.cursor.Short.{Short}
-use Rattle.rio_num.proofs.LayoutBytes.{reads_back}
-use Rattle.rio_num.proofs.ReadLaws.{IsBytes, long_head}
-use Rattle.rio_num.specs.Meanings.{IsCutText}
+use Rattle.std.proofs.{lemmas.Bool.{lt-ltb, ltb-false, ltb-true, eqb-true, eqb-false, ne_eqb}, lemmas.List.{length-drop, take-append-drop}}
+use Rattle.byteorder.specs.{Endian.{big_bytes, big_number}, Numbers.{big_from-lt}}
+use Rattle.rio_num.specs.{At.{At}, Reading.{skip, short, text_at, text_head}, declared.cursor.Short.{Short}, Meanings.{IsCutText}}
+use Rattle.rio_num.proofs.{LayoutBytes.{reads_back}, ReadLaws.{IsBytes, long_head}}
 
 -- ---- cut bytes are short
 

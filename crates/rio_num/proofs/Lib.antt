@@ -1,6 +1,7 @@
 pub mod Agree
 pub mod Apart
 pub mod BytesEq
+pub mod Cases
 pub mod Cut
 pub mod Examples
 pub mod FreshNames
@@ -18,5 +19,6 @@ pub mod Plain
 pub mod Puts
 pub mod ReadLaws
 pub mod Retold
+pub mod TextLengths
 pub mod Within
 pub mod Words

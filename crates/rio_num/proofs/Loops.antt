@@ -1,9 +1,7 @@
 -- Reading the same thing so many times, as a loop does.
 use Rattle.std.proofs.Common.{◌≡◌, ℕ, suc, ◌+◌, ◌-◌, ◌<◌, ◌≤◌, List, [], ◌∷◌, ◌++◌, Ok, Err, refl, sym, ap, ◌∙◌, append_assoc, arith}
 use Rattle.std.proofs.lemmas.List.{append-nil}
-use Rattle.rio_num.specs.Reading.{◌>>=◌}
-use Rattle.rio_num.specs.Layout.{Layout, each, times}
-use Rattle.rio_num.specs.Meanings.{Reading, Standing, read}
+use Rattle.rio_num.specs.{Reading.{◌>>=◌}, Layout.{Layout, each, times}, Meanings.{Reading, Standing, read}}
 
 -- what was read before, and what is still read
 abbrev pub with_front : {W F Y : Type 0} → List Y → Reading W F (List Y) → Reading W F (List Y)

@@ -1,8 +1,6 @@
 -- What is spelled in one place is spelled in another, where the description tells no places and no ends.
 use Rattle.std.proofs.Common.{◌≡◌, ℕ, ◌+◌, List, [], ◌∷◌, ◌++◌, length, replicate, Ok}
-use Rattle.rio_num.specs.At.{At, AreBytes, end_place}
-use Rattle.rio_num.specs.Layout.{Layout, done, number, each, times, behind}
-use Rattle.rio_num.specs.Meanings.{read, Spells}
+use Rattle.rio_num.specs.{At.{At, AreBytes, end_place}, Layout.{Layout, done, number, each, times, behind}, Meanings.{read, Spells}}
 use Rattle.rio_num.specs.Plain.{IsSpelledBy, Plain, plain}
 use Rattle.rio_num.proofs.Agree as Agree
 

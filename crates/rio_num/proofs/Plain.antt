@@ -1,12 +1,8 @@
 -- What holds of every description of what refers to nothing that stands before it.
-use Rattle.std.proofs.Common.{◌≡◌, ℕ, ◌+◌, List, ◌++◌, length, take, Result, Ok, Err, refl, sym, ap, ◌∙◌, arith}
-use Rattle.std.proofs.lemmas.List.{length-append, take_at}
-use Rattle.rio_num.specs.At.{At, AreBytes, end_place}
-use Rattle.rio_num.specs.Meanings.{Standing, read, stand, Breaks}
-use Rattle.rio_num.specs.Plain.{IsOne, IsSpelledBy, Plain, plain, value_of}
+use Rattle.std.proofs.{Common.{◌≡◌, ℕ, ◌+◌, List, ◌++◌, length, take, Result, Ok, Err, refl, sym, ap, ◌∙◌, arith}, lemmas.List.{length-append, take_at}}
+use Rattle.rio_num.specs.{At.{At, AreBytes, end_place}, Meanings.{Standing, read, stand, Breaks}, Plain.{IsOne, IsSpelledBy, Plain, plain, value_of}}
 use Rattle.rio_num.proofs.Agree as Agree
-use Rattle.rio_num.proofs.Intro.{IsSo}
-use Rattle.rio_num.proofs.ReadLaws.{ok_is}
+use Rattle.rio_num.proofs.{Intro.{IsSo}, ReadLaws.{ok_is}}
 
 abbrev pub standing : ℕ → List ℕ → At
 standing place rest = record { place = place; rest = rest }

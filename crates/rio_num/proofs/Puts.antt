@@ -1,8 +1,6 @@
 -- Puts one after the other, where there is room for all of them.
-use Rattle.std.proofs.Common.{◌≡◌, ℕ, ◌-◌, ◌≤◌, List, ◌++◌, length, max, Result, Ok, Err, ap, ◌∙◌, append_assoc, arith}
-use Rattle.std.proofs.lemmas.List.{length-append}
-use Rattle.rio_num.specs.Room.{Room, Appends, with_more}
-use Rattle.rio_num.specs.declared.no_memory.NoMemory.{NoMemory}
+use Rattle.std.proofs.{Common.{◌≡◌, ℕ, ◌-◌, ◌≤◌, List, ◌++◌, length, max, Result, Ok, Err, ap, ◌∙◌, append_assoc, arith, refl, replicate, suc, true, zero, ◌<◌}, lemmas.List.{length-append}}
+use Rattle.rio_num.specs.{Room.{Room, Appends, is_padding, with_more}, declared.no_memory.NoMemory.{NoMemory}}
 
 -- where there is room, it stands at the end
 abbrev pub Puts : Room → Room → List ℕ → Result (Unit {0}) NoMemory → Type 0
@@ -26,3 +24,10 @@ puts_reserved old mid new n more (Ok x) is long puts =
 puts_reserved old mid new n more (Err e) is long puts =
     let room : length more ≤ mid.spare = omega (arith, ap (λ (r : Room). r.spare) is, long) in
     absurd (omega (arith, (puts room).1, room))
+
+pub zeros_pad : (n : ℕ) → n < 4 → is_padding (replicate n 0) ≡ true
+zeros_pad zero lt = refl
+zeros_pad (suc zero) lt = refl
+zeros_pad (suc (suc zero)) lt = refl
+zeros_pad (suc (suc (suc zero))) lt = refl
+zeros_pad (suc (suc (suc (suc n)))) lt = absurd (omega arith)

@@ -3,11 +3,8 @@ use Rattle.std.proofs.Common.{◌≡◌, ◌≢◌, ◌⊎◌, inl, inr, ℕ, su
 use Rattle.std.proofs.lemmas.Bool.{ltb-false, ltb-true, le-ltb, eqb-true, eqb-false, ne_eqb, cases_lt}
 use Rattle.std.proofs.lemmas.List.{length-append, length-take, length-drop, take-append-drop, take_at, drop_at, get_or-drop, get_or-take, get_or_past}
 use Rattle.std.proofs.Math.Seq.{take-add}
-use Rattle.byteorder.specs.Endian.{big_bytes, big_number}
-use Rattle.byteorder.specs.Numbers.{big_from-lt, big_number-reads_back}
-use Rattle.rio_num.specs.At.{At, standing_at}
-use Rattle.rio_num.specs.Reading.{◌>>=◌, skip, short, some_if, text_at, text_head}
-use Rattle.rio_num.specs.Text.{SpellsText, long_form, short_form, text_bytes}
+use Rattle.byteorder.specs.{Endian.{big_bytes, big_number}, Numbers.{big_from-lt, big_number-reads_back}}
+use Rattle.rio_num.specs.{At.{At, standing_at}, Reading.{◌>>=◌, skip, short, some_if, text_at, text_head}, Text.{SpellsText, long_form, short_form, text_bytes}}
 use Rattle.rio_num.specs.declared.cursor.Short.{Short}
 use Rattle.rio_num.proofs.LayoutBytes.{reads_back}
 

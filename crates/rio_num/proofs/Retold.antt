@@ -1,8 +1,6 @@
 -- A description whose faults are told in other words is read, spelled and broken as before, but for the words.
-use Rattle.std.proofs.Common.{◌≡◌, ℕ, ◌+◌, Bool, true, false, ltb, List, length, Result, Ok, Err, Option, Some, None, refl}
-use Rattle.rio_num.specs.At.{At, end_place}
-use Rattle.rio_num.specs.Reading.{◌>>=◌, bytes_at, number_at, text_at}
-use Rattle.rio_num.specs.declared.cursor.Short.{Short}
+use Rattle.std.proofs.Common.{◌≡◌, ◌↔◌, ℕ, ◌+◌, Bool, true, false, ltb, List, length, Result, Ok, Err, Option, Some, None, refl}
+use Rattle.rio_num.specs.{At.{At, end_place}, Reading.{◌>>=◌, bytes_at, number_at, text_at}, declared.cursor.Short.{Short}}
 use Rattle.rio_num.specs.Layout.{Layout, done, broken, number, bytes, text, name, here, reaches, met, note, choice, behind, retold}
 use Rattle.rio_num.specs.Meanings.{Standing, Reading, ended_name, of_bytes, read, Spells}
 use Rattle.rio_num.proofs.Agree.{reach_or}
@@ -45,35 +43,28 @@ retold_same h (choice true l m) s = retold_same h l s
 retold_same h (choice false l m) s = retold_same h m s
 retold_same h (behind l k) s = next_same h (read l s) _ _ _ (retold_same h l s) (λ x. retold_same h (k x.0) x.1)
 
-pub retold_spelled : {W F G A : Type 0} (h : G → F) (l : Layout W G A) (end p : ℕ) (t : W) (y : A) (b : List ℕ) (t' : W) → Spells l end p t y b t' → Spells (retold h l) end p t y b t'
+-- what spells a description spells it with other faults, and the other way round
+retold_spells : {W F G A : Type 0} (h : G → F) (l : Layout W G A) (end p : ℕ) (t : W) (y : A) (b : List ℕ) (t' : W) → Spells l end p t y b t' ↔ Spells (retold h l) end p t y b t'
 unfolding retold
-retold_spelled h (done a) end p t y b t' c = c
-retold_spelled h (broken f) end p t y b t' c = c
-retold_spelled h (number f n) end p t y b t' c = c
-retold_spelled h (bytes f n) end p t y b t' c = c
-retold_spelled h (text f) end p t y b t' c = c
-retold_spelled h (name f) end p t y b t' c = c
-retold_spelled h here end p t y b t' c = c
-retold_spelled h (reaches e f) end p t y b t' c = c
-retold_spelled h met end p t y b t' c = c
-retold_spelled h (note u) end p t y b t' c = c
-retold_spelled h (choice true l m) end p t y b t' c = retold_spelled h l end p t y b t' c
-retold_spelled h (choice false l m) end p t y b t' c = retold_spelled h m end p t y b t' c
-retold_spelled h (behind l k) end p t y b t' c = (c.0, c.1, c.2, c.3, c.4, retold_spelled h l end p t c.0 c.1 c.3 c.5, retold_spelled h (k c.0) end (p + length c.1) c.3 y c.2 t' c.6)
+retold_spells h (done a) end p t y b t' = (λ c. c, λ c. c)
+retold_spells h (broken f) end p t y b t' = (λ c. c, λ c. c)
+retold_spells h (number f n) end p t y b t' = (λ c. c, λ c. c)
+retold_spells h (bytes f n) end p t y b t' = (λ c. c, λ c. c)
+retold_spells h (text f) end p t y b t' = (λ c. c, λ c. c)
+retold_spells h (name f) end p t y b t' = (λ c. c, λ c. c)
+retold_spells h here end p t y b t' = (λ c. c, λ c. c)
+retold_spells h (reaches e f) end p t y b t' = (λ c. c, λ c. c)
+retold_spells h met end p t y b t' = (λ c. c, λ c. c)
+retold_spells h (note u) end p t y b t' = (λ c. c, λ c. c)
+retold_spells h (choice true l m) end p t y b t' = retold_spells h l end p t y b t'
+retold_spells h (choice false l m) end p t y b t' = retold_spells h m end p t y b t'
+retold_spells h (behind l k) end p t y b t' = (
+  λ c. (c.0, c.1, c.2, c.3, c.4, (retold_spells h l end p t c.0 c.1 c.3).0 c.5, (retold_spells h (k c.0) end (p + length c.1) c.3 y c.2 t').0 c.6),
+  λ c. (c.0, c.1, c.2, c.3, c.4, (retold_spells h l end p t c.0 c.1 c.3).1 c.5, (retold_spells h (k c.0) end (p + length c.1) c.3 y c.2 t').1 c.6),
+)
 
--- what spells a description with other faults spells it
+pub retold_spelled : {W F G A : Type 0} (h : G → F) (l : Layout W G A) (end p : ℕ) (t : W) (y : A) (b : List ℕ) (t' : W) → Spells l end p t y b t' → Spells (retold h l) end p t y b t'
+retold_spelled h l end p t y b t' = (retold_spells h l end p t y b t').0
+
 pub told_before : {W F G A : Type 0} (h : G → F) (l : Layout W G A) (end p : ℕ) (t : W) (y : A) (b : List ℕ) (t' : W) → Spells (retold h l) end p t y b t' → Spells l end p t y b t'
-unfolding retold
-told_before h (done a) end p t y b t' c = c
-told_before h (broken f) end p t y b t' c = c
-told_before h (number f n) end p t y b t' c = c
-told_before h (bytes f n) end p t y b t' c = c
-told_before h (text f) end p t y b t' c = c
-told_before h (name f) end p t y b t' c = c
-told_before h here end p t y b t' c = c
-told_before h (reaches e f) end p t y b t' c = c
-told_before h met end p t y b t' c = c
-told_before h (note u) end p t y b t' c = c
-told_before h (choice true l m) end p t y b t' c = told_before h l end p t y b t' c
-told_before h (choice false l m) end p t y b t' c = told_before h m end p t y b t' c
-told_before h (behind l k) end p t y b t' c = (c.0, c.1, c.2, c.3, c.4, told_before h l end p t c.0 c.1 c.3 c.5, told_before h (k c.0) end (p + length c.1) c.3 y c.2 t' c.6)
+told_before h l end p t y b t' = (retold_spells h l end p t y b t').1

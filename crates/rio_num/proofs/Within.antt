@@ -1,7 +1,6 @@
 -- How far the data have to go for a description.
 use Rattle.std.proofs.Common.{◌≡◌, ℕ, ◌+◌, ◌*◌, ◌≤◌, Bool, true, false, List, [], ◌∷◌, length, replicate, Option, Some, None, ap, subst, arith}
-use Rattle.std.proofs.lemmas.List.{length-append, length-replicate}
-use Rattle.std.proofs.Math.Nat.{suc-mul}
+use Rattle.std.proofs.{lemmas.List.{length-append, length-replicate}, Math.Nat.{suc-mul}}
 use Rattle.byteorder.specs.Numbers.{length-bytes_high_first}
 use Rattle.rio_num.specs.Layout.{Layout, done, broken, number, bytes, text, name, any, here, reaches, met, note, choice, behind, known, must, each, times}
 use Rattle.rio_num.specs.Meanings.{Spells}

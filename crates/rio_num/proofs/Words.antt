@@ -1,33 +1,32 @@
 -- Which bytes stand in a word, and how far it goes.
 use Rattle.std.proofs.Common.{◌≡◌, ℕ, suc, ◌+◌, List, [], ◌∷◌, ◌++◌, length, true, false, ◌&&◌, nat_le, refl, arith}
+use Rattle.std.proofs.lemmas.Bool.{and_parts, Decides.{nat_tests}}
 use Rattle.std.specs.List.{list_all, prefix_len}
-use Rattle.std.proofs.lemmas.Bool.{and_parts}
-use Rattle.std.proofs.lemmas.Bool.Decides.{nat_tests}
-use Rattle.rio_num.specs.Word.{begins_name, goes_on_name, is_blank_byte, is_item_byte, is_name_text}
+use Rattle.rio_num.specs.Word.{begins_name, goes_on_name, is_blank_byte, is_word_byte, is_name_text}
 
 -- no byte of a word comes next
 abbrev pub Stops : List ℕ → Type 0
-Stops rest = prefix_len is_item_byte rest ≡ 0
+Stops rest = prefix_len is_word_byte rest ≡ 0
 
 abbrev pub IsOfWord : List ℕ → Type 0
-IsOfWord word = list_all is_item_byte word ≡ true
+IsOfWord word = list_all is_word_byte word ≡ true
 
-pub word_ends_there : (word rest : List ℕ) → IsOfWord word → Stops rest → prefix_len is_item_byte (word ++ rest) ≡ length word
+pub word_ends_there : (word rest : List ℕ) → IsOfWord word → Stops rest → prefix_len is_word_byte (word ++ rest) ≡ length word
 word_ends_there [] rest h e = e
 word_ends_there (x ∷ xs) rest h e =
-    let parts = and_parts (is_item_byte x) (list_all is_item_byte xs) h in
+    let parts = and_parts (is_word_byte x) (list_all is_word_byte xs) h in
     let one : 1 + length xs ≡ suc (length xs) = omega arith in
     rw (parts.0, word_ends_there xs rest parts.1 e) one
 
-pub item_no_blank : (b : ℕ) → is_item_byte b ≡ true → is_blank_byte b ≡ false
+pub item_no_blank : (b : ℕ) → is_word_byte b ≡ true → is_blank_byte b ≡ false
 item_no_blank b h = grind (arith, nat_tests)
 
 -- ---- names are words
 
-goes_on_item : (b : ℕ) → goes_on_name b ≡ true → is_item_byte b ≡ true
+goes_on_item : (b : ℕ) → goes_on_name b ≡ true → is_word_byte b ≡ true
 goes_on_item b h = grind arith
 
-begins_item : (b : ℕ) → begins_name b ≡ true → is_item_byte b ≡ true
+begins_item : (b : ℕ) → begins_name b ≡ true → is_word_byte b ≡ true
 begins_item b h = grind arith
 
 all_go_on : (bs : List ℕ) → list_all goes_on_name bs ≡ true → IsOfWord bs

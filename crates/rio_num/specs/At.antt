@@ -21,3 +21,7 @@ pub record GoesOn (old new : At) : Type 0 where
 -- numbers from 0 to 255
 abbrev pub AreBytes : List ℕ → Type 0
 AreBytes bytes = (i : ℕ) → slice_index bytes i < 256
+
+-- how many bytes a place in a file takes, by the version of what tells it: 8 in the large form
+abbrev pub place_len_of : ℕ → ℕ
+place_len_of version = if nat_lt 1000 version then 8 else 4

@@ -1,6 +1,5 @@
 -- A small format that has parts of every kind: a list of books, on which the laws are told.
-use Rattle.std.specs.Prelude.{ℕ, ◌==◌, ◌+◌, List, ◌∷◌, nat_eq}
-use Rattle.std.specs.Map.{lookup}
+use Rattle.std.specs.{Prelude.{ℕ, ◌==◌, ◌+◌, List, ◌∷◌, nat_eq}, Map.{lookup}}
 use Rattle.rio_num.specs.Layout.{Layout, done, number, bytes, text, name, here, reaches, met, note, known, times, ◌>>=◌, when◌then◌else◌}
 
 -- the authors met, by the places of the words that spell them out

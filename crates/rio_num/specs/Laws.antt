@@ -1,8 +1,6 @@
 -- How the meanings of a description belong together.
 use Rattle.std.specs.Prelude.{◌≡◌, ◌≤◌, ℕ, ◌+◌, List, ◌++◌, length, Ok, Err}
-use Rattle.rio_num.specs.At.{AreBytes}
-use Rattle.rio_num.specs.Layout.{Layout}
-use Rattle.rio_num.specs.Meanings.{Standing, read, stand, Spells, Breaks, HasTaken}
+use Rattle.rio_num.specs.{At.{AreBytes}, Layout.{Layout}, Meanings.{Standing, read, stand, Spells, Breaks, HasTaken}}
 
 -- The four laws of one description. They are proved for every description.
 pub record Agrees {W F A : Type 0} (l : Layout W F A) : Type 0 where

@@ -1,8 +1,8 @@
 -- A description of what stands in bytes, from left to right: the rules of a format, each once.
 use Rattle.std.specs.Prelude.{ℕ, Bool, List, [], ◌∷◌, replicate, Option, Some, None}
 
--- What is read is an A. W are the words met, which later parts may refer to, and F are the faults.
--- Where bytes are too few, the fault is told by the place where so many are wanted.
+-- What is read is an A. W is what was met before, to which later parts may refer, as labels and names of classes; F are the
+-- faults. Where bytes are too few, the fault is made of the place and of how many bytes are wanted there.
 pub data Layout (W F : Type 0) : Type 0 → Type 1 where
   -- nothing more: this is read
   done : {A : Type 0} → A → Layout W F A
@@ -20,15 +20,16 @@ pub data Layout (W F : Type 0) : Type 0 → Type 1 where
   here : Layout W F ℕ
   -- nothing: the data go as far as this place, or else this fault
   reaches : ℕ → F → Layout W F (Unit {0})
-  -- nothing: the words met before
+  -- nothing: what was met before
   met : Layout W F W
-  -- nothing: these words are met from here on
+  -- nothing: from here on this is what was met before
   note : W → Layout W F (Unit {0})
   -- the one or the other
   choice : {A : Type 0} → Bool → Layout W F A → Layout W F A → Layout W F A
-  -- one description, and behind it the one that what is read there asks for
+  -- one description, and behind it another, which depends on what the first one reads
   behind : {A B : Type 0} → Layout W F B → (B → Layout W F A) → Layout W F A
 
+-- `x ← l` in a do-block: what l reads is x in the lines below
 infixl 10 ◌>>=◌
 abbrev pub ◌>>=◌ : {W F A B : Type 0} → Layout W F B → (B → Layout W F A) → Layout W F A
 l >>= k = behind l k
@@ -49,7 +50,7 @@ abbrev pub known : {W F A : Type 0} → F → Option A → Layout W F A
 known f None = broken f
 known f (Some a) = done a
 
--- so many bytes, which are not kept
+-- so many bytes, which are passed over
 abbrev pub any : {W F : Type 0} → (ℕ → ℕ → F) → ℕ → Layout W F (Unit {0})
 any f n = behind (bytes f n) (λ b. done tt)
 
@@ -65,7 +66,7 @@ each l (x ∷ xs) = do
 abbrev pub times : {W F Y : Type 0} → ℕ → Layout W F Y → Layout W F (List Y)
 times n l = each (λ (x : Unit {0}). l) (replicate n tt)
 
--- the same description, whose faults are told in other words
+-- the same description, with another fault for each of its faults
 unfoldable pub retold : {W F G A : Type 0} → (G → F) → Layout W G A → Layout W F A
 retold h (done a) = done a
 retold h (broken f) = broken (h f)

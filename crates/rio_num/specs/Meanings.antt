@@ -1,20 +1,17 @@
 -- What a description means: for reading, for spelling, and for the first fault.
 use Rattle.std.specs.Prelude.{◌≡◌, ◌==◌, ◌⊎◌, ℕ, true, false, ◌+◌, ◌^◌, ◌<◌, ◌≤◌, List, [], ◌∷◌, ◌++◌, length, take, Option, Some, None, Result, Ok, Err, nat_lt, if◌then◌else◌, position}
 use Rattle.byteorder.specs.Endian.{big_bytes}
-use Rattle.rio_num.specs.At.{At, end_place}
-use Rattle.rio_num.specs.Reading.{◌>>=◌, bytes_at, number_at, skip, text_at}
-use Rattle.rio_num.specs.Text.{SpellsText}
-use Rattle.rio_num.specs.declared.cursor.Short.{Short}
+use Rattle.rio_num.specs.{At.{At, end_place}, Reading.{◌>>=◌, bytes_at, number_at, skip, text_at}, Text.{SpellsText}, declared.cursor.Short.{Short}}
 use Rattle.rio_num.specs.Layout.{Layout, done, broken, number, bytes, text, name, here, reaches, met, note, choice, behind}
 
 -- ---- reading
 
--- where reading stands, and the words met before
+-- where reading stands, and what was met before
 pub record Standing (W : Type 0) : Type 0 where
   pub at : At
   pub words : W
 
--- reading stands at a place, before the bytes, behind the words
+-- reading stands at a place, before the bytes, and this was met before
 abbrev pub stand : {W : Type 0} → ℕ → List ℕ → W → Standing W
 stand place rest t = record { at = record { place = place; rest = rest }; words = t }
 
@@ -28,11 +25,12 @@ abbrev pub of_bytes : {W F A : Type 0} → (ℕ → ℕ → F) → Standing W �
 of_bytes f s (Ok x) = Ok (x.0, record s { at = x.1 })
 of_bytes f s (Err e) = Err (f e.place e.wanted)
 
--- a name that ends before the zero byte there; without one, one byte more is wanted
+-- a name as long as the place of the first zero byte says; without one, one byte more is wanted behind the data
 abbrev pub ended_name : {W F : Type 0} → (ℕ → ℕ → F) → Standing W → Option ℕ → Reading W F (List ℕ)
 ended_name f s None = Err (f (end_place s.at) 1)
 ended_name f s (Some k) = Ok (take k s.at.rest, record s { at = skip (k + 1) s.at })
 
+-- what reading gives from where it stands; of one description behind another the second is read where the first one didn't fail
 abbrev pub read : {W F A : Type 0} → Layout W F A → Standing W → Reading W F A
 read (done a) s = Ok (a, s)
 read (broken f) s = Err f
@@ -54,8 +52,9 @@ abbrev pub HasNoZero : List ℕ → Type 0
 HasNoZero [] = Unit {0}
 HasNoZero (b ∷ bs) = ((b == 0) ≡ false) × HasNoZero bs
 
--- These bytes, the first of which has the place, spell it within data that go as far as the end, where
--- the words t were met before and t' are met then.
+-- The bytes b, the first of which has the place p, spell y within data that go as far as the end, where t was met before b
+-- and t' is what was met behind it. Two descriptions are spelled by two pieces: there is (`×`) the value of the first one, its
+-- bytes, the bytes behind it, and what was met between.
 abbrev pub Spells : {W F A : Type 0} → Layout W F A → ℕ → ℕ → W → A → List ℕ → W → Type 0
 Spells (done a) end p t y b t' = (y ≡ a) × (b ≡ []) × (t' ≡ t)
 Spells (broken f) end p t y b t' = ⊥
@@ -80,8 +79,9 @@ Spells {W = W} (behind {B = B} l k) end p t y b t' =
 
 -- ---- the first fault
 
--- The bytes are no whole text, of which so many bytes are wanted: its length byte, its four bytes of
--- length too, or all of it.
+-- The bytes are the beginning of a text that isn't whole, of which n bytes are wanted: 1 where there is no byte of length;
+-- all of it behind a byte of length below 255; behind the byte 255 five, where its four bytes of length aren't whole, and
+-- else all of it.
 abbrev pub IsCutText : List ℕ → ℕ → Type 0
 IsCutText [] n = n ≡ 1
 IsCutText (b ∷ bs) n =
@@ -95,8 +95,8 @@ IsCutText (b ∷ bs) n =
     × (length own < k)
     × (n ≡ 5 + k))
 
--- These bytes, from the place to the end of the data, break it with this fault: what stands before one
--- part is spelled, and this part breaks its rule.
+-- The bytes b, from the place p to the end of the data, break it with the fault g, where t was met before: what stands before
+-- one part is spelled, and this part breaks its rule.
 abbrev pub Breaks : {W F A : Type 0} → Layout W F A → ℕ → W → List ℕ → F → Type 0
 Breaks (done a) p t b g = ⊥
 Breaks (broken f) p t b g = g ≡ f

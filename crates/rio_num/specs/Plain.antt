@@ -1,8 +1,6 @@
 -- Descriptions of what refers to nothing that stands before it.
 use Rattle.std.specs.Prelude.{◌≡◌, ℕ, ◌+◌, List, ◌++◌, length, Result, Ok, Err}
-use Rattle.rio_num.specs.At.{At}
-use Rattle.rio_num.specs.Layout.{Layout}
-use Rattle.rio_num.specs.Meanings.{Standing, Spells}
+use Rattle.rio_num.specs.{At.{At}, Layout.{Layout}, Meanings.{Standing, Spells}}
 
 abbrev pub Plain : Type 0 → Type 0 → Type 1
 Plain F A = Layout (Unit {0}) F A

@@ -1,5 +1,5 @@
 -- Names and strings as they are printed.
-use Rattle.std.specs.Prelude.{ℕ, ◌+◌, ◌/◌, ◌%◌, List, [], ◌∷◌, ◌++◌, Bool, length, nat_lt, nat_le, ◌==◌, ◌&&◌, not, if◌then◌else◌}
+use Rattle.std.specs.{Prelude.{ℕ, ◌+◌, ◌/◌, ◌%◌, List, [], ◌∷◌, ◌++◌, Bool, codes, length, nat_lt, nat_le, ◌==◌, ◌&&◌, not, if◌then◌else◌}, Fmt.{decimal}}
 use Rattle.std.specs.List.{flat_map, list_all}
 
 -- 0 to 9 and a to f
@@ -34,3 +34,7 @@ is_bare_name name = not (length name == 0) && list_all is_bare name
 -- a name of a file: as it is where that can be told apart, and else as a string
 unfoldable pub name_text : List ℕ → List ℕ
 name_text name = if is_bare_name name then name else string_text name
+
+-- NAME;CYCLE
+abbrev pub item_text : List ℕ → ℕ → List ℕ
+item_text name cycle = name_text name ++ codes ";" ++ decimal cycle

@@ -1,8 +1,7 @@
 -- Reading from left to right, with the first fault and its place.
 use Rattle.std.specs.Prelude.{◌≡◌, ℕ, ◌+◌, List, [], ◌∷◌, length, take, drop, Result, Ok, Err, Option, Some, None, Bool, nat_lt, ◌==◌, if◌then◌else◌}
 use Rattle.byteorder.specs.Endian.{big_number}
-use Rattle.rio_num.specs.declared.cursor.Short.{Short}
-use Rattle.rio_num.specs.At.{At}
+use Rattle.rio_num.specs.{declared.cursor.Short.{Short}, At.{At}}
 
 -- one reading after the other, up to the first fault
 infixl 10 ◌>>=◌

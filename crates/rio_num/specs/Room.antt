@@ -1,5 +1,5 @@
 -- Bytes, and how many more are promised to fit without memory.
-use Rattle.std.specs.Prelude.{◌≡◌, ℕ, ◌-◌, ◌%◌, ◌<◌, List, ◌++◌, length, replicate, Result, Ok, Err}
+use Rattle.std.specs.{Prelude.{◌≡◌, ℕ, ◌-◌, ◌%◌, ◌<◌, List, ◌++◌, Bool, length, nat_lt, replicate, Result, Ok, Err, ◌&&◌, ◌==◌}, List.{list_all}}
 use Rattle.rio_num.specs.declared.no_memory.NoMemory.{NoMemory}
 
 pub record Room : Type 0 where
@@ -22,3 +22,7 @@ Appends old new more (Err e) = (new ≡ old) × (old.spare < length more)
 -- zero bytes up to a length that is a multiple of four
 abbrev pub padding : List ℕ → List ℕ
 padding bytes = replicate ((4 - length bytes % 4) % 4) 0
+
+-- at most three zero bytes: what may stand behind data, up to such a length
+abbrev pub is_padding : List ℕ → Bool
+is_padding bytes = nat_lt (length bytes) 4 && list_all (λ b. b == 0) bytes

@@ -57,7 +57,7 @@ impl<'a> Cursor<'a> {
             Cursor { rest: &[], place }
         } else {
             Cursor {
-                rest: bytes_from(bytes, place - base),
+                rest: bytes_from(bytes, (place - base) as usize),
                 place,
             }
         }
@@ -156,11 +156,10 @@ impl<'a> Cursor<'a> {
     }
 }
 
-// The bytes from the one at `n` on.
-fn bytes_from(bytes: &[u8], n: u64) -> &[u8]
+/// The bytes from the one at `n` on: none where they end before.
+pub fn bytes_from(bytes: &[u8], n: usize) -> &[u8]
     ensures { result.now ≡ drop n bytes.now }
 {
-    let n = n as usize;
     if n < bytes.len() { &bytes[n..] } else { &[] }
 }
 
@@ -180,22 +179,5 @@ fn text_lengths(bytes: &[u8]) -> (u64, u64)
             }
         }
         [first, ..] => (1, u64::from(*first)),
-    }
-}
-
-#[cfg(test)]
-mod tests {
-    use super::*;
-    use std::test::Fail;
-
-    #[test]
-    fn tells_where_bytes_lack(rt: HostRuntime) -> Result<(), Fail> {
-        let short = Short {
-            place: 7,
-            wanted: 4,
-        };
-        let text = format!(in rt.alloc(); "{short}")?;
-        assert_eq!(rt; text.as_str(), "fewer than 4 bytes are left at 7");
-        Ok(())
     }
 }

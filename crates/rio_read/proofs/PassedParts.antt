@@ -1,33 +1,18 @@
 -- Parts of objects that are passed over, one after the other.
 use Rattle.std.proofs.Common.{◌≡◌, ℕ, ℤ, suc, ◌+◌, ◌-◌, ◌<◌, ◌≤◌, false, List, [], length, drop, slice_index_or, Result, Ok, Err, refl, sym, ap, ◌∙◌, arith}
 use Rattle.std.proofs.lemmas.List.{drop_more, drop_all}
-use Rattle.rio_num.specs.Reading.{◌>>=◌}
-use Rattle.rio_num.specs.Meanings.{read}
-use Rattle.rio_num.specs.Layout.{each, text, times}
-use Rattle.rio_types.specs.declared.class.Base.{Base}
-use Rattle.rio_types.specs.declared.class.ClassDef.{ClassDef}
-use Rattle.rio_types.specs.declared.class.Member.{Member}
-use Rattle.rio_types.specs.declared.kind.Kind.TheVariants.{Counter}
-use Rattle.rio_types.specs.declared.kind.Primitive.TheVariants.{I32}
-use Rattle.rio_types.specs.Members.{is_counter}
+use Rattle.rio_num.specs.{Reading.{◌>>=◌}, Meanings.{read}, Layout.{each, text, times}}
+use Rattle.rio_types.specs.{declared.class.Base.{Base}, declared.class.ClassDef.{ClassDef}, declared.class.Member.{Member}}
+use Rattle.rio_types.specs.{declared.kind.Kind.TheVariants.{Counter}, declared.kind.Primitive.TheVariants.{I32}, Members.{is_counter}}
 use Rattle.rio_value.specs.declared.value.Part.{Part}
-use Rattle.rio_value.specs.declared.value.Value.{Int, out-Value, out-roll-Value}
 use Rattle.rio_value.specs.declared.value.Value.TheOpen as layer
-use Rattle.rio_value.specs.declared.value.Value.TheVariants.{rolls-Int}
-use Rattle.rio_buffer.specs.Frames.{ObjLayout, Step, finish, pointer_word}
-use Rattle.rio_buffer.specs.ReaderState.{ReaderState}
-use Rattle.rio_buffer.specs.declared.fault.ObjFault.{ObjFault}
-use Rattle.rio_buffer.specs.declared.fault.ObjFault.TheVariants.{Short}
-use Rattle.rio_buffer.specs.declared.words.Header.{Header}
-use Rattle.rio_buffer.specs.declared.words.PointerWord.{PointerWord}
-use Rattle.rio_buffer.specs.declared.words.PointerWord.TheVariants.{New}
+use Rattle.rio_buffer.specs.{Frames.{ObjLayout, Step, finish, pointer_word}, ReaderState.{ReaderState}, declared.fault.ObjFault.{ObjFault, TheVariants.{Short}}}
+use Rattle.rio_buffer.specs.{declared.words.Header.{Header}, declared.words.PointerWord.{PointerWord, TheVariants.{New}}}
 use Rattle.rio_format.specs.Bodies.{Counters, t_named, t_obj_string}
 use Rattle.rio_format.specs.Objects.{Objects, array_parts, base_object, base_part, closed, count_of, kind_value, link, list_parts, member_part, member_parts, number_value, parts, pointed, pointer, text_value, whole_object}
+use Rattle.rio_format.proofs.ValueCases.{out_int}
 use Rattle.rio_read.specs.Passing.{counted_member, pass_of_new, counters_with_next, pass_of}
 use Rattle.rio_read.proofs.Passing.{at_end}
-
-out_int : (n : ℤ) → out-Value (Int n) ≡ layer.Int n
-out_int n = ap out-Value (sym (rolls-Int n)) ∙ out-roll-Value (layer.Int n)
 
 pub bind_assoc : {A B C E : Type 0} (r : Result A E) (f : A → Result B E) (g : B → Result C E) → ((r >>= f) >>= g) ≡ (r >>= λ x. f x >>= g)
 bind_assoc (Ok x) f g = refl

@@ -4,8 +4,7 @@ use Rattle.rio_types.specs.declared.kind.Primitive.TheVariants.{I32}
 use Rattle.rio_value.specs.declared.value.Part.{Part}
 use Rattle.rio_num.specs.Layout.{done, ◌>>=◌}
 use Rattle.rio_buffer.specs.Frames.{ObjLayout}
-use Rattle.rio_format.specs.Bodies.{part}
-use Rattle.rio_format.specs.Objects.{number_value, pid_part}
+use Rattle.rio_format.specs.{Bodies.{part}, Objects.{number_value, pid_part}}
 
 -- a counter of this name
 unfoldable pub counter_part : List ℕ → ObjLayout Part

@@ -2,13 +2,9 @@
 use Rattle.std.specs.Prelude.{◌≡◌, ℕ, ◌+◌, List, ◌++◌, length, Result, Ok}
 use Rattle.rio_types.specs.declared.class.ClassDef.{ClassDef}
 use Rattle.rio_value.specs.declared.value.Value.{Value}
-use Rattle.rio_buffer.specs.Frames.{ReadsAs}
-use Rattle.rio_num.specs.Answers.{GivesUnless}
-use Rattle.rio_num.specs.Meanings.{HasTaken, Spells, read}
+use Rattle.rio_buffer.specs.{Frames.{ReadsAs}, ReaderState.{ReaderState, WordsMet, standing}, declared.fault.ObjFault.{ObjFault, TheVariants.{NoMemory}}}
+use Rattle.rio_num.specs.{Answers.{GivesUnless}, Meanings.{HasTaken, Spells, read}}
 use Rattle.rio_format.specs.Objects.{SpellsObject, depth_limit, object_of}
-use Rattle.rio_buffer.specs.ReaderState.{ReaderState, WordsMet, standing}
-use Rattle.rio_buffer.specs.declared.fault.ObjFault.{ObjFault}
-use Rattle.rio_buffer.specs.declared.fault.ObjFault.TheVariants.{NoMemory}
 
 -- The answer is this one, unless memory ran out.
 abbrev pub Answers : {Y : Type 0} → Result Y ObjFault → Result Y ObjFault → Type 0
@@ -24,7 +20,7 @@ abbrev pub AnswersFront : List ClassDef → ℕ → List ℕ → List ℕ → Re
 AnswersFront classes start class bytes result =
     (v : Value) (front rest : List ℕ) → bytes ≡ front ++ rest → SpellsObject classes start class v front → Answers result (Ok v)
 
--- The bytes that reading passed spell the object, behind the words met before.
+-- The bytes that reading passed spell the object, behind what was met before.
 abbrev pub IsSpelled : List ClassDef → List ℕ → Value → ReaderState → ReaderState → Type 0
 IsSpelled classes class v old new = HasTaken (object_of depth_limit classes class) old v new
 

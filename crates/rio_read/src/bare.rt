@@ -3,7 +3,7 @@ ghost use Rattle.std.specs.Prelude.{◌≡◌, ◌∷◌, ◌++◌, [], pos, cod
 ghost use Rattle.rio_num.specs.At.{GoesOn};
 ghost use Rattle.rio_format.specs.Bodies.{part};
 ghost use Rattle.rio_buffer.specs.Frames.{ReadsAs};
-ghost use Rattle.rio_format.specs.Objects.{array, bare_layout, bare_object, object_of};
+ghost use Rattle.rio_format.specs.Objects.{number_array, bare_layout, bare_object, object_of};
 ghost use Rattle.rio_num.specs.Meanings.{read};
 ghost use Rattle.rio_value.specs.declared.value.Value.{Int, Object};
 ghost use Rattle.rio_read.specs.Members.{pid_parts};
@@ -101,14 +101,15 @@ fn array_of(alloc: Global, class: &[u8], items: Value) -> Result<Value, NoMemory
 }
 
 /// A TArray of the class.
-#[tactic(auto, unfolding(rio_format::specs::Objects::array))]
+#[tactic(auto, unfolding(rio_format::specs::Objects::number_array))]
 pub(crate) fn read_array(
     alloc: Global,
     reader: &mut ObjReader,
     class: &[u8],
     of: Prim,
 ) -> Result<Value, ObjFault>
-    ensures exact { ReadsAs (λ x. x) result (read (array class.now of) reader.old) reader.new }
+    ensures exact { ReadsAs (λ x. x) result (read (number_array class.now of) reader.old)
+        reader.new }
     ensures goes { GoesOn reader.old.at reader.new.at }
 {
     let count = read_count(reader, width_of(of))?;

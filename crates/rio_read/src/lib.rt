@@ -2,7 +2,8 @@
 //!
 //! `read_object` reads the object that begins some data, or answers their first fault with its place. `read_next` does
 //! the same where an `ObjReader` stands, which then stands behind the object, and `read_builtin` reads a TObject, TNamed,
-//! TObjString or TArray. An object may be 256 deep.
+//! TObjString or TArray. An object may be 256 deep. `read_number`, `read_times` and `read_text` read a number, so many of
+//! them, and a text.
 //!
 //! `pass_next` passes over the object that `read_next` would read: the reader then stands where `read_next` would leave
 //! it, and what breaks is told by the same fault. It makes no value, and keeps no more than the classes and places of
@@ -11,7 +12,8 @@
 //!
 //! The rules of objects stand once, as descriptions, in `Objects` and `Bodies` of `rio_format`; the files of `specs/` say
 //! what the readers of this crate answer by them, and what it is to keep nothing (`Passing.antt`). `rio_stream` has
-//! `read_object` and `read_builtin` with what breaks beside what is read.
+//! `read_object` and `read_builtin` with what breaks beside what is read, and their tests; those of passing over stand in
+//! `rio_rows`.
 #![tactic(auto)]
 
 mod bare;
@@ -23,6 +25,6 @@ mod pass;
 mod read;
 mod whole;
 
-pub use numbers::read_number;
+pub use numbers::{read_number, read_text, read_times};
 pub use pass::{pass_next, pass_number, pass_numbers};
 pub use read::{read_builtin, read_next, read_object};

@@ -34,18 +34,19 @@ pub fn read_number(reader: &mut ObjReader, of: Prim) -> Result<Value, ObjFault>
     }
 }
 
-fn read_times(
+/// So many numbers.
+pub fn read_times(
     alloc: Global,
     reader: &mut ObjReader,
     of: Prim,
-    count: u32,
+    count: u64,
 ) -> Result<Values, ObjFault>
     ensures exact { ReadsAs (λ x. x) result (read (times count (number_value of)) reader.old)
         reader.new }
     ensures goes { GoesOn reader.old.at reader.new.at }
 {
     let held = reader.left() / width_of(of);
-    let mut values = Values::with_capacity(alloc, held.min(u64::from(count)) as usize)?;
+    let mut values = Values::with_capacity(alloc, held.min(count) as usize)?;
     for _done in 0..count {
         values.push(read_number(reader, of)?)?;
     }
@@ -63,7 +64,7 @@ pub(crate) fn read_numbers(
     ensures exact { ReadsAs (λ x. x) result (read (numbers of count) reader.old) reader.new }
     ensures goes { GoesOn reader.old.at reader.new.at }
 {
-    Ok(Value::List(read_times(alloc, reader, of, count)?))
+    Ok(Value::List(read_times(alloc, reader, of, u64::from(count))?))
 }
 
 /// A count of items of at least `width` bytes each, which are behind it.
@@ -128,8 +129,9 @@ pub(crate) fn read_name(alloc: Global, reader: &mut ObjReader) -> Result<Name, O
     Ok(Name::from_slice(alloc, text)?)
 }
 
+/// A text.
 #[tactic(auto, unfolding(rio_format::specs::Objects::text_value))]
-pub(crate) fn read_text(alloc: Global, reader: &mut ObjReader) -> Result<Value, ObjFault>
+pub fn read_text(alloc: Global, reader: &mut ObjReader) -> Result<Value, ObjFault>
     ensures exact { ReadsAs (λ x. x) result (read text_value reader.old) reader.new }
     ensures goes { GoesOn reader.old.at reader.new.at }
 {

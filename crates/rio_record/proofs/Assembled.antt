@@ -1,10 +1,8 @@
 -- A record is put together: room for it, its key, its data, and zero bytes.
 use Rattle.std.proofs.Common.{◌≡◌, ℕ, ◌+◌, ◌≤◌, max, List, [], ◌++◌, length, length-append, sym, ap, ◌∙◌, arith}
 use Rattle.rio_num.specs.Room.{Room, padding, room_of, with_more}
-use Rattle.rio_key.specs.Written.{written_key}
-use Rattle.rio_key.specs.declared.head.KeyHead.{KeyHead}
-use Rattle.rio_record.specs.Record.{FitsWords, new_key, record_bytes, unpadded}
-use Rattle.rio_record.specs.declared.words.KeyWords.{KeyWords}
+use Rattle.rio_key.specs.{Written.{written_key}, declared.head.KeyHead.{KeyHead}}
+use Rattle.rio_record.specs.{Record.{FitsWords, new_key, record_bytes, unpadded}, declared.words.KeyWords.{KeyWords}}
 use Rattle.rio_record.proofs.Records.{is_new_record}
 
 module _ (words : KeyWords) (contents : List ℕ) (head : KeyHead) (is : head ≡ new_key words (length contents)) (n : ℕ) (long : n ≡ head.keylen + head.objlen + 4)

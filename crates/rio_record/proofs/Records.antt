@@ -1,28 +1,13 @@
 -- What a new record is.
-use Rattle.std.proofs.Common.{◌≡◌, ℕ, ◌+◌, ◌-◌, ◌%◌, ◌≤◌, pos, nat_lt, Bool, true, false, cond, List, ◌++◌, length, drop, refl, sym, ap, ◌∙◌, append_assoc, length-append, arith}
+use Rattle.std.proofs.Common.{◌≡◌, ℕ, ◌+◌, ◌-◌, ◌%◌, pos, List, ◌++◌, length, drop, refl, sym, ap, ◌∙◌, append_assoc, length-append, arith}
+use Rattle.std.proofs.{lemmas.List.{length-replicate}, Math.Seq.{drop-append_seam}}
 use Rattle.std.specs.Int.{w32, cast_unsigned}
-use Rattle.std.proofs.lemmas.List.{length-replicate}
-use Rattle.std.proofs.Math.Seq.{drop-append_seam}
-use Rattle.rio_num.specs.Room.{padding}
-use Rattle.rio_num.specs.Text.{long_form, short_form, text_bytes}
-use Rattle.rio_num.specs.Plain.{IsSpelledIn, value_of}
-use Rattle.rio_key.specs.Key.{SpellsKey, key_head_at}
-use Rattle.rio_key.specs.Written.{FitsKey, HoldsItself, number_bytes, written_key}
-use Rattle.rio_key.specs.declared.head.KeyHead.{KeyHead}
-use Rattle.rio_num.proofs.Plain.{standing}
-use Rattle.rio_key.proofs.KeyAgain.{key_again}
-use Rattle.rio_key.proofs.KeyWritten.{key_spelled}
-use Rattle.rio_record.specs.Laws.{AreNewRecords, IsNewRecord}
-use Rattle.rio_record.specs.Record.{FitsWords, key_size, new_key, padded_size, record_bytes, unpadded}
+use Rattle.rio_num.specs.{Room.{padding}, Text.{text_bytes}, Plain.{IsSpelledIn, value_of}}
+use Rattle.rio_key.specs.{Key.{SpellsKey, key_head_at}, Written.{FitsKey, HoldsItself, number_bytes, padded_size, written_key}, declared.head.KeyHead.{KeyHead}}
+use Rattle.rio_num.proofs.{Plain.{standing}, TextLengths.{text_within}}
+use Rattle.rio_key.proofs.{KeyAgain.{key_again}, KeyWritten.{key_spelled}}
+use Rattle.rio_record.specs.{Laws.{AreNewRecords, IsNewRecord}, Record.{FitsWords, key_size, new_key, record_bytes, unpadded}}
 use Rattle.rio_record.specs.declared.words.KeyWords.{KeyWords}
-
--- a text is no longer than its bytes
-text_within : (text : List ℕ) → length text ≤ length (text_bytes text)
-text_within text = by (nat_lt (length text) 255)
-  where
-    by : (b : Bool) → length text ≤ length (cond b (short_form text) (long_form text))
-    by true = omega arith
-    by false = omega arith
 
 pub key_long : (words : KeyWords) (n : ℕ) → length (written_key (new_key words n)) ≡ key_size words
 key_long words n =

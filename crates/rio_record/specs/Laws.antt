@@ -1,10 +1,9 @@
 -- What holds of every new record.
 use Rattle.std.specs.Prelude.{◌≡◌, ℕ, ◌+◌, ◌%◌, ◌<◌, List, ◌++◌, length, drop, replicate, Ok}
 use Rattle.rio_num.specs.Plain.{IsSpelledIn}
-use Rattle.rio_key.specs.Key.{SpellsKey, key_at}
+use Rattle.rio_key.specs.{Key.{SpellsKey, key_at}, Written.{padded_size}}
 use Rattle.rio_chain.specs.Segments.{IsRecord}
-use Rattle.rio_record.specs.Record.{FitsWords, key_size, new_key, padded_size, record_bytes}
-use Rattle.rio_record.specs.declared.words.KeyWords.{KeyWords}
+use Rattle.rio_record.specs.{Record.{FitsWords, key_size, new_key, record_bytes}, declared.words.KeyWords.{KeyWords}}
 
 -- A record of the chain at its place: as long as its key and its padded data, a multiple of four. Its key stands first and is
 -- read there, and behind it stand its data and at most three zero bytes.

@@ -1,19 +1,13 @@
 -- A record as it is put into a file: a key of the small form, data, and zero bytes up to a length that is a multiple of four,
 -- which count as data.
-use Rattle.std.specs.Prelude.{ℕ, ◌+◌, ◌-◌, ◌%◌, ◌^◌, ◌<◌, pos, List, ◌++◌, length}
-use Rattle.rio_num.specs.Room.{padding}
-use Rattle.rio_num.specs.Text.{text_bytes}
-use Rattle.rio_key.specs.Written.{written_key}
-use Rattle.rio_key.specs.declared.head.KeyHead.{KeyHead}
+use Rattle.std.specs.Prelude.{ℕ, ◌+◌, ◌^◌, ◌<◌, pos, List, ◌++◌, length}
+use Rattle.rio_num.specs.{Room.{padding}, Text.{text_bytes}}
+use Rattle.rio_key.specs.{Written.{padded_size, written_key}, declared.head.KeyHead.{KeyHead}}
 use Rattle.rio_record.specs.declared.words.KeyWords.{KeyWords}
 
 -- how long the key is: 26 bytes of numbers, and its texts
 abbrev pub key_size : KeyWords → ℕ
 key_size words = 26 + length (text_bytes words.class) + length (text_bytes words.name) + length (text_bytes words.title)
-
--- how long the data are with the zero bytes behind them
-abbrev pub padded_size : ℕ → ℕ → ℕ
-padded_size keylen n = n + (4 - (keylen + n) % 4) % 4
 
 -- the key of a record with n bytes of data
 abbrev pub new_key : KeyWords → ℕ → KeyHead

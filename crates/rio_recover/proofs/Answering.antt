@@ -1,30 +1,17 @@
 -- What a recovery answers, by what was walked and what was judged.
 use Rattle.std.proofs.Common.{◌≡◌, inr, inl, ◌∙◌, ℕ, List, [], ◌++◌, Bool, true, false, cond, MatchBool, Option, Some, None, Result, Ok, Err, refl, sym, ap, subst, slice_get}
-use Rattle.rio_head.specs.Form.{is_large_head}
-use Rattle.rio_head.specs.Head.{fault_at, head_at}
-use Rattle.rio_head.specs.declared.fault.FileFault.{FileFault}
-use Rattle.rio_head.specs.declared.fault.HeadFault.{HeadFault}
-use Rattle.rio_head.specs.declared.head.FileHead.{FileHead}
-use Rattle.rio_head.specs.declared.reason.Reason.{Reason}
-use Rattle.rio_head.specs.declared.reason.Reason.TheVariants.{LargeForm, NoChain}
+use Rattle.rio_head.specs.{Form.{is_large_head}, Head.{fault_at, head_at}, declared.fault.FileFault.{FileFault}, declared.fault.HeadFault.{HeadFault}}
+use Rattle.rio_head.specs.{declared.head.FileHead.{FileHead}, declared.reason.Reason.{Reason, TheVariants.{LargeForm, NoChain}}}
 use Rattle.rio_chain.specs.Segments.{BreaksAt, IsChain, Link}
 use Rattle.rio_chain.proofs.OneChain.{chain_one}
-use Rattle.rio_dir.specs.Closed.{fault_of}
-use Rattle.rio_dir.specs.Table.{AreOrdered}
-use Rattle.rio_dir.specs.Unborn.{header_fault, is_unborn}
+use Rattle.rio_dir.specs.{Closed.{fault_of}, Table.{AreOrdered}, Unborn.{header_fault, is_unborn}}
 use Rattle.rio_machine.specs.State.{State, empty_state}
-use Rattle.rio_state.proofs.OneReason.{reason_one}
-use Rattle.rio_state.proofs.StateFound.{state_found}
-use Rattle.rio_state.specs.Contents.{HasStateClasses, state_classes}
-use Rattle.rio_state.specs.KeyedRecords.{info_key, keyed_records}
-use Rattle.rio_state.specs.Reads.{ReadsAsMade, ReadsAsState}
+use Rattle.rio_state.proofs.{OneReason.{reason_one}, StateFound.{state_found}}
+use Rattle.rio_state.specs.{Contents.{HasStateClasses, state_classes}, KeyedRecords.{info_key, keyed_records}, Reads.{ReadsAsMade, ReadsAsState}}
 use Rattle.rio_state.specs.Reasons.{IsFirstReason, IsReasonOfMade, IsReasonOfSmall, ReasonAt, reason_at, room_reasons, state_reasons}
-use Rattle.rio_recover.specs.Recovered.{AreItemsOf, IsAnswer, IsKeptOf, JudgesLinks, TellsAll, TellsFault}
-use Rattle.rio_recover.specs.Walked.{IsSmallHead, IsWalked, JudgesWalk}
-use Rattle.rio_recover.specs.declared.fault.RecoverFault.{RecoverFault}
-use Rattle.rio_recover.specs.declared.fault.RecoverFault.TheVariants.{BadFile, ReadOnly, NoMemory, HostFault}
-use Rattle.rio_recover.specs.declared.recovery.Recovered.{Recovered}
-use Rattle.rio_recover.specs.declared.walked.Walked.{Walked}
+use Rattle.rio_recover.specs.{Recovered.{AreItemsOf, IsAnswer, IsKeptOf, JudgesLinks, TellsAll, TellsFault}, Walked.{IsSmallHead, IsWalked, JudgesWalk}}
+use Rattle.rio_recover.specs.declared.fault.RecoverFault.{RecoverFault, TheVariants.{BadFile, ReadOnly, NoMemory, HostFault}}
+use Rattle.rio_recover.specs.{declared.recovery.Recovered.{Recovered}, declared.walked.Walked.{Walked}}
 use Rattle.rio_recover.proofs.NoTrees.{all_items}
 
 -- ---- a file that is made

@@ -1,36 +1,23 @@
 -- Keys of objects and trees, checked one after the other.
 use Rattle.std.proofs.Common.{◌≡◌, ◌∙◌, ℕ, ◌+◌, ◌≤◌, List, [], ◌∷◌, ◌++◌, append_assoc, length, take, drop, Bool, true, false, cond, not, ◌&&◌, ◌||◌, ◌==◌, ltb, Option, Some, Err, refl, sym, ap, subst, slice_get, arith}
-use Rattle.std.proofs.lemmas.Bool.Decides.{nat_tests}
-use Rattle.std.proofs.lemmas.List.{map-append, take_all, drop_all}
-use Rattle.std.proofs.lemmas.List.Sums.{sum_by-cons}
-use Rattle.std.proofs.lemmas.List.Sorted.{IsPermutation-cons, IsPermutation-refl, IsPermutation-to_front, IsPermutation-trans, sum_by-IsPermutation}
-use Rattle.std.specs.List.{All, find, list_any, sum_by}
-use Rattle.std.specs.List.Sorted.{IsPermutation}
-use Rattle.std.specs.Option.{is_some}
-use Rattle.std.proofs.Math.Bool.{and-false, and-true}
-use Rattle.std.proofs.lemmas.Bool.{not-false, not-true}
+use Rattle.std.proofs.lemmas.List.{map-append, take_all, drop_all, Sums.{sum_by-cons}, Sorted.{IsPermutation-cons, IsPermutation-refl, IsPermutation-to_front, IsPermutation-trans, sum_by-IsPermutation}}
+use Rattle.std.proofs.{Math.Bool.{and-false, and-true}, lemmas.Bool.{not-false, not-true, Decides.{nat_tests}}}
+use Rattle.std.specs.{List.{All, find, list_any, sum_by, Sorted.{IsPermutation}}, Option.{is_some}}
 use Rattle.rio_num.specs.Word.{is_item_text}
 use Rattle.rio_types.specs.declared.class.ClassDef.{ClassDef}
-use Rattle.rio_host.specs.Host.{View}
-use Rattle.rio_host.specs.OnlyReads.{OnlyReads}
+use Rattle.rio_host.specs.{Host.{View}, OnlyReads.{OnlyReads}}
 use Rattle.rio_chain.specs.Found.{IsShortKey}
 use Rattle.rio_key.specs.declared.head.KeyHead.{KeyHead}
-use Rattle.rio_head.specs.declared.reason.Reason.{Reason}
-use Rattle.rio_head.specs.declared.reason.Reason.TheVariants.{BadKey, BadName, BadObject, BadTree, DoubleKey, MixedName}
+use Rattle.rio_head.specs.declared.reason.Reason.{Reason, TheVariants.{BadKey, BadName, BadObject, BadTree, DoubleKey, MixedName}}
 use Rattle.rio_dir.specs.Table.{is_at_cycle, with_head}
 use Rattle.rio_state.specs.Contents.{tree_of}
 use Rattle.rio_state.specs.KeyedRecords.{KeyedRecord, has_item, is_mixed_name, is_outdated, is_top_key, is_tree_key, is_tree_record, item_of_key, top_keys}
 use Rattle.rio_state.specs.Reasons.{Beside, ReasonAt, is_bad_object, is_bad_tree, key_reasons, keys_reasons, reason_at, reason_if}
-use Rattle.rio_recover.specs.Causes.{Judges}
-use Rattle.rio_recover.specs.Checks.{IsChecking, beside_of, item_reasons}
-use Rattle.rio_recover.specs.Keys.{StandsIn, keyed, keyed_by, record_heads}
-use Rattle.rio_recover.specs.Names.{IndexesNames}
-use Rattle.rio_recover.specs.declared.fault.RecoverFault.{RecoverFault}
-use Rattle.rio_recover.specs.declared.judge.KeyCheck.{KeyCheck}
-use Rattle.rio_recover.proofs.Judging.{judges_on, judges_same, none_if}
-use Rattle.rio_recover.proofs.Keyed.{any_keyed, keyed_again, top_keyed}
-use Rattle.rio_recover.proofs.Numbered.{RecordAtIndex, before_other, before_top, behind_other, behind_top}
-use Rattle.rio_recover.proofs.Tables.{some_found, with_moved}
+use Rattle.rio_state.proofs.NoReason.{none_if}
+use Rattle.rio_recover.specs.{Causes.{Judges}, Checks.{IsChecking, beside_of, item_reasons}, Keys.{StandsIn, keyed, keyed_by, record_heads}}
+use Rattle.rio_recover.specs.{Names.{IndexesNames}, declared.fault.RecoverFault.{RecoverFault}, declared.judge.KeyCheck.{KeyCheck}}
+use Rattle.rio_recover.proofs.{Judging.{judges_on, judges_same}, Keyed.{any_keyed, keyed_again, top_keyed}}
+use Rattle.rio_recover.proofs.{Numbered.{RecordAtIndex, before_other, before_top, behind_other, behind_top}, Tables.{some_found, with_moved}}
 
 -- ---- one reason
 

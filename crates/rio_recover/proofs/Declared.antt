@@ -1,17 +1,14 @@
 -- Classes that commands have declared, in a class list.
 use Rattle.std.proofs.Common.{◌≡◌, ◌∙◌, ℕ, ◌+◌, ◌<◌, ◌≤◌, add-one, drop-cons, get_or, List, [], ◌∷◌, ◌++◌, append_assoc, codes, length, take, drop, Bool, true, false, not, Some, None, Ok, Err, refl, sym, ap, subst, IsTrue, arith}
+use Rattle.std.proofs.{Math.Seq.{drop-append_seam}, lemmas.List.{drop_all, take_all, take_more}}
 use Rattle.std.specs.Prelude.{◌↔◌}
-use Rattle.std.proofs.Math.Seq.{drop-append_seam}
-use Rattle.std.proofs.lemmas.List.{drop_all, take_all, take_more}
 use Rattle.rio_types.specs.declared.class.ClassDef.{ClassDef}
 use Rattle.rio_buffer.specs.declared.fault.ObjFault.{ObjFault}
 use Rattle.rio_format.specs.TreeClasses.{tree_classes, written_classes}
 use Rattle.rio_info.proofs.ListGrowth.{last_length_decides}
-use Rattle.rio_model.specs.Declaring.{declare_fault, declared, is_reserved_name}
-use Rattle.rio_model.specs.Stated.{is_stated_class}
+use Rattle.rio_model.specs.{Declaring.{declare_fault, declared, is_reserved_name}, Stated.{is_stated_class}}
 use Rattle.rio_model.specs.StateClasses.{AreAccepted, AreDeclared, HasShortList, IsDeclared, StateClasses}
-use Rattle.rio_state.specs.Contents.{IsStateList, classes_behind, described_in, state_classes}
-use Rattle.rio_state.specs.KeyedRecords.{KeyedRecord}
+use Rattle.rio_state.specs.{Contents.{IsStateList, classes_behind, described_in, state_classes}, KeyedRecords.{KeyedRecord}}
 use Rattle.rio_recover.specs.Classes.{AreClassesOf, AreListedForState}
 
 -- ---- classes that are declared one after the other

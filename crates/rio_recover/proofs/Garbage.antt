@@ -1,13 +1,10 @@
 -- The records that nothing refers to, by their keys.
 use Rattle.std.proofs.Common.{◌≡◌, ◌∙◌, ℕ, List, [], ◌∷◌, map, Bool, true, false, cond, not, ◌&&◌, ◌||◌, ◌==◌, Option, Some, None, refl, sym, ap}
-use Rattle.std.specs.List.{filter, list_all}
 use Rattle.std.proofs.lemmas.Bool.{and_parts, not-true}
+use Rattle.std.specs.List.{filter, list_all}
 use Rattle.rio_key.specs.declared.head.KeyHead.{KeyHead}
-use Rattle.rio_state.specs.KeyedRecords.{KeyedRecord, first_place, info_key, is_top_key, is_tree_key, is_tree_record, top_keys}
-use Rattle.rio_state.specs.Reads.{info_place}
-use Rattle.rio_recover.specs.Keys.{record_heads}
-use Rattle.rio_recover.specs.Recovered.{garbage_of, is_item_record, is_left_over, place_in, places_left}
-use Rattle.rio_recover.proofs.Keyed.{head_in}
+use Rattle.rio_state.specs.{KeyedRecords.{KeyedRecord, first_place, info_key, is_top_key, is_tree_key, is_tree_record, top_keys}, Reads.{info_place}, Left.{info_head}}
+use Rattle.rio_recover.specs.{Keys.{record_heads}, Recovered.{garbage_of, is_item_record, is_left_over, place_in, places_left}}
 use Rattle.rio_recover.proofs.NoTrees.{has_no_tree}
 
 -- an item that is no tree's
@@ -44,6 +41,6 @@ module _ (tops : List KeyedRecord) (info : ℕ) where
 pub garbage_is : (rs : List KeyedRecord) → has_no_tree rs ≡ true → places_left (info_place (info_key rs)) (record_heads rs) ≡ garbage_of rs
 garbage_is rs none = sym (left_same (top_keys rs) (info_place (info_key rs)) rs none)
 
-pub info_place_is : (o : Option KeyedRecord) → place_in (head_in o) ≡ info_place o
+pub info_place_is : (o : Option KeyedRecord) → place_in (info_head o) ≡ info_place o
 info_place_is None = refl
 info_place_is (Some r) = refl

@@ -1,26 +1,14 @@
 -- A loop over the segments of a file that reads the keys of its records.
 use Rattle.std.proofs.Common.{◌≡◌, ◌∙◌, ℕ, ◌+◌, ◌^◌, ◌<◌, ◌≤◌, List, [], ◌∷◌, ◌++◌, map, length, drop, get_or, Some, Err, sym, ap, subst, slice_get, arith}
-use Rattle.std.proofs.lemmas.List.{append-nil, drop_all, length-map}
-use Rattle.std.proofs.lemmas.Option.{slice_get-get_or}
-use Rattle.std.proofs.lemmas.List.Elements.{All-cons, All-nil, All-append}
-use Rattle.rio_host.specs.Host.{IsWithin, View}
-use Rattle.rio_host.specs.OnlyReads.{OnlyReads}
+use Rattle.std.proofs.{lemmas.List.{append-nil, drop_all, length-map, Elements.{All-cons, All-nil, All-append}}, lemmas.Option.{slice_get-get_or}}
+use Rattle.rio_host.specs.{Host.{IsWithin, View}, OnlyReads.{OnlyReads}}
 use Rattle.rio_key.specs.declared.head.KeyHead.{KeyHead}
-use Rattle.rio_chain.specs.Adjoining.{AreAdjacent}
-use Rattle.rio_chain.specs.Chains.{HasChain, HoldsChain}
-use Rattle.rio_chain.specs.Found.{IsShortKey}
-use Rattle.rio_chain.specs.Placing.{file_end}
-use Rattle.rio_chain.specs.Segments.{HoldsRecord, Link, RecordAt, chain_end, segment_of}
-use Rattle.rio_chain.specs.declared.segment.Segment.{Segment}
-use Rattle.rio_chain.specs.declared.segment.Segment.TheVariants.{Record, Gap}
-use Rattle.rio_chain.proofs.Words.{word_within}
-use Rattle.rio_chain.proofs.PutChain.{map_end}
+use Rattle.rio_chain.specs.{Adjoining.{AreAdjacent}, Chains.{HasChain, HoldsChain}, Found.{IsShortKey}, Placing.{file_end}}
+use Rattle.rio_chain.specs.{Segments.{HoldsRecord, Link, RecordAt, chain_end, segment_of}, declared.segment.Segment.{Segment, TheVariants.{Record, Gap}}}
+use Rattle.rio_chain.proofs.{Words.{word_within}, PutChain.{map_end}}
 use Rattle.rio_state.specs.KeyedRecords.{KeyedRecord, keyed_records, record_in_link}
-use Rattle.rio_recover.specs.Causes.{Obtains}
-use Rattle.rio_recover.specs.Keys.{record_heads}
-use Rattle.rio_recover.specs.declared.fault.RecoverFault.{RecoverFault}
-use Rattle.rio_recover.proofs.Judging.{obtains_on}
-use Rattle.rio_recover.proofs.LinkRecords.{NextLink, NextRecord, next_gap, next_link, next_record, record_next, within_end}
+use Rattle.rio_recover.specs.{Causes.{Obtains}, Keys.{record_heads}, declared.fault.RecoverFault.{RecoverFault}}
+use Rattle.rio_recover.proofs.{Judging.{obtains_on}, LinkRecords.{NextLink, NextRecord, next_gap, next_link, next_record, record_next, within_end}}
 use Rattle.rio_recover.proofs.Walking.{HeadsSoFar, heads_more}
 
 -- segments end within the file

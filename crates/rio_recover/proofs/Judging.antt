@@ -1,17 +1,11 @@
 -- What is told of a list of reasons, one part of the list after the other.
-use Rattle.std.proofs.Common.{◌≡◌, ℕ, Bool, true, false, List, [], ◌∷◌, ◌++◌, Some, Result, Ok, Err, refl, sym, subst, slice_get}
+use Rattle.std.proofs.Common.{◌≡◌, List, [], ◌∷◌, ◌++◌, Some, Result, Ok, Err, sym, subst, slice_get}
 use Rattle.rio_host.specs.Host.{View}
-use Rattle.rio_head.specs.declared.reason.Reason.{Reason}
-use Rattle.rio_state.specs.Reasons.{ReasonAt, reason_at, reason_if}
+use Rattle.rio_state.specs.Reasons.{ReasonAt, reason_at}
 use Rattle.rio_recover.specs.Causes.{CallsNoHost, IsRecoverCause, Judges, Obtains}
-use Rattle.rio_recover.specs.declared.fault.RecoverFault.{RecoverFault}
-use Rattle.rio_recover.specs.declared.fault.RecoverFault.TheVariants.{BadFile, ReadOnly, NoMemory, HostFault}
+use Rattle.rio_recover.specs.declared.fault.RecoverFault.{RecoverFault, TheVariants.{BadFile, ReadOnly, NoMemory, HostFault}}
 
 -- ---- reasons
-
-pub none_if : (b : Bool) (place : ℕ) (reason : Reason) → b ≡ false → reason_if b place reason ≡ []
-none_if true place reason e = absurd cc
-none_if false place reason e = refl
 
 pub first_in : (xs ys : List ReasonAt) (r : ReasonAt) → slice_get xs 0 ≡ Some r → slice_get (xs ++ ys) 0 ≡ Some r
 first_in [] ys r e = absurd cc

@@ -1,21 +1,16 @@
 -- The reasons against one key: those of its name, that of its object, and those beside other keys.
 use Rattle.std.proofs.Common.{◌≡◌, ◌∙◌, ℕ, List, [], ◌∷◌, ◌++◌, length, Bool, true, false, not, ◌&&◌, ◌==◌, cond, Option, Some, Result, Err, refl, ap, slice_get}
-use Rattle.std.specs.List.{All}
-use Rattle.std.specs.Option.{is_some}
-use Rattle.std.proofs.lemmas.List.Elements.{All-cons, All-head, All-tail}
-use Rattle.std.proofs.Math.Bool.{and-false}
+use Rattle.std.proofs.{lemmas.List.Elements.{All-cons, All-head, All-tail}, Math.Bool.{and-false}}
+use Rattle.std.specs.{List.{All}, Option.{is_some}}
 use Rattle.rio_num.specs.Word.{is_item_text}
 use Rattle.rio_key.specs.declared.head.KeyHead.{KeyHead}
 use Rattle.rio_head.specs.declared.reason.Reason.TheVariants.{BadKey, BadName, BadObject}
 use Rattle.rio_dir.specs.Table.{is_before, with_head}
-use Rattle.rio_state.specs.Contents.{object_in}
-use Rattle.rio_state.specs.KeyedRecords.{KeyedRecord, is_tree_key}
+use Rattle.rio_state.specs.{Contents.{object_in}, KeyedRecords.{KeyedRecord, is_tree_key}}
 use Rattle.rio_state.specs.Reasons.{Beside, ReasonAt, is_bad_object, key_reasons, reason_at, reason_if}
-use Rattle.rio_recover.specs.Causes.{Judges}
-use Rattle.rio_recover.specs.Checks.{item_reasons}
-use Rattle.rio_recover.specs.declared.fault.RecoverFault.{RecoverFault}
-use Rattle.rio_recover.proofs.Checking.{key_parts}
-use Rattle.rio_recover.proofs.Judging.{judges_behind, judges_on, judges_same, none_if}
+use Rattle.rio_state.proofs.NoReason.{none_if}
+use Rattle.rio_recover.specs.{Causes.{Judges}, Checks.{item_reasons}, declared.fault.RecoverFault.{RecoverFault}}
+use Rattle.rio_recover.proofs.{Checking.{key_parts}, Judging.{judges_behind, judges_on, judges_same}}
 
 -- ---- its name and title
 

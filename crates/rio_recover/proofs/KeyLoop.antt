@@ -3,21 +3,14 @@ use Rattle.std.proofs.Common.{◌≡◌, ◌∙◌, ℕ, ◌+◌, ◌<◌, List,
 use Rattle.std.proofs.lemmas.List.Elements.{All-nil}
 use Rattle.std.specs.List.{All}
 use Rattle.rio_types.specs.declared.class.ClassDef.{ClassDef}
-use Rattle.rio_host.specs.Host.{View}
-use Rattle.rio_host.specs.OnlyReads.{OnlyReads}
+use Rattle.rio_host.specs.{Host.{View}, OnlyReads.{OnlyReads}}
 use Rattle.rio_host.proofs.ReadsLaws.{reads_none}
 use Rattle.rio_chain.specs.Found.{IsShortKey}
 use Rattle.rio_key.specs.declared.head.KeyHead.{KeyHead}
-use Rattle.rio_state.specs.KeyedRecords.{KeyedRecord, is_top_key, top_keys}
-use Rattle.rio_state.specs.Reasons.{Beside, key_reasons, keys_reasons}
-use Rattle.rio_recover.specs.Causes.{Judges}
-use Rattle.rio_recover.specs.Checks.{IsChecking, beside_of}
-use Rattle.rio_recover.specs.Keys.{StandsIn, keyed_by, record_heads}
-use Rattle.rio_recover.specs.Names.{IndexesNames}
-use Rattle.rio_recover.specs.declared.fault.RecoverFault.{RecoverFault}
-use Rattle.rio_recover.specs.declared.judge.KeyCheck.{KeyCheck}
-use Rattle.rio_recover.proofs.Checking.{KeysSoFar, checked, none_checked, refused, skipped}
-use Rattle.rio_recover.proofs.Numbered.{RecordAtIndex, record_at}
+use Rattle.rio_state.specs.{KeyedRecords.{KeyedRecord, is_top_key, top_keys}, Reasons.{Beside, key_reasons, keys_reasons}}
+use Rattle.rio_recover.specs.{Causes.{Judges}, Checks.{IsChecking, beside_of}, Keys.{StandsIn, keyed_by, record_heads}, Names.{IndexesNames}}
+use Rattle.rio_recover.specs.{declared.fault.RecoverFault.{RecoverFault}, declared.judge.KeyCheck.{KeyCheck}}
+use Rattle.rio_recover.proofs.{Checking.{KeysSoFar, checked, none_checked, refused, skipped}, Numbered.{RecordAtIndex, record_at}}
 
 pub keys_begin : (start : View) (classes : List ClassDef) (heads : List KeyHead) (check : KeyCheck) → IndexesNames (top_keys (keyed_by heads)) check.names → check.passed.heads ≡ []
     → KeysSoFar start start classes heads 0 check

@@ -1,10 +1,9 @@
 -- Records of which the keys alone are known, beside the records themselves.
 use Rattle.std.proofs.Common.{◌≡◌, ◌∙◌, List, [], ◌∷◌, ◌++◌, Bool, true, false, cond, ◌||◌, ltb, Option, Some, None, refl, sym, ap}
 use Rattle.std.specs.List.{filter, list_any}
-use Rattle.std.specs.Option.{option_map}
 use Rattle.rio_key.specs.declared.head.KeyHead.{KeyHead}
 use Rattle.rio_head.specs.declared.reason.Reason.TheVariants.{OtherDirectory}
-use Rattle.rio_state.specs.KeyedRecords.{KeyedRecord, info_key, is_elsewhere, is_info_key, is_top_key, later_info, top_keys}
+use Rattle.rio_state.specs.{KeyedRecords.{KeyedRecord, info_key, is_elsewhere, is_info_key, is_top_key, later_info, top_keys}, Left.{info_head}}
 use Rattle.rio_state.specs.Reasons.{ReasonAt, directory_reasons, reason_if}
 use Rattle.rio_recover.specs.Keys.{keyed, keyed_by, record_heads}
 
@@ -33,23 +32,20 @@ top_keyed rs = filter_keyed is_top_key rs
 
 -- ---- the class list that counts
 
-abbrev pub head_in : Option KeyedRecord → Option KeyHead
-head_in o = option_map (λ r. r.head) o
-
 -- of two, by their keys
 abbrev pub later_head : KeyHead → Option KeyHead → Option KeyHead
 later_head h None = Some h
 later_head h (Some later) = cond (ltb later.cycle h.cycle) (Some h) (Some later)
 
-later_by : (r s : KeyedRecord) (b : Bool) → head_in (cond b (Some r) (Some s)) ≡ cond b (Some r.head) (Some s.head)
+later_by : (r s : KeyedRecord) (b : Bool) → info_head (cond b (Some r) (Some s)) ≡ cond b (Some r.head) (Some s.head)
 later_by r s true = refl
 later_by r s false = refl
 
-pub later_keyed : (r : KeyedRecord) (o : Option KeyedRecord) → head_in (later_info r o) ≡ later_head r.head (head_in o)
+pub later_keyed : (r : KeyedRecord) (o : Option KeyedRecord) → info_head (later_info r o) ≡ later_head r.head (info_head o)
 later_keyed r None = refl
 later_keyed r (Some s) = later_by r s (ltb s.head.cycle r.head.cycle)
 
-info_by : (r : KeyedRecord) (o : Option KeyedRecord) (b : Bool) → head_in (cond b (later_info r o) o) ≡ cond b (later_head r.head (head_in o)) (head_in o)
+info_by : (r : KeyedRecord) (o : Option KeyedRecord) (b : Bool) → info_head (cond b (later_info r o) o) ≡ cond b (later_head r.head (info_head o)) (info_head o)
 info_by r o true = later_keyed r o
 info_by r o false = refl
 
@@ -58,7 +54,7 @@ abbrev pub info_head_of : List KeyHead → Option KeyHead
 info_head_of [] = None
 info_head_of (h ∷ hs) = cond (is_info_key h) (later_head h (info_head_of hs)) (info_head_of hs)
 
-pub info_head_is : (rs : List KeyedRecord) → head_in (info_key rs) ≡ info_head_of (record_heads rs)
+pub info_head_is : (rs : List KeyedRecord) → info_head (info_key rs) ≡ info_head_of (record_heads rs)
 info_head_is [] = refl
 info_head_is (r ∷ rs) = info_by r (info_key rs) (is_info_key r.head) ∙ ap (λ (o : Option KeyHead). cond (is_info_key r.head) (later_head r.head o) o) (info_head_is rs)
 
@@ -66,10 +62,10 @@ heads_again : (hs : List KeyHead) → record_heads (keyed_by hs) ≡ hs
 heads_again [] = refl
 heads_again (h ∷ hs) = ap (λ (xs : List KeyHead). h ∷ xs) (heads_again hs)
 
-pub info_head_keyed : (hs : List KeyHead) → head_in (info_key (keyed_by hs)) ≡ info_head_of hs
+pub info_head_keyed : (hs : List KeyHead) → info_head (info_key (keyed_by hs)) ≡ info_head_of hs
 info_head_keyed hs = info_head_is (keyed_by hs) ∙ ap info_head_of (heads_again hs)
 
-pub info_keyed : (rs : List KeyedRecord) → head_in (info_key (keyed_again rs)) ≡ head_in (info_key rs)
+pub info_keyed : (rs : List KeyedRecord) → info_head (info_key (keyed_again rs)) ≡ info_head (info_key rs)
 info_keyed rs = info_head_keyed (record_heads rs) ∙ sym (info_head_is rs)
 
 -- the class list that counts of an earlier one and those behind it

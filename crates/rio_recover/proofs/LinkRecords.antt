@@ -1,23 +1,16 @@
 -- The records of a file's links, one after the other.
 use Rattle.std.proofs.Common.{◌≡◌, ◌∙◌, ℕ, zero, suc, ◌+◌, ◌-◌, ◌≤◌, add-one, pos, List, [], ◌∷◌, map, length, drop, Option, Some, None, Ok, refl, sym, ap, subst, slice_get, arith}
-use Rattle.std.proofs.lemmas.List.Elements.{All-cons, All-nil}
-use Rattle.std.specs.List.{All, cons_option}
-use Rattle.std.specs.Int.{w32, cast_signed, cast_unsigned}
-use Rattle.std.proofs.lemmas.Int.{of_z-to_z}
+use Rattle.std.proofs.{lemmas.List.Elements.{All-cons, All-nil}, lemmas.Int.{of_z-to_z}}
+use Rattle.std.specs.{List.{All, cons_option}, Int.{w32, cast_signed, cast_unsigned}}
 use Rattle.rio_host.specs.Image.{Has}
 use Rattle.rio_host.proofs.Images.{has_length}
 use Rattle.rio_num.proofs.Plain.{standing}
-use Rattle.rio_key.proofs.KeyAgain.{key_again}
-use Rattle.rio_key.proofs.Signed.{signed_is}
+use Rattle.rio_key.proofs.{KeyAgain.{key_again}, Signed.{signed_is}}
 use Rattle.rio_num.specs.Plain.{value_of}
-use Rattle.rio_key.specs.Key.{key_at}
-use Rattle.rio_key.specs.declared.head.KeyHead.{KeyHead}
-use Rattle.rio_chain.specs.declared.segment.Segment.{Segment}
-use Rattle.rio_chain.specs.declared.segment.Segment.TheVariants.{Record, Gap}
-use Rattle.rio_chain.specs.Adjoining.{AreAdjacent, segment_length, segment_place, segments_end}
+use Rattle.rio_key.specs.{Key.{key_at}, declared.head.KeyHead.{KeyHead}}
+use Rattle.rio_chain.specs.{declared.segment.Segment.{Segment, TheVariants.{Record, Gap}}, Adjoining.{AreAdjacent, segment_length, segment_place, segments_end}}
 use Rattle.rio_chain.specs.Segments.{Link, RecordAt, GapAt, HoldsLink, HoldsLinks, HoldsRecord, IsRecord, link_length, segment_of}
-use Rattle.rio_chain.proofs.Placed.{end-le}
-use Rattle.rio_chain.proofs.Words.{has_same, held_long, held_positive}
+use Rattle.rio_chain.proofs.{Placed.{end-le}, Words.{has_same, held_long, held_positive}}
 use Rattle.rio_state.specs.KeyedRecords.{KeyedRecord, keyed_records, record_in_link, record_with_head}
 use Rattle.rio_recover.specs.Keys.{StandsIn, record_end, record_heads}
 

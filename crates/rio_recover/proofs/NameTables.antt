@@ -1,18 +1,14 @@
 -- The names of a file's objects and trees, kept in two tables.
 use Rattle.std.proofs.Common.{◌≡◌, ◌∙◌, ℕ, ◌+◌, List, [], ◌∷◌, ◌++◌, Bool, true, false, cond, not, ◌&&◌, ◌||◌, ltb, refl, sym, ap, arith}
-use Rattle.std.proofs.lemmas.Bool.Decides.{nat_tests}
-use Rattle.std.specs.List.{find, list_any}
-use Rattle.std.specs.Option.{is_some}
-use Rattle.std.specs.Str.{bytes_eq}
-use Rattle.std.proofs.Math.Bool.{and-false, and-true, or-false}
+use Rattle.std.proofs.{lemmas.Bool.Decides.{nat_tests}, Math.Bool.{and-false, and-true, or-false}}
+use Rattle.std.specs.{List.{find, list_any}, Option.{is_some}, Str.{bytes_eq}}
+use Rattle.rio_num.proofs.Cases.{or_turned}
 use Rattle.rio_key.specs.declared.head.KeyHead.{KeyHead}
 use Rattle.rio_dir.specs.Table.{TableRoom, greatest_cycle, is_at_cycle, is_of_name, with_head}
 use Rattle.rio_machine.specs.State.{NameAndCycle}
 use Rattle.rio_state.specs.KeyedRecords.{KeyedRecord, is_mixed_name, is_outdated, is_tree_key, item_of_key}
-use Rattle.rio_recover.specs.Keys.{keyed}
-use Rattle.rio_recover.specs.Names.{IndexesNames}
-use Rattle.rio_recover.specs.declared.names.NameIndex.{NameIndex}
-use Rattle.rio_recover.proofs.Tables.{any-append, any_put, any_same, greatest_above, or_turned, some_found}
+use Rattle.rio_recover.specs.{Keys.{keyed}, Names.{IndexesNames}, declared.names.NameIndex.{NameIndex}}
+use Rattle.rio_recover.proofs.Tables.{any-append, any_put, any_same, greatest_above, some_found}
 
 -- ---- one key more
 

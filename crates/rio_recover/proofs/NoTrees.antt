@@ -1,23 +1,15 @@
 -- Where nothing is against the keys of objects and trees, none is a tree's, since no tree is read yet.
 use Rattle.std.proofs.Common.{◌≡◌, ◌⊎◌, inl, inr, ◌∙◌, ℕ, zero, suc, ◌+◌, ◌<◌, ◌≤◌, List, [], ◌∷◌, ◌++◌, length, Bool, true, false, cond, not, ◌&&◌, ◌||◌, ltb, refl, sym, ap, subst, arith}
-use Rattle.std.proofs.lemmas.Bool.{and_parts, ltb-true}
-use Rattle.std.proofs.lemmas.List.{append-nil}
-use Rattle.std.proofs.lemmas.List.Sorted.{Contains-permutation, IsPermutation-sym}
-use Rattle.std.proofs.lemmas.List.Sums.{sum_by-cons}
-use Rattle.std.specs.List.{Contains, filter, list_all, list_any, sum_by}
-use Rattle.std.specs.Str.{bytes_eq}
+use Rattle.std.proofs.{lemmas.Bool.{and_parts, ltb-true}, lemmas.List.{append-nil, Sorted.{Contains-permutation, IsPermutation-sym}, Sums.{sum_by-cons}}}
+use Rattle.std.specs.{List.{Contains, filter, list_all, list_any, sum_by}, Str.{bytes_eq}}
 use Rattle.rio_types.specs.declared.class.ClassDef.{ClassDef}
 use Rattle.rio_key.specs.declared.head.KeyHead.{KeyHead}
 use Rattle.rio_dir.specs.Table.{AreOrdered}
-use Rattle.rio_state.proofs.NoReason.{beside_of, is_tree_read}
-use Rattle.rio_state.proofs.Unreasoned.{keys_kept, nil_two}
-use Rattle.rio_state.specs.Closing.{item_heads}
-use Rattle.rio_state.specs.Contents.{tree_of}
-use Rattle.rio_state.specs.DirectoryKeys.{AreKeysOf}
+use Rattle.rio_state.proofs.{NoReason.{beside_of, is_tree_read}, Unreasoned.{keys_kept, nil_two}}
+use Rattle.rio_state.specs.{Closing.{item_heads}, Contents.{tree_of}, DirectoryKeys.{AreKeysOf}}
 use Rattle.rio_state.specs.KeyedRecords.{KeyedRecord, info_key, is_outdated, is_tree_key, is_tree_record, object_records, top_keys, tree_records}
 use Rattle.rio_state.specs.Reasons.{Beside, directory_reasons, info_reasons, items_among, keys_reasons, state_reasons}
-use Rattle.rio_recover.specs.Keys.{record_heads}
-use Rattle.rio_recover.specs.Recovered.{AreItemsOf}
+use Rattle.rio_recover.specs.{Keys.{record_heads}, Recovered.{AreItemsOf}}
 
 -- ---- lists
 

@@ -1,8 +1,7 @@
 -- Keys and records, one after the other.
 use Rattle.std.proofs.Common.{◌≡◌, ◌∙◌, ℕ, zero, suc, ◌+◌, ◌<◌, add-one, List, [], ◌∷◌, ◌++◌, length, take, drop, get_or, Bool, true, false, cond, refl, sym, ap, arith}
+use Rattle.std.proofs.lemmas.List.{append-nil, Elements.{All-head, All-tail, filter-append}}
 use Rattle.std.specs.List.{All}
-use Rattle.std.proofs.lemmas.List.Elements.{All-head, All-tail, filter-append}
-use Rattle.std.proofs.lemmas.List.{append-nil}
 use Rattle.rio_key.specs.declared.head.KeyHead.{KeyHead}
 use Rattle.rio_state.specs.KeyedRecords.{KeyedRecord, is_top_key, top_keys}
 use Rattle.rio_recover.specs.Keys.{StandsIn, record_heads}

@@ -1,34 +1,18 @@
 -- What a walked file has, or the first reason against writing to it.
 use Rattle.std.proofs.Common.{◌≡◌, ◌∙◌, ℕ, ◌+◌, ◌^◌, ◌<◌, ◌≤◌, List, [], ◌∷◌, length, Option, Result, Ok, Err, sym, ap, subst, arith, false}
 use Rattle.std.proofs.lemmas.List.Elements.{All-head}
-use Rattle.std.specs.List.{All}
-use Rattle.std.specs.Option.{option_map_or}
-use Rattle.std.specs.Result.{IfOk}
+use Rattle.std.specs.{List.{All}, Option.{option_map_or}, Result.{IfOk}}
 use Rattle.rio_key.specs.declared.head.KeyHead.{KeyHead}
-use Rattle.rio_chain.specs.Chains.{HasChain}
-use Rattle.rio_chain.specs.Found.{IsShortKey}
-use Rattle.rio_chain.specs.Placing.{file_end}
-use Rattle.rio_chain.specs.Segments.{Link}
-use Rattle.rio_dir.specs.Table.{AreOrdered}
-use Rattle.rio_dir.specs.Unborn.{is_unborn}
+use Rattle.rio_chain.specs.{Chains.{HasChain}, Found.{IsShortKey}, Placing.{file_end}, Segments.{Link}}
+use Rattle.rio_dir.specs.{Table.{AreOrdered}, Unborn.{is_unborn}}
 use Rattle.rio_machine.specs.Limits.{item_limit}
-use Rattle.rio_state.specs.Closing.{KeptRecords, close_need, end_limit, name_in}
-use Rattle.rio_state.specs.KeyedRecords.{info_key, keyed_records}
-use Rattle.rio_state.specs.Reasons.{room_reasons}
-use Rattle.rio_recover.specs.Causes.{Judges}
-use Rattle.rio_recover.specs.Keys.{keyed_by, record_heads}
-use Rattle.rio_recover.specs.Recovered.{AreItemsOf, AreParts, HasRoomBehind, IsAnswer, IsKeptOf, JudgesLinks, kept_by}
-use Rattle.rio_recover.specs.Walked.{IsWalked}
-use Rattle.rio_recover.specs.declared.fault.RecoverFault.{RecoverFault}
-use Rattle.rio_recover.specs.declared.recovery.ReadState.{ReadState}
-use Rattle.rio_recover.specs.declared.recovery.Recovered.{Recovered}
+use Rattle.rio_state.specs.{Closing.{KeptRecords, close_need, end_limit, name_in}, KeyedRecords.{info_key, keyed_records}, Reasons.{room_reasons}, Left.{info_head}}
+use Rattle.rio_recover.specs.{Causes.{Judges}, Keys.{keyed_by, record_heads}}
+use Rattle.rio_recover.specs.{Recovered.{AreItemsOf, AreParts, HasRoomBehind, IsAnswer, IsKeptOf, JudgesLinks, kept_by}, Walked.{IsWalked}}
+use Rattle.rio_recover.specs.{declared.fault.RecoverFault.{RecoverFault}, declared.recovery.ReadState.{ReadState}, declared.recovery.Recovered.{Recovered}}
 use Rattle.rio_recover.specs.declared.walked.Walked.{Walked}
-use Rattle.rio_recover.proofs.Answering.{recovered, refused}
-use Rattle.rio_recover.proofs.Gathering.{room_walked}
-use Rattle.rio_recover.proofs.Judging.{judges_same}
-use Rattle.rio_recover.proofs.Keyed.{head_in}
-use Rattle.rio_recover.proofs.RoomReasons.{kept_with, leaves_room, room_of}
-use Rattle.rio_recover.proofs.StateJudged.{room_refused}
+use Rattle.rio_recover.proofs.{Answering.{recovered, refused}, Gathering.{room_walked}, Judging.{judges_same}}
+use Rattle.rio_recover.proofs.{RoomReasons.{kept_with, leaves_room, room_of}, StateJudged.{room_refused}}
 
 -- the file's name is short enough
 pub name_short : (heads : List KeyHead) → All IsShortKey heads → length (name_in (keyed_by heads)) < 2 ^ 32
@@ -44,7 +28,7 @@ room_tested count others end heads name seen close e n = λ i. room_of (length h
 
 module _ (file : List ℕ) (links : List Link) (walked : Walked) (chain : HasChain links walked.segments file) (heads : walked.heads ≡ record_heads (keyed_records links))
     (state : ReadState) (items : AreItemsOf (keyed_records links) state.registry state.table.heads) (name : List ℕ) (named : name ≡ name_in (keyed_by walked.heads))
-    (info : Option KeyHead) (counts : info ≡ head_in (info_key (keyed_by walked.heads))) (others : ℕ) (other : others ≡ 1 + option_map_or (λ h. 1) info 0)
+    (info : Option KeyHead) (counts : info ≡ info_head (info_key (keyed_by walked.heads))) (others : ℕ) (other : others ≡ 1 + option_map_or (λ h. 1) info 0)
     (end : ℕ) (ends : end ≡ file_end walked.segments) (seen : List ℕ) (sees : seen ≡ name) where
   reasons_same : room_of (length state.table.heads) end (kept_with seen state.table.heads others) ≡ room_reasons links
   reasons_same =

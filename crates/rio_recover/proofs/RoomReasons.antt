@@ -1,19 +1,14 @@
 -- Too many items, and no room for a close.
 use Rattle.std.proofs.Common.{◌≡◌, ◌∙◌, ℕ, ◌+◌, ◌*◌, ◌<◌, ◌≤◌, List, [], ◌∷◌, ◌++◌, length, codes, Bool, ltb, Some, ap, slice_get, arith}
-use Rattle.std.proofs.lemmas.Bool.{le-ltb, lt-ltb, ltb-false}
-use Rattle.std.proofs.lemmas.List.Elements.{All-head, All-tail}
-use Rattle.std.proofs.lemmas.List.Sums.{sum_by-cons}
+use Rattle.std.proofs.{lemmas.Bool.{le-ltb, lt-ltb, ltb-false}, lemmas.List.Elements.{All-head, All-tail}, lemmas.List.Sums.{sum_by-cons}}
 use Rattle.std.specs.List.{All}
-use Rattle.rio_key.specs.Written.{written_key}
-use Rattle.rio_key.specs.declared.head.KeyHead.{KeyHead}
+use Rattle.rio_key.specs.{Written.{written_key}, declared.head.KeyHead.{KeyHead}}
 use Rattle.rio_head.specs.declared.reason.Reason.TheVariants.{NoRoom, TooMany}
 use Rattle.rio_chain.specs.Found.{IsShortKey}
 use Rattle.rio_dir.specs.Table.{heads_size}
 use Rattle.rio_machine.specs.Limits.{head_length, item_limit}
-use Rattle.rio_state.proofs.Unreasoned.{if_none, nil_two}
-use Rattle.rio_state.specs.Closing.{KeptRecords, close_need, end_limit, padded_length}
-use Rattle.rio_state.specs.Reasons.{ReasonAt, reason_at, reason_if}
-use Rattle.rio_recover.proofs.Judging.{none_if}
+use Rattle.rio_state.proofs.{Unreasoned.{if_none, nil_two}, NoReason.{none_if}}
+use Rattle.rio_state.specs.{Closing.{KeptRecords, close_need, end_limit, padded_length}, Reasons.{ReasonAt, reason_at, reason_if}}
 
 -- short keys take few bytes together
 pub sizes_short : (heads : List KeyHead) → All IsShortKey heads → heads_size heads ≤ 65535 * length heads

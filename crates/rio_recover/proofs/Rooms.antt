@@ -1,27 +1,19 @@
 -- Whether there is room behind what was walked.
-use Rattle.std.proofs.Common.{◌≡◌, ◌∙◌, ℕ, ◌+◌, ◌*◌, List, [], ◌∷◌, ◌++◌, map, length, codes, ltb, refl, sym, ap}
-use Rattle.std.proofs.lemmas.List.{length-map}
-use Rattle.std.proofs.lemmas.List.Sorted.{length_permutation, sum_by-IsPermutation}
-use Rattle.std.specs.List.{sum_by}
-use Rattle.std.specs.Option.{option_map_or}
+use Rattle.std.proofs.Common.{◌≡◌, ◌∙◌, ℕ, ◌+◌, ◌*◌, List, [], ◌∷◌, ◌++◌, map, length, codes, ltb, sym, ap}
+use Rattle.std.proofs.lemmas.List.{length-map, Sorted.{length_permutation, sum_by-IsPermutation}}
+use Rattle.std.specs.{List.{sum_by}, Option.{option_map_or}}
 use Rattle.rio_types.specs.declared.class.ClassDef.{ClassDef}
-use Rattle.rio_key.specs.Written.{written_key}
-use Rattle.rio_key.specs.declared.head.KeyHead.{KeyHead}
+use Rattle.rio_key.specs.{Written.{written_key}, declared.head.KeyHead.{KeyHead}}
 use Rattle.rio_head.specs.declared.reason.Reason.TheVariants.{NoRoom, TooMany}
-use Rattle.rio_chain.specs.Adjoining.{segment_length, segments_end}
-use Rattle.rio_chain.specs.Placing.{file_end}
-use Rattle.rio_chain.specs.Segments.{GapAt, Link, RecordAt, chain_end, link_length, segment_of}
+use Rattle.rio_chain.specs.{Adjoining.{segments_end}, Placing.{file_end}, Segments.{Link, chain_end, segment_of}}
 use Rattle.rio_chain.specs.declared.segment.Segment.{Segment}
 use Rattle.rio_chain.proofs.PutChain.{map_end}
 use Rattle.rio_dir.specs.Table.{heads_size}
 use Rattle.rio_machine.specs.Limits.{head_length, item_limit}
 use Rattle.rio_state.specs.Closing.{KeptRecords, close_need, end_limit, item_heads, kept_count, kept_in, name_in, padded_length}
-use Rattle.rio_state.specs.KeyedRecords.{info_key, keyed_records, top_keys}
-use Rattle.rio_state.specs.Reasons.{items_among, reason_if, room_reasons}
-use Rattle.rio_recover.specs.Keys.{record_heads}
-use Rattle.rio_recover.specs.Recovered.{AreItemsOf}
-use Rattle.rio_recover.proofs.RoomReasons.{kept_with, room_of}
-use Rattle.rio_recover.proofs.NoTrees.{item_heads_are, items_are, objects_alone}
+use Rattle.rio_state.specs.{KeyedRecords.{info_key, keyed_records, top_keys}, Reasons.{items_among, reason_if, room_reasons}}
+use Rattle.rio_recover.specs.{Keys.{record_heads}, Recovered.{AreItemsOf}}
+use Rattle.rio_recover.proofs.{RoomReasons.{kept_with, room_of}, NoTrees.{item_heads_are, items_are, objects_alone}}
 
 -- ---- lengths
 
@@ -32,10 +24,6 @@ need_same a b name size count =
     λ i. sum_by padded_length ((head_length (codes "TFile") (name i) + 4 + size i) ∷ (head_length (codes "TFile") (name i) + 10 * (count i + 2)) ∷ [])
 
 -- ---- END
-
-length_same : (l : Link) → segment_length (segment_of l) ≡ link_length l
-length_same (RecordAt p bytes) = refl
-length_same (GapAt p n) = refl
 
 -- ---- reasons
 

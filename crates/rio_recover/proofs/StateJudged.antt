@@ -1,21 +1,15 @@
 -- What is told of a file's records, by the tests of their keys and of the class list.
 use Rattle.std.proofs.Common.{◌≡◌, ◌∙◌, ℕ, List, [], ◌++◌, Bool, true, false, MatchBool, Option, Some, None, Err, refl, sym, ap, slice_get}
-use Rattle.std.specs.Option.{option_map_or}
-use Rattle.std.specs.List.Sorted.{IsPermutation}
+use Rattle.std.specs.{Option.{option_map_or}, List.Sorted.{IsPermutation}}
 use Rattle.rio_types.specs.declared.class.ClassDef.{ClassDef}
 use Rattle.rio_key.specs.declared.head.KeyHead.{KeyHead}
 use Rattle.rio_head.specs.declared.reason.Reason.TheVariants.{BadInfo}
 use Rattle.rio_chain.specs.Segments.{Link}
-use Rattle.rio_state.specs.Contents.{HasStateClasses, state_classes}
-use Rattle.rio_state.specs.KeyedRecords.{KeyedRecord, info_key, keyed_records, top_keys}
+use Rattle.rio_state.specs.{Contents.{HasStateClasses, state_classes}, KeyedRecords.{KeyedRecord, info_key, keyed_records, top_keys}}
 use Rattle.rio_state.specs.Reasons.{ReasonAt, directory_reasons, info_reasons, keys_reasons, reason_at, room_reasons, state_reasons}
-use Rattle.rio_recover.specs.Causes.{Judges, Obtains}
-use Rattle.rio_recover.specs.Checks.{beside_of}
-use Rattle.rio_recover.specs.Classes.{AreClassesOf}
-use Rattle.rio_recover.specs.Keys.{record_heads}
+use Rattle.rio_recover.specs.{Causes.{Judges, Obtains}, Checks.{beside_of}, Classes.{AreClassesOf}, Keys.{record_heads}}
 use Rattle.rio_recover.specs.Recovered.{AreItemsOf, JudgesLinks, JudgesState}
-use Rattle.rio_recover.specs.declared.fault.RecoverFault.{RecoverFault}
-use Rattle.rio_recover.specs.declared.fault.RecoverFault.TheVariants.{BadFile, ReadOnly, NoMemory, HostFault}
+use Rattle.rio_recover.specs.declared.fault.RecoverFault.{RecoverFault, TheVariants.{BadFile, ReadOnly, NoMemory, HostFault}}
 use Rattle.rio_recover.proofs.Judging.{first_in, judges_on}
 
 module _ (records : List KeyedRecord) where

@@ -1,15 +1,12 @@
 -- The class list that counts among keys and among records.
 use Rattle.std.proofs.Common.{◌≡◌, ◌∙◌, List, [], ◌∷◌, Bool, true, false, cond, ltb, Option, Some, None, refl, sym, ap, subst}
-use Rattle.std.specs.List.{All}
-use Rattle.std.specs.Option.{IfSome, option_map_or}
 use Rattle.std.proofs.lemmas.List.Elements.{All-head, All-tail}
+use Rattle.std.specs.{List.{All}, Option.{IfSome, option_map_or}}
 use Rattle.rio_host.specs.Host.{IsWithin, View}
 use Rattle.rio_key.specs.declared.head.KeyHead.{KeyHead}
-use Rattle.rio_state.specs.KeyedRecords.{KeyedRecord, info_key, is_info_key, later_info}
-use Rattle.rio_state.specs.Reasons.{directory_reasons}
-use Rattle.rio_recover.specs.Keys.{AreWithin, keyed_by, record_end, record_heads}
-use Rattle.rio_recover.specs.Recovered.{place_in}
-use Rattle.rio_recover.proofs.Keyed.{directory_keyed, head_in, info_head_keyed, info_head_of, later_head}
+use Rattle.rio_state.specs.{KeyedRecords.{KeyedRecord, info_key, is_info_key, later_info}, Reasons.{directory_reasons}, Left.{info_head}}
+use Rattle.rio_recover.specs.{Keys.{AreWithin, keyed_by, record_end, record_heads}, Recovered.{place_in}}
+use Rattle.rio_recover.proofs.Keyed.{directory_keyed, info_head_keyed, info_head_of, later_head}
 
 later_among : (P : KeyHead → Type 0) (h : KeyHead) (o : Option KeyHead) → P h → IfSome o P → IfSome (later_head h o) P
 later_among P h None here rest = here
@@ -28,7 +25,7 @@ info_among P (h ∷ hs) all = by (is_info_key h) (All-head P h hs all) (info_amo
     by false here rest = rest
 
 -- its record is within the file
-pub info_within : (v : View) (hs : List KeyHead) (o : Option KeyHead) → o ≡ head_in (info_key (keyed_by hs)) → AreWithin v hs → IfSome o (λ head. IsWithin v (record_end head))
+pub info_within : (v : View) (hs : List KeyHead) (o : Option KeyHead) → o ≡ info_head (info_key (keyed_by hs)) → AreWithin v hs → IfSome o (λ head. IsWithin v (record_end head))
 info_within v hs o is within =
     subst (λ (x : Option KeyHead). IfSome x (λ head. IsWithin v (record_end head))) (sym (is ∙ info_head_keyed hs))
     (info_among (λ head. IsWithin v (record_end head)) hs (λ k d lt file told. within file told k d lt))
@@ -50,7 +47,7 @@ info_stands P (r ∷ rs) all = by (is_info_key r.head) (All-head P r rs all) (in
     by true here rest = later_stands P r (info_key rs) here rest
     by false here rest = rest
 
-pub place_seen : (o : Option KeyedRecord) → place_in (head_in o) ≡ option_map_or (λ r. r.head.seek) o 0
+pub place_seen : (o : Option KeyedRecord) → place_in (info_head o) ≡ option_map_or (λ r. r.head.seek) o 0
 place_seen None = refl
 place_seen (Some r) = refl
 

@@ -1,31 +1,18 @@
 -- A file that is walked: its header, and the keys of its records.
 use Rattle.std.proofs.Common.{◌≡◌, ◌∙◌, ℕ, ◌<◌, ◌≤◌, min, List, [], ◌∷◌, ◌++◌, append_assoc, length, length-take, take, drop, Option, Some, None, Ok, Err, sym, ap, arith}
-use Rattle.std.proofs.lemmas.Bool.{le-leb, lt-leb}
-use Rattle.std.proofs.lemmas.List.Elements.{All-cons, All-nil, All-head, All-tail}
+use Rattle.std.proofs.{lemmas.Bool.{le-leb, lt-leb}, lemmas.List.Elements.{All-cons, All-nil, All-head, All-tail}}
 use Rattle.std.specs.List.{All}
-use Rattle.rio_host.specs.Host.{View}
-use Rattle.rio_host.specs.Image.{Has}
-use Rattle.rio_host.specs.OnlyReads.{OnlyReads}
+use Rattle.rio_host.specs.{Host.{View}, Image.{Has}, OnlyReads.{OnlyReads}}
 use Rattle.rio_key.specs.declared.head.KeyHead.{KeyHead}
 use Rattle.rio_head.proofs.HeadCut.{head_in_front}
-use Rattle.rio_head.specs.Head.{head_at}
-use Rattle.rio_head.specs.declared.head.FileHead.{FileHead}
-use Rattle.rio_chain.specs.Chains.{HasChain}
-use Rattle.rio_chain.specs.Found.{FindsKeyAt, IsShortKey}
-use Rattle.rio_chain.specs.Segments.{HoldsRecord, Link, RecordAt}
-use Rattle.rio_chain.specs.Walks.{TellsFirstBreak}
-use Rattle.rio_chain.specs.declared.fault.WalkFault.{WalkFault}
-use Rattle.rio_chain.specs.declared.fault.WalkFault.TheVariants.{NoChain, NoMemory as WalkMemory, HostFault as WalkDisk}
+use Rattle.rio_head.specs.{Head.{head_at}, declared.head.FileHead.{FileHead}, declared.reason.Reason.TheVariants.{LargeForm}}
+use Rattle.rio_chain.specs.{Chains.{HasChain}, Found.{FindsKeyAt, IsShortKey}, Segments.{HoldsRecord, Link, RecordAt}, Walks.{TellsFirstBreak}}
+use Rattle.rio_chain.specs.declared.fault.WalkFault.{WalkFault, TheVariants.{NoChain, NoMemory as WalkMemory, HostFault as WalkDisk}}
 use Rattle.rio_chain.specs.declared.segment.Segment.{Segment}
 use Rattle.rio_chain.proofs.Words.{has_own, has_same}
-use Rattle.rio_state.specs.KeyedRecords.{KeyedRecord, keyed_records, record_in_link}
-use Rattle.rio_head.specs.declared.reason.Reason.TheVariants.{LargeForm}
-use Rattle.rio_state.specs.Reasons.{IsReasonOfMade, reason_at}
-use Rattle.rio_recover.specs.Causes.{fault_of_walk}
-use Rattle.rio_recover.specs.Keys.{StandsIn, record_end, record_heads}
-use Rattle.rio_recover.specs.Walked.{IsSmallHead, JudgesWalk}
-use Rattle.rio_recover.proofs.Answering.{reason_broken, reason_large}
-use Rattle.rio_recover.proofs.LinkRecords.{end_of_record, link_record}
+use Rattle.rio_state.specs.{KeyedRecords.{KeyedRecord, keyed_records, record_in_link}, Reasons.{IsReasonOfMade, reason_at}}
+use Rattle.rio_recover.specs.{Causes.{fault_of_walk}, Keys.{StandsIn, record_end, record_heads}, Walked.{IsSmallHead, JudgesWalk}}
+use Rattle.rio_recover.proofs.{Answering.{reason_broken, reason_large}, LinkRecords.{end_of_record, link_record}}
 
 -- ---- the header
 

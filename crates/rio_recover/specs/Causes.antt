@@ -2,11 +2,9 @@
 use Rattle.std.specs.Prelude.{◌≡◌, List, [], Some, Result, Ok, Err, slice_get}
 use Rattle.rio_head.specs.declared.reason.Reason.TheVariants.{NoChain}
 use Rattle.rio_host.specs.Host.{View, Rose}
-use Rattle.rio_chain.specs.declared.fault.WalkFault.{WalkFault}
-use Rattle.rio_chain.specs.declared.fault.WalkFault.TheVariants.{NoChain as Broken, NoMemory as WalkMemory, HostFault as WalkDisk}
+use Rattle.rio_chain.specs.declared.fault.WalkFault.{WalkFault, TheVariants.{NoChain as Broken, NoMemory as WalkMemory, HostFault as WalkDisk}}
 use Rattle.rio_state.specs.Reasons.{ReasonAt, reason_at}
-use Rattle.rio_recover.specs.declared.fault.RecoverFault.{RecoverFault}
-use Rattle.rio_recover.specs.declared.fault.RecoverFault.TheVariants.{BadFile, ReadOnly, NoMemory, HostFault}
+use Rattle.rio_recover.specs.declared.fault.RecoverFault.{RecoverFault, TheVariants.{BadFile, ReadOnly, NoMemory, HostFault}}
 
 -- a chain that breaks is a reason not to write to the file
 abbrev pub fault_of_walk : WalkFault → RecoverFault

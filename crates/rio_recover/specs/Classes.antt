@@ -3,8 +3,7 @@ use Rattle.std.specs.Prelude.{◌≡◌, List, Option, Some, None}
 use Rattle.rio_types.specs.declared.class.ClassDef.{ClassDef}
 use Rattle.rio_format.specs.TreeClasses.{written_classes}
 use Rattle.rio_model.specs.StateClasses.{StateClasses}
-use Rattle.rio_state.specs.Contents.{HasStateClasses, state_classes}
-use Rattle.rio_state.specs.KeyedRecords.{KeyedRecord}
+use Rattle.rio_state.specs.{Contents.{HasStateClasses, state_classes}, KeyedRecords.{KeyedRecord}}
 
 -- these are the classes of a file with this class list that counts, or they have no reading
 abbrev pub AreClassesOf : Option KeyedRecord → Option (List ClassDef) → Type 0

@@ -1,9 +1,6 @@
 -- Records by their keys.
-use Rattle.std.specs.Prelude.{◌≡◌, ℕ, ◌+◌, ◌^◌, ◌<◌, ◌≤◌, List, [], length, map, pos}
-use Rattle.std.specs.Int.{w32, cast_unsigned}
-use Rattle.std.specs.List.{All}
-use Rattle.rio_host.specs.Host.{View}
-use Rattle.rio_host.specs.Image.{Has}
+use Rattle.std.specs.{Prelude.{◌≡◌, ℕ, ◌+◌, ◌^◌, ◌<◌, ◌≤◌, List, [], length, map, pos}, Int.{w32, cast_unsigned}, List.{All}}
+use Rattle.rio_host.specs.{Host.{View}, Image.{Has}}
 use Rattle.rio_chain.specs.Walks.{Told}
 use Rattle.rio_key.specs.declared.head.KeyHead.{KeyHead}
 use Rattle.rio_state.specs.KeyedRecords.{KeyedRecord}

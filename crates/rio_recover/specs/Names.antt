@@ -1,6 +1,5 @@
 -- The names of a file's objects and trees, as they are kept to be looked up.
-use Rattle.std.specs.Prelude.{◌≡◌, List, Bool, ◌&&◌, not}
-use Rattle.std.specs.List.{list_any}
+use Rattle.std.specs.{Prelude.{◌≡◌, List, Bool, ◌&&◌, not}, List.{list_any}}
 use Rattle.rio_machine.specs.State.{NameAndCycle}
 use Rattle.rio_state.specs.KeyedRecords.{KeyedRecord, is_tree_key, item_of_key}
 use Rattle.rio_recover.specs.declared.names.NameIndex.{NameIndex}

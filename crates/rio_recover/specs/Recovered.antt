@@ -1,32 +1,17 @@
 -- What is recovered of a file that reads as a state, and what a recovery answers.
 use Rattle.std.specs.Prelude.{◌≡◌, ◌+◌, ◌≤◌, ℕ, List, [], ◌++◌, map, length, Bool, true, false, ◌==◌, ◌&&◌, ◌||◌, not, MatchBool, Option, Some, None, Result, Ok, Err, slice_get}
-use Rattle.std.specs.List.{filter}
-use Rattle.std.specs.List.Sorted.{IsPermutation}
-use Rattle.std.specs.Option.{option_map, option_map_or}
+use Rattle.std.specs.{List.{filter, Sorted.{IsPermutation}}, Option.{option_map, option_map_or}}
 use Rattle.rio_types.specs.declared.class.ClassDef.{ClassDef}
 use Rattle.rio_key.specs.declared.head.KeyHead.{KeyHead}
-use Rattle.rio_head.specs.Head.{fault_at, head_at}
-use Rattle.rio_head.specs.declared.fault.FileFault.{FileFault}
-use Rattle.rio_head.specs.declared.head.FileHead.{FileHead}
-use Rattle.rio_head.specs.declared.reason.Reason.{Reason}
-use Rattle.rio_chain.specs.Chains.{HasChain}
-use Rattle.rio_chain.specs.Placing.{file_end}
-use Rattle.rio_chain.specs.Segments.{Link}
+use Rattle.rio_head.specs.{Head.{fault_at, head_at}, declared.fault.FileFault.{FileFault}, declared.head.FileHead.{FileHead}, declared.reason.Reason.{Reason}}
+use Rattle.rio_chain.specs.{Chains.{HasChain}, Placing.{file_end}, Segments.{Link}}
 use Rattle.rio_dir.specs.Unborn.{header_fault}
-use Rattle.rio_machine.specs.Limits.{item_limit}
-use Rattle.rio_machine.specs.State.{State}
-use Rattle.rio_state.specs.Closing.{KeptRecords, close_need, end_limit, name_in}
-use Rattle.rio_state.specs.Contents.{HasStateClasses, state_classes}
-use Rattle.rio_state.specs.DirectoryKeys.{AreKeysOf}
+use Rattle.rio_machine.specs.{Limits.{item_limit}, State.{State}}
+use Rattle.rio_state.specs.{Closing.{KeptRecords, close_need, end_limit, name_in}, Contents.{HasStateClasses, state_classes}, DirectoryKeys.{AreKeysOf}}
 use Rattle.rio_state.specs.KeyedRecords.{KeyedRecord, first_place, info_key, is_top_key, is_tree_key, is_tree_record, keyed_records, top_keys}
-use Rattle.rio_state.specs.Reads.{ReadsAsState, info_place}
-use Rattle.rio_state.specs.Reasons.{IsFirstReason, ReasonAt, reason_at, room_reasons, state_reasons}
-use Rattle.rio_recover.specs.Keys.{record_heads}
-use Rattle.rio_recover.specs.declared.fault.RecoverFault.{RecoverFault}
-use Rattle.rio_recover.specs.declared.fault.RecoverFault.TheVariants.{BadFile, ReadOnly, NoMemory, HostFault}
-use Rattle.rio_recover.specs.declared.recovery.ReadState.{ReadState}
-use Rattle.rio_recover.specs.declared.recovery.Recovered.{Recovered}
-use Rattle.rio_recover.specs.declared.walked.Walked.{Walked}
+use Rattle.rio_state.specs.{Reads.{ReadsAsState, info_place}, Reasons.{IsFirstReason, ReasonAt, reason_at, room_reasons, state_reasons}}
+use Rattle.rio_recover.specs.{Keys.{record_heads}, declared.fault.RecoverFault.{RecoverFault, TheVariants.{BadFile, ReadOnly, NoMemory, HostFault}}}
+use Rattle.rio_recover.specs.{declared.recovery.ReadState.{ReadState}, declared.recovery.Recovered.{Recovered}, declared.walked.Walked.{Walked}}
 
 -- ---- garbage
 

@@ -1,15 +1,9 @@
 -- What a walk through a file answers.
 use Rattle.std.specs.Prelude.{◌≡◌, ℕ, List, false, Some, Result, Ok, Err}
-use Rattle.rio_head.specs.Form.{is_large_head}
-use Rattle.rio_head.specs.Head.{fault_at, head_at}
-use Rattle.rio_head.specs.declared.head.FileHead.{FileHead}
-use Rattle.rio_chain.specs.Chains.{HasChain}
-use Rattle.rio_chain.specs.Segments.{Link}
-use Rattle.rio_state.specs.KeyedRecords.{keyed_records}
-use Rattle.rio_state.specs.Reasons.{IsReasonOfMade, reason_at}
-use Rattle.rio_recover.specs.Keys.{record_heads}
-use Rattle.rio_recover.specs.declared.fault.RecoverFault.{RecoverFault}
-use Rattle.rio_recover.specs.declared.fault.RecoverFault.TheVariants.{BadFile, ReadOnly, NoMemory, HostFault}
+use Rattle.rio_head.specs.{Form.{is_large_head}, Head.{fault_at, head_at}, declared.head.FileHead.{FileHead}}
+use Rattle.rio_chain.specs.{Chains.{HasChain}, Segments.{Link}}
+use Rattle.rio_state.specs.{KeyedRecords.{keyed_records}, Reasons.{IsReasonOfMade, reason_at}}
+use Rattle.rio_recover.specs.{Keys.{record_heads}, declared.fault.RecoverFault.{RecoverFault, TheVariants.{BadFile, ReadOnly, NoMemory, HostFault}}}
 use Rattle.rio_recover.specs.declared.walked.Walked.{Walked}
 
 -- the header breaks no rule and has the small form

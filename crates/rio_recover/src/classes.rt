@@ -12,7 +12,7 @@ ghost use Rattle.rio_recover.specs.Classes.{AreClassesOf, AreListedForState};
 ghost use Rattle.rio_recover.specs.Keys.{StandsIn, record_end};
 
 use crate::RecoverFault;
-use crate::object::{data_of, record_bytes};
+use crate::object::record_bytes;
 use rio_buffer::ObjFault;
 use rio_decl::is_stated;
 use rio_describe::tree_classes;
@@ -142,7 +142,7 @@ fn listed_classes(alloc: Global, head: &KeyHead, bytes: &[u8]) -> Result<Option<
     if head.class.as_slice() != b"TList".as_slice() {
         return Ok(None);
     }
-    let classes = match read_info(alloc, data_of(head, bytes), u64::from(head.keylen)) {
+    let classes = match read_info(alloc, head.data_of(bytes), u64::from(head.keylen)) {
         Ok(classes) => classes,
         Err(ObjFault::NoMemory) => return Err(NoMemory),
         Err(_) => return Ok(None),

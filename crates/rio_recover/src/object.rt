@@ -1,13 +1,14 @@
 //! Whether a record stands for an object.
-ghost use Rattle.std.specs.Prelude.{◌≡◌, ◌≢◌, ◌==◌, ◌&&◌, ◌+◌, ◌<◌, ◌^◌, not, is_some, drop, length, ℕ, List, Some, IfOk, IfErr, Ok};
+ghost use Rattle.std.specs.Prelude.{◌≡◌, ◌≢◌, ◌==◌, ◌&&◌, ◌+◌, ◌<◌, ◌^◌, not, is_some, length, ℕ, List, Some, IfOk, IfErr, Ok};
 ghost use Rattle.std.specs.Int.{w32, cast_unsigned};
+ghost use Rattle.rio_num.specs.Room.{is_padding};
 ghost use Rattle.rio_format.specs.Objects.{first_at};
 ghost use Rattle.rio_host.specs.Host.{IsWithin};
 ghost use Rattle.rio_host.specs.OnlyReads.{OnlyReads};
 ghost use Rattle.rio_value.specs.declared.value.Value.{Value as Read};
 ghost use Rattle.rio_buffer.specs.Frames.{Step};
 ghost use Rattle.rio_machine.specs.Limits.{has_long_list, is_too_deep, is_too_long};
-ghost use Rattle.rio_state.specs.Contents.{can_be_stored, is_padding, object_in, stored_in};
+ghost use Rattle.rio_state.specs.Contents.{can_be_stored, object_in, stored_in};
 ghost use Rattle.rio_state.specs.KeyedRecords.{KeyedRecord};
 ghost use Rattle.rio_recover.specs.Causes.{IsRecoverCause, Obtains};
 ghost use Rattle.rio_recover.specs.Keys.{StandsIn, keyed, record_end};
@@ -48,19 +49,6 @@ pub(crate) fn record_bytes<H: Host>(
 {
     let length = head.nbytes.cast_unsigned();
     Ok(bytes_at(alloc, host, head.seek, length as usize)?)
-}
-
-/// The data of a record, where these are its bytes and this is its key: they begin at KeyLen. There are
-/// none where the bytes end before.
-pub(crate) fn data_of<'a>(head: &KeyHead, bytes: &'a [u8]) -> &'a [u8]
-    ensures { result.now ≡ drop head.now.keylen bytes.now }
-{
-    let keylen = usize::from(head.keylen);
-    if keylen < bytes.len() {
-        &bytes[keylen..]
-    } else {
-        &[]
-    }
 }
 
 // Whether at most three bytes are left, and each is zero. They are read.
@@ -132,5 +120,5 @@ pub(crate) fn is_object<H: Host>(
     ensures cause { IsRecoverCause (H.view host.old) (H.view host.new) result }
 {
     let bytes = record_bytes(alloc, host, head)?;
-    Ok(spells_object(alloc, classes, head, data_of(head, &bytes))?)
+    Ok(spells_object(alloc, classes, head, head.data_of(&bytes))?)
 }

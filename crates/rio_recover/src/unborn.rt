@@ -1,7 +1,7 @@
 //! Whether a file is made yet.
-ghost use Rattle.std.specs.Prelude.{◌≡◌, ◌==◌, IfOk, IsOk, IsErr};
+ghost use Rattle.std.specs.Prelude.{◌≡◌, ◌==◌, IfOk};
 ghost use Rattle.byteorder.specs.Endian.{big_number};
-ghost use Rattle.rio_host.specs.Host.{Rose};
+ghost use Rattle.rio_host.specs.Host.{IsDiskCause};
 ghost use Rattle.rio_host.specs.OnlyReads.{OnlyReads};
 ghost use Rattle.rio_chain.specs.Walks.{Told};
 ghost use Rattle.rio_dir.specs.Unborn.{is_unborn};
@@ -21,9 +21,7 @@ pub fn is_unborn<H: Host>(host: &mut H) -> Result<bool, HostFault>
     ensures exact { IfOk result
         (λ unborn. Told (H.view host.old) (λ file. unborn ≡ is_unborn file)) }
     ensures calls { OnlyReads (H.view host.old) (H.view host.new) }
-    ensures counted { IsOk result → (H.view host.new).disk_faults ≡ (H.view host.old).disk_faults }
-    ensures cause { IsErr result
-        → Rose (H.view host.old).disk_faults (H.view host.new).disk_faults }
+    ensures cause { IsDiskCause (H.view host.old) (H.view host.new) result }
 {
     let file_length = host.length()?;
     if file_length < 4 {

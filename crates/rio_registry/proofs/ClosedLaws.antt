@@ -1,31 +1,17 @@
 -- What classes hold is declared, so a name that isn't declared is held by a new class alone.
 use Rattle.std.proofs.Common.{◌≡◌, ℕ, zero, suc, ◌+◌, List, [], ◌∷◌, ◌++◌, length, map, take, Bool, true, false, not, ◌||◌, ◌&&◌, Option, Some, None, if◌then◌else◌, ◌⊎◌, inl, inr, ⊎_elim, refl, sym, ap, subst, ◌∙◌, arith, length-append}
-use Rattle.std.specs.Prelude.{is_some}
-use Rattle.std.specs.List.{list_all, list_any}
-use Rattle.std.specs.Option.{option_or}
-use Rattle.std.specs.Str.{bytes_eq}
-use Rattle.std.proofs.lemmas.Bool.{and_parts, or_left, or_right}
-use Rattle.std.proofs.lemmas.Cmp.{nat_list_eq_equiv}
-use Rattle.std.proofs.lemmas.List.Folds.{list_any-append}
+use Rattle.std.proofs.{lemmas.Bool.{and_parts, or_left, or_right}, lemmas.Cmp.{nat_list_eq_equiv}, lemmas.List.Folds.{list_any-append}}
 use Rattle.std.proofs.lemmas.Slice.Eq.{bytes_eq-Decides}
-use Rattle.rio_types.specs.Classes.{find_in}
-use Rattle.rio_types.specs.declared.class.Base.{Base}
-use Rattle.rio_types.specs.declared.class.ClassDef.{ClassDef}
-use Rattle.rio_types.specs.declared.class.Member.{Member}
-use Rattle.rio_types.specs.declared.kind.Kind.{Kind}
-use Rattle.rio_types.specs.declared.kind.Kind.TheVariants.{Inline}
+use Rattle.std.specs.{Prelude.{is_some}, List.{list_all, list_any}, Option.{option_or}, Str.{bytes_eq}}
+use Rattle.rio_num.proofs.Cases.{both_or_none, either}
+use Rattle.rio_types.specs.{Classes.{find_in}, declared.class.Base.{Base}, declared.class.ClassDef.{ClassDef}, declared.class.Member.{Member}}
+use Rattle.rio_types.specs.declared.kind.Kind.{Kind, TheVariants.{Inline}}
 use Rattle.rio_model.specs.Declaring.{IsClosed, IsWay, Reaches, base_declared, declare_fault, declared, has_within, holds, holds_itself, is_built_in_base, is_declared, is_inline, is_known, knows_all, knows_base, knows_kind, limit_fault}
-use Rattle.rio_model.specs.declared.declare.DeclareFault.{DeclareFault}
-use Rattle.rio_model.specs.declared.declare.DeclareFault.TheVariants.{HoldsItself, NoSuchClass, SameVersion}
-use Rattle.rio_model.proofs.ReachLaws.{or_cases, reaching_is_a_way}
+use Rattle.rio_model.specs.declared.declare.DeclareFault.{DeclareFault, TheVariants.{HoldsItself, NoSuchClass, SameVersion}}
+use Rattle.rio_model.proofs.ReachLaws.{reaching_is_a_way}
 use Rattle.rio_registry.specs.Fronts.{AreClosed}
 
 -- ---- tests
-
-pub both_ways : (a b : Bool) → (a ≡ true → b ≡ true) → (b ≡ true → a ≡ true) → a ≡ b
-both_ways true b f g = sym (f refl)
-both_ways false true f g = g refl
-both_ways false false f g = refl
 
 -- ---- one class more
 
@@ -38,7 +24,7 @@ module _ (cs : List ClassDef) (c : ClassDef) where
   base_known [] n known e = absurd cc
   base_known (b ∷ bs) n known e =
       let parts = and_parts (knows_base cs c b) (list_all (knows_base cs c) bs) known in
-      or_cases (bytes_eq n b.name) (list_any (λ b. bytes_eq n b.name) bs)
+      either (bytes_eq n b.name) (list_any (λ b. bytes_eq n b.name) bs)
       (λ t. subst (λ (m : List ℕ). (is_known cs c m || is_built_in_base m) ≡ true) (sym ((bytes_eq-Decides n b.name).0 t)) parts.0)
       (λ t. base_known bs n parts.1 t)
       e
@@ -51,7 +37,7 @@ module _ (cs : List ClassDef) (c : ClassDef) where
   member_known [] n known e = absurd cc
   member_known (m ∷ ms) n known e =
       let parts = and_parts (knows_kind cs c m.kind) (list_all (λ m. knows_kind cs c m.kind) ms) known in
-      or_cases (is_inline n m.kind) (list_any (λ m. is_inline n m.kind) ms)
+      either (is_inline n m.kind) (list_any (λ m. is_inline n m.kind) ms)
       (λ t. kind_known m.kind n parts.0 t)
       (λ t. member_known ms n parts.1 t)
       e
@@ -59,7 +45,7 @@ module _ (cs : List ClassDef) (c : ClassDef) where
   within_known : (n : List ℕ) → knows_all cs c ≡ true → has_within c n ≡ true → (is_known cs c n || is_built_in_base n) ≡ true
   within_known n known e =
       let parts = and_parts (list_all (knows_base cs c) c.bases) (list_all (λ m. knows_kind cs c m.kind) c.members) known in
-      or_cases (list_any (λ b. bytes_eq n b.name) c.bases) (list_any (λ m. is_inline n m.kind) c.members)
+      either (list_any (λ b. bytes_eq n b.name) c.bases) (list_any (λ m. is_inline n m.kind) c.members)
       (λ t. base_known c.bases n parts.0 t)
       (λ t. or_left _ _ (member_known c.members n parts.1 t))
       e
@@ -77,7 +63,7 @@ module _ (cs : List ClassDef) (c : ClassDef) where
   still_held : (n : List ℕ) → may_be_held cs n ≡ true → may_be_held (cs ++ declared cs c ∷ []) n ≡ true
   unfolding may_be_held
   still_held n e =
-      or_cases (is_declared cs n) (is_built_in_base n)
+      either (is_declared cs n) (is_built_in_base n)
       (λ t. or_left _ _ (declared_more n ∙ or_left _ _ t))
       (λ t. or_right (is_declared (cs ++ declared cs c ∷ []) n) _ t)
       e
@@ -85,8 +71,8 @@ module _ (cs : List ClassDef) (c : ClassDef) where
   known_held : (n : List ℕ) → (is_known cs c n || is_built_in_base n) ≡ true → may_be_held (cs ++ declared cs c ∷ []) n ≡ true
   unfolding may_be_held
   known_held n e =
-      or_cases (is_known cs c n) (is_built_in_base n)
-      (λ t. or_cases (is_declared cs n) (bytes_eq c.name n)
+      either (is_known cs c n) (is_built_in_base n)
+      (λ t. either (is_declared cs n) (bytes_eq c.name n)
       (λ h. or_left _ _ (declared_more n ∙ or_left _ _ h))
       (λ h. or_left _ _ (declared_more n ∙ or_right (is_declared cs n) _ (or_left _ _ h)))
       t)
@@ -96,9 +82,9 @@ module _ (cs : List ClassDef) (c : ClassDef) where
   closed_more : IsClosed cs → knows_all cs c ≡ true → IsClosed (cs ++ declared cs c ∷ [])
   unfolding may_be_held
   closed_more closed known = λ outer inner h.
-      or_cases (holds cs outer inner) ((bytes_eq c.name outer && has_within (declared cs c) inner) || false)
+      either (holds cs outer inner) ((bytes_eq c.name outer && has_within (declared cs c) inner) || false)
       (λ t. still_held inner (closed outer inner t))
-      (λ t. or_cases (bytes_eq c.name outer && has_within (declared cs c) inner) false
+      (λ t. either (bytes_eq c.name outer && has_within (declared cs c) inner) false
       (λ e. known_held inner (within_known inner known (sym (same_within inner) ∙ (and_parts (bytes_eq c.name outer) (has_within (declared cs c) inner) e).1)))
       (λ e. absurd cc)
       t)
@@ -172,7 +158,7 @@ module _ (cs : List ClassDef) (class : ClassDef) where
   pub tested : (b : Bool) → (b ≡ true → Reaches (cs ++ class ∷ []) class.name class.name) → (Reaches (cs ++ class ∷ []) class.name class.name → b ≡ true) → b ≡ holds_itself cs class
   tested b there back =
       let law = reaching_is_a_way (cs ++ class ∷ []) (length cs + 1) class.name class.name (omega (arith, length-append cs (class ∷ []))) in
-      both_ways b (holds_itself cs class) (λ e. law.1 (there e)) (λ e. back (law.0 e))
+      both_or_none b (holds_itself cs class) (λ e. law.1 (there e)) (λ e. back (law.0 e))
 
   -- a name that no declared class may hold is reached in one step or not at all
   pub new_name : IsClosed cs → (is_declared cs class.name || is_built_in_base class.name) ≡ false → has_within class class.name ≡ holds_itself cs class
@@ -181,9 +167,9 @@ module _ (cs : List ClassDef) (class : ClassDef) where
       (λ e. ([], own_holds class.name e))
       (λ way.
       let step = last_step class.name class.name way.0 way.1 in
-      or_cases (holds cs step.0 class.name) ((bytes_eq class.name step.0 && has_within class class.name) || false)
+      either (holds cs step.0 class.name) ((bytes_eq class.name step.0 && has_within class class.name) || false)
       (λ t. let clash : true ≡ false = sym (closed step.0 class.name t) ∙ apart in absurd (cc clash))
-      (λ t. or_cases (bytes_eq class.name step.0 && has_within class class.name) false
+      (λ t. either (bytes_eq class.name step.0 && has_within class class.name) false
       (λ e. (and_parts (bytes_eq class.name step.0) (has_within class class.name) e).1)
       (λ e. absurd cc)
       t)

@@ -1,16 +1,11 @@
 -- Names that are added to a list of names, each once.
 use Rattle.std.proofs.Common.{◌≡◌, ℕ, List, [], ◌∷◌, ◌++◌, map, Bool, true, false, ◌||◌, if◌then◌else◌, refl, sym, ap, subst, ◌∙◌}
-use Rattle.std.specs.Borrow.{Bor}
-use Rattle.std.specs.Cmp.Lexicographic.{same_text}
-use Rattle.std.specs.List.{IsDistinct, list_any}
-use Rattle.std.specs.Str.{bytes_eq}
-use Rattle.std.proofs.Math.Bool.{or-false, or-true}
-use Rattle.std.proofs.lemmas.Cmp.{nat_list_eq_equiv}
-use Rattle.std.proofs.lemmas.List.{append-nil, map-append}
-use Rattle.std.proofs.lemmas.List.Folds.{list_any-append}
+use Rattle.std.proofs.{Math.Bool.{or-false, or-true}, lemmas.Cmp.{nat_list_eq_equiv}, lemmas.List.{append-nil, map-append, Folds.{list_any-append}}}
 use Rattle.std.proofs.lemmas.Map.Keys.{IsDistinct-push}
+use Rattle.std.specs.{Borrow.{Bor}, Cmp.Lexicographic.{same_text}, List.{IsDistinct, list_any}, Str.{bytes_eq}}
 use Rattle.indexmap.specs.IndexSet.{insert_key}
-use Rattle.rio_registry.specs.Reaching.{IsGrown, is_among}
+use Rattle.rio_num.specs.Word.{is_among}
+use Rattle.rio_registry.specs.Reaching.{IsGrown}
 
 -- a name that isn't there
 grown_push : (xs : List (List ℕ)) (x : List ℕ) → is_among xs x ≡ false → IsGrown xs (xs ++ x ∷ []) (λ n. bytes_eq n x)

@@ -1,15 +1,12 @@
 -- The classes of one name are walked through from the last of them back, and what they hold is put among names.
 use Rattle.std.proofs.Common.{◌≡◌, ◌≤◌, ◌<◌, ℕ, suc, List, [], ◌∷◌, ◌++◌, length, drop, Bool, true, false, ◌||◌, ◌&&◌, Option, Some, None, refl, sym, ap, subst, ◌∙◌, arith}
-use Rattle.std.specs.List.{slice_get}
-use Rattle.std.specs.Cmp.Lexicographic.{same_text}
-use Rattle.std.proofs.Math.Bool.{or-false}
-use Rattle.std.proofs.lemmas.List.{append-nil, append_assoc}
-use Rattle.rio_types.specs.Chain.{last_before}
-use Rattle.rio_types.specs.Places.{is_named}
-use Rattle.rio_types.specs.declared.class.ClassDef.{ClassDef}
+use Rattle.std.proofs.{Math.Bool.{or-false}, lemmas.List.{append-nil, append_assoc}}
+use Rattle.std.specs.{List.{slice_get}, Cmp.Lexicographic.{same_text}}
+use Rattle.rio_num.specs.Word.{is_among}
+use Rattle.rio_types.specs.{Chain.{last_before}, Places.{is_named}, declared.class.ClassDef.{ClassDef}}
 use Rattle.rio_types.proofs.ChainLaws.{drop_at, drop_none, end_of, last_found, walk_back, walk_falls, walk_goes}
 use Rattle.rio_model.specs.Declaring.{has_within, holds}
-use Rattle.rio_registry.specs.Reaching.{IsGrown, is_among}
+use Rattle.rio_registry.specs.Reaching.{IsGrown}
 
 -- ---- names that are added one behind the other
 

@@ -1,24 +1,15 @@
 -- Ways through classes that hold one another, and the names that are met on them.
 use Rattle.std.proofs.Common.{◌≡◌, ◌≤◌, ◌<◌, ℕ, ◌+◌, List, [], ◌∷◌, ◌++◌, length, take, get_or, map, Bool, true, false, ◌||◌, ◌&&◌, ◌⊎◌, inl, inr, refl, sym, ap, subst, ◌∙◌, arith, length-append}
-use Rattle.std.specs.Prelude.{Some, None, slice_get}
-use Rattle.std.specs.List.{IsDistinct, list_any}
-use Rattle.std.specs.Str.{bytes_eq}
-use Rattle.std.proofs.Math.Bool.{or-false}
-use Rattle.std.proofs.lemmas.Bool.{and_from, and_parts, or_from, or_left, or_right}
-use Rattle.std.proofs.lemmas.Cmp.{nat_list_eq_equiv}
-use Rattle.std.proofs.lemmas.List.{take-append-le, take_all}
-use Rattle.std.proofs.lemmas.List.Folds.{list_any-append, list_any_at, list_any_more}
-use Rattle.std.proofs.lemmas.Map.Made.{length-le_from_is_member}
-use Rattle.std.proofs.lemmas.Option.{get_or_from_slice_get, slice_get_cases, slice_get_within}
-use Rattle.std.proofs.lemmas.Slice.Eq.{bytes_eq-Decides}
-use Rattle.rio_types.specs.declared.class.Base.{Base}
-use Rattle.rio_types.specs.declared.class.ClassDef.{ClassDef}
-use Rattle.rio_types.specs.declared.class.Member.{Member}
-use Rattle.rio_types.specs.declared.kind.Kind.{Kind}
-use Rattle.rio_types.specs.declared.kind.Kind.TheVariants.{Plain, Counter, Fixed, Counted, Text, Inline, Pointer, Other}
+use Rattle.std.proofs.{Math.Bool.{or-false}, lemmas.Bool.{and_from, and_parts, or_from, or_left, or_right}, lemmas.Cmp.{nat_list_eq_equiv}}
+use Rattle.std.proofs.{lemmas.List.{take-append-le, take_all, Folds.{list_any-append, list_any_at, list_any_more}}, lemmas.Map.Made.{length-le_from_is_member}}
+use Rattle.std.proofs.{lemmas.Option.{get_or_from_slice_get, slice_get_cases, slice_get_within}, lemmas.Slice.Eq.{bytes_eq-Decides}}
+use Rattle.std.specs.{Prelude.{Some, None, slice_get}, List.{IsDistinct, list_any}, Str.{bytes_eq}}
+use Rattle.rio_num.proofs.Cases.{either}
+use Rattle.rio_num.specs.Word.{is_among}
+use Rattle.rio_types.specs.{declared.class.Base.{Base}, declared.class.ClassDef.{ClassDef}, declared.class.Member.{Member}}
+use Rattle.rio_types.specs.declared.kind.Kind.{Kind, TheVariants.{Plain, Counter, Fixed, Counted, Text, Inline, Pointer, Other}}
 use Rattle.rio_model.specs.Declaring.{IsWay, Reaches, has_within, holds, is_inline}
-use Rattle.rio_model.proofs.ReachLaws.{or_cases}
-use Rattle.rio_registry.specs.Reaching.{ComesTo, IsGrown, is_among}
+use Rattle.rio_registry.specs.Reaching.{ComesTo, IsGrown}
 
 -- ---- tests
 
@@ -80,7 +71,7 @@ held : (classes : List ClassDef) (a b : List ℕ) → holds classes a b ≡ true
 unfolding all_held
 held [] a b h = absurd cc
 held (c ∷ cs) a b h =
-    or_cases (bytes_eq c.name a && has_within c b) (holds cs a b)
+    either (bytes_eq c.name a && has_within c b) (holds cs a b)
     (λ e. within_held c cs b (and_parts (bytes_eq c.name a) (has_within c b) e).1)
     (λ e. among-append (map (λ b. b.name) c.bases ++ inlines c.members) (all_held cs) b ∙ or_right _ _ (held cs a b e))
     h
@@ -141,9 +132,9 @@ module _ (classes : List ClassDef) where
         within = omega (arith, f.within, length-append names grown.kept.0, ap length grown.kept.1);
         distinct = grown.distinct f.distinct;
         starts = λ n h. stays n (f.starts n h);
-        come = λ n h. or_cases (is_among names n) (holds classes name n) (f.come n) (λ e. comes_further start name n (f.come name there) e) (sym (grown.names n) ∙ h);
+        come = λ n h. either (is_among names n) (holds classes name n) (f.come n) (λ e. comes_further start name n (f.come name there) e) (sym (grown.names n) ∙ h);
         closed = λ outer inner h e.
-            or_cases (is_among (take index names) outer) (bytes_eq outer name)
+            either (is_among (take index names) outer) (bytes_eq outer name)
             (λ among. stays inner (f.closed outer inner among e))
             (λ alike. grown.names inner ∙ or_right _ _ (subst (λ (n : List ℕ). holds classes n inner ≡ true) ((bytes_eq-Decides outer name).0 alike) e))
             (sym (more outer) ∙ h);
@@ -212,7 +203,7 @@ module _ (classes : List ClassDef) (class : ClassDef) where
   module _ (names : List (List ℕ)) (first : (name : List ℕ) → is_among names name ≡ (has_within class name || holds classes class.name name)) where
     first_held : (name : List ℕ) → is_among names name ≡ true → holds (classes ++ class ∷ []) class.name name ≡ true
     first_held name h =
-        or_cases (has_within class name) (holds classes class.name name) (holds_own name) (holds_still class.name name) (sym (first name) ∙ h)
+        either (has_within class name) (holds classes class.name name) (holds_own name) (holds_still class.name name) (sym (first name) ∙ h)
 
     -- what the class's own names lead to, it reaches
     pub comes_back : ComesTo classes names class.name → Reaches (classes ++ class ∷ []) class.name class.name
@@ -222,7 +213,7 @@ module _ (classes : List ClassDef) (class : ClassDef) where
     -- a way to the class's own name leads through the declared classes alone, or it has a last step from the class
     last_part : (a : List ℕ) (between : List (List ℕ)) → IsWay (classes ++ class ∷ []) a between class.name → Reaches classes a class.name ⊎ ComesTo classes names class.name
     last_part a [] way =
-        or_cases (holds classes a class.name) (bytes_eq class.name a && has_within class class.name)
+        either (holds classes a class.name) (bytes_eq class.name a && has_within class class.name)
         (λ e. inl ([], e))
         (λ e. inr (class.name, first class.name ∙ or_left _ _ (and_parts (bytes_eq class.name a) (has_within class class.name) e).1, inl refl))
         (sym (holds-more a class.name) ∙ way)
@@ -231,7 +222,7 @@ module _ (classes : List ClassDef) (class : ClassDef) where
         step : Reaches classes n class.name ⊎ ComesTo classes names class.name → Reaches classes a class.name ⊎ ComesTo classes names class.name
         step (inr comes) = inr comes
         step (inl rest) =
-            or_cases (holds classes a n) (bytes_eq class.name a && has_within class n)
+            either (holds classes a n) (bytes_eq class.name a && has_within class n)
             (λ e. inl (n ∷ rest.0, (e, rest.1)))
             (λ e. inr (n, first n ∙ or_left _ _ (and_parts (bytes_eq class.name a) (has_within class n) e).1, inr rest))
             (sym (holds-more a n) ∙ way.0)

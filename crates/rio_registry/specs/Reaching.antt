@@ -1,12 +1,8 @@
 -- Names that are reached through bases and members by value.
-use Rattle.std.specs.Prelude.{◌≡◌, ℕ, List, ◌++◌, Bool, ◌||◌, ◌⊎◌, IsTrue}
-use Rattle.std.specs.List.{IsDistinct, list_any}
-use Rattle.std.specs.Str.{bytes_eq}
+use Rattle.std.specs.{Prelude.{◌≡◌, ℕ, List, ◌++◌, Bool, ◌||◌, ◌⊎◌, IsTrue}, List.{IsDistinct}, Str.{bytes_eq}}
+use Rattle.rio_num.specs.Word.{is_among}
 use Rattle.rio_types.specs.declared.class.ClassDef.{ClassDef}
 use Rattle.rio_model.specs.Declaring.{Reaches}
-
-abbrev pub is_among : List (List ℕ) → List ℕ → Bool
-is_among names name = list_any (bytes_eq name) names
 
 -- the names are still there, and behind them the added ones; no name is there twice if none was
 pub record IsGrown (old new : List (List ℕ)) (adds : List ℕ → Bool) : Type 0 where

@@ -22,7 +22,8 @@ impl<'a> ReachedNames<'a> {
     ghost use Rattle.std.specs.Prelude.{◌≡◌, ◌<◌, ◌^◌, [], length, OnOk, slice_get};
     ghost use Rattle.std.specs.Option.{option_copied};
     ghost use Rattle.std.specs.Str.{bytes_eq};
-    ghost use Rattle.rio_registry.specs.Reaching.{IsGrown, is_among};
+    ghost use Rattle.rio_num.specs.Word.{is_among};
+    ghost use Rattle.rio_registry.specs.Reaching.{IsGrown};
 
     /// No names.
     pub(crate) fn new(alloc: Global) -> ReachedNames<'a>

@@ -1,29 +1,22 @@
 -- What is listed of a state by the keys of its objects.
-use Rattle.std.proofs.Common.{◌≡◌, ◌&&◌, ℕ, Bool, List, [], ◌∷◌, ◌++◌, T, codes, map, length, Result, Ok, Err, IfOk, refl, sym, ap, subst, ◌∙◌, arith}
-use Rattle.std.proofs.lemmas.List.{append-nil, length-map}
+use Rattle.std.proofs.Common.{◌≡◌, ◌&&◌, ℕ, Bool, List, [], ◌∷◌, ◌++◌, T, codes, map, length, Result, Ok, Err, IfOk, refl, sym, ap, subst, ◌∙◌}
+use Rattle.std.proofs.lemmas.List.{append-nil, length-map, nil_from_length}
 use Rattle.std.specs.List.{flat_map}
-use Rattle.std.specs.FinMap.{FinMap, empty, entries, entries-from_sorted, entries_sorted, from_entries, from_sorted, get-from_entries, get-from_sorted, is_sorted, len-empty, len-entries, same_map}
-use Rattle.std.specs.FinMap.Entries.{below_all}
+use Rattle.std.specs.FinMap.{FinMap, empty, entries, entries-from_sorted, entries_sorted, from_entries, from_sorted, get-from_entries, get-from_sorted, is_sorted, len-empty, len-entries, same_map, Entries.{below_all}}
 use Rattle.std.specs.Ordering.{is_lt}
-use Rattle.rio_machine.specs.RefusalText.{numbered}
-use Rattle.rio_num.specs.Room.{Room}
+use Rattle.rio_machine.specs.{RefusalText.{numbered}, State.{NameAndCycle, State, Tree, item_order}}
+use Rattle.rio_num.specs.{Room.{Room}, Word.{name_order}}
 use Rattle.rio_value.specs.declared.value.Value.{Value}
 use Rattle.rio_buffer.specs.declared.fault.ObjFault.{ObjFault}
 use Rattle.rio_key.specs.declared.head.KeyHead.{KeyHead}
-use Rattle.rio_machine.specs.State.{NameAndCycle, State, Tree, item_order, name_order}
 use Rattle.rio_machine.proofs.OrderLaws.{items_tie, items_total}
-use Rattle.rio_step.specs.ItemKeys.{AreKeysOfState, told_by_key}
-use Rattle.rio_step.specs.ReplyText.{item_lines, text_of}
+use Rattle.rio_step.specs.{ItemKeys.{AreKeysOfState, told_by_key}, ReplyText.{item_lines, text_of}}
 use Rattle.rio_step.specs.Step.{Listed, items_listed, items_of, listed_object, listed_tree, object_told}
 use Rattle.rio_reply.specs.Told.{listed_line, listing_of, told_of}
 
-no_length : {A : Type 0} (xs : List A) → length xs ≡ 0 → xs ≡ []
-no_length [] e = refl
-no_length (x ∷ xs) e = absurd (omega arith)
-
 -- no trees, no entries
-entries-empty : entries (empty {X = Tree} {R = name_order}) ≡ []
-entries-empty = no_length _ (sym (len-entries (empty {X = Tree} {R = name_order})) ∙ len-empty name_order Tree)
+pub entries-empty : entries (empty {X = Tree} {R = name_order}) ≡ []
+entries-empty = nil_from_length _ (sym (len-entries (empty {X = Tree} {R = name_order})) ∙ len-empty name_order Tree)
 
 -- what stands in the order of its keys is listed as it stands
 entries-from_entries : (es : List (NameAndCycle × Listed)) → T (is_sorted item_order es) → entries (from_entries {R = item_order} es) ≡ es

@@ -1,13 +1,12 @@
 -- What is told by a key: a line of a listing, and what its record holds.
-use Rattle.std.specs.Prelude.{ℕ, List, ◌++◌, codes, length, Result}
-use Rattle.std.specs.List.{flat_map}
+use Rattle.std.specs.{Prelude.{ℕ, List, ◌++◌, codes, length, Result}, List.{flat_map}}
 use Rattle.rio_value.specs.declared.value.Value.{Value}
 use Rattle.rio_buffer.specs.declared.fault.ObjFault.{ObjFault}
 use Rattle.rio_key.specs.declared.head.KeyHead.{KeyHead}
+use Rattle.rio_num.specs.Printed.{item_text}
 use Rattle.rio_machine.specs.RefusalText.{numbered}
 use Rattle.rio_meaning.specs.Dump.{value_or_fault}
-use Rattle.rio_step.specs.ItemKeys.{told_by_key}
-use Rattle.rio_step.specs.ReplyText.{item_text, listed_text}
+use Rattle.rio_step.specs.{ItemKeys.{told_by_key}, ReplyText.{listed_text}}
 
 -- NAME;CYCLE CLASS
 abbrev pub listed_line : KeyHead → List ℕ

@@ -12,18 +12,6 @@ use rio_types::Classes;
 use rio_valtext::print_value;
 use std::alloc::Global;
 
-// The bytes behind the key of a record.
-fn data_of<'a>(head: &KeyHead, bytes: &'a [u8]) -> &'a [u8]
-    ensures { result.now ≡ drop head.now.keylen bytes.now }
-{
-    let keylen = usize::from(head.keylen);
-    if keylen <= bytes.len() {
-        &bytes[keylen..]
-    } else {
-        &[]
-    }
-}
-
 /// Puts the value at the end that the data of this record spell, or `fault`, the kind of its fault and its numbers.
 pub fn put_stored(
     alloc: Global,
@@ -40,7 +28,7 @@ pub fn put_stored(
         alloc,
         classes,
         head.class.as_slice(),
-        data_of(head, bytes),
+        head.data_of(bytes),
         u64::from(head.keylen),
     ) {
         Ok(value) => print_value(&value, text),

@@ -1,30 +1,19 @@
 -- Where the numbers of all counters are made, a row of whose other entries nothing is made has the refusals of a sweep, and of
 -- its values what is made of them.
 use Rattle.std.proofs.Common.{◌≡◌, true≢false, ℕ, zero, suc, List, [], ◌∷◌, ◌++◌, length, map, slice_get, slice_set, Bool, true, false, is_some, Option, Some, None, unwrap_or, ℤ, refl, sym, ap, subst, ◌∙◌, replicate}
-use Rattle.std.specs.Prelude.{if◌then◌else◌}
-use Rattle.std.specs.List.{flat_map, list_any}
-use Rattle.std.specs.Option.{option_or}
-use Rattle.std.specs.Str.{bytes_eq}
+use Rattle.std.specs.{Prelude.{if◌then◌else◌}, List.{flat_map, list_any}, Option.{option_or}, Str.{bytes_eq}}
 use Rattle.rio_types.specs.declared.class.ClassDef.{ClassDef}
-use Rattle.rio_leaf.specs.declared.leaf.Dim.{Dim}
-use Rattle.rio_leaf.specs.declared.leaf.Dim.TheVariants.{One, Fixed, Counted}
-use Rattle.rio_leaf.specs.declared.leaf.Leaf.{Leaf}
-use Rattle.rio_tree_head.specs.declared.head.Branch.{Branch}
-use Rattle.rio_tree_head.specs.declared.refusal.BranchRefusal.{BranchRefusal}
-use Rattle.rio_tree_head.specs.declared.refusal.BranchRefusal.TheVariants.{BadEntry}
+use Rattle.rio_leaf.specs.{declared.leaf.Dim.{Dim, TheVariants.{One, Fixed, Counted}}, declared.leaf.Leaf.{Leaf}}
+use Rattle.rio_tree_head.specs.{declared.head.Branch.{Branch}, declared.refusal.BranchRefusal.{BranchRefusal, TheVariants.{BadEntry}}, Header.{branch_leaves}}
 use Rattle.rio_value.specs.declared.value.Value.{Value}
 use Rattle.rio_entry.specs.Leaves.{last_number, number_alone, said_by}
 use Rattle.rio_entry.proofs.LeafNumbers.{integer_says}
-use Rattle.rio_scan.specs.declared.row.Row.{Row}
-use Rattle.rio_scan.specs.Counters.{branch_leaves, counts_if_any, leaf_count, number_in_branch, number_said, values_there}
-use Rattle.rio_scan.specs.Refusals.{refused_unless}
-use Rattle.rio_scan.specs.Rows.{values_if_read, values_of_branch}
-use Rattle.rio_scan.specs.StoredEntries.{branch_entry}
+use Rattle.rio_scan.specs.{declared.row.Row.{Row}, Counters.{counts_if_any, leaf_count, number_in_branch, number_said, values_or_none}}
+use Rattle.rio_scan.specs.{Refusals.{refused_unless}, Rows.{values_if_read, values_of_branch}, StoredEntries.{branch_entry}}
 use Rattle.rio_scan.specs.Sweeps.{empty_row, refusal_before, refusal_behind, sweep_one, values_kept, with_branch}
 use Rattle.rio_scan.proofs.SweepLaws.{or_left, or_right}
 use Rattle.rio_report.specs.Checked.{CountersMade, counters_alone, is_nothing, made_of, made_one, made_there, made_values, row_made, values_made, with_numbers}
-use Rattle.rio_report.specs.declared.checked.Made.{Made}
-use Rattle.rio_report.specs.declared.checked.Made.TheVariants.{Whole, Numbers, Nothing}
+use Rattle.rio_report.specs.declared.checked.Made.{Made, TheVariants.{Whole, Numbers, Nothing}}
 
 -- ---- of which branches nothing is made
 
@@ -102,7 +91,7 @@ same_in name (Some b) Numbers vs e found = same_last name (branch_leaves b) vs f
 same_in name b Nothing vs e found = absurd (true≢false e)
 
 same_there : (name : List ℕ) (b : Option Branch) (ms : List Made) (row : List (List Value)) (k : ℕ) → none_made ms k ≡ false → (found : Option ℤ)
-    → number_in_branch name b (values_there (slice_get (values_made ms row) k)) found ≡ number_in_branch name b (values_there (slice_get row k)) found
+    → number_in_branch name b (values_or_none (slice_get (values_made ms row) k)) found ≡ number_in_branch name b (values_or_none (slice_get row k)) found
 same_there name b [] row k e found = refl
 same_there name b (m ∷ ms) [] k e found = refl
 same_there name b (m ∷ ms) (vs ∷ row) zero e found = same_in name b m vs e found

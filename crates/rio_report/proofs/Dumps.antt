@@ -1,20 +1,13 @@
 -- What is said of a file that breaks no rule is its listing, and a fault in reading it is one of its listing.
 use Rattle.std.proofs.Common.{◌≡◌, ℕ, List, Option, Some, Result, Ok, Err, refl, sym, ap}
 use Rattle.rio_num.specs.Reading.{◌>>=◌}
-use Rattle.rio_head.specs.declared.fault.FileFault.{FileFault}
-use Rattle.rio_head.specs.declared.fault.HeadFault.{HeadFault}
-use Rattle.rio_host.specs.Host.{View}
-use Rattle.rio_host.specs.OnlyReads.{OnlySaysPieces, Says}
+use Rattle.rio_head.specs.{declared.fault.FileFault.{FileFault}, declared.fault.HeadFault.{HeadFault}}
+use Rattle.rio_host.specs.{Host.{View}, OnlyReads.{OnlySaysPieces, Says}}
 use Rattle.rio_host.proofs.PiecesLaws.{pieces_as, pieces_part}
 use Rattle.rio_dir.specs.Listing.{said_listing}
-use Rattle.rio_meaning.specs.declared.described.Described.{Described}
-use Rattle.rio_meaning.specs.declared.item.Item.{Item}
-use Rattle.rio_meaning.specs.Described.{described_file}
-use Rattle.rio_meaning.specs.Dump.{dump_text, dumped_file}
-use Rattle.rio_close.specs.Causes.{IsHostCauseOf, IsSayCauseOf, NoKind}
-use Rattle.rio_close.specs.Opens.{Opens}
-use Rattle.rio_close.specs.declared.fault.ReportFault.{ReportFault}
-use Rattle.rio_close.specs.declared.fault.ReportFault.TheVariants.{BadFile, NoMemory, HostFault, SayFault}
+use Rattle.rio_meaning.specs.{declared.described.Described.{Described}, declared.item.Item.{Item}, Described.{described_file}, Dump.{dump_text, dumped_file}}
+use Rattle.rio_close.specs.{Causes.{IsHostCauseOf, IsSayCauseOf, NoKind}, Opens.{Opens}}
+use Rattle.rio_close.specs.declared.fault.ReportFault.{ReportFault, TheVariants.{BadFile, NoMemory, HostFault, SayFault}}
 use Rattle.rio_report.specs.Lists.{AnswersOf, IsDone, ListingAnswer, ListingOf}
 
 module _ (item : Option Item) (file : List ℕ) where
@@ -55,5 +48,5 @@ module _ (listing : ListingOf) (text_of : List ℕ → List ℕ) (a d : View) (i
   told_calls (Err e) says = pieces_as text_of (λ file. said_listing (listing file)) listing_is says
 
   pub told_done : (r : ListingAnswer) → Says text_of a d r → IsDone listing a d r
-  told_done (Ok x) says = λ file told. rw (is file told) (says.part file told)
+  told_done (Ok x) says = λ file told. rw (is file told) (says.extent_said file told)
   told_done (Err e) says = tt

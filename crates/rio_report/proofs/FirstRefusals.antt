@@ -1,23 +1,16 @@
 -- The refusal of a branch before any entry is looked at.
 use Rattle.std.proofs.Common.{◌≡◌, true≢false, true, false, is_some, ℕ, List, Option, Some, None, refl, sym, ap, ◌∙◌}
 use Rattle.std.specs.Option.{option_or}
+use Rattle.rio_num.proofs.Cases.{or_none}
 use Rattle.rio_types.specs.declared.class.ClassDef.{ClassDef}
-use Rattle.rio_tree_head.specs.declared.head.Branch.{Branch}
-use Rattle.rio_tree_head.specs.declared.refusal.BranchRefusal.{BranchRefusal}
-use Rattle.rio_tree_head.specs.declared.refusal.BranchRefusal.TheVariants.{NoCounter}
-use Rattle.rio_scan.specs.Counters.{counters_are_read}
-use Rattle.rio_scan.specs.Refusals.{branch_refusal, file_refusal, refused_first, refused_unless}
-use Rattle.rio_scan.specs.StoredEntries.{baskets_refusal}
-use Rattle.rio_scan.specs.Sweeps.{refusal_before}
+use Rattle.rio_tree_head.specs.{declared.head.Branch.{Branch}, declared.refusal.BranchRefusal.{BranchRefusal, TheVariants.{NoCounter}}}
+use Rattle.rio_scan.specs.{Counters.{counters_are_read}, Refusals.{branch_refusal, file_refusal, refused_first, refused_unless}}
+use Rattle.rio_scan.specs.{StoredEntries.{baskets_refusal}, Sweeps.{refusal_before}}
 
 or_again : (a u r x : Option BranchRefusal) → option_or a (option_or u (option_or r x)) ≡ option_or (option_or a (option_or u r)) x
 or_again (Some y) u r x = refl
 or_again None (Some y) r x = refl
 or_again None None r x = refl
-
-or_none : (o : Option BranchRefusal) → option_or o None ≡ o
-or_none None = refl
-or_none (Some x) = refl
 
 module _ (file : List ℕ) (classes : List ClassDef) (before : List Branch) (refused : List (Option BranchRefusal)) (b : Branch) where
   told_then_file : branch_refusal file classes 0 before refused b ≡ option_or (refusal_before refused b b.refused) (file_refusal file classes 0 before b)

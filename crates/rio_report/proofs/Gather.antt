@@ -1,13 +1,8 @@
 -- A text that is gathered goes on, is said, or is given up.
-use Rattle.std.proofs.Common.{◌≡◌, ◌++◌, ℕ, List, [], Some, Result, Ok, Err, sym, ap, ◌∙◌, append_assoc}
-use Rattle.std.proofs.lemmas.List.{append-nil}
-use Rattle.rio_host.specs.Host.{View, IsLawful}
-use Rattle.rio_host.specs.OnlyReads.{OnlyReads, OnlySaysPieces, Says, SaysPieces}
-use Rattle.rio_host.proofs.PiecesLaws.{part_front, part_join, pieces_as, pieces_join, pieces_part, reads_pieces}
+use Rattle.std.proofs.{Common.{◌≡◌, ◌++◌, ℕ, List, [], Some, Result, Ok, Err, sym, ap, ◌∙◌, append_assoc}, lemmas.List.{append-nil}}
+use Rattle.rio_host.specs.{Host.{View, IsLawful}, OnlyReads.{OnlyReads, OnlySaysPieces, Says, SaysPieces}}
+use Rattle.rio_host.proofs.PiecesLaws.{Texts, part_front, part_join, pieces_as, pieces_join, pieces_part, reads_pieces}
 use Rattle.rio_report.specs.Gathered.{Gathered, Gathers}
-
-abbrev Texts : Type 0
-Texts = List ℕ → List ℕ
 
 -- calls that only look say nothing, and all is held
 pub gathered_reads : {a b : View} (f : Texts) (held : List ℕ) → OnlyReads a b → ((file : List ℕ) → a.holds ≡ Some file → held ≡ f file) → Gathered f held a b

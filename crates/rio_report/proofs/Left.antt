@@ -1,5 +1,5 @@
 -- What is left of a list, and what is passed.
-use Rattle.std.proofs.Common.{◌≡◌, true≢false, ℕ, zero, suc, ◌+◌, ◌<◌, List, [], ◌∷◌, ◌++◌, length, take, drop, get_or, slice_get, Bool, true, false, Option, Some, None, is_some, Result, Ok, Err, IfOk, OnOk, not, refl, sym, ap, ◌∙◌, arith}
+use Rattle.std.proofs.Common.{◌≡◌, ℕ, zero, suc, ◌+◌, ◌<◌, List, [], ◌∷◌, ◌++◌, length, take, drop, get_or, slice_get, Some, Result, Ok, Err, IfOk, OnOk, refl, sym, ap, ◌∙◌, arith}
 use Rattle.std.proofs.lemmas.List.{drop_more, take-append-le, take_all, take_more}
 
 -- what is left of a list
@@ -21,10 +21,6 @@ any_default [] k d e lt = absurd (omega (arith, lt))
 any_default (x ∷ xs) zero d e lt = refl
 any_default (x ∷ xs) (suc k) d e lt = any_default xs k d e (omega (arith, lt))
 
-pub none_of : {X : Type 0} (o : Option X) → is_some o ≡ false → o ≡ None
-none_of None e = refl
-none_of (Some x) e = absurd (true≢false e)
-
 pub if_ok_more : {X E : Type 0} {P Q : X → Type 0} (r : Result X E) → IfOk r P → ((x : X) → P x → Q x) → IfOk r Q
 if_ok_more (Ok x) h f = f x h
 if_ok_more (Err e) h f = h
@@ -32,10 +28,6 @@ if_ok_more (Err e) h f = h
 pub on_ok : {X E : Type 0} {A : Type 0} (r : Result X E) → A → OnOk r A
 on_ok (Ok x) a = a
 on_ok (Err e) a = tt
-
-pub not_true : (b : Bool) → not b ≡ true → b ≡ false
-not_true true e = absurd (true≢false (sym e))
-not_true false e = refl
 
 -- what was written over all of a list
 pub only_new : {X : Type 0} (new rest : List X) (n : ℕ) → n ≡ length new → take n (new ++ rest) ≡ new

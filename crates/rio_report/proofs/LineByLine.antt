@@ -1,10 +1,8 @@
 -- A line for each of a list, gathered one after the other.
 use Rattle.std.proofs.Common.{◌≡◌, ◌++◌, ◌+◌, ◌<◌, ◌≤◌, ℕ, List, [], ◌∷◌, length, take, drop, get_or, Some, sym, ap, ◌∙◌, append_assoc}
+use Rattle.std.proofs.lemmas.List.{append-nil, take_all, take_more, take-append-drop, Concat.{flat_map-append}}
 use Rattle.std.specs.List.{flat_map}
-use Rattle.std.proofs.lemmas.List.{append-nil, take_all, take_more, take-append-drop}
-use Rattle.std.proofs.lemmas.List.Concat.{flat_map-append}
-use Rattle.rio_host.specs.Host.{View, IsLawful}
-use Rattle.rio_host.specs.OnlyReads.{OnlySaysPieces}
+use Rattle.rio_host.specs.{Host.{View, IsLawful}, OnlyReads.{OnlySaysPieces}}
 use Rattle.rio_host.proofs.PiecesLaws.{part_front, pieces_as}
 use Rattle.rio_report.specs.Gathered.{Gathered}
 use Rattle.rio_report.proofs.Gather.{cut_on, gathered_on}

@@ -3,9 +3,7 @@ use Rattle.std.proofs.Common.{◌≡◌, ℕ, List, Option, Result, Ok, Err, IsO
 use Rattle.rio_host.specs.Host.{Becomes, Longer}
 use Rattle.rio_num.specs.Reading.{◌>>=◌}
 use Rattle.rio_head.specs.declared.fault.HeadFault.{HeadFault}
-use Rattle.rio_dir.specs.declared.closed.Closed.{Closed}
-use Rattle.rio_dir.specs.Closed.{closed_file}
-use Rattle.rio_dir.specs.Listing.{key_lines, listed_file, said_listing}
+use Rattle.rio_dir.specs.{declared.closed.Closed.{Closed}, Closed.{closed_file}, Listing.{key_lines, listed_file, said_listing}}
 
 abbrev listed_by : Result Closed HeadFault → Result (List ℕ) HeadFault
 listed_by read = read >>= λ closed. Ok (key_lines closed.keys)

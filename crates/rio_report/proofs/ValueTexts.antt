@@ -1,14 +1,11 @@
 -- The texts of a row's values, branch after branch.
 use Rattle.std.proofs.Common.{◌≡◌, ◌++◌, ◌+◌, ◌<◌, ◌≤◌, ℕ, List, [], ◌∷◌, codes, Bool, true, false, cond, Option, Some, None, length, drop, get_or, refl, sym, ap, ◌∙◌, append_assoc}
-use Rattle.std.specs.List.{flat_map}
 use Rattle.std.proofs.lemmas.List.{drop_all}
-use Rattle.rio_model.specs.Lists.{separated}
-use Rattle.rio_model.specs.ValueText.{text_of_value}
-use Rattle.rio_tree_head.specs.declared.head.Branch.{Branch}
-use Rattle.rio_tree_head.specs.declared.refusal.BranchRefusal.{BranchRefusal}
+use Rattle.std.specs.List.{flat_map}
+use Rattle.rio_model.specs.{Lists.{separated}, ValueText.{text_of_value}}
+use Rattle.rio_tree_head.specs.{declared.head.Branch.{Branch}, declared.refusal.BranchRefusal.{BranchRefusal}}
 use Rattle.rio_value.specs.declared.value.Value.{Value}
-use Rattle.rio_scan.specs.Rows.{read_values}
-use Rattle.rio_scan.specs.Scan.{refused_line, refused_lines}
+use Rattle.rio_scan.specs.{Rows.{read_values}, Scan.{refused_line, refused_lines}}
 use Rattle.rio_report.specs.Lanes.{first_after, values_behind, values_unrefused}
 use Rattle.rio_report.proofs.Left.{any_default, left}
 

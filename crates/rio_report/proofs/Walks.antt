@@ -1,20 +1,15 @@
 -- Loops over branches, baskets and entries, one step on and at the end.
-use Rattle.std.proofs.Common.{◌≡◌, ℕ, zero, suc, ◌+◌, ◌<◌, ◌≤◌, List, [], ◌∷◌, ◌++◌, length, take, drop, get_or, slice_get, slice_set, Bool, true, false, ◌&&◌, leb, nat_le, Option, Some, unwrap_or, refl, sym, ap, subst, ◌∙◌, arith}
+use Rattle.std.proofs.Common.{◌≡◌, ℕ, zero, suc, ◌+◌, ◌<◌, ◌≤◌, List, [], ◌∷◌, ◌++◌, length, take, drop, get_or, slice_get, slice_set, Bool, true, false, ◌&&◌, leb, Option, Some, unwrap_or, refl, sym, ap, subst, ◌∙◌, arith}
+use Rattle.std.proofs.{lemmas.Bool.{le-leb, leb-true}, lemmas.List.{drop_all}}
 use Rattle.std.specs.List.{prefix_len}
-use Rattle.std.proofs.lemmas.Bool.{le-leb, leb-true}
-use Rattle.std.proofs.lemmas.List.{drop_all}
 use Rattle.rio_types.specs.declared.class.ClassDef.{ClassDef}
-use Rattle.rio_tree_head.specs.Index.{basket_number}
-use Rattle.rio_tree_head.specs.declared.basket_at.BasketAt.{BasketAt}
-use Rattle.rio_tree_head.specs.declared.head.Branch.{Branch}
-use Rattle.rio_tree_head.specs.declared.refusal.BranchRefusal.{BranchRefusal}
-use Rattle.rio_tree_head.specs.declared.refusal.BranchRefusal.TheVariants.{Compressed}
-use Rattle.rio_scan.specs.declared.row.Row.{Row}
-use Rattle.rio_scan.specs.Refusals.{branch_refusal, refusals_behind}
+use Rattle.rio_tree_head.specs.{Index.{basket_number}, declared.basket_at.BasketAt.{BasketAt}, declared.head.Branch.{Branch}}
+use Rattle.rio_tree_head.specs.declared.refusal.BranchRefusal.{BranchRefusal, TheVariants.{Compressed}}
+use Rattle.rio_index.proofs.NumberLaws.{begins_by}
+use Rattle.rio_scan.specs.{declared.row.Row.{Row}, Refusals.{branch_refusal, refusals_behind}}
 use Rattle.rio_scan.specs.StoredEntries.{StoredEntries, are_filled, entry_behind, has_compressed, is_compressed_basket, is_filled, refusal_by, stored_basket}
 use Rattle.rio_scan.specs.Sweeps.{sweep_behind, sweep_one}
-use Rattle.rio_report.specs.declared.lane.Lane.{Lane}
-use Rattle.rio_report.specs.Lanes.{AreLanes, IsHeld, IsLane}
+use Rattle.rio_report.specs.{declared.lane.Lane.{Lane}, Lanes.{AreLanes, IsHeld, IsLane}}
 use Rattle.rio_report.proofs.Left.{left, passed_one}
 
 -- ---- baskets
@@ -63,9 +58,6 @@ module _ (file : List ℕ) (classes : List ClassDef) (bs : List Branch) where
   sweep_last e k rs row le = ap (λ (ds : List Branch). sweep_behind file classes e (take k bs) row ds (drop k rs)) (drop_all k bs le)
 
 -- ---- lanes
-
-abbrev begins_by : ℕ → BasketAt → Bool
-begins_by e at = nat_le at.first e
 
 -- more baskets begin at a later entry or before it
 later_passes : (e : ℕ) (bs : List BasketAt) → prefix_len (begins_by e) bs ≤ prefix_len (begins_by (e + 1)) bs

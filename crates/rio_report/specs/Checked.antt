@@ -3,14 +3,10 @@ use Rattle.std.specs.Prelude.{◌≡◌, ℕ, List, [], ◌∷◌, length, map, 
 use Rattle.std.specs.List.{flat_map, list_any}
 use Rattle.rio_types.specs.declared.class.ClassDef.{ClassDef}
 use Rattle.rio_entry.specs.Leaves.{number_alone}
-use Rattle.rio_tree_head.specs.declared.head.Branch.{Branch}
-use Rattle.rio_tree_head.specs.declared.refusal.BranchRefusal.{BranchRefusal}
+use Rattle.rio_tree_head.specs.{declared.head.Branch.{Branch}, declared.refusal.BranchRefusal.{BranchRefusal}}
 use Rattle.rio_value.specs.declared.value.Value.{Value}
-use Rattle.rio_scan.specs.declared.row.Row.{Row}
-use Rattle.rio_scan.specs.Rows.{values_of_branch}
-use Rattle.rio_scan.specs.Sweeps.{refusal_before, with_branch}
-use Rattle.rio_report.specs.declared.checked.Made.{Made}
-use Rattle.rio_report.specs.declared.checked.Made.TheVariants.{Whole, Numbers, Nothing}
+use Rattle.rio_scan.specs.{declared.row.Row.{Row}, Rows.{values_of_branch}, Sweeps.{refusal_before, with_branch}}
+use Rattle.rio_report.specs.declared.checked.Made.{Made, TheVariants.{Whole, Numbers, Nothing}}
 
 -- ---- which branches
 

@@ -1,9 +1,7 @@
 -- The classes in the bytes of a class list's record.
 use Rattle.std.specs.Prelude.{ℕ, List, Result}
 use Rattle.rio_types.specs.declared.class.ClassDef.{ClassDef}
-use Rattle.rio_head.specs.declared.fault.FileFault.TheVariants.{BadInfo}
-use Rattle.rio_head.specs.declared.fault.HeadFault.{HeadFault}
-use Rattle.rio_head.specs.Head.{fault_at}
+use Rattle.rio_head.specs.{declared.fault.FileFault.TheVariants.{BadInfo}, declared.fault.HeadFault.{HeadFault}, Head.{fault_at}}
 use Rattle.rio_meaning.specs.Described.{classes_in}
 use Rattle.rio_close.specs.Opens.{record_in}
 

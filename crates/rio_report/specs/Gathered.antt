@@ -1,7 +1,6 @@
 -- A text that is gathered and said piece by piece.
 use Rattle.std.specs.Prelude.{◌≡◌, ℕ, List, ◌++◌, Some, Result, Ok, Err}
-use Rattle.rio_host.specs.Host.{View}
-use Rattle.rio_host.specs.OnlyReads.{OnlySaysPieces, SaysPieces}
+use Rattle.rio_host.specs.{Host.{View}, OnlyReads.{OnlySaysPieces, SaysPieces}}
 
 -- A front of the text was said, and these bytes are held, which are all that is left of it.
 pub record Gathered (text_of : List ℕ → List ℕ) (held : List ℕ) (old new : View) : Type 0 where

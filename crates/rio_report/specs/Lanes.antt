@@ -1,13 +1,9 @@
 -- What is held of the branches of a tree, and what is found and printed of them.
-use Rattle.std.specs.Prelude.{◌≡◌, ◌≤◌, ℕ, ℤ, List, [], ◌∷◌, ◌++◌, codes, slice_get, Option, Some, None, Bool, false, if◌then◌else◌}
-use Rattle.std.specs.Str.{bytes_eq}
+use Rattle.std.specs.{Prelude.{◌≡◌, ◌≤◌, ℕ, ℤ, List, [], ◌∷◌, ◌++◌, codes, slice_get, Option, Some, None, Bool, false, if◌then◌else◌}, Str.{bytes_eq}}
 use Rattle.rio_leaf.specs.declared.leaf.Leaf.{Leaf}
-use Rattle.rio_value.specs.Accessors.{number_in}
-use Rattle.rio_tree_head.specs.Index.{basket_number}
-use Rattle.rio_tree_head.specs.declared.basket_at.BasketAt.{BasketAt}
-use Rattle.rio_tree_head.specs.declared.head.Branch.{Branch}
+use Rattle.rio_value.specs.{Accessors.{number_in}, declared.value.Value.{Value, out-Value}}
+use Rattle.rio_tree_head.specs.{Index.{basket_number}, declared.basket_at.BasketAt.{BasketAt}, declared.head.Branch.{Branch}}
 use Rattle.rio_tree_head.specs.declared.refusal.BranchRefusal.{BranchRefusal}
-use Rattle.rio_value.specs.declared.value.Value.{Value, out-Value}
 use Rattle.rio_model.specs.ValueText.{text_of_value}
 use Rattle.rio_scan.specs.StoredEntries.{StoredEntries, stored_basket}
 use Rattle.rio_report.specs.declared.lane.Lane.{Lane}

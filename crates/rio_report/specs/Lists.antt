@@ -1,14 +1,9 @@
 -- A call that says what there is to say of a file: what it answers, says and leaves.
 use Rattle.std.specs.Prelude.{◌≡◌, ℕ, List, Some, Result, Ok, Err, IsOk, IsOkAnd}
-use Rattle.rio_head.specs.declared.fault.FileFault.{FileFault}
-use Rattle.rio_head.specs.declared.fault.HeadFault.{HeadFault}
-use Rattle.rio_head.specs.Head.{fault_at}
-use Rattle.rio_host.specs.Host.{View, Becomes, Longer}
-use Rattle.rio_host.specs.OnlyReads.{OnlySays, OnlySaysPieces}
+use Rattle.rio_head.specs.{declared.fault.FileFault.{FileFault}, declared.fault.HeadFault.{HeadFault}, Head.{fault_at}}
+use Rattle.rio_host.specs.{Host.{View, Becomes, Longer}, OnlyReads.{OnlySays, OnlySaysPieces}}
 use Rattle.rio_dir.specs.Listing.{said_listing}
-use Rattle.rio_close.specs.Causes.{IsSayCauseOf}
-use Rattle.rio_close.specs.declared.fault.ReportFault.{ReportFault}
-use Rattle.rio_close.specs.declared.fault.ReportFault.TheVariants.{BadFile, NoMemory, HostFault, SayFault}
+use Rattle.rio_close.specs.{Causes.{IsSayCauseOf}, declared.fault.ReportFault.{ReportFault, TheVariants.{BadFile, NoMemory, HostFault, SayFault}}}
 
 -- what is said of a file, or the first rule that it breaks
 abbrev pub ListingOf : Type 0

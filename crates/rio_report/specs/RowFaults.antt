@@ -1,15 +1,10 @@
 -- What is said of a row that the first pass found to be read and the second doesn't: its number and the first fault.
-use Rattle.std.specs.Prelude.{ℕ, List, [], ◌∷◌, ◌++◌, codes, Option, Some, None, Ok, Err, unwrap_or}
-use Rattle.std.specs.Fmt.{decimal}
-use Rattle.rio_basket.specs.declared.fault.BasketFault.{BasketFault}
-use Rattle.rio_basket.specs.declared.fault.BasketFault.TheVariants.{BadLast, BadOffsets, Compressed, NoMemory}
-use Rattle.rio_entry.specs.declared.fault.EntryFault.{EntryFault}
-use Rattle.rio_entry.specs.declared.fault.EntryFault.TheVariants.{BadEntry}
+use Rattle.std.specs.{Prelude.{ℕ, List, [], ◌∷◌, ◌++◌, codes, Option, Some, None, Ok, Err, unwrap_or}, Fmt.{decimal}}
+use Rattle.rio_basket.specs.declared.fault.BasketFault.{BasketFault, TheVariants.{BadLast, BadOffsets, Compressed, NoMemory}}
+use Rattle.rio_entry.specs.declared.fault.EntryFault.{EntryFault, TheVariants.{BadEntry}}
 use Rattle.rio_meaning.specs.Dump.{with_number}
 use Rattle.rio_scan.specs.StoredEntries.{StoredEntries}
-use Rattle.rio_report.specs.declared.lane.Lane.{Lane}
-use Rattle.rio_report.specs.declared.lane.RowFault.{RowFault}
-use Rattle.rio_report.specs.declared.lane.RowFault.TheVariants.{Basket, Entry}
+use Rattle.rio_report.specs.{declared.lane.Lane.{Lane}, declared.lane.RowFault.{RowFault, TheVariants.{Basket, Entry}}}
 
 -- ---- which fault
 

@@ -36,7 +36,7 @@ fn nothing_made(alloc: Global, n: usize) -> Result<Vec<Made>, NoMemory>
     Ok(made)
 }
 
-// Numbers are made of the branches of these numbers.
+// Of the branches at these places the numbers are made.
 fn set_numbers(made: &mut Vec<Made>, numbers: &[usize])
     ensures { made.new.items ≡ with_numbers made.old.items numbers.now }
 {

@@ -2,7 +2,8 @@
 ghost use Rattle.std.specs.Prelude.{◌≡◌, ℕ, None, Some, IfOk, drop, map, slice_get};
 ghost use Rattle.std.specs.List.{list_any};
 ghost use Rattle.rio_entry.specs.Leaves.{last_number as last_said};
-ghost use Rattle.rio_scan.specs.Counters.{branch_leaves, counters_are_read, entry_counts, is_refused, leaf_count, number_in_branch, number_said, values_there};
+ghost use Rattle.rio_tree_head.specs.Header.{branch_leaves};
+ghost use Rattle.rio_scan.specs.Counters.{counters_are_read, entry_counts, is_refused, leaf_count, number_in_branch, number_said, values_or_none};
 ghost use Rattle.rio_report.specs.Lanes.{number_with, number_if_named};
 
 use rio_leaf::{Dim, Leaf, Shape};
@@ -84,7 +85,7 @@ fn branch_leaves(branch: &Branch) -> &[Leaf]
 
 // The values of the branch at `k`.
 fn values_there(row: &BranchRows, k: usize) -> &[Value]
-    ensures { result.now ≡ values_there (slice_get row.now k) }
+    ensures { result.now ≡ values_or_none (slice_get row.now k) }
 {
     match row.get(k) {
         Some(values) => values.as_slice(),
@@ -100,7 +101,7 @@ fn number_in_branch(
     found: Option<i128>,
 ) -> Option<i128>
     ensures { result ≡ number_in_branch name.now (slice_get branches.now k)
-        (values_there (slice_get row.now k)) found }
+        (values_or_none (slice_get row.now k)) found }
 {
     match branches.get(k) {
         Some(branch) => last_number(name, branch_leaves(branch), values_there(row, k), found),

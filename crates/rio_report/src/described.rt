@@ -8,7 +8,7 @@ ghost use Rattle.rio_close.specs.Opens.{Opens, OpensTold};
 ghost use Rattle.rio_report.specs.Described.{info_in};
 
 use rio_buffer::ObjFault;
-use rio_close::{ReportFault, data_of, read_closed, read_record};
+use rio_close::{ReportFault, read_closed, read_record};
 use rio_head::FileFault;
 use rio_host::Host;
 use rio_info::read_info;
@@ -45,7 +45,7 @@ fn read_classes(alloc: Global, bytes: &[u8], place: u64) -> Result<Classes, Repo
             kind: FileFault::Compressed,
         });
     }
-    match read_info(alloc, data_of(&key, bytes), u64::from(key.keylen)) {
+    match read_info(alloc, key.data_of(bytes), u64::from(key.keylen)) {
         Ok(classes) => Ok(classes),
         Err(ObjFault::NoMemory) => Err(ReportFault::NoMemory),
         Err(_) => Err(bad_info(place)),

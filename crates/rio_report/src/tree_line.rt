@@ -10,7 +10,7 @@ ghost use Rattle.rio_tree_head.specs.Header.{tree_head_in};
 ghost use Rattle.rio_report.specs.TreeTexts.{IsFoundTree, TreeOrText};
 
 use rio_buffer::ObjFault;
-use rio_close::{ReportFault, data_of, read_up_to};
+use rio_close::{ReportFault, read_up_to};
 use rio_host::Host;
 use rio_key::KeyHead;
 use rio_meaning::put_object_fault;
@@ -69,7 +69,7 @@ fn header_in(
     ensures { IfOk result (λ found. IsFoundTree found (header_of_value
         (value_at classes.now key.now.class key.now.keylen (drop key.now.keylen bytes.now)))) }
 {
-    let contents = data_of(key, bytes);
+    let contents = key.data_of(bytes);
     let place = u64::from(key.keylen);
     match read_object(alloc, classes, key.class.as_slice(), contents, place) {
         Ok(value) => header_of(alloc, &value),

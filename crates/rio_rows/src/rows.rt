@@ -1,14 +1,25 @@
-//! Rows of values, classes and trees, with the texts, bytes or faults that they stand for.
+//! Rows of values, classes, trees and records, with the texts, bytes or faults that they stand for.
 mod baskets;
+mod bytes;
 mod class_lists;
+mod class_search;
 mod classes;
+mod copied;
 mod declarations;
 mod elements;
 mod entries;
+mod gaps;
+mod headers;
+mod key_lists;
+mod keys;
 mod leaf_lists;
+mod made_objects;
 mod passed;
 mod printed;
+mod refusals;
 mod registry;
+mod scans;
+mod tokens;
 mod tree_members;
 mod trees;
 mod values;

@@ -3,15 +3,10 @@ use Rattle.std.proofs.Common.{◌≡◌, [], ◌∷◌, pos, true, false, Some, 
 use Rattle.std.specs.Fmt.{digits}
 use Rattle.rio_leaf.specs.declared.branch.Shape.TheVariants.{Class}
 use Rattle.rio_num.specs.Printed.{name_text}
-use Rattle.rio_tree_head.specs.Index.{basket_number}
-use Rattle.rio_tree_head.specs.declared.basket_at.BasketAt.{BasketAt}
-use Rattle.rio_tree_head.specs.declared.head.Branch.{Branch}
+use Rattle.rio_tree_head.specs.{Index.{basket_number}, declared.basket_at.BasketAt.{BasketAt}, declared.head.Branch.{Branch}}
 use Rattle.rio_tree_head.specs.declared.refusal.BranchRefusal.TheVariants.{BadBasket, BadEntry, Compressed, EntryCount, NoCounter, SubBranches}
-use Rattle.rio_scan.specs.Counters.{counters_are_read}
-use Rattle.rio_scan.specs.Refusals.{refused_first}
-use Rattle.rio_scan.specs.Scan.{no_tree_line, refused_lines, scanned_count}
-use Rattle.rio_scan.specs.StoredEntries.{is_filled, refusal_by}
-use Rattle.rio_scan.specs.declared.no_tree.NoTree.TheVariants.{NotATree}
+use Rattle.rio_scan.specs.{Counters.{counters_are_read}, Refusals.{refused_first}, Scan.{no_tree_line, refused_lines, scanned_count}}
+use Rattle.rio_scan.specs.{StoredEntries.{is_filled, refusal_by}, declared.no_tree.NoTree.TheVariants.{NotATree}}
 
 -- two baskets: of entries 0 to 4, and from 5 on
 abbrev first_basket : BasketAt

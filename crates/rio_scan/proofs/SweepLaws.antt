@@ -1,22 +1,17 @@
 -- A walk over the rows finds the branches that aren't read: what is known of the refusals behind some entries, and the row behind
 -- them, tell the refusals behind one entry more; and behind all entries they stay.
 use Rattle.std.proofs.Common.{◌≡◌, true≢false, ℕ, zero, suc, ◌+◌, ◌<◌, ◌≤◌, List, [], ◌∷◌, ◌++◌, map, slice_get, Bool, true, false, ◌&&◌, ◌||◌, not, cond, is_none, is_some, Option, Some, None, ℤ, refl, sym, ap, subst, ◌∙◌, append_assoc, arith}
-use Rattle.std.specs.List.{list_all, list_any, range_with_len}
-use Rattle.std.specs.Option.{option_or}
-use Rattle.std.proofs.lemmas.List.{map-append, append-nil}
+use Rattle.std.proofs.{lemmas.List.{map-append, append-nil}, lemmas.Bool.{and_parts, not-true}}
+use Rattle.std.specs.{List.{list_all, list_any, range_with_len}, Option.{option_or}}
 use Rattle.rio_types.specs.declared.class.ClassDef.{ClassDef}
-use Rattle.rio_leaf.specs.declared.leaf.Dim.{Dim}
-use Rattle.rio_leaf.specs.declared.leaf.Dim.TheVariants.{One, Fixed, Counted}
-use Rattle.rio_leaf.specs.declared.leaf.Leaf.{Leaf}
-use Rattle.rio_tree_head.specs.declared.head.Branch.{Branch}
-use Rattle.rio_tree_head.specs.declared.refusal.BranchRefusal.TheVariants.{Compressed, BadBasket, BadEntry, NoCounter}
+use Rattle.rio_leaf.specs.{declared.leaf.Dim.{Dim, TheVariants.{One, Fixed, Counted}}, declared.leaf.Leaf.{Leaf}}
+use Rattle.rio_tree_head.specs.{declared.head.Branch.{Branch}, declared.refusal.BranchRefusal.TheVariants.{Compressed, BadBasket, BadEntry, NoCounter}, Header.{branch_leaves}}
 use Rattle.rio_value.specs.declared.value.Value.{Value}
-use Rattle.rio_scan.specs.Counters.{branch_leaves, counters_are_read, counts_if_any, is_refused, leaf_count, number_in_branch, number_said, values_there}
+use Rattle.rio_scan.specs.Counters.{counters_are_read, counts_if_any, is_refused, leaf_count, number_in_branch, number_said, values_or_none}
 use Rattle.rio_scan.specs.Refusals.{branch_refusal, entries_are_read, is_entry_read, refusals_behind, refusals_of, refused_first, refused_unless}
-use Rattle.rio_scan.specs.Rows.{read_values, row_behind, values_at_entry, values_if_read, values_of_branch, values_or_none}
+use Rattle.rio_scan.specs.Rows.{read_values, row_behind, values_at_entry, values_if_read, values_of_branch}
 use Rattle.rio_scan.specs.StoredEntries.{are_filled, baskets_refusal, branch_entry, is_compressed_basket, stored_basket}
-use Rattle.rio_scan.specs.Sweeps.{empty_row, sweep, sweep_behind, values_kept}
-use Rattle.rio_scan.specs.declared.row.Row.{Row}
+use Rattle.rio_scan.specs.{Sweeps.{empty_row, sweep, sweep_behind, values_kept}, declared.row.Row.{Row}}
 use Rattle.rio_scan.proofs.SweepSteps.{Refusal, refused_by, goes_on, passes, stays}
 
 -- ---- what is known of a branch
@@ -86,7 +81,7 @@ same_number : (name : List ℕ) (before : List Branch) (ks : List Known) → All
 same_number name before ks all [] e found = refl
 same_number name before ks all (i ∷ is) e found =
     let one = (not_refused ks i all (or_left _ _ e)).1 in
-    ap (λ (vs : Option (List Value)). number_said name before (kepts ks) is (number_in_branch name (slice_get before i) (values_there vs) found)) one
+    ap (λ (vs : Option (List Value)). number_said name before (kepts ks) is (number_in_branch name (slice_get before i) (values_or_none vs) found)) one
     ∙ same_number name before ks all is (or_right _ _ e) _
 
 same_count : (before : List Branch) (ks : List Known) → AllHold ks → (counters : List ℕ) → list_any (λ i. is_refused (slice_get (nows ks) i)) counters ≡ false
@@ -107,10 +102,6 @@ late_by false false = refl
 
 late_baskets : (file : List ℕ) (b : Branch) → refused_first (baskets_refusal file b) ≡ None
 late_baskets file b = late_by (list_any (λ at. is_compressed_basket (stored_basket file b.offsets at)) b.baskets) (are_filled file b.offsets b.entries b.baskets)
-
-from_not : (a : Bool) → not a ≡ true → a ≡ false
-from_not true e = absurd (true≢false (sym e))
-from_not false e = refl
 
 blocked : (r : Refusal) (x y : Bool) → goes_on r false x ≡ goes_on r false y
 blocked r x y = by (refused_first r) refl
@@ -138,7 +129,7 @@ module _ (file : List ℕ) (classes : List ClassDef) (e : ℕ) where
   same_values : (before : List Branch) (ks : List Known) → AllHold ks → (b : Branch) → counters_are_read (nows ks) b ≡ true
       → values_of_branch file classes e before (kepts ks) b ≡ values_of_branch file classes e before (spelleds ks) b
   same_values before ks all b read =
-      let none = from_not _ read in
+      let none = not-true _ read in
       let each : leaf_count before (kepts ks) b.counted_by ≡ leaf_count before (spelleds ks) b.counted_by = λ i leaf. same_count before ks all b.counted_by none leaf i in
       ap (λ (f : Leaf → Value). values_if_read classes b.def.shape (counts_if_any b.counted_by f (branch_leaves b)) (branch_entry file b e)) each
 
@@ -169,7 +160,7 @@ module _ (file : List ℕ) (classes : List ClassDef) (e : ℕ) where
       entry = is_entry_read file classes before b e
 
       keeps : now_read ≡ true → was_read ≡ true
-      keeps read = ap not (none_refused ks all b.counted_by (from_not _ read))
+      keeps read = ap not (none_refused ks all b.counted_by (not-true _ read))
 
       entry_is : is_some spelled_values ≡ entry
       entry_is = ap (λ (row : List (List Value)). is_some (values_of_branch file classes e before row b)) spelled
@@ -269,10 +260,6 @@ module _ (file : List ℕ) (classes : List ClassDef) (e : ℕ) where
 
 -- ---- which entries are read
 
-and_true : (a b : Bool) → (a && b) ≡ true → (a ≡ true) × (b ≡ true)
-and_true true b e = (refl, e)
-and_true false b e = absurd (true≢false (sym e))
-
 module _ (p : ℕ → Bool) where
   all_more : (a n : ℕ) → list_all p (range_with_len a (suc n)) ≡ (list_all p (range_with_len a n) && p (a + n))
   all_more a zero = by (p a) ∙ ap (λ (k : ℕ). true && p k) zero_more
@@ -294,8 +281,8 @@ module _ (p : ℕ → Bool) where
 
   all_at : (a n k : ℕ) → list_all p (range_with_len a n) ≡ true → k < n → p (a + k) ≡ true
   all_at a zero k all lt = absurd (omega (arith, lt))
-  all_at a (suc n) zero all lt = ap p (omega arith) ∙ (and_true (p a) _ all).0
-  all_at a (suc n) (suc k) all lt = ap p (omega arith) ∙ all_at (a + 1) n k (and_true (p a) _ all).1 (omega (arith, lt))
+  all_at a (suc n) zero all lt = ap p (omega arith) ∙ (and_parts (p a) _ all).0
+  all_at a (suc n) (suc k) all lt = ap p (omega arith) ∙ all_at (a + 1) n k (and_parts (p a) _ all).1 (omega (arith, lt))
 
   all_within : (n k : ℕ) → k < n → list_all p (range_with_len 0 n) ≡ (list_all p (range_with_len 0 n) && p k)
   all_within n k lt = by (list_all p (range_with_len 0 n)) refl

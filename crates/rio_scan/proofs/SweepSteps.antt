@@ -1,8 +1,7 @@
 -- What becomes of one branch at an entry, by cases on what is known of it.
 use Rattle.std.proofs.Common.{◌≡◌, true≢false, Bool, true, false, ◌&&◌, is_some, Option, Some, None, refl, sym, ap, ◌∙◌}
 use Rattle.std.specs.Option.{option_or}
-use Rattle.rio_tree_head.specs.declared.refusal.BranchRefusal.{BranchRefusal}
-use Rattle.rio_tree_head.specs.declared.refusal.BranchRefusal.TheVariants.{BranchClass, SubBranches, EmbeddedBasket, LeafClass, NoCounter, EntryCount, BadBasketList, Compressed, BadBasket, BadEntry}
+use Rattle.rio_tree_head.specs.declared.refusal.BranchRefusal.{BranchRefusal, TheVariants.{BranchClass, SubBranches, EmbeddedBasket, LeafClass, NoCounter, EntryCount, BadBasketList, Compressed, BadBasket, BadEntry}}
 use Rattle.rio_scan.specs.Refusals.{refused_first, refused_unless}
 
 abbrev pub Refusal : Type 0

@@ -1,17 +1,9 @@
 -- The earlier branches whose leaves count leaves of a branch, and what they say at an entry.
-use Rattle.std.specs.Prelude.{ℕ, ℤ, pos, List, [], ◌∷◌, map, slice_get, Option, Some, None, Bool, true, false, not, unwrap_or}
-use Rattle.std.specs.List.{list_any}
-use Rattle.rio_leaf.specs.declared.leaf.Dim.{Dim}
-use Rattle.rio_leaf.specs.declared.leaf.Dim.TheVariants.{One, Fixed, Counted}
-use Rattle.rio_leaf.specs.declared.leaf.Leaf.{Leaf}
-use Rattle.rio_leaf.specs.Stated.{leaves_of}
-use Rattle.rio_tree_head.specs.declared.head.Branch.{Branch}
-use Rattle.rio_tree_head.specs.declared.refusal.BranchRefusal.{BranchRefusal}
+use Rattle.std.specs.{Prelude.{ℕ, ℤ, pos, List, [], ◌∷◌, map, slice_get, Option, Some, None, Bool, true, false, not, unwrap_or}, List.{list_any}}
+use Rattle.rio_leaf.specs.{declared.leaf.Dim.{Dim, TheVariants.{One, Fixed, Counted}}, declared.leaf.Leaf.{Leaf}}
+use Rattle.rio_tree_head.specs.{declared.head.Branch.{Branch}, declared.refusal.BranchRefusal.{BranchRefusal}, Header.{branch_leaves}}
 use Rattle.rio_value.specs.declared.value.Value.{Value, Int}
 use Rattle.rio_entry.specs.Leaves.{last_number}
-
-abbrev pub branch_leaves : Branch → List Leaf
-branch_leaves b = leaves_of b.def.shape
 
 -- ---- whether they are read
 
@@ -26,10 +18,10 @@ counters_are_read refused b = not (list_any (λ k. is_refused (slice_get refused
 
 -- ---- what they say
 
--- the values of a branch, of those of each branch; none where there is no such branch
-abbrev pub values_there : Option (List Value) → List Value
-values_there None = []
-values_there (Some vs) = vs
+-- the values of a branch, and none where there is no such branch or it isn't read
+abbrev pub values_or_none : Option (List Value) → List Value
+values_or_none None = []
+values_or_none (Some vs) = vs
 
 -- the number of the last leaf of a name in a branch that has these values, or what was found before
 abbrev pub number_in_branch : List ℕ → Option Branch → List Value → Option ℤ → Option ℤ
@@ -41,7 +33,7 @@ number_in_branch name (Some b) vs found = last_number name (branch_leaves b) vs 
 abbrev pub number_said : List ℕ → List Branch → List (List Value) → List ℕ → Option ℤ → Option ℤ
 number_said name branches row [] found = found
 number_said name branches row (k ∷ ks) found =
-    number_said name branches row ks (number_in_branch name (slice_get branches k) (values_there (slice_get row k)) found)
+    number_said name branches row ks (number_in_branch name (slice_get branches k) (values_or_none (slice_get row k)) found)
 
 -- what is counted for a leaf by leaves of these branches: 0 where it isn't counted by any
 abbrev pub leaf_count : List Branch → List (List Value) → List ℕ → Leaf → Value

@@ -1,14 +1,9 @@
 -- Which branches of a tree aren't read, by its header and by the file, and why.
-use Rattle.std.specs.Prelude.{ℕ, List, [], ◌∷◌, ◌++◌, Option, Some, None, is_some, Bool, if◌then◌else◌}
-use Rattle.std.specs.List.{list_all, range_with_len}
-use Rattle.std.specs.Option.{option_or}
+use Rattle.std.specs.{Prelude.{ℕ, List, [], ◌∷◌, ◌++◌, Option, Some, None, is_some, Bool, if◌then◌else◌}, List.{list_all, range_with_len}, Option.{option_or}}
 use Rattle.rio_types.specs.declared.class.ClassDef.{ClassDef}
 use Rattle.rio_tree_head.specs.declared.head.Branch.{Branch}
-use Rattle.rio_tree_head.specs.declared.refusal.BranchRefusal.{BranchRefusal}
-use Rattle.rio_tree_head.specs.declared.refusal.BranchRefusal.TheVariants.{BranchClass, SubBranches, EmbeddedBasket, LeafClass, NoCounter, EntryCount, BadBasketList, Compressed, BadBasket, BadEntry}
-use Rattle.rio_scan.specs.Counters.{counters_are_read}
-use Rattle.rio_scan.specs.Rows.{values_of_branch, values_at_entry}
-use Rattle.rio_scan.specs.StoredEntries.{baskets_refusal}
+use Rattle.rio_tree_head.specs.declared.refusal.BranchRefusal.{BranchRefusal, TheVariants.{BranchClass, SubBranches, EmbeddedBasket, LeafClass, NoCounter, EntryCount, BadBasketList, Compressed, BadBasket, BadEntry}}
+use Rattle.rio_scan.specs.{Counters.{counters_are_read}, Rows.{values_of_branch, values_at_entry}, StoredEntries.{baskets_refusal}}
 
 -- The refusals that come no later than NoCounter: where the header tells one of them, nothing else of the branch is tested.
 abbrev pub refused_first : Option BranchRefusal → Option BranchRefusal

@@ -1,14 +1,11 @@
 -- The rows of a tree in a file: what the entries of its branches spell.
-use Rattle.std.specs.Prelude.{ℕ, List, [], ◌∷◌, ◌++◌, Option, Some, None}
-use Rattle.std.specs.Result.{result_ok}
+use Rattle.std.specs.{Prelude.{ℕ, List, [], ◌∷◌, ◌++◌, Option, Some, None}, Result.{result_ok}}
 use Rattle.rio_types.specs.declared.class.ClassDef.{ClassDef}
 use Rattle.rio_leaf.specs.declared.branch.Shape.{Shape}
-use Rattle.rio_tree_head.specs.declared.head.Branch.{Branch}
-use Rattle.rio_tree_head.specs.declared.refusal.BranchRefusal.{BranchRefusal}
+use Rattle.rio_tree_head.specs.{declared.head.Branch.{Branch}, declared.refusal.BranchRefusal.{BranchRefusal}}
 use Rattle.rio_value.specs.declared.value.Value.{Value}
 use Rattle.rio_entry.specs.Reading.{entry_in}
-use Rattle.rio_scan.specs.Counters.{entry_counts}
-use Rattle.rio_scan.specs.StoredEntries.{branch_entry}
+use Rattle.rio_scan.specs.{Counters.{entry_counts, values_or_none}, StoredEntries.{branch_entry}}
 
 -- the values of an entry, if it is there and is read
 abbrev pub values_if_read : List ClassDef → Shape → List Value → Option (List ℕ) → Option (List Value)
@@ -20,10 +17,6 @@ values_if_read classes shape counts (Some bytes) = result_ok (entry_in classes s
 abbrev pub values_of_branch : List ℕ → List ClassDef → ℕ → List Branch → List (List Value) → Branch → Option (List Value)
 values_of_branch file classes e before row b =
     values_if_read classes b.def.shape (entry_counts before row b) (branch_entry file b e)
-
-abbrev pub values_or_none : Option (List Value) → List Value
-values_or_none None = []
-values_or_none (Some vs) = vs
 
 -- the values of each branch at an entry, behind those of others; none where it isn't read
 abbrev pub row_behind : List ℕ → List ClassDef → ℕ → List Branch → List (List Value) → List Branch → List (List Value)

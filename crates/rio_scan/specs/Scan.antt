@@ -1,29 +1,17 @@
 -- What the verb scan says of a file.
 use Rattle.std.specs.Prelude.{ℕ, ◌++◌, List, [], ◌∷◌, codes, Option, Some, None, Result, Ok, Err, Bool, if◌then◌else◌}
-use Rattle.std.specs.List.{filter, flat_map, list_any, range_with_len}
-use Rattle.std.specs.Fmt.{decimal}
-use Rattle.rio_num.specs.Printed.{name_text}
-use Rattle.rio_num.specs.Reading.{◌>>=◌}
+use Rattle.std.specs.{List.{filter, flat_map, list_any, range_with_len}, Fmt.{decimal}}
+use Rattle.rio_num.specs.{Printed.{item_text, name_text}, Reading.{◌>>=◌}}
 use Rattle.rio_types.specs.declared.class.ClassDef.{ClassDef}
 use Rattle.rio_value.specs.declared.value.Value.{Value, List as Items}
-use Rattle.rio_key.specs.declared.head.KeyHead.{KeyHead}
-use Rattle.rio_key.specs.Key.{is_compressed}
+use Rattle.rio_key.specs.{declared.head.KeyHead.{KeyHead}, Key.{is_compressed}}
 use Rattle.rio_head.specs.declared.fault.HeadFault.{HeadFault}
-use Rattle.rio_dir.specs.Listing.{named_cycle}
 use Rattle.rio_model.specs.ValueText.{text_of_value}
-use Rattle.rio_tree_head.specs.declared.head.Branch.{Branch}
-use Rattle.rio_tree_head.specs.declared.head.TreeHead.{TreeHead}
-use Rattle.rio_tree_head.specs.declared.refusal.BranchRefusal.{BranchRefusal}
-use Rattle.rio_tree_head.specs.declared.refusal.BranchRefusal.TheVariants.{BranchClass, SubBranches, EmbeddedBasket, LeafClass, NoCounter, EntryCount, BadBasketList, Compressed, BadBasket, BadEntry}
-use Rattle.rio_meaning.specs.declared.described.Described.{Described}
-use Rattle.rio_meaning.specs.Described.{described_file}
-use Rattle.rio_meaning.specs.Dump.{is_tree, stored_tree}
+use Rattle.rio_tree_head.specs.{declared.head.Branch.{Branch}, declared.head.TreeHead.{TreeHead}}
+use Rattle.rio_tree_head.specs.declared.refusal.BranchRefusal.{BranchRefusal, TheVariants.{BranchClass, SubBranches, EmbeddedBasket, LeafClass, NoCounter, EntryCount, BadBasketList, Compressed, BadBasket, BadEntry}}
+use Rattle.rio_meaning.specs.{declared.described.Described.{Described}, Described.{described_file}, Dump.{is_tree, stored_tree}, Item.{with_greatest_cycle}}
 use Rattle.rio_dir.specs.Table.{is_of_name}
-use Rattle.rio_meaning.specs.Item.{with_greatest_cycle}
-use Rattle.rio_scan.specs.declared.no_tree.NoTree.{NoTree}
-use Rattle.rio_scan.specs.declared.no_tree.NoTree.TheVariants.{NoSuchName, NotATree}
-use Rattle.rio_scan.specs.Refusals.{refusals_of}
-use Rattle.rio_scan.specs.Rows.{read_values, values_at_entry}
+use Rattle.rio_scan.specs.{declared.no_tree.NoTree.{NoTree, TheVariants.{NoSuchName, NotATree}}, Refusals.{refusals_of}, Rows.{read_values, values_at_entry}}
 
 -- ---- the key
 
@@ -98,7 +86,7 @@ tree_lines file classes name head = lines_refusing (refusals_of file classes hea
 
 -- NAME;CYCLE and what is said in place of a tree that isn't read
 abbrev pub unread_line : KeyHead → List ℕ → List ℕ
-unread_line key text = named_cycle key ++ codes " " ++ text ++ codes "\n"
+unread_line key text = item_text key.name key.cycle ++ codes " " ++ text ++ codes "\n"
 
 abbrev pub lines_or_unread : List ℕ → List ClassDef → KeyHead → Result TreeHead (List ℕ) → List ℕ
 lines_or_unread file classes key (Ok head) = tree_lines file classes key.name head

@@ -1,14 +1,9 @@
 -- What the baskets of a branch hold in a file: whether they are read, and the entries.
 use Rattle.std.specs.Prelude.{ℕ, ◌+◌, ◌-◌, List, [], ◌∷◌, length, take, drop, slice_get, Option, Some, None, Result, Ok, Err, Bool, true, false, ◌==◌, ◌&&◌, not, if◌then◌else◌}
 use Rattle.std.specs.List.{list_any}
-use Rattle.rio_tree_head.specs.Index.{basket_number}
-use Rattle.rio_tree_head.specs.declared.basket_at.BasketAt.{BasketAt}
-use Rattle.rio_tree_head.specs.declared.head.Branch.{Branch}
-use Rattle.rio_tree_head.specs.declared.refusal.BranchRefusal.{BranchRefusal}
-use Rattle.rio_tree_head.specs.declared.refusal.BranchRefusal.TheVariants.{Compressed as IsCompressed, BadBasket}
-use Rattle.rio_basket.specs.declared.fault.BasketFault.{BasketFault}
-use Rattle.rio_basket.specs.declared.fault.BasketFault.TheVariants.{BadLast, BadOffsets, Compressed, NoMemory}
-use Rattle.rio_basket.specs.Entries.{entries_in}
+use Rattle.rio_tree_head.specs.{Index.{basket_number}, declared.basket_at.BasketAt.{BasketAt}, declared.head.Branch.{Branch}}
+use Rattle.rio_tree_head.specs.declared.refusal.BranchRefusal.{BranchRefusal, TheVariants.{Compressed as IsCompressed, BadBasket}}
+use Rattle.rio_basket.specs.{declared.fault.BasketFault.{BasketFault, TheVariants.{BadLast, BadOffsets, Compressed, NoMemory}}, Entries.{entries_in}}
 
 -- what a basket holds: its entries, or why it isn't read
 abbrev pub StoredEntries : Type 0

@@ -1,15 +1,10 @@
 -- A row of a tree, gone through from branch to branch: which branches are still read, and their values.
-use Rattle.std.specs.Prelude.{ℕ, List, [], ◌∷◌, ◌++◌, Option, Some, None, is_some}
-use Rattle.std.specs.Option.{option_or}
+use Rattle.std.specs.{Prelude.{ℕ, List, [], ◌∷◌, ◌++◌, Option, Some, None, is_some}, Option.{option_or}}
 use Rattle.rio_types.specs.declared.class.ClassDef.{ClassDef}
-use Rattle.rio_tree_head.specs.declared.head.Branch.{Branch}
-use Rattle.rio_tree_head.specs.declared.refusal.BranchRefusal.{BranchRefusal}
-use Rattle.rio_tree_head.specs.declared.refusal.BranchRefusal.TheVariants.{NoCounter, BadEntry}
+use Rattle.rio_tree_head.specs.{declared.head.Branch.{Branch}, declared.refusal.BranchRefusal.{BranchRefusal, TheVariants.{NoCounter, BadEntry}}}
 use Rattle.rio_value.specs.declared.value.Value.{Value}
-use Rattle.rio_scan.specs.declared.row.Row.{Row}
-use Rattle.rio_scan.specs.Counters.{counters_are_read}
-use Rattle.rio_scan.specs.Refusals.{refused_first, refused_unless}
-use Rattle.rio_scan.specs.Rows.{values_of_branch, values_or_none}
+use Rattle.rio_scan.specs.{declared.row.Row.{Row}, Counters.{counters_are_read, values_or_none}, Refusals.{refused_first, refused_unless}}
+use Rattle.rio_scan.specs.Rows.{values_of_branch}
 
 -- ---- refusals
 

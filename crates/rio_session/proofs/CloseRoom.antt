@@ -1,17 +1,12 @@
 -- What a close needs, of what a session keeps.
 use Rattle.std.proofs.Common.{◌≡◌, ◌≤◌, ◌+◌, ◌-◌, ◌==◌, ◌^◌, true≢false, ℕ, Bool, true, false, leb, ltb, List, [], ◌∷◌, length, refl, sym, ap, subst, ◌∙◌, arith}
-use Rattle.std.specs.Prelude.{if◌then◌else◌, slice_index_or}
-use Rattle.std.specs.List.{All, list_all}
-use Rattle.std.proofs.lemmas.Bool.{and_parts, eqb-true, leb-true, ltb-true}
-use Rattle.std.proofs.lemmas.List.Folds.{list_all_at}
-use Rattle.rio_key.specs.Key.{key_place_len}
-use Rattle.rio_key.specs.Written.{FitsKey}
-use Rattle.rio_key.specs.declared.head.KeyHead.{KeyHead}
+use Rattle.std.proofs.{lemmas.Bool.{and_parts, eqb-true, leb-true, ltb-true}, lemmas.List.Folds.{list_all_at}}
+use Rattle.std.specs.{Prelude.{if◌then◌else◌, slice_index_or}, List.{All, list_all}}
+use Rattle.rio_num.specs.At.{place_len_of}
+use Rattle.rio_key.specs.{Written.{FitsKey}, declared.head.KeyHead.{KeyHead}}
 use Rattle.rio_dir.specs.Table.{heads_size}
-use Rattle.rio_chain.specs.Adjoining.{segments_end}
-use Rattle.rio_chain.specs.Placing.{file_end, record_count, rest_of_gap, with_segment}
-use Rattle.rio_chain.specs.declared.segment.Segment.{Segment}
-use Rattle.rio_chain.specs.declared.segment.Segment.TheVariants.{Record, Gap}
+use Rattle.rio_chain.specs.{Adjoining.{segments_end}, Placing.{file_end, record_count, rest_of_gap, with_segment}}
+use Rattle.rio_chain.specs.declared.segment.Segment.{Segment, TheVariants.{Record, Gap}}
 use Rattle.rio_close.specs.Sizes.{close_size}
 use Rattle.rio_session.specs.Kept.{IsClosable, is_fit_key, kept_with}
 use Rattle.rio_session.proofs.Needs.{close_size_is_need}
@@ -23,10 +18,10 @@ fits_one h e =
     let title = and_parts _ (length h.title == 0) e in
     let name = and_parts _ (leb (length h.name) 65535) title.0 in
     let class = and_parts _ (leb (length h.class) 65535) name.0 in
-    let places = and_parts (ltb h.seek (256 ^ key_place_len h.version)) (ltb h.pdir (256 ^ key_place_len h.version)) class.0 in
+    let places = and_parts (ltb h.seek (256 ^ place_len_of h.version)) (ltb h.pdir (256 ^ place_len_of h.version)) class.0 in
     record {
-      seek = ltb-true h.seek (256 ^ key_place_len h.version) places.0;
-      pdir = ltb-true h.pdir (256 ^ key_place_len h.version) places.1;
+      seek = ltb-true h.seek (256 ^ place_len_of h.version) places.0;
+      pdir = ltb-true h.pdir (256 ^ place_len_of h.version) places.1;
       class = omega (arith, leb-true (length h.class) 65535 class.1);
       name = omega (arith, leb-true (length h.name) 65535 name.1);
       title = omega (arith, eqb-true (length h.title) 0 title.1);

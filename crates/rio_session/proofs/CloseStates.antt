@@ -1,33 +1,20 @@
 -- A session's file is ready to be closed, and what a stop leaves of it.
-use Rattle.std.proofs.Common.{◌≡◌, ℕ, List, [], map, Some, refl, sym, ap, subst, ◌∙◌}
-use Rattle.std.specs.FinMap.{FinMap, empty, entries, len-empty, len-entries}
-use Rattle.std.specs.List.{filter, fold}
-use Rattle.std.proofs.lemmas.List.{nil_from_length}
-use Rattle.std.proofs.lemmas.Option.{same_Some}
+use Rattle.std.proofs.{Common.{◌≡◌, ℕ, List, map, Some, refl, sym, ap, subst, ◌∙◌}, lemmas.Option.{same_Some}}
+use Rattle.std.specs.{FinMap.{FinMap, empty, entries}, List.{filter, fold}}
+use Rattle.rio_num.specs.Word.{name_order}
 use Rattle.rio_key.specs.declared.head.KeyHead.{KeyHead}
 use Rattle.rio_host.specs.Host.{Elapses, IsQuiet, Leaves, View}
 use Rattle.rio_host.proofs.Moments.{elapses_as}
-use Rattle.rio_chain.specs.Chains.{HasChain}
-use Rattle.rio_chain.specs.declared.segment.Segment.{Segment}
-use Rattle.rio_machine.specs.State.{State, Tree, name_order}
-use Rattle.rio_machine.specs.declared.command.Command.TheVariants.{Save}
-use Rattle.rio_state.specs.Closing.{kept_in}
-use Rattle.rio_state.specs.DirectoryKeys.{AreKeysOf}
-use Rattle.rio_state.specs.KeyedRecords.{info_key, keyed_records}
-use Rattle.rio_state.specs.Left.{HasOpenHead, IsLeftAs, info_head}
+use Rattle.rio_chain.specs.{Chains.{HasChain}, declared.segment.Segment.{Segment}}
+use Rattle.rio_machine.specs.{State.{State, Tree}, declared.command.Command.TheVariants.{Save}}
+use Rattle.rio_state.specs.{Closing.{kept_in}, DirectoryKeys.{AreKeysOf}, KeyedRecords.{info_key, keyed_records}, Left.{HasOpenHead, IsLeftAs, info_head}}
 use Rattle.rio_state.specs.Reads.{ReadsAsState, ReadsClosed}
-use Rattle.rio_step.specs.Runs.{closed_of, closing_saves, has_pending, states_of_run}
-use Rattle.rio_step.specs.Step.{state_behind}
-use Rattle.rio_close.specs.Leaving.{HoldsClosed, HoldsClosedWith, HoldsOpen, IsClosedWith, StaysAs}
-use Rattle.rio_close.specs.Written.{AreCloseRecords, OpenFile}
+use Rattle.rio_step.specs.{Runs.{closed_of, closing_saves, has_pending, states_of_run}, Step.{state_behind}}
+use Rattle.rio_close.specs.{Leaving.{HoldsClosed, HoldsClosedWith, HoldsOpen, IsClosedWith, StaysAs}, Written.{AreCloseRecords, OpenFile}}
 use Rattle.rio_close.specs.declared.parts.CloseRecords.{CloseRecords}
-use Rattle.rio_session.specs.Closes.{ClosesFile, IsWellClosed, open_file}
-use Rattle.rio_session.specs.Kept.{IsClosable}
-use Rattle.rio_session.specs.Session.{ClosesAs, SessionState, StandsFor}
+use Rattle.rio_session.specs.{Closes.{ClosesFile, IsWellClosed, open_file}, Kept.{IsClosable}, Session.{ClosesAs, SessionState, StandsFor}}
 use Rattle.rio_session.proofs.States.{Known, known}
-
-entries-none : entries (empty {X = Tree} {R = name_order}) ≡ []
-entries-none = nil_from_length _ (sym (len-entries (empty {X = Tree} {R = name_order})) ∙ len-empty name_order Tree)
+use Rattle.rio_reply.proofs.Listings.{entries-empty}
 
 module _ (v : View) (s : SessionState) (m : State) (text : List ℕ) (stands : StandsFor v s m text) where
   known_here : Known stands.state.links s.heads m
@@ -68,7 +55,7 @@ module _ (v : View) (s : SessionState) (m : State) (text : List ℕ) (stands : S
 
   closed_same : closed_of m ≡ m
   unfolding closed_of closing_saves
-  closed_same = ap (λ (es : List (List ℕ × Tree)). fold state_behind m (map (λ e. Save e.0) (filter (λ e. has_pending e.1) es))) (ap (λ (t : FinMap name_order Tree). entries t) known_here.stand.trees ∙ entries-none)
+  closed_same = ap (λ (es : List (List ℕ × Tree)). fold state_behind m (map (λ e. Save e.0) (filter (λ e. has_pending e.1) es))) (ap (λ (t : FinMap name_order Tree). entries t) known_here.stand.trees ∙ entries-empty)
 
   -- behind the close
   pub leaves_closed : (new : View) → IsQuiet new → HoldsClosed new m → (image said : List ℕ) → Leaves new image said → ReadsAsState image (closed_of m) × ReadsClosed image (closed_of m)

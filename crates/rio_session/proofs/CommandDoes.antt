@@ -8,41 +8,25 @@ use Rattle.rio_key.specs.declared.head.KeyHead.{KeyHead}
 use Rattle.rio_value.specs.declared.value.Value.{Value}
 use Rattle.rio_dir.specs.Table.{head_of, with_head}
 use Rattle.rio_chain.specs.Placing.{file_end, place_of, record_count}
-use Rattle.rio_machine.specs.Limits.{head_length}
-use Rattle.rio_machine.specs.State.{State}
-use Rattle.rio_machine.specs.declared.command.Command.{Command}
-use Rattle.rio_machine.specs.declared.command.Command.TheVariants.{Bad, Class, Put, Delete, Tree, Fill, Save, Get, Scan, Ls}
-use Rattle.rio_machine.specs.declared.command.Outcome.{Outcome}
-use Rattle.rio_machine.specs.declared.command.Outcome.TheVariants.{Accepted, Refused}
-use Rattle.rio_machine.specs.declared.refusal.Refusal.{Refusal}
-use Rattle.rio_machine.specs.declared.refusal.Refusal.TheVariants.{Full}
+use Rattle.rio_machine.specs.{Limits.{head_length}, State.{State}}
+use Rattle.rio_machine.specs.declared.command.Command.{Command, TheVariants.{Bad, Class, Put, Delete, Tree, Fill, Save, Get, Scan, Ls}}
+use Rattle.rio_machine.specs.{declared.command.Outcome.{Outcome, TheVariants.{Accepted, Refused}}, declared.refusal.Refusal.{Refusal, TheVariants.{Full}}}
 use Rattle.rio_record.specs.declared.record.NewRecord.{NewRecord}
 use Rattle.rio_reply.specs.Told.{listing_of}
 use Rattle.rio_state.specs.Closing.{close_need, is_full, padded_length}
-use Rattle.rio_step.specs.Costs.{cost_of, value_size}
-use Rattle.rio_step.specs.Refusing.{refusal_of}
-use Rattle.rio_step.specs.ReplyText.{text_of}
-use Rattle.rio_step.specs.Step.{object_put, outcome_of, refused}
+use Rattle.rio_step.specs.{Costs.{cost_of, value_size}, Refusing.{refusal_of}, ReplyText.{text_of}, Step.{object_put, outcome_of, refused}}
 use Rattle.rio_judge.specs.Judging.{IsJudgementOfStates, IsStep, WorkCanBeDone, is_judged}
 use Rattle.rio_judge.specs.declared.work.Judged.TheVariants.{Accepted as Judgement, Refused as RefusalOf}
 use Rattle.rio_judge.specs.declared.work.Work.TheVariants.{Put as Storing, Get as Telling, Ls as Listing}
 use Rattle.rio_effect.specs.ObjectRecord.{key_of_put}
-use Rattle.rio_session.specs.Behind.{IsOfKeys}
-use Rattle.rio_session.specs.Does.{Does}
-use Rattle.rio_session.specs.Causes.{IsSaid}
-use Rattle.rio_session.specs.Gets.{TellsObject}
-use Rattle.rio_session.specs.Kept.{IsClosable, IsSoundState, is_sized, kept_with}
-use Rattle.rio_session.specs.Puts.{IsStoredRecord, PutsRecord, putting}
-use Rattle.rio_session.specs.Says.{SaysReply}
-use Rattle.rio_session.specs.Session.{IsReady, LacksRoomIfFull, SessionState, StandsFor, next_of, with_cost}
-use Rattle.rio_session.specs.declared.fault.SessionFault.{SessionFault}
+use Rattle.rio_judge.proofs.CostLaws.{cost_accepted}
+use Rattle.rio_session.specs.{Behind.{IsOfKeys}, Does.{Does}, Causes.{IsSaid}, Gets.{TellsObject}, Kept.{IsClosable, IsSoundState, is_sized, kept_with}}
+use Rattle.rio_session.specs.{Puts.{IsStoredRecord, PutsRecord, putting}, Says.{SaysReply}}
+use Rattle.rio_session.specs.{Session.{IsReady, LacksRoomIfFull, SessionState, StandsFor, next_of, with_cost}, declared.fault.SessionFault.{SessionFault}}
 use Rattle.rio_session.proofs.OtherSteps.{get_outcome, get_still, get_told, ls_outcome, ls_still, ls_told, refused_lacks, refused_outcome, refused_still, refused_told}
-use Rattle.rio_session.proofs.PutAnswers.{IsPutStep, IsPutting, does_put}
-use Rattle.rio_session.proofs.PutFacts.{is_put_of}
+use Rattle.rio_session.proofs.{PutAnswers.{IsPutStep, IsPutting, does_put}, PutFacts.{is_put_of}}
 use Rattle.rio_session.proofs.PutSteps.{full_lacks, full_outcome, full_still, full_told, key_class, key_name, key_sized, put_is_kept, put_is_step}
-use Rattle.rio_session.proofs.Refused.{cost_accepted}
-use Rattle.rio_session.proofs.Replies.{IsStill, does_says}
-use Rattle.rio_session.proofs.States.{of_keys}
+use Rattle.rio_session.proofs.{Replies.{IsStill, does_says}, States.{of_keys}}
 
 -- ---- which command it is
 

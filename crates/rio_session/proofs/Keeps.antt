@@ -1,34 +1,19 @@
 -- What a session keeps is sound with one record more.
-use Rattle.std.proofs.Common.{◌≡◌, ◌==◌, ◌||◌, ℕ, ◌+◌, ◌-◌, ◌≤◌, Bool, true, false, List, [], ◌∷◌, length, refl, sym, ap, subst, ◌∙◌, arith}
-use Rattle.std.specs.Prelude.{if◌then◌else◌}
-use Rattle.std.specs.List.{list_all, list_any}
-use Rattle.std.proofs.lemmas.Bool.{and_from, and_parts, eq-eqb, or_left, or_right}
-use Rattle.std.proofs.lemmas.List.Sums.{sum_by-cons}
-use Rattle.rio_key.specs.declared.head.KeyHead.{KeyHead}
-use Rattle.rio_key.specs.Written.{written_key}
+use Rattle.std.proofs.Common.{◌≡◌, ◌==◌, ◌||◌, ℕ, ◌+◌, ◌-◌, ◌≤◌, Bool, true, false, List, [], ◌∷◌, length, refl, sym, subst, ◌∙◌, arith}
+use Rattle.std.proofs.{lemmas.Bool.{and_from, and_parts, eq-eqb, or_left, or_right}, lemmas.List.Sums.{sum_by-cons}}
+use Rattle.std.specs.{Prelude.{if◌then◌else◌}, List.{list_all, list_any}}
+use Rattle.rio_key.specs.{declared.head.KeyHead.{KeyHead}, Written.{written_key}}
 use Rattle.rio_dir.specs.Table.{heads_size, is_before, with_head}
-use Rattle.rio_chain.specs.Placing.{file_end, record_count, rest_of_gap, with_segment}
-use Rattle.rio_chain.specs.declared.segment.Segment.{Segment}
-use Rattle.rio_chain.specs.declared.segment.Segment.TheVariants.{Record, Gap}
+use Rattle.rio_chain.specs.{Placing.{file_end, record_count, rest_of_gap, with_segment}, declared.segment.Segment.{Segment, TheVariants.{Record, Gap}}}
 use Rattle.rio_state.specs.Closing.{close_need, end_limit}
 use Rattle.rio_record.specs.declared.record.NewRecord.{NewRecord}
-use Rattle.rio_session.specs.Kept.{IsClosable, begins_at, is_fit_key, is_owned, is_placed, is_sized, kept_with}
-use Rattle.rio_session.specs.Puts.{CanBePut}
-use Rattle.rio_session.specs.Session.{SessionState}
+use Rattle.rio_close.proofs.Fitting.{count_with}
+use Rattle.rio_session.specs.{Kept.{IsClosable, begins_at, is_fit_key, is_owned, is_placed, is_sized, kept_with}, Puts.{CanBePut}, Session.{SessionState}}
 
 -- ---- segments
 
 rest_count : (place n : ℕ) (segments : List Segment) → record_count (rest_of_gap place n segments) ≡ record_count segments
 rest_count place n segments = elim (n == 0) as (λ b. record_count (if b then segments else Gap place n ∷ segments) ≡ record_count segments) [ true ↦ refl | false ↦ refl ]
-
-pub count_with : (place n : ℕ) (segments : List Segment) → record_count (with_segment place n segments) ≡ record_count segments + 1
-count_with place n [] = refl
-count_with place n (Record p m ∷ segments) = ap (λ (k : ℕ). k + 1) (count_with place n segments)
-count_with place n (Gap p m ∷ segments) =
-    elim (p == place) as (λ b. record_count (if b then Record place n ∷ rest_of_gap (place + n) (m - n) segments else Gap p m ∷ with_segment place n segments) ≡ record_count segments + 1) [
-      | true ↦ ap (λ (k : ℕ). k + 1) (rest_count (place + n) (m - n) segments)
-      | false ↦ count_with place n segments
-    ]
 
 same_place : (place : ℕ) → (place == place) ≡ true
 same_place place = eq-eqb place place refl

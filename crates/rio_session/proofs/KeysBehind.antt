@@ -1,28 +1,17 @@
 -- The keys stand for the state behind a put.
 use Rattle.std.proofs.Common.{◌≡◌, ℕ, List, [], ◌∷◌, map, Bool, true, false, cond, ◌==◌, Option, Some, None, refl, sym, ap, ◌∙◌}
-use Rattle.std.specs.Prelude.{if◌then◌else◌}
-use Rattle.std.specs.FinMap.{entries, entries-insert}
-use Rattle.std.specs.FinMap.Entries.{by_order, put}
-use Rattle.std.specs.List.{find}
-use Rattle.std.specs.Ordering.{is_lt, ordering_reverse}
-use Rattle.std.specs.Str.{bytes_eq}
-use Rattle.std.specs.declared.cmp.Ordering.{Ordering}
-use Rattle.std.specs.declared.cmp.Ordering.TheVariants.{Less, Equal, Greater}
-use Rattle.std.proofs.lemmas.Bool.{and_from, eq-eqb}
-use Rattle.std.proofs.lemmas.Cmp.{nat_list_eq_equiv}
+use Rattle.std.proofs.{lemmas.Bool.{and_from, eq-eqb}, lemmas.Cmp.{nat_list_eq_equiv}}
+use Rattle.std.specs.{Prelude.{if◌then◌else◌}, FinMap.{entries, entries-insert, Entries.{by_order, put}}, List.{find}, Ordering.{is_lt, ordering_reverse}}
+use Rattle.std.specs.{Str.{bytes_eq}, declared.cmp.Ordering.{Ordering, TheVariants.{Less, Equal, Greater}}}
+use Rattle.rio_num.specs.Word.{name_order}
 use Rattle.rio_key.specs.declared.head.KeyHead.{KeyHead}
 use Rattle.rio_value.specs.declared.value.Value.{Value}
 use Rattle.rio_dir.specs.Table.{is_at_cycle, is_before, with_head}
 use Rattle.rio_machine.proofs.OrderLaws.{items_tie, items_total}
-use Rattle.rio_machine.specs.State.{NameAndCycle, State, item_order, name_order, next_cycle}
-use Rattle.rio_machine.specs.declared.command.Command.TheVariants.{Put}
+use Rattle.rio_machine.specs.{State.{NameAndCycle, State, item_order, next_cycle}, declared.command.Command.TheVariants.{Put}}
 use Rattle.rio_judge.proofs.KeysOfState.{first_is, item_of}
-use Rattle.rio_step.specs.ItemKeys.{AreKeysOfState, told_by_key}
-use Rattle.rio_step.specs.Refusing.{put_value}
-use Rattle.rio_step.specs.Step.{Listed, listed_object, state_behind}
-
-abbrev Told : Type 0
-Told = NameAndCycle × Listed
+use Rattle.rio_step.specs.{ItemKeys.{AreKeysOfState, told_by_key}, Refusing.{put_value}, Step.{listed_object, state_behind}}
+use Rattle.rio_effect.proofs.KeysOfState.{Told}
 
 none_parts : (b : Bool) (x : KeyHead) (o : Option KeyHead) → cond b (Some x) o ≡ None → (b ≡ false) × (o ≡ None)
 none_parts true x o e = absurd cc

@@ -1,29 +1,20 @@
 -- What a close of a state needs, by the keys of its objects.
 use Rattle.std.proofs.Common.{◌≡◌, ◌==◌, ℕ, ◌+◌, ◌*◌, ◌≤◌, true, List, [], ◌∷◌, map, length, codes, cond, refl, sym, ap, subst, ◌∙◌, arith}
-use Rattle.std.specs.FinMap.{entries}
-use Rattle.std.specs.List.{list_all, sum_by}
-use Rattle.std.proofs.lemmas.Bool.{and_parts, eqb-true}
-use Rattle.std.proofs.lemmas.List.{length-map}
-use Rattle.std.proofs.lemmas.List.Sums.{sum_by-cons}
-use Rattle.rio_key.specs.Written.{written_key}
-use Rattle.rio_key.specs.declared.head.KeyHead.{KeyHead}
+use Rattle.std.proofs.{lemmas.Bool.{and_parts, eqb-true}, lemmas.List.{length-map, Sums.{sum_by-cons}}}
+use Rattle.std.specs.{FinMap.{entries}, List.{list_all, sum_by}}
+use Rattle.rio_key.specs.{Written.{written_key}, declared.head.KeyHead.{KeyHead}}
 use Rattle.rio_value.specs.declared.value.Value.{Value}
 use Rattle.rio_dir.specs.Table.{heads_size, with_head}
-use Rattle.rio_chain.specs.Placing.{record_count}
-use Rattle.rio_chain.specs.declared.segment.Segment.{Segment}
+use Rattle.rio_chain.specs.{Placing.{record_count}, declared.segment.Segment.{Segment}}
 use Rattle.rio_close.specs.Sizes.{close_size, headless}
-use Rattle.rio_machine.specs.Limits.{head_length}
-use Rattle.rio_machine.specs.State.{NameAndCycle, State}
+use Rattle.rio_machine.specs.{Limits.{head_length}, State.{NameAndCycle, State}}
 use Rattle.rio_record.proofs.Records.{key_long}
 use Rattle.rio_record.specs.declared.record.NewRecord.{NewRecord}
-use Rattle.rio_step.specs.ItemKeys.{AreKeysOfState, told_by_key}
-use Rattle.rio_step.specs.Step.{Listed, listed_object, object_listed, tree_listed}
+use Rattle.rio_step.specs.{ItemKeys.{AreKeysOfState, told_by_key}, Step.{Listed, listed_object, object_listed, tree_listed}, Refusing.{object_class_name}}
 use Rattle.rio_state.specs.Closing.{KeptRecords, close_need, end_limit, free_length, list_length, padded_length}
-use Rattle.rio_session.specs.Kept.{IsClosable, is_sized, kept_with}
+use Rattle.rio_session.specs.{Kept.{IsClosable, is_sized, kept_with}, Puts.{CanBePut}, Session.{SessionState}}
+use Rattle.rio_session.specs.Marks.{key_of_object, kept_of, list_count, state_need}
 use Rattle.rio_session.proofs.Keeps.{size_with}
-use Rattle.rio_session.specs.Puts.{CanBePut}
-use Rattle.rio_session.specs.Session.{SessionState}
-use Rattle.rio_session.specs.Marks.{object_class_name, key_of_object, kept_of, list_count, state_need}
 
 abbrev written_size : KeyHead → ℕ
 written_size h = length (written_key h)

@@ -1,13 +1,10 @@
 -- What is told of a file's first 100 bytes is told of the file.
 use Rattle.std.proofs.Common.{◌≡◌, ◌<◌, ◌≤◌, Bool, true, false, ltb, List, ℕ, length, length-take, take, Result, Ok, Err, refl, sym, subst, ◌∙◌, arith}
 use Rattle.std.proofs.lemmas.Bool.{ltb-true, ltb-false, lt-ltb, le-ltb}
-use Rattle.byteorder.specs.Endian.{big_number}
-use Rattle.byteorder.specs.Numbers.{big_from-take}
+use Rattle.byteorder.specs.{Endian.{big_number}, Numbers.{big_from-take}}
 use Rattle.rio_head.proofs.HeadCut.{head_in_front}
 use Rattle.rio_dir.specs.Unborn.{header_fault, is_unborn}
-use Rattle.rio_session.specs.Causes.{TellsWhyNot}
-use Rattle.rio_session.specs.declared.fault.OpenFault.{OpenFault}
-use Rattle.rio_session.specs.declared.fault.OpenFault.TheVariants.{BadFile, ReadOnly, NoMemory, HostFault}
+use Rattle.rio_session.specs.{Causes.{TellsWhyNot}, declared.fault.OpenFault.{OpenFault, TheVariants.{BadFile, ReadOnly, NoMemory, HostFault}}}
 
 few_same : (file : List ℕ) → ltb (length (take 100 file)) 4 ≡ ltb (length file) 4
 few_same file = by (ltb (length file) 4) refl

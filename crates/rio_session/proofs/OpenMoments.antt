@@ -1,15 +1,11 @@
 -- What a stop leaves while a file is made.
 use Rattle.std.proofs.Common.{◌≡◌, inl, ⊎_elim, ℕ, List, Some, true, sym, ap, subst, ◌∙◌}
 use Rattle.std.specs.Prelude.{MatchBool}
-use Rattle.rio_host.specs.Host.{After, Elapses, IsLawful, IsQuiet, Leaves, OnDisk, View}
-use Rattle.rio_host.specs.Image.{Same}
-use Rattle.rio_host.specs.OnlyReads.{OnlyReads}
-use Rattle.rio_host.proofs.Moments.{Outcomes, elapses_as, elapses_join, leaves_back}
-use Rattle.rio_host.proofs.ReadsLaws.{left_before}
+use Rattle.rio_host.specs.{Host.{After, Elapses, IsLawful, IsQuiet, Leaves, OnDisk, View}, Image.{Same}, OnlyReads.{OnlyReads}}
+use Rattle.rio_host.proofs.{Moments.{Outcomes, elapses_as, elapses_join, leaves_back}, ReadsLaws.{left_before}}
 use Rattle.rio_dir.specs.Unborn.{is_unborn}
 use Rattle.rio_machine.specs.State.{State, empty_state}
-use Rattle.rio_state.specs.Left.{IsLeftAs, ReadsClosedUnlessOpen}
-use Rattle.rio_state.specs.Reads.{ReadsAsMade, ReadsAsState}
+use Rattle.rio_state.specs.{Left.{IsLeftAs, ReadsClosedUnlessOpen}, Reads.{ReadsAsMade, ReadsAsState}}
 use Rattle.rio_create.specs.Creation.{IsLeftEmpty, LeavesUnclosed}
 
 -- a file that isn't made yet stands for the empty state alone

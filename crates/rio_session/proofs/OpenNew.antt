@@ -1,26 +1,19 @@
 -- What a session keeps of a file that is just made, and what it stands for.
 use Rattle.std.proofs.Common.{◌≡◌, ℕ, ◌+◌, ◌≤◌, List, [], length, Option, Some, None, true, refl, sym, ap, subst, ◌∙◌, arith}
-use Rattle.std.specs.FinMap.{FinMap, empty, get, get-empty, same_map}
-use Rattle.std.specs.List.{list_all}
-use Rattle.std.specs.Option.{option_map}
+use Rattle.std.specs.{FinMap.{FinMap, empty, get, get-empty, same_map}, List.{list_all}, Option.{option_map}}
+use Rattle.rio_num.specs.Word.{name_order}
 use Rattle.rio_host.specs.Host.{View}
 use Rattle.rio_key.specs.declared.head.KeyHead.{KeyHead}
-use Rattle.rio_chain.specs.Chains.{HasChain}
-use Rattle.rio_chain.specs.Placing.{file_end, record_count}
-use Rattle.rio_chain.specs.declared.segment.Segment.{Segment}
-use Rattle.rio_machine.specs.State.{State, Tree, empty_state, name_order}
+use Rattle.rio_chain.specs.{Chains.{HasChain}, Placing.{file_end, record_count}, declared.segment.Segment.{Segment}}
+use Rattle.rio_machine.specs.State.{State, Tree, empty_state}
 use Rattle.rio_machine.proofs.OrderLaws.{names_tie, names_total}
-use Rattle.rio_state.specs.Closing.{close_need}
-use Rattle.rio_state.specs.KeyedRecords.{KeyedRecord, keyed_records}
-use Rattle.rio_state.specs.Left.{HasOpenHead, info_head}
-use Rattle.rio_state.specs.DirectoryKeys.{AreKeysOf}
+use Rattle.rio_state.specs.{Closing.{close_need}, KeyedRecords.{KeyedRecord, keyed_records}, Left.{HasOpenHead, info_head}, DirectoryKeys.{AreKeysOf}}
 use Rattle.rio_state.specs.Reads.{AreRecordsOf}
 use Rattle.rio_step.specs.Runs.{saved_of, saved_tree}
 use Rattle.rio_step.proofs.ClosedLaws.{saved_keeps_the_rest}
 use Rattle.rio_create.specs.NewFile.{IsNewFile, first_length, first_segments, nbytes_name_of}
 use Rattle.rio_create.proofs.Lengths.{key_long}
-use Rattle.rio_session.specs.Kept.{IsClosable, is_owned}
-use Rattle.rio_session.specs.Session.{HoldsState, SessionState, StandsFor}
+use Rattle.rio_session.specs.{Kept.{IsClosable, is_owned}, Session.{HoldsState, SessionState, StandsFor}}
 
 -- a state without trees has no pending rows
 pub saved_same : (m : State) → m.trees ≡ empty → saved_of m ≡ m

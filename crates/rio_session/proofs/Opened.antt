@@ -1,14 +1,10 @@
 -- Files that are open, and images that keep their front.
 use Rattle.std.proofs.Common.{ℕ, ◌≤◌, List, length, subst, arith}
-use Rattle.rio_chain.specs.Segments.{HasWord, IsChain, Link, chain_end}
-use Rattle.rio_chain.specs.Stops.{KeepsFront}
+use Rattle.rio_chain.specs.{Segments.{HasWord, IsChain, Link, chain_end}, Stops.{KeepsFront}}
 use Rattle.rio_chain.proofs.Words.{word_keeps, word_one, word_within}
-use Rattle.rio_close.proofs.Numbers.{word_of_number}
-use Rattle.rio_close.proofs.SmallHead.{small_head}
+use Rattle.rio_close.proofs.{Numbers.{word_of_number}, SmallHead.{small_head}}
 use Rattle.rio_machine.specs.State.{State}
-use Rattle.rio_state.specs.KeyedRecords.{keyed_records}
-use Rattle.rio_state.specs.Left.{HasOpenHead, IsMarkedOpen, open_end}
-use Rattle.rio_state.specs.Reads.{AreRecordsOf}
+use Rattle.rio_state.specs.{KeyedRecords.{keyed_records}, Left.{HasOpenHead, IsMarkedOpen, open_end}, Reads.{AreRecordsOf}}
 use Rattle.rio_step.specs.Runs.{saved_of}
 use Rattle.rio_effect.specs.Laws.{ReadsByHead}
 use Rattle.rio_effect.proofs.Fronts.{front_tells}

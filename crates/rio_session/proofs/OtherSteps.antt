@@ -1,47 +1,30 @@
 -- Commands that aren't puts, and refused ones, are their steps.
 use Rattle.std.proofs.Common.{◌≡◌, inl, inr, ◌==◌, ◌||◌, ℕ, ◌+◌, ◌-◌, List, [], ◌∷◌, length, drop, sum, Option, Some, None, Ok, Bool, true, false, refl, sym, ap, subst, ◌∙◌}
-use Rattle.std.specs.Prelude.{IsSome, if◌then◌else◌, is_some, slice_get, unwrap_or}
-use Rattle.std.specs.FinMap.{get}
-use Rattle.std.specs.List.{Contains, fold, list_all, list_any}
-use Rattle.std.specs.Str.{bytes_eq}
-use Rattle.std.proofs.lemmas.Bool.{and_parts, eqb-true, le-ltb}
-use Rattle.std.proofs.lemmas.Slice.Eq.{bytes_eq-Decides}
+use Rattle.std.proofs.{lemmas.Bool.{and_parts, eqb-true, le-ltb}, lemmas.Slice.Eq.{bytes_eq-Decides}}
+use Rattle.std.specs.{Prelude.{IsSome, if◌then◌else◌, is_some, slice_get, unwrap_or}, FinMap.{get}, List.{Contains, fold, list_all, list_any}, Str.{bytes_eq}}
 use Rattle.rio_types.specs.declared.class.ClassDef.{ClassDef}
 use Rattle.rio_key.specs.declared.head.KeyHead.{KeyHead}
 use Rattle.rio_value.specs.declared.value.Value.{Value, Null}
 use Rattle.rio_format.specs.Objects.{value_at}
 use Rattle.rio_dir.specs.Table.{head_of, is_at_cycle}
-use Rattle.rio_chain.specs.Chains.{HasRecordSegment}
-use Rattle.rio_chain.specs.Placing.{end_after, file_end, record_count, space_of}
-use Rattle.rio_chain.specs.Segments.{HoldsLink, HoldsLinks, Link, RecordAt, link_length}
-use Rattle.rio_chain.specs.declared.segment.Segment.{Segment}
-use Rattle.rio_chain.specs.declared.segment.Segment.TheVariants.{Record, Gap}
+use Rattle.rio_chain.specs.{Chains.{HasRecordSegment}, Placing.{end_after, file_end, record_count, space_of}}
+use Rattle.rio_chain.specs.{Segments.{HoldsLink, HoldsLinks, Link, RecordAt, link_length}, declared.segment.Segment.{Segment, TheVariants.{Record, Gap}}}
 use Rattle.rio_chain.proofs.OneChain.{link_one}
-use Rattle.rio_machine.specs.RefusalText.{refusal_number}
-use Rattle.rio_machine.specs.State.{State}
-use Rattle.rio_machine.specs.declared.command.Command.{Command}
-use Rattle.rio_machine.specs.declared.command.Command.TheVariants.{Get, Ls}
-use Rattle.rio_machine.specs.declared.command.Outcome.TheVariants.{Accepted, Refused}
-use Rattle.rio_machine.specs.declared.refusal.Refusal.{Refusal}
-use Rattle.rio_machine.specs.declared.refusal.Refusal.TheVariants.{Full}
+use Rattle.rio_machine.specs.{RefusalText.{refusal_number}, State.{State}, declared.command.Command.{Command, TheVariants.{Get, Ls}}}
+use Rattle.rio_machine.specs.{declared.command.Outcome.TheVariants.{Accepted, Refused}, declared.refusal.Refusal.{Refusal, TheVariants.{Full}}}
 use Rattle.rio_reply.specs.Told.{listing_of}
 use Rattle.rio_reply.proofs.Listings.{listing_is, told_is}
 use Rattle.rio_state.specs.Closing.{close_need, end_limit, is_full, lay_all}
-use Rattle.rio_step.specs.Costs.{cost_of}
-use Rattle.rio_step.specs.Refusing.{FullMark, meant_cycle, meant_object, refusal_of, refusals}
-use Rattle.rio_step.specs.ReplyText.{text_of}
+use Rattle.rio_step.specs.{Costs.{cost_of}, Refusing.{FullMark, meant_cycle, meant_object, refusal_of, refusals}, ReplyText.{text_of}}
 use Rattle.rio_step.specs.Step.{Stepped, object_told, outcome_of, refused, reply_to, state_behind, told_value}
 use Rattle.rio_step.proofs.LowestLaws.{lowest_is_told}
 use Rattle.rio_effect.proofs.KeyReads.{keys_have_records}
 use Rattle.rio_state.proofs.Members.{Found, In, all_at, contains_in, found, in_contained}
-use Rattle.rio_session.specs.Behind.{IsOfKeys}
-use Rattle.rio_session.specs.Gets.{record_text}
-use Rattle.rio_session.specs.Kept.{IsClosable, begins_at, is_placed, kept_with}
+use Rattle.rio_judge.proofs.CostLaws.{cost_accepted}
+use Rattle.rio_session.specs.{Behind.{IsOfKeys}, Gets.{record_text}, Kept.{IsClosable, begins_at, is_placed, kept_with}}
 use Rattle.rio_session.specs.Marks.{command_lengths, mark_of_command, segments_behind, state_need, with_placed}
 use Rattle.rio_session.specs.Session.{HoldsState, LacksRoomIfFull, SessionState, next_of}
-use Rattle.rio_session.proofs.Needs.{need_by_keys}
-use Rattle.rio_session.proofs.Refused.{cost_accepted, cost_refused, refused_anyway, step_accepted, step_refused}
-use Rattle.rio_session.proofs.Replies.{IsStill}
+use Rattle.rio_session.proofs.{Needs.{need_by_keys}, Refused.{cost_refused, refused_anyway, step_accepted, step_refused}, Replies.{IsStill}}
 use Rattle.rio_session.proofs.States.{Known, known, of_keys}
 
 -- ---- records by their keys

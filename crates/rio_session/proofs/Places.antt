@@ -2,14 +2,9 @@
 use Rattle.std.proofs.Common.{◌≡◌, inl, ℕ, ◌+◌, ◌-◌, ◌%◌, ◌<◌, ◌≤◌, true, false, List, [], ◌∷◌, sum, Option, Some, None, refl, subst, ap, ◌∙◌, arith}
 use Rattle.std.proofs.lemmas.Bool.{le-ltb, lt-ltb, ltb-false, ltb-true}
 use Rattle.rio_free.specs.Gaps.{best_place}
-use Rattle.rio_chain.specs.Adjoining.{AreSegments}
-use Rattle.rio_chain.proofs.Laying.{laid_put}
-use Rattle.rio_chain.proofs.Placed.{end-le, low_place, place_free}
-use Rattle.rio_chain.specs.Placing.{FreeSpace, end_after, file_end, laid_at, place_of, space_of, with_segment}
-use Rattle.rio_chain.specs.Plans.{IsFull}
-use Rattle.rio_chain.specs.declared.fault.PlanFault.{PlanFault}
-use Rattle.rio_chain.specs.declared.fault.PlanFault.TheVariants.{Full, NoMemory}
-use Rattle.rio_chain.specs.declared.segment.Segment.{Segment}
+use Rattle.rio_chain.specs.{Adjoining.{AreSegments}, Placing.{FreeSpace, end_after, file_end, laid_at, place_of, space_of, with_segment}, Plans.{IsFull}}
+use Rattle.rio_chain.specs.{declared.fault.PlanFault.{PlanFault, TheVariants.{Full, NoMemory}}, declared.segment.Segment.{Segment}}
+use Rattle.rio_chain.proofs.{Laying.{laid_put}, Placed.{end-le, low_place, place_free}}
 use Rattle.rio_state.specs.Closing.{end_limit, is_full, lay_all}
 use Rattle.rio_session.specs.Puts.{IsFullFor}
 

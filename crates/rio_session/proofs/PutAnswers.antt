@@ -1,44 +1,23 @@
 -- What a put answers, in all clauses.
 use Rattle.std.proofs.Common.{◌≡◌, inl, inr, ⊎_elim, ℕ, ◌+◌, ◌*◌, ◌-◌, ◌^◌, ◌<◌, ◌≤◌, min, false, List, ◌++◌, length, take, Option, Some, Result, Ok, Err, IfOk, sym, ap, subst, ◌∙◌, arith}
 use Rattle.std.proofs.lemmas.Option.{same_Some}
-use Rattle.rio_host.specs.Host.{Elapses, IsLawful, Longer, View}
-use Rattle.rio_host.proofs.Images.{becomes_some, told_before}
-use Rattle.rio_host.proofs.Moments.{elapses_as}
-use Rattle.rio_host.proofs.ReadsLaws.{said_grows}
+use Rattle.rio_host.specs.Host.{Any, Elapses, IsLawful, Longer, View}
+use Rattle.rio_host.proofs.{Images.{becomes_some, told_before}, Moments.{elapses_as}, ReadsLaws.{said_grows}}
 use Rattle.rio_key.specs.declared.head.KeyHead.{KeyHead}
 use Rattle.rio_value.specs.declared.value.Value.{Value}
 use Rattle.rio_dir.specs.Table.{with_head}
-use Rattle.rio_chain.specs.Chains.{HasChain}
-use Rattle.rio_chain.specs.Changes.{with_record}
-use Rattle.rio_chain.specs.Placing.{place_of, record_count, with_segment}
-use Rattle.rio_chain.specs.Segments.{Link}
-use Rattle.rio_chain.specs.Stops.{Any, KeepsFront}
-use Rattle.rio_machine.specs.State.{State, next_cycle}
-use Rattle.rio_machine.specs.declared.command.Command.{Command}
-use Rattle.rio_machine.specs.declared.command.Command.TheVariants.{Put}
-use Rattle.rio_machine.specs.declared.command.Outcome.{Outcome}
-use Rattle.rio_machine.specs.declared.command.Outcome.TheVariants.{Accepted, Refused}
-use Rattle.rio_state.specs.Closing.{held_of, kept_in}
-use Rattle.rio_state.specs.DirectoryKeys.{AreKeysOf}
-use Rattle.rio_state.specs.KeyedRecords.{info_key, keyed_records}
-use Rattle.rio_state.specs.Left.{info_head}
+use Rattle.rio_chain.specs.{Chains.{HasChain}, Changes.{with_record}, Placing.{place_of, record_count, with_segment}, Segments.{Link}, Stops.{KeepsFront}}
+use Rattle.rio_machine.specs.{State.{State, next_cycle}, declared.command.Command.{Command, TheVariants.{Put}}}
+use Rattle.rio_machine.specs.declared.command.Outcome.{Outcome, TheVariants.{Accepted, Refused}}
+use Rattle.rio_state.specs.{Closing.{held_of, kept_in}, DirectoryKeys.{AreKeysOf}, KeyedRecords.{info_key, keyed_records}, Left.{info_head}}
 use Rattle.rio_state.specs.Reads.{AreRecordsOf}
 use Rattle.rio_effect.specs.ObjectRecord.{key_of_put, record_of_put}
-use Rattle.rio_step.specs.Costs.{cost_of}
-use Rattle.rio_step.specs.ItemKeys.{AreKeysOfState}
-use Rattle.rio_step.specs.ReplyText.{text_of}
-use Rattle.rio_step.specs.Runs.{saved_of}
-use Rattle.rio_step.specs.Step.{object_put, outcome_of}
-use Rattle.rio_session.specs.Behind.{FollowsStep, HasPut, IsOfKeys, PutsNothing}
-use Rattle.rio_session.specs.Causes.{StaysIfRefused}
-use Rattle.rio_session.specs.Does.{Does}
-use Rattle.rio_session.specs.Marks.{segments_behind}
+use Rattle.rio_step.specs.{Costs.{cost_of}, ItemKeys.{AreKeysOfState}, ReplyText.{text_of}, Runs.{saved_of}, Step.{object_put, outcome_of}}
+use Rattle.rio_session.specs.{Behind.{FollowsStep, HasPut, IsOfKeys, PutsNothing}, Causes.{StaysIfRefused}, Does.{Does}, Marks.{segments_behind}}
 use Rattle.rio_session.specs.Puts.{IsPutOrNot, PutAndSaid, PutNotSaid, PutsRecord, Putting, PutsInTime, with_put}
 use Rattle.rio_session.specs.Session.{FollowsCommand, HoldsState, IsOpenAs, IsReady, LacksRoomIfFull, LeavesOpenAs, SessionState, StandsFor, Steps, Went, next_of, with_cost}
-use Rattle.rio_session.specs.declared.fault.SessionFault.{SessionFault}
-use Rattle.rio_session.specs.declared.fault.SessionFault.TheVariants.{HostFault, SayFault, NoMemory}
-use Rattle.rio_session.proofs.Opened.{open_image}
-use Rattle.rio_session.proofs.Replies.{read_steps, told_same}
+use Rattle.rio_session.specs.declared.fault.SessionFault.{SessionFault, TheVariants.{HostFault, SayFault, NoMemory}}
+use Rattle.rio_session.proofs.{Opened.{open_image}, Replies.{read_steps, told_same}}
 use Rattle.rio_session.proofs.Spoken.{front_none, front_part, front_whole, grows_none, grows_whole, reads_stay}
 
 -- the put as the session does it, and as the law of puts has it

@@ -6,29 +6,17 @@ use Rattle.rio_key.specs.declared.head.KeyHead.{KeyHead}
 use Rattle.rio_value.specs.declared.value.Value.{Value}
 use Rattle.rio_dir.specs.Table.{with_head}
 use Rattle.rio_chain.specs.Placing.{file_end, place_of, record_count, with_segment}
-use Rattle.rio_machine.specs.Limits.{head_length}
-use Rattle.rio_machine.specs.declared.command.Command.{Command}
-use Rattle.rio_machine.specs.declared.command.Command.TheVariants.{Put}
-use Rattle.rio_machine.specs.declared.command.Outcome.{Outcome}
-use Rattle.rio_machine.specs.declared.command.Outcome.TheVariants.{Accepted, Refused}
-use Rattle.rio_machine.specs.declared.refusal.Refusal.TheVariants.{Full}
+use Rattle.rio_machine.specs.{Limits.{head_length}, declared.command.Command.{Command, TheVariants.{Put}}}
+use Rattle.rio_machine.specs.{declared.command.Outcome.{Outcome, TheVariants.{Accepted, Refused}}, declared.refusal.Refusal.TheVariants.{Full}}
 use Rattle.rio_record.specs.declared.record.NewRecord.{NewRecord}
 use Rattle.rio_state.specs.Closing.{close_need, end_limit, is_full, padded_length}
-use Rattle.rio_step.specs.ReplyText.{text_of}
-use Rattle.rio_step.specs.Statable.{IsStatable}
-use Rattle.rio_step.specs.Step.{object_put, refused}
+use Rattle.rio_step.specs.{ReplyText.{text_of}, Statable.{IsStatable}, Step.{object_put, refused}}
 use Rattle.rio_effect.proofs.PutClasses.{short_item}
-use Rattle.rio_judge.specs.Judging.{CanBeStored, IsJudgementOfStates, WorkCanBeDone}
-use Rattle.rio_judge.specs.declared.work.Judged.TheVariants.{Accepted as Judgement}
+use Rattle.rio_judge.specs.{Judging.{CanBeStored, IsJudgementOfStates, WorkCanBeDone}, declared.work.Judged.TheVariants.{Accepted as Judgement}}
 use Rattle.rio_judge.specs.declared.work.Work.TheVariants.{Put as Storing}
-use Rattle.rio_session.specs.Does.{Does}
-use Rattle.rio_session.specs.Kept.{IsSoundState, is_sized, kept_with}
-use Rattle.rio_session.specs.Puts.{CanBePut, IsStored, IsStoredRecord, PutsRecord, putting}
-use Rattle.rio_session.specs.Says.{SaysReply}
-use Rattle.rio_session.specs.Session.{IsReady, SessionState}
-use Rattle.rio_session.specs.declared.fault.SessionFault.{SessionFault}
-use Rattle.rio_session.proofs.CommandDoes.{full_does, put_does}
-use Rattle.rio_session.proofs.PutFacts.{can_be_put, class_is, name_is, sized_is}
+use Rattle.rio_session.specs.{Does.{Does}, Kept.{IsSoundState, is_sized, kept_with}, Puts.{CanBePut, IsStored, IsStoredRecord, PutsRecord, putting}}
+use Rattle.rio_session.specs.{Says.{SaysReply}, Session.{IsReady, SessionState}, declared.fault.SessionFault.{SessionFault}}
+use Rattle.rio_session.proofs.{CommandDoes.{full_does, put_does}, PutFacts.{can_be_put, class_is, name_is, sized_is}}
 use Rattle.rio_session.proofs.StoredRecords.{is_stored, own_class, short_key}
 
 module _ (s : SessionState) (name : List ℕ) (v stored : Value) (own : List ℕ) (number size : ℕ) (c : Command) (is : c ≡ Put name v) (can : WorkCanBeDone s.classes s.heads c (Storing stored own number size)) (statable : IsStatable c)

@@ -1,44 +1,24 @@
 -- A record that was made for a put can be put, and is the put's.
-use Rattle.std.proofs.Common.{◌≡◌, ℕ, ◌+◌, ◌^◌, ◌<◌, ◌≤◌, List, [], length, Option, Some, None, Bool, true, false, cond, ltb, length-append, refl, sym, ap, subst, ◌∙◌, arith}
-use Rattle.std.specs.Prelude.{unwrap_or}
-use Rattle.std.specs.List.{find}
+use Rattle.std.proofs.Common.{◌≡◌, ℕ, ◌+◌, ◌^◌, ◌<◌, ◌≤◌, List, [], length, Option, Some, None, true, ltb, refl, sym, ap, subst, ◌∙◌, arith}
 use Rattle.std.proofs.lemmas.Bool.{and_from, eq-eqb, le-leb, lt-ltb}
-use Rattle.byteorder.specs.Endian.{big_bytes}
-use Rattle.rio_num.specs.Text.{long_form, short_form, text_bytes}
+use Rattle.std.specs.{Prelude.{unwrap_or}, List.{find}}
+use Rattle.rio_num.proofs.TextLengths.{text_within}
 use Rattle.rio_types.specs.declared.class.ClassDef.{ClassDef}
-use Rattle.rio_key.specs.Written.{written_key}
-use Rattle.rio_key.specs.declared.head.KeyHead.{KeyHead}
+use Rattle.rio_key.specs.{Written.{written_key}, declared.head.KeyHead.{KeyHead}}
 use Rattle.rio_value.specs.declared.value.Value.{Value}
 use Rattle.rio_format.specs.Written.{written_form}
 use Rattle.rio_dir.specs.Table.{head_of, is_at_cycle, with_head}
-use Rattle.rio_chain.specs.Placing.{file_end, place_of, record_count, with_segment}
-use Rattle.rio_chain.specs.Segments.{IsRecord}
-use Rattle.rio_machine.specs.Limits.{head_length}
-use Rattle.rio_machine.specs.State.{State}
-use Rattle.rio_machine.specs.declared.command.Command.TheVariants.{Put}
-use Rattle.rio_record.specs.Record.{new_key, record_bytes}
-use Rattle.rio_record.specs.declared.record.NewRecord.{NewRecord}
-use Rattle.rio_record.specs.declared.words.KeyWords.{KeyWords}
+use Rattle.rio_chain.specs.{Placing.{file_end, place_of, record_count, with_segment}, Segments.{IsRecord}}
+use Rattle.rio_machine.specs.{Limits.{head_length}, State.{State}, declared.command.Command.TheVariants.{Put}}
+use Rattle.rio_record.specs.{Record.{new_key, record_bytes}, declared.record.NewRecord.{NewRecord}, declared.words.KeyWords.{KeyWords}}
 use Rattle.rio_record.proofs.Records.{key_long}
 use Rattle.rio_state.specs.Closing.{close_need, end_limit, padded_length}
-use Rattle.rio_step.specs.Refusing.{object_class, put_value, refusal_of}
-use Rattle.rio_step.specs.ReplyText.{text_of}
-use Rattle.rio_step.specs.Step.{object_put}
+use Rattle.rio_step.specs.{Refusing.{object_class, put_value, refusal_of}, ReplyText.{text_of}, Step.{object_put}}
 use Rattle.rio_effect.specs.ObjectRecord.{key_of_put, object_data, object_key, object_record, object_words, record_of_put}
 use Rattle.rio_judge.specs.Judging.{IsStep}
-use Rattle.rio_session.specs.Kept.{is_fit_key, is_sized, kept_with}
-use Rattle.rio_session.specs.Puts.{CanBePut, IsStoredRecord, putting}
-use Rattle.rio_session.specs.Session.{SessionState}
+use Rattle.rio_judge.proofs.CostLaws.{cost_accepted}
+use Rattle.rio_session.specs.{Kept.{is_fit_key, is_sized, kept_with}, Puts.{CanBePut, IsStoredRecord, putting}, Session.{SessionState}}
 use Rattle.rio_session.proofs.PutAnswers.{IsPutOf}
-use Rattle.rio_session.proofs.Refused.{cost_accepted}
-
--- a text isn't longer than its bytes
-text_short : (text : List ℕ) → length text ≤ length (text_bytes text)
-text_short text = by (ltb (length text) 255)
-  where
-    by : (b : Bool) → length text ≤ length (cond b (short_form text) (long_form text))
-    by true = omega arith
-    by false = omega (arith, length-append (big_bytes 4 (length text)) text)
 
 module _ (s : SessionState) (place : ℕ) (name : List ℕ) (v : Value) (own : List ℕ) (number size : ℕ) (made : NewRecord) (r : IsStoredRecord s place name v own number size made) where
   abbrev words : KeyWords
@@ -61,8 +41,8 @@ module _ (s : SessionState) (place : ℕ) (name : List ℕ) (v : Value) (own : L
 
   fit_is : place < 2 ^ 32 → head_length own name ≤ 229 → is_fit_key own_key ≡ true
   fit_is low short =
-      let class : length own ≤ 65535 = omega (arith, short, text_short own) in
-      let named : length name ≤ 65535 = omega (arith, short, text_short name) in
+      let class : length own ≤ 65535 = omega (arith, short, text_within own) in
+      let named : length name ≤ 65535 = omega (arith, short, text_within name) in
       and_from _ _ (and_from _ _ (and_from _ _ (and_from _ _ (lt-ltb place (2 ^ 32) low) refl) (le-leb (length own) 65535 class)) (le-leb (length name) 65535 named)) refl
 
   pub can_be_put : (need : ℕ) → place < 2 ^ 32 → head_length own name ≤ 229 → place ≡ place_of s.segments (padded_length (head_length own name + size)) → head_of name (Some number) s.heads ≡ None

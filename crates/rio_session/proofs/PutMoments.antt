@@ -1,22 +1,14 @@
 -- A record is put, and then its text is said: what a stop leaves meanwhile.
 use Rattle.std.proofs.Common.{◌≡◌, inl, inr, ⊎_elim, ℕ, ◌+◌, ◌-◌, ◌^◌, min, List, ◌++◌, length, take, Option, Some, Err, sym, ap, subst, ◌∙◌}
 use Rattle.std.proofs.lemmas.List.{append-nil}
-use Rattle.rio_host.specs.Host.{Becomes, Elapses, IsLawful, IsQuiet, Longer, LongerByPart, Rose, Speaking, View}
+use Rattle.rio_host.specs.Host.{Any, Becomes, Elapses, IsLawful, IsQuiet, Longer, LongerByPart, Rose, Speaking, View}
 use Rattle.rio_host.proofs.Moments.{elapses_as, elapses_join, says_quiet}
 use Rattle.rio_key.specs.declared.head.KeyHead.{KeyHead}
 use Rattle.rio_dir.specs.Table.{with_head}
-use Rattle.rio_chain.specs.Chains.{HasChain}
-use Rattle.rio_chain.specs.Changes.{with_record}
-use Rattle.rio_chain.specs.Placing.{with_segment}
-use Rattle.rio_chain.specs.Segments.{IsChain, Link}
-use Rattle.rio_chain.specs.Stops.{Any, IsEither, KeepsFront}
+use Rattle.rio_chain.specs.{Chains.{HasChain}, Changes.{with_record}, Placing.{with_segment}, Segments.{IsChain, Link}, Stops.{IsEither, KeepsFront}}
 use Rattle.rio_chain.specs.declared.segment.Segment.{Segment}
-use Rattle.rio_session.specs.Causes.{NoCountRose}
-use Rattle.rio_session.specs.Puts.{IsPutOrNot, PutAndSaid, PutNotSaid, Putting, PutsInTime}
-use Rattle.rio_session.specs.Says.{NotSaid, Said, SaysReply}
-use Rattle.rio_session.specs.Session.{SessionState}
-use Rattle.rio_session.specs.declared.fault.SessionFault.{SessionFault}
-use Rattle.rio_session.specs.declared.fault.SessionFault.TheVariants.{SayFault}
+use Rattle.rio_session.specs.{Causes.{NoCountRose}, Puts.{IsPutOrNot, PutAndSaid, PutNotSaid, Putting, PutsInTime}, Says.{NotSaid, Said, SaysReply}}
+use Rattle.rio_session.specs.{Session.{SessionState}, declared.fault.SessionFault.{SessionFault, TheVariants.{SayFault}}}
 
 -- the file that a put leaves
 abbrev pub IsPutFile : Putting → View → SessionState → List ℕ → List Link → Type 0

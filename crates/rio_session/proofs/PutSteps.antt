@@ -1,64 +1,35 @@
 -- A put is the step of its command.
 use Rattle.std.proofs.Common.{◌≡◌, inl, inr, ℕ, ◌+◌, ◌-◌, ◌*◌, ◌^◌, ◌<◌, ◌≤◌, List, [], ◌∷◌, length, map, min, sum, add-zero, Option, Some, None, Bool, true, false, refl, sym, ap, subst, ◌∙◌, arith}
-use Rattle.std.specs.Prelude.{if◌then◌else◌, is_some, unwrap_or}
-use Rattle.std.specs.List.{find, fold, list_all, sum_by}
-use Rattle.std.specs.Option.{option_map_or}
-use Rattle.std.proofs.lemmas.Bool.{cases_lt, eq-eqb, eqb-true}
-use Rattle.std.proofs.lemmas.List.Sums.{sum_by-cons}
+use Rattle.std.proofs.{lemmas.Bool.{cases_lt, eq-eqb, eqb-true}, lemmas.List.Sums.{sum_by-cons}}
+use Rattle.std.specs.{Prelude.{if◌then◌else◌, is_some, unwrap_or}, List.{find, fold, list_all, sum_by}, Option.{option_map_or}}
 use Rattle.rio_num.specs.Word.{is_item_text}
-use Rattle.rio_key.specs.declared.head.KeyHead.{KeyHead}
-use Rattle.rio_key.specs.Written.{written_key}
+use Rattle.rio_key.specs.{declared.head.KeyHead.{KeyHead}, Written.{written_key}}
 use Rattle.rio_value.specs.declared.value.Value.{Value}
 use Rattle.rio_dir.specs.Table.{head_of, is_at_cycle, with_head}
-use Rattle.rio_chain.specs.Changes.{with_record}
-use Rattle.rio_chain.specs.Placing.{file_end, place_of, record_count, with_segment}
-use Rattle.rio_chain.specs.Segments.{Link, chain_end, segment_of}
-use Rattle.rio_chain.proofs.PutChain.{map_end}
+use Rattle.rio_chain.specs.{Changes.{with_record}, Placing.{file_end, place_of, record_count, with_segment}, Segments.{Link, chain_end, segment_of}}
 use Rattle.rio_chain.specs.declared.segment.Segment.{Segment}
+use Rattle.rio_chain.proofs.PutChain.{map_end}
 use Rattle.rio_model.specs.StateClasses.{StateClasses}
-use Rattle.rio_machine.specs.Limits.{head_length}
-use Rattle.rio_machine.specs.State.{State, next_cycle}
-use Rattle.rio_machine.specs.declared.command.Command.TheVariants.{Put}
-use Rattle.rio_machine.specs.declared.command.Outcome.TheVariants.{Refused}
-use Rattle.rio_machine.specs.declared.refusal.Refusal.{Refusal}
-use Rattle.rio_machine.specs.declared.refusal.Refusal.TheVariants.{Full}
+use Rattle.rio_machine.specs.{Limits.{head_length}, State.{State, next_cycle}, declared.command.Command.TheVariants.{Put}}
+use Rattle.rio_machine.specs.{declared.command.Outcome.TheVariants.{Refused}, declared.refusal.Refusal.{Refusal, TheVariants.{Full}}}
 use Rattle.rio_record.proofs.Records.{key_long}
 use Rattle.rio_state.specs.Closing.{close_need, closing_lengths, end_limit, free_length, held_of, is_full, kept_count, kept_in, list_length, padded_length}
-use Rattle.rio_state.specs.KeyedRecords.{KeyedRecord, info_key, keyed_records}
-use Rattle.rio_state.specs.Left.{info_head}
-use Rattle.rio_state.specs.Reads.{AreRecordsOf}
-use Rattle.rio_step.specs.ItemKeys.{AreKeysOfState, told_by_key}
-use Rattle.rio_step.specs.Refusing.{FullMark, object_class, put_value, refusal_of}
-use Rattle.rio_step.specs.Costs.{cost_of, room_limit, value_size}
-use Rattle.rio_step.specs.ReplyText.{text_of}
-use Rattle.rio_step.specs.Runs.{saved_of}
+use Rattle.rio_state.specs.{KeyedRecords.{KeyedRecord, info_key, keyed_records}, Left.{info_head}, Reads.{AreRecordsOf}, OneMore.{keyed_bytes}}
+use Rattle.rio_step.specs.{ItemKeys.{AreKeysOfState, told_by_key}, Refusing.{FullMark, object_class, put_value, refusal_of}}
+use Rattle.rio_step.specs.{Costs.{cost_of, room_limit, value_size}, ReplyText.{text_of}, Runs.{saved_of}}
 use Rattle.rio_step.specs.Step.{Stepped, listed_object, object_put, outcome_of, refused, state_behind}
-use Rattle.rio_state.specs.OneMore.{keyed_bytes}
-use Rattle.rio_effect.specs.Laws.{IsPutRecord, kept_by_keys}
-use Rattle.rio_effect.specs.More.{KeepsOneMore}
+use Rattle.rio_effect.specs.{Laws.{IsPutRecord, kept_by_keys}, More.{KeepsOneMore}}
 use Rattle.rio_effect.specs.ObjectRecord.{data_of_put, key_of_put, object_key, record_of_put, words_of_put}
-use Rattle.rio_effect.proofs.Held.{held_grows}
-use Rattle.rio_state.proofs.MoreRecords.{record_more}
-use Rattle.rio_effect.proofs.Needs.{need_grows}
-use Rattle.rio_effect.proofs.NeedsByKeys.{need_by_keys as keys_need}
-use Rattle.rio_effect.proofs.PutEffect.{puts_have_records, saved_put_takes_effect}
-use Rattle.rio_state.proofs.Stays.{info_stays}
-use Rattle.rio_effect.proofs.PutKeys.{put_key_follows}
+use Rattle.rio_effect.proofs.{Held.{held_grows}, Needs.{need_grows}, NeedsByKeys.{need_by_keys as keys_need}}
+use Rattle.rio_effect.proofs.{PutEffect.{puts_have_records, saved_put_takes_effect}, PutKeys.{put_key_follows}}
+use Rattle.rio_state.proofs.{MoreRecords.{record_more}, Stays.{info_stays}}
+use Rattle.rio_close.proofs.Fitting.{count_with}
 use Rattle.rio_judge.specs.Judging.{IsStep}
-use Rattle.rio_session.specs.Behind.{IsOfKeys}
-use Rattle.rio_session.specs.Kept.{is_sized, kept_with}
-use Rattle.rio_session.specs.Marks.{command_lengths, mark_of_command, segments_behind, state_need, with_placed}
-use Rattle.rio_session.specs.Puts.{Putting}
-use Rattle.rio_session.specs.Session.{HoldsState, SessionState, next_of}
-use Rattle.rio_session.proofs.Keeps.{all_with, count_with, length_with, size_with}
-use Rattle.rio_session.proofs.Needs.{need_by_keys}
-use Rattle.rio_session.proofs.Places.{end_most, full_is, sum_one}
-use Rattle.rio_session.proofs.KeysBehind.{keys_behind}
-use Rattle.rio_session.proofs.PutAnswers.{IsPutOf, IsPutStep, IsPutting}
-use Rattle.rio_session.proofs.Refused.{refused_full, step_accepted, step_refused}
-use Rattle.rio_session.proofs.Replies.{IsStill}
-use Rattle.rio_session.proofs.States.{Known, known, of_keys}
-use Rattle.rio_session.proofs.StoredRecords.{no_classes}
+use Rattle.rio_session.specs.{Behind.{IsOfKeys}, Kept.{is_sized, kept_with}, Marks.{command_lengths, mark_of_command, segments_behind, state_need, with_placed}}
+use Rattle.rio_session.specs.{Puts.{Putting}, Session.{HoldsState, SessionState, next_of}}
+use Rattle.rio_session.proofs.{Keeps.{all_with, length_with, size_with}, Needs.{need_by_keys}, Places.{end_most, full_is, sum_one}}
+use Rattle.rio_session.proofs.{KeysBehind.{keys_behind}, PutAnswers.{IsPutOf, IsPutStep, IsPutting}, Refused.{refused_full, step_accepted, step_refused}}
+use Rattle.rio_session.proofs.{Replies.{IsStill}, States.{Known, known, of_keys}, StoredRecords.{no_classes}}
 
 sum_two : (f : ℕ → ℕ) (a b : ℕ) → sum_by f (a ∷ b ∷ []) ≡ f a + f b
 sum_two f a b = sum_by-cons f a (b ∷ []) ∙ ap (λ (n : ℕ). f a + n) (sum_by-cons f b [] ∙ add-zero (f b))

@@ -1,22 +1,14 @@
 -- Refusals with a mark and without one.
 use Rattle.std.proofs.Common.{◌≡◌, List, [], ◌∷◌, ◌++◌, take, Option, Some, None, cond, refl, sym, ap, ◌∙◌}
-use Rattle.std.specs.Prelude.{is_some}
-use Rattle.std.specs.Option.{option_or}
-use Rattle.rio_machine.specs.State.{State}
-use Rattle.rio_machine.specs.declared.command.Command.{Command}
-use Rattle.rio_machine.specs.declared.refusal.Refusal.{Refusal}
-use Rattle.rio_machine.specs.declared.refusal.Refusal.TheVariants.{Full}
-use Rattle.rio_step.specs.Costs.{accepted_cost, cost_of}
-use Rattle.rio_step.specs.Refusing.{FullMark, first_of, marked_full, refusal_of, refusals}
+use Rattle.std.specs.{Prelude.{is_some}, Option.{option_or}}
+use Rattle.rio_num.proofs.Cases.{or_none}
+use Rattle.rio_machine.specs.{State.{State}, declared.command.Command.{Command}, declared.refusal.Refusal.{Refusal, TheVariants.{Full}}}
+use Rattle.rio_step.specs.{Costs.{accepted_cost, cost_of}, Refusing.{FullMark, first_of, marked_full, refusal_of, refusals}}
 use Rattle.rio_step.specs.Step.{by_refusal, refused, reply_to, state_behind, step}
 
 -- all tests but that of room
 abbrev pub own_refusals : State → Command → List (Option Refusal)
 own_refusals m c = take 18 (refusals m c None)
-
-or_none : {A : Type 0} (x : Option A) → option_or x None ≡ x
-or_none None = refl
-or_none (Some x) = refl
 
 or_in : {A : Type 0} (x y z : Option A) → option_or x (option_or y z) ≡ option_or (option_or x y) z
 or_in None y z = refl
@@ -60,7 +52,3 @@ step_accepted m c mark is = ap (by_refusal m c) is
 pub cost_refused : (m : State) (c : Command) (refusal : Refusal) → refusal_of m c None ≡ Some refusal → cost_of m c ≡ 0
 unfolding cost_of
 cost_refused m c refusal is = ap (λ (o : Option Refusal). cond (is_some o) 0 (accepted_cost m c)) is
-
-pub cost_accepted : (m : State) (c : Command) → refusal_of m c None ≡ None → cost_of m c ≡ accepted_cost m c
-unfolding cost_of
-cost_accepted m c is = ap (λ (o : Option Refusal). cond (is_some o) 0 (accepted_cost m c)) is

@@ -1,34 +1,19 @@
 -- Commands that do no more than say a reply.
 use Rattle.std.proofs.Common.{◌≡◌, inl, inr, ⊎_elim, ℕ, ◌+◌, ◌*◌, ◌-◌, ◌^◌, ◌<◌, ◌≤◌, min, false, List, [], ◌++◌, take, Option, Some, None, Result, Ok, Err, IfOk, refl, sym, ap, subst, ◌∙◌, arith}
 use Rattle.std.proofs.lemmas.List.{append-nil}
-use Rattle.rio_host.specs.Host.{Becomes, Elapses, IsLawful, Leaves, Longer, LongerByPart, Rose, Speaking, Unwritten, View}
-use Rattle.rio_host.specs.OnlyReads.{OnlyReads}
-use Rattle.rio_host.proofs.Images.{becomes_some}
-use Rattle.rio_host.proofs.Moments.{elapses_as, elapses_join, leaves_back, says_quiet}
-use Rattle.rio_host.proofs.ReadsLaws.{reads_none, said_grows}
+use Rattle.rio_host.specs.{Host.{Any, Becomes, Elapses, IsLawful, Leaves, Longer, LongerByPart, Rose, Speaking, Unwritten, View}, OnlyReads.{OnlyReads}}
+use Rattle.rio_host.proofs.{Images.{becomes_some}, Moments.{elapses_as, elapses_join, leaves_back, says_quiet}, ReadsLaws.{reads_none, said_grows}}
 use Rattle.rio_value.specs.declared.value.Value.{Value}
-use Rattle.rio_chain.specs.Chains.{HasChain}
-use Rattle.rio_chain.specs.Segments.{Link}
-use Rattle.rio_chain.specs.Stops.{Any}
-use Rattle.rio_machine.specs.State.{State}
-use Rattle.rio_machine.specs.declared.command.Command.{Command}
-use Rattle.rio_machine.specs.declared.command.Command.TheVariants.{Put}
-use Rattle.rio_machine.specs.declared.command.Outcome.{Outcome}
-use Rattle.rio_machine.specs.declared.command.Outcome.TheVariants.{Accepted, Refused}
+use Rattle.rio_chain.specs.{Chains.{HasChain}, Segments.{Link}}
+use Rattle.rio_machine.specs.{State.{State}, declared.command.Command.{Command, TheVariants.{Put}}}
+use Rattle.rio_machine.specs.declared.command.Outcome.{Outcome, TheVariants.{Accepted, Refused}}
 use Rattle.rio_state.specs.Closing.{held_of}
-use Rattle.rio_step.specs.Costs.{cost_of}
-use Rattle.rio_step.specs.ReplyText.{text_of}
-use Rattle.rio_step.specs.Step.{Stepped, outcome_of}
-use Rattle.rio_session.specs.Behind.{FollowsStep, IsOfKeys}
-use Rattle.rio_session.specs.Causes.{IsSaid, StaysIfRefused}
-use Rattle.rio_session.specs.Does.{Does}
-use Rattle.rio_session.specs.Marks.{segments_behind}
+use Rattle.rio_step.specs.{Costs.{cost_of}, ReplyText.{text_of}, Step.{Stepped, outcome_of}}
+use Rattle.rio_session.specs.{Behind.{FollowsStep, IsOfKeys}, Causes.{IsSaid, StaysIfRefused}, Does.{Does}, Marks.{segments_behind}}
 use Rattle.rio_session.specs.Says.{NotSaid, Said, SaysReply}
 use Rattle.rio_session.specs.Session.{FollowsCommand, HoldsState, IsOpenAs, IsReady, LacksRoomIfFull, LeavesOpenAs, SessionState, StandsFor, Steps, Went, next_of, with_cost}
-use Rattle.rio_session.specs.declared.fault.SessionFault.{SessionFault}
-use Rattle.rio_session.specs.declared.fault.SessionFault.TheVariants.{HostFault, SayFault, NoMemory}
-use Rattle.rio_session.proofs.Opened.{reads_open}
-use Rattle.rio_session.proofs.Spoken.{front_none, front_part, front_whole, grows_none, grows_whole, reads_stay, speaking_stays}
+use Rattle.rio_session.specs.declared.fault.SessionFault.{SessionFault, TheVariants.{HostFault, SayFault, NoMemory}}
+use Rattle.rio_session.proofs.{Opened.{reads_open}, Spoken.{front_none, front_part, front_whole, grows_none, grows_whole, reads_stay, speaking_stays}}
 use Rattle.rio_session.proofs.States.{of_keys}
 
 -- ---- what is told

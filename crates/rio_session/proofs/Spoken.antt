@@ -1,11 +1,7 @@
 -- What was said, whatever was told before.
-use Rattle.std.proofs.Common.{◌≡◌, ℕ, List, [], ◌++◌, length, take, Option, Some, None, sym, ap, ◌∙◌}
-use Rattle.std.proofs.Math.Seq.{take-length}
-use Rattle.std.proofs.lemmas.List.{append-nil}
-use Rattle.rio_host.specs.Host.{Becomes, Elapses, Leaves, Longer, LongerByPart, Speaking, View}
-use Rattle.rio_host.specs.OnlyReads.{Grown, OnlyReads}
-use Rattle.rio_host.proofs.Images.{becomes_as, becomes_some}
-use Rattle.rio_host.proofs.Moments.{elapses_as}
+use Rattle.std.proofs.{Common.{◌≡◌, ℕ, List, [], ◌++◌, length, take, Option, Some, None, sym, ap, ◌∙◌}, Math.Seq.{take-length}, lemmas.List.{append-nil}}
+use Rattle.rio_host.specs.{Host.{Becomes, Elapses, Leaves, Longer, LongerByPart, Speaking, View}, OnlyReads.{Grown, OnlyReads}}
+use Rattle.rio_host.proofs.{Images.{becomes_as, becomes_some}, Moments.{elapses_as}}
 use Rattle.rio_session.specs.Behind.{SaysPart, Stays}
 
 -- ---- how it grows

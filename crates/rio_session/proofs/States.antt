@@ -1,20 +1,16 @@
 -- States without trees: what a stop leaves of them is all of them.
 use Rattle.std.proofs.Common.{◌≡◌, ℕ, List, Option, Some, None, refl, sym, subst, ap, ◌∙◌}
-use Rattle.std.specs.FinMap.{FinMap, empty, get, get-empty, same_map}
-use Rattle.std.specs.Option.{option_map}
+use Rattle.std.specs.{FinMap.{FinMap, empty, get, get-empty, same_map}, Option.{option_map}}
+use Rattle.rio_num.specs.Word.{name_order}
 use Rattle.rio_key.specs.declared.head.KeyHead.{KeyHead}
 use Rattle.rio_chain.specs.Segments.{Link}
-use Rattle.rio_machine.specs.State.{State, Tree, name_order}
+use Rattle.rio_machine.specs.State.{State, Tree}
 use Rattle.rio_machine.proofs.OrderLaws.{names_tie, names_total}
-use Rattle.rio_state.specs.DirectoryKeys.{AreKeysOf}
-use Rattle.rio_state.specs.KeyedRecords.{keyed_records}
-use Rattle.rio_state.specs.Reads.{AreRecordsOf}
-use Rattle.rio_step.specs.ItemKeys.{AreKeysOfState}
-use Rattle.rio_step.specs.Runs.{saved_of, saved_tree}
+use Rattle.rio_state.specs.{DirectoryKeys.{AreKeysOf}, KeyedRecords.{keyed_records}, Reads.{AreRecordsOf}}
+use Rattle.rio_step.specs.{ItemKeys.{AreKeysOfState}, Runs.{saved_of, saved_tree}}
 use Rattle.rio_step.proofs.ClosedLaws.{saved_keeps_the_rest}
 use Rattle.rio_effect.proofs.KeysOfState.{keys_stand_for_state}
-use Rattle.rio_session.specs.Behind.{IsOfKeys}
-use Rattle.rio_session.specs.Session.{HoldsState, SessionState}
+use Rattle.rio_session.specs.{Behind.{IsOfKeys}, Session.{HoldsState, SessionState}}
 
 none_before : (o : Option Tree) → option_map saved_tree o ≡ None → o ≡ None
 none_before None e = refl

@@ -1,21 +1,17 @@
 -- Objects that are stored, and their records.
-use Rattle.std.proofs.Common.{◌≡◌, ℕ, ◌+◌, ◌^◌, ◌<◌, ◌≤◌, List, [], length, Option, Result, Ok, Err, IfOk, Bool, true, false, cond, not, ltb, refl, sym, ap, subst, ◌∷◌, ◌∙◌, arith}
-use Rattle.std.specs.Prelude.{unwrap_or}
-use Rattle.std.specs.Option.{option_map_or}
+use Rattle.std.proofs.{Common.{◌≡◌, ℕ, ◌+◌, ◌^◌, ◌<◌, ◌≤◌, List, [], length, Option, Result, Ok, Err, IfOk, true, false, not, ltb, sym, ap, subst, ◌∙◌, arith}, lemmas.List.{nil_from_length}}
 use Rattle.std.proofs.lemmas.Bool.{ltb-false, not-false}
-use Rattle.rio_num.specs.Text.{long_form, short_form, text_bytes}
+use Rattle.std.specs.{Prelude.{unwrap_or}, Option.{option_map_or}}
 use Rattle.rio_num.specs.Word.{is_item_text}
+use Rattle.rio_num.proofs.TextLengths.{short_text_bytes}
 use Rattle.rio_types.specs.declared.class.ClassDef.{ClassDef}
 use Rattle.rio_value.specs.declared.value.Value.{Value}
-use Rattle.rio_format.specs.Slots.{can_be_put}
-use Rattle.rio_format.specs.WrittenBytes.{length_limit}
-use Rattle.rio_key.specs.declared.head.KeyHead.{KeyHead}
+use Rattle.rio_format.specs.{Slots.{can_be_put}, WrittenBytes.{length_limit}}
+use Rattle.rio_key.specs.{declared.head.KeyHead.{KeyHead}, Written.{padded_size}}
 use Rattle.rio_chain.specs.Segments.{IsRecord}
 use Rattle.rio_model.specs.StateClasses.{StateClasses}
 use Rattle.rio_machine.specs.Limits.{data_length, head_length}
-use Rattle.rio_record.specs.Laws.{IsNewRecord}
-use Rattle.rio_record.specs.Record.{FitsWords, key_size, new_key, padded_size, record_bytes}
-use Rattle.rio_record.specs.declared.record.NewRecord.{NewRecord}
+use Rattle.rio_record.specs.{Laws.{IsNewRecord}, Record.{FitsWords, key_size, new_key, record_bytes}, declared.record.NewRecord.{NewRecord}}
 use Rattle.rio_record.specs.declared.words.KeyWords.{KeyWords}
 use Rattle.rio_record.proofs.Records.{are_new_records}
 use Rattle.rio_state.specs.Closing.{padded_length}
@@ -23,22 +19,10 @@ use Rattle.rio_step.specs.Refusing.{object_class}
 use Rattle.rio_effect.specs.ObjectRecord.{object_data, object_words}
 use Rattle.rio_effect.proofs.PutClasses.{IsObjectClass, object_class_is, short_item}
 use Rattle.rio_judge.specs.Judging.{CanBeStored}
-use Rattle.rio_session.specs.Puts.{IsStored, IsStoredRecord}
-use Rattle.rio_session.specs.Session.{SessionState}
-
-no_list : (classes : List ClassDef) → length classes ≡ 0 → classes ≡ []
-no_list [] e = refl
-no_list (c ∷ classes) e = absurd (omega arith)
+use Rattle.rio_session.specs.{Puts.{IsStored, IsStoredRecord}, Session.{SessionState}}
 
 pub no_classes : (classes : List ClassDef) → length classes ≡ 0 → StateClasses classes
-no_classes classes none = subst StateClasses (sym (no_list classes none)) tt
-
-text_long : (text : List ℕ) → length text ≤ 100 → length (text_bytes text) ≤ 101
-text_long text le = by (ltb (length text) 255) refl
-  where
-    by : (b : Bool) → ltb (length text) 255 ≡ b → length (cond b (short_form text) (long_form text)) ≤ 101
-    by true e = omega (arith, le)
-    by false e = absurd (omega (arith, le, ltb-false (length text) 255 e))
+no_classes classes none = subst StateClasses (sym (nil_from_length classes none)) tt
 
 module _ (classes : List ClassDef) (heads : List KeyHead) (name : List ℕ) (v stored : Value) (own : List ℕ) (number size : ℕ) (can : CanBeStored classes heads name v stored own number size)
     (none : length classes ≡ 0) (named : is_item_text name ≡ true) where
@@ -50,7 +34,7 @@ module _ (classes : List ClassDef) (heads : List KeyHead) (name : List ℕ) (v s
       (not-false (can_be_put classes own) (ap (λ (o : Option (List ℕ)). option_map_or (λ c. not (can_be_put classes c)) o false) (sym can.class) ∙ can.object.taken))
 
   pub short_key : head_length own name ≤ 229
-  short_key = omega (arith, text_long own own_class.short, text_long name (short_item name named))
+  short_key = omega (arith, short_text_bytes own own_class.short, short_text_bytes name (short_item name named))
 
   short_data : data_length classes (unwrap_or (object_class stored) []) name stored ≤ length_limit
   short_data = ltb-false length_limit (data_length classes (unwrap_or (object_class stored) []) name stored) can.object.short

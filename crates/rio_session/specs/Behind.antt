@@ -3,19 +3,10 @@ use Rattle.std.specs.Prelude.{◌≡◌, ℕ, List, ◌++◌, length, take, Some
 use Rattle.rio_host.specs.Host.{Unwritten, View}
 use Rattle.rio_value.specs.declared.value.Value.{Value}
 use Rattle.rio_dir.specs.Table.{with_head}
-use Rattle.rio_chain.specs.Chains.{HasChain}
-use Rattle.rio_chain.specs.Changes.{with_record}
-use Rattle.rio_chain.specs.Placing.{place_of}
-use Rattle.rio_chain.specs.Segments.{Link}
-use Rattle.rio_chain.specs.Stops.{KeepsFront}
-use Rattle.rio_machine.specs.State.{State}
-use Rattle.rio_machine.specs.declared.command.Command.{Command}
-use Rattle.rio_machine.specs.declared.command.Command.TheVariants.{Put}
-use Rattle.rio_machine.specs.declared.command.Outcome.{Outcome}
-use Rattle.rio_machine.specs.declared.command.Outcome.TheVariants.{Refused}
+use Rattle.rio_chain.specs.{Chains.{HasChain}, Changes.{with_record}, Placing.{place_of}, Segments.{Link}, Stops.{KeepsFront}}
+use Rattle.rio_machine.specs.{State.{State}, declared.command.Command.{Command, TheVariants.{Put}}, declared.command.Outcome.{Outcome, TheVariants.{Refused}}}
 use Rattle.rio_machine.specs.declared.refusal.Refusal.{Refusal}
-use Rattle.rio_step.specs.ItemKeys.{AreKeysOfState}
-use Rattle.rio_step.specs.Step.{outcome_of}
+use Rattle.rio_step.specs.{ItemKeys.{AreKeysOfState}, Step.{outcome_of}}
 use Rattle.rio_effect.specs.ObjectRecord.{key_of_put, record_of_put}
 use Rattle.rio_session.specs.Session.{FollowsCommand, SessionState, next_of}
 

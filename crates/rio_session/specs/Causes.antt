@@ -1,17 +1,11 @@
 -- Why a call of a session failed, and what it leaves then.
 use Rattle.std.specs.Prelude.{◌≡◌, ℕ, List, Bool, true, false, None, Some, Result, Ok, Err}
-use Rattle.rio_head.specs.Head.{IsHeaderKind, fault_at}
-use Rattle.rio_head.specs.declared.reason.Reason.TheVariants.{NotYet}
+use Rattle.rio_head.specs.{Head.{IsHeaderKind, fault_at}, declared.reason.Reason.TheVariants.{NotYet}}
 use Rattle.rio_dir.specs.Unborn.{header_fault, is_unborn}
 use Rattle.rio_host.specs.Host.{Rose, Unwritten, View}
-use Rattle.rio_machine.specs.declared.command.Command.{Command}
-use Rattle.rio_machine.specs.declared.command.Command.TheVariants.{Get}
-use Rattle.rio_machine.specs.declared.command.Outcome.{Outcome}
-use Rattle.rio_machine.specs.declared.command.Outcome.TheVariants.{Accepted, Refused}
-use Rattle.rio_session.specs.declared.fault.OpenFault.{OpenFault}
-use Rattle.rio_session.specs.declared.fault.OpenFault.TheVariants.{BadFile, ReadOnly, NoMemory as NotRoomy, HostFault as NotOpened}
-use Rattle.rio_session.specs.declared.fault.SessionFault.{SessionFault}
-use Rattle.rio_session.specs.declared.fault.SessionFault.TheVariants.{HostFault, SayFault, NoMemory}
+use Rattle.rio_machine.specs.{declared.command.Command.{Command, TheVariants.{Get}}, declared.command.Outcome.{Outcome, TheVariants.{Accepted, Refused}}}
+use Rattle.rio_session.specs.declared.fault.OpenFault.{OpenFault, TheVariants.{BadFile, ReadOnly, NoMemory as NotRoomy, HostFault as NotOpened}}
+use Rattle.rio_session.specs.declared.fault.SessionFault.{SessionFault, TheVariants.{HostFault, SayFault, NoMemory}}
 
 -- ---- counts
 

@@ -1,18 +1,10 @@
 -- What a close makes of the file of a session.
-use Rattle.std.specs.Prelude.{◌≡◌, true, List, ℕ, Some}
-use Rattle.std.specs.List.{list_all}
+use Rattle.std.specs.{Prelude.{◌≡◌, true, List, ℕ, Some}, List.{list_all}}
 use Rattle.rio_host.specs.Host.{View}
-use Rattle.rio_chain.specs.Chains.{HasChain}
-use Rattle.rio_chain.specs.Segments.{Link}
-use Rattle.rio_state.specs.Closing.{kept_in}
-use Rattle.rio_state.specs.DirectoryKeys.{AreKeysOf}
-use Rattle.rio_state.specs.KeyedRecords.{info_key, keyed_records}
-use Rattle.rio_state.specs.Left.{HasOpenHead, info_head}
-use Rattle.rio_close.specs.Leaving.{HoldsClosedWith, IsClosedWith}
-use Rattle.rio_close.specs.Written.{AreCloseRecords, OpenFile}
-use Rattle.rio_close.specs.declared.parts.CloseRecords.{CloseRecords}
-use Rattle.rio_session.specs.Kept.{is_owned}
-use Rattle.rio_session.specs.Session.{SessionState}
+use Rattle.rio_chain.specs.{Chains.{HasChain}, Segments.{Link}}
+use Rattle.rio_state.specs.{Closing.{kept_in}, DirectoryKeys.{AreKeysOf}, KeyedRecords.{info_key, keyed_records}, Left.{HasOpenHead, info_head}}
+use Rattle.rio_close.specs.{Leaving.{HoldsClosedWith, IsClosedWith}, Written.{AreCloseRecords, OpenFile}, declared.parts.CloseRecords.{CloseRecords}}
+use Rattle.rio_session.specs.{Kept.{is_owned}, Session.{SessionState}}
 
 -- what a close writes of
 abbrev pub open_file : SessionState → OpenFile

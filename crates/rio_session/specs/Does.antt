@@ -1,22 +1,13 @@
 -- What a command does, in all clauses together.
 use Rattle.std.specs.Prelude.{◌≡◌, ℕ, List, IfOk, OnOk, OnErr, IsErrOf, Result}
-use Rattle.rio_host.specs.Host.{Becomes, Elapses, View}
-use Rattle.rio_host.specs.OnlyReads.{Grown, OnlyReads}
+use Rattle.rio_host.specs.{Host.{Any, Becomes, Elapses, View}, OnlyReads.{Grown, OnlyReads}}
 use Rattle.rio_value.specs.declared.value.Value.{Value}
-use Rattle.rio_chain.specs.Stops.{Any}
-use Rattle.rio_machine.specs.State.{State}
-use Rattle.rio_machine.specs.declared.command.Command.{Command}
-use Rattle.rio_machine.specs.declared.command.Command.TheVariants.{Put}
-use Rattle.rio_machine.specs.declared.command.Outcome.{Outcome}
-use Rattle.rio_machine.specs.declared.command.Outcome.TheVariants.{Accepted}
-use Rattle.rio_step.specs.Costs.{cost_of}
-use Rattle.rio_step.specs.ReplyText.{text_of}
-use Rattle.rio_step.specs.Step.{outcome_of}
+use Rattle.rio_machine.specs.{State.{State}, declared.command.Command.{Command, TheVariants.{Put}}, declared.command.Outcome.{Outcome, TheVariants.{Accepted}}}
+use Rattle.rio_step.specs.{Costs.{cost_of}, ReplyText.{text_of}, Step.{outcome_of}}
 use Rattle.rio_session.specs.Behind.{FollowsStep, HasPut, IsOfKeys, PutsNothing, SaysPart, Stays}
 use Rattle.rio_session.specs.Causes.{IsSaid, IsSessionCause, SaysNothing, StaysIfRefused, fails_by}
 use Rattle.rio_session.specs.Session.{IsReady, LacksRoomIfFull, LeavesOpenAs, SessionState, StandsFor, Steps, Went, next_of, with_cost}
-use Rattle.rio_session.specs.declared.fault.SessionFault.{SessionFault}
-use Rattle.rio_session.specs.declared.fault.SessionFault.TheVariants.{SayFault, NoMemory}
+use Rattle.rio_session.specs.declared.fault.SessionFault.{SessionFault, TheVariants.{SayFault, NoMemory}}
 
 pub record Does (old new : View) (before after : SessionState) (c : Command) (answer : Result Outcome SessionFault) : Type 0 where
   pub done : IfOk answer (λ outcome. (m : State) (text : List ℕ) → StandsFor old before m text → Went old new before after m c text outcome)

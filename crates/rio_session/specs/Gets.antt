@@ -5,15 +5,9 @@ use Rattle.rio_key.specs.declared.head.KeyHead.{KeyHead}
 use Rattle.rio_dir.specs.Table.{head_of}
 use Rattle.rio_format.specs.Objects.{value_at}
 use Rattle.rio_types.specs.declared.class.ClassDef.{ClassDef}
-use Rattle.rio_chain.specs.Chains.{HasChain}
-use Rattle.rio_chain.specs.Segments.{Link, RecordAt}
-use Rattle.rio_chain.specs.Walks.{Told}
-use Rattle.rio_chain.specs.declared.segment.Segment.{Segment}
+use Rattle.rio_chain.specs.{Chains.{HasChain}, Segments.{Link, RecordAt}, Walks.{Told}, declared.segment.Segment.{Segment}}
 use Rattle.rio_reply.specs.Told.{told_of}
-use Rattle.rio_session.specs.Causes.{IsSaid}
-use Rattle.rio_session.specs.Says.{SaysReply}
-use Rattle.rio_session.specs.Session.{SessionState}
-use Rattle.rio_session.specs.declared.fault.SessionFault.{SessionFault}
+use Rattle.rio_session.specs.{Causes.{IsSaid}, Says.{SaysReply}, Session.{SessionState}, declared.fault.SessionFault.{SessionFault}}
 
 -- what is told of a record with this key and these bytes
 abbrev pub record_text : List ClassDef → KeyHead → List ℕ → List ℕ

@@ -1,12 +1,8 @@
 -- What holds of all that a session keeps, whatever its host tells.
-use Rattle.std.specs.Prelude.{◌≡◌, ◌≤◌, ℕ, ◌+◌, ◌^◌, Bool, true, false, ◌==◌, ◌&&◌, ◌||◌, List, length, is_some, nat_lt, nat_le}
-use Rattle.std.specs.List.{list_all, list_any}
-use Rattle.rio_key.specs.Key.{key_place_len}
-use Rattle.rio_key.specs.Written.{written_key}
-use Rattle.rio_key.specs.declared.head.KeyHead.{KeyHead}
-use Rattle.rio_chain.specs.Placing.{file_end, record_count}
-use Rattle.rio_chain.specs.declared.segment.Segment.{Segment}
-use Rattle.rio_chain.specs.declared.segment.Segment.TheVariants.{Record, Gap}
+use Rattle.std.specs.{Prelude.{◌≡◌, ◌≤◌, ℕ, ◌+◌, ◌^◌, Bool, true, false, ◌==◌, ◌&&◌, ◌||◌, List, length, is_some, nat_lt, nat_le}, List.{list_all, list_any}}
+use Rattle.rio_num.specs.At.{place_len_of}
+use Rattle.rio_key.specs.{Written.{written_key}, declared.head.KeyHead.{KeyHead}}
+use Rattle.rio_chain.specs.{Placing.{file_end, record_count}, declared.segment.Segment.{Segment, TheVariants.{Record, Gap}}}
 use Rattle.rio_machine.specs.Limits.{head_length}
 use Rattle.rio_state.specs.Closing.{KeptRecords, close_need, end_limit}
 use Rattle.rio_session.specs.Session.{SessionState}
@@ -18,7 +14,7 @@ is_sized h = length (written_key h) == head_length h.class h.name
 -- its numbers fit what is written of it
 abbrev pub is_fit_key : KeyHead → Bool
 is_fit_key h =
-    nat_lt h.seek (256 ^ key_place_len h.version) && nat_lt h.pdir (256 ^ key_place_len h.version)
+    nat_lt h.seek (256 ^ place_len_of h.version) && nat_lt h.pdir (256 ^ place_len_of h.version)
     && nat_le (length h.class) 65535 && nat_le (length h.name) 65535 && (length h.title == 0)
 
 -- a record begins at the place

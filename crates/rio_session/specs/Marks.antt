@@ -1,27 +1,15 @@
 -- Where a command's records go, and which commands find no room.
-use Rattle.std.specs.Prelude.{ℕ, ◌+◌, List, [], ◌∷◌, length, map, sum, Option, Some, None, is_some, unwrap_or, if◌then◌else◌, ◌==◌}
-use Rattle.std.specs.FinMap.{entries}
+use Rattle.std.specs.{Prelude.{ℕ, ◌+◌, List, [], ◌∷◌, length, map, sum, Option, Some, None, is_some, if◌then◌else◌, ◌==◌}, FinMap.{entries}}
 use Rattle.std.specs.List.{fold}
 use Rattle.rio_key.specs.declared.head.KeyHead.{KeyHead}
 use Rattle.rio_value.specs.declared.value.Value.{Value}
-use Rattle.rio_chain.specs.declared.segment.Segment.{Segment}
-use Rattle.rio_chain.specs.Placing.{file_end, place_of, with_segment}
-use Rattle.rio_machine.specs.Limits.{head_length}
-use Rattle.rio_machine.specs.State.{NameAndCycle, State}
-use Rattle.rio_machine.specs.declared.command.Command.{Command}
-use Rattle.rio_machine.specs.declared.command.Command.TheVariants.{Put}
+use Rattle.rio_chain.specs.{declared.segment.Segment.{Segment}, Placing.{file_end, place_of, with_segment}}
+use Rattle.rio_machine.specs.{Limits.{head_length}, State.{NameAndCycle, State}, declared.command.Command.{Command, TheVariants.{Put}}}
 use Rattle.rio_record.specs.Record.{new_key}
-use Rattle.rio_step.specs.Costs.{value_size}
-use Rattle.rio_step.specs.Refusing.{FullMark, object_class, put_value, refusal_of}
-use Rattle.rio_step.specs.Runs.{Marks}
-use Rattle.rio_step.specs.Step.{state_behind, step}
+use Rattle.rio_step.specs.{Costs.{value_size}, Refusing.{FullMark, object_class_name, put_value, refusal_of}, Runs.{Marks}, Step.{state_behind, step}}
 use Rattle.rio_state.specs.Closing.{KeptRecords, close_need, is_full, padded_length}
 
 -- ---- what a file of a state keeps
-
--- the class of an object, and no name for another value
-abbrev pub object_class_name : Value → List ℕ
-object_class_name v = unwrap_or (object_class v) []
 
 -- a key as long as that of the object
 abbrev pub key_of_object : NameAndCycle × Value → KeyHead

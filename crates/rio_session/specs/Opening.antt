@@ -1,11 +1,8 @@
 -- A file's first bytes, as they are tested before it is made.
 use Rattle.std.specs.Prelude.{◌≡◌, Result, Ok, Err}
-use Rattle.rio_head.specs.Head.{IsHeaderKind}
-use Rattle.rio_head.specs.declared.reason.Reason.TheVariants.{NotYet}
-use Rattle.rio_create.specs.declared.fault.CreateFault.{CreateFault}
-use Rattle.rio_create.specs.declared.fault.CreateFault.TheVariants.{NoMemory as NoRoomToMake, HostFault as NotMade}
-use Rattle.rio_session.specs.declared.fault.OpenFault.{OpenFault}
-use Rattle.rio_session.specs.declared.fault.OpenFault.TheVariants.{BadFile, ReadOnly, NoMemory, HostFault}
+use Rattle.rio_head.specs.{Head.{IsHeaderKind}, declared.reason.Reason.TheVariants.{NotYet}}
+use Rattle.rio_create.specs.declared.fault.CreateFault.{CreateFault, TheVariants.{NoMemory as NoRoomToMake, HostFault as NotMade}}
+use Rattle.rio_session.specs.declared.fault.OpenFault.{OpenFault, TheVariants.{BadFile, ReadOnly, NoMemory, HostFault}}
 
 -- a fault of the first bytes is one of the header, or says that the file is made
 abbrev pub IsFrontFault : {X : Type 0} → Result X OpenFault → Type 0

@@ -1,32 +1,21 @@
 -- What it is to put a record and to say so.
-use Rattle.std.specs.Prelude.{◌≡◌, ◌⊎◌, ◌≤◌, ℕ, ◌+◌, ◌-◌, ◌^◌, min, true, List, [], ◌∷◌, ◌++◌, length, take, Some, None, Result, Ok, Err}
-use Rattle.std.specs.List.{find}
-use Rattle.rio_host.specs.Host.{Becomes, Elapses, IsQuiet, Longer, LongerByPart, View}
+use Rattle.std.specs.{Prelude.{◌≡◌, ◌⊎◌, ◌≤◌, ℕ, ◌+◌, ◌-◌, ◌^◌, min, true, List, [], ◌∷◌, ◌++◌, length, take, Some, None, Result, Ok, Err}, List.{find}}
+use Rattle.rio_host.specs.Host.{Any, Becomes, Elapses, IsQuiet, Longer, LongerByPart, View}
 use Rattle.rio_key.specs.declared.head.KeyHead.{KeyHead}
 use Rattle.rio_dir.specs.Table.{is_at_cycle, with_head}
-use Rattle.rio_chain.specs.Chains.{HasChain}
-use Rattle.rio_chain.specs.Changes.{with_record}
-use Rattle.rio_chain.specs.Placing.{file_end, place_of, record_count, with_segment}
-use Rattle.rio_chain.specs.Segments.{IsChain, IsRecord, Link}
-use Rattle.rio_chain.specs.Stops.{Any, KeepsFront}
-use Rattle.rio_chain.specs.declared.fault.PlanFault.{PlanFault}
-use Rattle.rio_chain.specs.declared.fault.PlanFault.TheVariants.{Full, NoMemory as NoRoomFor}
-use Rattle.rio_chain.specs.declared.segment.Segment.{Segment}
+use Rattle.rio_chain.specs.{Chains.{HasChain}, Changes.{with_record}, Placing.{file_end, place_of, record_count, with_segment}}
+use Rattle.rio_chain.specs.{Segments.{IsChain, IsRecord, Link}, Stops.{KeepsFront}}
+use Rattle.rio_chain.specs.{declared.fault.PlanFault.{PlanFault, TheVariants.{Full, NoMemory as NoRoomFor}}, declared.segment.Segment.{Segment}}
 use Rattle.rio_types.specs.declared.class.ClassDef.{ClassDef}
 use Rattle.rio_value.specs.declared.value.Value.{Value}
 use Rattle.rio_format.specs.Written.{written_form}
 use Rattle.rio_machine.specs.Limits.{head_length}
-use Rattle.rio_record.specs.Record.{new_key, record_bytes}
-use Rattle.rio_record.specs.declared.record.NewRecord.{NewRecord}
+use Rattle.rio_record.specs.{Record.{new_key, record_bytes}, declared.record.NewRecord.{NewRecord}}
 use Rattle.rio_state.specs.Closing.{close_need, end_limit, is_full, padded_length}
 use Rattle.rio_step.specs.Refusing.{object_class}
 use Rattle.rio_effect.specs.ObjectRecord.{object_data, object_words}
-use Rattle.rio_session.specs.Causes.{DiskRose, NoCountRose, SayRose}
-use Rattle.rio_session.specs.Kept.{is_fit_key, is_sized, kept_with}
-use Rattle.rio_session.specs.Says.{NotDone}
-use Rattle.rio_session.specs.Session.{SessionState}
-use Rattle.rio_session.specs.declared.fault.SessionFault.{SessionFault}
-use Rattle.rio_session.specs.declared.fault.SessionFault.TheVariants.{HostFault, SayFault, NoMemory}
+use Rattle.rio_session.specs.{Causes.{DiskRose, NoCountRose, SayRose}, Kept.{is_fit_key, is_sized, kept_with}, Says.{NotDone}, Session.{SessionState}}
+use Rattle.rio_session.specs.declared.fault.SessionFault.{SessionFault, TheVariants.{HostFault, SayFault, NoMemory}}
 
 -- there is no room for a record of n bytes with what a close needs behind it: where the file ends, and the length
 abbrev pub IsFullFor : List Segment → ℕ → ℕ → PlanFault → Type 0

@@ -1,11 +1,8 @@
 -- What it is to say a reply, and what a command that does no more answers.
 use Rattle.std.specs.Prelude.{◌≡◌, ℕ, ◌+◌, ◌-◌, ◌^◌, min, true, List, Result, Ok, Err}
-use Rattle.rio_host.specs.Host.{Becomes, Elapses, Longer, LongerByPart, Speaking, View}
-use Rattle.rio_host.specs.OnlyReads.{OnlyReads}
-use Rattle.rio_session.specs.Causes.{DiskRose, NoCountRose, SayRose}
-use Rattle.rio_session.specs.Session.{SessionState}
-use Rattle.rio_session.specs.declared.fault.SessionFault.{SessionFault}
-use Rattle.rio_session.specs.declared.fault.SessionFault.TheVariants.{HostFault, SayFault, NoMemory}
+use Rattle.rio_host.specs.{Host.{Becomes, Elapses, Longer, LongerByPart, Speaking, View}, OnlyReads.{OnlyReads}}
+use Rattle.rio_session.specs.{Causes.{DiskRose, NoCountRose, SayRose}, Session.{SessionState}}
+use Rattle.rio_session.specs.declared.fault.SessionFault.{SessionFault, TheVariants.{HostFault, SayFault, NoMemory}}
 
 -- the text is said and the cost counted, as far as 64 bits hold the costs
 pub record Said (text : List ℕ) (cost : ℕ) (old new : View) (before after : SessionState) : Type 0 where

@@ -3,25 +3,13 @@ use Rattle.std.specs.Prelude.{◌≡◌, ◌⊎◌, ◌<◌, ◌≤◌, ℕ, ◌
 use Rattle.rio_types.specs.declared.class.ClassDef.{ClassDef}
 use Rattle.rio_key.specs.declared.head.KeyHead.{KeyHead}
 use Rattle.rio_host.specs.Host.{Elapses, IsQuiet, Leaves, View}
-use Rattle.rio_chain.specs.Chains.{HasChain, HoldsChain}
-use Rattle.rio_chain.specs.Placing.{record_count}
-use Rattle.rio_chain.specs.Segments.{Link}
-use Rattle.rio_chain.specs.declared.segment.Segment.{Segment}
+use Rattle.rio_chain.specs.{Chains.{HasChain, HoldsChain}, Placing.{record_count}, Segments.{Link}, declared.segment.Segment.{Segment}}
 use Rattle.rio_create.specs.NewFile.{first_segments}
-use Rattle.rio_machine.specs.State.{State}
-use Rattle.rio_machine.specs.declared.command.Command.{Command}
-use Rattle.rio_machine.specs.declared.command.Outcome.{Outcome}
-use Rattle.rio_machine.specs.declared.command.Outcome.TheVariants.{Refused}
+use Rattle.rio_machine.specs.{State.{State}, declared.command.Command.{Command}, declared.command.Outcome.{Outcome, TheVariants.{Refused}}}
 use Rattle.rio_machine.specs.declared.refusal.Refusal.TheVariants.{Full}
-use Rattle.rio_step.specs.Costs.{cost_of, room_limit}
-use Rattle.rio_step.specs.ReplyText.{text_of}
-use Rattle.rio_step.specs.Runs.{saved_of, states_of_run}
-use Rattle.rio_step.specs.Step.{Stepped, outcome_of, step}
-use Rattle.rio_state.specs.Closing.{held_of, kept_in}
-use Rattle.rio_state.specs.DirectoryKeys.{AreKeysOf}
-use Rattle.rio_state.specs.KeyedRecords.{info_key, keyed_records}
-use Rattle.rio_state.specs.Left.{HasOpenHead, IsLeftAs, IsMarkedOpen, info_head}
-use Rattle.rio_state.specs.Reads.{AreRecordsOf}
+use Rattle.rio_step.specs.{Costs.{cost_of, room_limit}, ReplyText.{text_of}, Runs.{saved_of, states_of_run}, Step.{Stepped, outcome_of, step}}
+use Rattle.rio_state.specs.{Closing.{held_of, kept_in}, DirectoryKeys.{AreKeysOf}, KeyedRecords.{info_key, keyed_records}}
+use Rattle.rio_state.specs.{Left.{HasOpenHead, IsLeftAs, IsMarkedOpen, info_head}, Reads.{AreRecordsOf}}
 use Rattle.rio_session.specs.Marks.{mark_of_command, segments_behind}
 
 -- ---- what a session keeps

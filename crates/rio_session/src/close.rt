@@ -5,9 +5,8 @@ use rio_host::Host;
 
 impl Session {
     ghost use Rattle.std.specs.Prelude.{◌≡◌, ℕ, List, false, OnOk, IsErrOf};
-    ghost use Rattle.rio_host.specs.Host.{Becomes, Elapses, IsQuiet, Leaves};
+    ghost use Rattle.rio_host.specs.Host.{Elapses, IsQuiet, Leaves, OnlyWrites};
     ghost use Rattle.rio_host.specs.OnlyReads.{OnlyReads};
-    ghost use Rattle.rio_chain.specs.Stops.{Any};
     ghost use Rattle.rio_machine.specs.State.{State};
     ghost use Rattle.rio_state.specs.Reads.{ReadsAsState, ReadsClosed};
     ghost use Rattle.rio_step.specs.Runs.{closed_of};
@@ -31,10 +30,8 @@ impl Session {
             → StandsFor (H.view host.old) self m text
             → ClosesFile (H.view host.old) (H.view host.new) self) }
         ensures quiet { OnOk result (IsQuiet (H.view host.new)) }
-        ensures told { Becomes Any (H.view host.old).holds (H.view host.new).holds }
-        ensures said { (H.view host.new).said ≡ (H.view host.old).said }
         // The file isn't read again.
-        ensures reads { (H.view host.new).reads ≡ (H.view host.old).reads }
+        ensures writes { OnlyWrites (H.view host.old) (H.view host.new) }
         ensures no_memory { IsErrOf result Fault.NoMemory
             → OnlyReads (H.view host.old) (H.view host.new) }
         ensures cause { IsCloseCause (H.view host.old) (H.view host.new) result }

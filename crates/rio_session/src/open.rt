@@ -10,9 +10,8 @@ use std::alloc::Global;
 
 impl Session {
     ghost use Rattle.std.specs.Prelude.{◌≡◌, ◌≤◌, ℕ, List, Some, length, true, false, IfOk, OnOk};
-    ghost use Rattle.rio_host.specs.Host.{Becomes, Elapses, IsQuiet};
+    ghost use Rattle.rio_host.specs.Host.{Any, Becomes, Elapses, IsQuiet};
     ghost use Rattle.rio_host.specs.OnlyReads.{OnlyReads};
-    ghost use Rattle.rio_chain.specs.Stops.{Any};
     ghost use Rattle.rio_create.specs.NewFile.{IsNewFile};
     ghost use Rattle.rio_chain.specs.Walks.{Told};
     ghost use Rattle.rio_dir.specs.Unborn.{is_unborn};

@@ -1,6 +1,6 @@
 //! A file's first bytes, as they are tested before it is made.
-ghost use Rattle.std.specs.Prelude.{◌≡◌, ◌≤◌, length, take, IfOk, IsErr, IsOk};
-ghost use Rattle.rio_host.specs.Host.{Rose};
+ghost use Rattle.std.specs.Prelude.{◌≡◌, ◌≤◌, length, take, IfOk};
+ghost use Rattle.rio_host.specs.Host.{IsDiskCause};
 ghost use Rattle.rio_host.specs.OnlyReads.{OnlyReads};
 ghost use Rattle.rio_chain.specs.Walks.{Told};
 ghost use Rattle.rio_dir.specs.Unborn.{is_unborn};
@@ -19,9 +19,7 @@ fn first_bytes<H: Host>(host: &mut H, into: &mut [u8]) -> Result<usize, Failed>
     ensures bytes { IfOk result (λ n. Told (H.view host.old)
         (λ file. take n into.new ≡ take (length into.old) file)) }
     ensures calls { OnlyReads (H.view host.old) (H.view host.new) }
-    ensures counted { IsOk result → (H.view host.new).disk_faults ≡ (H.view host.old).disk_faults }
-    ensures cause { IsErr result
-        → Rose (H.view host.old).disk_faults (H.view host.new).disk_faults }
+    ensures cause { IsDiskCause (H.view host.old) (H.view host.new) result }
 {
     let n = into.len().min(host.length()? as usize);
     host.read(0, &mut into[..n])?;

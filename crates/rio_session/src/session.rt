@@ -63,9 +63,8 @@ impl Model for Session {
 
 impl Session {
     ghost use Rattle.std.specs.Prelude.{◌≡◌, ℕ, List, false, IfOk, OnOk, OnErr, IsErrOf, IsTrue};
-    ghost use Rattle.rio_host.specs.Host.{Becomes, Elapses};
+    ghost use Rattle.rio_host.specs.Host.{Any, Becomes, Elapses};
     ghost use Rattle.rio_host.specs.OnlyReads.{Grown, OnlyReads};
-    ghost use Rattle.rio_chain.specs.Stops.{Any};
     ghost use Rattle.rio_judge.specs.Judging.{is_judged};
     ghost use Rattle.rio_machine.specs.State.{State};
     ghost use Rattle.rio_machine.specs.declared.command.Command.{Command as Line};

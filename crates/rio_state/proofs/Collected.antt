@@ -1,35 +1,25 @@
 -- A map of what records hold, by their keys.
-use Rattle.std.proofs.Common.{◌≡◌, ◌∙◌, ℕ, List, [], ◌∷◌, Bool, true, false, cond, ◌&&◌, ◌==◌, Option, Some, None, refl, sym, ap}
-use Rattle.std.proofs.lemmas.Bool.{and_parts, eq-eqb, eqb-true}
-use Rattle.std.proofs.lemmas.Map.Views.{tells_apart}
-use Rattle.std.proofs.lemmas.Slice.Eq.{bytes_eq-Decides}
-use Rattle.std.specs.Cmp.{IsTotalOrder, eq_by_cmp_equiv}
-use Rattle.std.specs.FinMap.{from_entries, get, get-empty, get-insert}
-use Rattle.std.specs.List.{find, list_all}
-use Rattle.std.specs.Option.{is_some, option_and_then}
-use Rattle.std.specs.Ordering.{eq_by_cmp}
-use Rattle.std.specs.Str.{bytes_eq}
-use Rattle.std.specs.declared.cmp.Ordering.{Ordering}
+use Rattle.std.proofs.Common.{◌≡◌, ◌∙◌, ℕ, List, [], ◌∷◌, Bool, true, false, cond, ◌==◌, Option, Some, None, refl, sym, ap}
+use Rattle.std.proofs.{lemmas.Bool.{and_from, and_parts, eq-eqb, eqb-true}, lemmas.Map.Views.{tells_apart}, lemmas.Slice.Eq.{bytes_eq-Decides}}
+use Rattle.std.specs.{Cmp.{IsTotalOrder, eq_by_cmp_equiv}, FinMap.{from_entries, get, get-empty, get-insert}, List.{find, list_all}}
+use Rattle.std.specs.{Option.{is_some, option_and_then}, Ordering.{eq_by_cmp}, Str.{bytes_eq}, declared.cmp.Ordering.{Ordering}}
+use Rattle.rio_num.specs.Word.{name_order}
+use Rattle.rio_num.proofs.Cases.{both_or_none}
 use Rattle.rio_machine.proofs.OrderLaws.{items_tie, items_total, names_tie, names_total}
-use Rattle.rio_machine.specs.State.{NameAndCycle, item_order, name_order}
+use Rattle.rio_machine.specs.State.{NameAndCycle, item_order}
 use Rattle.rio_state.specs.KeyedRecords.{KeyedRecord, has_item, item_of_key}
 
 -- ---- keys
 
-bool_same : (a b : Bool) → (a ≡ true → b ≡ true) → (b ≡ true → a ≡ true) → a ≡ b
-bool_same true b f g = sym (f refl)
-bool_same false true f g = g refl
-bool_same false false f g = refl
-
 pub name_same : (name : List ℕ) (r : KeyedRecord) → eq_by_cmp name_order name r.head.name ≡ bytes_eq r.head.name name
 name_same name r =
     let decides = bytes_eq-Decides r.head.name name in
-    bool_same (eq_by_cmp name_order name r.head.name) (bytes_eq r.head.name name)
+    both_or_none (eq_by_cmp name_order name r.head.name) (bytes_eq r.head.name name)
     (λ e. decides.1 (sym (tells_apart names_tie name r.head.name e)))
     (λ e. ap (eq_by_cmp name_order name) (decides.0 e) ∙ (eq_by_cmp_equiv names_total).refl name)
 
-has_own : (r : KeyedRecord) → has_item (item_of_key r.head) r ≡ true
-has_own r = let name = (bytes_eq-Decides r.head.name r.head.name).1 refl in let cycle = eq-eqb r.head.cycle r.head.cycle refl in λ i. name i && cycle i
+pub own_item : (r : KeyedRecord) → has_item (item_of_key r.head) r ≡ true
+own_item r = and_from _ _ ((bytes_eq-Decides r.head.name r.head.name).1 refl) (eq-eqb r.head.cycle r.head.cycle refl)
 
 item_is : (item : NameAndCycle) (r : KeyedRecord) → has_item item r ≡ true → item_of_key r.head ≡ item
 item_is item r e =
@@ -40,8 +30,8 @@ item_is item r e =
 
 pub item_same : (item : NameAndCycle) (r : KeyedRecord) → eq_by_cmp item_order item (item_of_key r.head) ≡ has_item item r
 item_same item r =
-    bool_same (eq_by_cmp item_order item (item_of_key r.head)) (has_item item r)
-    (λ e. ap (λ (x : NameAndCycle). has_item x r) (tells_apart items_tie item (item_of_key r.head) e) ∙ has_own r)
+    both_or_none (eq_by_cmp item_order item (item_of_key r.head)) (has_item item r)
+    (λ e. ap (λ (x : NameAndCycle). has_item x r) (tells_apart items_tie item (item_of_key r.head) e) ∙ own_item r)
     (λ e. ap (eq_by_cmp item_order item) (item_is item r e) ∙ (eq_by_cmp_equiv items_total).refl item)
 
 -- ---- maps

@@ -1,10 +1,9 @@
 -- Records of which none counts stand for the empty state.
 use Rattle.std.proofs.Common.{◌≡◌, List, [], true, not, Option, None, refl, sym, subst}
-use Rattle.std.specs.FinMap.{get-empty}
-use Rattle.std.specs.List.{list_all}
-use Rattle.rio_machine.specs.State.{empty_state, item_order, name_order}
-use Rattle.rio_state.specs.KeyedRecords.{KeyedRecord, info_key, is_elsewhere, top_keys}
-use Rattle.rio_state.specs.Reads.{AreRecordsOf, StandsForState}
+use Rattle.std.specs.{FinMap.{get-empty}, List.{list_all}}
+use Rattle.rio_num.specs.Word.{name_order}
+use Rattle.rio_machine.specs.State.{empty_state, item_order}
+use Rattle.rio_state.specs.{KeyedRecords.{KeyedRecord, info_key, is_elsewhere, top_keys}, Reads.{AreRecordsOf, StandsForState}}
 
 -- without a class list, and without keys of objects and trees
 none_stand : (records : List KeyedRecord) → StandsForState records None [] empty_state

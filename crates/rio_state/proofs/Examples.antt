@@ -2,20 +2,15 @@
 use Rattle.std.proofs.Common.{◌≡◌, ℕ, ◌+◌, List, [], ◌∷◌, ◌++◌, length, true, false, Some, refl, slice_get}
 use Rattle.std.specs.Prelude.{codes, replicate}
 use Rattle.byteorder.specs.Endian.{big_bytes}
-use Rattle.rio_num.specs.Reading.{text_at}
+use Rattle.rio_num.specs.{Reading.{text_at}, Layout.{each}}
 use Rattle.rio_key.specs.Key.{key_fields, key_layout}
 use Rattle.rio_head.specs.declared.reason.Reason.TheVariants.{OtherDirectory, BadInfo, BadName, BadKey, BadObject, BadTree}
-use Rattle.rio_num.specs.Layout.{each}
 use Rattle.rio_buffer.specs.Frames.{header}
 use Rattle.rio_format.specs.Objects.{object_of, formed, headed, body, unread, whole_object, closed, parts, base_part, member_parts, member_part, kind_value, text_value, bare_layout}
-use Rattle.rio_chain.specs.Segments.{Link, RecordAt}
-use Rattle.rio_chain.specs.declared.segment.Segment.TheVariants.{Record, Gap}
+use Rattle.rio_chain.specs.{Segments.{Link, RecordAt}, declared.segment.Segment.TheVariants.{Record, Gap}}
 use Rattle.rio_machine.specs.State.{empty_state}
-use Rattle.rio_state.specs.Closing.{close_need, held_of, is_full, kept_in, lay_all}
-use Rattle.rio_state.specs.Contents.{object_in, tree_of}
-use Rattle.rio_state.specs.KeyedRecords.{keyed_records}
-use Rattle.rio_state.specs.Reads.{AreRecordsOf}
-use Rattle.rio_state.specs.Reasons.{reason_at, room_reasons, state_reasons}
+use Rattle.rio_state.specs.{Closing.{close_need, held_of, is_full, kept_in, lay_all}, Contents.{object_in, tree_of}, KeyedRecords.{keyed_records}}
+use Rattle.rio_state.specs.{Reads.{AreRecordsOf}, Reasons.{reason_at, room_reasons, state_reasons}}
 use Rattle.rio_state.proofs.EmptyState.{none_counts}
 
 -- ---- records

@@ -1,21 +1,16 @@
 -- Each key beside a file is that of a record that stands for an object.
 use Rattle.std.proofs.Common.{◌≡◌, ◌⊎◌, inl, inr, ◌∙◌, List, [], ◌∷◌, ◌++◌, Bool, true, false, cond, not, ◌&&◌, ◌==◌, Option, Some, None, refl, sym, ap}
-use Rattle.std.specs.Prelude.{is_some, option_and_then}
-use Rattle.std.specs.FinMap.{get}
-use Rattle.std.specs.List.{filter, find, list_any}
-use Rattle.std.specs.Str.{bytes_eq}
-use Rattle.std.proofs.lemmas.Bool.{and_from, and_parts, eq-eqb, eqb-true, not-true}
-use Rattle.std.proofs.lemmas.Slice.Eq.{bytes_eq-Decides}
+use Rattle.std.proofs.{lemmas.Bool.{and_from, and_parts, eqb-true, not-true}, lemmas.Slice.Eq.{bytes_eq-Decides}}
+use Rattle.std.specs.{Prelude.{is_some, option_and_then}, FinMap.{get}, List.{filter, find, list_any}, Str.{bytes_eq}}
+use Rattle.rio_num.proofs.Cases.{some_of}
 use Rattle.rio_types.specs.declared.class.ClassDef.{ClassDef}
 use Rattle.rio_value.specs.declared.value.Value.{Value}
 use Rattle.rio_key.specs.declared.head.KeyHead.{KeyHead}
 use Rattle.rio_machine.specs.State.{NameAndCycle, State}
-use Rattle.rio_state.specs.Contents.{object_in, state_classes}
-use Rattle.rio_state.specs.DirectoryKeys.{AreKeysOf}
+use Rattle.rio_state.specs.{Contents.{object_in, state_classes}, DirectoryKeys.{AreKeysOf}}
 use Rattle.rio_state.specs.KeyedRecords.{KeyedRecord, has_item, info_key, is_mixed_name, is_tree_key, is_tree_record, item_of_key, object_records, top_keys, tree_records}
 use Rattle.rio_state.specs.Reads.{AreRecordsOf, are_distinct}
-use Rattle.rio_state.proofs.KeysFollow.{heads_in, items_in}
-use Rattle.rio_state.proofs.Members.{In, all_at, any_from, filter_in, found, in_left, in_map, in_either, map_in, none_at}
+use Rattle.rio_state.proofs.{KeysFollow.{heads_in, items_in}, Members.{In, all_at, any_from, filter_in, found, in_left, in_map, in_either, map_in, none_at}, Collected.{own_item}}
 use Rattle.rio_state.proofs.ObjectStands.{any_filter}
 
 -- ---- distinct keys
@@ -29,9 +24,6 @@ distinct_filter q (r ∷ rs) d =
     by : (b : Bool) → not (list_any (has_item (item_of_key r.head)) rs) ≡ true → are_distinct (filter q rs) ≡ true → are_distinct (cond b (r ∷ filter q rs) (filter q rs)) ≡ true
     by true new rest = and_from _ _ (ap not (any_filter (has_item (item_of_key r.head)) q rs (not-true _ new))) rest
     by false new rest = rest
-
-pub own_item : (r : KeyedRecord) → has_item (item_of_key r.head) r ≡ true
-own_item r = and_from _ _ ((bytes_eq-Decides r.head.name r.head.name).1 refl) (eq-eqb r.head.cycle r.head.cycle refl)
 
 -- a record has the item of its key alone
 pub item_is : (item : NameAndCycle) (r : KeyedRecord) → has_item item r ≡ true → (r.head.name ≡ item.0) × (r.head.cycle ≡ item.1)
@@ -66,10 +58,6 @@ pub record IsObject (records : List KeyedRecord) (m : State) (r : KeyedRecord) :
   pub among : In r (object_records (top_keys records))
   pub object : get m.objects (item_of_key r.head) ≡ Some v
   pub read : object_in m.classes r ≡ Some v
-
-some_of : {A : Type 0} (o : Option A) → is_some o ≡ true → (x : A) × (o ≡ Some x)
-some_of None e = absurd cc
-some_of (Some x) e = (x, refl)
 
 module _ (records : List KeyedRecord) (m : State) (is : AreRecordsOf records m) where
   abbrev tops : List KeyedRecord

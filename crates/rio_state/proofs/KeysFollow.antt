@@ -4,14 +4,10 @@ use Rattle.std.specs.Prelude.{if◌then◌else◌}
 use Rattle.rio_key.specs.declared.head.KeyHead.{KeyHead}
 use Rattle.rio_dir.proofs.TableLists.{ordered_with}
 use Rattle.rio_dir.specs.Table.{is_before, with_head}
-use Rattle.rio_state.specs.Closing.{item_heads}
-use Rattle.rio_state.specs.DirectoryKeys.{AreKeysOf}
-use Rattle.rio_state.specs.KeyedRecords.{KeyedRecord, is_top_key, is_tree_key, object_records, top_keys, tree_records}
-use Rattle.rio_state.specs.OneMore.{KeysFollow}
-use Rattle.rio_state.specs.OneMore.{HasOneMoreIn}
+use Rattle.rio_state.specs.{Closing.{item_heads}, DirectoryKeys.{AreKeysOf}}
+use Rattle.rio_state.specs.{KeyedRecords.{KeyedRecord, is_top_key, is_tree_key, object_records, top_keys, tree_records}, OneMore.{KeysFollow, HasOneMoreIn}}
 use Rattle.rio_state.proofs.Insertion.{append_more, behind, filter_more, here, map_more}
-use Rattle.rio_state.proofs.Members.{In, contains_in, in_contained, in_either, in_left, in_right}
-use Rattle.rio_state.proofs.ObjectStands.{objects_more, trees_same}
+use Rattle.rio_state.proofs.{Members.{In, contains_in, in_contained, in_either, in_left, in_right}, ObjectStands.{objects_more, trees_same}}
 
 -- ---- elements of a list with one more
 

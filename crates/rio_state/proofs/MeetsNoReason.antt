@@ -1,19 +1,12 @@
 -- A file that reads as a state breaks no rule of its header, and only want of room stands against writing to it.
 use Rattle.std.proofs.Common.{◌≡◌, inl, inr, ℕ, List, ◌++◌, Bool, true, false, cond, MatchBool, Option, None, refl, sym, ap, subst, slice_get, nat_lt, ◌+◌}
-use Rattle.rio_head.specs.Head.{head_at}
-use Rattle.rio_head.specs.declared.reason.Reason.TheVariants.{TooMany, NoRoom}
+use Rattle.rio_head.specs.{Head.{head_at}, declared.reason.Reason.TheVariants.{TooMany, NoRoom}}
 use Rattle.rio_chain.specs.Segments.{Link, chain_end}
-use Rattle.rio_dir.specs.Closed.{fault_of}
-use Rattle.rio_dir.specs.Unborn.{is_unborn}
-use Rattle.rio_machine.specs.Limits.{item_limit}
-use Rattle.rio_machine.specs.State.{State, empty_state}
-use Rattle.rio_state.proofs.NoReason.{no_state_reason}
-use Rattle.rio_state.proofs.OneReason.{reason_one}
-use Rattle.rio_state.specs.Closing.{close_need, end_limit, kept_in}
-use Rattle.rio_state.specs.KeyedRecords.{keyed_records, top_keys}
-use Rattle.rio_state.specs.Laws.{IsOfRoom, ReadsMeetsNoReason}
-use Rattle.rio_state.specs.Reads.{ReadsAsMade}
-use Rattle.rio_state.specs.Reasons.{IsReasonOfChain, IsReasonOfMade, IsReasonOfSmall, ReasonAt, items_among, reason_if, room_reasons}
+use Rattle.rio_dir.specs.{Closed.{fault_of}, Unborn.{is_unborn}}
+use Rattle.rio_machine.specs.{Limits.{item_limit}, State.{State, empty_state}}
+use Rattle.rio_state.proofs.{NoReason.{no_state_reason}, OneReason.{reason_one}}
+use Rattle.rio_state.specs.{Closing.{close_need, end_limit, kept_in}, KeyedRecords.{keyed_records, top_keys}, Laws.{IsOfRoom, ReadsMeetsNoReason}}
+use Rattle.rio_state.specs.{Reads.{ReadsAsMade}, Reasons.{IsReasonOfChain, IsReasonOfMade, IsReasonOfSmall, ReasonAt, items_among, reason_if, room_reasons}}
 
 room_first : (many full : Bool) → IsOfRoom (slice_get (reason_if many 0 TooMany ++ reason_if full 0 NoRoom) 0)
 room_first true full = inl refl

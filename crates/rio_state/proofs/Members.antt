@@ -1,7 +1,7 @@
 -- Elements of lists, and tests that they pass.
 use Rattle.std.proofs.Common.{◌≡◌, ◌⊎◌, inl, inr, ⊎_elim, zero, suc, ◌∙◌, List, [], ◌∷◌, ◌++◌, map, Bool, true, false, cond, ◌||◌, Some, refl, sym, ap, subst, arith}
-use Rattle.std.specs.List.{Contains, filter, find, list_all, list_any}
 use Rattle.std.proofs.lemmas.Bool.{and_parts, or_right}
+use Rattle.std.specs.List.{Contains, filter, find, list_all, list_any}
 
 -- the element is among them
 abbrev pub In : {A : Type 0} → A → List A → Type 0

@@ -1,19 +1,13 @@
 -- A record that is put is one more among the records of a file.
 use Rattle.std.proofs.Common.{◌≡◌, ℕ, ◌+◌, ◌-◌, ◌∙◌, List, [], ◌∷◌, length, map, Bool, true, false, ◌==◌, Option, Some, None, refl, sym, ap, subst, arith}
-use Rattle.std.specs.Prelude.{if◌then◌else◌}
-use Rattle.std.specs.List.{cons_option}
+use Rattle.std.specs.{Prelude.{if◌then◌else◌}, List.{cons_option}}
 use Rattle.rio_num.specs.Plain.{IsSpelledIn, value_of}
-use Rattle.rio_key.specs.Key.{SpellsKey, key_at}
-use Rattle.rio_key.specs.declared.head.KeyHead.{KeyHead}
+use Rattle.rio_key.specs.{Key.{SpellsKey, key_at}, declared.head.KeyHead.{KeyHead}}
 use Rattle.rio_num.proofs.Plain.{standing}
 use Rattle.rio_key.proofs.KeyAgain.{key_again}
-use Rattle.rio_chain.specs.Changes.{with_record, with_rest}
-use Rattle.rio_chain.specs.Placing.{record_count}
-use Rattle.rio_chain.specs.Segments.{GapAt, IsRecord, Link, RecordAt, segment_of}
-use Rattle.rio_state.specs.Closing.{name_in}
-use Rattle.rio_state.specs.KeyedRecords.{KeyedRecord, keyed_records, record_in_link, record_with_head}
-use Rattle.rio_state.specs.OneMore.{CountGrows, FirstStays, KeyIsRead, RecordMore, keyed_bytes}
-use Rattle.rio_state.specs.OneMore.{HasOneMoreIn}
+use Rattle.rio_chain.specs.{Changes.{with_record, with_rest}, Placing.{record_count}, Segments.{GapAt, IsRecord, Link, RecordAt, segment_of}}
+use Rattle.rio_state.specs.{Closing.{name_in}, KeyedRecords.{KeyedRecord, keyed_records, record_in_link, record_with_head}}
+use Rattle.rio_state.specs.OneMore.{CountGrows, FirstStays, KeyIsRead, RecordMore, keyed_bytes, HasOneMoreIn}
 use Rattle.rio_state.proofs.Insertion.{behind}
 
 -- the record of a segment has the key that is read there

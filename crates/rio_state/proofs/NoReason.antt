@@ -1,12 +1,10 @@
 -- Nothing but want of room stands against writing to a file that reads as a state.
 use Rattle.std.proofs.Common.{◌≡◌, ◌∙◌, ℕ, List, [], ◌∷◌, ◌++◌, length, Bool, true, false, cond, not, ◌&&◌, ◌||◌, ◌==◌, refl, sym, ap}
 use Rattle.std.proofs.lemmas.Bool.{eq-eqb, ne_eqb, eqb-true, eqb-false, and_parts, or_parts, not-true}
-use Rattle.std.specs.Option.{is_some}
-use Rattle.std.specs.List.{filter, list_all, list_any}
+use Rattle.std.specs.{Option.{is_some}, List.{filter, list_all, list_any}}
 use Rattle.rio_num.proofs.BytesEq.{bytes_eq-sym}
 use Rattle.rio_num.specs.Word.{is_item_text}
-use Rattle.rio_head.specs.declared.reason.Reason.{Reason}
-use Rattle.rio_head.specs.declared.reason.Reason.TheVariants.{OtherDirectory, BadName, BadKey, BadObject, BadTree, DoubleKey, MixedName}
+use Rattle.rio_head.specs.declared.reason.Reason.{Reason, TheVariants.{OtherDirectory, BadName, BadKey, BadObject, BadTree, DoubleKey, MixedName}}
 use Rattle.rio_machine.specs.State.{State}
 use Rattle.rio_state.specs.Contents.{object_in, state_classes, tree_of}
 use Rattle.rio_state.specs.KeyedRecords.{KeyedRecord, has_item, info_key, is_elsewhere, is_mixed_name, is_tree_key, is_tree_record, item_of_key, object_records, top_keys, tree_records}
@@ -24,7 +22,7 @@ eqb_turned m n = eqb_turned_by m n (m == n) refl
 
 -- ---- lists of reasons
 
-none_if : (b : Bool) (place : ℕ) (reason : Reason) → b ≡ false → reason_if b place reason ≡ []
+pub none_if : (b : Bool) (place : ℕ) (reason : Reason) → b ≡ false → reason_if b place reason ≡ []
 none_if true place reason e = absurd cc
 none_if false place reason e = refl
 

@@ -1,26 +1,18 @@
 -- Records that stand for a state, with the record of an object more.
 use Rattle.std.proofs.Common.{◌≡◌, ℕ, ◌∙◌, List, [], ◌∷◌, ◌++◌, Bool, true, false, cond, not, ◌&&◌, Option, Some, refl, sym, ap, subst}
-use Rattle.std.specs.Prelude.{is_some, nat_lt, option_and_then}
-use Rattle.std.specs.FinMap.{get, get-insert, insert}
-use Rattle.std.specs.List.{filter, find, list_all, list_any}
-use Rattle.std.specs.Str.{bytes_eq}
-use Rattle.std.proofs.lemmas.Bool.{and_from, and_left, and_parts, and_right, not-true, or_parts}
-use Rattle.std.proofs.lemmas.List.Elements.{filter_agree}
-use Rattle.std.proofs.lemmas.Map.Views.{tells_apart}
-use Rattle.std.proofs.lemmas.Slice.Eq.{bytes_eq-Decides}
+use Rattle.std.proofs.{lemmas.Bool.{and_from, and_left, and_parts, and_right, not-true, or_parts}, lemmas.List.Elements.{filter_agree}}
+use Rattle.std.proofs.{lemmas.Map.Views.{tells_apart}, lemmas.Slice.Eq.{bytes_eq-Decides}}
+use Rattle.std.specs.{Prelude.{is_some, nat_lt, option_and_then}, FinMap.{get, get-insert, insert}, List.{filter, find, list_all, list_any}, Str.{bytes_eq}}
 use Rattle.rio_types.specs.declared.class.ClassDef.{ClassDef}
 use Rattle.rio_value.specs.declared.value.Value.{Value}
 use Rattle.rio_machine.proofs.OrderLaws.{items_tie, items_total}
 use Rattle.rio_machine.specs.State.{NameAndCycle, State}
-use Rattle.rio_state.proofs.Collected.{item_same}
-use Rattle.rio_state.proofs.NoReason.{item_turned}
+use Rattle.rio_state.proofs.{Collected.{item_same}, NoReason.{item_turned}}
+use Rattle.rio_state.proofs.{Insertion.{all_more, any_in, any_more, filter_more, filter_same, find_more, find_same}, Members.{filter_in, none_at, none_from}}
+use Rattle.rio_state.proofs.Stays.{trees_read, trees_under}
 use Rattle.rio_state.specs.Contents.{object_in, state_classes, tree_of}
 use Rattle.rio_state.specs.KeyedRecords.{KeyedRecord, has_item, is_mixed_name, is_outdated, is_tree_key, is_tree_record, item_of_key, object_records, tree_records}
-use Rattle.rio_state.specs.Reads.{StandsForState, are_distinct, is_named_key, object_under}
-use Rattle.rio_state.specs.OneMore.{HasOneMoreIn}
-use Rattle.rio_state.proofs.Insertion.{all_more, any_in, any_more, filter_more, filter_same, find_more, find_same}
-use Rattle.rio_state.proofs.Members.{filter_in, none_at, none_from}
-use Rattle.rio_state.proofs.Stays.{trees_read, trees_under}
+use Rattle.rio_state.specs.{Reads.{StandsForState, are_distinct, is_named_key, object_under}, OneMore.{HasOneMoreIn}}
 
 -- The record holds an object, under a name and cycle that none of these has; no tree among them has the name.
 pub record IsNewObject (classes : List ClassDef) (tops : List KeyedRecord) (r : KeyedRecord) (v : Value) : Type 0 where

@@ -1,16 +1,12 @@
 -- A file has one first reason against writing, or none.
 use Rattle.std.proofs.Common.{◌≡◌, inl, inr, ◌∙◌, ℕ, ◌++◌, List, Bool, true, false, MatchBool, Option, Some, None, refl, sym, ap, subst, slice_get}
 use Rattle.rio_num.proofs.ReadLaws.{ok_is}
-use Rattle.rio_head.specs.Form.{is_large_head}
-use Rattle.rio_head.specs.declared.fault.HeadFault.{HeadFault}
-use Rattle.rio_head.specs.declared.head.FileHead.{FileHead}
+use Rattle.rio_head.specs.{Form.{is_large_head}, declared.fault.HeadFault.{HeadFault}, declared.head.FileHead.{FileHead}}
 use Rattle.rio_head.specs.declared.reason.Reason.TheVariants.{LargeForm, NoChain}
 use Rattle.rio_chain.proofs.OneChain.{break_one, chain_one, never_both}
 use Rattle.rio_chain.specs.Segments.{Link}
 use Rattle.rio_dir.specs.Unborn.{is_unborn}
-use Rattle.rio_state.specs.Contents.{HasStateClasses}
-use Rattle.rio_state.specs.KeyedRecords.{info_key, keyed_records}
-use Rattle.rio_state.specs.Laws.{HasOneReason}
+use Rattle.rio_state.specs.{Contents.{HasStateClasses}, KeyedRecords.{info_key, keyed_records}, Laws.{HasOneReason}}
 use Rattle.rio_state.specs.Reasons.{IsReasonOfChain, IsReasonOfMade, IsReasonOfSmall, ReasonAt, reason_at, room_reasons, state_reasons}
 
 -- whether something holds is told in one way

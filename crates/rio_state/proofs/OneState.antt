@@ -5,9 +5,7 @@ use Rattle.rio_chain.specs.Segments.{Link}
 use Rattle.rio_dir.specs.Unborn.{is_unborn}
 use Rattle.rio_machine.proofs.OrderLaws.{same_state}
 use Rattle.rio_machine.specs.State.{State, empty_state}
-use Rattle.rio_state.specs.KeyedRecords.{KeyedRecord, keyed_records}
-use Rattle.rio_state.specs.Laws.{ReadsAsOneState}
-use Rattle.rio_state.specs.Reads.{AreRecordsOf, ReadsAsMade, StandsForState}
+use Rattle.rio_state.specs.{KeyedRecords.{KeyedRecord, keyed_records}, Laws.{ReadsAsOneState}, Reads.{AreRecordsOf, ReadsAsMade, StandsForState}}
 
 -- the same keys with the same records stand for one state
 pub stand_one : (records : List KeyedRecord) (info : Option KeyedRecord) (tops : List KeyedRecord) (m n : State)

@@ -1,24 +1,17 @@
 -- A file without a reason before those of room reads as a state.
 use Rattle.std.proofs.Common.{◌≡◌, inl, inr, ◌∙◌, ℕ, List, [], ◌∷◌, ◌++◌, length, Bool, true, false, not, ◌==◌, MatchBool, Option, Some, None, refl, sym, ap, subst, slice_get}
-use Rattle.std.specs.FinMap.{from_entries}
-use Rattle.std.specs.List.{list_any}
-use Rattle.std.specs.Option.{option_map_or}
-use Rattle.std.specs.Str.{bytes_eq}
 use Rattle.std.proofs.lemmas.Bool.{not-false}
-use Rattle.rio_num.specs.Word.{is_item_text}
+use Rattle.std.specs.{FinMap.{from_entries}, List.{list_any}, Option.{option_map_or}, Str.{bytes_eq}}
+use Rattle.rio_num.specs.Word.{is_item_text, name_order}
 use Rattle.rio_head.specs.Form.{is_large_head}
-use Rattle.rio_head.specs.declared.reason.Reason.{Reason}
-use Rattle.rio_head.specs.declared.reason.Reason.TheVariants.{LargeForm, NoChain, OtherDirectory, BadInfo, BadName, BadKey, BadObject, BadTree, DoubleKey, MixedName, TooMany, NoRoom}
+use Rattle.rio_head.specs.declared.reason.Reason.{Reason, TheVariants.{LargeForm, NoChain, OtherDirectory, BadInfo, BadName, BadKey, BadObject, BadTree, DoubleKey, MixedName, TooMany, NoRoom}}
 use Rattle.rio_dir.specs.Unborn.{is_unborn}
 use Rattle.rio_machine.proofs.OrderLaws.{items_total, names_total}
-use Rattle.rio_machine.specs.State.{State, empty_state, item_order, name_order}
-use Rattle.rio_state.proofs.Collected.{held, item_same, name_same, pairs}
-use Rattle.rio_state.proofs.NoReason.{beside_of}
-use Rattle.rio_state.proofs.Unreasoned.{directory_kept, if_none, keys_kept, nil_two}
+use Rattle.rio_machine.specs.State.{State, empty_state, item_order}
+use Rattle.rio_state.proofs.{Collected.{held, item_same, name_same, pairs}, NoReason.{beside_of}, Unreasoned.{directory_kept, if_none, keys_kept, nil_two}}
 use Rattle.rio_state.specs.Contents.{HasStateClasses, object_in, state_classes, tree_of}
 use Rattle.rio_state.specs.KeyedRecords.{KeyedRecord, has_item, info_key, is_elsewhere, is_mixed_name, item_of_key, keyed_records, object_records, top_keys, tree_records}
-use Rattle.rio_state.specs.Laws.{IsOfRoom, NoReasonIsRead}
-use Rattle.rio_state.specs.Reads.{AreRecordsOf, ReadsAsMade, StandsForState}
+use Rattle.rio_state.specs.{Laws.{IsOfRoom, NoReasonIsRead}, Reads.{AreRecordsOf, ReadsAsMade, StandsForState}}
 use Rattle.rio_state.specs.Reasons.{Beside, IsReasonOfChain, IsReasonOfMade, IsReasonOfSmall, ReasonAt, directory_reasons, info_reasons, is_bad_object, is_bad_tree, key_reasons, keys_reasons, reason_at, reason_if, room_reasons, state_reasons}
 
 -- ---- reasons that aren't of room

@@ -1,24 +1,17 @@
 -- A record that the file itself needs changes nothing of what its records stand for.
 use Rattle.std.proofs.Common.{◌≡◌, ◌↔◌, ℕ, ◌∙◌, List, [], ◌∷◌, ◌++◌, codes, Bool, true, false, not, ◌||◌, ◌==◌, Option, Some, refl, sym, ap, subst}
-use Rattle.std.specs.Prelude.{if◌then◌else◌, is_some, option_and_then}
-use Rattle.std.specs.List.{Contains, find, list_all}
-use Rattle.std.specs.Str.{bytes_eq}
 use Rattle.std.proofs.lemmas.Bool.{and_from, and_left, and_parts, and_right}
+use Rattle.std.specs.{Prelude.{if◌then◌else◌, is_some, option_and_then}, List.{Contains, find, list_all}, Str.{bytes_eq}}
 use Rattle.rio_types.specs.declared.class.ClassDef.{ClassDef}
 use Rattle.rio_key.specs.declared.head.KeyHead.{KeyHead}
 use Rattle.rio_chain.proofs.Keys.{spelled_one}
-use Rattle.rio_chain.specs.Segments.{IsFirst, IsRecord, RecordAt}
-use Rattle.rio_chain.specs.Changes.{with_record}
+use Rattle.rio_chain.specs.{Segments.{IsFirst, IsRecord, RecordAt}, Changes.{with_record}}
 use Rattle.rio_machine.specs.State.{State, Tree, empty_state}
-use Rattle.rio_state.specs.Closing.{item_heads, kept_count, kept_in, name_in, KeptRecords}
-use Rattle.rio_state.specs.Contents.{tree_of}
-use Rattle.rio_state.specs.DirectoryKeys.{AreKeysOf}
+use Rattle.rio_state.specs.{Closing.{item_heads, kept_count, kept_in, name_in, KeptRecords}, Contents.{tree_of}, DirectoryKeys.{AreKeysOf}}
 use Rattle.rio_state.specs.KeyedRecords.{KeyedRecord, first_place, has_info_name, info_key, is_elsewhere, is_in_directory, is_info_key, is_internal, is_top_key, keyed_records, later_info, top_keys, tree_records}
 use Rattle.rio_state.specs.Reads.{AreRecordsOf, StandsForState}
-use Rattle.rio_state.specs.OneMore.{EmptyIsRead, InfoStays, InternalStays, KeysStay, NeedStays, keyed_bytes}
-use Rattle.rio_state.specs.OneMore.{HasOneMoreIn}
-use Rattle.rio_state.proofs.Insertion.{all_more, filter_same}
-use Rattle.rio_state.proofs.MoreRecords.{first_stays, keyed_link, own_key, record_more, records_more}
+use Rattle.rio_state.specs.OneMore.{EmptyIsRead, InfoStays, InternalStays, KeysStay, NeedStays, keyed_bytes, HasOneMoreIn}
+use Rattle.rio_state.proofs.{Insertion.{all_more, filter_same}, MoreRecords.{first_stays, keyed_link, own_key, record_more, records_more}}
 use Rattle.rio_state.proofs.EmptyState.{none_counts}
 
 -- ---- keys that aren't in the directory

@@ -1,10 +1,9 @@
 -- Records without a reason against them keep the rules of a state's records.
 use Rattle.std.proofs.Common.{◌≡◌, ◌∙◌, ℕ, List, [], ◌∷◌, ◌++◌, length, Bool, true, false, cond, not, ◌&&◌, ◌||◌, ◌==◌, refl, ap}
-use Rattle.std.specs.List.{filter, list_all, list_any}
 use Rattle.std.proofs.lemmas.Bool.{and_parts, not-false, not-true, or_parts}
+use Rattle.std.specs.List.{filter, list_all, list_any}
 use Rattle.rio_num.specs.Word.{is_item_text}
-use Rattle.rio_head.specs.declared.reason.Reason.{Reason}
-use Rattle.rio_head.specs.declared.reason.Reason.TheVariants.{OtherDirectory, BadName, BadKey, BadObject, BadTree, DoubleKey, MixedName}
+use Rattle.rio_head.specs.declared.reason.Reason.{Reason, TheVariants.{OtherDirectory, BadName, BadKey, BadObject, BadTree, DoubleKey, MixedName}}
 use Rattle.rio_state.proofs.NoReason.{IsNamed, is_apart, is_new, is_object_read, is_tree_read, item_turned}
 use Rattle.rio_state.specs.KeyedRecords.{KeyedRecord, has_item, is_elsewhere, is_mixed_name, is_tree_key, is_tree_record, item_of_key, object_records}
 use Rattle.rio_state.specs.Reads.{are_distinct}

@@ -2,25 +2,18 @@
 use Rattle.std.proofs.Common.{◌≡◌, ◌≤◌, ◌<◌, ℕ, ◌+◌, pos, List, [], ◌∷◌, ◌++◌, length, Some, Ok, refl, arith, subst, slice_get}
 use Rattle.std.specs.Prelude.{codes, replicate}
 use Rattle.byteorder.specs.Endian.{big_bytes}
-use Rattle.rio_num.specs.Layout.{each, retold}
-use Rattle.rio_num.specs.Reading.{text_at}
+use Rattle.rio_num.specs.{Layout.{each, retold}, Reading.{text_at}}
 use Rattle.rio_host.proofs.Images.{has_back, has_front}
 use Rattle.rio_host.specs.Image.{Has}
 use Rattle.rio_key.proofs.KeyWritten.{key_spelled}
-use Rattle.rio_key.specs.Key.{SpellsKey, key_fields, key_layout}
-use Rattle.rio_key.specs.KeyList.{key_list_layout, listed_key}
-use Rattle.rio_key.specs.Written.{AreWithinFields, FitsKey, HoldsItself, written_key}
-use Rattle.rio_key.specs.declared.head.KeyHead.{KeyHead}
-use Rattle.rio_head.specs.Dir.{dir_layout}
-use Rattle.rio_head.specs.Head.{behind_layout, head_at, header_layout}
-use Rattle.rio_head.specs.declared.dir.DirRecord.{DirRecord}
+use Rattle.rio_key.specs.{Key.{SpellsKey, key_fields, key_layout}, KeyList.{key_list_layout, listed_key}}
+use Rattle.rio_key.specs.{Written.{AreWithinFields, FitsKey, HoldsItself, written_key}, declared.head.KeyHead.{KeyHead}}
+use Rattle.rio_head.specs.{Dir.{dir_layout}, Head.{behind_layout, head_at, header_layout}, declared.dir.DirRecord.{DirRecord}}
 use Rattle.rio_head.specs.declared.head.FileHead.{FileHead}
-use Rattle.rio_dir.specs.Closed.{closed_file, closed_head, listed_at}
-use Rattle.rio_dir.specs.declared.closed.Closed.{Closed}
+use Rattle.rio_dir.specs.{Closed.{closed_file, closed_head, listed_at}, declared.closed.Closed.{Closed}}
 use Rattle.rio_chain.specs.Segments.{HasWord, HoldsRecord, IsChain, IsFirst, IsRecord, Link, RecordAt, texts_end_at}
 use Rattle.rio_machine.specs.State.{empty_state}
-use Rattle.rio_state.specs.KeyedRecords.{KeyedRecord, keyed_records}
-use Rattle.rio_state.specs.Reads.{AreRecordsOf, ReadsAsState, ReadsAsMade, ReadsClosed}
+use Rattle.rio_state.specs.{KeyedRecords.{KeyedRecord, keyed_records}, Reads.{AreRecordsOf, ReadsAsState, ReadsAsMade, ReadsClosed}}
 use Rattle.rio_state.proofs.EmptyState.{none_counts}
 
 -- ---- the bytes

@@ -1,12 +1,7 @@
 -- What a close writes and how long it is; whether a command's records leave room for it; and how much a file holds.
-use Rattle.std.specs.Prelude.{ℕ, ◌+◌, ◌*◌, List, [], ◌∷◌, ◌++◌, length, map, codes, Bool, nat_lt, Option}
-use Rattle.std.specs.List.{sum_by}
-use Rattle.std.specs.Option.{option_map_or}
-use Rattle.rio_key.specs.Written.{written_key}
-use Rattle.rio_key.specs.declared.head.KeyHead.{KeyHead}
-use Rattle.rio_chain.specs.Placing.{end_after, space_of}
-use Rattle.rio_chain.specs.Segments.{Link, chain_end}
-use Rattle.rio_chain.specs.declared.segment.Segment.{Segment}
+use Rattle.std.specs.{Prelude.{ℕ, ◌+◌, ◌*◌, List, [], ◌∷◌, ◌++◌, length, map, codes, Bool, nat_lt, Option}, List.{sum_by}, Option.{option_map_or}}
+use Rattle.rio_key.specs.{Written.{written_key}, declared.head.KeyHead.{KeyHead}}
+use Rattle.rio_chain.specs.{Placing.{end_after, space_of}, Segments.{Link, chain_end}, declared.segment.Segment.{Segment}}
 use Rattle.rio_machine.specs.Limits.{head_length, zeros_behind}
 use Rattle.rio_state.specs.KeyedRecords.{KeyedRecord, info_key, keyed_records, object_records, top_keys, tree_records}
 

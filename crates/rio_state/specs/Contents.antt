@@ -1,24 +1,14 @@
 -- What stands in the record of a class list, of an object and of a tree: over the record's bytes, so that it is the same for a
 -- walk through the file and for its key list.
-use Rattle.std.specs.Prelude.{◌≡◌, ◌≤◌, ℕ, ◌+◌, List, [], drop, length, codes, Bool, ◌==◌, ◌&&◌, not, nat_lt, Option, Some, None, Result, Ok, Err, if◌then◌else◌}
-use Rattle.std.specs.List.{list_all}
+use Rattle.std.specs.Prelude.{◌≡◌, ◌≤◌, ◌+◌, List, [], drop, length, codes, Bool, ◌&&◌, not, Option, Some, None, Result, Ok, Err, if◌then◌else◌}
+use Rattle.rio_num.specs.Room.{is_padding}
 use Rattle.rio_types.specs.declared.class.ClassDef.{ClassDef}
 use Rattle.rio_value.specs.declared.value.Value.{Value}
-use Rattle.rio_buffer.specs.Frames.{Step}
-use Rattle.rio_buffer.specs.declared.fault.ObjFault.{ObjFault}
-use Rattle.rio_format.specs.ClassList.{class_list_at}
-use Rattle.rio_format.specs.Fits.{fits}
-use Rattle.rio_format.specs.Objects.{first_at}
-use Rattle.rio_format.specs.Slots.{can_be_put}
-use Rattle.rio_format.specs.TreeClasses.{tree_classes, written_classes}
+use Rattle.rio_buffer.specs.{Frames.{Step}, declared.fault.ObjFault.{ObjFault}}
+use Rattle.rio_format.specs.{ClassList.{class_list_at}, Fits.{fits}, Objects.{first_at}, Slots.{can_be_put}, TreeClasses.{tree_classes, written_classes}}
 use Rattle.rio_model.specs.StateClasses.{StateClasses}
-use Rattle.rio_machine.specs.Limits.{has_long_list, is_too_deep, is_too_long}
-use Rattle.rio_machine.specs.State.{Tree}
+use Rattle.rio_machine.specs.{Limits.{has_long_list, is_too_deep, is_too_long}, State.{Tree}}
 use Rattle.rio_state.specs.KeyedRecords.{KeyedRecord, record_data}
-
--- zero bytes that make a record's length a multiple of four
-abbrev pub is_padding : List ℕ → Bool
-is_padding bytes = nat_lt (length bytes) 4 && list_all (λ b. b == 0) bytes
 
 -- ---- classes
 

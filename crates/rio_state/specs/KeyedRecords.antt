@@ -1,10 +1,7 @@
 -- The records of a file with their keys: those of its directory, those of objects and trees, and the class list that counts.
 use Rattle.std.specs.Prelude.{ℕ, List, [], ◌∷◌, drop, codes, Bool, ◌==◌, ◌&&◌, ◌||◌, not, nat_lt, Option, Some, None, Result, Ok, Err, if◌then◌else◌}
-use Rattle.std.specs.List.{filter, filter_map, list_any}
-use Rattle.std.specs.Str.{bytes_eq}
-use Rattle.rio_key.specs.Key.{key_at}
-use Rattle.rio_key.specs.declared.head.KeyHead.{KeyHead}
-use Rattle.rio_key.specs.declared.fault.KeyFault.{KeyFault}
+use Rattle.std.specs.{List.{filter, filter_map, list_any}, Str.{bytes_eq}}
+use Rattle.rio_key.specs.{Key.{key_at}, declared.head.KeyHead.{KeyHead}, declared.fault.KeyFault.{KeyFault}}
 use Rattle.rio_chain.specs.Segments.{Link, RecordAt, GapAt}
 use Rattle.rio_machine.specs.State.{NameAndCycle}
 

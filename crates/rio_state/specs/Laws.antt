@@ -3,8 +3,7 @@ use Rattle.std.specs.Prelude.{◌≡◌, ◌⊎◌, ℕ, List, Option, Some, Non
 use Rattle.rio_head.specs.declared.reason.Reason.TheVariants.{TooMany, NoRoom}
 use Rattle.rio_dir.specs.Unborn.{header_fault}
 use Rattle.rio_machine.specs.State.{State}
-use Rattle.rio_state.specs.Reads.{ReadsAsState}
-use Rattle.rio_state.specs.Reasons.{IsFirstReason, ReasonAt}
+use Rattle.rio_state.specs.{Reads.{ReadsAsState}, Reasons.{IsFirstReason, ReasonAt}}
 
 -- a file reads as at most one state
 abbrev pub ReadsAsOneState : Type 0

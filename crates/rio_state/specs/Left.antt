@@ -1,14 +1,11 @@
 -- What a stop leaves of a file that is written to.
 use Rattle.std.specs.Prelude.{◌≡◌, ◌≢◌, ℕ, List, codes, false, Option, option_map, Ok}
 use Rattle.rio_key.specs.declared.head.KeyHead.{KeyHead}
-use Rattle.rio_head.specs.Form.{is_large_head}
-use Rattle.rio_head.specs.Head.{head_at}
-use Rattle.rio_head.specs.declared.head.FileHead.{FileHead}
+use Rattle.rio_head.specs.{Form.{is_large_head}, Head.{head_at}, declared.head.FileHead.{FileHead}}
 use Rattle.rio_host.specs.Image.{Has}
 use Rattle.rio_chain.specs.Segments.{HasWord}
 use Rattle.rio_machine.specs.State.{State}
-use Rattle.rio_state.specs.KeyedRecords.{KeyedRecord}
-use Rattle.rio_state.specs.Reads.{ReadsAsState, ReadsClosed}
+use Rattle.rio_state.specs.{KeyedRecords.{KeyedRecord}, Reads.{ReadsAsState, ReadsClosed}}
 
 -- where the header says END while the file is open for writing
 abbrev pub open_end : ℕ

@@ -1,18 +1,12 @@
 -- What one record more in the chain of a file makes of the file's records, of what they stand for, and of the keys that are kept
 -- beside it, whatever command put it.
-use Rattle.std.specs.Prelude.{◌≡◌, ℕ, ◌+◌, List, [], ◌∷◌, ◌++◌, map, true, false, None, Ok}
-use Rattle.std.specs.List.{find}
-use Rattle.rio_key.specs.Key.{key_at}
-use Rattle.rio_key.specs.declared.head.KeyHead.{KeyHead}
+use Rattle.std.specs.{Prelude.{◌≡◌, ℕ, ◌+◌, List, [], ◌∷◌, ◌++◌, map, true, false, None, Ok}, List.{find}}
+use Rattle.rio_key.specs.{Key.{key_at}, declared.head.KeyHead.{KeyHead}}
 use Rattle.rio_dir.specs.Table.{is_at_cycle, with_head}
-use Rattle.rio_chain.specs.Changes.{with_record}
-use Rattle.rio_chain.specs.Placing.{record_count}
-use Rattle.rio_chain.specs.Segments.{IsChain, Link, RecordAt, segment_of}
+use Rattle.rio_chain.specs.{Changes.{with_record}, Placing.{record_count}, Segments.{IsChain, Link, RecordAt, segment_of}}
 use Rattle.rio_machine.specs.State.{State, empty_state}
-use Rattle.rio_state.specs.Closing.{kept_in, name_in}
-use Rattle.rio_state.specs.DirectoryKeys.{AreKeysOf}
-use Rattle.rio_state.specs.KeyedRecords.{KeyedRecord, info_key, is_info_key, is_internal, is_top_key, is_tree_key, keyed_records}
-use Rattle.rio_state.specs.Reads.{AreRecordsOf}
+use Rattle.rio_state.specs.{Closing.{kept_in, name_in}, DirectoryKeys.{AreKeysOf}}
+use Rattle.rio_state.specs.{KeyedRecords.{KeyedRecord, info_key, is_info_key, is_internal, is_top_key, is_tree_key, keyed_records}, Reads.{AreRecordsOf}}
 
 -- the second list is the first with one more in it
 pub record HasOneMoreIn {A : Type 0} (old new : List A) (x : A) : Type 0 where

@@ -1,24 +1,17 @@
 -- What a file reads as. By a walk: its bytes are segments, and the segments' records stand for a state. By its key list: the
 -- records that the list names stand for the state.
 use Rattle.std.specs.Prelude.{◌≡◌, ℕ, List, [], ◌∷◌, ◌++◌, length, map, Bool, true, false, ◌==◌, ◌&&◌, not, MatchBool, Option, Some, None, is_some, option_and_then, Ok}
-use Rattle.std.specs.FinMap.{get}
-use Rattle.std.specs.List.{All, Contains, find, list_all, list_any}
-use Rattle.std.specs.Str.{bytes_eq}
-use Rattle.rio_num.specs.Word.{is_item_text}
+use Rattle.std.specs.{FinMap.{get}, List.{All, Contains, find, list_all, list_any}, Str.{bytes_eq}}
+use Rattle.rio_num.specs.{Word.{is_item_text}, Room.{is_padding}}
 use Rattle.rio_types.specs.declared.class.ClassDef.{ClassDef}
 use Rattle.rio_value.specs.declared.value.Value.{Value}
 use Rattle.rio_key.specs.declared.head.KeyHead.{KeyHead}
-use Rattle.rio_head.specs.Form.{is_large_head}
-use Rattle.rio_head.specs.Head.{head_at}
-use Rattle.rio_head.specs.declared.head.FileHead.{FileHead}
+use Rattle.rio_head.specs.{Form.{is_large_head}, Head.{head_at}, declared.head.FileHead.{FileHead}}
 use Rattle.rio_free.specs.Record.{free_bytes}
-use Rattle.rio_dir.specs.Closed.{closed_file}
-use Rattle.rio_dir.specs.Unborn.{is_unborn}
-use Rattle.rio_dir.specs.declared.closed.Closed.{Closed}
-use Rattle.rio_chain.specs.Placing.{gaps_in}
-use Rattle.rio_chain.specs.Segments.{IsChain, Link, chain_end, segment_of}
+use Rattle.rio_dir.specs.{Closed.{closed_file}, Unborn.{is_unborn}, declared.closed.Closed.{Closed}}
+use Rattle.rio_chain.specs.{Placing.{gaps_in}, Segments.{IsChain, Link, chain_end, segment_of}}
 use Rattle.rio_machine.specs.State.{NameAndCycle, State, Tree, empty_state}
-use Rattle.rio_state.specs.Contents.{HasStateClasses, is_padding, object_in, state_classes, tree_of}
+use Rattle.rio_state.specs.Contents.{HasStateClasses, object_in, state_classes, tree_of}
 use Rattle.rio_state.specs.KeyedRecords.{KeyedRecord, has_item, info_key, is_elsewhere, is_mixed_name, is_top_key, item_of_key, keyed_records, object_records, record_data, top_keys, tree_records}
 
 -- ---- keys with their records

@@ -1,19 +1,14 @@
 -- Why nothing is written to a file that breaks no rule: all reasons, in the order of testing; the first of them is told.
 use Rattle.std.specs.Prelude.{◌≡◌, ◌⊎◌, ℕ, ◌+◌, List, [], ◌∷◌, ◌++◌, length, slice_get, Bool, true, false, ◌==◌, ◌&&◌, not, nat_lt, MatchBool, Option, Some, None, is_some, Ok}
-use Rattle.std.specs.List.{flat_map, list_any}
-use Rattle.std.specs.Option.{option_map_or}
+use Rattle.std.specs.{List.{flat_map, list_any}, Option.{option_map_or}}
 use Rattle.rio_num.specs.Word.{is_item_text}
 use Rattle.rio_types.specs.declared.class.ClassDef.{ClassDef}
-use Rattle.rio_head.specs.Form.{is_large_head}
-use Rattle.rio_head.specs.Head.{head_at}
-use Rattle.rio_head.specs.declared.head.FileHead.{FileHead}
-use Rattle.rio_head.specs.declared.reason.Reason.{Reason}
-use Rattle.rio_head.specs.declared.reason.Reason.TheVariants.{LargeForm, NoChain, OtherDirectory, BadInfo, BadName, BadKey, BadObject, BadTree, DoubleKey, MixedName, TooMany, NoRoom}
+use Rattle.rio_head.specs.{Form.{is_large_head}, Head.{head_at}, declared.head.FileHead.{FileHead}}
+use Rattle.rio_head.specs.declared.reason.Reason.{Reason, TheVariants.{LargeForm, NoChain, OtherDirectory, BadInfo, BadName, BadKey, BadObject, BadTree, DoubleKey, MixedName, TooMany, NoRoom}}
 use Rattle.rio_dir.specs.Unborn.{is_unborn}
 use Rattle.rio_chain.specs.Segments.{BreaksAt, IsChain, Link, chain_end}
 use Rattle.rio_machine.specs.Limits.{item_limit}
-use Rattle.rio_state.specs.Closing.{close_need, end_limit, kept_in}
-use Rattle.rio_state.specs.Contents.{HasStateClasses, object_in, state_classes, tree_of}
+use Rattle.rio_state.specs.{Closing.{close_need, end_limit, kept_in}, Contents.{HasStateClasses, object_in, state_classes, tree_of}}
 use Rattle.rio_state.specs.KeyedRecords.{KeyedRecord, has_item, info_key, is_elsewhere, is_mixed_name, is_tree_key, is_tree_record, item_of_key, keyed_records, object_records, top_keys, tree_records}
 
 -- a reason, and the place where

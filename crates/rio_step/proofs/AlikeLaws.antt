@@ -1,12 +1,8 @@
 -- How first tokens that can't stand are found in texts that stand alike.
 use Rattle.std.proofs.Common.{◌≡◌, ℕ, ◌+◌, ◌<◌, ◌^◌, List, [], ◌∷◌, ◌++◌, length, false, Ok, Err, refl, sym, subst, append_assoc, Bool}
 use Rattle.rio_num.specs.At.{At}
-use Rattle.rio_token.specs.declared.fault.TextFault.{TextFault}
-use Rattle.rio_token.specs.declared.fault.TextFault.TheVariants.{BadText}
-use Rattle.rio_token.specs.Reading.{Read, bad_at}
-use Rattle.rio_token.specs.Tokens.{behind, token_place}
-use Rattle.rio_model.specs.Lexemes.{Lexeme, Stand}
-use Rattle.rio_model.specs.ToldPlaces.{Begin, TellsBadToken, told_place}
+use Rattle.rio_token.specs.{declared.fault.TextFault.{TextFault, TheVariants.{BadText}}, Reading.{Read, bad_at}, Tokens.{behind, token_place}}
+use Rattle.rio_model.specs.{Lexemes.{Lexeme, Stand}, ToldPlaces.{Begin, TellsBadToken, told_place}}
 use Rattle.rio_model.proofs.LexemeLaws.{stand_joined}
 use Rattle.rio_step.specs.CommandLaws.{HaveSameToken, IsFirstBadToken, StandAlike}
 

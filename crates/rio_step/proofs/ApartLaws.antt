@@ -1,22 +1,15 @@
 -- No command makes a name that of an object and of a tree.
 use Rattle.std.proofs.Common.{◌≡◌, ℕ, zero, suc, List, [], ◌∷◌, Bool, true, false, cond, ◌||◌, Option, Some, None, refl, sym, ap, ◌∙◌}
-use Rattle.std.specs.Cmp.{eq_by_cmp_equiv}
-use Rattle.std.specs.FinMap.{contains_key, contains_key-keys, get, get-insert, get-remove, insert, keys, remove}
-use Rattle.std.specs.List.{list_any, slice_index_or}
-use Rattle.std.specs.Option.{is_some, option_map_or}
-use Rattle.std.specs.Ordering.{eq_by_cmp}
-use Rattle.std.specs.Str.{bytes_eq}
-use Rattle.std.specs.Cmp.Lexicographic.{same_text}
-use Rattle.std.proofs.lemmas.Cmp.{nat_list_eq_equiv}
-use Rattle.std.proofs.lemmas.Map.Views.{tells_apart}
-use Rattle.std.proofs.lemmas.Bool.{false_from_ne_true, or_parts, or_right}
+use Rattle.std.proofs.{lemmas.Cmp.{nat_list_eq_equiv}, lemmas.Map.Views.{tells_apart}, lemmas.Bool.{false_from_ne_true, or_parts, or_right}}
+use Rattle.std.specs.Cmp.{eq_by_cmp_equiv, Lexicographic.{same_text}}
+use Rattle.std.specs.{FinMap.{contains_key, contains_key-keys, get, get-insert, get-remove, insert, keys, remove}, List.{list_any, slice_index_or}}
+use Rattle.std.specs.{Option.{is_some, option_map_or}, Ordering.{eq_by_cmp}, Str.{bytes_eq}}
+use Rattle.rio_num.specs.Word.{name_order}
 use Rattle.rio_value.specs.declared.value.Value.{Value}
 use Rattle.rio_machine.proofs.OrderLaws.{items_tie, items_total, names_tie, names_total}
-use Rattle.rio_machine.specs.State.{NameAndCycle, State, Tree, item_order, name_order, names_object, names_tree, next_cycle}
-use Rattle.rio_machine.specs.declared.command.Command.{Command}
-use Rattle.rio_machine.specs.declared.command.Command.TheVariants.{Bad, Class, Put, Delete, Tree as MakeTree, Fill, Save, Get, Scan, Ls}
-use Rattle.rio_machine.specs.declared.refusal.Refusal.{Refusal}
-use Rattle.rio_machine.specs.declared.refusal.Refusal.TheVariants.{NameIsTree, NameInUse}
+use Rattle.rio_machine.specs.State.{NameAndCycle, State, Tree, item_order, names_object, names_tree, next_cycle}
+use Rattle.rio_machine.specs.declared.command.Command.{Command, TheVariants.{Bad, Class, Put, Delete, Tree as MakeTree, Fill, Save, Get, Scan, Ls}}
+use Rattle.rio_machine.specs.declared.refusal.Refusal.{Refusal, TheVariants.{NameIsTree, NameInUse}}
 use Rattle.rio_step.specs.Laws.{AreNamesApart, NamesStayApart}
 use Rattle.rio_step.specs.Refusing.{FullMark, first_of, refusals, is_tree_name, is_name_in_use, refusal_of, refused_if, fill_row, put_value}
 use Rattle.rio_step.specs.Step.{by_refusal, new_tree, state_behind, step, tree_filled, tree_saved, with_tree, without_item}

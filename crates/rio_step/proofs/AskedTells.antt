@@ -1,21 +1,16 @@
 -- What may stand behind a name: what is read, and the first tokens that can't stand.
 use Rattle.std.proofs.Common.{◌≡◌, inl, inr, ℕ, ℤ, pos, List, [], ◌∷◌, ◌++◌, codes, true, false, Option, Some, None, option_and_then, Ok, refl, sym, ◌∙◌, ap, subst, arith, Bool}
-use Rattle.std.specs.Option.{option_map_or}
-use Rattle.std.specs.Str.{bytes_eq}
 use Rattle.std.proofs.lemmas.Slice.Eq.{bytes_eq-Decides}
-use Rattle.rio_num.specs.At.{At}
-use Rattle.rio_num.specs.Reading.{◌>>=◌}
-use Rattle.rio_num.specs.Word.{is_name_text}
+use Rattle.std.specs.{Option.{option_map_or}, Str.{bytes_eq}}
+use Rattle.rio_num.specs.{At.{At}, Reading.{◌>>=◌}, Word.{is_name_text}}
 use Rattle.rio_types.specs.declared.class.Base.{Base}
 use Rattle.rio_token.specs.Reading.{mark_at, marked, name_at, next_word, num_at, num_between_at, some_if, version_at}
 use Rattle.rio_token.specs.Words.{decimal, num_between_of, num_of, written}
 use Rattle.rio_model.specs.Lexemes.{IsNext, Lexeme, mark, word}
-use Rattle.rio_model.proofs.LexemeLaws.{next_word_is, with_place}
-use Rattle.rio_model.proofs.ValueTold.{one_is_number}
+use Rattle.rio_model.proofs.{LexemeLaws.{next_word_is, with_place}, ValueTold.{one_is_number}}
 use Rattle.rio_step.specs.CommandSpelling.{IsVersion, SpellsAskedClass, SpellsAskedVersion, SpellsCycle, SpellsIfSome}
 use Rattle.rio_step.specs.Script.{asked_class_at, asked_version_at, class_version_in, comes_next, cycle_at, in_version}
-use Rattle.rio_step.proofs.AlikeLaws.{Tells}
-use Rattle.rio_step.proofs.NamedTells.{Named, named_tells}
+use Rattle.rio_step.proofs.{AlikeLaws.{Tells}, NamedTells.{Named, named_tells}}
 use Rattle.rio_step.proofs.TellsLaws.{IsLexeme, IsTest, SaysOne, SaysWord, mark_test, next_again, one_tells, test_said, word_said}
 use Rattle.rio_step.proofs.TurnLaws.{Behind, EitherOf, InTurn, Nothing, choice_tells, handed_tells, nothing_tells, tells_as, turn_tells}
 

@@ -1,30 +1,18 @@
 -- What a branch holds, and branches: what is read, and the first tokens that can't stand.
 use Rattle.std.proofs.Common.{◌≡◌, ℕ, ◌+◌, ◌<◌, ◌≤◌, List, [], ◌∷◌, ◌++◌, length, codes, Bool, true, false, ◌&&◌, ◌||◌, not, if◌then◌else◌, Option, Some, None, Ok, Err, refl, sym, ◌∙◌, ap, subst, arith, length-append}
-use Rattle.std.specs.Option.{option_map_or}
-use Rattle.std.specs.Str.{bytes_eq}
-use Rattle.std.proofs.lemmas.Bool.{and_parts}
-use Rattle.std.proofs.lemmas.Slice.Eq.{bytes_eq-Decides}
-use Rattle.rio_num.specs.At.{At}
-use Rattle.rio_num.specs.Reading.{◌>>=◌}
-use Rattle.rio_token.specs.declared.fault.TextFault.{TextFault}
-use Rattle.rio_token.specs.declared.token.Token.{Token}
-use Rattle.rio_token.specs.Reading.{Read, is_end, word_that_at}
-use Rattle.rio_token.specs.Tokens.{behind}
-use Rattle.rio_leaf.specs.declared.branch.BranchDef.{BranchDef}
-use Rattle.rio_leaf.specs.declared.branch.Shape.{Shape}
-use Rattle.rio_leaf.specs.declared.branch.Shape.TheVariants.{Leaves, Class as Objects}
-use Rattle.rio_leaf.specs.declared.leaf.Leaf.{Leaf}
-use Rattle.rio_leaf.specs.Leaves.{has_leaf}
-use Rattle.rio_leaf.specs.Stated.{all_leaves, leaves_of}
+use Rattle.std.proofs.{lemmas.Bool.{and_parts}, lemmas.Slice.Eq.{bytes_eq-Decides}}
+use Rattle.std.specs.{Option.{option_map_or}, Str.{bytes_eq}}
+use Rattle.rio_num.specs.{At.{At}, Reading.{◌>>=◌}}
+use Rattle.rio_token.specs.{declared.fault.TextFault.{TextFault}, declared.token.Token.{Token}, Reading.{Read, is_end, word_that_at}, Tokens.{behind}}
+use Rattle.rio_leaf.specs.{declared.branch.BranchDef.{BranchDef}, declared.branch.Shape.{Shape, TheVariants.{Leaves, Class as Objects}}}
+use Rattle.rio_leaf.specs.{declared.leaf.Leaf.{Leaf}, Leaves.{has_leaf}, Stated.{all_leaves, leaves_of}}
 use Rattle.rio_model.specs.Lexemes.{IsNext, Lexeme, glued, mark, word}
 use Rattle.rio_model.proofs.LexemeLaws.{with_place}
 use Rattle.rio_step.specs.CommandLaws.{HaveSameToken, IsFirstBadToken, StandAlike}
 use Rattle.rio_step.specs.CommandSpelling.{SpellsBranch, SpellsEach, SpellsNextLeaf, SpellsShape, SpellsSome}
 use Rattle.rio_step.specs.TreeGrammar.{branch_at, branch_class_at, branch_leaf_at, branch_leaves_at, branches_at, comes_class, further_at, glued_at, glued_mark_at, glued_word, goes_on, is_glued_mark, is_new_branch, is_new_leaf, items_at, opens_class, shape_at, tree_leaf_at}
-use Rattle.rio_step.proofs.AlikeLaws.{BeginBehind, IsKnown, Tells, alike_first, bad_behind, bad_there, begin_as}
-use Rattle.rio_step.proofs.FreshNames.{new_branch}
-use Rattle.rio_step.proofs.FurtherTells.{ItemTells, Rest, items_tell, rest_tells}
-use Rattle.rio_step.proofs.NamedTells.{Named, named_tells}
+use Rattle.rio_step.proofs.{AlikeLaws.{BeginBehind, IsKnown, Tells, alike_first, bad_behind, bad_there, begin_as}, FreshNames.{new_branch}}
+use Rattle.rio_step.proofs.{FurtherTells.{ItemTells, Rest, items_tell, rest_tells}, NamedTells.{Named, named_tells}}
 use Rattle.rio_step.proofs.TellsLaws.{glued_again, glued_mark_test, glued_word_is, glued_word_same}
 use Rattle.rio_step.proofs.TreeTells.{BehindName, GluedMark, OfClass, OfLeaves, behind_name_at, behind_name_tells, glued_mark_tells, leaf_spelled, leaves_tell, next_leaf_takes, of_class_tells, of_leaves_tell, slashed_at}
 use Rattle.rio_step.proofs.TurnLaws.{InTurn, fewer, handed_tells, tells_as, turn_tells}

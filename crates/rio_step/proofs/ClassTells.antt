@@ -1,29 +1,16 @@
 -- Declarations: what is read, and the first tokens that can't stand.
-use Rattle.std.proofs.Common.{◌≡◌, ℕ, List, [], ◌∷◌, ◌++◌, codes, Bool, false, Ok, Err, refl, sym, ◌∙◌, ap, subst, arith}
+use Rattle.std.proofs.{Common.{◌≡◌, ℕ, List, [], ◌∷◌, ◌++◌, codes, Bool, false, Ok, Err, refl, sym, ◌∙◌, ap, subst, arith}, lemmas.Slice.Eq.{bytes_eq-Decides}}
 use Rattle.std.specs.Str.{bytes_eq}
-use Rattle.std.proofs.lemmas.Slice.Eq.{bytes_eq-Decides}
-use Rattle.rio_num.specs.At.{At}
-use Rattle.rio_num.specs.Reading.{◌>>=◌}
-use Rattle.rio_num.specs.Word.{is_name_text}
-use Rattle.rio_types.specs.declared.class.Base.{Base}
-use Rattle.rio_types.specs.declared.class.ClassDef.{ClassDef}
-use Rattle.rio_types.specs.declared.class.Member.{Member}
-use Rattle.rio_token.specs.declared.fault.TextFault.{TextFault}
-use Rattle.rio_token.specs.Reading.{Read, end_at, keyword_at, list_at, name_at, version_at}
-use Rattle.rio_model.specs.ClassGrammar.{bases_at, class_at, class_of, member_at}
-use Rattle.rio_model.specs.ClassSpelling.{SpellsBases, SpellsDeclaration}
+use Rattle.rio_num.specs.{At.{At}, Reading.{◌>>=◌}, Word.{is_name_text}}
+use Rattle.rio_types.specs.{declared.class.Base.{Base}, declared.class.ClassDef.{ClassDef}, declared.class.Member.{Member}}
+use Rattle.rio_token.specs.{declared.fault.TextFault.{TextFault}, Reading.{Read, end_at, keyword_at, list_at, name_at, version_at}}
+use Rattle.rio_model.specs.{ClassGrammar.{bases_at, class_at, class_of, member_at}, ClassSpelling.{SpellsBases, SpellsDeclaration}}
 use Rattle.rio_model.specs.Lexemes.{Lexeme, mark, word}
 use Rattle.rio_model.proofs.LexemeLaws.{with_place}
-use Rattle.rio_machine.specs.declared.command.Command.{Command}
-use Rattle.rio_machine.specs.declared.command.Command.TheVariants.{Class}
-use Rattle.rio_step.specs.CommandLaws.{DeclarationPlacesAreTold}
-use Rattle.rio_step.specs.CommandSpelling.{SpellsCommand}
-use Rattle.rio_step.specs.Script.{class_command_at}
-use Rattle.rio_step.proofs.AlikeLaws.{Tells}
-use Rattle.rio_step.proofs.AskedTells.{WordOf, one_version, version_of, version_tells}
-use Rattle.rio_step.proofs.NamedTells.{Named, named_tells}
-use Rattle.rio_step.proofs.KindTells.{Members, bases_tells, members_tells}
-use Rattle.rio_step.proofs.LineTells.{TellsLine, line_equal, line_tells}
+use Rattle.rio_machine.specs.declared.command.Command.{Command, TheVariants.{Class}}
+use Rattle.rio_step.specs.{CommandLaws.{DeclarationPlacesAreTold}, CommandSpelling.{SpellsCommand}, Script.{class_command_at}}
+use Rattle.rio_step.proofs.{AlikeLaws.{Tells}, AskedTells.{WordOf, one_version, version_of, version_tells}, NamedTells.{Named, named_tells}}
+use Rattle.rio_step.proofs.{KindTells.{Members, bases_tells, members_tells}, LineTells.{TellsLine, line_equal, line_tells}}
 use Rattle.rio_step.proofs.TurnLaws.{InTurn, handed_tells, tells_as, turn_tells}
 
 abbrev made : List ℕ → ℕ → List Base → List Member → Command

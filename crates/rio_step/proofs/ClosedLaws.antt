@@ -1,22 +1,16 @@
 -- A closed state has no pending rows.
 use Rattle.std.proofs.Common.{◌≡◌, ℕ, List, [], ◌∷◌, map, Bool, true, false, cond, not, ◌||◌, ◌⊎◌, inl, inr, Option, Some, None, refl, sym, ap, ◌∙◌}
-use Rattle.std.specs.FinMap.{entries, find, get, get-entries, get-from_entries, get-insert, insert}
-use Rattle.std.specs.List.{filter, fold, list_any}
-use Rattle.std.specs.Option.{option_map, option_map_or}
-use Rattle.std.specs.Ordering.{eq_by_cmp}
-use Rattle.std.proofs.lemmas.Bool.{eqb-true, false_from_ne_true, not-false, or_from, or_right}
-use Rattle.std.proofs.lemmas.List.{nil_from_length}
-use Rattle.std.proofs.lemmas.Map.Views.{tells_apart}
+use Rattle.std.proofs.{lemmas.Bool.{eqb-true, false_from_ne_true, not-false, or_from, or_right}, lemmas.List.{nil_from_length}, lemmas.Map.Views.{tells_apart}}
 use Rattle.std.proofs.lemmas.Option.{same_Some}
+use Rattle.std.specs.{FinMap.{entries, find, get, get-entries, get-from_entries, get-insert, insert}, List.{filter, fold, list_any}}
+use Rattle.std.specs.{Option.{option_map, option_map_or}, Ordering.{eq_by_cmp}}
+use Rattle.rio_num.specs.Word.{name_order}
 use Rattle.rio_machine.proofs.OrderLaws.{names_tie, names_total}
-use Rattle.rio_machine.specs.State.{State, Tree, name_order}
-use Rattle.rio_machine.specs.declared.command.Command.{Command}
-use Rattle.rio_machine.specs.declared.command.Command.TheVariants.{Save}
-use Rattle.rio_step.specs.Laws.{ClosedHasNonePending, SavedKeepsTheRest}
-use Rattle.rio_step.specs.Runs.{closed_of, closing_saves, has_pending, saved_of, saved_tree}
+use Rattle.rio_machine.specs.{State.{State, Tree}, declared.command.Command.{Command, TheVariants.{Save}}}
+use Rattle.rio_step.specs.{Laws.{ClosedHasNonePending, SavedKeepsTheRest}, Runs.{closed_of, closing_saves, has_pending, saved_of, saved_tree}}
 use Rattle.rio_step.specs.Step.{state_behind, tree_saved, with_tree}
 
-abbrev Named : Type 0
+abbrev pub Named : Type 0
 Named = List ℕ × Tree
 
 -- the tree is saved, or it is as it was and isn't among the saved ones

@@ -1,30 +1,20 @@
 -- What tokens spell as a command is read as it.
 use Rattle.std.proofs.Common.{◌≡◌, ℕ, ◌-◌, ℤ, pos, List, codes, true, false, Option, Some, None, Ok, refl, sym, ◌∙◌, ap, subst}
-use Rattle.rio_num.specs.At.{At}
-use Rattle.rio_num.specs.Word.{is_item_text, is_name_text}
-use Rattle.rio_types.specs.declared.class.Base.{Base}
-use Rattle.rio_types.specs.declared.class.ClassDef.{ClassDef}
-use Rattle.rio_value.specs.declared.value.Value.{Value, out-Value}
-use Rattle.rio_value.specs.declared.value.Value.TheOpen.{Value-F}
+use Rattle.rio_num.specs.{At.{At}, Word.{is_item_text, is_name_text}}
+use Rattle.rio_types.specs.{declared.class.Base.{Base}, declared.class.ClassDef.{ClassDef}}
+use Rattle.rio_value.specs.{declared.value.Value.{Value, out-Value, TheOpen.{Value-F}}, declared.value.Part.{Part}}
 use Rattle.rio_value.specs.declared.value.Value.TheOpen as layer
-use Rattle.rio_value.specs.declared.value.Part.{Part}
-use Rattle.rio_token.specs.declared.token.Token.TheVariants.{End}
-use Rattle.rio_token.specs.Reading.{Read, end_at, item_at, marked}
-use Rattle.rio_token.specs.Tokens.{behind, next_at}
+use Rattle.rio_token.specs.{declared.token.Token.TheVariants.{End}, Reading.{Read, end_at, item_at, marked}, Tokens.{behind, next_at}}
 use Rattle.rio_leaf.specs.declared.branch.BranchDef.{BranchDef}
-use Rattle.rio_model.specs.Lexemes.{IsNext, Lexeme, Stand, word}
-use Rattle.rio_model.specs.ValueGrammar.{bracket_limit}
-use Rattle.rio_model.specs.ValueSpelling.{ends_here}
+use Rattle.rio_model.specs.{Lexemes.{IsNext, Lexeme, Stand, word}, ValueGrammar.{bracket_limit}, ValueSpelling.{ends_here}}
 use Rattle.rio_model.proofs.ClassAgain.{end_again, spelled_classes_are_read}
 use Rattle.rio_model.proofs.LexemeLaws.{bounded_again, mark_again, marked_again, num_again, stand_split, word_not_marked, word_that_again}
 use Rattle.rio_model.proofs.ValueAgain.{spelled_are_read}
-use Rattle.rio_machine.specs.declared.command.Command.{Command}
-use Rattle.rio_machine.specs.declared.command.Command.TheVariants.{Bad, Class, Put, Delete, Tree as MakeTree, Fill, Save, Get, Scan, Ls}
+use Rattle.rio_machine.specs.declared.command.Command.{Command, TheVariants.{Bad, Class, Put, Delete, Tree as MakeTree, Fill, Save, Get, Scan, Ls}}
 use Rattle.rio_step.specs.CommandLaws.{SpelledCommandsAreRead}
 use Rattle.rio_step.specs.CommandSpelling.{SpellsAskedClass, SpellsAskedVersion, SpellsCommand, SpellsCycle, SpellsIfSome}
 use Rattle.rio_step.specs.Script.{asked_class_at, asked_version_at, command_at, comes_next, cycle_at, delete_command_at, ended_at, fill_command_at, get_command_at, in_version, put_command_at, save_command_at, scan_command_at, tree_command_at}
-use Rattle.rio_step.proofs.TellsLaws.{next_again}
-use Rattle.rio_step.proofs.TreeAgain.{branches_again}
+use Rattle.rio_step.proofs.{TellsLaws.{next_again}, TreeAgain.{branches_again}}
 
 -- what follows a value at the end of a line
 value_ends : (y : Value-F Value Part) (t : At) → (next_at t).token ≡ End → ends_here y t ≡ true

@@ -1,35 +1,20 @@
 -- Commands: what is read, and the first tokens that can't stand.
 use Rattle.std.proofs.Common.{◌≡◌, ℕ, suc, ◌-◌, ℤ, List, [], ◌∷◌, ◌++◌, codes, true, if◌then◌else◌, Option, None, Ok, refl, sym, ◌∙◌, ap, subst, arith, Bool, false, Err}
-use Rattle.rio_num.specs.At.{At}
-use Rattle.rio_num.specs.Reading.{◌>>=◌}
-use Rattle.rio_num.specs.Word.{is_item_text}
-use Rattle.rio_value.specs.declared.value.Value.{Value}
+use Rattle.rio_num.specs.{At.{At}, Reading.{◌>>=◌}, Word.{is_item_text}}
+use Rattle.rio_value.specs.{declared.value.Value.{Value, TheOpen.{Value-F}, TheVariants.{outs-Null}}, declared.value.Part.{Part}}
 use Rattle.rio_value.specs.declared.value.Value as value
-use Rattle.rio_value.specs.declared.value.Part.{Part}
-use Rattle.rio_value.specs.declared.value.Value.TheOpen.{Value-F}
-use Rattle.rio_value.specs.declared.value.Value.TheVariants.{outs-Null}
-use Rattle.rio_leaf.specs.declared.branch.Shape.TheVariants.{Class as Objects}
-use Rattle.rio_token.specs.declared.fault.TextFault.{TextFault}
-use Rattle.rio_token.specs.Reading.{Read, bad_at, item_at, mark_at, num_at}
-use Rattle.rio_token.specs.Tokens.{behind}
-use Rattle.rio_token.specs.Words.{num_of}
-use Rattle.rio_leaf.specs.declared.branch.BranchDef.{BranchDef}
-use Rattle.rio_model.specs.Lexemes.{Lexeme, glued, mark, word}
-use Rattle.rio_model.specs.ValueGrammar.{bracket_limit, enclosed_at, row_at, value_in_text}
+use Rattle.rio_leaf.specs.{declared.branch.Shape.TheVariants.{Class as Objects}, declared.branch.BranchDef.{BranchDef}}
+use Rattle.rio_token.specs.{declared.fault.TextFault.{TextFault}, Reading.{Read, bad_at, item_at, mark_at, num_at}, Tokens.{behind}, Words.{num_of}}
+use Rattle.rio_model.specs.{Lexemes.{Lexeme, glued, mark, word}, ValueGrammar.{bracket_limit, enclosed_at, row_at, value_in_text}}
 use Rattle.rio_model.specs.ValueSpelling.{SpellsLayer, SpellsRow, SpellsValue, SpellsWithin}
-use Rattle.rio_model.proofs.LexemeLaws.{with_place}
-use Rattle.rio_model.proofs.ValueTold.{one_is_number}
-use Rattle.rio_machine.specs.declared.command.Command.{Command}
-use Rattle.rio_machine.specs.declared.command.Command.TheVariants.{Put, Delete, Tree as MakeTree, Fill, Save, Get, Scan, Ls}
+use Rattle.rio_model.proofs.{LexemeLaws.{with_place}, ValueTold.{one_is_number}}
+use Rattle.rio_machine.specs.declared.command.Command.{Command, TheVariants.{Put, Delete, Tree as MakeTree, Fill, Save, Get, Scan, Ls}}
 use Rattle.rio_step.specs.CommandLaws.{BeginIfFew, CommandPlacesAreTold, ReadCommandsAreSpelled, IsFirstBadToken}
 use Rattle.rio_step.specs.CommandSpelling.{SpellsAskedClass, SpellsAskedVersion, SpellsBranch, SpellsCommand, SpellsCycle, SpellsIfSome, SpellsSome}
 use Rattle.rio_step.specs.Script.{asked_class_at, asked_version_at, class_command_at, command_at, comes_next, cycle_at, delete_command_at, ended_at, fill_command_at, get_command_at, put_command_at, save_command_at, scan_command_at, tree_command_at}
 use Rattle.rio_step.specs.TreeGrammar.{branches_at}
 use Rattle.rio_step.proofs.AskedTells.{MarkOf, WordOf, asked_class_tells, asked_version_tells, cycle_tells, mark_tells, num_tells, word_test}
-use Rattle.rio_step.proofs.AlikeLaws.{BeginBehind, Tells, bad_there}
-use Rattle.rio_step.proofs.ClassTells.{class_line}
-use Rattle.rio_step.proofs.BranchTells.{branches_tells}
-use Rattle.rio_step.proofs.NamedTells.{Named, named_tells}
+use Rattle.rio_step.proofs.{AlikeLaws.{BeginBehind, Tells, bad_there}, ClassTells.{class_line}, BranchTells.{branches_tells}, NamedTells.{Named, named_tells}}
 use Rattle.rio_step.proofs.LineTells.{AfterWord, TellsLine, either_line, first_line, line_tells, no_line}
 use Rattle.rio_step.proofs.TurnLaws.{InTurn, Nothing, handed_tells, nothing_tells, tells_as, turn_tells}
 use Rattle.rio_step.proofs.ValueTells.{row_tells, row_up, value_tells, value_up}

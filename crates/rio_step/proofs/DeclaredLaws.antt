@@ -1,34 +1,22 @@
 -- A class with its bases in the newest versions is judged like the class itself, and may be declared where that may.
 use Rattle.std.proofs.Common.{if◌then◌else◌, append_assoc, ◌≡◌, ◌≤◌, ℕ, zero, suc, ◌+◌, List, [], ◌∷◌, ◌++◌, length, map, Bool, true, false, not, ◌||◌, ◌&&◌, ◌==◌, Option, Some, None, refl, sym, ap, subst, ◌∙◌, codes}
-use Rattle.std.specs.Prelude.{nat_lt}
-use Rattle.std.specs.List.{fold, list_all, list_any, flat_map}
-use Rattle.std.specs.FinMap.{get, insert, remove}
-use Rattle.std.specs.Option.{option_map_or, option_or}
-use Rattle.std.specs.Str.{bytes_eq}
-use Rattle.std.proofs.lemmas.Bool.{ltb-false, not-false, not_from_false}
-use Rattle.std.proofs.lemmas.List.{append-nil}
+use Rattle.std.proofs.{lemmas.Bool.{ltb-false, not-false, not_from_false}, lemmas.List.{append-nil}}
+use Rattle.std.specs.{Prelude.{nat_lt}, List.{fold, list_all, list_any, flat_map}, FinMap.{get, insert, remove}, Option.{option_map_or, option_or}}
+use Rattle.std.specs.{Str.{bytes_eq}, Fmt.{signed_decimal}}
 use Rattle.rio_format.specs.WrittenBytes.{length_limit}
 use Rattle.rio_machine.specs.State.{State, Tree, names_tree}
-use Rattle.rio_machine.specs.declared.command.Command.{Command}
-use Rattle.rio_machine.specs.declared.command.Command.TheVariants.{Bad, Class, Put, Delete, Tree as MakeTree, Fill, Save, Get, Scan, Ls}
-use Rattle.rio_machine.specs.declared.refusal.Refusal.{Refusal}
-use Rattle.rio_machine.specs.declared.refusal.Refusal.TheVariants.{BadName, NoSuchClass as Lacks, SameVersion as Same, HoldsItself as Holds, TooLarge as Large, TooMany as Many}
-use Rattle.rio_model.specs.declared.declare.DeclareFault.TheVariants.{NoSuchClass, SameVersion, HoldsItself, TooMany}
-use Rattle.rio_step.proofs.ApartLaws.{none_at, not_refused}
-use Rattle.rio_step.specs.Refusing.{FullMark, fill_row, has_bad_name, has_too_many, is_same_version, is_too_large, lacks_class, refusal_of, refusals, with_class, would_hold_itself}
-use Rattle.rio_step.specs.Statable.{ClassesStayDeclared, is_statable}
-use Rattle.rio_step.specs.Step.{by_refusal, state_behind, step, tree_filled, tree_saved}
-use Rattle.std.specs.Fmt.{signed_decimal}
-use Rattle.rio_num.specs.Printed.{name_text}
-use Rattle.rio_num.specs.Word.{is_name_text}
-use Rattle.rio_types.specs.declared.class.Base.{Base}
-use Rattle.rio_types.specs.declared.class.ClassDef.{ClassDef}
-use Rattle.rio_model.specs.ClassGrammar.{checksum_of, summed}
+use Rattle.rio_machine.specs.declared.command.Command.{Command, TheVariants.{Bad, Class, Put, Delete, Tree as MakeTree, Fill, Save, Get, Scan, Ls}}
+use Rattle.rio_machine.specs.declared.refusal.Refusal.{Refusal, TheVariants.{BadName, NoSuchClass as Lacks, SameVersion as Same, HoldsItself as Holds, TooLarge as Large, TooMany as Many}}
+use Rattle.rio_model.specs.{declared.declare.DeclareFault.TheVariants.{NoSuchClass, SameVersion, HoldsItself, TooMany}, ClassGrammar.{checksum_of, summed}}
 use Rattle.rio_model.specs.ClassText.{bases_text, base_text, members_text, text_of_class}
 use Rattle.rio_model.specs.Declaring.{any_inline, any_within, base_declared, declared, holds_itself, is_built_in_base, is_reserved_name, is_known, knows_all, knows_kind, reaches}
-use Rattle.rio_model.specs.Lists.{separated}
-use Rattle.rio_model.specs.StateClasses.{AreAccepted, HasShortList, IsDeclared, StateClasses}
+use Rattle.rio_model.specs.{Lists.{separated}, StateClasses.{AreAccepted, HasShortList, IsDeclared, StateClasses}}
 use Rattle.rio_model.specs.Stated.{are_stated_bases, are_stated_members, has_stated_parts, is_class_version, is_stated_base, is_stated_class}
+use Rattle.rio_step.proofs.ApartLaws.{none_at, not_refused}
+use Rattle.rio_step.specs.Refusing.{FullMark, fill_row, has_bad_name, has_too_many, is_same_version, is_too_large, lacks_class, refusal_of, refusals, with_class, would_hold_itself}
+use Rattle.rio_step.specs.{Statable.{ClassesStayDeclared, is_statable}, Step.{by_refusal, state_behind, step, tree_filled, tree_saved}}
+use Rattle.rio_num.specs.{Printed.{name_text}, Word.{is_name_text}}
+use Rattle.rio_types.specs.{declared.class.Base.{Base}, declared.class.ClassDef.{ClassDef}}
 
 module _ (classes : List ClassDef) where
   abbrev newest : Base → Base

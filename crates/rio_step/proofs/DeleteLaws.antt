@@ -1,17 +1,11 @@
 -- A delete takes one object or one tree away.
 use Rattle.std.proofs.Common.{◌≡◌, ◌≢◌, ℕ, List, Bool, true, false, cond, not, ◌||◌, ◌&&◌, ◌==◌, ◌⊎◌, inl, inr, Option, Some, None, refl, sym, ap, subst, ◌∙◌}
-use Rattle.std.specs.Option.{IsSomeAnd}
-use Rattle.std.specs.Cmp.{eq_by_cmp_equiv}
-use Rattle.std.specs.FinMap.{contains_key, get, get-remove, remove}
-use Rattle.std.specs.Option.{is_some, option_map_or}
-use Rattle.std.proofs.lemmas.Bool.{eqb-true, false_from_ne_true, not-false}
-use Rattle.std.proofs.lemmas.Map.Views.{tells_apart}
+use Rattle.std.proofs.{lemmas.Bool.{eqb-true, false_from_ne_true, not-false}, lemmas.Map.Views.{tells_apart}}
+use Rattle.std.specs.{Option.{IsSomeAnd, is_some, option_map_or}, Cmp.{eq_by_cmp_equiv}, FinMap.{contains_key, get, get-remove, remove}}
 use Rattle.rio_machine.proofs.OrderLaws.{items_tie, items_total, names_tie, names_total}
-use Rattle.rio_machine.specs.State.{NameAndCycle, State, Tree, names_item, names_tree}
-use Rattle.rio_machine.specs.declared.command.Command.TheVariants.{Delete}
+use Rattle.rio_machine.specs.{State.{NameAndCycle, State, Tree, names_item, names_tree}, declared.command.Command.TheVariants.{Delete}}
 use Rattle.rio_machine.specs.declared.refusal.Refusal.TheVariants.{NoSuchName, NoSuchCycle}
-use Rattle.rio_step.proofs.ApartLaws.{cycle_object, none_at, not_refused}
-use Rattle.rio_step.proofs.StepLaws.{step_accepted}
+use Rattle.rio_step.proofs.{ApartLaws.{cycle_object, none_at, not_refused}, StepLaws.{step_accepted}}
 use Rattle.rio_step.specs.Laws.{AreNamesApart, DeletesTakeOne, HasOneLess, HasOneTreeLess}
 use Rattle.rio_step.specs.Refusing.{FullMark, has_cycle, lacks_cycle, lacks_name, refusal_of, refusals}
 

@@ -1,19 +1,13 @@
 -- Some scripts, and what they are read as; and what is said.
 use Rattle.std.proofs.Common.{◌≡◌, ℕ, pos, List, [], ◌∷◌, ◌++◌, Some, None, refl}
-use Rattle.std.specs.Prelude.{codes}
-use Rattle.std.specs.Fmt.{digits}
+use Rattle.std.specs.{Prelude.{codes}, Fmt.{digits}}
 use Rattle.rio_num.specs.Printed.{name_text}
-use Rattle.rio_token.specs.Reading.{list_at, mark_at, num_at, num_between_at, some_at, word_at, word_that_at, end_at}
-use Rattle.rio_token.specs.Tokens.{scan_of}
+use Rattle.rio_token.specs.{Reading.{list_at, mark_at, num_at, num_between_at, some_at, word_at, word_that_at, end_at}, Tokens.{scan_of}}
 use Rattle.rio_token.specs.Words.{decimal, written}
-use Rattle.rio_leaf.specs.declared.branch.BranchDef.{BranchDef}
-use Rattle.rio_leaf.specs.declared.branch.Shape.TheVariants.{Leaves, Class as Objects}
-use Rattle.rio_leaf.specs.declared.leaf.Dim.{Dim}
-use Rattle.rio_leaf.specs.declared.leaf.Dim.TheVariants.{One, Fixed, Counted}
-use Rattle.rio_leaf.specs.declared.leaf.Leaf.{Leaf}
+use Rattle.rio_leaf.specs.{declared.branch.BranchDef.{BranchDef}, declared.branch.Shape.TheVariants.{Leaves, Class as Objects}}
+use Rattle.rio_leaf.specs.{declared.leaf.Dim.{Dim, TheVariants.{One, Fixed, Counted}}, declared.leaf.Leaf.{Leaf}}
 use Rattle.rio_model.specs.ValueGrammar.{class_version_at, enclosed_at, enclosed_by, object_at, part_at, value_in_text, word_value_at}
-use Rattle.rio_machine.specs.RefusalText.{refusal_text}
-use Rattle.rio_machine.specs.declared.command.Command.TheVariants.{Bad, Delete, Tree as MakeTree, Save, Get, Scan, Ls}
+use Rattle.rio_machine.specs.{RefusalText.{refusal_text}, declared.command.Command.TheVariants.{Bad, Delete, Tree as MakeTree, Save, Get, Scan, Ls}}
 use Rattle.rio_machine.specs.declared.refusal.Refusal.TheVariants.{BadLine, KindChanged, Full}
 use Rattle.rio_step.specs.ReplyText.{text_of}
 use Rattle.rio_step.specs.Script.{asked_class_at, asked_version_at, command_at, commands_from, cycle_at, delete_command_at, get_command_at, line_command, put_command_at, save_command_at, scan_command_at, script_of, tree_command_at}

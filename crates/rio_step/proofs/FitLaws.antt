@@ -1,15 +1,9 @@
 -- Classes that are known, bases that are reached and objects that may be put stay so with one class more.
 use Rattle.std.proofs.Common.{◌≡◌, ℕ, zero, suc, ◌+◌, ℤ, List, [], ◌∷◌, ◌++◌, length, Bool, true, false, cond, ◌||◌, ◌&&◌, Option, Some, None, refl, sym, ap, subst, ◌∙◌, arith, length-append}
-use Rattle.std.specs.Prelude.{is_some}
-use Rattle.std.specs.List.{list_any}
-use Rattle.std.specs.Option.{option_map}
-use Rattle.std.specs.Ordering.{int_eq}
-use Rattle.std.specs.Str.{bytes_eq}
-use Rattle.rio_types.specs.Classes.{find_in, newer_of, newest_in}
-use Rattle.rio_types.specs.declared.class.Base.{Base}
-use Rattle.rio_types.specs.declared.class.ClassDef.{ClassDef}
-use Rattle.rio_format.specs.declared.shape.Shape.{Shape as Form}
-use Rattle.rio_format.specs.declared.shape.Shape.TheVariants.{Bare as bare, Numbers as numbers, Headed as headed}
+use Rattle.std.specs.{Prelude.{is_some}, List.{list_any}, Option.{option_map}, Ordering.{int_eq}, Str.{bytes_eq}}
+use Rattle.rio_num.proofs.Cases.{any_weaker}
+use Rattle.rio_types.specs.{Classes.{find_in, newer_of, newest_in}, declared.class.Base.{Base}, declared.class.ClassDef.{ClassDef}}
+use Rattle.rio_format.specs.declared.shape.Shape.{Shape as Form, TheVariants.{Bare as bare, Numbers as numbers, Headed as headed}}
 use Rattle.rio_format.specs.Bodies.{Body, described, built_in, form_of}
 use Rattle.rio_format.specs.Slots.{Field, body_bases, body_fields, can_be_put, declared_body, derives_from, fields_of, form_fields, has_base, headed_body, is_headed}
 
@@ -22,16 +16,12 @@ pub and_true : (a b c : Bool) → (b ≡ true → c ≡ true) → (a && b) ≡ t
 and_true true b c f e = f e
 and_true false b c f e = absurd cc
 
-any_kept : {A : Type 0} (p q : A → Bool) → ((x : A) → p x ≡ true → q x ≡ true) → (xs : List A) → list_any p xs ≡ true → list_any q xs ≡ true
-any_kept p q f [] e = e
-any_kept p q f (x ∷ xs) e = or_true (p x) (list_any p xs) (q x) (list_any q xs) (f x) (any_kept p q f xs) e
-
 -- one level more
 deeper : (classes : List ClassDef) (target : List ℕ) (levels : ℕ) (class : List ℕ) (version : ℤ) → has_base levels classes target class version ≡ true → has_base (suc levels) classes target class version ≡ true
 unfolding has_base
 deeper classes target zero class version e = absurd cc
 deeper classes target (suc k) class version e =
-    any_kept (λ b. bytes_eq b.name target || has_base k classes target b.name b.version) (λ b. bytes_eq b.name target || has_base (suc k) classes target b.name b.version)
+    any_weaker (λ b. bytes_eq b.name target || has_base k classes target b.name b.version) (λ b. bytes_eq b.name target || has_base (suc k) classes target b.name b.version)
     (λ b h. or_true (bytes_eq b.name target) _ (bytes_eq b.name target) _ (λ t. t) (deeper classes target k b.name b.version) h)
     (body_bases (headed_body classes class version)) e
 
@@ -108,7 +98,7 @@ module _ (classes : List ClassDef) (class : ClassDef) where
   base_more target (suc k) name version e =
       bases_more (headed_body classes name version) (headed_body more name version) (λ b. bytes_eq b.name target || has_base k more target b.name b.version)
       (λ b is. headed_more name version b (is_headed (form_of name)) is)
-      (any_kept (λ b. bytes_eq b.name target || has_base k classes target b.name b.version) (λ b. bytes_eq b.name target || has_base k more target b.name b.version)
+      (any_weaker (λ b. bytes_eq b.name target || has_base k classes target b.name b.version) (λ b. bytes_eq b.name target || has_base k more target b.name b.version)
       (λ b h. or_true (bytes_eq b.name target) _ (bytes_eq b.name target) _ (λ t. t) (base_more target k b.name b.version) h)
       (body_bases (headed_body classes name version)) e)
 

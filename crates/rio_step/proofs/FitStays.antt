@@ -1,30 +1,19 @@
 -- No command makes an object or a row one that doesn't fit.
 use Rattle.std.proofs.Common.{◌≡◌, ℕ, List, [], ◌∷◌, ◌++◌, Bool, true, false, cond, not, Option, Some, None, refl, sym, ap, subst, ◌∙◌, append_assoc}
-use Rattle.std.specs.Prelude.{is_some}
-use Rattle.std.specs.FinMap.{get, get-insert, get-remove, insert, remove}
-use Rattle.std.specs.List.{list_all}
-use Rattle.std.specs.Option.{option_map_or}
-use Rattle.std.specs.Ordering.{eq_by_cmp}
-use Rattle.std.proofs.lemmas.Bool.{and_from, and_parts, not-false}
-use Rattle.std.proofs.lemmas.List.{append-nil}
-use Rattle.std.proofs.lemmas.Option.{same_Some}
+use Rattle.std.proofs.{lemmas.Bool.{and_from, and_parts, not-false}, lemmas.List.{append-nil}, lemmas.Option.{same_Some}}
+use Rattle.std.specs.{Prelude.{is_some}, FinMap.{get, get-insert, get-remove, insert, remove}, List.{list_all}, Option.{option_map_or}, Ordering.{eq_by_cmp}}
+use Rattle.rio_num.specs.Word.{name_order}
 use Rattle.rio_leaf.specs.declared.branch.BranchDef.{BranchDef}
-use Rattle.rio_types.specs.declared.class.ClassDef.{ClassDef}
+use Rattle.rio_types.specs.{declared.class.ClassDef.{ClassDef}, declared.kind.Kind.TheVariants.{Inline}}
 use Rattle.rio_value.specs.declared.value.Value.{Value}
-use Rattle.rio_format.specs.Bodies.{Counters}
-use Rattle.rio_format.specs.Fits.{Labels, fits, fitting_of}
-use Rattle.rio_format.specs.Slots.{Slot, kinded}
-use Rattle.rio_types.specs.declared.kind.Kind.TheVariants.{Inline}
+use Rattle.rio_format.specs.{Bodies.{Counters}, Fits.{Labels, fits, fitting_of}, Slots.{Slot, kinded}}
 use Rattle.rio_machine.proofs.OrderLaws.{items_total, names_total}
 use Rattle.rio_machine.specs.Rows.{Column, column_slot, columns_fit, columns_of, leaf_numbers_behind, row_fits, stands_in}
-use Rattle.rio_machine.specs.State.{NameAndCycle, Row, State, Tree, item_order, name_order, names_tree, next_cycle}
-use Rattle.rio_machine.specs.declared.command.Command.{Command}
-use Rattle.rio_machine.specs.declared.command.Command.TheVariants.{Bad, Class, Put, Delete, Tree as MakeTree, Fill, Save, Get, Scan, Ls}
-use Rattle.rio_machine.specs.declared.refusal.Refusal.{Refusal}
-use Rattle.rio_machine.specs.declared.refusal.Refusal.TheVariants.{DoesNotFit, BadRow}
+use Rattle.rio_machine.specs.State.{NameAndCycle, Row, State, Tree, item_order, names_tree, next_cycle}
+use Rattle.rio_machine.specs.declared.command.Command.{Command, TheVariants.{Bad, Class, Put, Delete, Tree as MakeTree, Fill, Save, Get, Scan, Ls}}
+use Rattle.rio_machine.specs.declared.refusal.Refusal.{Refusal, TheVariants.{DoesNotFit, BadRow}}
 use Rattle.rio_model.specs.Declaring.{declared}
-use Rattle.rio_step.proofs.ApartLaws.{none_at, not_refused}
-use Rattle.rio_step.proofs.GrowthLaws.{slot_more}
+use Rattle.rio_step.proofs.{ApartLaws.{none_at, not_refused}, GrowthLaws.{slot_more}}
 use Rattle.rio_step.specs.Laws.{AllFit, AllStayFit, FitsStay}
 use Rattle.rio_step.specs.Refusing.{FullMark, fill_row, is_bad_row, is_fit, is_unfit, object_class, put_value, refusal_of, refusals, rows_of_tree}
 use Rattle.rio_step.specs.Step.{by_refusal, new_tree, state_behind, step, tree_filled, tree_saved, with_tree, without_item}

@@ -1,16 +1,9 @@
 -- Of fewer than 2^32 names there is always one more.
-use Rattle.std.proofs.Common.{◌≡◌, ℕ, ◌<◌, ◌^◌, List, length, true, false, refl, sym, ◌∙◌, arith}
-use Rattle.std.specs.List.{list_any}
-use Rattle.std.specs.Str.{bytes_eq}
-use Rattle.std.specs.Prelude.{map}
-use Rattle.std.proofs.lemmas.Bool.{or_parts}
-use Rattle.std.proofs.lemmas.List.{length-map}
+use Rattle.std.proofs.{Common.{◌≡◌, ℕ, ◌<◌, ◌^◌, List, length, true, false, refl, sym, ◌∙◌, arith}, lemmas.Bool.{or_parts}, lemmas.List.{length-map}}
+use Rattle.std.specs.{List.{list_any}, Str.{bytes_eq}, Prelude.{map}}
 use Rattle.rio_num.specs.Word.{is_name_text}
-use Rattle.rio_num.proofs.FreshNames.{new_name}
-use Rattle.rio_num.proofs.NameSets.{any_map}
-use Rattle.rio_leaf.specs.declared.branch.BranchDef.{BranchDef}
-use Rattle.rio_leaf.specs.declared.leaf.Leaf.{Leaf}
-use Rattle.rio_leaf.specs.Leaves.{has_counted_leaf, has_leaf}
+use Rattle.rio_num.proofs.{FreshNames.{new_name}, NameSets.{any_map}}
+use Rattle.rio_leaf.specs.{declared.branch.BranchDef.{BranchDef}, declared.leaf.Leaf.{Leaf}, Leaves.{has_counted_leaf, has_leaf}}
 use Rattle.rio_leaf.proofs.FreshNames.{name_left}
 use Rattle.rio_step.specs.TreeGrammar.{is_new_branch, is_new_leaf}
 

@@ -1,21 +1,12 @@
 -- Items one behind the other: what is read, and the first tokens that can't stand.
 use Rattle.std.proofs.Common.{◌≡◌, ℕ, zero, suc, ◌+◌, ◌<◌, ◌≤◌, List, [], ◌∷◌, ◌++◌, length, Bool, true, false, Ok, Err, refl, sym, ◌∙◌, ap, subst, arith, append_assoc, length-append}
 use Rattle.std.proofs.lemmas.List.{append-nil}
-use Rattle.rio_num.specs.At.{At}
-use Rattle.rio_num.specs.Reading.{◌>>=◌}
-use Rattle.rio_token.specs.declared.fault.TextFault.{TextFault}
-use Rattle.rio_token.specs.declared.token.Token.TheVariants.{End}
-use Rattle.rio_token.specs.Reading.{Read}
-use Rattle.rio_token.specs.Tokens.{next_at}
+use Rattle.rio_num.specs.{At.{At}, Reading.{◌>>=◌}}
+use Rattle.rio_token.specs.{declared.fault.TextFault.{TextFault}, declared.token.Token.TheVariants.{End}, Reading.{Read}, Tokens.{next_at}}
 use Rattle.rio_model.specs.Lexemes.{Lexeme}
-use Rattle.rio_model.proofs.ItemLaws.{read_is}
-use Rattle.rio_model.proofs.LexemeLaws.{stand_joined, stand_within}
-use Rattle.rio_model.proofs.ItemTold.{end_of_rest}
-use Rattle.rio_step.specs.CommandLaws.{HaveSameToken, IsFirstBadToken}
-use Rattle.rio_step.specs.CommandSpelling.{SpellsEach, SpellsSome}
-use Rattle.rio_step.specs.TreeGrammar.{further_at, items_at}
-use Rattle.rio_step.proofs.AlikeLaws.{BeginBehind, IsKnown, Tells, alike_first, alike_split, bad_behind, bad_there}
-use Rattle.rio_step.proofs.TurnLaws.{InTurn, tells_as, turn_tells}
+use Rattle.rio_model.proofs.{ItemLaws.{read_is}, LexemeLaws.{stand_joined, stand_within}, ItemTold.{end_of_rest}}
+use Rattle.rio_step.specs.{CommandLaws.{HaveSameToken, IsFirstBadToken}, CommandSpelling.{SpellsEach, SpellsSome}, TreeGrammar.{further_at, items_at}}
+use Rattle.rio_step.proofs.{AlikeLaws.{BeginBehind, IsKnown, Tells, alike_first, alike_split, bad_behind, bad_there}, TurnLaws.{InTurn, tells_as, turn_tells}}
 
 -- further items behind some
 abbrev pub Rest : {A : Type 0} → (List A → A → List Lexeme → Type 0) → List A → List A → List Lexeme → Type 0

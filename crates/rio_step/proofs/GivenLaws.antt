@@ -1,8 +1,7 @@
 -- What is known of what was read.
 use Rattle.std.proofs.Common.{◌≡◌, Bool, true, false, Ok, Err, refl}
 use Rattle.std.specs.Prelude.{if◌then◌else◌}
-use Rattle.rio_num.specs.At.{At}
-use Rattle.rio_num.specs.Reading.{◌>>=◌}
+use Rattle.rio_num.specs.{At.{At}, Reading.{◌>>=◌}}
 use Rattle.rio_token.specs.Reading.{Read}
 
 -- if something was read, this holds of it

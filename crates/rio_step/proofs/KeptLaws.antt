@@ -1,22 +1,15 @@
 -- No command but a delete takes an object or a row away.
-use Rattle.std.proofs.Common.{◌≡◌, ℕ, List, [], ◌∷◌, Bool, true, false, cond, Option, Some, None, refl, sym, ap, ◌∙◌, append_assoc}
-use Rattle.std.specs.FinMap.{get, get-insert, insert}
-use Rattle.std.specs.Option.{is_some, option_map_or}
-use Rattle.std.specs.Ordering.{eq_by_cmp}
-use Rattle.std.proofs.lemmas.List.{append-nil}
-use Rattle.std.proofs.lemmas.Map.Views.{tells_apart}
-use Rattle.std.proofs.lemmas.Bool.{or_parts}
-use Rattle.std.proofs.lemmas.Option.{same_Some}
+use Rattle.std.proofs.{Common.{◌≡◌, ℕ, List, [], ◌∷◌, Bool, true, false, cond, Option, Some, None, refl, sym, ap, ◌∙◌, append_assoc}, lemmas.List.{append-nil}}
+use Rattle.std.proofs.{lemmas.Map.Views.{tells_apart}, lemmas.Bool.{or_parts}, lemmas.Option.{same_Some}}
+use Rattle.std.specs.{FinMap.{get, get-insert, insert}, Option.{is_some, option_map_or}, Ordering.{eq_by_cmp}}
+use Rattle.rio_num.specs.Word.{name_order}
 use Rattle.rio_value.specs.declared.value.Value.{Value}
 use Rattle.rio_machine.proofs.OrderLaws.{items_tie, items_total, names_tie, names_total}
-use Rattle.rio_machine.specs.State.{NameAndCycle, Row, State, Tree, item_order, name_order, names_object, names_tree, next_cycle}
-use Rattle.rio_machine.specs.declared.command.Command.{Command}
-use Rattle.rio_machine.specs.declared.command.Command.TheVariants.{Bad, Class, Put, Delete, Tree as MakeTree, Fill, Save, Get, Scan, Ls}
+use Rattle.rio_machine.specs.State.{NameAndCycle, Row, State, Tree, item_order, names_object, names_tree, next_cycle}
+use Rattle.rio_machine.specs.declared.command.Command.{Command, TheVariants.{Bad, Class, Put, Delete, Tree as MakeTree, Fill, Save, Get, Scan, Ls}}
 use Rattle.rio_machine.specs.declared.refusal.Refusal.{Refusal}
-use Rattle.rio_step.proofs.ApartLaws.{no_name_in_use}
-use Rattle.rio_step.proofs.StepLaws.{next_is_free}
-use Rattle.rio_step.specs.Laws.{HasRowsOf, Keeps, KeepsRows, NothingIsLost, is_delete}
-use Rattle.rio_step.specs.Refusing.{FullMark, fill_row, put_value, refusal_of, rows_of_tree}
+use Rattle.rio_step.proofs.{ApartLaws.{no_name_in_use}, StepLaws.{next_is_free}}
+use Rattle.rio_step.specs.{Laws.{HasRowsOf, Keeps, KeepsRows, NothingIsLost, is_delete}, Refusing.{FullMark, fill_row, put_value, refusal_of, rows_of_tree}}
 use Rattle.rio_step.specs.Step.{by_refusal, new_tree, state_behind, step, tree_filled, tree_saved, with_tree}
 
 -- ---- objects

@@ -1,31 +1,18 @@
 -- Members and bases of a declaration: what is read, and the first tokens that can't stand.
 use Rattle.std.proofs.Common.{◌≡◌, inl, inr, ℕ, ◌+◌, ◌<◌, ◌≤◌, ◌^◌, List, [], ◌∷◌, ◌++◌, length, codes, Bool, true, false, if◌then◌else◌, Option, Some, None, option_and_then, Ok, refl, sym, ◌∙◌, ap, subst, arith}
-use Rattle.std.specs.Str.{bytes_eq}
 use Rattle.std.proofs.lemmas.Slice.Eq.{bytes_eq-Decides}
-use Rattle.rio_num.specs.Reading.{◌>>=◌}
-use Rattle.rio_num.specs.Word.{is_name_text}
-use Rattle.rio_types.specs.declared.class.Base.{Base}
-use Rattle.rio_types.specs.declared.class.Member.{Member}
-use Rattle.rio_types.specs.declared.kind.Kind.{Kind}
-use Rattle.rio_types.specs.declared.kind.Kind.TheVariants.{Plain, Fixed, Text, Inline, Pointer}
-use Rattle.rio_types.specs.declared.kind.Primitive.{Primitive}
-use Rattle.rio_token.specs.Reading.{list_at, mark_at, marked, name_at, next_word, some_at, word_that_at}
-use Rattle.rio_token.specs.Tokens.{behind}
-use Rattle.rio_token.specs.Words.{decimal, written}
+use Rattle.std.specs.Str.{bytes_eq}
+use Rattle.rio_num.specs.{Reading.{◌>>=◌}, Word.{is_name_text}}
+use Rattle.rio_types.specs.{declared.class.Base.{Base}, declared.class.Member.{Member}}
+use Rattle.rio_types.specs.{declared.kind.Kind.{Kind, TheVariants.{Plain, Fixed, Text, Inline, Pointer}}, declared.kind.Primitive.{Primitive}}
+use Rattle.rio_token.specs.{Reading.{list_at, mark_at, marked, name_at, next_word, some_at, word_that_at}, Tokens.{behind}, Words.{decimal, written}}
 use Rattle.rio_format.specs.Bodies.{member}
 use Rattle.rio_model.specs.ClassGrammar.{base, base_at, bases_at, dimension_at, dimension_of, is_new_base, is_new_member, kind_at, member_at, plain_at, primitive_at, primitive_of, sized_at}
-use Rattle.rio_model.specs.ClassSpelling.{SpellsBase, SpellsBases, SpellsKind, SpellsMember}
-use Rattle.rio_model.specs.ClassText.{primitive_text}
-use Rattle.rio_model.specs.Lexemes.{Lexeme, mark, word}
+use Rattle.rio_model.specs.{ClassSpelling.{SpellsBase, SpellsBases, SpellsKind, SpellsMember}, ClassText.{primitive_text}, Lexemes.{Lexeme, mark, word}}
 use Rattle.rio_model.specs.Stated.{is_class_word}
-use Rattle.rio_model.proofs.ClassFound.{primitive_is, says_found}
-use Rattle.rio_model.proofs.LexemeLaws.{with_place}
-use Rattle.rio_step.proofs.AlikeLaws.{Tells}
-use Rattle.rio_step.proofs.AskedTells.{MarkOf, WordOf, mark_tells, word_of}
-use Rattle.rio_step.proofs.NamedTells.{Named, named_tells}
-use Rattle.rio_step.proofs.FreshNames.{new_among}
-use Rattle.rio_step.proofs.ListTells.{ListOf, SomeOf, list_tells, some_tells}
-use Rattle.rio_step.proofs.TellsLaws.{SaysOne, SaysWord, mark_test, one_tells, word_said}
+use Rattle.rio_model.proofs.{ClassFound.{primitive_is, says_found}, LexemeLaws.{with_place}}
+use Rattle.rio_step.proofs.{AlikeLaws.{Tells}, AskedTells.{MarkOf, WordOf, mark_tells, word_of}, NamedTells.{Named, named_tells}, FreshNames.{new_among}}
+use Rattle.rio_step.proofs.{ListTells.{ListOf, SomeOf, list_tells, some_tells}, TellsLaws.{SaysOne, SaysWord, mark_test, one_tells, word_said}}
 use Rattle.rio_step.proofs.TurnLaws.{Behind, EitherOf, InTurn, Nothing, choice_tells, handed_tells, nothing_tells, tells_as, turn_tells}
 
 new_member : (members : List Member) → length members < 2 ^ 32 → (name : List ℕ) × (is_new_member members name ≡ true)

@@ -1,22 +1,16 @@
 -- The words of a leaf, its dimension and its letter: as they are spelled, and as they are read.
-use Rattle.std.proofs.Common.{◌≡◌, ℕ, List, [], ◌∷◌, ◌++◌, length, Bool, true, false, not, ◌&&◌, ◌||◌, ◌==◌, Option, Some, None, refl, sym, ap, subst, ◌∙◌}
-use Rattle.std.specs.Prelude.{nat_le, option_and_then, unwrap_or, if◌then◌else◌}
-use Rattle.std.specs.List.{list_all}
-use Rattle.std.specs.Option.{option_map, option_or}
+use Rattle.std.proofs.Common.{◌≡◌, ℕ, List, [], ◌∷◌, ◌++◌, length, true, not, ◌&&◌, ◌||◌, ◌==◌, Option, Some, None, refl, sym, ap, subst, ◌∙◌}
 use Rattle.std.proofs.lemmas.Bool.{and_from, and_parts, eqb-true}
+use Rattle.std.specs.{Prelude.{nat_le, option_and_then, unwrap_or, if◌then◌else◌}, List.{list_all}, Option.{option_map, option_or}}
 use Rattle.rio_num.specs.Word.{begins_name, goes_on_name, is_name_text}
-use Rattle.rio_token.specs.Marks.{slash}
-use Rattle.rio_token.specs.Reading.{some_if}
-use Rattle.rio_token.specs.Words.{decimal, num_between_of, num_of, written}
-use Rattle.rio_leaf.specs.declared.leaf.Dim.{Dim}
-use Rattle.rio_leaf.specs.declared.leaf.Dim.TheVariants.{One, Fixed, Counted}
-use Rattle.rio_leaf.specs.declared.leaf.Leaf.{Leaf}
+use Rattle.rio_token.specs.{Marks.{slash}, Reading.{some_if}, Words.{decimal, num_between_of, num_of, written}}
+use Rattle.rio_leaf.specs.{declared.leaf.Dim.{Dim, TheVariants.{One, Fixed, Counted}}, declared.leaf.Leaf.{Leaf}, Reading.{letter_in}}
 use Rattle.rio_leaf.specs.Leaves.{has_counting_leaf, is_dim, is_leaf_count, is_letter_of}
 use Rattle.rio_model.specs.Lexemes.{Lexeme, glued, mark, word}
-use Rattle.rio_model.proofs.ReadWords.{no_digit}
-use Rattle.rio_model.proofs.LexemeLaws.{if_is}
-use Rattle.rio_step.specs.CommandSpelling.{SpellsDim, SpellsLeaf, in_square_brackets}
-use Rattle.rio_step.specs.TreeGrammar.{is_new_leaf, leaf_dimension, leaf_letter}
+use Rattle.rio_model.proofs.{ReadWords.{no_digit}, ReadKinds.{none_of}}
+use Rattle.rio_num.proofs.ReadLaws.{if_is}
+use Rattle.rio_leaf.proofs.LeafFound.{letter_one}
+use Rattle.rio_step.specs.{CommandSpelling.{SpellsDim, SpellsLeaf, in_square_brackets}, TreeGrammar.{is_new_leaf, leaf_dimension}}
 
 -- ---- as they are read
 
@@ -27,7 +21,7 @@ ReadsDim before dim ls = (w : List ℕ) × (leaf_dimension before w ≡ Some dim
 abbrev pub ReadsLeaf : List Leaf → Leaf → List Lexeme → Type 0
 ReadsLeaf before leaf ls =
     (inside : List Lexeme) × (w : List ℕ) × (ls ≡ glued (word leaf.name) ∷ (inside ++ glued (mark slash) ∷ glued (word w) ∷ []))
-    × (is_new_leaf before leaf.name ≡ true) × ReadsDim before leaf.dim inside × (leaf_letter leaf.dim w ≡ Some leaf.letter)
+    × (is_new_leaf before leaf.name ≡ true) × ReadsDim before leaf.dim inside × (letter_in leaf.dim w ≡ Some leaf.letter)
 
 -- ---- what is read is spelled
 
@@ -63,19 +57,10 @@ module _ (before : List Leaf) where
   dim_spelled dim ls c =
       let s = size_spelled c.0 dim c.1 in (s.0, subst (SpellsDim dim) (sym c.2) s.1)
 
-  letter_spelled : (dim : Dim) (w : List ℕ) (letter : ℕ) → leaf_letter dim w ≡ Some letter → (w ≡ letter ∷ []) × (is_letter_of dim letter ≡ true)
-  letter_spelled dim [] letter e = absurd cc
-  letter_spelled dim (b ∷ []) letter e =
-      let given = if_is (is_letter_of dim b) b letter e in (
-        ap (λ (c : ℕ). c ∷ []) given.1,
-        ap (is_letter_of dim) (sym given.1) ∙ given.0,
-      )
-  letter_spelled dim (b ∷ other ∷ more) letter e = absurd cc
-
   pub leaf_read_is_spelled : (leaf : Leaf) (ls : List Lexeme) → ReadsLeaf before leaf ls → SpellsLeaf before leaf ls
   leaf_read_is_spelled leaf ls c =
       let dim = dim_spelled leaf.dim c.0 c.4 in
-      let letter = letter_spelled leaf.dim c.1 leaf.letter c.5 in (
+      let letter = letter_one leaf.dim c.1 leaf.letter c.5 in (
         c.0,
         c.2 ∙ ap (λ (w : List ℕ). glued (word leaf.name) ∷ (c.0 ++ glued (mark slash) ∷ glued (word w) ∷ [])) letter.0,
         and_from _ _ (and_from _ _ c.3 dim.0) letter.1,
@@ -83,10 +68,6 @@ module _ (before : List Leaf) where
       )
 
   -- ---- what is spelled is read
-
-  none_of : (f : ℕ → Option ℕ) (b : Bool) → (let none : Option ℕ = None in option_and_then f (if b then none else none) ≡ none)
-  none_of f true = refl
-  none_of f false = refl
 
   no_number : (w : List ℕ) → is_name_text w ≡ true → num_between_of 2 100000 w ≡ None
   unfolding decimal written

@@ -1,20 +1,13 @@
 -- Whole lines: what is read, and the first token that can't stand.
 use Rattle.std.proofs.Common.{◌≡◌, inl, inr, List, [], ◌∷◌, ◌++◌, Bool, true, false, if◌then◌else◌, Ok, Err, refl, sym, ◌∙◌, ap, subst, arith}
 use Rattle.std.proofs.lemmas.List.{append-nil}
-use Rattle.rio_num.specs.At.{At}
-use Rattle.rio_num.specs.Reading.{◌>>=◌}
-use Rattle.rio_token.specs.declared.fault.TextFault.{TextFault}
-use Rattle.rio_token.specs.declared.token.Token.{Token}
-use Rattle.rio_token.specs.Reading.{Read, bad_at, end_at, is_end, some_if}
+use Rattle.rio_num.specs.{At.{At}, Reading.{◌>>=◌}}
+use Rattle.rio_token.specs.{declared.fault.TextFault.{TextFault}, declared.token.Token.{Token}, Reading.{Read, bad_at, end_at, is_end, some_if}}
 use Rattle.rio_token.specs.Tokens.{behind, next_at}
 use Rattle.rio_model.specs.Lexemes.{Lexeme}
-use Rattle.rio_model.proofs.ItemLaws.{read_is}
-use Rattle.rio_model.proofs.LexemeLaws.{then_ok}
-use Rattle.rio_model.proofs.ToldLaws.{bad_is, bind_bad}
-use Rattle.rio_model.proofs.ClassFound.{end_found}
+use Rattle.rio_model.proofs.{ItemLaws.{read_is}, LexemeLaws.{then_ok}, ToldLaws.{bad_is, bind_bad}, ClassFound.{end_found}}
 use Rattle.rio_step.specs.CommandLaws.{IsFirstBadToken, StandToEnd}
-use Rattle.rio_step.proofs.AlikeLaws.{BeginBehind, Tells, bad_behind, bad_there, bad_token}
-use Rattle.rio_step.proofs.TellsLaws.{IsTest, taken_bad, taken_none}
+use Rattle.rio_step.proofs.{AlikeLaws.{BeginBehind, Tells, bad_behind, bad_there, bad_token}, TellsLaws.{IsTest, taken_bad, taken_none}}
 
 abbrev Empty : List Lexeme → Type 0
 Empty ls = ls ≡ []

@@ -1,22 +1,12 @@
 -- Lists with commas between their items: what is read, and the first tokens that can't stand.
 use Rattle.std.proofs.Common.{◌≡◌, inl, inr, ℕ, zero, suc, ◌+◌, ◌<◌, ◌≤◌, ◌^◌, List, [], ◌∷◌, ◌++◌, length, Bool, true, false, ◌&&◌, not, Ok, Err, refl, sym, ◌∙◌, ap, subst, arith, append_assoc, length-append}
-use Rattle.rio_num.specs.At.{At}
-use Rattle.rio_num.specs.Reading.{◌>>=◌}
-use Rattle.rio_token.specs.declared.token.Token.{Token}
-use Rattle.rio_token.specs.declared.token.Token.TheVariants.{End}
-use Rattle.rio_token.specs.Reading.{Read, bad_at, is_end, list_at, mark_at, marked, more_at, some_at}
+use Rattle.rio_num.specs.{At.{At}, Reading.{◌>>=◌}}
+use Rattle.rio_token.specs.{declared.token.Token.{Token, TheVariants.{End}}, Reading.{Read, bad_at, is_end, list_at, mark_at, marked, more_at, some_at}}
 use Rattle.rio_token.specs.Tokens.{behind, next_at}
 use Rattle.rio_model.specs.Lexemes.{Lexeme, SpellsFurther, SpellsItems, mark}
-use Rattle.rio_model.proofs.LexemeLaws.{mark_found, stand_within, takes_some}
-use Rattle.rio_model.proofs.ClassFound.{is_end_is}
-use Rattle.rio_model.proofs.ItemTold.{end_of_rest}
-use Rattle.rio_step.specs.CommandLaws.{HaveSameToken}
-use Rattle.rio_step.specs.CommandSpelling.{SpellsEach}
-use Rattle.rio_step.specs.TreeGrammar.{further_at}
-use Rattle.rio_step.proofs.AlikeLaws.{Tells}
-use Rattle.rio_step.proofs.AskedTells.{MarkOf, mark_tells}
-use Rattle.rio_step.proofs.FurtherTells.{ItemTells, Rest, rest_tells}
-use Rattle.rio_step.proofs.TellsLaws.{mark_test}
+use Rattle.rio_model.proofs.{LexemeLaws.{mark_found, stand_within, takes_some}, ClassFound.{is_end_is}, ItemTold.{end_of_rest}}
+use Rattle.rio_step.specs.{CommandLaws.{HaveSameToken}, CommandSpelling.{SpellsEach}, TreeGrammar.{further_at}}
+use Rattle.rio_step.proofs.{AlikeLaws.{Tells}, AskedTells.{MarkOf, mark_tells}, FurtherTells.{ItemTells, Rest, rest_tells}, TellsLaws.{mark_test}}
 use Rattle.rio_step.proofs.TurnLaws.{Behind, EitherOf, InTurn, Nothing, choice_tells, fewer, handed_tells, nothing_tells, tells_as, turn_tells}
 
 module _ (strict : Bool) where

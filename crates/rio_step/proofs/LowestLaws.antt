@@ -1,18 +1,13 @@
 -- The refusal that is told is the one of the lowest number.
 use Rattle.std.proofs.Common.{◌≡◌, ◌<◌, ◌≤◌, ℕ, zero, suc, ◌+◌, ◌-◌, List, [], ◌∷◌, length, Bool, true, false, Option, Some, None, Ok, Err, refl, sym, ap, subst, ◌∙◌, arith}
-use Rattle.std.specs.List.{slice_get}
-use Rattle.rio_machine.specs.RefusalText.{refusal_number}
-use Rattle.rio_machine.specs.State.{State}
-use Rattle.rio_machine.specs.declared.command.Command.{Command}
-use Rattle.rio_machine.specs.declared.command.Command.TheVariants.{Bad, Class, Put, Delete, Tree as MakeTree, Fill, Save, Get, Scan, Ls}
+use Rattle.std.proofs.lemmas.Option.{same_Some}
+use Rattle.std.specs.{List.{slice_get}, FinMap.{get}, Prelude.{option_and_then}}
+use Rattle.rio_machine.specs.{RefusalText.{refusal_number}, State.{State}}
+use Rattle.rio_machine.specs.declared.command.Command.{Command, TheVariants.{Bad, Class, Put, Delete, Tree as MakeTree, Fill, Save, Get, Scan, Ls}}
 use Rattle.rio_machine.specs.declared.refusal.Refusal.{Refusal}
-use Rattle.rio_step.specs.Laws.{LowestIsTold}
-use Rattle.rio_step.specs.Mapping.{Mapped}
+use Rattle.rio_step.specs.{Laws.{LowestIsTold}, Mapping.{Mapped}}
 use Rattle.rio_step.specs.Refusing.{FullMark, bad_line, change_in, first_of, kind_change, marked_full, meant_object, refusal_of, refusals, refused_if, rows_of_tree, rows_seen_in, seen_in}
 use Rattle.rio_step.specs.declared.fault.MapFault.TheVariants.{KindChanged as Changed, NoVersion, NoMemory}
-use Rattle.std.specs.FinMap.{get}
-use Rattle.std.specs.Prelude.{option_and_then}
-use Rattle.std.proofs.lemmas.Option.{same_Some}
 
 -- a test gives no refusal of another number
 HasNumber : ℕ → Option Refusal → Type 0

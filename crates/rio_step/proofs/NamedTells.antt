@@ -2,11 +2,8 @@
 use Rattle.std.proofs.Common.{◌≡◌, ℕ, ◌<◌, ◌^◌, List, [], ◌∷◌, Bool, true, option_and_then, refl, ◌∙◌, ap, subst}
 use Rattle.rio_token.specs.Reading.{next_word, word_that_at}
 use Rattle.rio_model.specs.Lexemes.{Lexeme, word}
-use Rattle.rio_model.proofs.LexemeLaws.{if_is}
-use Rattle.rio_step.proofs.AlikeLaws.{Tells}
-use Rattle.rio_step.proofs.TellsLaws.{SaysOne, SaysWord, one_tells, word_said}
-use Rattle.rio_step.proofs.TreeTells.{tested}
-use Rattle.rio_step.proofs.TurnLaws.{tells_as}
+use Rattle.rio_num.proofs.ReadLaws.{if_is}
+use Rattle.rio_step.proofs.{AlikeLaws.{Tells}, TellsLaws.{SaysOne, SaysWord, one_tells, word_said}, TreeTells.{tested}, TurnLaws.{tells_as}}
 
 -- a name that passes a test
 abbrev pub Named : (List ℕ → Bool) → List ℕ → List Lexeme → Type 0

@@ -1,16 +1,13 @@
 -- A state with an object, a tree and a class, and why commands are refused there.
 use Rattle.std.proofs.Common.{◌≡◌, ℕ, pos, List, [], ◌∷◌, Some, None, refl}
-use Rattle.std.specs.Prelude.{codes}
-use Rattle.std.specs.FinMap.{entries-from_sorted, from_sorted, get-from_sorted}
-use Rattle.rio_leaf.specs.declared.branch.BranchDef.{BranchDef}
-use Rattle.rio_leaf.specs.declared.branch.Shape.TheVariants.{Leaves}
-use Rattle.rio_leaf.specs.declared.leaf.Dim.TheVariants.{One}
-use Rattle.rio_types.specs.declared.class.ClassDef.{ClassDef}
-use Rattle.rio_types.specs.declared.kind.Kind.TheVariants.{Pointer, Inline}
+use Rattle.std.specs.{Prelude.{codes}, FinMap.{entries-from_sorted, from_sorted, get-from_sorted}}
+use Rattle.rio_num.specs.Word.{name_order}
+use Rattle.rio_leaf.specs.{declared.branch.BranchDef.{BranchDef}, declared.branch.Shape.TheVariants.{Leaves}, declared.leaf.Dim.TheVariants.{One}}
+use Rattle.rio_types.specs.{declared.class.ClassDef.{ClassDef}, declared.kind.Kind.TheVariants.{Pointer, Inline}}
 use Rattle.rio_value.specs.declared.value.Value.{Value, Null}
 use Rattle.rio_format.specs.Bodies.{member}
 use Rattle.rio_model.specs.Declaring.{reaches}
-use Rattle.rio_machine.specs.State.{NameAndCycle, State, Tree, item_order, name_order, next_cycle}
+use Rattle.rio_machine.specs.State.{NameAndCycle, State, Tree, item_order, next_cycle}
 use Rattle.rio_machine.specs.declared.command.Command.TheVariants.{Class, Put, Delete, Tree as MakeTree, Fill, Save}
 use Rattle.rio_machine.specs.declared.refusal.Refusal.TheVariants.{BadName, NoSuchName, NoSuchCycle, NameIsTree, NotATree, NameInUse, SameVersion, HoldsItself, BadRow, CycleLimit}
 use Rattle.rio_step.specs.Refusing.{refusal_of}

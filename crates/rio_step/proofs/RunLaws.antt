@@ -1,15 +1,13 @@
 -- The states and the texts of a run.
 use Rattle.std.proofs.Common.{◌≡◌, ◌≤◌, take, zero, ℕ, suc, ◌+◌, List, [], ◌∷◌, ◌++◌, drop, length, Option, Some, None, refl, sym, ap, ◌∙◌, arith, append_assoc}
-use Rattle.std.specs.List.{fold, last_or, slice_get}
 use Rattle.std.proofs.lemmas.List.{append-nil, drop-drop}
-use Rattle.rio_machine.specs.State.{State}
-use Rattle.rio_machine.specs.declared.command.Command.{Command}
-use Rattle.rio_step.specs.Laws.{EachSaysItsReply, RepliesSaySomething, RunsBeginAlike, RunsEndClosed, RunsHaveStates, SaidInParts}
-use Rattle.rio_step.specs.ReplyText.{text_of}
+use Rattle.std.specs.List.{fold, last_or, slice_get}
+use Rattle.rio_machine.specs.{State.{State}, declared.command.Command.{Command}}
+use Rattle.rio_step.specs.{Laws.{EachSaysItsReply, RepliesSaySomething, RunsBeginAlike, RunsEndClosed, RunsHaveStates, SaidInParts}, ReplyText.{text_of}}
 use Rattle.rio_step.specs.Runs.{Marks, closed_of, closing_saves, first_step, later_marks, said_of, state_after, states_behind, states_of_run}
 use Rattle.rio_step.specs.Step.{class_declared, object_put, item_deleted, tree_made, row_added, rows_saved, object_told, rows_told, items_listed, refused, state_behind}
 
-drop_later : (n : ℕ) (marks : Marks) → drop n (later_marks marks) ≡ drop (suc n) marks
+pub drop_later : (n : ℕ) (marks : Marks) → drop n (later_marks marks) ≡ drop (suc n) marks
 drop_later n marks = let e : 1 + n ≡ suc n = omega arith in drop-drop n 1 marks ∙ ap (λ k. drop k marks) e
 
 pub each_says : EachSaysItsReply

@@ -1,24 +1,13 @@
 -- The commands of a script can be stated.
-use Rattle.std.proofs.Common.{ap, length, suc, ◌≡◌, ℕ, ◌+◌, List, [], ◌∷◌, Bool, true, false, Ok, Err, refl}
-use Rattle.std.specs.List.{filter, list_all}
-use Rattle.std.specs.Prelude.{if◌then◌else◌}
-use Rattle.std.specs.Str.Lines.{lines}
-use Rattle.std.proofs.lemmas.Bool.{and_from}
-use Rattle.rio_token.specs.declared.fault.TextFault.TheVariants.{BadText, NoMemory}
-use Rattle.rio_token.specs.Reading.{Read}
-use Rattle.rio_token.specs.Tokens.{standing_in}
-use Rattle.rio_model.proofs.ClassAgain.{spelled_classes_are_read}
-use Rattle.rio_model.proofs.StatedClasses.{read_classes_are_stated}
-use Rattle.rio_model.specs.ClassGrammar.{only_class}
-use Rattle.rio_model.specs.Lexemes.{Lexeme}
-use Rattle.rio_model.specs.ValueGrammar.{bracket_limit}
+use Rattle.std.proofs.{Common.{ap, length, suc, ◌≡◌, ℕ, ◌+◌, List, [], ◌∷◌, Bool, true, false, Ok, Err, refl}, lemmas.Bool.{and_from}}
+use Rattle.std.specs.{List.{filter, list_all}, Prelude.{if◌then◌else◌}, Str.Lines.{lines}}
+use Rattle.rio_token.specs.{declared.fault.TextFault.TheVariants.{BadText, NoMemory}, Reading.{Read}, Tokens.{standing_in}}
+use Rattle.rio_model.proofs.{ClassAgain.{spelled_classes_are_read}, StatedClasses.{read_classes_are_stated}}
+use Rattle.rio_model.specs.{ClassGrammar.{only_class}, Lexemes.{Lexeme}, ValueGrammar.{bracket_limit}}
 use Rattle.rio_num.specs.At.{At}
-use Rattle.rio_machine.specs.declared.command.Command.{Command}
-use Rattle.rio_machine.specs.declared.command.Command.TheVariants.{Bad, Class, Put, Delete, Tree as MakeTree, Fill, Save, Get, Scan, Ls}
-use Rattle.rio_step.proofs.CommandTells.{read_commands_are_spelled}
-use Rattle.rio_step.proofs.TreeLaws.{branches_stated}
-use Rattle.rio_step.specs.CommandLaws.{StandToEnd}
-use Rattle.rio_step.specs.CommandSpelling.{SpellsCommand}
+use Rattle.rio_machine.specs.declared.command.Command.{Command, TheVariants.{Bad, Class, Put, Delete, Tree as MakeTree, Fill, Save, Get, Scan, Ls}}
+use Rattle.rio_step.proofs.{CommandTells.{read_commands_are_spelled}, TreeLaws.{branches_stated}}
+use Rattle.rio_step.specs.{CommandLaws.{StandToEnd}, CommandSpelling.{SpellsCommand}}
 use Rattle.rio_step.specs.Script.{LinesGiveCommands, command_at, commands_from, is_command_line, line_command, or_bad_line}
 use Rattle.rio_step.specs.Statable.{ScriptsAreStatable, is_statable}
 

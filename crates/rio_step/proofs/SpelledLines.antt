@@ -1,16 +1,12 @@
 -- Each line of a script is read as the command that it is, and is no other.
 use Rattle.std.proofs.Common.{codes, Bool, ◌≡◌, ℕ, List, [], ◌∷◌, Ok, Err, refl, sym, ◌∙◌, ap}
 use Rattle.rio_num.specs.At.{At}
-use Rattle.rio_token.specs.declared.fault.TextFault.TheVariants.{BadText, NoMemory}
-use Rattle.rio_token.specs.Reading.{Read}
-use Rattle.rio_token.specs.Tokens.{behind, standing_in}
+use Rattle.rio_token.specs.{declared.fault.TextFault.TheVariants.{BadText, NoMemory}, Reading.{Read}, Tokens.{behind, standing_in}}
 use Rattle.rio_model.specs.Lexemes.{Lexeme, Stand}
-use Rattle.rio_machine.specs.declared.command.Command.{Command}
-use Rattle.rio_machine.specs.declared.command.Command.TheVariants.{Bad, Class, Put, Delete, Tree as MakeTree, Fill, Save, Get, Scan, Ls}
+use Rattle.rio_machine.specs.declared.command.Command.{Command, TheVariants.{Bad, Class, Put, Delete, Tree as MakeTree, Fill, Save, Get, Scan, Ls}}
 use Rattle.rio_step.specs.CommandLaws.{IsBadLine, IsLine, IsSpelledLine, LinesAreSpelled, StandAlike}
 use Rattle.rio_step.specs.Script.{comes_next, command_at, line_command, or_bad_line}
-use Rattle.rio_step.proofs.CommandAgain.{spelled_commands_are_read}
-use Rattle.rio_step.proofs.CommandTells.{command_places_are_told, read_commands_are_spelled}
+use Rattle.rio_step.proofs.{CommandAgain.{spelled_commands_are_read}, CommandTells.{command_places_are_told, read_commands_are_spelled}}
 
 -- ---- what is read
 

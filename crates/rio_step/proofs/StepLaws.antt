@@ -1,23 +1,15 @@
 -- What a command leaves as it was.
 use Rattle.std.proofs.Common.{◌≡◌, ◌≢◌, ℕ, ◌<◌, List, [], ◌∷◌, map, Bool, true, false, cond, Option, Some, None, refl, sym, ap, subst, ◌∙◌, arith}
-use Rattle.std.specs.Cmp.{eq_by_cmp_equiv}
-use Rattle.std.specs.FinMap.{contains_key-keys, get, get-insert, insert, keys}
-use Rattle.std.specs.List.{filter, list_any}
-use Rattle.std.specs.Option.{is_some}
-use Rattle.std.specs.Ordering.{eq_by_cmp}
-use Rattle.std.specs.Str.{bytes_eq}
-use Rattle.std.proofs.lemmas.Cmp.{nat_list_eq_equiv}
-use Rattle.std.proofs.lemmas.Map.Views.{tells_apart}
-use Rattle.std.proofs.lemmas.Bool.{false_from_ne_true}
-use Rattle.rio_value.specs.Depth.{greatest}
-use Rattle.rio_value.specs.declared.value.Value.{Value}
+use Rattle.std.proofs.{lemmas.Cmp.{nat_list_eq_equiv}, lemmas.Map.Views.{tells_apart}, lemmas.Bool.{false_from_ne_true}}
+use Rattle.std.specs.{Cmp.{eq_by_cmp_equiv}, FinMap.{contains_key-keys, get, get-insert, insert, keys}, List.{filter, list_any}}
+use Rattle.std.specs.{Ordering.{eq_by_cmp}, Str.{bytes_eq}}
+use Rattle.rio_num.proofs.Cases.{none_from}
+use Rattle.rio_value.specs.{Depth.{greatest}, declared.value.Value.{Value}}
 use Rattle.rio_machine.proofs.OrderLaws.{items_tie, items_total}
 use Rattle.rio_machine.specs.State.{NameAndCycle, State, item_order, next_cycle}
-use Rattle.rio_machine.specs.declared.command.Command.{Command}
-use Rattle.rio_machine.specs.declared.command.Command.TheVariants.{Bad, Class, Put, Delete, Tree as MakeTree, Fill, Save, Get, Scan, Ls}
+use Rattle.rio_machine.specs.declared.command.Command.{Command, TheVariants.{Bad, Class, Put, Delete, Tree as MakeTree, Fill, Save, Get, Scan, Ls}}
 use Rattle.rio_machine.specs.declared.refusal.Refusal.{Refusal}
-use Rattle.rio_step.specs.Laws.{HasOneMore, PutsAddOne, RefusedChangesNothing}
-use Rattle.rio_step.specs.Refusing.{FullMark, refusal_of, put_value}
+use Rattle.rio_step.specs.{Laws.{HasOneMore, PutsAddOne, RefusedChangesNothing}, Refusing.{FullMark, refusal_of, put_value}}
 use Rattle.rio_step.specs.Step.{by_refusal, refused, reply_to, state_behind, step}
 
 -- ---- refused commands
@@ -79,10 +71,6 @@ none_above name n (item ∷ items) below =
     let first = false_from_ne_true _ (named_apart name n item (cycles_in name items) all) in
     let others = none_above name n items (rest_below name n item (cycles_in name items) (bytes_eq item.0 name) all) in
     rw (first, others) refl
-
-none_from : {A : Type 0} (x : Option A) → is_some x ≡ false → x ≡ None
-none_from None e = refl
-none_from (Some x) e = absurd cc
 
 pub next_is_free : (m : State) (name : List ℕ) → get m.objects (name, next_cycle m name) ≡ None
 unfolding cycles_in

@@ -1,48 +1,29 @@
 -- A command leaves a state that a file can hold.
 use Rattle.std.proofs.Common.{◌≡◌, ℕ, ◌+◌, List, [], ◌∷◌, ◌++◌, drop, length, Bool, true, false, cond, not, ◌&&◌, ◌||◌, Option, Some, None, refl, sym, ap, subst, ◌∙◌, append_assoc, arith}
-use Rattle.std.specs.Prelude.{is_some, nat_le, unwrap_or}
-use Rattle.std.specs.FinMap.{get, get-empty, get-insert, get-remove, insert, remove}
-use Rattle.std.specs.List.{list_all, list_any}
-use Rattle.std.specs.Option.{option_map_or}
-use Rattle.std.specs.Ordering.{eq_by_cmp}
-use Rattle.std.proofs.lemmas.Bool.{and_from, and_parts, leb-false, ltb-false, not-false, or_parts}
-use Rattle.std.proofs.lemmas.List.{append-nil}
-use Rattle.rio_num.specs.Word.{is_item_text}
-use Rattle.rio_leaf.specs.declared.branch.BranchDef.{BranchDef}
-use Rattle.rio_leaf.specs.declared.branch.Shape.{Shape}
-use Rattle.rio_leaf.specs.declared.branch.Shape.TheVariants.{Leaves, Class as Objects}
+use Rattle.std.proofs.{lemmas.Bool.{and_from, and_parts, leb-false, ltb-false, not-false, or_parts}, lemmas.List.{append-nil}, lemmas.Map.Views.{tells_apart}}
+use Rattle.std.proofs.lemmas.Option.{same_Some}
+use Rattle.std.specs.{Prelude.{is_some, nat_le, unwrap_or}, FinMap.{get, get-empty, get-insert, get-remove, insert, remove}, List.{list_all, list_any}}
+use Rattle.std.specs.{Option.{option_map_or}, Ordering.{eq_by_cmp}, Str.{bytes_eq}}
+use Rattle.rio_num.specs.Word.{is_item_text, name_order}
+use Rattle.rio_leaf.specs.{declared.branch.BranchDef.{BranchDef}, declared.branch.Shape.{Shape, TheVariants.{Leaves, Class as Objects}}}
+use Rattle.rio_leaf.specs.Stated.{are_stated_branches}
 use Rattle.rio_types.specs.declared.class.ClassDef.{ClassDef}
 use Rattle.rio_value.specs.declared.value.Value.{Value}
 use Rattle.rio_buffer.specs.ReaderState.{no_words}
-use Rattle.rio_format.specs.Bodies.{Counters}
-use Rattle.rio_format.specs.Fits.{Labels, fits, fitting_of}
-use Rattle.rio_format.specs.Slots.{can_be_put}
-use Rattle.rio_machine.specs.Limits.{data_length, has_long_entry, head_length, is_too_long, zeros_behind}
+use Rattle.rio_format.specs.{Bodies.{Counters}, Fits.{Labels, fits, fitting_of}, Slots.{can_be_put}}
+use Rattle.rio_machine.specs.Limits.{data_length, has_long_entry, head_length, is_too_long, zeros_behind, cycle_limit, has_long_list, is_too_deep}
 use Rattle.rio_machine.specs.Rows.{Column, column_slot, columns_bytes, columns_fit, columns_of, entries_from, leaf_numbers_after, leaf_numbers_behind, row_fits, shape_columns, stands_in}
-use Rattle.rio_model.specs.Declaring.{is_declared}
-use Rattle.rio_leaf.specs.Stated.{are_stated_branches}
-use Rattle.rio_model.specs.Declaring.{declared}
-use Rattle.rio_machine.specs.Limits.{cycle_limit}
-use Rattle.rio_machine.specs.declared.command.Command.{Command}
-use Rattle.rio_machine.specs.declared.command.Command.TheVariants.{Bad, Class, Put, Delete, Tree as MakeTree, Fill, Save, Get, Scan, Ls}
-use Rattle.rio_machine.specs.declared.refusal.Refusal.{Refusal}
-use Rattle.rio_machine.specs.declared.refusal.Refusal.TheVariants.{BadName, NoSuchClass, CycleLimit, TooLarge, TooDeep, TooMany}
-use Rattle.rio_step.proofs.ApartLaws.{names_stay_apart, none_at, not_refused}
-use Rattle.rio_step.proofs.DeclaredLaws.{classes_stay_declared}
+use Rattle.rio_machine.specs.declared.command.Command.{Command, TheVariants.{Bad, Class, Put, Delete, Tree as MakeTree, Fill, Save, Get, Scan, Ls}}
+use Rattle.rio_machine.specs.declared.refusal.Refusal.{Refusal, TheVariants.{BadName, NoSuchClass, CycleLimit, TooLarge, TooDeep, TooMany}}
+use Rattle.rio_machine.specs.State.{NameAndCycle, Row, State, Tree, empty_state, item_order, names_tree, next_cycle}
+use Rattle.rio_model.specs.Declaring.{is_declared, declared}
+use Rattle.rio_step.proofs.{ApartLaws.{names_stay_apart, none_at, not_refused}, DeclaredLaws.{classes_stay_declared}, FitLaws.{put_more}}
+use Rattle.rio_step.proofs.{FitStays.{all_pushed, columns_more, object_more, unrefused_fit, unrefused_row}, WritingLaws.{slot_written, written_same}}
 use Rattle.rio_step.specs.Statable.{is_statable}
-use Rattle.rio_step.specs.Refusing.{FullMark, fill_row, goes_too_deep, has_too_many, is_at_last_cycle, is_list_name, is_too_large, lacks_class, put_value, refusal_of, refusals}
-use Rattle.rio_step.proofs.FitLaws.{put_more}
-use Rattle.rio_step.proofs.FitStays.{all_pushed, columns_more, object_more, unrefused_fit, unrefused_row}
-use Rattle.rio_step.proofs.WritingLaws.{slot_written, written_same}
-use Rattle.std.specs.Str.{bytes_eq}
-use Rattle.std.proofs.lemmas.Map.Views.{tells_apart}
-use Rattle.std.proofs.lemmas.Option.{same_Some}
-use Rattle.rio_machine.proofs.OrderLaws.{items_tie, items_total, names_tie, names_total}
+use Rattle.rio_step.specs.Refusing.{FullMark, fill_row, goes_too_deep, has_too_many, is_at_last_cycle, is_list_name, is_too_large, lacks_class, put_value, refusal_of, refusals, object_class, rows_of_tree, shape_lacks_class}
 use Rattle.rio_step.specs.Step.{by_refusal, new_tree, state_behind, step, tree_filled, tree_saved, with_tree, without_item}
-use Rattle.rio_machine.specs.Limits.{has_long_list, is_too_deep}
-use Rattle.rio_machine.specs.State.{NameAndCycle, Row, State, Tree, empty_state, item_order, name_order, names_tree, next_cycle}
-use Rattle.rio_step.specs.Refusing.{object_class, rows_of_tree, shape_lacks_class}
 use Rattle.rio_step.specs.Storable.{IsStorable, IsStoredName, IsStoredObject, IsStoredTree, StaysStorable, is_stored_row}
+use Rattle.rio_machine.proofs.OrderLaws.{items_tie, items_total, names_tie, names_total}
 
 -- ---- one class more
 

@@ -1,18 +1,13 @@
 -- Readers of single tokens, and one reader behind another: what they read, and the first tokens that can't stand.
 use Rattle.std.proofs.Common.{◌≡◌, ℕ, ◌<◌, ◌^◌, List, [], ◌∷◌, Bool, true, ◌&&◌, Option, Some, None, option_and_then, Ok, Err, refl, sym, ◌∙◌, ap, subst, arith}
-use Rattle.std.proofs.lemmas.Bool.{and_parts}
+use Rattle.std.proofs.lemmas.Bool.{and_parts, eq-eqb}
 use Rattle.rio_num.specs.At.{At}
-use Rattle.rio_token.specs.declared.fault.TextFault.{TextFault}
-use Rattle.rio_token.specs.declared.fault.TextFault.TheVariants.{BadText}
-use Rattle.rio_token.specs.declared.token.Token.{Token}
-use Rattle.rio_token.specs.Reading.{Read, bad_at, is_mark, marked, next_word, some_if, taken_at}
-use Rattle.rio_token.specs.Tokens.{behind, is_glued, token_place}
+use Rattle.rio_num.proofs.ReadLaws.{if_is}
+use Rattle.rio_token.specs.{declared.fault.TextFault.{TextFault, TheVariants.{BadText}}, declared.token.Token.{Token}}
+use Rattle.rio_token.specs.{Reading.{Read, bad_at, is_mark, marked, next_word, some_if, taken_at}, Tokens.{behind, is_glued, token_place}}
 use Rattle.rio_model.specs.Lexemes.{IsNext, Lexeme, glued, mark, word}
-use Rattle.rio_model.proofs.LexemeLaws.{if_is, marked_again, marked_is, next_word_is, taken_is, then_is}
-use Rattle.rio_model.proofs.ToldLaws.{bad_is}
-use Rattle.std.proofs.lemmas.Bool.{eq-eqb}
-use Rattle.rio_step.specs.CommandLaws.{HaveSameToken, IsFirstBadToken}
-use Rattle.rio_step.specs.TreeGrammar.{glued_word, is_glued_mark}
+use Rattle.rio_model.proofs.{LexemeLaws.{marked_again, marked_is, next_word_is, taken_is, then_is}, ToldLaws.{bad_is}}
+use Rattle.rio_step.specs.{CommandLaws.{HaveSameToken, IsFirstBadToken}, TreeGrammar.{glued_word, is_glued_mark}}
 use Rattle.rio_step.proofs.AlikeLaws.{BeginBehind, IsKnown, Tells, bad_token}
 
 -- one token, by which this is said

@@ -1,30 +1,17 @@
 -- What tokens spell as the branches of a tree is read as them.
 use Rattle.std.proofs.Common.{◌≡◌, ℕ, zero, suc, ◌<◌, ◌≤◌, List, [], ◌∷◌, ◌++◌, length, codes, Bool, true, false, ◌&&◌, ◌==◌, not, Option, Some, Ok, refl, sym, ◌∙◌, ap, subst, arith, append_assoc, length-append}
-use Rattle.std.proofs.lemmas.List.{append-nil}
+use Rattle.std.proofs.{lemmas.List.{append-nil}, lemmas.Bool.{and_parts, not-true, not_from_false}, lemmas.Slice.Eq.{bytes_eq-Decides}}
 use Rattle.std.specs.Str.{bytes_eq}
-use Rattle.std.proofs.lemmas.Bool.{and_parts, not-true, not_from_false}
-use Rattle.std.proofs.lemmas.Slice.Eq.{bytes_eq-Decides}
-use Rattle.rio_num.specs.At.{At}
-use Rattle.rio_num.specs.Word.{is_name_text}
-use Rattle.rio_token.specs.declared.token.Token.{Token}
-use Rattle.rio_token.specs.declared.token.Token.TheVariants.{Mark, End}
-use Rattle.rio_token.specs.Reading.{Read, is_end, is_mark, marked, some_if}
+use Rattle.rio_num.specs.{At.{At}, Word.{is_name_text}}
+use Rattle.rio_token.specs.{declared.token.Token.{Token, TheVariants.{Mark, End}}, Reading.{Read, is_end, is_mark, marked, some_if}}
 use Rattle.rio_token.specs.Tokens.{behind, is_glued, next_at}
-use Rattle.rio_leaf.specs.declared.branch.BranchDef.{BranchDef}
-use Rattle.rio_leaf.specs.declared.branch.Shape.{Shape}
-use Rattle.rio_leaf.specs.declared.branch.Shape.TheVariants.{Leaves, Class as Objects}
-use Rattle.rio_leaf.specs.declared.leaf.Dim.{Dim}
-use Rattle.rio_leaf.specs.declared.leaf.Dim.TheVariants.{One}
-use Rattle.rio_leaf.specs.declared.leaf.Leaf.{Leaf}
-use Rattle.rio_leaf.specs.Leaves.{has_leaf}
-use Rattle.rio_leaf.specs.Stated.{all_leaves}
+use Rattle.rio_leaf.specs.{declared.branch.BranchDef.{BranchDef}, declared.branch.Shape.{Shape, TheVariants.{Leaves, Class as Objects}}, Reading.{letter_in}}
+use Rattle.rio_leaf.specs.{declared.leaf.Dim.{Dim, TheVariants.{One}}, declared.leaf.Leaf.{Leaf}, Leaves.{has_leaf}, Stated.{all_leaves}}
 use Rattle.rio_model.specs.Lexemes.{IsNext, Lexeme, Stand, glued, mark, word}
 use Rattle.rio_model.proofs.LexemeLaws.{marked_again, stand_split, stand_within, word_not_marked, word_that_again}
 use Rattle.rio_step.specs.CommandSpelling.{SpellsBranch, SpellsEach, SpellsNextLeaf, SpellsShape, SpellsSome, in_square_brackets}
-use Rattle.rio_step.specs.TreeGrammar.{branch_at, branch_class_at, branch_leaf_at, branch_leaves_at, branches_at, further_at, glued_at, glued_mark_at, goes_on, is_glued_mark, is_new_branch, is_new_leaf, items_at, leaf_dim_at, leaf_dimension, leaf_letter, opens_class, shape_at, tree_leaf_at}
-use Rattle.rio_step.proofs.BranchTells.{comes_again}
-use Rattle.rio_step.proofs.LeafWords.{ReadsDim, ReadsLeaf, spelled_leaf_is_read}
-use Rattle.rio_step.proofs.TellsLaws.{glued_again, glued_mark_test}
+use Rattle.rio_step.specs.TreeGrammar.{branch_at, branch_class_at, branch_leaf_at, branch_leaves_at, branches_at, further_at, glued_at, glued_mark_at, goes_on, is_glued_mark, is_new_branch, is_new_leaf, items_at, leaf_dim_at, leaf_dimension, opens_class, shape_at, tree_leaf_at}
+use Rattle.rio_step.proofs.{BranchTells.{comes_again}, LeafWords.{ReadsDim, ReadsLeaf, spelled_leaf_is_read}, TellsLaws.{glued_again, glued_mark_test}}
 use Rattle.rio_step.proofs.TreeTells.{next_leaf_takes}
 
 -- ---- items one behind the other
@@ -126,7 +113,7 @@ leaf_again before leaf ls s t c h =
     let name = glued_at_again (λ w. some_if (is_new_leaf before w) w) leaf.name leaf.name s n.0 (name_given (is_new_leaf before) leaf.name c.3) in
     let dim = dim_again before leaf.dim c.0 (behind s) r.0 c.4 r.1 (other_mark 47 91 r.0 r.2.0 refl) in
     let slash = glued_mark_again 47 r.0 r.2.0 in
-    let letter = glued_at_again (leaf_letter leaf.dim) c.1 leaf.letter (behind r.0) r.2.1.0 c.5 in
+    let letter = glued_at_again (letter_in leaf.dim) c.1 leaf.letter (behind r.0) r.2.1.0 c.5 in
     let parts : tree_leaf_at before s ≡ Ok (leaf, behind (behind r.0)) = rw (name, dim, slash, letter) refl in
     parts ∙ ap (λ (a : At). let x : Read Leaf = Ok (leaf, a) in x) (sym r.2.1.1)
 

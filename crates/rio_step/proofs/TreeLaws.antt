@@ -1,12 +1,7 @@
 -- The branches that tokens spell can be stated.
-use Rattle.std.proofs.Common.{◌≡◌, List, [], ◌∷◌, ◌++◌, length, true, not, ◌==◌, refl, sym, ap, subst, append_assoc}
-use Rattle.std.proofs.Math.Dec.{eqb-suc-zero}
-use Rattle.std.proofs.lemmas.Bool.{and_from}
-use Rattle.std.proofs.lemmas.List.{append-nil}
-use Rattle.rio_leaf.specs.declared.branch.BranchDef.{BranchDef}
-use Rattle.rio_leaf.specs.declared.branch.Shape.{Shape}
-use Rattle.rio_leaf.specs.declared.branch.Shape.TheVariants.{Leaves, Class}
-use Rattle.rio_leaf.specs.declared.leaf.Leaf.{Leaf}
+use Rattle.std.proofs.{Common.{◌≡◌, List, [], ◌∷◌, ◌++◌, length, true, not, ◌==◌, refl, sym, ap, subst, append_assoc}, Math.Dec.{eqb-suc-zero}}
+use Rattle.std.proofs.{lemmas.Bool.{and_from}, lemmas.List.{append-nil}}
+use Rattle.rio_leaf.specs.{declared.branch.BranchDef.{BranchDef}, declared.branch.Shape.{Shape, TheVariants.{Leaves, Class}}, declared.leaf.Leaf.{Leaf}}
 use Rattle.rio_leaf.specs.Stated.{all_leaves, are_branches_behind, are_stated_branches, are_stated_leaves, is_stated_branch, is_stated_leaf, is_stated_shape}
 use Rattle.rio_model.specs.Lexemes.{Lexeme}
 use Rattle.rio_step.specs.CommandSpelling.{SpellsBranch, SpellsEach, SpellsNextLeaf, SpellsShape, SpellsSome}

@@ -1,27 +1,18 @@
 -- The branches of a tree: what is read, and the first tokens that can't stand.
 use Rattle.std.proofs.Common.{◌≡◌, inl, inr, ℕ, ◌+◌, ◌<◌, ◌≤◌, ◌^◌, List, [], ◌∷◌, ◌++◌, length, codes, Bool, true, false, ◌&&◌, Option, Some, None, option_and_then, Ok, refl, sym, ◌∙◌, ap, subst, arith, length-append}
 use Rattle.std.specs.Option.{option_map, option_or}
-use Rattle.rio_num.specs.At.{At}
-use Rattle.rio_num.specs.Reading.{◌>>=◌}
-use Rattle.rio_num.specs.Word.{is_name_text}
-use Rattle.rio_token.specs.declared.token.Token.TheVariants.{End}
-use Rattle.rio_token.specs.Reading.{Read, marked, some_if}
-use Rattle.rio_token.specs.Tokens.{is_glued, next_at}
+use Rattle.rio_num.specs.{At.{At}, Reading.{◌>>=◌}, Word.{is_name_text}}
+use Rattle.rio_num.proofs.ReadLaws.{if_is}
+use Rattle.rio_token.specs.{declared.token.Token.TheVariants.{End}, Reading.{Read, marked, some_if}, Tokens.{is_glued, next_at}}
 use Rattle.rio_token.specs.Words.{decimal, num_between_of, written}
-use Rattle.rio_leaf.specs.declared.branch.Shape.{Shape}
-use Rattle.rio_leaf.specs.declared.branch.Shape.TheVariants.{Leaves, Class as Objects}
-use Rattle.rio_leaf.specs.declared.leaf.Dim.{Dim}
-use Rattle.rio_leaf.specs.declared.leaf.Dim.TheVariants.{One, Fixed, Counted}
-use Rattle.rio_leaf.specs.declared.leaf.Leaf.{Leaf}
-use Rattle.rio_leaf.specs.Leaves.{has_counting_leaf}
+use Rattle.rio_leaf.specs.{declared.branch.Shape.{Shape, TheVariants.{Leaves, Class as Objects}}, declared.leaf.Dim.{Dim, TheVariants.{One, Fixed, Counted}}, Reading.{letter_in}}
+use Rattle.rio_leaf.specs.{declared.leaf.Leaf.{Leaf}, Leaves.{has_counting_leaf}}
+use Rattle.rio_leaf.proofs.LeafFound.{leaf_is}
 use Rattle.rio_model.specs.Lexemes.{Lexeme, glued, mark, word}
-use Rattle.rio_model.proofs.LexemeLaws.{if_is, with_place}
+use Rattle.rio_model.proofs.LexemeLaws.{with_place}
 use Rattle.rio_step.specs.CommandSpelling.{SpellsLeaf, SpellsNextLeaf, SpellsSome}
-use Rattle.rio_step.specs.TreeGrammar.{branch_class_at, branch_leaf_at, branch_leaves_at, glued_at, glued_mark_at, glued_word, is_glued_mark, is_new_leaf, items_at, leaf_dim_at, leaf_dimension, leaf_letter, leaf_size_at, tree_leaf_at}
-use Rattle.rio_step.proofs.AlikeLaws.{Tells}
-use Rattle.rio_step.proofs.FreshNames.{new_leaf}
-use Rattle.rio_step.proofs.FurtherTells.{ItemTells, items_tell}
-use Rattle.rio_step.proofs.LeafWords.{ReadsDim, leaf_read_is_spelled}
+use Rattle.rio_step.specs.TreeGrammar.{branch_class_at, branch_leaf_at, branch_leaves_at, glued_at, glued_mark_at, glued_word, is_glued_mark, is_new_leaf, items_at, leaf_dim_at, leaf_dimension, leaf_size_at, tree_leaf_at}
+use Rattle.rio_step.proofs.{AlikeLaws.{Tells}, FreshNames.{new_leaf}, FurtherTells.{ItemTells, items_tell}, LeafWords.{ReadsDim, leaf_read_is_spelled}}
 use Rattle.rio_step.proofs.TellsLaws.{IsLexeme, SaysGluedWord, SaysOne, glued_mark_test, glued_word_said, one_tells, test_said}
 use Rattle.rio_step.proofs.TurnLaws.{Behind, EitherOf, InTurn, Nothing, choice_tells, handed_tells, fewer, nothing_tells, tells_as, turn_tells}
 
@@ -127,25 +118,22 @@ dim_tells before n =
 
 -- ---- leaves
 
-abbrev pub leaf_with : List ℕ → Dim → ℕ → Leaf
-leaf_with name dim letter = record { name = name; letter = letter; dim = dim }
-
 abbrev pub Lettered : List ℕ → Dim → Leaf → List Lexeme → Type 0
-Lettered name dim leaf ls = (w : List ℕ) × (letter : ℕ) × (leaf_letter dim w ≡ Some letter) × (leaf ≡ leaf_with name dim letter) × (ls ≡ glued (word w) ∷ [])
+Lettered name dim leaf ls = (w : List ℕ) × (letter : ℕ) × (letter_in dim w ≡ Some letter) × (leaf ≡ leaf_is name dim letter) × (ls ≡ glued (word w) ∷ [])
 
-letter_of_all : (dim : Dim) → leaf_letter dim (codes "I") ≡ Some 73
+letter_of_all : (dim : Dim) → letter_in dim (codes "I") ≡ Some 73
 letter_of_all One = refl
 letter_of_all (Fixed n) = refl
 letter_of_all (Counted counter times) = refl
 
-lettered_tells : (name : List ℕ) (dim : Dim) (n : ℕ) → Tells true (λ m. glued_at (leaf_letter dim) m >>= with_place (leaf_with name dim)) (Lettered name dim) (Lettered name dim) n
+lettered_tells : (name : List ℕ) (dim : Dim) (n : ℕ) → Tells true (λ m. glued_at (letter_in dim) m >>= with_place (leaf_is name dim)) (Lettered name dim) (Lettered name dim) n
 lettered_tells name dim n =
-    handed_tells true (glued_at (leaf_letter dim)) (leaf_with name dim) (GluedWord (leaf_letter dim)) (GluedWord (leaf_letter dim)) (Lettered name dim) (Lettered name dim) n
-    (glued_word_tells (leaf_letter dim) n 73 (codes "I") (letter_of_all dim)) (λ x ls c. (c.0, x, c.1, refl, c.2)) (λ x ls c. (c.0, x, c.1, refl, c.2)) (λ y ls c. c)
+    handed_tells true (glued_at (letter_in dim)) (leaf_is name dim) (GluedWord (letter_in dim)) (GluedWord (letter_in dim)) (Lettered name dim) (Lettered name dim) n
+    (glued_word_tells (letter_in dim) n 73 (codes "I") (letter_of_all dim)) (λ x ls c. (c.0, x, c.1, refl, c.2)) (λ x ls c. (c.0, x, c.1, refl, c.2)) (λ y ls c. c)
 
 -- the slash and the letter
 unfoldable pub slashed_at : List ℕ → Dim → At → Read Leaf
-slashed_at name dim m = glued_mark_at 47 m >>= λ passed. glued_at (leaf_letter dim) passed.1 >>= with_place (leaf_with name dim)
+slashed_at name dim m = glued_mark_at 47 m >>= λ passed. glued_at (letter_in dim) passed.1 >>= with_place (leaf_is name dim)
 
 abbrev pub Slashed : List ℕ → Dim → Leaf → List Lexeme → Type 0
 Slashed name dim = InTurn (GluedMark 47) (λ u. Lettered name dim)
@@ -153,9 +141,9 @@ Slashed name dim = InTurn (GluedMark 47) (λ u. Lettered name dim)
 slashed_tells : (name : List ℕ) (dim : Dim) (n : ℕ) → Tells true (slashed_at name dim) (Slashed name dim) (Slashed name dim) n
 unfolding slashed_at
 slashed_tells name dim n =
-    turn_tells true (glued_mark_at 47) (λ u m. glued_at (leaf_letter dim) m >>= with_place (leaf_with name dim)) (GluedMark 47) (GluedMark 47) (λ u. Lettered name dim) (λ u. Lettered name dim) n (λ u. n)
+    turn_tells true (glued_mark_at 47) (λ u m. glued_at (letter_in dim) m >>= with_place (leaf_is name dim)) (GluedMark 47) (GluedMark 47) (λ u. Lettered name dim) (λ u. Lettered name dim) n (λ u. n)
     (glued_mark_tells 47 n) (λ u. lettered_tells name dim n) (λ x own c. omega arith)
-    (λ u few. (leaf_with name dim 73, glued (word (codes "I")) ∷ [], (codes "I", 73, letter_of_all dim, refl, refl)))
+    (λ u few. (leaf_is name dim 73, glued (word (codes "I")) ∷ [], (codes "I", 73, letter_of_all dim, refl, refl)))
 
 -- what stands behind the name
 unfoldable pub behind_name_at : List Leaf → List ℕ → At → Read Leaf
@@ -164,7 +152,7 @@ behind_name_at before name m = leaf_dim_at before m >>= λ dim. slashed_at name 
 abbrev pub BehindName : List Leaf → List ℕ → Leaf → List Lexeme → Type 0
 BehindName before name = InTurn (ReadsDim before) (Slashed name)
 
-any_leaf : (name : List ℕ) (dim : Dim) → Slashed name dim (leaf_with name dim 73) (glued (mark 47) ∷ glued (word (codes "I")) ∷ [])
+any_leaf : (name : List ℕ) (dim : Dim) → Slashed name dim (leaf_is name dim 73) (glued (mark 47) ∷ glued (word (codes "I")) ∷ [])
 any_leaf name dim = (tt, glued (mark 47) ∷ [], glued (word (codes "I")) ∷ [], refl, refl, (codes "I", 73, letter_of_all dim, refl, refl))
 
 pub behind_name_tells : (before : List Leaf) (name : List ℕ) (n : ℕ) → Tells true (behind_name_at before name) (BehindName before name) (BehindName before name) n
@@ -172,7 +160,7 @@ unfolding behind_name_at
 behind_name_tells before name n =
     turn_tells true (leaf_dim_at before) (λ dim m. slashed_at name dim m) (ReadsDim before) (ReadsDim before) (Slashed name) (Slashed name) n (λ dim. n)
     (dim_tells before n) (λ dim. slashed_tells name dim n) (λ x own c. omega arith)
-    (λ dim few. (leaf_with name dim 73, glued (mark 47) ∷ glued (word (codes "I")) ∷ [], any_leaf name dim))
+    (λ dim few. (leaf_is name dim 73, glued (mark 47) ∷ glued (word (codes "I")) ∷ [], any_leaf name dim))
 
 -- a leaf, by its name and what stands behind it
 pub leaf_spelled : (before : List Leaf) (name : List ℕ) (leaf : Leaf) (ls : List Lexeme) → is_new_leaf before name ≡ true → BehindName before name leaf ls → SpellsLeaf before leaf (glued (word name) ∷ ls)
@@ -181,7 +169,7 @@ leaf_spelled before name leaf ls new c =
     let e = s.5 in
     let tokens : ls ≡ c.1 ++ glued (mark 47) ∷ glued (word e.0) ∷ [] = c.3 ∙ ap (λ (o : List Lexeme). c.1 ++ o) (s.3 ∙ ap (λ (o : List Lexeme). o ++ s.2) s.4 ∙ ap (λ (o : List Lexeme). glued (mark 47) ∷ o) e.4) in
     subst (λ (l : Leaf). SpellsLeaf before l (glued (word name) ∷ ls)) (sym e.3)
-    (leaf_read_is_spelled before (leaf_with name c.0 e.1) (glued (word name) ∷ ls) (c.1, e.0, ap (λ (o : List Lexeme). glued (word name) ∷ o) tokens, new, c.4, e.2))
+    (leaf_read_is_spelled before (leaf_is name c.0 e.1) (glued (word name) ∷ ls) (c.1, e.0, ap (λ (o : List Lexeme). glued (word name) ∷ o) tokens, new, c.4, e.2))
 
 leaf_tells : (before : List Leaf) (n : ℕ) → length before ≤ n → Tells true (tree_leaf_at before) (SpellsLeaf before) (SpellsLeaf before) n
 unfolding tree_leaf_at behind_name_at slashed_at
@@ -189,7 +177,7 @@ leaf_tells before n le =
     tells_as true (λ s. tree_leaf_at before s) (InTurn (GluedName (is_new_leaf before)) (BehindName before)) (InTurn (GluedName (is_new_leaf before)) (BehindName before)) (SpellsLeaf before) (SpellsLeaf before) n
     (turn_tells true (glued_at (tested (is_new_leaf before))) (λ name m. behind_name_at before name m) (GluedName (is_new_leaf before)) (GluedName (is_new_leaf before)) (BehindName before) (BehindName before) n (λ name. n)
     (glued_name_tells (is_new_leaf before) n (λ few. new_leaf before (omega (arith, le, few)))) (λ name. behind_name_tells before name n) (λ x own c. omega arith)
-    (λ name few. (leaf_with name One 73, glued (mark 47) ∷ glued (word (codes "I")) ∷ [], (One, [], glued (mark 47) ∷ glued (word (codes "I")) ∷ [], refl, refl, any_leaf name One))))
+    (λ name few. (leaf_is name One 73, glued (mark 47) ∷ glued (word (codes "I")) ∷ [], (One, [], glued (mark 47) ∷ glued (word (codes "I")) ∷ [], refl, refl, any_leaf name One))))
     to to (λ y ls c. c)
   where
     to : (leaf : Leaf) (ls : List Lexeme) → InTurn (GluedName (is_new_leaf before)) (BehindName before) leaf ls → SpellsLeaf before leaf ls
@@ -206,7 +194,7 @@ next_leaf_tells before (l ∷ own) n le =
     (turn_tells true (glued_mark_at 58) (λ u m. tree_leaf_at leaves m) (GluedMark 58) (GluedMark 58) (λ u. SpellsLeaf leaves) (λ u. SpellsLeaf leaves) all (λ u. all)
     (glued_mark_tells 58 all) (λ u. leaf_tells leaves all (omega (arith, le, length-append before (l ∷ own)))) (λ x tokens c. omega arith)
     (λ u few. let c = new_leaf leaves (omega (arith, few, le, length-append before (l ∷ own))) in
-    let leaf = leaf_with c.0 One 73 in
+    let leaf = leaf_is c.0 One 73 in
     let tokens = glued (word c.0) ∷ glued (mark 47) ∷ glued (word (codes "I")) ∷ [] in
     (leaf, tokens, leaf_read_is_spelled leaves leaf tokens ([], codes "I", refl, c.1, refl, refl))))
     to to (λ y ls c. c)

@@ -1,17 +1,11 @@
 -- One reader behind another, and one or another by the next token: what they read, and the first tokens that can't stand.
 use Rattle.std.proofs.Common.{◌≡◌, ◌⊎◌, inl, inr, ℕ, ◌+◌, ◌<◌, ◌≤◌, ◌^◌, List, [], ◌∷◌, ◌++◌, length, Bool, true, false, if◌then◌else◌, Ok, Err, refl, sym, ◌∙◌, subst, arith, append_assoc, length-append}
-use Rattle.rio_num.specs.At.{At}
-use Rattle.rio_num.specs.Reading.{◌>>=◌}
-use Rattle.rio_token.specs.declared.fault.TextFault.{TextFault}
-use Rattle.rio_token.specs.Reading.{Read}
-use Rattle.rio_token.specs.Tokens.{behind}
+use Rattle.rio_num.specs.{At.{At}, Reading.{◌>>=◌}}
+use Rattle.rio_token.specs.{declared.fault.TextFault.{TextFault}, Reading.{Read}, Tokens.{behind}}
 use Rattle.rio_model.specs.Lexemes.{Lexeme, Stand}
-use Rattle.rio_model.proofs.ItemLaws.{read_is}
-use Rattle.rio_model.proofs.LexemeLaws.{stand_joined, then_ok, with_place}
-use Rattle.rio_model.proofs.ToldLaws.{bind_bad, handed_bad}
+use Rattle.rio_model.proofs.{ItemLaws.{read_is}, LexemeLaws.{stand_joined, then_ok, with_place}, ToldLaws.{bind_bad, handed_bad}}
 use Rattle.rio_step.specs.CommandLaws.{IsFirstBadToken}
-use Rattle.rio_step.proofs.AlikeLaws.{BeginBehind, IsKnown, Tells, alike_first, alike_split, bad_behind, bad_there, begin_as}
-use Rattle.rio_step.proofs.TellsLaws.{IsTest}
+use Rattle.rio_step.proofs.{AlikeLaws.{BeginBehind, IsKnown, Tells, alike_first, alike_split, bad_behind, bad_there, begin_as}, TellsLaws.{IsTest}}
 
 abbrev pub Nothing : {A : Type 0} → A → A → List Lexeme → Type 0
 Nothing x y ls = (y ≡ x) × (ls ≡ [])

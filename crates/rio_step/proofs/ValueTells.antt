@@ -3,15 +3,10 @@ use Rattle.std.proofs.Common.{ℕ, suc, List, [], ◌∷◌, ◌++◌, Bool}
 use Rattle.rio_num.specs.At.{At}
 use Rattle.rio_value.specs.declared.value.Value.{Value, out-Value}
 use Rattle.rio_value.specs.declared.value.Value.TheOpen as layer
-use Rattle.rio_token.specs.declared.fault.TextFault.{TextFault}
-use Rattle.rio_token.specs.Reading.{Read}
-use Rattle.rio_model.specs.Lexemes.{Lexeme, SpellsFurther}
-use Rattle.rio_model.specs.ToldPlaces.{Begin}
-use Rattle.rio_model.specs.ValueGrammar.{enclosed_at, value_in_text, values_at}
+use Rattle.rio_token.specs.{declared.fault.TextFault.{TextFault}, Reading.{Read}}
+use Rattle.rio_model.specs.{Lexemes.{Lexeme, SpellsFurther}, ToldPlaces.{Begin}, ValueGrammar.{enclosed_at, value_in_text, values_at}}
 use Rattle.rio_model.specs.ValueSpelling.{SpellsRow, SpellsValue, SpellsWithin}
-use Rattle.rio_model.proofs.SpellingUp.{layer_up, within_up}
-use Rattle.rio_model.proofs.ValueAgain.{spelled_are_read}
-use Rattle.rio_model.proofs.ValueFound.{read_are_spelled}
+use Rattle.rio_model.proofs.{SpellingUp.{layer_up, within_up}, ValueAgain.{spelled_are_read}, ValueFound.{read_are_spelled}}
 use Rattle.rio_model.proofs.ValueTold.{places_are_told, value_ends_same}
 use Rattle.rio_step.specs.CommandLaws.{IsFirstBadToken}
 use Rattle.rio_step.proofs.AlikeLaws.{BeginBehind, Tells, alike_end, alike_stand, bad_alike, bad_there}

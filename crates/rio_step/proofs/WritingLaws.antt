@@ -1,30 +1,22 @@
 -- What is written for a value that fits is the same with one class more.
 use Rattle.std.proofs.Common.{◌≡◌, ℕ, suc, ◌+◌, ℤ, pos, negsuc, List, [], ◌∷◌, ◌++◌, length, map, Bool, true, false, cond, ◌&&◌, ◌==◌, Option, Some, None, refl, sym, ap, subst, ◌∙◌}
-use Rattle.std.specs.Prelude.{is_some, slice_get, if◌then◌else◌}
-use Rattle.std.specs.Map.{lookup}
-use Rattle.std.specs.Str.{bytes_eq}
+use Rattle.std.specs.{Prelude.{slice_get, if◌then◌else◌, codes}, Map.{lookup}, Str.{bytes_eq}, Ordering.{int_eq}}
 use Rattle.rio_types.specs.declared.class.ClassDef.{ClassDef}
 use Rattle.rio_types.specs.declared.kind.Kind.TheVariants.{Plain, Counter, Fixed, Counted, Text as Texted, Inline, Pointer, Other}
-use Rattle.rio_types.specs.declared.kind.Primitive.{Primitive}
-use Rattle.rio_types.specs.declared.kind.Primitive.TheVariants.{U32, I32}
+use Rattle.rio_types.specs.declared.kind.Primitive.{Primitive, TheVariants.{U32, I32}}
 use Rattle.byteorder.specs.Endian.{big_bytes}
+use Rattle.rio_num.proofs.Cases.{if_some, some_of}
 use Rattle.rio_value.specs.declared.value.Part.{Part}
 use Rattle.rio_value.specs.declared.value.Value.{Value, Int, Bits32, Bits64, Bool as Truth, Text, List as Items, Object, Pointed, Null, Back, Opaque}
 use Rattle.rio_format.proofs.ValueCases.{Each, by_cases, fold_Int, fold_Bits32, fold_Bits64, fold_Bool, fold_Text, fold_List, fold_Pointed, fold_Null, fold_Back, fold_Opaque}
-use Rattle.rio_format.proofs.WrittenValues.{fit_object, write_object}
-use Rattle.rio_format.proofs.WrittenPointers.{inline_class}
-use Rattle.rio_buffer.specs.ReaderState.{no_words}
-use Rattle.rio_buffer.specs.Writer.{class_bytes}
-use Rattle.std.specs.Ordering.{int_eq}
-use Rattle.std.specs.Prelude.{codes}
-use Rattle.rio_format.specs.declared.shape.Shape.{Shape as Form}
-use Rattle.rio_format.specs.declared.shape.Shape.TheVariants.{Bare as bare, Numbers as numbers, Headed as headed}
+use Rattle.rio_format.proofs.{WrittenValues.{fit_object, write_object}, WrittenPointers.{inline_class}}
+use Rattle.rio_buffer.specs.{ReaderState.{no_words}, Writer.{class_bytes}}
+use Rattle.rio_format.specs.declared.shape.Shape.{Shape as Form, TheVariants.{Bare as bare, Numbers as numbers, Headed as headed}}
 use Rattle.rio_format.specs.Bodies.{Body, Counters, described, listed, arrayed, opaque, form_of, t_object_base}
 use Rattle.rio_format.specs.Fits.{Fitting, Labels, all_fit, back_fits, fits, may_point, pointed_fits, counted_slot, counted_so_far, fields_fit, fitting_of, fitting_step, fixed_by, int_fits, link_fits, list_fits, object_may_stand, parts_fit, pass}
 use Rattle.rio_format.specs.Slots.{Field, base_field, body_fields, declared_body, field, form_fields, member_field, Slot, kinded, based, flags, any_pointer, link, many}
-use Rattle.rio_format.specs.Written.{Writing, all, array_bytes, arrayed_bytes, bare_bytes, body_bytes, both, form_bytes, headed_bytes, listed_bytes, counted_bytes, fields_bytes, just, link_bytes, list_bytes, counted, labelled, pointed_bytes, written_form, writing_of, writing_step}
-use Rattle.rio_step.proofs.FitLaws.{body_more}
-use Rattle.rio_step.proofs.GrowthLaws.{then_some}
+use Rattle.rio_format.specs.Written.{Writing, all, number_array_bytes, arrayed_bytes, bare_bytes, body_bytes, both, form_bytes, headed_bytes, listed_bytes, counted_bytes, fields_bytes, just, link_bytes, list_bytes, counted, labelled, pointed_bytes, written_form, writing_of, writing_step}
+use Rattle.rio_step.proofs.{FitLaws.{body_more}, GrowthLaws.{then_some}}
 use Rattle.rio_step.specs.Laws.{WrittenStays}
 
 -- wherever a value fits, two writings of it are the same
@@ -82,10 +74,6 @@ link_write (a ∷ b ∷ []) (w ∷ []) (u ∷ us) known labels after e = absurd 
 link_write (a ∷ b ∷ []) (w ∷ x ∷ ws) (u ∷ []) known labels after e = absurd known.1
 link_write (a ∷ b ∷ []) (w ∷ x ∷ y ∷ ws) (u ∷ v ∷ us) known labels after e = absurd known.1.1
 link_write (a ∷ b ∷ []) (w ∷ x ∷ []) (u ∷ v ∷ z ∷ us) known labels after e = absurd known.1.1
-
-if_some : {A : Type 0} (b : Bool) (x : Option A) (a : A) → cond b x None ≡ Some a → x ≡ Some a
-if_some true x a e = e
-if_some false x a e = absurd cc
 
 list_write : (fs : List Fitting) (ws us : List Writing) → AllWrite fs ws us → (slot : Slot) (labels after : Labels) → list_fits fs slot labels ≡ Some after → list_bytes ws slot ≡ list_bytes us slot
 list_write fs ws us known (kinded (Fixed of count)) labels after e = all_write (kinded (Plain of)) fs ws us known labels after (if_some (length fs == count) _ after e)
@@ -211,7 +199,7 @@ module _ (classes : List ClassDef) (class : ClassDef) where
       let bits = subst (λ s. (writing_of classes b.value).bytes s ≡ (writing_of more b.value).bytes s) was (own_field b known.1.0 g _ first.0 second.0 second.1) in
       λ i. both (just (big_bytes 2 1)) (both (id i) (bits i))
 
-  array_write : (of : Primitive) (f : Field) (ps : List Part) → Each (λ p. Same p.value) ps → f.slot ≡ many (kinded (Plain of)) → (labels after : Labels) → fields_fit (f ∷ []) (fit_parts ps) [] labels ≡ Some after → array_bytes of (old_parts ps) ≡ array_bytes of (new_parts ps)
+  array_write : (of : Primitive) (f : Field) (ps : List Part) → Each (λ p. Same p.value) ps → f.slot ≡ many (kinded (Plain of)) → (labels after : Labels) → fields_fit (f ∷ []) (fit_parts ps) [] labels ≡ Some after → number_array_bytes of (old_parts ps) ≡ number_array_bytes of (new_parts ps)
   array_write of f [] known is labels after e = absurd cc
   array_write of f (a ∷ b ∷ ps) known is labels after e =
       let first = first_field f [] (a.name, fitting_of classes a.value) (fit_parts (b ∷ ps)) [] labels after e in
@@ -404,14 +392,10 @@ module _ (classes : List ClassDef) (class : ClassDef) where
     opaque = λ c n. alone (Opaque c n) _ _ (fold_Opaque (fitting_step classes) (λ p. (p.name, p.value)) c n) (fold_Opaque (writing_step classes) (λ p. p.value) c n) (fold_Opaque (writing_step more) (λ p. p.value) c n) (λ code labels after e. absurd cc);
   })
 
-  some_there : {A : Type 0} (x : Option A) → is_some x ≡ true → (a : A) × (x ≡ Some a)
-  some_there None e = absurd cc
-  some_there (Some a) e = (a, refl)
-
   pub written_same : (own : List ℕ) (v : Value) (start : ℕ) → fits classes own v ≡ true → written_form more start v ≡ written_form classes start v
   unfolding Same
   written_same own v start e =
-      let there = some_there ((fitting_of classes v).fits (kinded (Inline own)) []) e in
+      let there = some_of ((fitting_of classes v).fits (kinded (Inline own)) []) e in
       let known = each_same v in
       let named = inline_class classes v own [] there.0 there.1 in
       let bytes : (writing_of more v).bytes (kinded (Inline (writing_of more v).class)) ≡ (writing_of classes v).bytes (kinded (Inline (writing_of classes v).class)) =

@@ -1,20 +1,12 @@
 -- The grammar of commands and their reading belong together.
 use Rattle.std.specs.Prelude.{◌≡◌, ℕ, suc, ◌^◌, ◌<◌, List, [], ◌∷◌, ◌++◌, codes, length, Ok, Err, Bool, true, false}
 use Rattle.rio_num.specs.At.{At}
-use Rattle.rio_token.specs.declared.fault.TextFault.{TextFault}
-use Rattle.rio_token.specs.declared.fault.TextFault.TheVariants.{BadText}
-use Rattle.rio_token.specs.declared.token.Token.TheVariants.{Cut, End}
-use Rattle.rio_token.specs.Reading.{Read}
+use Rattle.rio_token.specs.{declared.fault.TextFault.{TextFault, TheVariants.{BadText}}, declared.token.Token.TheVariants.{Cut, End}, Reading.{Read}}
 use Rattle.rio_token.specs.Tokens.{behind, is_glued, next_at, standing_in}
-use Rattle.rio_model.specs.ClassGrammar.{class_at}
-use Rattle.rio_model.specs.ClassSpelling.{SpellsDeclaration}
-use Rattle.rio_model.specs.Lexemes.{IsNext, Lexeme, Stand}
-use Rattle.rio_model.specs.ToldPlaces.{Begin, HaveSameNext, IsLast, told_place}
-use Rattle.rio_model.specs.ValueGrammar.{bracket_limit}
-use Rattle.rio_machine.specs.declared.command.Command.{Command}
-use Rattle.rio_machine.specs.declared.command.Command.TheVariants.{Bad}
-use Rattle.rio_step.specs.CommandSpelling.{SpellsCommand}
-use Rattle.rio_step.specs.Script.{comes_next, command_at, line_command}
+use Rattle.rio_model.specs.{ClassGrammar.{class_at}, ClassSpelling.{SpellsDeclaration}, Lexemes.{IsNext, Lexeme, Stand}}
+use Rattle.rio_model.specs.{ToldPlaces.{Begin, HaveSameNext, IsLast, told_place}, ValueGrammar.{bracket_limit}}
+use Rattle.rio_machine.specs.declared.command.Command.{Command, TheVariants.{Bad}}
+use Rattle.rio_step.specs.{CommandSpelling.{SpellsCommand}, Script.{comes_next, command_at, line_command}}
 
 -- these tokens are all that is left of the line, and reading goes on at its end
 abbrev pub StandToEnd : List Lexeme → At → At → Type 0

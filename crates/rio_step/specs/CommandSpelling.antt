@@ -3,20 +3,12 @@
 use Rattle.std.specs.Prelude.{◌≡◌, ℕ, ◌-◌, ℤ, pos, List, [], ◌∷◌, ◌++◌, codes, Option, Some, None, true, not, ◌&&◌}
 use Rattle.rio_num.specs.Word.{is_item_text, is_name_text}
 use Rattle.rio_types.specs.declared.class.Base.{Base}
-use Rattle.rio_token.specs.Marks.{closing_bracket, colon, equals_sign, number_sign, opening_bracket, semicolon, slash}
-use Rattle.rio_token.specs.Words.{num_between_of, num_of}
-use Rattle.rio_leaf.specs.declared.branch.BranchDef.{BranchDef}
-use Rattle.rio_leaf.specs.declared.branch.Shape.{Shape}
-use Rattle.rio_leaf.specs.declared.branch.Shape.TheVariants.{Leaves, Class as Objects}
-use Rattle.rio_leaf.specs.declared.leaf.Dim.{Dim}
-use Rattle.rio_leaf.specs.declared.leaf.Dim.TheVariants.{One, Fixed, Counted}
-use Rattle.rio_leaf.specs.declared.leaf.Leaf.{Leaf}
+use Rattle.rio_token.specs.{Marks.{closing_bracket, colon, equals_sign, number_sign, opening_bracket, semicolon, slash}, Words.{num_between_of, num_of}}
+use Rattle.rio_leaf.specs.{declared.branch.BranchDef.{BranchDef}, declared.branch.Shape.{Shape, TheVariants.{Leaves, Class as Objects}}}
+use Rattle.rio_leaf.specs.{declared.leaf.Dim.{Dim, TheVariants.{One, Fixed, Counted}}, declared.leaf.Leaf.{Leaf}}
 use Rattle.rio_leaf.specs.Stated.{all_leaves, has_branch, is_stated_leaf}
-use Rattle.rio_model.specs.ClassSpelling.{SpellsDeclaration}
-use Rattle.rio_model.specs.Lexemes.{Lexeme, glued, mark, word}
-use Rattle.rio_model.specs.ValueSpelling.{SpellsRow, SpellsValue}
-use Rattle.rio_machine.specs.declared.command.Command.{Command}
-use Rattle.rio_machine.specs.declared.command.Command.TheVariants.{Bad, Class, Put, Delete, Tree as MakeTree, Fill, Save, Get, Scan, Ls}
+use Rattle.rio_model.specs.{ClassSpelling.{SpellsDeclaration}, Lexemes.{Lexeme, glued, mark, word}, ValueSpelling.{SpellsRow, SpellsValue}}
+use Rattle.rio_machine.specs.declared.command.Command.{Command, TheVariants.{Bad, Class, Put, Delete, Tree as MakeTree, Fill, Save, Get, Scan, Ls}}
 
 -- ---- the branches of a tree
 

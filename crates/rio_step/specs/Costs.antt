@@ -1,19 +1,13 @@
 -- What commands may cost of a file's room, by the state alone; and whether there is room for all commands of a run.
-use Rattle.std.specs.Prelude.{◌≤◌, ℕ, ◌+◌, ◌*◌, List, [], ◌∷◌, length, ◌==◌, is_some, if◌then◌else◌, None}
-use Rattle.std.specs.FinMap.{get}
-use Rattle.std.specs.List.{sum_by}
+use Rattle.std.specs.{Prelude.{◌≤◌, ℕ, ◌+◌, ◌*◌, List, [], ◌∷◌, length, ◌==◌, is_some, if◌then◌else◌, None}, FinMap.{get}, List.{sum_by}}
 use Rattle.std.specs.Option.{option_map_or}
 use Rattle.rio_leaf.specs.declared.branch.BranchDef.{BranchDef}
 use Rattle.rio_types.specs.declared.class.ClassDef.{ClassDef}
 use Rattle.rio_value.specs.declared.value.Value.{Value}
-use Rattle.rio_format.specs.Written.{written_form}
-use Rattle.rio_format.specs.WrittenBytes.{written_list}
-use Rattle.rio_machine.specs.Rows.{entries_of}
-use Rattle.rio_machine.specs.State.{Row, State, Tree}
-use Rattle.rio_machine.specs.declared.command.Command.{Command}
-use Rattle.rio_machine.specs.declared.command.Command.TheVariants.{Bad, Class, Put, Delete, Tree as MakeTree, Fill, Save, Get, Scan, Ls}
-use Rattle.rio_step.specs.Refusing.{fill_row, put_value, refusal_of, rows_of_tree, with_class}
-use Rattle.rio_step.specs.Runs.{Marks, first_step, later_marks}
+use Rattle.rio_format.specs.{Written.{written_form}, WrittenBytes.{written_list}}
+use Rattle.rio_machine.specs.{Rows.{entries_of}, State.{Row, State, Tree}}
+use Rattle.rio_machine.specs.declared.command.Command.{Command, TheVariants.{Bad, Class, Put, Delete, Tree as MakeTree, Fill, Save, Get, Scan, Ls}}
+use Rattle.rio_step.specs.{Refusing.{fill_row, put_value, refusal_of, rows_of_tree, with_class}, Runs.{Marks, first_step, later_marks}}
 
 -- ---- lengths
 

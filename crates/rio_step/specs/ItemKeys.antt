@@ -1,6 +1,5 @@
 -- Keys that stand for the objects of a state.
-use Rattle.std.specs.Prelude.{◌≡◌, List, map}
-use Rattle.std.specs.FinMap.{empty, entries}
+use Rattle.std.specs.{Prelude.{◌≡◌, List, map}, FinMap.{empty, entries}}
 use Rattle.rio_key.specs.declared.head.KeyHead.{KeyHead}
 use Rattle.rio_machine.specs.State.{NameAndCycle, State}
 use Rattle.rio_step.specs.Step.{Listed, listed_object, object_listed}

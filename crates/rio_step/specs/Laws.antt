@@ -1,21 +1,12 @@
 -- Laws of steps and of runs.
 use Rattle.std.specs.Prelude.{◌≡◌, ◌≢◌, ◌<◌, ◌≤◌, ◌⊎◌, ℕ, ◌+◌, ◌-◌, List, [], ◌∷◌, ◌++◌, drop, length, slice_get, take, Option, Some, None, IsSome, Bool, true, false}
-use Rattle.std.specs.declared.cmp.Ordering.{Ordering}
-use Rattle.std.specs.FinMap.{FinMap, get}
-use Rattle.std.specs.List.{last_or, list_all}
-use Rattle.std.specs.Option.{IsSomeAnd, option_map}
+use Rattle.std.specs.{declared.cmp.Ordering.{Ordering}, FinMap.{FinMap, get}, List.{last_or, list_all}, Option.{IsSomeAnd, option_map}}
 use Rattle.rio_types.specs.declared.class.ClassDef.{ClassDef}
 use Rattle.rio_value.specs.declared.value.Value.{Value}
-use Rattle.rio_format.specs.Fits.{fits}
-use Rattle.rio_format.specs.Written.{written_form}
-use Rattle.rio_machine.specs.RefusalText.{refusal_number}
-use Rattle.rio_machine.specs.Rows.{row_fits}
-use Rattle.rio_machine.specs.State.{NameAndCycle, Row, State, Tree, names_object, names_tree, next_cycle}
-use Rattle.rio_machine.specs.declared.command.Command.{Command}
-use Rattle.rio_machine.specs.declared.command.Command.TheVariants.{Put, Delete}
-use Rattle.rio_machine.specs.declared.refusal.Refusal.{Refusal}
-use Rattle.rio_step.specs.Refusing.{FullMark, is_fit, refusal_of, refusals, put_value, rows_of_tree}
-use Rattle.rio_step.specs.ReplyText.{text_of}
+use Rattle.rio_format.specs.{Fits.{fits}, Written.{written_form}}
+use Rattle.rio_machine.specs.{RefusalText.{refusal_number}, Rows.{row_fits}, State.{NameAndCycle, Row, State, Tree, names_object, names_tree, next_cycle}}
+use Rattle.rio_machine.specs.{declared.command.Command.{Command, TheVariants.{Put, Delete}}, declared.refusal.Refusal.{Refusal}}
+use Rattle.rio_step.specs.{Refusing.{FullMark, is_fit, refusal_of, refusals, put_value, rows_of_tree}, ReplyText.{text_of}}
 use Rattle.rio_step.specs.Runs.{Marks, closed_of, closing_saves, first_step, said_of, saved_of, saved_tree, state_after, states_of_run}
 use Rattle.rio_step.specs.Step.{Reply, refused, step}
 

@@ -1,32 +1,18 @@
 -- Objects as their class has them in another version. Each object of the class, at any depth, gets the bases and members of
 -- the asked version: those of its own that have the names, converted, and zeros for the others.
 use Rattle.std.specs.Prelude.{ℕ, zero, suc, ◌+◌, ◌*◌, ◌^◌, ℤ, pos, List, [], ◌∷◌, ◌++◌, length, map, replicate, Bool, true, false, ◌==◌, ◌&&◌, not, Option, Some, None, option_and_then, Result, Ok, Err, find, if◌then◌else◌}
-use Rattle.std.specs.Int.{int_rem_euclid, int_wrap}
-use Rattle.std.specs.List.{list_any}
-use Rattle.std.specs.Option.{option_map, option_map_or}
-use Rattle.std.specs.Ordering.{int_eq}
-use Rattle.std.specs.Str.{bytes_eq}
+use Rattle.std.specs.{Int.{int_rem_euclid, int_wrap}, List.{list_any}, Option.{option_map, option_map_or}, Ordering.{int_eq}, Str.{bytes_eq}}
 use Rattle.rio_num.specs.Reading.{◌>>=◌}
-use Rattle.rio_types.specs.Classes.{find_in}
-use Rattle.rio_types.specs.declared.class.Base.{Base}
-use Rattle.rio_types.specs.declared.class.ClassDef.{ClassDef}
-use Rattle.rio_types.specs.declared.class.Member.{Member}
-use Rattle.rio_types.specs.declared.kind.Kind.{Kind}
-use Rattle.rio_types.specs.declared.kind.Kind.TheVariants.{Plain, Counter, Fixed, Counted, Text, Inline, Pointer, Other}
-use Rattle.rio_types.specs.declared.kind.Primitive.{Primitive}
-use Rattle.rio_types.specs.declared.kind.Primitive.TheVariants.{I8, I16, I32, I64, Bool as Truth, F32, F64}
+use Rattle.rio_types.specs.{Classes.{find_in}, declared.class.Base.{Base}, declared.class.ClassDef.{ClassDef}, declared.class.Member.{Member}}
+use Rattle.rio_types.specs.declared.kind.Kind.{Kind, TheVariants.{Plain, Counter, Fixed, Counted, Text, Inline, Pointer, Other}}
+use Rattle.rio_types.specs.declared.kind.Primitive.{Primitive, TheVariants.{I8, I16, I32, I64, Bool as Truth, F32, F64}}
 use Rattle.rio_value.specs.declared.value.Part.{Part}
-use Rattle.rio_value.specs.declared.value.Value.{Value, out-Value}
+use Rattle.rio_value.specs.declared.value.Value.{Value, out-Value, TheOpen.{Value-F, Int, Bits32, Bits64, Bool as Boolean, Text as Chars, List as Items, Object, Pointed, Null, Back, Opaque}, TheFolds.{fold-Value}}
 use Rattle.rio_value.specs.declared.value.Value as whole
-use Rattle.rio_value.specs.declared.value.Value.TheOpen.{Value-F, Int, Bits32, Bits64, Bool as Boolean, Text as Chars, List as Items, Object, Pointed, Null, Back, Opaque}
-use Rattle.rio_value.specs.declared.value.Value.TheFolds.{fold-Value}
-use Rattle.rio_format.specs.Bodies.{part}
-use Rattle.rio_format.specs.Prims.{width_of}
-use Rattle.rio_format.specs.Slots.{Slot, kinded, based, flags, any_pointer, link, many, Field, fields_of}
+use Rattle.rio_format.specs.{Bodies.{part}, Prims.{width_of}, Slots.{Slot, kinded, based, flags, any_pointer, link, many, Field, fields_of}}
 use Rattle.rio_format.specs.Written.{width_in_bits}
 use Rattle.rio_model.specs.Resolving.{built_in_version, newest_known}
-use Rattle.rio_step.specs.declared.fault.MapFault.{MapFault}
-use Rattle.rio_step.specs.declared.fault.MapFault.TheVariants.{KindChanged, NoVersion}
+use Rattle.rio_step.specs.declared.fault.MapFault.{MapFault, TheVariants.{KindChanged, NoVersion}}
 
 -- what is had, or the first base or member that can't be
 abbrev pub Mapped : Type 0 → Type 0
@@ -51,21 +37,21 @@ number_of_kind Truth (Boolean b) = Some (if b then pos 1 else pos 0)
 number_of_kind Truth v = None
 number_of_kind F32 v = None
 number_of_kind F64 v = None
-number_of_kind of (Int z) = Some z
-number_of_kind of v = None
+number_of_kind prim (Int z) = Some z
+number_of_kind prim v = None
 
 -- a number in the kind: modulo the width, and as a truth value whether it isn't zero
 abbrev pub number_as : Primitive → ℤ → Option Value
 number_as Truth z = Some (whole.Bool (not (int_eq z (pos 0))))
 number_as F32 z = None
 number_as F64 z = None
-number_as of z = Some (whole.Int (if is_signed of then int_wrap (width_in_bits of) z else int_rem_euclid z (pos (2 ^ (8 * width_of of)))))
+number_as prim z = Some (whole.Int (if is_signed prim then int_wrap (width_in_bits prim) z else int_rem_euclid z (pos (2 ^ (8 * width_of prim)))))
 
 -- a bit pattern of the kind
 abbrev pub bits_as : Primitive → Value-F Value Part → Option Value
 bits_as F32 (Bits32 n) = Some (whole.Bits32 n)
 bits_as F64 (Bits64 n) = Some (whole.Bits64 n)
-bits_as of v = None
+bits_as prim v = None
 
 -- a single value of one kind in another; bit patterns stay in their kind
 abbrev pub single_as : Primitive → Primitive → Value → Option Value
@@ -131,14 +117,14 @@ abbrev pub single_zero : Primitive → Value
 single_zero Truth = whole.Bool false
 single_zero F32 = whole.Bits32 0
 single_zero F64 = whole.Bits64 0
-single_zero of = whole.Int (pos 0)
+single_zero prim = whole.Int (pos 0)
 
 -- the zero of a kind, by those of classes
 abbrev pub kind_zero : (List ℕ → Option Value) → Kind → Option Value
-kind_zero object (Plain of) = Some (single_zero of)
+kind_zero object (Plain prim) = Some (single_zero prim)
 kind_zero object Counter = Some (whole.Int (pos 0))
-kind_zero object (Fixed of count) = Some (whole.List (replicate count (single_zero of)))
-kind_zero object (Counted of counter) = Some (whole.List [])
+kind_zero object (Fixed prim count) = Some (whole.List (replicate count (single_zero prim)))
+kind_zero object (Counted prim counter) = Some (whole.List [])
 kind_zero object Text = Some (whole.Text [])
 kind_zero object (Inline class) = object class
 kind_zero object (Pointer class) = Some whole.Null

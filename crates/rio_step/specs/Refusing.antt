@@ -1,32 +1,18 @@
 -- Why a command is refused: nineteen tests, in order. The first that holds is told.
 use Rattle.std.specs.Prelude.{ℕ, List, [], ◌∷◌, ◌++◌, length, codes, Bool, false, ◌==◌, ◌&&◌, ◌||◌, not, nat_lt, nat_le, Option, Some, None, is_some, unwrap_or, option_and_then, Ok, Err, ℤ, if◌then◌else◌}
-use Rattle.std.specs.FinMap.{contains_key, get}
-use Rattle.std.specs.List.{list_any}
-use Rattle.std.specs.Option.{option_map, option_map_or, option_or}
-use Rattle.std.specs.Str.{bytes_eq}
+use Rattle.std.specs.{FinMap.{contains_key, get}, List.{list_any}, Option.{option_map, option_map_or, option_or}, Str.{bytes_eq}}
 use Rattle.rio_num.specs.Reading.{◌>>=◌}
-use Rattle.rio_leaf.specs.declared.branch.Shape.{Shape}
-use Rattle.rio_leaf.specs.declared.branch.Shape.TheVariants.{Leaves, Class as Objects}
-use Rattle.rio_types.specs.Classes.{find_in}
-use Rattle.rio_types.specs.declared.class.Base.{Base}
-use Rattle.rio_types.specs.declared.class.ClassDef.{ClassDef}
-use Rattle.rio_value.specs.declared.value.Value.{Value, out-Value}
-use Rattle.rio_value.specs.declared.value.Value.TheOpen.{Value-F, Object}
-use Rattle.rio_value.specs.declared.value.Part.{Part}
-use Rattle.rio_format.specs.Fits.{fits}
-use Rattle.rio_format.specs.Slots.{can_be_put}
-use Rattle.rio_format.specs.WrittenBytes.{written_list}
+use Rattle.rio_leaf.specs.declared.branch.Shape.{Shape, TheVariants.{Leaves, Class as Objects}}
+use Rattle.rio_types.specs.{Classes.{find_in}, declared.class.Base.{Base}, declared.class.ClassDef.{ClassDef}}
+use Rattle.rio_value.specs.{declared.value.Value.{Value, out-Value, TheOpen.{Value-F, Object}}, declared.value.Part.{Part}}
+use Rattle.rio_format.specs.{Fits.{fits}, Slots.{can_be_put}, WrittenBytes.{written_list}}
 use Rattle.rio_model.specs.Declaring.{class_limit, declared, holds_itself, is_declared, is_reserved_name, knows_all}
 use Rattle.rio_model.specs.Resolving.{is_known_version, resolved, resolved_row}
 use Rattle.rio_machine.specs.Limits.{cycle_limit, data_length, has_all_items, has_long_entry, has_long_list, has_many_branches, is_too_deep, is_too_long}
-use Rattle.rio_machine.specs.Rows.{row_fits}
-use Rattle.rio_machine.specs.State.{Row, State, Tree, last_cycle, names_item, names_object, names_tree, next_cycle}
-use Rattle.rio_machine.specs.declared.command.Command.{Command}
-use Rattle.rio_machine.specs.declared.command.Command.TheVariants.{Bad, Class, Put, Delete, Tree as MakeTree, Fill, Save, Get, Scan}
-use Rattle.rio_machine.specs.declared.refusal.Refusal.{Refusal}
-use Rattle.rio_machine.specs.declared.refusal.Refusal.TheVariants.{BadLine, BadName, NoSuchName, NoSuchCycle, NameIsTree, NotATree, NameInUse, NoSuchClass, SameVersion, HoldsItself, DoesNotFit, BadRow, KindChanged, NoVersion, CycleLimit, TooLarge, TooDeep, TooMany, Full}
-use Rattle.rio_step.specs.Mapping.{Mapped, as_version}
-use Rattle.rio_step.specs.declared.fault.MapFault.TheVariants.{KindChanged as Changed}
+use Rattle.rio_machine.specs.{Rows.{row_fits}, State.{Row, State, Tree, last_cycle, names_item, names_object, names_tree, next_cycle}}
+use Rattle.rio_machine.specs.declared.command.Command.{Command, TheVariants.{Bad, Class, Put, Delete, Tree as MakeTree, Fill, Save, Get, Scan}}
+use Rattle.rio_machine.specs.declared.refusal.Refusal.{Refusal, TheVariants.{BadLine, BadName, NoSuchName, NoSuchCycle, NameIsTree, NotATree, NameInUse, NoSuchClass, SameVersion, HoldsItself, DoesNotFit, BadRow, KindChanged, NoVersion, CycleLimit, TooLarge, TooDeep, TooMany, Full}}
+use Rattle.rio_step.specs.{Mapping.{Mapped, as_version}, declared.fault.MapFault.TheVariants.{KindChanged as Changed}}
 
 -- ---- what a command is about
 
@@ -44,6 +30,10 @@ object_class v = by (out-Value v)
     by : Value-F Value Part → Option (List ℕ)
     by (Object class version parts) = Some class
     by other = None
+
+-- the class of an object, and no name for another value
+abbrev pub object_class_name : Value → List ℕ
+object_class_name v = unwrap_or (object_class v) []
 
 -- the cycle that is meant: the greatest, where none is named
 abbrev pub meant_cycle : State → List ℕ → Option ℕ → ℕ

@@ -1,17 +1,10 @@
 -- Replies as they are said: lines.
-use Rattle.std.specs.Prelude.{ℕ, ◌+◌, List, [], ◌∷◌, ◌++◌, codes, length}
-use Rattle.std.specs.Fmt.{decimal, signed_decimal}
-use Rattle.std.specs.List.{flat_map}
-use Rattle.rio_num.specs.Printed.{name_text}
+use Rattle.std.specs.{Prelude.{ℕ, ◌+◌, List, [], ◌∷◌, ◌++◌, codes, length}, Fmt.{decimal, signed_decimal}, List.{flat_map}}
+use Rattle.rio_num.specs.Printed.{item_text, name_text}
 use Rattle.rio_value.specs.declared.value.Value as value
 use Rattle.rio_model.specs.ValueText.{text_of_value}
-use Rattle.rio_machine.specs.RefusalText.{numbered, refusal_text}
-use Rattle.rio_machine.specs.State.{NameAndCycle, Row}
+use Rattle.rio_machine.specs.{RefusalText.{numbered, refusal_text}, State.{NameAndCycle, Row}}
 use Rattle.rio_step.specs.Step.{Listed, object_listed, tree_listed, Reply, class_declared, object_put, item_deleted, tree_made, row_added, rows_saved, object_told, rows_told, items_listed, refused}
-
--- NAME;CYCLE
-abbrev pub item_text : List ℕ → ℕ → List ℕ
-item_text name cycle = name_text name ++ codes ";" ++ decimal cycle
 
 -- a row, as a list
 abbrev pub row_text : Row → List ℕ

@@ -1,14 +1,8 @@
 -- The states of a run and what it says.
-use Rattle.std.specs.Prelude.{ℕ, List, [], ◌∷◌, ◌++◌, drop, length, map, Bool, not, ◌==◌, Option, None}
-use Rattle.std.specs.declared.cmp.Ordering.{Ordering}
-use Rattle.std.specs.FinMap.{FinMap, entries, from_entries}
-use Rattle.std.specs.List.{filter, fold}
-use Rattle.rio_machine.specs.State.{State, Tree}
-use Rattle.rio_machine.specs.declared.command.Command.{Command}
-use Rattle.rio_machine.specs.declared.command.Command.TheVariants.{Save}
-use Rattle.rio_step.specs.Refusing.{FullMark}
-use Rattle.rio_step.specs.ReplyText.{text_of}
-use Rattle.rio_step.specs.Step.{Stepped, state_behind, step}
+use Rattle.std.specs.{Prelude.{ℕ, List, [], ◌∷◌, ◌++◌, drop, length, map, Bool, not, ◌==◌, Option, None}, declared.cmp.Ordering.{Ordering}}
+use Rattle.std.specs.{FinMap.{FinMap, entries, from_entries}, List.{filter, fold}}
+use Rattle.rio_machine.specs.{State.{State, Tree}, declared.command.Command.{Command, TheVariants.{Save}}}
+use Rattle.rio_step.specs.{Refusing.{FullMark}, ReplyText.{text_of}, Step.{Stepped, state_behind, step}}
 
 -- the marks of commands, in order; commands behind the last of them have none
 abbrev pub Marks : Type 0

@@ -1,21 +1,13 @@
 -- Scripts as texts are read: a command for each line that counts, a bad line with the place of the first token that can't
 -- stand.
 use Rattle.std.specs.Prelude.{◌≡◌, ℕ, ◌+◌, ℤ, pos, List, [], ◌∷◌, length, codes, Option, Some, None, Ok, Err, Bool, false, not, ◌==◌, if◌then◌else◌}
-use Rattle.std.specs.List.{filter}
-use Rattle.std.specs.Option.{option_map_or}
-use Rattle.std.specs.Str.{bytes_eq}
-use Rattle.std.specs.Str.Lines.{lines}
-use Rattle.rio_num.specs.At.{At}
-use Rattle.rio_num.specs.Reading.{◌>>=◌}
-use Rattle.rio_token.specs.declared.fault.TextFault.TheVariants.{BadText, NoMemory}
-use Rattle.rio_token.specs.Marks.{number_sign, semicolon}
-use Rattle.rio_token.specs.Reading.{Read, bad_at, end_at, item_at, mark_at, marked, name_at, next_word, num_at, version_at}
-use Rattle.rio_token.specs.Tokens.{behind, standing_in}
+use Rattle.std.specs.{List.{filter}, Option.{option_map_or}, Str.{bytes_eq, Lines.{lines}}}
+use Rattle.rio_num.specs.{At.{At}, Reading.{◌>>=◌}}
+use Rattle.rio_token.specs.{declared.fault.TextFault.TheVariants.{BadText, NoMemory}, Marks.{number_sign, semicolon}}
+use Rattle.rio_token.specs.{Reading.{Read, bad_at, end_at, item_at, mark_at, marked, name_at, next_word, num_at, version_at}, Tokens.{behind, standing_in}}
 use Rattle.rio_types.specs.declared.class.Base.{Base}
-use Rattle.rio_model.specs.ClassGrammar.{class_at}
-use Rattle.rio_model.specs.ValueGrammar.{bracket_limit, enclosed_at, row_at, value_in_text}
-use Rattle.rio_machine.specs.declared.command.Command.{Command}
-use Rattle.rio_machine.specs.declared.command.Command.TheVariants.{Bad, Class, Put, Delete, Tree as MakeTree, Fill, Save, Get, Scan, Ls}
+use Rattle.rio_model.specs.{ClassGrammar.{class_at}, ValueGrammar.{bracket_limit, enclosed_at, row_at, value_in_text}}
+use Rattle.rio_machine.specs.declared.command.Command.{Command, TheVariants.{Bad, Class, Put, Delete, Tree as MakeTree, Fill, Save, Get, Scan, Ls}}
 use Rattle.rio_step.specs.TreeGrammar.{branches_at}
 
 -- ---- commands, behind their first word

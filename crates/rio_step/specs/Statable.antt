@@ -1,16 +1,11 @@
 -- Commands that a script can state.
-use Rattle.std.specs.Prelude.{◌≡◌, ℕ, List, Option, Bool, true, ◌&&◌, IsTrue}
-use Rattle.std.specs.List.{list_all}
+use Rattle.std.specs.{Prelude.{◌≡◌, ℕ, List, Option, Bool, true, ◌&&◌, IsTrue}, List.{list_all}}
 use Rattle.rio_num.specs.Word.{is_item_text}
-use Rattle.rio_model.specs.Stated.{is_stated_class}
-use Rattle.rio_model.specs.StateClasses.{StateClasses}
+use Rattle.rio_model.specs.{Stated.{is_stated_class}, StateClasses.{StateClasses}}
 use Rattle.rio_leaf.specs.Stated.{are_stated_branches}
-use Rattle.rio_machine.specs.declared.command.Command.{Command}
-use Rattle.rio_machine.specs.declared.command.Command.TheVariants.{Bad, Class, Put, Delete, Tree as MakeTree, Fill, Save, Get, Scan, Ls}
+use Rattle.rio_machine.specs.declared.command.Command.{Command, TheVariants.{Bad, Class, Put, Delete, Tree as MakeTree, Fill, Save, Get, Scan, Ls}}
 use Rattle.rio_machine.specs.State.{State}
-use Rattle.rio_step.specs.Refusing.{FullMark}
-use Rattle.rio_step.specs.Script.{script_of}
-use Rattle.rio_step.specs.Step.{step}
+use Rattle.rio_step.specs.{Refusing.{FullMark}, Script.{script_of}, Step.{step}}
 
 -- its name is one that objects and trees have, the class that it declares one that a declaration can give, whatever
 -- versions its bases have, and its branches are such that a line can state them

@@ -1,17 +1,12 @@
 -- What a command does to a state, and what is replied.
 use Rattle.std.specs.Prelude.{ℕ, ◌+◌, List, [], ◌∷◌, ◌++◌, length, map, Option, Some, None, unwrap_or, ℤ, Ok, Err, if◌then◌else◌}
-use Rattle.std.specs.FinMap.{entries, from_entries, get, insert, remove}
-use Rattle.std.specs.Option.{option_map_or}
+use Rattle.std.specs.{FinMap.{entries, from_entries, get, insert, remove}, Option.{option_map_or}}
 use Rattle.rio_leaf.specs.declared.branch.BranchDef.{BranchDef}
 use Rattle.rio_types.specs.declared.class.Base.{Base}
 use Rattle.rio_value.specs.declared.value.Value.{Value, Null}
 use Rattle.rio_machine.specs.State.{NameAndCycle, Row, State, Tree, item_order, names_tree, next_cycle}
-use Rattle.rio_machine.specs.declared.command.Command.{Command}
-use Rattle.rio_machine.specs.declared.command.Command.TheVariants.{Bad, Class, Put, Delete, Tree as MakeTree, Fill, Save, Get, Scan, Ls}
-use Rattle.rio_machine.specs.declared.command.Outcome.{Outcome}
-use Rattle.rio_machine.specs.declared.command.Outcome.TheVariants.{Accepted, Refused}
-use Rattle.rio_machine.specs.declared.refusal.Refusal.{Refusal}
-use Rattle.rio_machine.specs.declared.refusal.Refusal.TheVariants.{BadLine}
+use Rattle.rio_machine.specs.declared.command.Command.{Command, TheVariants.{Bad, Class, Put, Delete, Tree as MakeTree, Fill, Save, Get, Scan, Ls}}
+use Rattle.rio_machine.specs.{declared.command.Outcome.{Outcome, TheVariants.{Accepted, Refused}}, declared.refusal.Refusal.{Refusal, TheVariants.{BadLine}}}
 use Rattle.rio_step.specs.Mapping.{Mapped}
 use Rattle.rio_step.specs.Refusing.{FullMark, meant_cycle, meant_object, object_class, refusal_of, rows_of_tree, rows_seen_in, seen_in, fill_row, put_value, with_class}
 

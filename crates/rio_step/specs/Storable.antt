@@ -1,21 +1,14 @@
 -- States that a file can hold.
-use Rattle.std.specs.Prelude.{◌≡◌, ◌≤◌, ℕ, List, Option, Bool, true, false, not, ◌&&◌, Some}
-use Rattle.std.specs.FinMap.{get}
-use Rattle.std.specs.List.{list_all, list_any}
+use Rattle.std.specs.{Prelude.{◌≡◌, ◌≤◌, ℕ, List, Option, Bool, true, false, not, ◌&&◌, Some}, FinMap.{get}, List.{list_all, list_any}}
 use Rattle.rio_num.specs.Word.{is_item_text}
-use Rattle.rio_leaf.specs.Stated.{are_stated_branches}
-use Rattle.rio_leaf.specs.declared.branch.BranchDef.{BranchDef}
+use Rattle.rio_leaf.specs.{Stated.{are_stated_branches}, declared.branch.BranchDef.{BranchDef}}
 use Rattle.rio_types.specs.declared.class.ClassDef.{ClassDef}
 use Rattle.rio_value.specs.declared.value.Value.{Value}
 use Rattle.rio_model.specs.StateClasses.{StateClasses}
-use Rattle.rio_machine.specs.Limits.{cycle_limit, has_long_entry, has_long_list, has_many_branches, is_too_deep, is_too_long}
-use Rattle.rio_machine.specs.Rows.{row_fits}
-use Rattle.rio_machine.specs.State.{NameAndCycle, Row, State, Tree, empty_state}
-use Rattle.rio_machine.specs.declared.command.Command.{Command}
-use Rattle.rio_step.specs.Laws.{AreNamesApart}
-use Rattle.rio_step.specs.Refusing.{FullMark, is_fit, is_kept_out, is_list_name, object_length, rows_of_tree, shape_lacks_class}
-use Rattle.rio_step.specs.Statable.{is_statable}
-use Rattle.rio_step.specs.Step.{step}
+use Rattle.rio_machine.specs.{Limits.{cycle_limit, has_long_entry, has_long_list, has_many_branches, is_too_deep, is_too_long}, Rows.{row_fits}}
+use Rattle.rio_machine.specs.{State.{NameAndCycle, Row, State, Tree, empty_state}, declared.command.Command.{Command}}
+use Rattle.rio_step.specs.{Laws.{AreNamesApart}, Refusing.{FullMark, is_fit, is_kept_out, is_list_name, object_length, rows_of_tree, shape_lacks_class}}
+use Rattle.rio_step.specs.{Statable.{is_statable}, Step.{step}}
 
 -- a name and a cycle that an object or a tree may have
 pub record IsStoredName (name : List ℕ) (cycle : ℕ) : Type 0 where

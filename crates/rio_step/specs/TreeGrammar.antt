@@ -1,22 +1,13 @@
 -- The branches of a tree as texts are read. No blanks stand within a branch.
-use Rattle.std.specs.Prelude.{ℕ, zero, suc, List, [], ◌∷◌, ◌++◌, length, codes, Option, None, option_and_then, Ok, Bool, false, ◌&&◌, ◌||◌, not, if◌then◌else◌}
-use Rattle.std.specs.Option.{option_map, option_map_or, option_or}
-use Rattle.std.specs.Str.{bytes_eq}
-use Rattle.rio_num.specs.At.{At}
-use Rattle.rio_num.specs.Reading.{◌>>=◌}
-use Rattle.rio_num.specs.Word.{is_name_text}
+use Rattle.std.specs.Prelude.{ℕ, zero, suc, List, [], ◌∷◌, ◌++◌, length, codes, Option, option_and_then, Ok, Bool, false, ◌&&◌, ◌||◌, not, if◌then◌else◌}
+use Rattle.std.specs.{Option.{option_map, option_map_or, option_or}, Str.{bytes_eq}}
+use Rattle.rio_num.specs.{At.{At}, Reading.{◌>>=◌}, Word.{is_name_text}}
 use Rattle.rio_token.specs.Marks.{closing_bracket, colon, equals_sign, opening_bracket, slash}
-use Rattle.rio_token.specs.Reading.{Read, is_end, marked, next_word, some_if, taken_at, word_that_at}
-use Rattle.rio_token.specs.Tokens.{behind, is_glued, next_at}
+use Rattle.rio_token.specs.{Reading.{Read, is_end, marked, next_word, some_if, taken_at, word_that_at}, Tokens.{behind, is_glued, next_at}}
 use Rattle.rio_token.specs.Words.{num_between_of}
-use Rattle.rio_leaf.specs.declared.branch.BranchDef.{BranchDef}
-use Rattle.rio_leaf.specs.declared.branch.Shape.{Shape}
-use Rattle.rio_leaf.specs.declared.branch.Shape.TheVariants.{Leaves, Class}
-use Rattle.rio_leaf.specs.declared.leaf.Dim.{Dim}
-use Rattle.rio_leaf.specs.declared.leaf.Dim.TheVariants.{One, Fixed, Counted}
-use Rattle.rio_leaf.specs.declared.leaf.Leaf.{Leaf}
-use Rattle.rio_leaf.specs.Leaves.{has_counting_leaf, has_leaf, is_letter_of}
-use Rattle.rio_leaf.specs.Stated.{all_leaves, has_branch}
+use Rattle.rio_leaf.specs.{declared.branch.BranchDef.{BranchDef}, declared.branch.Shape.{Shape, TheVariants.{Leaves, Class}}, Reading.{letter_in}}
+use Rattle.rio_leaf.specs.{declared.leaf.Dim.{Dim, TheVariants.{One, Fixed, Counted}}, declared.leaf.Leaf.{Leaf}}
+use Rattle.rio_leaf.specs.{Leaves.{has_counting_leaf, has_leaf}, Stated.{all_leaves, has_branch}}
 
 -- ---- tokens without blanks before them
 
@@ -69,18 +60,12 @@ leaf_size_at before s = do
 unfoldable pub leaf_dim_at : List Leaf → At → Read Dim
 leaf_dim_at before s = if is_glued_mark opening_bracket s then leaf_size_at before (behind s) else Ok (One, s)
 
--- one letter, which the dimension allows
-abbrev pub leaf_letter : Dim → List ℕ → Option ℕ
-leaf_letter dim [] = None
-leaf_letter dim (letter ∷ []) = some_if (is_letter_of dim letter) letter
-leaf_letter dim (letter ∷ other ∷ more) = None
-
 unfoldable pub tree_leaf_at : List Leaf → At → Read Leaf
 tree_leaf_at before s = do
   name ← glued_at (λ word. some_if (is_new_leaf before word) word) s
   dim ← leaf_dim_at before name.1
   passed ← glued_mark_at slash dim.1
-  letter ← glued_at (leaf_letter dim.0) passed.1
+  letter ← glued_at (letter_in dim.0) passed.1
   Ok (record { name = name.0; letter = letter.0; dim = dim.0 }, letter.1)
 
 -- a leaf of a branch: behind others with a colon before it

@@ -2,13 +2,12 @@
 use Rattle.std.specs.Prelude.{ℕ, List, Result, Err}
 use Rattle.rio_types.specs.declared.class.ClassDef.{ClassDef}
 use Rattle.rio_value.specs.declared.value.Value.{Value}
-use Rattle.rio_buffer.specs.ReaderState.{ReaderState}
-use Rattle.rio_buffer.specs.declared.fault.ObjFault.{ObjFault}
+use Rattle.rio_buffer.specs.{ReaderState.{ReaderState}, declared.fault.ObjFault.{ObjFault}}
 use Rattle.rio_num.specs.Meanings.{Breaks}
 use Rattle.rio_format.specs.Objects.{depth_limit, object_of}
 use Rattle.rio_read.specs.Reading.{Answers}
 
--- the bytes that are left break with this fault as an object of the class, behind the words met before
+-- the bytes that are left break with this fault as an object of the class, behind what was met before
 abbrev pub BreaksNext : List ClassDef → List ℕ → ReaderState → ObjFault → Type 0
 BreaksNext classes class s fault = Breaks (object_of depth_limit classes class) s.at.place s.words s.at.rest fault
 

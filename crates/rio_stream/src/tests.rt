@@ -18,7 +18,6 @@ use rio_num::{Bytes, NoMemory};
 use rio_types::Classes;
 use rio_value::depth;
 use std::alloc::Global;
-use std::test::Fail;
 
 struct Row {
     class: &'static str,
@@ -329,42 +328,64 @@ static REFUSED: [(&str, &str, ObjFault); 23] = [
     ),
 ];
 
-// The object, or what refuses it.
-fn printed_object(
-    alloc: Global,
-    class: &str,
-    bytes: &str,
+// Puts the object of the bytes at the end of what is printed, or tells what refuses it.
+fn put_read(
     printed: &mut Bytes,
+    classes: &Classes,
+    class: &str,
+    bytes: &[u8],
 ) -> Result<(), ObjFault> {
-    let bytes = hex_bytes(alloc, bytes)?;
     if bytes.len() > 10_000 {
         return Err(ObjFault::NoMemory);
     }
-    let classes = classes_of_rows(alloc)?;
-    let value = read_object(alloc, &classes, class.as_bytes(), bytes.as_slice(), 34)?;
-    put_value(printed, &value)?;
-    Ok(())
+    let value = read_object(printed.allocator(), classes, class.as_bytes(), bytes, 34)?;
+    Ok(put_value(printed, &value)?)
 }
 
-#[test]
-fn reads(rt: HostRuntime) -> Result<(), Fail> {
+fn put_row(printed: &mut Bytes, class: &str, bytes: &str) -> Result<(), ObjFault> {
+    let classes = classes_of_rows(printed.allocator())?;
+    let bytes = hex_bytes(printed.allocator(), bytes)?;
+    put_read(printed, &classes, class, bytes.as_slice())
+}
+
+fn is_read(alloc: Global, row: &Row) -> bool {
+    let mut printed = Bytes::new(alloc);
+    put_row(&mut printed, row.class, row.bytes).is_ok() && printed.as_slice() == row.text.as_bytes()
+}
+
+// The first row that is read otherwise.
+fn read_otherwise(alloc: Global) -> Option<&'static str> {
     for row in &READ {
-        let mut printed = Bytes::new(rt.alloc());
-        let read = printed_object(rt.alloc(), row.class, row.bytes, &mut printed);
-        assert_eq!(rt; read, Ok(()), "{}", row.text);
-        assert!(rt; printed.as_slice() == row.text.as_bytes(), "{}", row.text);
+        if !is_read(alloc, row) {
+            return Some(row.text);
+        }
     }
-    Ok(())
+    None
 }
 
 #[test]
-fn refuses(rt: HostRuntime) -> Result<(), Fail> {
+fn reads(rt: HostRuntime) {
+    assert_eq!(rt; read_otherwise(rt.alloc()), None);
+}
+
+fn is_refused(alloc: Global, class: &str, bytes: &str, fault: ObjFault) -> bool {
+    let mut printed = Bytes::new(alloc);
+    put_row(&mut printed, class, bytes) == Err(fault)
+}
+
+// The first row that isn't refused so.
+fn refused_otherwise(alloc: Global) -> Option<&'static str> {
     for (class, bytes, fault) in &REFUSED {
-        let mut printed = Bytes::new(rt.alloc());
-        let read = printed_object(rt.alloc(), class, bytes, &mut printed);
-        assert_eq!(rt; read, Err(*fault), "{bytes}");
+        if !is_refused(alloc, class, bytes, *fault) {
+            return Some(bytes);
+        }
     }
-    Ok(())
+    None
+}
+
+#[test]
+fn refuses(rt: HostRuntime) {
+    assert_eq!(rt; refused_otherwise(rt.alloc()), None);
 }
 
 // What an object is read of, the class that it is to fit, and whether it does.
@@ -421,82 +442,98 @@ static FIT: [(&str, &str, &str, bool); 13] = [
     ("Nobody", "40000002 0001", "Nobody", false),
 ];
 
-fn read_fits(alloc: Global, class: &str, bytes: &str, wanted: &str) -> Result<bool, ObjFault> {
-    let bytes = hex_bytes(alloc, bytes)?;
+fn fits_when_read(
+    alloc: Global,
+    classes: &Classes,
+    row: &(&str, &str, &str, bool),
+    bytes: &[u8],
+) -> Result<bool, ObjFault> {
+    let (class, _, wanted, _) = row;
     if bytes.len() > 10_000 {
         return Err(ObjFault::NoMemory);
     }
+    let value = read_object(alloc, classes, class.as_bytes(), bytes, 34)?;
+    Ok(fits(alloc, classes, wanted.as_bytes(), &value)?)
+}
+
+fn is_told(alloc: Global, row: &(&str, &str, &str, bool)) -> Result<bool, ObjFault> {
     let classes = classes_of_rows(alloc)?;
-    let value = read_object(alloc, &classes, class.as_bytes(), bytes.as_slice(), 34)?;
-    Ok(fits(alloc, &classes, wanted.as_bytes(), &value)?)
+    let bytes = hex_bytes(alloc, row.1)?;
+    Ok(fits_when_read(alloc, &classes, row, bytes.as_slice())? == row.3)
+}
+
+// The first row that is told otherwise.
+fn told_otherwise(alloc: Global) -> Option<&'static str> {
+    for row in &FIT {
+        if is_told(alloc, row) != Ok(true) {
+            return Some(row.1);
+        }
+    }
+    None
 }
 
 #[test]
-fn tells_what_fits(rt: HostRuntime) -> Result<(), Fail> {
-    for (class, bytes, wanted, expected) in &FIT {
-        let told = read_fits(rt.alloc(), class, bytes, wanted);
-        assert_eq!(rt; told, Ok(*expected), "{wanted} {bytes}");
+fn tells_what_fits(rt: HostRuntime) {
+    assert_eq!(rt; told_otherwise(rt.alloc()), None);
+}
+
+// The front of a node that stands there, up to its pointer: the bytes end at `end`.
+fn put_front(bytes: &mut Bytes, end: u32, place: u32, number: u32) -> Result<(), NoMemory> {
+    bytes.put_u32(0x3FFF_FFFC_u32.wrapping_add(end).wrapping_sub(place))?;
+    bytes.put_u16(1)?;
+    bytes.put_u32(number)
+}
+
+// The front of its pointer to the next node: the first names the class, and the others refer to it.
+fn put_pointer(bytes: &mut Bytes, end: u32, place: u32, number: u32) -> Result<u32, NoMemory> {
+    bytes.put_u32(0x3FFF_FFFC_u32.wrapping_add(end).wrapping_sub(place))?;
+    if number == 1 {
+        bytes.put(b"\xFF\xFF\xFF\xFFNode\0")?;
+        Ok(place.wrapping_add(13))
+    } else {
+        bytes.put_u32(0x8000_0032)?;
+        Ok(place.wrapping_add(8))
     }
-    Ok(())
 }
 
 // As many nodes, each of which points to the next.
-fn chain(alloc: Global, count: u32) -> Result<Bytes, NoMemory> {
+fn put_chain(bytes: &mut Bytes, count: u32) -> Result<(), NoMemory> {
     let end: u32 = 18u32.wrapping_mul(count).wrapping_add(35);
-    let mut bytes = Bytes::new(alloc);
     let mut place: u32 = 34;
-    for k in 1..count.saturating_add(1) {
-        bytes.put_u32(0x3FFF_FFFC_u32.wrapping_add(end).wrapping_sub(place))?;
-        bytes.put_u16(1)?;
-        bytes.put_u32(k)?;
-        if k == count {
-            bytes.put_u32(0)?;
-        } else {
-            place = place.wrapping_add(10);
-            bytes.put_u32(0x3FFF_FFFC_u32.wrapping_add(end).wrapping_sub(place))?;
-            if k == 1 {
-                bytes.put(b"\xFF\xFF\xFF\xFFNode\0")?;
-                place = place.wrapping_add(13);
-            } else {
-                bytes.put_u32(0x8000_0032)?;
-                place = place.wrapping_add(8);
-            }
-        }
+    for number in 1..count {
+        put_front(bytes, end, place, number)?;
+        place = put_pointer(bytes, end, place.wrapping_add(10), number)?;
     }
-    Ok(bytes)
+    put_front(bytes, end, place, count)?;
+    bytes.put_u32(0)
+}
+
+fn depth_when_read(alloc: Global, classes: &Classes, bytes: &[u8]) -> Result<u32, ObjFault> {
+    if bytes.len() > 10_000 {
+        return Err(ObjFault::NoMemory);
+    }
+    let value = read_object(alloc, classes, b"Node", bytes, 34)?;
+    Ok(depth(&value))
 }
 
 fn depth_of_chain(alloc: Global, count: u32) -> Result<u32, ObjFault> {
     let classes = classes_of_rows(alloc)?;
-    let bytes = chain(alloc, count)?;
-    if bytes.len() > 10_000 {
-        return Err(ObjFault::NoMemory);
-    }
-    let value = read_object(alloc, &classes, b"Node", bytes.as_slice(), 34)?;
-    Ok(depth(&value))
+    let mut bytes = Bytes::new(alloc);
+    put_chain(&mut bytes, count)?;
+    depth_when_read(alloc, &classes, bytes.as_slice())
 }
 
 #[test]
-fn reads_as_deep_as_it_may(rt: HostRuntime) -> Result<(), Fail> {
+fn reads_as_deep_as_it_may(rt: HostRuntime) {
     assert_eq!(rt; depth_of_chain(rt.alloc(), 256), Ok(256));
     assert_eq!(rt;
         depth_of_chain(rt.alloc(), 257),
         Err(ObjFault::TooDeep { place: 4647 })
     );
-    Ok(())
 }
 
-#[test]
-fn refuses_a_built_in_one(rt: HostRuntime) -> Result<(), Fail> {
-    let classes = classes_of_rows(rt.alloc()).ok().ok_or("classes")?;
-    let mut reader = ObjReader::new(rt.alloc(), b"\0\x02\0\0\0\0\0\0\0\0", 7);
-    let object = read_builtin(rt.alloc(), &classes, &mut reader, b"TObject");
-    assert!(rt; matches!(object, Err(ObjFault::NoCount { place: 7 })));
-    Ok(())
-}
-
-// Puts the next object of the class at the end of what is printed.
-fn put_builtin(
+/// Puts the next object of the class at the end of what is printed.
+pub(crate) fn put_builtin(
     printed: &mut Bytes,
     classes: &Classes,
     reader: &mut ObjReader,
@@ -505,20 +542,45 @@ fn put_builtin(
     requires { IsTrue (is_small_builtin class.now) }
 {
     let value = read_builtin(printed.allocator(), classes, reader, class)?;
-    put_value(printed, &value)?;
-    Ok(())
+    Ok(put_value(printed, &value)?)
+}
+
+// What is told of a TObject of version 2.
+fn put_later_version(printed: &mut Bytes) -> Result<(), ObjFault> {
+    let classes = classes_of_rows(printed.allocator())?;
+    let mut reader = ObjReader::new(printed.allocator(), b"\0\x02\0\0\0\0\0\0\0\0", 7);
+    put_builtin(printed, &classes, &mut reader, b"TObject")
 }
 
 #[test]
-fn reads_one_behind_the_other(rt: HostRuntime) -> Result<(), Fail> {
-    let classes = classes_of_rows(rt.alloc()).ok().ok_or("classes")?;
-    let mut reader = ObjReader::new(rt.alloc(), b"\0\x01\0\0\0\0\0\0\0\0\0\0\0\x01\x07", 0);
+fn refuses_a_built_in_one(rt: HostRuntime) {
     let mut printed = Bytes::new(rt.alloc());
-    assert!(rt; put_builtin(&mut printed, &classes, &mut reader, b"TObject").is_ok());
-    assert!(rt; put_builtin(&mut printed, &classes, &mut reader, b"TArrayC").is_ok());
-    assert!(rt;
-        printed.as_slice() == b"TObject#1{fUniqueID: 0, fBits: 0}TArrayC#1{items: [7]}".as_slice()
-    );
-    assert_eq!(rt; reader.left(), 0);
-    Ok(())
+    assert!(rt; put_later_version(&mut printed) == Err(ObjFault::NoCount { place: 7 }));
+}
+
+const TWO: &[u8] = b"TObject#1{fUniqueID: 0, fBits: 0}TArrayC#1{items: [7]}";
+
+fn are_put(printed: &mut Bytes, classes: &Classes, reader: &mut ObjReader) -> bool {
+    put_builtin(printed, classes, reader, b"TObject").is_ok()
+        && put_builtin(printed, classes, reader, b"TArrayC").is_ok()
+        && printed.as_slice() == TWO
+        && reader.left() == 0
+}
+
+fn are_read(alloc: Global, classes: &Classes) -> bool {
+    let mut reader = ObjReader::new(alloc, b"\0\x01\0\0\0\0\0\0\0\0\0\0\0\x01\x07", 0);
+    let mut printed = Bytes::new(alloc);
+    are_put(&mut printed, classes, &mut reader)
+}
+
+fn are_read_by_rows(alloc: Global) -> bool {
+    match classes_of_rows(alloc) {
+        Ok(classes) => are_read(alloc, &classes),
+        Err(_) => false,
+    }
+}
+
+#[test]
+fn reads_one_behind_the_other(rt: HostRuntime) {
+    assert!(rt; are_read_by_rows(rt.alloc()));
 }

@@ -1,11 +1,8 @@
 -- Integers that are printed are read again.
 use Rattle.std.proofs.Common.{◌≡◌, ℕ, zero, suc, ◌+◌, ◌-◌, ◌*◌, ◌/◌, ◌%◌, ◌^◌, ◌<◌, ◌≤◌, pos, negsuc, List, [], ◌∷◌, ◌++◌, Bool, true, false, ◌==◌, nat_le, Option, Some, None, option_and_then, refl, ◌∙◌, arith, get_or, subst}
-use Rattle.std.proofs.lemmas.Bool.{eqb-true}
+use Rattle.std.proofs.{lemmas.Bool.{eqb-true, Decides.{nat_tests}}, lemmas.Fmt.{decimal_by_steps, decimal_digit, first_decimal}}
 use Rattle.std.specs.Fmt.{decimal}
-use Rattle.std.proofs.lemmas.Fmt.{decimal_by_steps, decimal_digit, first_decimal}
-use Rattle.std.proofs.lemmas.Bool.Decides.{nat_tests}
-use Rattle.rio_token.specs.Laws.{IntegersAreRead, NumsAreRead}
-use Rattle.rio_token.specs.Words.{decimal as decimal_of, digit_in, has_no_leading_zero, number_after, number_of, written}
+use Rattle.rio_token.specs.{Laws.{IntegersAreRead, NumsAreRead}, Words.{decimal as decimal_of, digit_in, has_no_leading_zero, number_after, number_of, written}}
 
 digit_back : (d : ℕ) → d < 10 → digit_in 10 (48 + d) ≡ Some d
 digit_back d h = grind (arith, nat_tests)

@@ -1,22 +1,11 @@
 -- Reading goes on in the same text.
 use Rattle.std.proofs.Common.{◌≡◌, ℕ, zero, suc, ◌+◌, ◌≤◌, List, [], ◌∷◌, ◌++◌, length, take, drop, min, Bool, true, false, ◌==◌, if◌then◌else◌, Option, Some, None, Ok, Err, refl, sym, ◌∙◌, ap, arith, append_assoc, length-append}
+use Rattle.std.proofs.{lemmas.List.{length-drop, length-take, take-append-drop, Sums.{prefix_len-le-length}}, Math.Nat.{min-eq_left}}
 use Rattle.std.specs.List.{prefix_len}
-use Rattle.std.proofs.lemmas.List.{length-drop, length-take, take-append-drop}
-use Rattle.std.proofs.Math.Nat.{min-eq_left}
-use Rattle.std.proofs.lemmas.List.Sums.{prefix_len-le-length}
-use Rattle.rio_num.specs.At.{At}
-use Rattle.rio_num.specs.Reading.{◌>>=◌}
-use Rattle.rio_num.specs.Word.{is_blank_byte, is_item_byte}
-use Rattle.rio_token.specs.declared.token.Token.{Token}
-use Rattle.rio_token.specs.declared.token.Token.TheVariants.{Text, Mark, Cut}
-use Rattle.rio_token.specs.declared.quoted.Ending.{Ending}
-use Rattle.rio_token.specs.declared.quoted.Ending.TheVariants.{Closed, Broken, Unended}
-use Rattle.rio_token.specs.declared.quoted.Step.{Step}
-use Rattle.rio_token.specs.declared.quoted.Step.TheVariants.{Goes, Spells, Closes, Breaks}
-use Rattle.rio_token.specs.declared.quoted.Within.{Within}
-use Rattle.rio_token.specs.declared.quoted.Within.TheVariants.{Between}
-use Rattle.rio_token.specs.Further.{EndsFurther, FurtherGoesOn, FurtherIsInText, IsFurther, TakesEndFurther}
-use Rattle.rio_token.specs.Quoted.{later, onward, quoted, step_of}
+use Rattle.rio_num.specs.{At.{At}, Reading.{◌>>=◌}, Word.{is_blank_byte, is_word_byte}}
+use Rattle.rio_token.specs.{declared.token.Token.{Token, TheVariants.{Text, Mark, Cut}}, declared.quoted.Ending.{Ending, TheVariants.{Closed, Broken, Unended}}}
+use Rattle.rio_token.specs.{declared.quoted.Step.{Step, TheVariants.{Goes, Spells, Closes, Breaks}}, declared.quoted.Within.{Within, TheVariants.{Between}}}
+use Rattle.rio_token.specs.{Further.{EndsFurther, FurtherGoesOn, FurtherIsInText, IsFurther, TakesEndFurther}, Quoted.{later, onward, quoted, step_of}}
 use Rattle.rio_token.specs.Reading.{Read, end_at, list_at, mark_at, marked, more_at, num_at, num_between_at, some_at, string_at, string_by, taken_at, word_at, word_that_at}
 use Rattle.rio_token.specs.Tokens.{behind, next_at, scan_from, scan_of, string_scan, word_scan}
 use Rattle.rio_token.proofs.StandLaws.{drop_front}
@@ -44,14 +33,14 @@ string_within start k text Broken h = omega arith
 string_within start k text Unended h = omega arith
 
 chosen_within : (start b : ℕ) (bs : List ℕ) (word quote : Bool) →
-    (if word then word_scan start (prefix_len is_item_byte (b ∷ bs)) (b ∷ bs) else if quote then (let q = quoted Between bs in string_scan start q.text q.ending) else record { token = Mark b; start = start; stop = start + 1; bytes = [] }).stop ≤ start + suc (length bs)
-chosen_within start b bs true quote = let le = prefix_len-le-length is_item_byte (b ∷ bs) in omega arith
+    (if word then word_scan start (prefix_len is_word_byte (b ∷ bs)) (b ∷ bs) else if quote then (let q = quoted Between bs in string_scan start q.text q.ending) else record { token = Mark b; start = start; stop = start + 1; bytes = [] }).stop ≤ start + suc (length bs)
+chosen_within start b bs true quote = let le = prefix_len-le-length is_word_byte (b ∷ bs) in omega arith
 chosen_within start b bs false true = string_within start (length bs) (quoted Between bs).text (quoted Between bs).ending (quoted_within bs Between)
 chosen_within start b bs false false = omega arith
 
 from_within : (start : ℕ) (bs : List ℕ) → (scan_from start bs).stop ≤ start + length bs
 from_within start [] = omega arith
-from_within start (b ∷ bs) = chosen_within start b bs (is_item_byte b) (b == 34)
+from_within start (b ∷ bs) = chosen_within start b bs (is_word_byte b) (b == 34)
 
 pub scan_within : (bs : List ℕ) → (scan_of bs).stop ≤ length bs
 unfolding scan_of

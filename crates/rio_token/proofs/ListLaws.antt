@@ -1,9 +1,7 @@
 -- Lists with commas between their items, as a loop reads them: it tries the closing mark, and else wants a comma and an item.
 use Rattle.std.proofs.Common.{◌≡◌, ℕ, suc, ◌+◌, ◌-◌, ◌<◌, ◌≤◌, List, [], ◌∷◌, ◌++◌, Bool, true, false, if◌then◌else◌, Ok, Err, refl, sym, ◌∙◌, ap, arith}
 use Rattle.rio_num.specs.At.{At}
-use Rattle.rio_token.specs.declared.fault.TextFault.{TextFault}
-use Rattle.rio_token.specs.Tokens.{behind}
-use Rattle.rio_token.specs.Reading.{Read, bad_at, marked, mark_at, more_at}
+use Rattle.rio_token.specs.{declared.fault.TextFault.{TextFault}, Tokens.{behind}, Reading.{Read, bad_at, marked, mark_at, more_at}}
 
 module _ {A : Type 0} (close : ℕ) (item : List A → At → Read A) (n i : ℕ) (items : List A) (s : At) (total : Read (List A)) where
   pub more_is_cut : n ≤ i → more_at (n - i) close item items s ≡ total → total ≡ bad_at s

@@ -1,7 +1,6 @@
 -- Numbers that are written digit after digit.
 use Rattle.std.proofs.Common.{◌≡◌, ℕ, ◌+◌, ◌*◌, ◌<◌, List, [], ◌∷◌, drop, length, Option, Some, None, option_map, option_and_then, refl, arith, get_or}
-use Rattle.std.proofs.lemmas.Bool.Decides.{nat_tests}
-use Rattle.std.proofs.lemmas.List.{drop_more}
+use Rattle.std.proofs.{lemmas.Bool.Decides.{nat_tests}, lemmas.List.{drop_more}}
 use Rattle.rio_token.specs.Words.{at_most, digit_in, number_after}
 
 module _ (base most : ℕ) (pos : 0 < base) where

@@ -1,11 +1,9 @@
 -- Lists that are printed, with a comma and a space between each two items, are read again.
 use Rattle.std.proofs.Common.{◌≡◌, ℕ, suc, zero, ◌+◌, ◌<◌, List, [], ◌∷◌, ◌++◌, length, true, false, Ok, refl, ◌∙◌, ap, arith, append_assoc, length-append}
-use Rattle.std.specs.List.{flat_map, join_by}
-use Rattle.std.specs.Prelude.{codes}
 use Rattle.std.proofs.lemmas.List.{append-nil}
+use Rattle.std.specs.{List.{flat_map, join_by}, Prelude.{codes}}
 use Rattle.rio_num.specs.At.{At}
-use Rattle.rio_token.specs.Tokens.{behind, scan_of}
-use Rattle.rio_token.specs.Reading.{Read, list_at, marked, mark_at, more_at, some_at}
+use Rattle.rio_token.specs.{Tokens.{behind, scan_of}, Reading.{Read, list_at, marked, mark_at, more_at, some_at}}
 use Rattle.rio_token.proofs.StandLaws.{at}
 
 pub comma_back : (p : ℕ) (xs : List ℕ) → mark_at 44 (at p (44 ∷ xs)) ≡ Ok (tt, at (p + 1) xs)

@@ -1,24 +1,16 @@
 -- Reading at texts of known tokens.
 use Rattle.std.proofs.Common.{◌≡◌, ℕ, suc, ◌+◌, ◌*◌, ◌≤◌, List, [], ◌∷◌, ◌++◌, length, take, drop, Bool, true, false, ◌==◌, nat_le, nat_lt, if◌then◌else◌, Option, Some, None, option_and_then, Ok, refl, sym, ◌∙◌, arith, subst}
+use Rattle.std.proofs.{lemmas.Bool.{and_parts, Decides.{nat_tests}}, Math.Seq.{take-append_seam}}
 use Rattle.std.specs.List.{list_all, prefix_len}
-use Rattle.std.proofs.lemmas.Bool.{and_parts}
-use Rattle.std.proofs.lemmas.Bool.Decides.{nat_tests}
 pub use Rattle.std.proofs.Math.Seq.{drop-append_seam as drop_front}
-use Rattle.std.proofs.Math.Seq.{take-append_seam}
-use Rattle.rio_num.specs.At.{AreBytes, At, end_place}
-use Rattle.rio_num.specs.Word.{is_blank_byte, is_item_byte, is_name_text}
+use Rattle.rio_num.specs.{At.{AreBytes, At, end_place}, Word.{is_blank_byte, is_word_byte, is_name_text}, Printed.{string_text}}
 pub use Rattle.rio_num.proofs.Words.{Stops}
 use Rattle.rio_num.proofs.Words.{item_no_blank, name_of_word, word_ends_there}
-use Rattle.rio_token.specs.declared.token.Token.TheVariants.{Word, Text, Mark}
-use Rattle.rio_num.specs.Printed.{string_text}
-use Rattle.rio_token.specs.declared.quoted.Ending.{Ending}
-use Rattle.rio_token.specs.declared.quoted.Ending.TheVariants.{Closed, Broken, Unended}
-use Rattle.rio_token.specs.declared.quoted.Within.TheVariants.{Between}
-use Rattle.rio_token.specs.Quoted.{hex_value, quoted}
+use Rattle.rio_token.specs.{declared.token.Token.TheVariants.{Word, Text, Mark}, declared.quoted.Ending.{Ending, TheVariants.{Closed, Broken, Unended}}}
+use Rattle.rio_token.specs.{declared.quoted.Within.TheVariants.{Between}, Quoted.{hex_value, quoted}}
 use Rattle.rio_token.specs.Reading.{num_at, num_between_at, string_at, word_at, word_that_at}
+use Rattle.rio_token.specs.{Tokens.{Scan, next_at, scan_from, scan_of, token_place, behind, word_scan, string_scan}, Words.{num_of, number_after}}
 use Rattle.rio_token.proofs.StringLaws.{strings_are_read}
-use Rattle.rio_token.specs.Tokens.{Scan, next_at, scan_from, scan_of, token_place, behind, word_scan, string_scan}
-use Rattle.rio_token.specs.Words.{num_of, number_after}
 
 abbrev pub at : ℕ → List ℕ → At
 at p rest = record { place = p; rest = rest }
@@ -28,19 +20,19 @@ pub record IsWord (w : List ℕ) : Type 0 where
   pub first : ℕ
   pub others : List ℕ
   pub parts : w ≡ first ∷ others
-  pub all : list_all is_item_byte w ≡ true
+  pub all : list_all is_word_byte w ≡ true
 
 abbrev pub word_of : List ℕ → Scan
 word_of w = record { token = Word; start = 0; stop = length w; bytes = w }
 
-scan_first : (b : ℕ) (bs rest : List ℕ) → list_all is_item_byte (b ∷ bs) ≡ true → Stops rest → scan_of ((b ∷ bs) ++ rest) ≡ word_of (b ∷ bs)
+scan_first : (b : ℕ) (bs rest : List ℕ) → list_all is_word_byte (b ∷ bs) ≡ true → Stops rest → scan_of ((b ∷ bs) ++ rest) ≡ word_of (b ∷ bs)
 unfolding scan_of
 scan_first b bs rest h e =
-    let parts = and_parts (is_item_byte b) (list_all is_item_byte bs) h in
+    let parts = and_parts (is_word_byte b) (list_all is_word_byte bs) h in
     let no_blank = item_no_blank b parts.0 in
-    let run : prefix_len is_item_byte (b ∷ (bs ++ rest)) ≡ suc (length bs) = word_ends_there (b ∷ bs) rest h e in
+    let run : prefix_len is_word_byte (b ∷ (bs ++ rest)) ≡ suc (length bs) = word_ends_there (b ∷ bs) rest h e in
     let front : take (suc (length bs)) (b ∷ (bs ++ rest)) ≡ b ∷ bs = take-append_seam (b ∷ bs) rest in
-    let scanned : scan_from 0 (b ∷ (bs ++ rest)) ≡ word_scan 0 (prefix_len is_item_byte (b ∷ (bs ++ rest))) (b ∷ (bs ++ rest)) = rw parts.0 refl in
+    let scanned : scan_from 0 (b ∷ (bs ++ rest)) ≡ word_scan 0 (prefix_len is_word_byte (b ∷ (bs ++ rest))) (b ∷ (bs ++ rest)) = rw parts.0 refl in
     let none : 0 + suc (length bs) ≡ suc (length bs) = omega arith in
     let zero_blanks : prefix_len is_blank_byte (b ∷ (bs ++ rest)) ≡ 0 = rw no_blank refl in
     rw zero_blanks (scanned ∙ rw (run, front, none) refl)
@@ -48,7 +40,7 @@ scan_first b bs rest h e =
 pub scan_word : (w rest : List ℕ) → IsWord w → Stops rest → scan_of (w ++ rest) ≡ word_of w
 scan_word w rest is e =
     let P : List ℕ → Type 0 = λ l. scan_of (l ++ rest) ≡ word_of l in
-    let Q : List ℕ → Type 0 = λ l. list_all is_item_byte l ≡ true in
+    let Q : List ℕ → Type 0 = λ l. list_all is_word_byte l ≡ true in
     subst P (sym is.parts) (scan_first is.first is.others rest (subst Q is.parts is.all) e)
 
 -- ---- names and digits are words
@@ -57,18 +49,18 @@ pub name_is_word : (w : List ℕ) → is_name_text w ≡ true → IsWord w
 name_is_word [] h = absurd (cc)
 name_is_word (b ∷ bs) h = record { first = b; others = bs; parts = refl; all = name_of_word (b ∷ bs) h }
 
-item_of_hex : (b d : ℕ) → hex_value b ≡ Some d → is_item_byte b ≡ true
+item_of_hex : (b d : ℕ) → hex_value b ≡ Some d → is_word_byte b ≡ true
 item_of_hex b d h = grind (arith, nat_tests)
 
-digit_step : (base n b m : ℕ) (bs : List ℕ) (o : Option ℕ) → hex_value b ≡ o → ((k : ℕ) → number_after base k bs ≡ Some m → list_all is_item_byte bs ≡ true) → option_and_then (λ d. number_after base (n * base + d) bs) (option_and_then (λ d. if nat_lt d base then Some d else None) o) ≡ Some m → list_all is_item_byte (b ∷ bs) ≡ true
+digit_step : (base n b m : ℕ) (bs : List ℕ) (o : Option ℕ) → hex_value b ≡ o → ((k : ℕ) → number_after base k bs ≡ Some m → list_all is_word_byte bs ≡ true) → option_and_then (λ d. number_after base (n * base + d) bs) (option_and_then (λ d. if nat_lt d base then Some d else None) o) ≡ Some m → list_all is_word_byte (b ∷ bs) ≡ true
 digit_step base n b m bs None e ih h = absurd (cc)
 digit_step base n b m bs (Some d) e ih h = below_base (nat_lt d base) refl
   where
-    below_base : (t : Bool) → nat_lt d base ≡ t → list_all is_item_byte (b ∷ bs) ≡ true
+    below_base : (t : Bool) → nat_lt d base ≡ t → list_all is_word_byte (b ∷ bs) ≡ true
     below_base true t = let h2 : number_after base (n * base + d) bs ≡ Some m = rw t at h in rw (item_of_hex b d e, ih (n * base + d) h2) refl
     below_base false t = absurd (let none : Option ℕ = None in let h2 : none ≡ Some m = rw t at h in cc)
 
-pub digits_are_items : (base n m : ℕ) (ds : List ℕ) → number_after base n ds ≡ Some m → list_all is_item_byte ds ≡ true
+pub digits_are_items : (base n m : ℕ) (ds : List ℕ) → number_after base n ds ≡ Some m → list_all is_word_byte ds ≡ true
 digits_are_items base n m [] h = refl
 digits_are_items base n m (b ∷ bs) h = digit_step base n b m bs (hex_value b) refl (λ k q. digits_are_items base k m bs q) h
 
@@ -129,15 +121,15 @@ moved_string n text Broken = refl
 moved_string n text Unended = refl
 
 moved_by : (n b : ℕ) (bs : List ℕ) (word quote : Bool) →
-    (if word then word_scan (1 + n) (prefix_len is_item_byte (b ∷ bs)) (b ∷ bs) else if quote then (let q = quoted Between bs in string_scan (1 + n) q.text q.ending) else record { token = Mark b; start = 1 + n; stop = 1 + n + 1; bytes = [] })
-    ≡ moved (if word then word_scan n (prefix_len is_item_byte (b ∷ bs)) (b ∷ bs) else if quote then (let q = quoted Between bs in string_scan n q.text q.ending) else record { token = Mark b; start = n; stop = n + 1; bytes = [] })
-moved_by n b bs true quote = let e : 1 + n + prefix_len is_item_byte (b ∷ bs) ≡ 1 + (n + prefix_len is_item_byte (b ∷ bs)) = omega arith in rw e refl
+    (if word then word_scan (1 + n) (prefix_len is_word_byte (b ∷ bs)) (b ∷ bs) else if quote then (let q = quoted Between bs in string_scan (1 + n) q.text q.ending) else record { token = Mark b; start = 1 + n; stop = 1 + n + 1; bytes = [] })
+    ≡ moved (if word then word_scan n (prefix_len is_word_byte (b ∷ bs)) (b ∷ bs) else if quote then (let q = quoted Between bs in string_scan n q.text q.ending) else record { token = Mark b; start = n; stop = n + 1; bytes = [] })
+moved_by n b bs true quote = let e : 1 + n + prefix_len is_word_byte (b ∷ bs) ≡ 1 + (n + prefix_len is_word_byte (b ∷ bs)) = omega arith in rw e refl
 moved_by n b bs false true = moved_string n (quoted Between bs).text (quoted Between bs).ending
 moved_by n b bs false false = let e : 1 + n + 1 ≡ 1 + (n + 1) = omega arith in rw e refl
 
 moved_scan : (n : ℕ) (ys : List ℕ) → scan_from (1 + n) ys ≡ moved (scan_from n ys)
 moved_scan n [] = refl
-moved_scan n (b ∷ bs) = moved_by n b bs (is_item_byte b) (b == 34)
+moved_scan n (b ∷ bs) = moved_by n b bs (is_word_byte b) (b == 34)
 
 blank_scan : (xs : List ℕ) → scan_of (32 ∷ xs) ≡ moved (scan_of xs)
 unfolding scan_of

@@ -1,16 +1,10 @@
 -- Strings that are printed are read again.
 use Rattle.std.proofs.Common.{◌≡◌, ℕ, suc, ◌+◌, ◌*◌, ◌/◌, ◌%◌, ◌<◌, List, [], ◌∷◌, ◌++◌, length, Bool, true, false, ◌==◌, ◌&&◌, nat_le, if◌then◌else◌, Some, refl, sym, ◌∙◌, ap, arith, append_assoc, length-append, subst}
+use Rattle.std.proofs.lemmas.Bool.{eqb-true, Decides.{nat_tests}}
 use Rattle.std.specs.List.{flat_map}
-use Rattle.std.proofs.lemmas.Bool.{eqb-true}
-use Rattle.std.proofs.lemmas.Bool.Decides.{nat_tests}
-use Rattle.rio_num.specs.Printed.{escaped, hex_digit, string_text}
-use Rattle.rio_token.specs.declared.quoted.Ending.{Ending}
-use Rattle.rio_token.specs.declared.quoted.Ending.TheVariants.{Closed, Broken, Unended}
-use Rattle.rio_token.specs.declared.quoted.Within.TheVariants.{Between}
-use Rattle.rio_num.specs.At.{AreBytes}
-use Rattle.rio_token.specs.Laws.{StringsAreRead}
-use Rattle.rio_token.specs.Quoted.{Quoted, hex_value, later, quoted}
-use Rattle.rio_token.specs.Tokens.{scan_of}
+use Rattle.rio_num.specs.{Printed.{escaped, hex_digit, string_text}, At.{AreBytes}}
+use Rattle.rio_token.specs.{declared.quoted.Ending.{Ending, TheVariants.{Closed, Broken, Unended}}, declared.quoted.Within.TheVariants.{Between}}
+use Rattle.rio_token.specs.{Laws.{StringsAreRead}, Quoted.{Quoted, hex_value, later, quoted}, Tokens.{scan_of}}
 
 later_later : (m n : ℕ) (e : Ending) → later m (later n e) ≡ later (m + n) e
 later_later m n (Closed k) = ap (λ (i : ℕ). let e : Ending = Closed i in e) (omega arith)

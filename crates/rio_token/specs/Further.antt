@@ -1,10 +1,8 @@
 -- Reading goes on in the same text: what is left afterwards is what was left before, without the bytes that were read.
 use Rattle.std.specs.Prelude.{◌≡◌, ℕ, ◌+◌, ◌<◌, List, ◌++◌, length, Ok, Err, Bool, true, false}
 use Rattle.rio_num.specs.At.{At, GoesOn}
-use Rattle.rio_token.specs.declared.token.Token.{Token}
-use Rattle.rio_token.specs.declared.token.Token.TheVariants.{Word, Text, Mark}
-use Rattle.rio_token.specs.Reading.{Read, end_at, mark_at, num_at, num_between_at, string_at, word_at, word_that_at}
-use Rattle.rio_token.specs.Tokens.{behind, next_at, standing_in}
+use Rattle.rio_token.specs.declared.token.Token.{Token, TheVariants.{Word, Text, Mark}}
+use Rattle.rio_token.specs.{Reading.{Read, end_at, mark_at, num_at, num_between_at, string_at, word_at, word_that_at}, Tokens.{behind, next_at, standing_in}}
 
 -- further on in the text, or at the same place
 pub record IsFurther (old new : At) : Type 0 where

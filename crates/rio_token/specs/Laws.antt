@@ -1,11 +1,7 @@
 -- What is printed is read again.
-use Rattle.std.specs.Prelude.{◌≡◌, ℕ, ◌^◌, ◌<◌, ℤ, pos, negsuc, List, ◌++◌, length, Some}
-use Rattle.std.specs.Fmt.{decimal, signed_decimal}
-use Rattle.rio_num.specs.Printed.{string_text}
-use Rattle.rio_num.specs.At.{AreBytes}
-use Rattle.rio_token.specs.declared.token.Token.TheVariants.{Text}
-use Rattle.rio_token.specs.Tokens.{scan_of}
-use Rattle.rio_token.specs.Words.{num_of, number_of}
+use Rattle.std.specs.{Prelude.{◌≡◌, ℕ, ◌^◌, ◌<◌, ℤ, pos, negsuc, List, ◌++◌, length, Some}, Fmt.{decimal, signed_decimal}}
+use Rattle.rio_num.specs.{Printed.{string_text}, At.{AreBytes}}
+use Rattle.rio_token.specs.{declared.token.Token.TheVariants.{Text}, Tokens.{scan_of}, Words.{num_of, number_of}}
 
 -- a text that is printed as a string is one token that spells it, whatever follows
 abbrev pub StringsAreRead : Type 0

@@ -1,12 +1,9 @@
 -- Strings: in double quotes, with bytes 0x20 to 0x7E and the escapes \" \\ \n \t \xHH.
 use Rattle.std.specs.Prelude.{ℕ, ◌+◌, ◌-◌, ◌*◌, List, [], ◌∷◌, Option, Some, None, nat_le, ◌==◌, ◌&&◌, ◌||◌, if◌then◌else◌}
 use Rattle.rio_token.specs.Marks.{backslash, double_quote, letter_n, letter_t, letter_x, line_feed, tab}
-use Rattle.rio_token.specs.declared.quoted.Within.{Within}
-use Rattle.rio_token.specs.declared.quoted.Within.TheVariants.{Between, Escape, High, Low}
-use Rattle.rio_token.specs.declared.quoted.Step.{Step}
-use Rattle.rio_token.specs.declared.quoted.Step.TheVariants.{Goes, Spells, Closes, Breaks}
-use Rattle.rio_token.specs.declared.quoted.Ending.{Ending}
-use Rattle.rio_token.specs.declared.quoted.Ending.TheVariants.{Closed, Broken, Unended}
+use Rattle.rio_token.specs.declared.quoted.Within.{Within, TheVariants.{Between, Escape, High, Low}}
+use Rattle.rio_token.specs.declared.quoted.Step.{Step, TheVariants.{Goes, Spells, Closes, Breaks}}
+use Rattle.rio_token.specs.declared.quoted.Ending.{Ending, TheVariants.{Closed, Broken, Unended}}
 
 -- the value of a digit 0 to 9 or a to f
 abbrev pub hex_value : ℕ → Option ℕ

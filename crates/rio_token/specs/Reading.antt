@@ -1,17 +1,10 @@
 -- Reading texts from left to right, token after token, up to the first token that can't stand.
 use Rattle.std.specs.Prelude.{ℕ, zero, suc, List, [], ◌∷◌, ◌++◌, length, Result, Ok, Err, Option, Some, None, option_and_then, Bool, true, false, ◌==◌, if◌then◌else◌}
 use Rattle.std.specs.Str.{bytes_eq}
-use Rattle.rio_num.specs.Answers.{GivesUnless, ReadsUnless, TakesUnless}
-use Rattle.rio_num.specs.At.{At, end_place}
-use Rattle.rio_num.specs.Reading.{◌>>=◌}
+use Rattle.rio_num.specs.{Answers.{GivesUnless, ReadsUnless, TakesUnless}, At.{At, end_place}, Reading.{◌>>=◌}, Word.{is_name_text, is_item_text}}
 pub use Rattle.rio_num.specs.Reading.{some_if}
-use Rattle.rio_num.specs.Word.{is_name_text, is_item_text}
-use Rattle.rio_token.specs.declared.fault.TextFault.{TextFault}
-use Rattle.rio_token.specs.declared.fault.TextFault.TheVariants.{BadText, NoMemory}
-use Rattle.rio_token.specs.declared.token.Token.{Token}
-use Rattle.rio_token.specs.declared.token.Token.TheVariants.{Word, Text, Mark, Cut, End}
-use Rattle.rio_token.specs.Marks.{comma}
-use Rattle.rio_token.specs.Tokens.{next_at, token_place, behind}
+use Rattle.rio_token.specs.declared.fault.TextFault.{TextFault, TheVariants.{BadText, NoMemory}}
+use Rattle.rio_token.specs.{declared.token.Token.{Token, TheVariants.{Word, Text, Mark, Cut, End}}, Marks.{comma}, Tokens.{next_at, token_place, behind}}
 use Rattle.rio_token.specs.Words.{num_of, num_between_of}
 
 -- what was read and where reading stands, or the first token that can't stand

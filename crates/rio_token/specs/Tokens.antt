@@ -1,17 +1,9 @@
 -- Tokens: words, strings, and single bytes of punctuation, with blanks between them.
-use Rattle.std.specs.Prelude.{◌≡◌, ℕ, ◌+◌, List, [], ◌∷◌, length, take, drop, min, Bool, ◌==◌, if◌then◌else◌}
-use Rattle.std.specs.List.{prefix_len}
-use Rattle.rio_num.specs.At.{At}
-use Rattle.rio_num.specs.Reading.{skip}
-use Rattle.rio_num.specs.Word.{is_blank_byte, is_item_byte}
-use Rattle.rio_token.specs.declared.token.Token.{Token}
-use Rattle.rio_token.specs.declared.token.Token.TheVariants.{Word, Text, Mark, Bad, Cut, End}
-use Rattle.rio_token.specs.declared.scan.Scanned.{Scanned}
-use Rattle.rio_token.specs.declared.quoted.Ending.{Ending}
-use Rattle.rio_token.specs.declared.quoted.Ending.TheVariants.{Closed, Broken, Unended}
-use Rattle.rio_token.specs.declared.quoted.Within.TheVariants.{Between}
-use Rattle.rio_token.specs.Marks.{double_quote}
-use Rattle.rio_token.specs.Quoted.{quoted}
+use Rattle.std.specs.{Prelude.{◌≡◌, ℕ, ◌+◌, List, [], ◌∷◌, length, take, drop, min, Bool, ◌==◌, if◌then◌else◌}, List.{prefix_len}}
+use Rattle.rio_num.specs.{At.{At}, Reading.{skip}, Word.{is_blank_byte, is_word_byte}}
+use Rattle.rio_token.specs.{declared.token.Token.{Token, TheVariants.{Word, Text, Mark, Bad, Cut, End}}, declared.scan.Scanned.{Scanned}}
+use Rattle.rio_token.specs.{declared.quoted.Ending.{Ending, TheVariants.{Closed, Broken, Unended}}, declared.quoted.Within.TheVariants.{Between}}
+use Rattle.rio_token.specs.{Marks.{double_quote}, Quoted.{quoted}}
 
 -- The next token: how many bytes stand before it, and before its end; the bytes of a word, or those that a string spells.
 pub record Scan : Type 0 where
@@ -34,7 +26,7 @@ string_scan start text Unended = record { token = Cut; start = start; stop = sta
 abbrev pub scan_from : ℕ → List ℕ → Scan
 scan_from start [] = record { token = End; start = start; stop = start; bytes = [] }
 scan_from start (b ∷ bs) =
-    if is_item_byte b then word_scan start (prefix_len is_item_byte (b ∷ bs)) (b ∷ bs)
+    if is_word_byte b then word_scan start (prefix_len is_word_byte (b ∷ bs)) (b ∷ bs)
     else if b == double_quote then (let q = quoted Between bs in string_scan start q.text q.ending)
     else record { token = Mark b; start = start; stop = start + 1; bytes = [] }
 

@@ -1,9 +1,6 @@
 -- Words that are numbers or bit patterns.
 use Rattle.std.specs.Prelude.{ℕ, suc, ◌+◌, ◌-◌, ◌*◌, ◌^◌, ℤ, pos, negsuc, List, [], ◌∷◌, length, Option, Some, None, option_map, option_and_then, Bool, false, nat_lt, nat_le, not, ◌==◌, ◌&&◌, ◌||◌, if◌then◌else◌}
-use Rattle.rio_token.specs.declared.words.Bits.{Bits}
-use Rattle.rio_token.specs.declared.words.Bits.TheVariants.{Four, Eight}
-use Rattle.rio_token.specs.Marks.{digit_zero, letter_x, minus_sign}
-use Rattle.rio_token.specs.Quoted.{hex_value}
+use Rattle.rio_token.specs.{declared.words.Bits.{Bits, TheVariants.{Four, Eight}}, Marks.{digit_zero, letter_x, minus_sign}, Quoted.{hex_value}}
 
 -- the value of a digit in a base up to 16
 abbrev pub digit_in : ℕ → ℕ → Option ℕ

@@ -5,15 +5,14 @@
 //! `parse_number` and `parse_bits` read a word by itself.
 //!
 //! What a token is stands in `specs/Tokens.antt`, strings in `Quoted.antt`, numbers in `Words.antt`, the bytes by their
-//! names in `Marks.antt`, and reading from left to right, by which the grammars above are said, in `Reading.antt`.
+//! names in `Marks.antt`, and reading from left to right, by which the grammars above are said, in `Reading.antt`. Its
+//! tests stand in `rio_rows`.
 #![tactic(auto)]
 
 mod fault;
 mod laws;
 mod quoted;
 mod scan;
-#[cfg(test)]
-mod tests;
 mod token;
 mod tokens;
 mod words;

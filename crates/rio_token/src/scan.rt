@@ -6,7 +6,7 @@ ghost use Rattle.rio_token.specs.Tokens.{IsScan, scan_from, scan_of, string_scan
 
 use crate::Token;
 use crate::quoted::{Ending, ending_in};
-use rio_num::{blanks, is_of_word, word_length};
+use rio_num::{blanks, is_word_byte, word_length};
 
 /// The next token, and how many bytes stand before it and before its end.
 #[derive(Clone, Copy)]
@@ -40,7 +40,7 @@ fn scan_from(bytes: &[u8], start: usize) -> Scanned
             start,
             stop: start,
         },
-        [first, ..] if is_of_word(*first) => Scanned {
+        [first, ..] if is_word_byte(*first) => Scanned {
             token: Token::Word,
             start,
             stop: start + word_length(bytes),

@@ -8,7 +8,7 @@ use crate::quoted::spelled;
 use crate::scan::{Scanned, scan};
 use crate::words::{parse_num, parse_num_between};
 use crate::{TextFault, Token};
-use rio_num::{Name, is_item, is_name};
+use rio_num::{Name, bytes_from, is_item, is_name};
 use std::alloc::Global;
 use std::marker::Model;
 
@@ -30,14 +30,6 @@ fn behind_quote(rest: &[u8], next: Scanned) -> &[u8]
     ensures { (quoted Between result.now).text ≡ (scan_of rest.now).bytes }
 {
     behind_first(bytes_from(rest, next.start))
-}
-
-// The bytes from the one at `n` on.
-fn bytes_from(bytes: &[u8], n: usize) -> &[u8]
-    requires { n ≤ length bytes.now }
-    ensures { result.now ≡ drop n bytes.now }
-{
-    &bytes[n..]
 }
 
 // The bytes but the first.

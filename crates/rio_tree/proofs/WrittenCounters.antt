@@ -1,28 +1,17 @@
 -- The leaf that counts another one is found again by its label.
 use Rattle.std.proofs.Common.{◌≡◌, ◌∙◌, ◌&&◌, ◌||◌, ◌<◌, ◌⊎◌, inl, inr, ℕ, ◌+◌, pos, Bool, true, false, List, [], ◌∷◌, ◌++◌, length, Option, Some, None, refl, ap, sym, subst, arith, nat_lt}
-use Rattle.std.proofs.lemmas.Bool.{eq-eqb, eqb-true, ne_eqb, not-true, or_left, or_right}
-use Rattle.std.proofs.lemmas.Bool.Decides.{nat_tests}
-use Rattle.std.proofs.lemmas.List.Folds.{list_any-append}
+use Rattle.std.proofs.{lemmas.Bool.{and_parts, eq-eqb, eqb-true, ne_eqb, not-true, or_left, or_right, Decides.{nat_tests}}, lemmas.List.Folds.{list_any-append}}
 use Rattle.std.proofs.lemmas.Slice.Eq.{bytes_eq-Decides}
-use Rattle.std.specs.Map.{lookup}
-use Rattle.std.specs.Prelude.{◌==◌, not, slice_get, nat_le, Result, Ok}
-use Rattle.std.specs.Str.{bytes_eq}
+use Rattle.std.specs.{Map.{lookup}, Prelude.{◌==◌, not, slice_get, nat_le, Result, Ok}, Str.{bytes_eq}}
 use Rattle.rio_num.proofs.BytesEq.{bytes_eq-sym}
 use Rattle.rio_num.specs.Word.{is_name_text}
 use Rattle.rio_leaf.specs.Leaves.{can_count, has_counting_leaf, has_leaf, is_dim, is_leaf_count, is_letter_of, is_one}
-use Rattle.rio_leaf.specs.Marks.{is_leaf_letter, letter_of_texts}
-use Rattle.rio_leaf.specs.Stated.{is_stated_leaf}
-use Rattle.rio_leaf.specs.declared.leaf.Dim.{Dim}
-use Rattle.rio_leaf.specs.declared.leaf.Dim.TheVariants.{One, Fixed, Counted}
+use Rattle.rio_leaf.specs.{Marks.{is_leaf_letter, letter_of_texts}, Stated.{is_stated_leaf}, declared.leaf.Dim.{Dim, TheVariants.{One, Fixed, Counted}}}
 use Rattle.rio_leaf.specs.declared.leaf.Leaf.{Leaf}
-use Rattle.rio_format.proofs.Tests.{both_true}
-use Rattle.rio_tree_head.specs.declared.head.Branch.{Branch}
-use Rattle.rio_tree_head.specs.declared.refusal.BranchRefusal.{BranchRefusal}
+use Rattle.rio_tree_head.specs.{declared.head.Branch.{Branch}, declared.refusal.BranchRefusal.{BranchRefusal}}
 use Rattle.rio_tree_head.specs.HeaderLeaves.{LeafMet, LeavesMet, counter_met, counter_of_label, is_plain_number, leaf_by, says_values, uncounted_dim, with_counter, with_leaf_met}
-use Rattle.rio_tree.specs.WrittenLaws.{branch_of_leaf, stated_defs, with_counting_branch}
-use Rattle.rio_tree.specs.WrittenTree.{LeafLabels}
-use Rattle.rio_tree.proofs.WrittenLeaves.{either_way}
-use Rattle.rio_tree.proofs.WrittenSaid.{said_of_leaf}
+use Rattle.rio_tree.specs.{WrittenLaws.{branch_of_leaf, stated_defs, with_counting_branch}, WrittenTree.{LeafLabels}}
+use Rattle.rio_tree.proofs.{WrittenLeaves.{either_way}, WrittenSaid.{said_of_leaf}}
 
 -- ---- where a counter stands
 
@@ -96,10 +85,10 @@ pub record IsStated (before : List Leaf) (leaf : Leaf) : Type 0 where
 
 pub stated_leaf : (before : List Leaf) (leaf : Leaf) → is_stated_leaf before leaf ≡ true → IsStated before leaf
 stated_leaf before leaf e =
-    let letter = both_true (is_name_text leaf.name && not (has_leaf before leaf.name) && is_dim (has_counting_leaf before) leaf.dim) (is_letter_of leaf.dim leaf.letter) e in
-    let dim = both_true (is_name_text leaf.name && not (has_leaf before leaf.name)) (is_dim (has_counting_leaf before) leaf.dim) letter.0 in
-    let fresh = both_true (is_name_text leaf.name) (not (has_leaf before leaf.name)) dim.0 in
-    let text = both_true (is_leaf_letter leaf.letter) (is_one leaf.dim || not (leaf.letter == letter_of_texts)) letter.1 in
+    let letter = and_parts (is_name_text leaf.name && not (has_leaf before leaf.name) && is_dim (has_counting_leaf before) leaf.dim) (is_letter_of leaf.dim leaf.letter) e in
+    let dim = and_parts (is_name_text leaf.name && not (has_leaf before leaf.name)) (is_dim (has_counting_leaf before) leaf.dim) letter.0 in
+    let fresh = and_parts (is_name_text leaf.name) (not (has_leaf before leaf.name)) dim.0 in
+    let text = and_parts (is_leaf_letter leaf.letter) (is_one leaf.dim || not (leaf.letter == letter_of_texts)) letter.1 in
     record { fresh = not-true (has_leaf before leaf.name) fresh.1; dim = dim.1; letter = text.0; text = text.1 }
 
 -- ---- one leaf
@@ -107,7 +96,7 @@ stated_leaf before leaf e =
 -- at least two
 is_list : (n : ℕ) → is_leaf_count n ≡ true → uncounted_dim (pos n) ≡ Fixed n
 is_list n e =
-    let h = both_true (nat_le 2 n) (nat_le n 100000) e in
+    let h = and_parts (nat_le 2 n) (nat_le n 100000) e in
     let more : nat_lt 1 n ≡ true = grind (arith, nat_tests, h.0) in
     rw more refl
 
@@ -131,8 +120,8 @@ leaf_reads_as branches before done known met next name letter (Fixed n) e text l
     }
 leaf_reads_as branches before done known met next name letter (Counted counter times) e text leads =
     let number : (letter == letter_of_texts) ≡ false = not-true (letter == letter_of_texts) text in
-    let once = both_true (is_name_text counter && has_counting_leaf before counter) (times == 1) e in
-    let counts = both_true (is_name_text counter) (has_counting_leaf before counter) once.0 in
+    let once = and_parts (is_name_text counter && has_counting_leaf before counter) (times == 1) e in
+    let counts = and_parts (is_name_text counter) (has_counting_leaf before counter) once.0 in
     let to = leads counter counts.1 in
     record {
       counter = Some to.leaf;
@@ -227,7 +216,7 @@ module _ (branches : List Branch) (before done : List Leaf) (known : LeafLabels)
             let same : name ≡ leaf.name = (bytes_eq-Decides name leaf.name).0 e in
             let free : has_counting_leaf before name ≡ false = ap (has_counting_leaf before) same ∙ not_counting before leaf.name fresh in
             let here = or_false (has_counting_leaf before name) (bytes_eq leaf.name name && can_count leaf) split free in
-            this_leads name e (both_true (bytes_eq leaf.name name) (can_count leaf) here).1 none
+            this_leads name e (and_parts (bytes_eq leaf.name name) (can_count leaf) here).1 none
         | false ↦ λ e.
             let other : bytes_eq leaf.name name ≡ false = bytes_eq-sym leaf.name name ∙ e in
             let none_here : (bytes_eq leaf.name name && can_count leaf) ≡ false = rw other refl in

@@ -1,35 +1,21 @@
 -- The header that is written for a tree fits the classes of trees.
 use Rattle.std.proofs.Common.{◌≡◌, ◌∙◌, ◌&&◌, ◌^◌, ◌<◌, ℕ, ◌+◌, ℤ, pos, Bool, true, false, cond, List, [], ◌∷◌, ◌++◌, length, map, codes, Option, Some, None, refl, ap, sym, subst, append-nil, append_assoc, arith, is_some, nat_lt}
-use Rattle.std.proofs.lemmas.Bool.{and_from, eq-eqb, leb-true, lt-ltb, ltb-true}
-use Rattle.std.proofs.lemmas.List.{length-append, length-map}
-use Rattle.std.specs.List.{list_all}
-use Rattle.std.specs.Prelude.{option_and_then, not, ◌==◌, nat_le}
+use Rattle.std.proofs.{lemmas.Bool.{and_from, and_parts, eq-eqb, leb-true, lt-ltb, ltb-true}, lemmas.List.{length-append, length-map}}
+use Rattle.std.specs.{List.{list_all}, Prelude.{option_and_then, not, ◌==◌, nat_le}}
 use Rattle.rio_leaf.specs.Stated.{all_leaves, are_branches_behind, are_stated_leaves, has_branch, is_stated_branch, is_stated_leaf, is_stated_shape, leaves_of}
-use Rattle.rio_num.specs.Word.{is_name_text}
-use Rattle.rio_leaf.specs.declared.branch.Shape.{Shape}
-use Rattle.rio_leaf.specs.declared.branch.Shape.TheVariants.{Leaves, Class}
-use Rattle.rio_leaf.specs.declared.leaf.Leaf.{Leaf}
-use Rattle.rio_leaf.specs.declared.leaf.Dim.{Dim}
-use Rattle.rio_leaf.specs.declared.leaf.Dim.TheVariants.{One, Fixed, Counted}
-use Rattle.rio_leaf.specs.declared.branch.BranchDef.{BranchDef}
+use Rattle.rio_leaf.specs.{declared.branch.Shape.{Shape, TheVariants.{Leaves, Class}}, declared.leaf.Leaf.{Leaf}}
+use Rattle.rio_leaf.specs.{declared.leaf.Dim.{Dim, TheVariants.{One, Fixed, Counted}}, declared.branch.BranchDef.{BranchDef}}
 use Rattle.rio_leaf.specs.Leaves.{has_counting_leaf, has_leaf, is_dim, is_letter_of}
-use Rattle.rio_types.specs.declared.kind.Kind.TheVariants.{Plain, Fixed as FixedArray, Inline}
-use Rattle.rio_types.specs.declared.kind.Primitive.{Primitive}
-use Rattle.rio_types.specs.declared.kind.Primitive.TheVariants.{I32, I64}
+use Rattle.rio_num.specs.Word.{is_name_text}
+use Rattle.rio_types.specs.{declared.kind.Kind.TheVariants.{Plain, Fixed as FixedArray, Inline}, declared.kind.Primitive.{Primitive, TheVariants.{I32, I64}}}
 use Rattle.rio_value.specs.declared.value.Value.{Value, Int, Text, Object, Pointed}
-use Rattle.rio_format.specs.Bodies.{part}
-use Rattle.rio_format.specs.Fits.{Labels, Fitting, all_fit, fits_prim, fits_signed, fitting_of, fitting_step, object_may_stand}
-use Rattle.rio_format.specs.Slots.{Slot, kinded, based, any_pointer}
-use Rattle.rio_format.specs.TreeClasses.{tree_classes, tree_members, branch_members, object_branch_members}
-use Rattle.rio_format.proofs.Tests.{both_true}
+use Rattle.rio_format.specs.{Bodies.{part}, Fits.{Labels, Fitting, all_fit, fits_prim, fits_signed, fitting_of, fitting_step, object_may_stand}}
+use Rattle.rio_format.specs.{Slots.{Slot, kinded, based, any_pointer}, TreeClasses.{tree_classes, tree_members, branch_members, object_branch_members}}
 use Rattle.rio_format.proofs.ValueCases.{Each, fold_Int, fold_List}
-use Rattle.rio_format.proofs.WrittenParts.{FitsIn, array_fits, int_fits, pointer_to, text_fits, titled_fits}
-use Rattle.rio_format.proofs.WrittenValues.{fit_object}
-use Rattle.rio_tree_head.specs.declared.basket_at.BasketAt.{BasketAt}
-use Rattle.rio_tree_head.specs.declared.head.Branch.{Branch}
-use Rattle.rio_tree_head.specs.declared.head.TreeHead.{TreeHead}
+use Rattle.rio_format.proofs.{WrittenParts.{FitsIn, array_fits, int_fits, pointer_to, text_fits, titled_fits}, WrittenValues.{fit_object}}
+use Rattle.rio_tree_head.specs.{declared.basket_at.BasketAt.{BasketAt}, declared.head.Branch.{Branch}, declared.head.TreeHead.{TreeHead}, Header.{branch_leaves}}
 use Rattle.rio_tree.specs.WrittenLaws.{WrittenTreeFits, basket_fits_header, branch_fits_header, stated_defs}
-use Rattle.rio_tree.specs.WrittenTree.{LeafLabels, backs_from, basket_numbers, branch_label_count, branch_object, branch_pointers, labels_behind, leaf_backs, leaf_pointers, leaves_in_branch, plain_branch_object, shaped_object, title_of_branch, tree_value_of, written_count}
+use Rattle.rio_tree.specs.WrittenTree.{LeafLabels, backs_from, basket_numbers, branch_label_count, branch_object, branch_pointers, labels_behind, leaf_backs, leaf_pointers, plain_branch_object, shaped_object, title_of_branch, tree_value_of, written_count}
 use Rattle.rio_tree.proofs.WrittenLeaves.{IsLeafAt, KnowsLeaves, count_fits, get_behind, leaf_back_fits, leaf_label, leaves_fit, knows_longer}
 
 -- ---- numbers of baskets
@@ -42,9 +28,9 @@ pub record BasketsFit (baskets : List BasketAt) : Type 0 where
 baskets_fit : (baskets : List BasketAt) → list_all basket_fits_header baskets ≡ true → BasketsFit baskets
 baskets_fit [] e = record { bytes = refl; first = refl; seek = refl }
 baskets_fit (b ∷ bs) e =
-    let h = both_true (basket_fits_header b) (list_all basket_fits_header bs) e in
-    let own = both_true (nat_lt b.bytes (2 ^ 31) && nat_lt b.first (2 ^ 63)) (nat_lt b.seek (2 ^ 63)) h.0 in
-    let others = both_true (nat_lt b.bytes (2 ^ 31)) (nat_lt b.first (2 ^ 63)) own.0 in
+    let h = and_parts (basket_fits_header b) (list_all basket_fits_header bs) e in
+    let own = and_parts (nat_lt b.bytes (2 ^ 31) && nat_lt b.first (2 ^ 63)) (nat_lt b.seek (2 ^ 63)) h.0 in
+    let others = and_parts (nat_lt b.bytes (2 ^ 31)) (nat_lt b.first (2 ^ 63)) own.0 in
     let rest = baskets_fit bs h.1 in
     record {
       bytes = and_from _ _ others.0 rest.bytes;
@@ -59,7 +45,7 @@ numbers_each : (of : Primitive) (number : BasketAt → ℕ) (last : ℕ) (basket
     → all_fit (kinded (Plain of)) (map (fitting_of tree_classes) (map (λ b. Int (pos (number b))) baskets ++ Int (pos last) ∷ [])) labels ≡ Some labels
 numbers_each of number last [] labels all e = rw (int_fits tree_classes (pos last) of labels e) refl
 numbers_each of number last (b ∷ bs) labels all e =
-    let h = both_true (fits_prim of (pos (number b))) (list_all (λ b. fits_prim of (pos (number b))) bs) all in
+    let h = and_parts (fits_prim of (pos (number b))) (list_all (λ b. fits_prim of (pos (number b))) bs) all in
     rw (int_fits tree_classes (pos (number b)) of labels h.0) (numbers_each of number last bs labels h.1 e)
 
 -- there is one more than baskets
@@ -84,7 +70,7 @@ own_branch_label (Leaves leaves) = (codes "TBranch", pos 113)
 own_branch_label (Class class) = (codes "TBranchElement", pos 110)
 
 abbrev branch_labels : Branch → Labels
-branch_labels b = own_branch_label b.def.shape ∷ map leaf_label (leaves_in_branch b)
+branch_labels b = own_branch_label b.def.shape ∷ map leaf_label (branch_leaves b)
 
 pub record BranchNumbers (b : Branch) : Type 0 where
   pub version : fits_signed 32 b.class_version ≡ true
@@ -99,7 +85,7 @@ record PlainFits (plain : Value) (before after : Labels) : Type 0 where
   own : FitsIn tree_classes (kinded (Inline (codes "TBranch"))) plain before after
 
 plain_branch_in : (slot : Slot) (known : LeafLabels) (label : ℕ) (b : Branch) (before after : Labels) → object_may_stand (codes "TBranch") (pos 113) slot ≡ true → BranchNumbers b
-    → all_fit any_pointer (map (fitting_of tree_classes) (leaf_pointers known label (leaves_in_branch b))) before ≡ Some after
+    → all_fit any_pointer (map (fitting_of tree_classes) (leaf_pointers known label (branch_leaves b))) before ≡ Some after
     → FitsIn tree_classes slot (plain_branch_object known label b) before after
 unfolding plain_branch_object tree_classes branch_members
 plain_branch_in slot known label b before after stands fit each =
@@ -113,7 +99,7 @@ plain_branch_in slot known label b before after stands fit each =
       fit.room,
       int_fits tree_classes (pos b.entries) I64 before fit.entries,
       array_fits tree_classes [] before before refl,
-      array_fits tree_classes (leaf_pointers known label (leaves_in_branch b)) before after each,
+      array_fits tree_classes (leaf_pointers known label (branch_leaves b)) before after each,
       array_fits tree_classes [] after after refl,
       numbers_fit I32 (λ basket. basket.bytes) b.baskets 0 after fit.baskets.bytes refl,
       numbers_fit I64 (λ basket. basket.first) b.baskets b.entries after fit.baskets.first fit.entries,
@@ -125,7 +111,7 @@ unfolding plain_branch_object
 plain_class known label b = rw (fit_object tree_classes (codes "TBranch") (pos 113) _) refl
 
 plain_branch_fits : (known : LeafLabels) (label : ℕ) (b : Branch) (before after : Labels) → BranchNumbers b
-    → all_fit any_pointer (map (fitting_of tree_classes) (leaf_pointers known label (leaves_in_branch b))) before ≡ Some after
+    → all_fit any_pointer (map (fitting_of tree_classes) (leaf_pointers known label (branch_leaves b))) before ≡ Some after
     → PlainFits (plain_branch_object known label b) before after
 plain_branch_fits known label b before after fit each = record {
   class = plain_class known label b;
@@ -149,19 +135,19 @@ shaped_fits plain label b (Class class) labels after next version fit =
 
 record BranchFits (known : LeafLabels) (label : ℕ) (b : Branch) (labels : Labels) : Type 0 where
   pointer : FitsIn tree_classes any_pointer (Pointed label (branch_object known (label + 1) b)) labels (labels ++ branch_labels b)
-  knows : KnowsLeaves (labels_behind known (label + 1) (leaves_in_branch b)) (labels ++ branch_labels b)
+  knows : KnowsLeaves (labels_behind known (label + 1) (branch_leaves b)) (labels ++ branch_labels b)
 
-branch_fits : (known : LeafLabels) (label : ℕ) (b : Branch) (labels : Labels) → label ≡ length labels → KnowsLeaves known labels → BranchNumbers b → list_all count_fits (leaves_in_branch b) ≡ true → BranchFits known label b labels
+branch_fits : (known : LeafLabels) (label : ℕ) (b : Branch) (labels : Labels) → label ≡ length labels → KnowsLeaves known labels → BranchNumbers b → list_all count_fits (branch_leaves b) ≡ true → BranchFits known label b labels
 unfolding branch_object
 branch_fits known label b labels next knows fit counts =
     let first : Labels = own_branch_label b.def.shape ∷ [] in
     let own : Labels = labels ++ first in
-    let leaves = leaves_fit known (label + 1) (leaves_in_branch b) own (omega (arith, next, length-append labels first)) (knows_longer known labels first knows) counts in
-    let same : own ++ map leaf_label (leaves_in_branch b) ≡ labels ++ branch_labels b = append_assoc labels first (map leaf_label (leaves_in_branch b)) in
+    let leaves = leaves_fit known (label + 1) (branch_leaves b) own (omega (arith, next, length-append labels first)) (knows_longer known labels first knows) counts in
+    let same : own ++ map leaf_label (branch_leaves b) ≡ labels ++ branch_labels b = append_assoc labels first (map leaf_label (branch_leaves b)) in
     let plain = plain_branch_fits known (label + 1) b own (labels ++ branch_labels b) fit (leaves.each ∙ ap (λ (l : Labels). Some l) same) in
     record {
       pointer = shaped_fits (plain_branch_object known (label + 1) b) label b b.def.shape labels (labels ++ branch_labels b) next fit.version plain;
-      knows = subst (λ (l : Labels). KnowsLeaves (labels_behind known (label + 1) (leaves_in_branch b)) l) same leaves.knows;
+      knows = subst (λ (l : Labels). KnowsLeaves (labels_behind known (label + 1) (branch_leaves b)) l) same leaves.knows;
     }
 
 -- ---- all branches
@@ -172,10 +158,10 @@ tree_labels (b ∷ bs) = branch_labels b ++ tree_labels bs
 
 -- what is to be known of a branch
 abbrev IsFitting : Branch → Type 0
-IsFitting b = BranchNumbers b × (list_all count_fits (leaves_in_branch b) ≡ true)
+IsFitting b = BranchNumbers b × (list_all count_fits (branch_leaves b) ≡ true)
 
 branch_length : (b : Branch) (label : ℕ) (labels : Labels) → label ≡ length labels → label + branch_label_count b ≡ length (labels ++ branch_labels b)
-branch_length b label labels next = omega (arith, next, length-append labels (branch_labels b), length-map (leaves_in_branch b) leaf_label)
+branch_length b label labels next = omega (arith, next, length-append labels (branch_labels b), length-map (branch_leaves b) leaf_label)
 
 branches_fit : (known : LeafLabels) (label : ℕ) (bs : List Branch) (labels : Labels) → label ≡ length labels → KnowsLeaves known labels → Each IsFitting bs
     → all_fit any_pointer (map (fitting_of tree_classes) (branch_pointers known label bs)) labels ≡ Some (labels ++ tree_labels bs)
@@ -184,7 +170,7 @@ branches_fit known label [] labels next knows each = ap (λ (l : Labels). Some l
 branches_fit known label (b ∷ bs) labels next knows each =
     let own : Labels = labels ++ branch_labels b in
     let one = branch_fits known label b labels next knows each.0.0 each.0.1 in
-    let rest = branches_fit (labels_behind known (label + 1) (leaves_in_branch b)) (label + branch_label_count b) bs own (branch_length b label labels next) one.knows each.1 in
+    let rest = branches_fit (labels_behind known (label + 1) (branch_leaves b)) (label + branch_label_count b) bs own (branch_length b label labels next) one.knows each.1 in
     rw one.pointer (rest ∙ ap (λ (l : Labels). Some l) (append_assoc labels (branch_labels b) (tree_labels bs)))
 
 -- ---- what points to the leaves
@@ -218,11 +204,11 @@ unfolding leaf_backs
 tree_backs_fit front [] label labels next is = refl
 tree_backs_fit front (b ∷ bs) label labels next is =
     let first : Labels = own_branch_label b.def.shape ∷ [] in
-    let leaves = map leaf_label (leaves_in_branch b) in
+    let leaves = map leaf_label (branch_leaves b) in
     let split : labels ≡ (front ++ first) ++ (leaves ++ tree_labels bs) = is ∙ sym (append_assoc front first (leaves ++ tree_labels bs)) in
-    let own = backs_fit (front ++ first) (leaves_in_branch b) (tree_labels bs) (label + 1) labels (omega (arith, next, length-append front first)) split in
+    let own = backs_fit (front ++ first) (branch_leaves b) (tree_labels bs) (label + 1) labels (omega (arith, next, length-append front first)) split in
     let others = tree_backs_fit (front ++ branch_labels b) bs (label + branch_label_count b) labels (branch_length b label front next) (is ∙ sym (append_assoc front (branch_labels b) (tree_labels bs))) in
-    all_then (backs_from (label + 1) (leaves_in_branch b)) (leaf_backs (label + branch_label_count b) bs) labels own others
+    all_then (backs_from (label + 1) (branch_leaves b)) (leaf_backs (label + branch_label_count b) bs) labels own others
 
 -- ---- the tree
 
@@ -245,27 +231,27 @@ tree_fits name head entries each =
 pub dim_count_fits : (counts : List ℕ → Bool) (dim : Dim) → is_dim counts dim ≡ true → nat_lt (written_count dim) (2 ^ 31) ≡ true
 dim_count_fits counts One e = refl
 dim_count_fits counts (Fixed n) e =
-    let h = both_true (nat_le 2 n) (nat_le n 100000) e in
+    let h = and_parts (nat_le 2 n) (nat_le n 100000) e in
     lt-ltb n (2 ^ 31) (omega (arith, leb-true n 100000 h.1))
 dim_count_fits counts (Counted counter times) e = refl
 
 stated_leaves_fit : (before leaves : List Leaf) → are_stated_leaves before leaves ≡ true → list_all count_fits leaves ≡ true
 stated_leaves_fit before [] e = refl
 stated_leaves_fit before (leaf ∷ leaves) e =
-    let h = both_true (is_stated_leaf before leaf) (are_stated_leaves (before ++ leaf ∷ []) leaves) e in
-    let letter = both_true (is_name_text leaf.name && not (has_leaf before leaf.name) && is_dim (has_counting_leaf before) leaf.dim) (is_letter_of leaf.dim leaf.letter) h.0 in
-    let dim = both_true (is_name_text leaf.name && not (has_leaf before leaf.name)) (is_dim (has_counting_leaf before) leaf.dim) letter.0 in
+    let h = and_parts (is_stated_leaf before leaf) (are_stated_leaves (before ++ leaf ∷ []) leaves) e in
+    let letter = and_parts (is_name_text leaf.name && not (has_leaf before leaf.name) && is_dim (has_counting_leaf before) leaf.dim) (is_letter_of leaf.dim leaf.letter) h.0 in
+    let dim = and_parts (is_name_text leaf.name && not (has_leaf before leaf.name)) (is_dim (has_counting_leaf before) leaf.dim) letter.0 in
     and_from (count_fits leaf) (list_all count_fits leaves) (dim_count_fits (has_counting_leaf before) leaf.dim dim.1) (stated_leaves_fit (before ++ leaf ∷ []) leaves h.1)
 
 stated_shape_fits : (before : List Leaf) (shape : Shape) → is_stated_shape before shape ≡ true → list_all count_fits (leaves_of shape) ≡ true
-stated_shape_fits before (Leaves leaves) e = stated_leaves_fit before leaves (both_true (not (length leaves == 0)) (are_stated_leaves before leaves) e).1
+stated_shape_fits before (Leaves leaves) e = stated_leaves_fit before leaves (and_parts (not (length leaves == 0)) (are_stated_leaves before leaves) e).1
 stated_shape_fits before (Class class) e = refl
 
 pub numbers_of : (b : Branch) → branch_fits_header b ≡ true → BranchNumbers b
 numbers_of b e =
-    let baskets = both_true (fits_signed 32 b.class_version && nat_lt b.entries (2 ^ 63) && nat_lt (length b.baskets + 1) (2 ^ 31)) (list_all basket_fits_header b.baskets) e in
-    let room = both_true (fits_signed 32 b.class_version && nat_lt b.entries (2 ^ 63)) (nat_lt (length b.baskets + 1) (2 ^ 31)) baskets.0 in
-    let version = both_true (fits_signed 32 b.class_version) (nat_lt b.entries (2 ^ 63)) room.0 in
+    let baskets = and_parts (fits_signed 32 b.class_version && nat_lt b.entries (2 ^ 63) && nat_lt (length b.baskets + 1) (2 ^ 31)) (list_all basket_fits_header b.baskets) e in
+    let room = and_parts (fits_signed 32 b.class_version && nat_lt b.entries (2 ^ 63)) (nat_lt (length b.baskets + 1) (2 ^ 31)) baskets.0 in
+    let version = and_parts (fits_signed 32 b.class_version) (nat_lt b.entries (2 ^ 63)) room.0 in
     let low : length b.baskets + 1 < 2 ^ 31 = ltb-true (length b.baskets + 1) (2 ^ 31) room.1 in
     record {
       version = version.0;
@@ -278,12 +264,12 @@ numbers_of b e =
 stated_fit : (before : List BranchDef) (bs : List Branch) → are_branches_behind before (stated_defs bs) ≡ true → list_all branch_fits_header bs ≡ true → Each IsFitting bs
 stated_fit before [] e f = tt
 stated_fit before (b ∷ bs) e f =
-    let h = both_true (is_stated_branch before b.def) (are_branches_behind (before ++ b.def ∷ []) (stated_defs bs)) e in
-    let n = both_true (branch_fits_header b) (list_all branch_fits_header bs) f in
-    let shape = both_true (is_name_text b.def.name && not (has_branch before b.def.name)) (is_stated_shape (all_leaves before) b.def.shape) h.0 in
+    let h = and_parts (is_stated_branch before b.def) (are_branches_behind (before ++ b.def ∷ []) (stated_defs bs)) e in
+    let n = and_parts (branch_fits_header b) (list_all branch_fits_header bs) f in
+    let shape = and_parts (is_name_text b.def.name && not (has_branch before b.def.name)) (is_stated_shape (all_leaves before) b.def.shape) h.0 in
     ((numbers_of b n.0, stated_shape_fits (all_leaves before) b.def.shape shape.1), stated_fit (before ++ b.def ∷ []) bs h.1 n.1)
 
 pub written_tree_fits : WrittenTreeFits
 written_tree_fits name head stated numbers =
-    let behind = both_true (not (length (stated_defs head.branches) == 0)) (are_branches_behind [] (stated_defs head.branches)) stated in
+    let behind = and_parts (not (length (stated_defs head.branches) == 0)) (are_branches_behind [] (stated_defs head.branches)) stated in
     tree_fits name head numbers.entries (stated_fit [] head.branches behind.1 numbers.branches)

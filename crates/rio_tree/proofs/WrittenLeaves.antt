@@ -1,24 +1,13 @@
 -- The leaves of a header fit the classes of trees, and what points to counters points to leaves.
-use Rattle.std.proofs.Common.{◌≡◌, ◌∙◌, ◌^◌, ℕ, zero, suc, ◌+◌, ℤ, pos, Bool, true, false, cond, List, [], ◌∷◌, ◌++◌, length, map, codes, Option, Some, None, refl, ap, sym, append-nil, append_assoc, arith, nat_lt}
+use Rattle.std.proofs.{Common.{◌≡◌, ◌∙◌, ◌^◌, ℕ, zero, suc, ◌+◌, ℤ, pos, Bool, true, false, cond, List, [], ◌∷◌, ◌++◌, length, map, codes, Option, Some, None, refl, ap, sym, append-nil, append_assoc, arith, nat_lt}, lemmas.Bool.{and_parts}}
 use Rattle.std.proofs.lemmas.List.{length-append}
-use Rattle.std.specs.List.{list_all}
-use Rattle.std.specs.Map.{lookup}
-use Rattle.std.specs.Prelude.{slice_get}
-use Rattle.std.specs.Str.{bytes_eq}
-use Rattle.rio_leaf.specs.Spelling.{text_of_dim}
-use Rattle.rio_leaf.specs.declared.leaf.Dim.{Dim}
-use Rattle.rio_leaf.specs.declared.leaf.Dim.TheVariants.{One, Fixed, Counted}
-use Rattle.rio_leaf.specs.declared.leaf.Leaf.{Leaf}
-use Rattle.rio_types.specs.declared.kind.Kind.TheVariants.{Inline, Pointer}
-use Rattle.rio_types.specs.declared.kind.Primitive.TheVariants.{I32}
+use Rattle.std.specs.{List.{list_all}, Map.{lookup}, Prelude.{slice_get}, Str.{bytes_eq}}
+use Rattle.rio_leaf.specs.{Spelling.{text_of_dim}, declared.leaf.Dim.{Dim, TheVariants.{One, Fixed, Counted}}, declared.leaf.Leaf.{Leaf}}
+use Rattle.rio_types.specs.{declared.kind.Kind.TheVariants.{Inline, Pointer}, declared.kind.Primitive.TheVariants.{I32}}
 use Rattle.rio_value.specs.declared.value.Value.{Value, Pointed, Null, Back}
-use Rattle.rio_format.specs.Bodies.{part}
-use Rattle.rio_format.specs.Fits.{Labels, all_fit, fits_signed, fitting_of, fitting_step, may_point}
-use Rattle.rio_format.specs.Slots.{Slot, kinded, based, any_pointer, has_base}
-use Rattle.rio_format.specs.TreeClasses.{tree_classes, leaf_members}
-use Rattle.rio_format.proofs.Tests.{both_true}
-use Rattle.rio_format.proofs.ValueCases.{fold_Back, fold_Null}
-use Rattle.rio_format.proofs.WrittenParts.{FitsIn, int_fits, pointer_fits, titled_fits, truth_fits}
+use Rattle.rio_format.specs.{Bodies.{part}, Fits.{Labels, all_fit, fits_signed, fitting_of, fitting_step, may_point}}
+use Rattle.rio_format.specs.{Slots.{Slot, kinded, based, any_pointer, has_base}, TreeClasses.{tree_classes, leaf_members}}
+use Rattle.rio_format.proofs.{ValueCases.{fold_Back, fold_Null}, WrittenParts.{FitsIn, int_fits, pointer_fits, titled_fits, truth_fits}}
 use Rattle.rio_format.proofs.WrittenValues.{fit_object, object_fitting}
 use Rattle.rio_tree.specs.WrittenTree.{LeafLabels, back_or_null, class_of_letter, counter_pointer, is_letter_among, is_unsigned_letter, labels_behind, leaf_object, leaf_pointers, plain_leaf_object, width_of_letter, written_count}
 
@@ -178,7 +167,7 @@ leaves_fit known label [] labels next knows counts = record {
 }
 leaves_fit known label (leaf ∷ leaves) labels next knows counts =
     let own : Labels = labels ++ leaf_label leaf ∷ [] in
-    let h = both_true (count_fits leaf) (list_all count_fits leaves) counts in
+    let h = and_parts (count_fits leaf) (list_all count_fits leaves) counts in
     let rest = leaves_fit ((leaf.name, label) ∷ known) (label + 1) leaves own (omega (arith, next, length-append labels (leaf_label leaf ∷ []))) (knows_more known labels leaf label next knows) h.1 in
     let same : own ++ map leaf_label leaves ≡ labels ++ map leaf_label (leaf ∷ leaves) = append_assoc labels (leaf_label leaf ∷ []) (map leaf_label leaves) in
     record {

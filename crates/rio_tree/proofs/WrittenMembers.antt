@@ -2,14 +2,11 @@
 use Rattle.std.proofs.Common.{◌≡◌, ◌∙◌, ℕ, ◌+◌, ℤ, pos, List, [], ◌∷◌, ◌++◌, map, codes, Some, refl, ap, sym, append-nil}
 use Rattle.std.specs.List.{flat_map}
 use Rattle.rio_value.specs.declared.value.Part.{Part, out-Part, roll-out-Part}
-use Rattle.rio_value.specs.declared.value.Value.{Value, Text, Object}
-use Rattle.rio_value.specs.declared.value.Value.TheOpen as layer
-use Rattle.rio_value.specs.declared.value.Value.TheVariants.{rolls-Object, outs-List, outs-Object}
-use Rattle.rio_value.specs.declared.value.Value.TheFolds.{para-Part, para-roll-Part, para-roll-Value}
-use Rattle.rio_format.specs.Bodies.{part}
-use Rattle.rio_format.specs.WrittenList.{array_object, plain_object, titled_object}
-use Rattle.rio_tree_head.specs.Members.{pointers_in}
+use Rattle.rio_value.specs.declared.value.Value.{Value, Text, Object, TheVariants.{rolls-Object, outs-List, outs-Object}, TheFolds.{para-Part, para-roll-Part, para-roll-Value}}
 use Rattle.rio_value.specs.PartsWithBases.{kept_parts, parts_of_base, parts_step, parts_with_bases}
+use Rattle.rio_value.specs.declared.value.Value.TheOpen as layer
+use Rattle.rio_format.specs.{Bodies.{part}, WrittenList.{array_object, plain_object, titled_object}}
+use Rattle.rio_tree_head.specs.Members.{pointers_in}
 
 -- ---- parts, and those of bases
 

@@ -1,46 +1,25 @@
 -- The header that is written for a tree is read as it.
 use Rattle.std.proofs.Common.{◌≡◌, ◌∙◌, ◌&&◌, ◌^◌, ◌⊎◌, inl, inr, ℕ, ◌+◌, pos, Bool, true, false, cond, List, [], ◌∷◌, ◌++◌, length, codes, Option, Some, None, refl, ap, sym, subst, append-nil, append_assoc, arith, nat_lt}
-use Rattle.std.proofs.lemmas.List.{length-append, length-map, map-append}
-use Rattle.std.proofs.lemmas.List.Folds.{list_any-append}
-use Rattle.std.proofs.lemmas.Bool.Decides.{Decides-int_eq}
-use Rattle.std.proofs.lemmas.Iterator.Adapters.{position_from-zero}
-use Rattle.std.specs.List.{list_all, position_from}
-use Rattle.std.specs.Ordering.{int_eq}
-use Rattle.std.specs.Prelude.{◌==◌, not, slice_get, Result, Ok}
-use Rattle.std.specs.Str.{bytes_eq}
-use Rattle.std.proofs.lemmas.Bool.{or_parts}
-use Rattle.rio_num.specs.Reading.{◌>>=◌}
-use Rattle.rio_num.specs.Word.{is_name_text}
-use Rattle.rio_leaf.specs.Leaves.{can_count, has_counting_leaf, has_leaf}
-use Rattle.rio_leaf.specs.Marks.{is_leaf_letter}
+use Rattle.std.proofs.{lemmas.List.{length-append, length-map, map-append, Folds.{list_any-append}}, lemmas.Iterator.Adapters.{position_from-zero}}
+use Rattle.std.proofs.lemmas.Bool.{and_parts, or_parts, Decides.{Decides-int_eq}}
+use Rattle.std.specs.{List.{list_all, position_from}, Ordering.{int_eq}, Prelude.{◌==◌, not, slice_get, Result, Ok}, Str.{bytes_eq}}
+use Rattle.rio_num.specs.{Reading.{◌>>=◌}, Word.{is_name_text}}
+use Rattle.rio_leaf.specs.{Leaves.{can_count, has_counting_leaf, has_leaf}, Marks.{is_leaf_letter}}
 use Rattle.rio_leaf.specs.Stated.{all_leaves, are_branches_behind, are_stated_leaves, has_branch, is_stated_branch, is_stated_leaf, is_stated_shape, leaves_of}
-use Rattle.rio_leaf.specs.declared.branch.BranchDef.{BranchDef}
-use Rattle.rio_leaf.specs.declared.branch.Shape.{Shape}
-use Rattle.rio_leaf.specs.declared.branch.Shape.TheVariants.{Leaves, Class}
-use Rattle.rio_leaf.specs.declared.leaf.Leaf.{Leaf}
-use Rattle.rio_value.specs.declared.value.Value.{Int, Pointed}
-use Rattle.rio_value.specs.declared.value.Value.TheVariants.{outs-Int, outs-Pointed}
-use Rattle.rio_format.specs.Fits.{fits_signed}
-use Rattle.rio_format.specs.Bodies.{part}
-use Rattle.rio_format.specs.WrittenList.{array_object, number_part, titled_object}
-use Rattle.rio_format.proofs.Tests.{both_true}
+use Rattle.rio_leaf.specs.{declared.branch.BranchDef.{BranchDef}, declared.branch.Shape.{Shape, TheVariants.{Leaves, Class}}, declared.leaf.Leaf.{Leaf}}
+use Rattle.rio_value.specs.{declared.value.Value.{Int, Pointed, TheVariants.{outs-Int, outs-Pointed}}, PartsWithBases.{parts_with_bases}}
+use Rattle.rio_format.specs.{Fits.{fits_signed}, Bodies.{part}, WrittenList.{array_object, number_part, titled_object}}
 use Rattle.rio_format.proofs.ValueCases.{Each}
-use Rattle.rio_tree_head.specs.declared.basket_at.BasketAt.{BasketAt}
-use Rattle.rio_tree_head.specs.declared.head.Branch.{Branch}
-use Rattle.rio_tree_head.specs.declared.head.TreeHead.{TreeHead}
+use Rattle.rio_tree_head.specs.{declared.basket_at.BasketAt.{BasketAt}, declared.head.Branch.{Branch}, declared.head.TreeHead.{TreeHead}}
 use Rattle.rio_tree_head.specs.declared.refusal.BranchRefusal.{BranchRefusal}
-use Rattle.rio_tree_head.specs.Header.{branch_in, branches_from, entries_member, has_offsets, known_branch, met_behind, shape_said, tree_head_in}
-use Rattle.rio_tree_head.specs.Labels.{ObjectLabels, labels_in}
-use Rattle.rio_tree_head.specs.Members.{pointers_member}
-use Rattle.rio_value.specs.PartsWithBases.{parts_with_bases}
+use Rattle.rio_tree_head.specs.Header.{branch_in, branch_leaves, branches_from, entries_member, has_offsets, known_branch, met_behind, shape_said, tree_head_in}
+use Rattle.rio_tree_head.specs.{Labels.{ObjectLabels, labels_in}, Members.{pointers_member}}
 use Rattle.rio_tree_head.specs.HeaderLeaves.{LeafMet, LeavesMet, LeavesSaid, is_leafy, is_plain_number, leaf_by, leaf_met, leaves_met, no_leaves_met, says_values, with_counter, with_leaf_met}
 use Rattle.rio_tree_head.specs.Refusals.{are_in_order, basket_numbered, basket_said, baskets_from, has_leaf_class, leaf_behind, leaves_from, listed_baskets, natural_in, no_leaves, readable_branch}
 use Rattle.rio_tree.specs.WrittenLaws.{AreReadableBranches, IsReadableBranch, WrittenTreeIsRead, branch_fits_header, branch_of_leaf, counting_branches_behind, stated_defs}
-use Rattle.rio_tree.specs.WrittenTree.{LeafLabels, branch_label_count, branch_object, branch_pointers, labels_behind, leaf_backs, leaf_object, leaf_pointers, leaves_in_branch, tree_value_of, written_count}
+use Rattle.rio_tree.specs.WrittenTree.{LeafLabels, branch_label_count, branch_object, branch_pointers, labels_behind, leaf_backs, leaf_object, leaf_pointers, tree_value_of, written_count}
 use Rattle.rio_tree.proofs.WrittenCounters.{AllLead, Leads, OwnPlace, EarlierPlace, all_lead_more, leaf_reads, stated_leaf, written_met}
-use Rattle.rio_tree.proofs.WrittenFits.{dim_count_fits, numbers_of}
-use Rattle.rio_tree.proofs.WrittenLeaves.{get_behind, get_front}
-use Rattle.rio_tree.proofs.WrittenMembers.{object_parts, pointers_written}
+use Rattle.rio_tree.proofs.{WrittenFits.{dim_count_fits, numbers_of}, WrittenLeaves.{get_behind, get_front}, WrittenMembers.{object_parts, pointers_written}}
 use Rattle.rio_tree.proofs.WrittenSaid.{HasNumbers, branch_again, branch_name, class_of_shape, leaves_again, leaf_again, leaf_name, numbers_list, said_of_branch, said_of_leaf, version_again}
 
 -- ---- baskets
@@ -78,9 +57,9 @@ module _ (known : LeafLabels) (label : ℕ) (b : Branch) where
   baskets_again : (front rest : List BasketAt) (k : ℕ) → k ≡ length front → b.baskets ≡ front ++ rest → FitEach rest → baskets_from (said_of_branch known label b) k (length rest) ≡ Some rest
   baskets_again front [] k at is fit = refl
   baskets_again front (basket ∷ rest) k at is fit =
-      let bytes = both_true (fits_signed 32 (pos basket.bytes)) (list_all (λ x. fits_signed 32 (pos x.bytes)) rest) fit.bytes in
-      let firsts = both_true (fits_signed 64 (pos basket.first)) (list_all (λ x. fits_signed 64 (pos x.first)) rest) fit.firsts in
-      let seeks = both_true (fits_signed 64 (pos basket.seek)) (list_all (λ x. fits_signed 64 (pos x.seek)) rest) fit.seeks in
+      let bytes = and_parts (fits_signed 32 (pos basket.bytes)) (list_all (λ x. fits_signed 32 (pos x.bytes)) rest) fit.bytes in
+      let firsts = and_parts (fits_signed 64 (pos basket.first)) (list_all (λ x. fits_signed 64 (pos x.first)) rest) fit.firsts in
+      let seeks = and_parts (fits_signed 64 (pos basket.seek)) (list_all (λ x. fits_signed 64 (pos x.seek)) rest) fit.seeks in
       let here : basket_numbered (said_of_branch known label b) k ≡ Some basket = ap (basket_numbered (said_of_branch known label b)) at ∙ numbered_again front basket rest is bytes.0 firsts.0 seeks.0 in
       let more = baskets_again (front ++ basket ∷ []) rest (k + 1) (omega (arith, at, length-append front (basket ∷ []))) (is ∙ sym (append_assoc front (basket ∷ []) rest)) (record { bytes = bytes.1; firsts = firsts.1; seeks = seeks.1 }) in
       rw (here, more) refl
@@ -143,7 +122,7 @@ leaves_read labels branches before done known met next [] stated names leads = r
   leads = rw (append-nil before, append-nil done) leads;
 }
 leaves_read labels branches before done known met next (leaf ∷ leaves) stated names leads =
-    let h = both_true (is_stated_leaf before leaf) (are_stated_leaves (before ++ leaf ∷ []) leaves) stated in
+    let h = and_parts (is_stated_leaf before leaf) (are_stated_leaves (before ++ leaf ∷ []) leaves) stated in
     let own = stated_leaf before leaf h.0 in
     let good : IsGoodLeaf leaf = (own.letter, dim_count_fits (has_counting_leaf before) leaf.dim own.dim) in
     let step = leaf_reads branches before done known met next leaf own leads in
@@ -171,18 +150,18 @@ leaves_read labels branches before done known met next (leaf ∷ leaves) stated 
 good_leaves : (before leaves : List Leaf) → are_stated_leaves before leaves ≡ true → Each IsGoodLeaf leaves
 good_leaves before [] e = tt
 good_leaves before (leaf ∷ leaves) e =
-    let h = both_true (is_stated_leaf before leaf) (are_stated_leaves (before ++ leaf ∷ []) leaves) e in
+    let h = and_parts (is_stated_leaf before leaf) (are_stated_leaves (before ++ leaf ∷ []) leaves) e in
     let own = stated_leaf before leaf h.0 in
     ((own.letter, dim_count_fits (has_counting_leaf before) leaf.dim own.dim), good_leaves (before ++ leaf ∷ []) leaves h.1)
 
 stated_leaves : (before : List Leaf) (shape : Shape) → is_stated_shape before shape ≡ true → are_stated_leaves before (leaves_of shape) ≡ true
-stated_leaves before (Leaves leaves) e = (both_true (not (length leaves == 0)) (are_stated_leaves before leaves) e).1
+stated_leaves before (Leaves leaves) e = (and_parts (not (length leaves == 0)) (are_stated_leaves before leaves) e).1
 stated_leaves before (Class class) e = refl
 
-readable_again : (labels : ObjectLabels) (at : ℕ) (known : LeafLabels) (label : ℕ) (b : Branch) → HasNumbers b → Each IsGoodLeaf (leaves_in_branch b) → readable_branch labels (Pointed at (branch_object known label b)) ≡ Ok (said_of_branch known label b)
+readable_again : (labels : ObjectLabels) (at : ℕ) (known : LeafLabels) (label : ℕ) (b : Branch) → HasNumbers b → Each IsGoodLeaf (branch_leaves b) → readable_branch labels (Pointed at (branch_object known label b)) ≡ Ok (said_of_branch known label b)
 unfolding readable_branch
 readable_again labels at known label b numbers good =
-    rw (outs-Pointed at (branch_object known label b), branch_again known label b numbers, leaves_known labels known label (leaves_in_branch b) good) refl
+    rw (outs-Pointed at (branch_object known label b), branch_again known label b numbers, leaves_known labels known label (branch_leaves b) good) refl
 
 shape_again : (shape : Shape) → shape_said (class_of_shape shape) (leaves_of shape) ≡ shape
 shape_again (Leaves leaves) = refl
@@ -204,12 +183,12 @@ made_again : (b : Branch) (shape : Shape) (offsets : Bool) (counted_by : List �
 made_again b shape offsets counted_by refused s o c r = rw (s, o, c, r) refl
 
 branch_read : (entries : ℕ) (labels : ObjectLabels) (branches : List Branch) (before : List Leaf) (known : LeafLabels) (met : LeavesMet) (at : ℕ) (b : Branch)
-    → HasNumbers b → fits_signed 32 b.class_version ≡ true → Each IsGoodLeaf (leaves_in_branch b) → IsReadableBranch entries (stated_defs branches) b → LeavesRead labels branches before [] known met (at + 1) (leaves_in_branch b)
+    → HasNumbers b → fits_signed 32 b.class_version ≡ true → Each IsGoodLeaf (branch_leaves b) → IsReadableBranch entries (stated_defs branches) b → LeavesRead labels branches before [] known met (at + 1) (branch_leaves b)
     → branch_in entries labels branches met (Pointed at (branch_object known (at + 1) b)) ≡ b
 unfolding branch_in known_branch
 branch_read entries labels branches before known met at b numbers version good is leaves =
     let whole = branch_object known (at + 1) b in
-    let offsets : has_offsets (shape_said (class_of_shape b.def.shape) (leaves_in_branch b)) ≡ b.offsets = ap has_offsets (shape_again b.def.shape) ∙ sym is.offsets_as_shape in
+    let offsets : has_offsets (shape_said (class_of_shape b.def.shape) (branch_leaves b)) ≡ b.offsets = ap has_offsets (shape_again b.def.shape) ∙ sym is.offsets_as_shape in
     rw (
       readable_again labels at known (at + 1) b numbers good,
       outs-Pointed at whole,
@@ -219,7 +198,7 @@ branch_read entries labels branches before known met at b numbers version good i
       version_again known (at + 1) b version is.version_as_shape,
       listed_again entries known (at + 1) b numbers is.entries_as_tree is.in_order,
     )
-    (made_again b (shape_said (class_of_shape b.def.shape) (leaves_in_branch b)) (has_offsets (shape_said (class_of_shape b.def.shape) (leaves_in_branch b))) (counting_branches_behind (stated_defs branches) [] (leaves_in_branch b)) None
+    (made_again b (shape_said (class_of_shape b.def.shape) (branch_leaves b)) (has_offsets (shape_said (class_of_shape b.def.shape) (branch_leaves b))) (counting_branches_behind (stated_defs branches) [] (branch_leaves b)) None
     (shape_again b.def.shape) offsets (sym is.counted) (sym is.refused))
 
 -- ---- from one branch to the next
@@ -255,7 +234,7 @@ says_own b (Class class) name e = absurd cc
 defs_more : (branches : List Branch) (b : Branch) → stated_defs (branches ++ b ∷ []) ≡ stated_defs branches ++ b.def ∷ []
 defs_more branches b = map-append (λ b. b.def) branches (b ∷ [])
 
-place_next : (branches : List Branch) (b : Branch) (name : List ℕ) (n : ℕ) → b.refused ≡ None → OwnPlace branches (leaves_in_branch b) name n ⊎ EarlierPlace branches name n → EarlierPlace (branches ++ b ∷ []) name n
+place_next : (branches : List Branch) (b : Branch) (name : List ℕ) (n : ℕ) → b.refused ≡ None → OwnPlace branches (branch_leaves b) name n ⊎ EarlierPlace branches name n → EarlierPlace (branches ++ b ∷ []) name n
 place_next branches b name n fine (inl own) =
     let leafy = says_own b b.def.shape name own.2 in
     let says : says_values (slice_get (branches ++ b ∷ []) n) ≡ true = rw (own.0, get_behind branches [] b, fine, leafy) refl in
@@ -265,7 +244,7 @@ place_next branches b name n fine (inl own) =
 place_next branches b name n fine (inr earlier) =
     (omega (arith, earlier.0, length-append branches (b ∷ [])), rw (defs_more branches b) (from_zero (stated_defs branches ++ b.def ∷ []) name ∙ found_front (λ d. has_leaf (leaves_of d.shape) name) 0 (stated_defs branches) (b.def ∷ []) n (sym (from_zero (stated_defs branches) name) ∙ earlier.1)), says_front branches (b ∷ []) n earlier.2)
 
-lead_next : (branches : List Branch) (b : Branch) (known : LeafLabels) (met : LeavesMet) (next : ℕ) (name : List ℕ) → b.refused ≡ None → Leads branches (leaves_in_branch b) known met next name → Leads (branches ++ b ∷ []) [] known met next name
+lead_next : (branches : List Branch) (b : Branch) (known : LeafLabels) (met : LeavesMet) (next : ℕ) (name : List ℕ) → b.refused ≡ None → Leads branches (branch_leaves b) known met next name → Leads (branches ++ b ∷ []) [] known met next name
 lead_next branches b known met next name fine to = record {
   label = to.label;
   leaf = to.leaf;
@@ -301,7 +280,7 @@ abbrev pub HasAllNumbers : Branch → Type 0
 HasAllNumbers b = HasNumbers b × (fits_signed 32 b.class_version ≡ true)
 
 met_items : (labels : ObjectLabels) (branches : List Branch) (met : LeavesMet) (at : ℕ) (known : LeafLabels) (label : ℕ) (b : Branch) → HasNumbers b
-    → met_behind labels branches met (Pointed at (branch_object known label b)) ≡ leaves_met labels (length branches) (leaf_pointers known label (leaves_in_branch b)) met
+    → met_behind labels branches met (Pointed at (branch_object known label b)) ≡ leaves_met labels (length branches) (leaf_pointers known label (branch_leaves b)) met
 met_items labels branches met at known label b numbers = rw (outs-Pointed at (branch_object known label b), leaves_again known label b) refl
 
 leaves_more : (before : List BranchDef) (b : BranchDef) → all_leaves (before ++ b ∷ []) ≡ all_leaves before ++ leaves_of b.shape
@@ -317,9 +296,9 @@ branches_read entries labels [] branches known met label numbers stated readable
 branches_read entries labels (b ∷ bs) branches known met label numbers stated readable leads =
     let defs = stated_defs branches in
     let before = all_leaves defs in
-    let own = leaves_in_branch b in
-    let h = both_true (is_stated_branch defs b.def) (are_branches_behind (defs ++ b.def ∷ []) (stated_defs bs)) stated in
-    let shape = both_true (is_name_text b.def.name && not (has_branch defs b.def.name)) (is_stated_shape before b.def.shape) h.0 in
+    let own = branch_leaves b in
+    let h = and_parts (is_stated_branch defs b.def) (are_branches_behind (defs ++ b.def ∷ []) (stated_defs bs)) stated in
+    let shape = and_parts (is_name_text b.def.name && not (has_branch defs b.def.name)) (is_stated_shape before b.def.shape) h.0 in
     let fine = stated_leaves before b.def.shape shape.1 in
     let leaves = leaves_read labels branches before [] known met (label + 1) own fine (λ name e. from_zero defs name ∙ none_from 0 defs name e) (λ name e. lead_label branches known met label name (leads name e)) in
     let branch_is = branch_read entries labels branches before known met label b numbers.0.0 numbers.0.1 (good_leaves before own fine) readable.0 leaves in
@@ -365,13 +344,13 @@ numbers_of_branch b e =
 each_number : (bs : List Branch) → list_all branch_fits_header bs ≡ true → Each HasAllNumbers bs
 each_number [] e = tt
 each_number (b ∷ bs) e =
-    let h = both_true (branch_fits_header b) (list_all branch_fits_header bs) e in
+    let h = and_parts (branch_fits_header b) (list_all branch_fits_header bs) e in
     (numbers_of_branch b h.0, each_number bs h.1)
 
 pub written_tree_is_read : WrittenTreeIsRead
 unfolding tree_head_in
 written_tree_is_read name head stated numbers readable =
-    let behind = both_true (not (length (stated_defs head.branches) == 0)) (are_branches_behind [] (stated_defs head.branches)) stated in
+    let behind = and_parts (not (length (stated_defs head.branches) == 0)) (are_branches_behind [] (stated_defs head.branches)) stated in
     let value = tree_value_of name head in
     rw (
       entries_again name head numbers.entries,

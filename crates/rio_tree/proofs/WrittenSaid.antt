@@ -1,33 +1,19 @@
 -- What leaves and branches of a header that is written say.
 use Rattle.std.proofs.Common.{◌≡◌, ◌∙◌, ◌||◌, ◌^◌, ℕ, ◌+◌, pos, Bool, true, false, cond, List, [], ◌∷◌, ◌++◌, length, map, codes, Option, Some, None, refl, ap, sym, subst, append-nil, nat_lt}
-use Rattle.std.proofs.lemmas.Bool.{eqb-true}
-use Rattle.std.specs.List.{list_all}
-use Rattle.std.specs.Map.{lookup}
-use Rattle.std.specs.Prelude.{◌==◌, unwrap_or}
-use Rattle.std.specs.Str.{bytes_eq}
-use Rattle.rio_leaf.specs.Marks.{is_leaf_letter}
-use Rattle.rio_leaf.specs.Spelling.{text_of_dim}
-use Rattle.rio_leaf.specs.declared.branch.Shape.{Shape}
-use Rattle.rio_leaf.specs.declared.branch.Shape.TheVariants.{Leaves, Class}
-use Rattle.rio_leaf.specs.declared.leaf.Dim.{Dim}
-use Rattle.rio_leaf.specs.declared.leaf.Dim.TheVariants.{One, Fixed, Counted}
-use Rattle.rio_leaf.specs.declared.leaf.Leaf.{Leaf}
+use Rattle.std.proofs.lemmas.Bool.{and_parts, eqb-true}
+use Rattle.std.specs.{List.{list_all}, Map.{lookup}, Prelude.{◌==◌, unwrap_or}, Str.{bytes_eq}}
+use Rattle.rio_leaf.specs.{Marks.{is_leaf_letter}, Spelling.{text_of_dim}, declared.branch.Shape.{Shape, TheVariants.{Leaves, Class}}}
+use Rattle.rio_leaf.specs.{declared.leaf.Dim.{Dim, TheVariants.{One, Fixed, Counted}}, declared.leaf.Leaf.{Leaf}}
 use Rattle.rio_value.specs.declared.value.Part.{Part}
-use Rattle.rio_value.specs.declared.value.Value.{Value, Int, Bool as Truth, Text}
-use Rattle.rio_value.specs.declared.value.Value.TheVariants.{outs-Back, outs-Bool, outs-Int, outs-List, outs-Null, outs-Object, outs-Text}
-use Rattle.rio_format.specs.Bodies.{part}
-use Rattle.rio_format.specs.Fits.{fits_signed}
-use Rattle.rio_format.specs.WrittenList.{array_object, number_part, plain_object, titled_object}
-use Rattle.rio_format.proofs.Tests.{both_true}
-use Rattle.rio_tree_head.specs.declared.basket_at.BasketAt.{BasketAt}
-use Rattle.rio_tree_head.specs.declared.head.Branch.{Branch}
+use Rattle.rio_value.specs.declared.value.Value.{Value, Int, Bool as Truth, Text, TheVariants.{outs-Back, outs-Bool, outs-Int, outs-List, outs-Null, outs-Object, outs-Text}}
+use Rattle.rio_value.specs.{Accessors.{class_of_object}, PartsWithBases.{member_in, parts_with_bases}}
+use Rattle.rio_format.specs.{Bodies.{part}, Fits.{fits_signed}, WrittenList.{array_object, number_part, plain_object, titled_object}}
+use Rattle.rio_tree_head.specs.{declared.basket_at.BasketAt.{BasketAt}, declared.head.Branch.{Branch}, Header.{branch_leaves}}
 use Rattle.rio_tree_head.specs.BranchMembers.{BranchSaid, branch_said, entry_class, leaf_items}
 use Rattle.rio_tree_head.specs.HeaderLeaves.{LeafSaid, counter_in, leaf_said, letter_of_class}
 use Rattle.rio_tree_head.specs.Members.{integer_member, integers_in, integers_member, is_integer, name_member, pointers_member, truth_member}
-use Rattle.rio_value.specs.Accessors.{class_of_object}
-use Rattle.rio_value.specs.PartsWithBases.{member_in, parts_with_bases}
 use Rattle.rio_tree.specs.WrittenLaws.{IsVersionFor}
-use Rattle.rio_tree.specs.WrittenTree.{LeafLabels, back_or_null, basket_numbers, branch_object, class_of_letter, counter_pointer, is_unsigned_letter, leaf_object, leaf_pointers, leaves_in_branch, plain_branch_object, plain_leaf_object, shaped_object, title_of_branch, width_of_letter, written_count}
+use Rattle.rio_tree.specs.WrittenTree.{LeafLabels, back_or_null, basket_numbers, branch_object, class_of_letter, counter_pointer, is_unsigned_letter, leaf_object, leaf_pointers, plain_branch_object, plain_leaf_object, shaped_object, title_of_branch, width_of_letter, written_count}
 use Rattle.rio_tree.proofs.WrittenMembers.{object_parts, pointers_written, titled_parts}
 
 -- ---- letters
@@ -146,7 +132,7 @@ integer_fits bits n e = rw (outs-Int (pos n), e) refl
 each_integer : (bits : ℕ) (number : BasketAt → ℕ) (baskets : List BasketAt) (last : ℕ) → list_all (λ b. fits_signed bits (pos (number b))) baskets ≡ true → fits_signed bits (pos last) ≡ true → list_all (is_integer bits) (numbers_list number baskets last) ≡ true
 each_integer bits number [] last all e = rw (integer_fits bits last e) refl
 each_integer bits number (b ∷ bs) last all e =
-    let h = both_true (fits_signed bits (pos (number b))) (list_all (λ b. fits_signed bits (pos (number b))) bs) all in
+    let h = and_parts (fits_signed bits (pos (number b))) (list_all (λ b. fits_signed bits (pos (number b))) bs) all in
     rw (integer_fits bits (number b) h.0) (each_integer bits number bs last h.1 e)
 
 numbers_again : (bits : ℕ) (number : BasketAt → ℕ) (baskets : List BasketAt) (last : ℕ) → list_all (λ b. fits_signed bits (pos (number b))) baskets ≡ true → fits_signed bits (pos last) ≡ true → integers_in bits (basket_numbers number baskets last) ≡ Some (numbers_list number baskets last)
@@ -165,7 +151,7 @@ plain_parts : (known : LeafLabels) (label : ℕ) (b : Branch) → parts_with_bas
     ∷ number_part (codes "fMaxBaskets") (length b.baskets + 1)
     ∷ number_part (codes "fEntries") b.entries
     ∷ part (codes "fBranches") (array_object [])
-    ∷ part (codes "fLeaves") (array_object (leaf_pointers known label (leaves_in_branch b)))
+    ∷ part (codes "fLeaves") (array_object (leaf_pointers known label (branch_leaves b)))
     ∷ part (codes "fBaskets") (array_object [])
     ∷ part (codes "fBasketBytes") (basket_numbers (λ basket. basket.bytes) b.baskets 0)
     ∷ part (codes "fBasketEntry") (basket_numbers (λ basket. basket.first) b.baskets b.entries)
@@ -217,7 +203,7 @@ said_of_branch known label b = record {
   write_basket = pos (length b.baskets);
   entries = pos b.entries;
   branches = [];
-  leaves = leaf_pointers known label (leaves_in_branch b);
+  leaves = leaf_pointers known label (branch_leaves b);
   baskets = [];
   bytes = numbers_list (λ basket. basket.bytes) b.baskets 0;
   firsts = numbers_list (λ basket. basket.first) b.baskets b.entries;
@@ -251,8 +237,8 @@ module _ (known : LeafLabels) (label : ℕ) (b : Branch) where
       → list_all (λ basket. fits_signed bits (pos (number basket))) b.baskets ≡ true → fits_signed bits (pos last) ≡ true → integers_member bits name whole ≡ Some (numbers_list number b.baskets last)
   list_again bits name number last h e all fits = rw (plain_member name (basket_numbers number b.baskets last) h e, numbers_again bits number b.baskets last all fits) refl
 
-  pub leaves_again : leaf_items (Some whole) ≡ leaf_pointers known label (leaves_in_branch b)
-  leaves_again = rw (array_again (codes "fLeaves") (leaf_pointers known label (leaves_in_branch b)) (record { base = refl; class = refl; version = refl }) (rw (plain_parts known label b) refl)) refl
+  pub leaves_again : leaf_items (Some whole) ≡ leaf_pointers known label (branch_leaves b)
+  leaves_again = rw (array_again (codes "fLeaves") (leaf_pointers known label (branch_leaves b)) (record { base = refl; class = refl; version = refl }) (rw (plain_parts known label b) refl)) refl
 
   class_again : entry_class whole ≡ Some (class_of_shape b.def.shape)
   unfolding branch_object
@@ -267,7 +253,7 @@ module _ (known : LeafLabels) (label : ℕ) (b : Branch) where
         number_again 32 (codes "fWriteBasket") (length b.baskets) (record { base = refl; class = refl; version = refl }) (rw (plain_parts known label b) refl) h.count,
         number_again 64 (codes "fEntries") b.entries (record { base = refl; class = refl; version = refl }) (rw (plain_parts known label b) refl) h.entries,
         array_again (codes "fBranches") [] (record { base = refl; class = refl; version = refl }) (rw (plain_parts known label b) refl),
-        array_again (codes "fLeaves") (leaf_pointers known label (leaves_in_branch b)) (record { base = refl; class = refl; version = refl }) (rw (plain_parts known label b) refl),
+        array_again (codes "fLeaves") (leaf_pointers known label (branch_leaves b)) (record { base = refl; class = refl; version = refl }) (rw (plain_parts known label b) refl),
         array_again (codes "fBaskets") [] (record { base = refl; class = refl; version = refl }) (rw (plain_parts known label b) refl),
         list_again 32 (codes "fBasketBytes") (λ basket. basket.bytes) 0 (record { base = refl; class = refl; version = refl }) (rw (plain_parts known label b) refl) h.bytes refl,
         list_again 64 (codes "fBasketEntry") (λ basket. basket.first) b.entries (record { base = refl; class = refl; version = refl }) (rw (plain_parts known label b) refl) h.firsts h.entries,

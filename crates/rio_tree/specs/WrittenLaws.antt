@@ -1,24 +1,13 @@
 -- What holds of the header that is written for a tree.
 use Rattle.std.specs.Prelude.{◌≡◌, ℕ, ◌+◌, ◌^◌, ℤ, pos, List, [], ◌∷◌, ◌++◌, length, map, codes, Bool, ◌&&◌, nat_lt, Option, None, IsTrue, Ok}
-use Rattle.std.specs.List.{list_all, position}
-use Rattle.std.specs.Option.{option_map_or}
-use Rattle.rio_leaf.specs.Leaves.{has_leaf}
-use Rattle.rio_leaf.specs.Stated.{are_stated_branches, leaves_of}
-use Rattle.rio_leaf.specs.declared.branch.BranchDef.{BranchDef}
-use Rattle.rio_leaf.specs.declared.branch.Shape.{Shape}
-use Rattle.rio_leaf.specs.declared.branch.Shape.TheVariants.{Leaves, Class}
-use Rattle.rio_leaf.specs.declared.leaf.Dim.{Dim}
-use Rattle.rio_leaf.specs.declared.leaf.Dim.TheVariants.{Counted}
+use Rattle.std.specs.{List.{list_all, position}, Option.{option_map_or}}
+use Rattle.rio_leaf.specs.{Leaves.{has_leaf}, Stated.{are_stated_branches, leaves_of}, declared.branch.BranchDef.{BranchDef}}
+use Rattle.rio_leaf.specs.{declared.branch.Shape.{Shape, TheVariants.{Leaves, Class}}, declared.leaf.Dim.{Dim, TheVariants.{Counted}}}
 use Rattle.rio_leaf.specs.declared.leaf.Leaf.{Leaf}
-use Rattle.rio_format.specs.Fits.{Fits, fits_signed}
-use Rattle.rio_format.specs.TreeClasses.{tree_classes}
-use Rattle.rio_tree_head.specs.declared.basket_at.BasketAt.{BasketAt}
-use Rattle.rio_tree_head.specs.declared.head.Branch.{Branch}
-use Rattle.rio_tree_head.specs.declared.head.TreeHead.{TreeHead}
-use Rattle.rio_tree_head.specs.Header.{has_offsets, tree_head_in}
-use Rattle.rio_tree_head.specs.HeaderLeaves.{with_branch_number}
-use Rattle.rio_tree_head.specs.Refusals.{are_in_order}
-use Rattle.rio_tree.specs.WrittenTree.{leaves_in_branch, tree_value_of}
+use Rattle.rio_format.specs.{Fits.{Fits, fits_signed}, TreeClasses.{tree_classes}}
+use Rattle.rio_tree_head.specs.{declared.basket_at.BasketAt.{BasketAt}, declared.head.Branch.{Branch}, declared.head.TreeHead.{TreeHead}}
+use Rattle.rio_tree_head.specs.{Header.{branch_leaves, has_offsets, tree_head_in}, HeaderLeaves.{with_branch_number}, Refusals.{are_in_order}}
+use Rattle.rio_tree.specs.WrittenTree.{tree_value_of}
 
 -- ---- each number is one of those that its member may be
 
@@ -74,7 +63,7 @@ pub record IsReadableBranch (entries : ℕ) (before : List BranchDef) (b : Branc
   pub entries_as_tree : b.entries ≡ entries
   pub offsets_as_shape : b.offsets ≡ has_offsets b.def.shape
   pub version_as_shape : IsVersionFor b.def.shape b.class_version
-  pub counted : b.counted_by ≡ counting_branches before (leaves_in_branch b)
+  pub counted : b.counted_by ≡ counting_branches before (branch_leaves b)
   pub in_order : IsTrue (are_in_order entries b.baskets)
 
 abbrev pub AreReadableBranches : ℕ → List BranchDef → List Branch → Type 0

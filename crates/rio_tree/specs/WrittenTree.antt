@@ -1,22 +1,11 @@
 -- The header that is written for a tree, as the value of a TTree.
-use Rattle.std.specs.Prelude.{ℕ, ◌+◌, pos, List, [], ◌∷◌, ◌++◌, length, map, codes, Bool, ◌==◌, Option, Some, None, if◌then◌else◌}
-use Rattle.std.specs.List.{list_any}
-use Rattle.std.specs.Map.{lookup}
-use Rattle.std.specs.Str.{bytes_eq}
-use Rattle.rio_leaf.specs.Stated.{leaves_of}
-use Rattle.rio_leaf.specs.Spelling.{text_of_dim, text_of_leaves}
-use Rattle.rio_leaf.specs.declared.branch.Shape.{Shape}
-use Rattle.rio_leaf.specs.declared.branch.Shape.TheVariants.{Leaves, Class}
-use Rattle.rio_leaf.specs.declared.leaf.Dim.{Dim}
-use Rattle.rio_leaf.specs.declared.leaf.Dim.TheVariants.{Fixed, Counted}
-use Rattle.rio_leaf.specs.declared.leaf.Leaf.{Leaf}
-use Rattle.rio_value.specs.declared.value.Part.{Part}
-use Rattle.rio_value.specs.declared.value.Value.{Value, Int, Bool as Truth, Text, List as Items, Object, Pointed, Null, Back}
-use Rattle.rio_format.specs.Bodies.{part}
-use Rattle.rio_format.specs.WrittenList.{array_object, number_part, titled_object}
-use Rattle.rio_tree_head.specs.declared.basket_at.BasketAt.{BasketAt}
-use Rattle.rio_tree_head.specs.declared.head.Branch.{Branch}
-use Rattle.rio_tree_head.specs.declared.head.TreeHead.{TreeHead}
+use Rattle.std.specs.{Prelude.{ℕ, ◌+◌, pos, List, [], ◌∷◌, ◌++◌, length, map, codes, Bool, ◌==◌, Option, Some, None, if◌then◌else◌}, List.{list_any}}
+use Rattle.std.specs.{Map.{lookup}, Str.{bytes_eq}}
+use Rattle.rio_leaf.specs.{Spelling.{text_of_dim, text_of_leaves}, declared.branch.Shape.{Shape, TheVariants.{Leaves, Class}}}
+use Rattle.rio_leaf.specs.{declared.leaf.Dim.{Dim, TheVariants.{Fixed, Counted}}, declared.leaf.Leaf.{Leaf}}
+use Rattle.rio_value.specs.{declared.value.Part.{Part}, declared.value.Value.{Value, Int, Bool as Truth, Text, List as Items, Object, Pointed, Null, Back}}
+use Rattle.rio_format.specs.{Bodies.{part}, WrittenList.{array_object, number_part, titled_object}}
+use Rattle.rio_tree_head.specs.{declared.basket_at.BasketAt.{BasketAt}, declared.head.Branch.{Branch}, declared.head.TreeHead.{TreeHead}, Header.{branch_leaves}}
 
 -- ---- what the letter of a leaf says
 
@@ -93,12 +82,9 @@ labels_behind known label (leaf ∷ leaves) = labels_behind ((leaf.name, label) 
 
 -- ---- branches
 
-abbrev pub leaves_in_branch : Branch → List Leaf
-leaves_in_branch b = leaves_of b.def.shape
-
 -- how many labels a branch takes: one for itself, and one for each leaf
 abbrev pub branch_label_count : Branch → ℕ
-branch_label_count b = length (leaves_in_branch b) + 1
+branch_label_count b = length (branch_leaves b) + 1
 
 -- the list of its leaves, or its class
 abbrev pub title_of_branch : Shape → List ℕ
@@ -131,7 +117,7 @@ basket_arrays b =
 abbrev pub branch_pointer_arrays : LeafLabels → ℕ → Branch → List Part
 branch_pointer_arrays known label b =
     part (codes "fBranches") (array_object [])
-    ∷ part (codes "fLeaves") (array_object (leaf_pointers known label (leaves_in_branch b)))
+    ∷ part (codes "fLeaves") (array_object (leaf_pointers known label (branch_leaves b)))
     ∷ part (codes "fBaskets") (array_object [])
     ∷ []
 
@@ -151,7 +137,7 @@ branch_object known label b = shaped_object (plain_branch_object known label b) 
 unfoldable pub branch_pointers : LeafLabels → ℕ → List Branch → List Value
 branch_pointers known label [] = []
 branch_pointers known label (b ∷ bs) =
-    Pointed label (branch_object known (label + 1) b) ∷ branch_pointers (labels_behind known (label + 1) (leaves_in_branch b)) (label + branch_label_count b) bs
+    Pointed label (branch_object known (label + 1) b) ∷ branch_pointers (labels_behind known (label + 1) (branch_leaves b)) (label + branch_label_count b) bs
 
 -- ---- the tree
 
@@ -163,7 +149,7 @@ backs_from label (x ∷ xs) = Back label ∷ backs_from (label + 1) xs
 -- what points to the leaves of all branches
 unfoldable pub leaf_backs : ℕ → List Branch → List Value
 leaf_backs label [] = []
-leaf_backs label (b ∷ bs) = backs_from (label + 1) (leaves_in_branch b) ++ leaf_backs (label + branch_label_count b) bs
+leaf_backs label (b ∷ bs) = backs_from (label + 1) (branch_leaves b) ++ leaf_backs (label + branch_label_count b) bs
 
 -- the header of the tree of this name: a TTree
 unfoldable pub tree_value_of : List ℕ → TreeHead → Value

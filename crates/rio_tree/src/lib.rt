@@ -5,7 +5,7 @@
 //! [`tree_value`] makes the header that is written for a tree. It fits the class TTree among the classes of trees
 //! ([`written_tree_fits`]) and is read as the same [`TreeHead`] ([`written_tree_is_read`]). `specs/WrittenTree.antt` has
 //! the value that is written, `specs/WrittenLaws.antt` the laws. `specs/WrittenBaskets.antt` and
-//! `specs/WrittenLabels.antt` speak of the code.
+//! `specs/WrittenLabels.antt` speak of the code. Its tests stand in `rio_rows`.
 #![tactic(auto)]
 
 mod laws;

@@ -2,7 +2,8 @@
 ghost use Rattle.std.specs.Prelude.{◌≡◌, ◌++◌, [], IfOk, OnOk};
 ghost use Rattle.rio_leaf.specs.Stated.{leaves_of};
 ghost use Rattle.rio_leaf.specs.declared.branch.Shape.TheVariants.{Class};
-ghost use Rattle.rio_tree.specs.WrittenTree.{backs_from, basket_arrays, branch_numbers, branch_object, branch_pointers, labels_behind, leaf_backs, leaf_pointers, leaves_in_branch, plain_branch_object, shaped_object, title_of_branch, tree_value_of};
+ghost use Rattle.rio_tree_head.specs.Header.{branch_leaves};
+ghost use Rattle.rio_tree.specs.WrittenTree.{backs_from, basket_arrays, branch_numbers, branch_object, branch_pointers, labels_behind, leaf_backs, leaf_pointers, plain_branch_object, shaped_object, title_of_branch, tree_value_of};
 
 use crate::written_baskets::{BasketNumber, basket_numbers};
 use crate::written_labels::{LeafLabels, label_behind};
@@ -82,7 +83,7 @@ fn plain_branch_object(
     ensures object { IfOk result
         (λ value. value ≡ plain_branch_object known.old first branch.now) }
     ensures known { OnOk result
-        (known.new ≡ labels_behind known.old first (leaves_in_branch branch.now)) }
+        (known.new ≡ labels_behind known.old first (branch_leaves branch.now)) }
 {
     let leaves = leaves_of(&branch.def.shape);
     let parts = branch_numbers(alloc, branch)?
@@ -121,7 +122,7 @@ fn branch_object(
 ) -> Result<Value, NoMemory>
     ensures object { IfOk result (λ value. value ≡ branch_object known.old first branch.now) }
     ensures known { OnOk result
-        (known.new ≡ labels_behind known.old first (leaves_in_branch branch.now)) }
+        (known.new ≡ labels_behind known.old first (branch_leaves branch.now)) }
 {
     let plain = plain_branch_object(alloc, known, first, branch)?;
     match &branch.def.shape {

@@ -1,7 +1,7 @@
 //! The labels of leaves by their names.
 ghost use Rattle.std.specs.Prelude.{◌≡◌, ◌+◌, ℕ, List, if◌then◌else◌, Some, IfOk, OnOk, OnErr};
 ghost use Rattle.std.specs.Str.{bytes_eq};
-ghost use Rattle.rio_tree.specs.WrittenLabels.{label_in_map};
+ghost use Rattle.rio_types.specs.Index.{name_place};
 
 use rio_num::{Name, NoMemory};
 use std::alloc::Global;
@@ -78,10 +78,10 @@ pub(crate) fn label_behind(label: u32, taken: usize) -> Result<u32, NoMemory>
 fn put_label(labels: &mut LabelMap, alloc: Global, name: &[u8], label: u32) -> Result<(), NoMemory>
     ensures ok { OnOk result
         ((q : List ℕ) →
-        label_in_map labels.new q
-        ≡ (if bytes_eq q name.now then Some label else label_in_map labels.old q)) }
+        name_place labels.new q
+        ≡ (if bytes_eq q name.now then Some label else name_place labels.old q)) }
     ensures err { OnErr result
-        ((q : List ℕ) → label_in_map labels.new q ≡ label_in_map labels.old q) }
+        ((q : List ℕ) → name_place labels.new q ≡ name_place labels.old q) }
 {
     labels.insert(Vec::from_slice(alloc, name)?, label)?;
     Ok(())

@@ -1,16 +1,11 @@
 -- The objects within a value by their labels, one layer at a time.
 use Rattle.std.proofs.Common.{◌≡◌, ℕ, ◌+◌, ◌<◌, ◌≤◌, ℤ, Bool, true, false, cond, List, [], ◌∷◌, ◌++◌, drop, get_or, length, map, Option, Some, None, refl, sym, ap, ◌∙◌, nat_eq}
 use Rattle.std.proofs.lemmas.List.{at_drop_all, at_drop_more}
-use Rattle.std.specs.List.{flat_map}
-use Rattle.std.specs.Map.{lookup}
-use Rattle.std.specs.Option.{option_or}
+use Rattle.std.specs.{List.{flat_map}, Map.{lookup}, Option.{option_or}}
+use Rattle.rio_num.proofs.Cases.{or_none}
 use Rattle.rio_value.specs.declared.value.Part.{Part}
-use Rattle.rio_value.specs.declared.value.Value.{Value, List as Items, Object, Pointed, out-Value, roll-Value, roll-out-Value}
-use Rattle.rio_value.specs.declared.value.Value.TheVariants.{rolls-List, rolls-Object, rolls-Pointed}
-use Rattle.rio_value.specs.declared.value.Value.TheOpen.{Value-F}
+use Rattle.rio_value.specs.declared.value.Value.{Value, List as Items, Object, Pointed, out-Value, roll-Value, roll-out-Value, TheVariants.{rolls-List, rolls-Object, rolls-Pointed}, TheOpen.{Value-F}, TheFolds.{para-Part, para-roll-Value, para-roll-Part}, TheViews.{out-Part, roll-out-Part}}
 use Rattle.rio_value.specs.declared.value.Value.TheOpen as layer
-use Rattle.rio_value.specs.declared.value.Value.TheFolds.{para-Part, para-roll-Value, para-roll-Part}
-use Rattle.rio_value.specs.declared.value.Value.TheViews.{out-Part, roll-out-Part}
 use Rattle.rio_tree_head.specs.Labels.{ObjectLabels, labelled_in, labelled_step, or_labelled}
 
 -- ---- one layer
@@ -63,10 +58,6 @@ labelled-Pointed label object = ap labelled_in (sym (rolls-Pointed label object)
 or_assoc : {A : Type 0} (a b c : Option A) → option_or (option_or a b) c ≡ option_or a (option_or b c)
 or_assoc None b c = refl
 or_assoc (Some x) b c = refl
-
-or_none : {A : Type 0} (a : Option A) → option_or a None ≡ a
-or_none None = refl
-or_none (Some x) = refl
 
 or_cond : {A : Type 0} (b : Bool) (x : A) (a o : Option A) → cond b (Some x) (option_or a o) ≡ option_or (cond b (Some x) a) o
 or_cond true x a o = refl

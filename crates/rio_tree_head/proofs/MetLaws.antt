@@ -1,8 +1,7 @@
 -- What the tables of leaves say with one leaf more.
 use Rattle.std.proofs.Common.{◌≡◌, Bool, true, false, cond, Option, Some, refl, ap, ◌∙◌}
 use Rattle.std.specs.Option.{option_map}
-use Rattle.rio_tree_head.specs.declared.met.MetLeaf.{MetLeaf}
-use Rattle.rio_tree_head.specs.Tables.{leaf_of}
+use Rattle.rio_tree_head.specs.{declared.met.MetLeaf.{MetLeaf}, Tables.{leaf_of}}
 
 map_cond : (b : Bool) (x : MetLeaf) (o : Option MetLeaf) → option_map leaf_of (cond b (Some x) o) ≡ cond b (Some (leaf_of x)) (option_map leaf_of o)
 map_cond true x o = refl

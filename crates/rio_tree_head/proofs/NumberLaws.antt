@@ -1,8 +1,7 @@
 -- Numbers of branches, one more.
 use Rattle.std.proofs.Common.{◌≡◌, ◌≢◌, ℕ, Bool, false, cond, eqb, ltb, List, [], ◌∷◌, Option, Some, nat_cmp, refl, sym, ap, ◌∙◌, arith}
 use Rattle.std.proofs.lemmas.Bool.Decides.{nat_tests}
-use Rattle.std.specs.BTreeSet.{insert_key}
-use Rattle.std.specs.Ordering.{match_ordering}
+use Rattle.std.specs.{BTreeSet.{insert_key}, Ordering.{match_ordering}}
 use Rattle.rio_tree_head.specs.HeaderLeaves.{LeafMet, LeavesSaid, with_branch_number, with_counter_in}
 
 in_order : {X : Type 0} (n m : ℕ) (less same more : X) → match_ordering (nat_cmp n m) less same more ≡ cond (ltb n m) less (cond (eqb n m) same more)

@@ -1,9 +1,7 @@
 -- The baskets of a branch, one more.
 use Rattle.std.proofs.Common.{◌≡◌, ℕ, suc, ◌+◌, ◌-◌, ◌<◌, List, [], ◌∷◌, ◌++◌, Option, Some, None, refl, sym, ap, ◌∙◌, append_assoc, arith}
 use Rattle.std.specs.Option.{option_and_then, option_map}
-use Rattle.rio_tree_head.specs.declared.basket_at.BasketAt.{BasketAt}
-use Rattle.rio_tree_head.specs.BranchMembers.{BranchSaid}
-use Rattle.rio_tree_head.specs.Refusals.{basket_numbered, baskets_from}
+use Rattle.rio_tree_head.specs.{declared.basket_at.BasketAt.{BasketAt}, BranchMembers.{BranchSaid}, Refusals.{basket_numbered, baskets_from}}
 
 abbrev behind : List BasketAt → Option (List BasketAt) → Option (List BasketAt)
 behind front o = option_map (λ more. front ++ more) o

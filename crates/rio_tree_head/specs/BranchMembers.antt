@@ -1,10 +1,8 @@
 -- What a branch in a header says.
-use Rattle.std.specs.Prelude.{ℕ, ℤ, pos, List, [], codes, ◌&&◌, Option, Some, None, unwrap_or, option_map, option_and_then, if◌then◌else◌}
-use Rattle.std.specs.Ordering.{int_eq}
+use Rattle.std.specs.{Prelude.{ℕ, ℤ, pos, List, [], codes, ◌&&◌, Option, Some, None, unwrap_or, option_map, option_and_then, if◌then◌else◌}, Ordering.{int_eq}}
 use Rattle.std.specs.Str.{bytes_eq}
-use Rattle.rio_value.specs.declared.value.Value.{Value}
+use Rattle.rio_value.specs.{declared.value.Value.{Value}, Accessors.{class_of_object, version_of_object}}
 use Rattle.rio_tree_head.specs.Members.{◌>>=◌, integer_member, integers_member, name_member, pointers_member}
-use Rattle.rio_value.specs.Accessors.{class_of_object, version_of_object}
 
 -- what a branch says that has all members that are needed
 pub record BranchSaid : Type 0 where

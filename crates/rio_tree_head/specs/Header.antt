@@ -1,27 +1,15 @@
 -- The header of a tree: what the value of its record says.
 use Rattle.std.specs.Prelude.{ℕ, ℤ, pos, negsuc, List, [], ◌∷◌, ◌++◌, length, codes, Bool, true, false, ◌==◌, ◌||◌, Option, Some, None, option_and_then, Result, Ok, Err}
-use Rattle.std.specs.List.{list_any}
-use Rattle.std.specs.Option.{ok_or}
-use Rattle.std.specs.Result.{result_err, result_unwrap_or}
+use Rattle.std.specs.{List.{list_any}, Option.{ok_or}, Result.{result_err, result_unwrap_or}}
 use Rattle.rio_num.specs.Reading.{◌>>=◌}
-use Rattle.rio_leaf.specs.declared.branch.Shape.{Shape}
-use Rattle.rio_leaf.specs.declared.branch.Shape.TheVariants.{Leaves, Class}
-use Rattle.rio_leaf.specs.declared.leaf.Dim.{Dim}
-use Rattle.rio_leaf.specs.declared.leaf.Dim.TheVariants.{Counted}
-use Rattle.rio_leaf.specs.declared.leaf.Leaf.{Leaf}
+use Rattle.rio_leaf.specs.{declared.branch.Shape.{Shape, TheVariants.{Leaves, Class}}, declared.leaf.Leaf.{Leaf}, Leaves.{is_counted_dim}, Stated.{leaves_of}}
 use Rattle.rio_leaf.specs.Marks.{letter_of_texts}
 use Rattle.rio_value.specs.declared.value.Value.{Value}
-use Rattle.rio_tree_head.specs.declared.basket_at.BasketAt.{BasketAt}
-use Rattle.rio_tree_head.specs.declared.fault.TreeFault.{TreeFault}
-use Rattle.rio_tree_head.specs.declared.fault.TreeFault.TheVariants.{MissingMember}
-use Rattle.rio_tree_head.specs.declared.head.Branch.{Branch}
-use Rattle.rio_tree_head.specs.declared.head.TreeHead.{TreeHead}
-use Rattle.rio_tree_head.specs.declared.refusal.BranchRefusal.{BranchRefusal}
+use Rattle.rio_tree_head.specs.{declared.basket_at.BasketAt.{BasketAt}, declared.fault.TreeFault.{TreeFault, TheVariants.{MissingMember}}}
+use Rattle.rio_tree_head.specs.{declared.head.Branch.{Branch}, declared.head.TreeHead.{TreeHead}, declared.refusal.BranchRefusal.{BranchRefusal}}
 use Rattle.rio_tree_head.specs.BranchMembers.{BranchSaid, class_version_said, leaf_items}
-use Rattle.rio_tree_head.specs.HeaderLeaves.{LeavesMet, LeavesSaid, leaves_met, name_said, no_leaves_met}
-use Rattle.rio_tree_head.specs.Labels.{ObjectLabels, labels_in, object_behind}
-use Rattle.rio_tree_head.specs.Members.{integer_member, natural, pointers_member}
-use Rattle.rio_tree_head.specs.Refusals.{readable_branch, leaves_from, listed_baskets, no_leaves}
+use Rattle.rio_tree_head.specs.{HeaderLeaves.{LeavesMet, LeavesSaid, leaves_met, name_said, no_leaves_met}, Labels.{ObjectLabels, labels_in, object_behind}}
+use Rattle.rio_tree_head.specs.{Members.{integer_member, natural, pointers_member}, Refusals.{readable_branch, leaves_from, listed_baskets, no_leaves}}
 
 -- ---- one branch
 
@@ -37,11 +25,6 @@ branch_refused name why = record {
   counted_by = [];
   refused = Some why;
 }
-
--- a list that a counter counts
-abbrev pub is_counted_dim : Dim → Bool
-is_counted_dim (Counted counter times) = true
-is_counted_dim other = false
 
 -- whether a leaf may have values of different lengths
 abbrev pub varies_in_length : Leaf → Bool
@@ -115,3 +98,6 @@ tree_head_in v = do
   entries ← ok_or (entries_member v) (MissingMember (codes "fEntries"))
   items ← ok_or (pointers_member (codes "fBranches") v) (MissingMember (codes "fBranches"))
   Ok (record { entries = entries; branches = branches_from entries (labels_in v) items [] no_leaves_met })
+
+abbrev pub branch_leaves : Branch → List Leaf
+branch_leaves b = leaves_of b.def.shape

@@ -1,24 +1,13 @@
 -- The leaves in a header, and the leaves that count others.
 use Rattle.std.specs.Prelude.{ℕ, ℤ, pos, negsuc, max, List, [], ◌∷◌, ◌++◌, length, codes, Bool, true, false, ◌==◌, ◌&&◌, ◌||◌, nat_lt, Option, Some, None, is_none, slice_get, unwrap_or, option_map, option_and_then, Result, Ok, if◌then◌else◌}
-use Rattle.std.specs.Option.{ok_or, option_map_or}
-use Rattle.std.specs.Str.{bytes_eq}
-use Rattle.rio_value.specs.declared.value.Part.{Part}
-use Rattle.rio_value.specs.declared.value.Value.{Value, out-Value}
-use Rattle.rio_value.specs.declared.value.Value.TheOpen.{Value-F, Null, Pointed, Back}
-use Rattle.rio_leaf.specs.declared.branch.Shape.{Shape}
-use Rattle.rio_leaf.specs.declared.branch.Shape.TheVariants.{Leaves, Class}
-use Rattle.rio_leaf.specs.declared.leaf.Dim.{Dim}
-use Rattle.rio_leaf.specs.declared.leaf.Dim.TheVariants.{One, Fixed, Counted}
-use Rattle.rio_leaf.specs.declared.leaf.Leaf.{Leaf}
-use Rattle.rio_leaf.specs.Leaves.{is_one}
-use Rattle.rio_leaf.specs.Marks.{letter_of_counters, letter_of_texts}
-use Rattle.rio_tree_head.specs.declared.head.Branch.{Branch}
-use Rattle.rio_tree_head.specs.declared.refusal.BranchRefusal.{BranchRefusal}
-use Rattle.rio_tree_head.specs.declared.refusal.BranchRefusal.TheVariants.{NoCounter}
-use Rattle.rio_tree_head.specs.Labels.{ObjectLabels, label_in, object_behind}
-use Rattle.rio_tree_head.specs.Members.{◌>>=◌, integer_member, name_member, kept_if, truth_member}
-use Rattle.rio_value.specs.Accessors.{class_of_object}
-use Rattle.rio_value.specs.PartsWithBases.{member_in}
+use Rattle.std.specs.{Option.{ok_or, option_map_or}, Str.{bytes_eq}}
+use Rattle.rio_num.specs.Reading.{some_if}
+use Rattle.rio_value.specs.{declared.value.Part.{Part}, declared.value.Value.{Value, out-Value, TheOpen.{Value-F, Null, Pointed, Back}}}
+use Rattle.rio_value.specs.{Accessors.{class_of_object}, PartsWithBases.{member_in}}
+use Rattle.rio_leaf.specs.{declared.branch.Shape.{Shape, TheVariants.{Leaves, Class}}, declared.leaf.Dim.{Dim, TheVariants.{One, Fixed, Counted}}}
+use Rattle.rio_leaf.specs.{declared.leaf.Leaf.{Leaf}, Leaves.{is_one}, Marks.{letter_of_counters, letter_of_texts}}
+use Rattle.rio_tree_head.specs.{declared.head.Branch.{Branch}, declared.refusal.BranchRefusal.{BranchRefusal, TheVariants.{NoCounter}}}
+use Rattle.rio_tree_head.specs.{Labels.{ObjectLabels, label_in, object_behind}, Members.{◌>>=◌, integer_member, name_member, truth_member}}
 
 -- ---- one leaf
 
@@ -170,7 +159,7 @@ can_count_behind branches l = l.counts && ((l.branch == length branches) || says
 unfoldable pub counter_of_label : List Branch → LeavesMet → ℕ → Option LeafMet
 counter_of_label branches met label = do
   l ← met.of_label label
-  kept_if (is_nearest_of_name met label l && can_count_behind branches l) l
+  some_if (is_nearest_of_name met label l && can_count_behind branches l) l
 
 -- ---- the leaves of a branch
 

@@ -1,6 +1,5 @@
 -- The baskets of a branch: which lists are an index, how many entries each basket has, and where an entry is looked for.
-use Rattle.std.specs.Prelude.{◌≡◌, ℕ, ◌-◌, ◌<◌, ◌≤◌, List, [], ◌∷◌, drop, nat_le}
-use Rattle.std.specs.List.{prefix_len}
+use Rattle.std.specs.{Prelude.{◌≡◌, ℕ, ◌-◌, ◌<◌, ◌≤◌, List, [], ◌∷◌, drop, nat_le}, List.{prefix_len}}
 use Rattle.rio_tree_head.specs.declared.basket_at.BasketAt.{BasketAt}
 
 -- ---- which lists are an index

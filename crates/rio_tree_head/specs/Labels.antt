@@ -1,12 +1,7 @@
 -- The objects that are pointed to within a value, by their labels.
-use Rattle.std.specs.Prelude.{ℕ, List, [], ◌∷◌, nat_eq, Option, Some, None}
-use Rattle.std.specs.List.{flat_map}
-use Rattle.std.specs.Map.{lookup}
-use Rattle.std.specs.Option.{option_or}
+use Rattle.std.specs.{Prelude.{ℕ, List, [], ◌∷◌, nat_eq, Option, Some, None}, List.{flat_map}, Map.{lookup}, Option.{option_or}}
 use Rattle.rio_value.specs.declared.value.Part.{Part}
-use Rattle.rio_value.specs.declared.value.Value.{Value, out-Value}
-use Rattle.rio_value.specs.declared.value.Value.TheOpen.{Value-F, List as Items, Object, Pointed, Back}
-use Rattle.rio_value.specs.declared.value.Value.TheFolds.{para-Value}
+use Rattle.rio_value.specs.declared.value.Value.{Value, out-Value, TheOpen.{Value-F, List as Items, Object, Pointed, Back}, TheFolds.{para-Value}}
 
 -- one layer of a value, with the objects within each child beside it
 abbrev pub labelled_step : Value-F (Value × List (ℕ × Value)) (Part × List (ℕ × Value)) → List (ℕ × Value)

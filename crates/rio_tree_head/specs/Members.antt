@@ -1,19 +1,14 @@
 -- What the members of an object in a header say.
-use Rattle.std.specs.Prelude.{ℕ, ℤ, pos, negsuc, List, codes, Bool, Option, Some, None, is_some, option_and_then, if◌then◌else◌}
-use Rattle.std.specs.List.{list_all}
+use Rattle.std.specs.{Prelude.{ℕ, ℤ, pos, negsuc, List, codes, Bool, Option, Some, None, is_some, option_and_then, if◌then◌else◌}, List.{list_all}}
 use Rattle.std.specs.Str.{bytes_eq}
-use Rattle.rio_value.specs.Accessors.{class_of_object, integer_in, list_in, own_parts, part_of, text_bytes_in, truth_in}
-use Rattle.rio_value.specs.PartsWithBases.{member_in}
+use Rattle.rio_num.specs.Reading.{some_if}
+use Rattle.rio_value.specs.{Accessors.{class_of_object, integer_in, list_in, own_parts, part_of, text_bytes_in, truth_in}, PartsWithBases.{member_in}}
 use Rattle.rio_value.specs.declared.value.Value.{Value}
 
 -- one after the other, where each is there
 infixl 10 ◌>>=◌
 abbrev pub ◌>>=◌ : {A B : Type 0} → Option A → (A → Option B) → Option B
 o >>= f = option_and_then f o
-
--- this, if the test passes
-abbrev pub kept_if : {A : Type 0} → Bool → A → Option A
-kept_if test x = if test then Some x else None
 
 -- a number that isn't below 0
 abbrev pub natural : ℤ → Option ℕ
@@ -26,7 +21,7 @@ is_integer bits v = is_some (integer_in bits v)
 
 -- an array of signed integers of so many bits
 abbrev pub integers_in : ℕ → Value → Option (List Value)
-integers_in bits v = option_and_then (λ items. kept_if (list_all (is_integer bits) items) items) (list_in v)
+integers_in bits v = option_and_then (λ items. some_if (list_all (is_integer bits) items) items) (list_in v)
 
 -- the items of an array of pointers
 abbrev pub pointers_in : Value → Option (List Value)

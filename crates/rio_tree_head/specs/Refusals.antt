@@ -1,21 +1,13 @@
 -- Why a branch can't be read, as far as the header tells: the first of the tests, in order, that it doesn't pass.
 use Rattle.std.specs.Prelude.{ℕ, zero, suc, ◌+◌, ℤ, pos, negsuc, List, [], ◌∷◌, length, Bool, true, false, ◌==◌, ◌&&◌, nat_lt, Option, Some, None, is_some, slice_get, option_map, option_and_then, Result, Ok, Err, if◌then◌else◌}
-use Rattle.std.specs.List.{list_all}
-use Rattle.std.specs.Option.{ok_or}
-use Rattle.std.specs.Ordering.{int_eq}
+use Rattle.std.specs.{List.{list_all}, Option.{ok_or}, Ordering.{int_eq}}
 use Rattle.rio_num.specs.Reading.{◌>>=◌}
-use Rattle.rio_value.specs.declared.value.Part.{Part}
-use Rattle.rio_value.specs.declared.value.Value.{Value, out-Value}
-use Rattle.rio_value.specs.declared.value.Value.TheOpen.{Value-F, Null}
-use Rattle.rio_tree_head.specs.declared.basket_at.BasketAt.{BasketAt}
-use Rattle.rio_tree_head.specs.declared.head.Branch.{Branch}
-use Rattle.rio_tree_head.specs.declared.refusal.BranchRefusal.{BranchRefusal}
-use Rattle.rio_tree_head.specs.declared.refusal.BranchRefusal.TheVariants.{BranchClass, SubBranches, EmbeddedBasket, LeafClass, EntryCount, BadBasketList}
+use Rattle.rio_value.specs.{declared.value.Part.{Part}, declared.value.Value.{Value, out-Value, TheOpen.{Value-F, Null}}, Accessors.{integer_in}}
+use Rattle.rio_tree_head.specs.{declared.basket_at.BasketAt.{BasketAt}, declared.head.Branch.{Branch}}
+use Rattle.rio_tree_head.specs.declared.refusal.BranchRefusal.{BranchRefusal, TheVariants.{BranchClass, SubBranches, EmbeddedBasket, LeafClass, EntryCount, BadBasketList}}
 use Rattle.rio_tree_head.specs.BranchMembers.{BranchSaid, branch_said}
 use Rattle.rio_tree_head.specs.HeaderLeaves.{LeavesMet, LeavesSaid, counter_met, leaf_at_pointer, leaf_met, with_leaf, with_leaf_met}
-use Rattle.rio_tree_head.specs.Labels.{ObjectLabels, object_behind}
-use Rattle.rio_tree_head.specs.Members.{natural}
-use Rattle.rio_value.specs.Accessors.{integer_in}
+use Rattle.rio_tree_head.specs.{Labels.{ObjectLabels, object_behind}, Members.{natural}}
 
 -- passed, if this holds, or else refused so
 abbrev pub unless_refused : Bool → BranchRefusal → Result (Unit {0}) BranchRefusal

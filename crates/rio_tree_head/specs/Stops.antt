@@ -1,8 +1,6 @@
 -- What the reader answers where a branch is refused or memory runs out.
 use Rattle.std.specs.Prelude.{◌≡◌, Result, Ok, Err}
-use Rattle.rio_tree_head.specs.declared.refusal.BranchRefusal.{BranchRefusal}
-use Rattle.rio_tree_head.specs.declared.stop.Stop.{Stop}
-use Rattle.rio_tree_head.specs.declared.stop.Stop.TheVariants.{Refused, NoMemory}
+use Rattle.rio_tree_head.specs.{declared.refusal.BranchRefusal.{BranchRefusal}, declared.stop.Stop.{Stop, TheVariants.{Refused, NoMemory}}}
 use Rattle.rio_tree_head.specs.HeaderLeaves.{LeavesMet}
 
 -- the reading stops so, unless memory ran out

@@ -1,16 +1,8 @@
 -- What the tables of the reader say.
-use Rattle.std.specs.Prelude.{nat_eq, option_map}
-use Rattle.std.specs.Map.{lookup}
-use Rattle.std.specs.Option.{option_copied}
-use Rattle.std.specs.Str.{bytes_eq}
-use Rattle.rio_tree_head.specs.declared.branch_members.BranchSaid.{BranchSaid as Read}
-use Rattle.rio_tree_head.specs.declared.labels.LabelTable.{LabelTable}
-use Rattle.rio_tree_head.specs.declared.leaves.BranchLeaves.{BranchLeaves}
-use Rattle.rio_tree_head.specs.declared.leaves.LeavesRead.{LeavesRead}
-use Rattle.rio_tree_head.specs.declared.met.MetLeaf.{MetLeaf}
-use Rattle.rio_tree_head.specs.declared.met.MetTable.{MetTable}
-use Rattle.rio_tree_head.specs.BranchMembers.{BranchSaid}
-use Rattle.rio_tree_head.specs.HeaderLeaves.{LeafMet, LeavesMet, LeavesSaid}
+use Rattle.std.specs.{Prelude.{nat_eq, option_map}, Map.{lookup}, Option.{option_copied}, Str.{bytes_eq}}
+use Rattle.rio_tree_head.specs.{declared.branch_members.BranchSaid.{BranchSaid as Read}, declared.labels.LabelTable.{LabelTable}}
+use Rattle.rio_tree_head.specs.{declared.leaves.BranchLeaves.{BranchLeaves}, declared.leaves.LeavesRead.{LeavesRead}, declared.met.MetLeaf.{MetLeaf}}
+use Rattle.rio_tree_head.specs.{declared.met.MetTable.{MetTable}, BranchMembers.{BranchSaid}, HeaderLeaves.{LeafMet, LeavesMet, LeavesSaid}}
 use Rattle.rio_tree_head.specs.Labels.{ObjectLabels}
 
 -- the object of each label

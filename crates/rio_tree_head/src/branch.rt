@@ -16,7 +16,7 @@ use crate::met::{MetTable, name_said};
 use crate::stop::Stop;
 use crate::stored::listed_baskets;
 use crate::{Baskets, Branch, BranchNumbers, BranchRefusal, Branches};
-use rio_leaf::{BranchDef, Dim, Leaf, Leaves, Shape};
+use rio_leaf::{BranchDef, Leaf, Leaves, Shape, is_counted_dim};
 use rio_num::{Name, NoMemory};
 use rio_value::Value;
 use std::alloc::Global;
@@ -43,7 +43,7 @@ fn branch_refused(alloc: Global, name: &[u8], why: BranchRefusal) -> Result<Bran
 fn varies_in_length(leaf: &Leaf) -> bool
     ensures { result ≡ varies_in_length leaf.now }
 {
-    leaf.letter == b'C' || matches!(leaf.dim, Dim::Counted { .. })
+    leaf.letter == b'C' || is_counted_dim(&leaf.dim)
 }
 
 fn have_offsets(leaves: &[Leaf]) -> bool

@@ -6,7 +6,7 @@
 //! `specs/Header.antt` has what a value says, `specs/Members.antt` what members say, `specs/Labels.antt` what pointers
 //! lead to, `specs/HeaderLeaves.antt` the leaves and what counts them, `specs/Refusals.antt` the refusals in order, and
 //! `specs/Index.antt` which lists of baskets are an index, and in which basket an entry is looked for. `specs/Tables.antt`
-//! and `specs/Stops.antt` speak of the code.
+//! and `specs/Stops.antt` speak of the code. Its tests stand in `rio_rows`.
 #![tactic(auto)]
 
 mod basket_at;

@@ -1,19 +1,12 @@
 -- The classes of one name, from the last of them back.
 use Rattle.std.proofs.Common.{◌≡◌, ◌≢◌, ◌≤◌, ◌<◌, ℕ, suc, zero, List, [], ◌∷◌, ◌++◌, length, drop, set, take, Bool, true, false, if◌then◌else◌, ◌⊎◌, inl, inr, ⊎_elim, Option, Some, None, refl, sym, ap, subst, ◌∙◌, arith}
-use Rattle.std.specs.List.{slice_get}
-use Rattle.std.specs.Option.{option_and_then, option_map_or}
-use Rattle.std.specs.Str.{bytes_eq}
-use Rattle.std.proofs.lemmas.List.{length-append, length-take-le}
-use Rattle.std.proofs.lemmas.Option.{slice_get_within, slice_get_past}
-use Rattle.std.proofs.lemmas.Slice.Eq.{bytes_eq-Decides}
+use Rattle.std.proofs.{lemmas.List.{length-append, length-take-le}, lemmas.Option.{slice_get_within, slice_get_past}, lemmas.Slice.Eq.{bytes_eq-Decides}}
 use Rattle.std.proofs.lemmas.Bool.{cases_Bool}
-use Rattle.rio_types.specs.Chain.{BeforeLead, LastLead, last_before}
-use Rattle.rio_types.specs.Classes.{newer_of, newest_in}
-use Rattle.rio_types.specs.Places.{is_named, place}
+use Rattle.std.specs.{List.{slice_get}, Option.{option_and_then, option_map_or}, Str.{bytes_eq}}
+use Rattle.rio_types.specs.{Chain.{BeforeLead, LastLead, last_before}, Classes.{newer_of, newest_in}, Places.{is_named, place}}
 use Rattle.rio_types.specs.declared.class.ClassDef.{ClassDef}
 use Rattle.rio_types.proofs.LeadLaws.{slice_get-front, slice_get-last, one_name, place-push_failing, place-push_first, place-push_found}
-use Rattle.rio_types.proofs.NewestLaws.{place_below, slice_get-set_other, slice_get-set_same, slice_get-take}
-use Rattle.rio_types.proofs.PlaceLaws.{no_place_fails}
+use Rattle.rio_types.proofs.{NewestLaws.{place_below, slice_get-set_other, slice_get-set_same, slice_get-take}, PlaceLaws.{no_place_fails}}
 
 -- ---- the last that passes
 

@@ -1,15 +1,9 @@
 -- The comparisons of classes and of their parts tell whether they are the same.
-use Rattle.std.proofs.Common.{◌≡◌, List, Decides, ap, rules}
-use Rattle.std.proofs.lemmas.Bool.Decides.{Decides-and, Decides-int_eq, Decides-eqb, Decides-like}
+use Rattle.std.proofs.{Common.{◌≡◌, List, Decides, ap, rules}, lemmas.Bool.Decides.{Decides-and, Decides-int_eq, Decides-eqb, Decides-like}}
 use Rattle.std.specs.Cmp.Lexicographic.{pointwise, pointwise_decides, bytes_decides}
-use Rattle.rio_types.specs.contracts.class.BasePartialEq.TheImpl.{eq-value as base_equal}
-use Rattle.rio_types.specs.contracts.class.MemberPartialEq.TheImpl.{eq-value as member_equal}
-use Rattle.rio_types.specs.contracts.class.ClassDefPartialEq.TheImpl.{eq-value as class_equal}
-use Rattle.rio_types.specs.contracts.kind.KindPartialEq.TheImpl.{eq-value as kind_equal}
-use Rattle.rio_types.specs.declared.class.Base.{Base}
-use Rattle.rio_types.specs.declared.class.ClassDef.{ClassDef}
-use Rattle.rio_types.specs.declared.class.Member.{Member}
-use Rattle.rio_types.specs.declared.kind.Kind.{Kind}
+use Rattle.rio_types.specs.{contracts.class.BasePartialEq.TheImpl.{eq-value as base_equal}, contracts.class.MemberPartialEq.TheImpl.{eq-value as member_equal}}
+use Rattle.rio_types.specs.{contracts.class.ClassDefPartialEq.TheImpl.{eq-value as class_equal}, contracts.kind.KindPartialEq.TheImpl.{eq-value as kind_equal}}
+use Rattle.rio_types.specs.{declared.class.Base.{Base}, declared.class.ClassDef.{ClassDef}, declared.class.Member.{Member}, declared.kind.Kind.{Kind}}
 
 base_decides : (a b : Base) → Decides (base_equal.it a b) (a ≡ b)
 base_decides a b = search rules

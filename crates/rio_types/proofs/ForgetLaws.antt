@@ -1,17 +1,9 @@
 -- The maps of an index once the last class is taken out again.
 use Rattle.std.proofs.Common.{◌≡◌, ◌≢◌, ℕ, ℤ, ◌<◌, List, [], ◌∷◌, ◌++◌, length, get_or, set, take, Bool, true, false, ◌&&◌, if◌then◌else◌, ⊎_elim, Option, Some, None, refl, sym, ap, ◌∙◌, arith}
-use Rattle.std.specs.Prelude.{int_le}
-use Rattle.std.specs.List.{slice_get}
-use Rattle.std.specs.Ordering.{int_eq}
-use Rattle.std.specs.Option.{option_and_then}
-use Rattle.std.specs.Str.{bytes_eq}
-use Rattle.std.proofs.lemmas.List.{length-append, length-take-le}
-use Rattle.std.proofs.lemmas.Option.{slice_get-get_or}
-use Rattle.std.proofs.lemmas.Slice.Eq.{bytes_eq-Decides}
+use Rattle.std.proofs.{lemmas.List.{length-append, length-take-le}, lemmas.Option.{slice_get-get_or}, lemmas.Slice.Eq.{bytes_eq-Decides}}
 use Rattle.std.proofs.lemmas.Bool.{cases_Bool}
-use Rattle.rio_types.specs.Classes.{newest_in, newer_of}
-use Rattle.rio_types.specs.Index.{has_number, NamesLead, NumbersLead, NewestLead}
-use Rattle.rio_types.specs.Places.{place, is_named}
+use Rattle.std.specs.{Prelude.{int_le}, List.{slice_get}, Ordering.{int_eq}, Option.{option_and_then}, Str.{bytes_eq}}
+use Rattle.rio_types.specs.{Classes.{newest_in, newer_of}, Index.{has_number, NamesLead, NumbersLead, NewestLead}, Places.{place, is_named}}
 use Rattle.rio_types.specs.declared.class.ClassDef.{ClassDef}
 use Rattle.rio_types.proofs.LeadLaws.{slice_get-front, slice_get-either, int_self, one_name, place-push_found}
 use Rattle.rio_types.proofs.NewestLaws.{newest_with, newest-push, no_newest_fails, place_below, slice_get-set_other, slice_get-set_same, slice_get-take}

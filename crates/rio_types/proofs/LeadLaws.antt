@@ -1,16 +1,9 @@
 -- What the maps of an index lead to, before and after one more class.
 use Rattle.std.proofs.Common.{◌≡◌, ℕ, ℤ, pos, cond, suc, zero, List, [], ◌∷◌, ◌++◌, length, Bool, true, false, ◌&&◌, if◌then◌else◌, ◌⊎◌, inl, inr, ⊎_elim, Option, Some, None, refl, sym, ap, ◌∙◌, eqb}
-use Rattle.std.specs.List.{slice_get, find}
-use Rattle.std.specs.Option.{option_or}
-use Rattle.std.specs.Ordering.{int_eq}
-use Rattle.std.specs.Str.{bytes_eq}
-use Rattle.std.proofs.lemmas.Bool.Decides.{Decides-eqb, Decides-int_eq, same_from_decides}
-use Rattle.std.proofs.lemmas.Slice.Eq.{bytes_eq-Decides}
-use Rattle.std.proofs.lemmas.Bool.{and_parts, cases_Bool}
-use Rattle.rio_types.specs.Index.{passing, has_number, NamesLead, NumbersLead}
-use Rattle.rio_types.specs.Places.{place, is_named}
-use Rattle.rio_types.specs.declared.class.ClassDef.{ClassDef}
-use Rattle.rio_num.proofs.BytesEq.{bytes_eq-sym}
+use Rattle.std.proofs.{lemmas.Slice.Eq.{bytes_eq-Decides}, lemmas.Bool.{and_parts, cases_Bool, Decides.{Decides-eqb, Decides-int_eq, same_from_decides}}}
+use Rattle.std.specs.{List.{slice_get, find}, Option.{option_or}, Ordering.{int_eq}, Str.{bytes_eq}}
+use Rattle.rio_types.specs.{Index.{passing, has_number, NamesLead, NumbersLead}, Places.{place, is_named}, declared.class.ClassDef.{ClassDef}}
+use Rattle.rio_num.proofs.{BytesEq.{bytes_eq-sym}, Cases.{or_none, pos_same}}
 use Rattle.rio_types.proofs.PlaceLaws.{last_place, place_passes, no_place_fails, place-push, passing_none, passing_some}
 
 -- ---- lists with one more class
@@ -42,10 +35,6 @@ int_eq-sym a b =
     same_from_decides (int_eq a b) (int_eq b a) (Decides-int_eq a b) (λ e. sym (other.0 e), λ e. other.1 (sym e))
 
 -- ---- places
-
-or_none : (o : Option ℕ) → option_or o None ≡ o
-or_none None = refl
-or_none (Some k) = refl
 
 module _ (test : ClassDef → Bool) where
   -- a last class that fails changes nothing
@@ -115,9 +104,6 @@ names-push cs c at at' lead others here = λ k x e.
     (cases_Bool (bytes_eq x.name c.name))
 
 -- ---- names and numbers
-
-pos_same : (a b : ℕ) → pos a ≡ pos b → a ≡ b
-pos_same a b e = cc
 
 sum_same : (a b : ℕ) → int_eq (pos a) (pos b) ≡ eqb a b
 sum_same a b =

@@ -1,16 +1,8 @@
 -- What a map gives after one insert.
 use Rattle.std.proofs.Common.{◌≡◌, ℕ, ℤ, List, [], ◌∷◌, Bool, true, false, cond, ◌&&◌, Option, Some, refl, sym, ap, ◌∙◌, nat_cmp, arith}
-use Rattle.std.specs.declared.cmp.Ordering.{Ordering}
-use Rattle.std.specs.declared.cmp.Ordering.TheVariants.{Less, Equal, Greater}
-use Rattle.std.specs.BTreeMap.{insert_entry}
-use Rattle.std.specs.Cmp.Lexicographic.{slice_cmp}
-use Rattle.std.specs.Map.{lookup}
-use Rattle.std.specs.Ordering.{int_cmp, int_eq, is_eq, ordering_then, match_ordering}
-use Rattle.std.specs.Str.{bytes_eq}
-use Rattle.std.specs.Prelude.{◌==◌}
-use Rattle.std.proofs.lemmas.Bool.Decides.{nat_tests}
-use Rattle.std.proofs.lemmas.Map.Text.{is_eq-slice_cmp}
-use Rattle.std.proofs.lemmas.Slice.Eq.{bytes_eq-Decides}
+use Rattle.std.proofs.{lemmas.Bool.Decides.{nat_tests}, lemmas.Map.Text.{is_eq-slice_cmp}, lemmas.Slice.Eq.{bytes_eq-Decides}}
+use Rattle.std.specs.{declared.cmp.Ordering.{Ordering, TheVariants.{Less, Equal, Greater}}, BTreeMap.{insert_entry}, Cmp.Lexicographic.{slice_cmp}}
+use Rattle.std.specs.{Map.{lookup}, Ordering.{int_cmp, int_eq, is_eq, ordering_then, match_ordering}, Str.{bytes_eq}, Prelude.{◌==◌}}
 use Rattle.rio_types.proofs.LeadLaws.{int_eq-sym}
 
 same_met : {X : Type 0} (p t : Bool) (v old rest : Option X) → p ≡ t → cond p v rest ≡ cond t v (cond p old rest)

@@ -1,11 +1,7 @@
 -- Names that are compared.
-use Rattle.std.proofs.Common.{◌≡◌, ℕ, List, Bool, true, cond, ◌||◌, ap, ◌∙◌, nat_cmp}
-use Rattle.std.proofs.lemmas.Map.Text.{is_eq-slice_cmp}
-use Rattle.std.specs.Cmp.Lexicographic.{slice_cmp}
-use Rattle.std.specs.Ordering.{is_eq}
-use Rattle.std.specs.Str.{bytes_eq}
-use Rattle.rio_num.proofs.BytesEq.{bytes_eq-sym}
-use Rattle.rio_num.proofs.NameSets.{cond_or}
+use Rattle.std.proofs.{Common.{◌≡◌, ℕ, List, Bool, true, cond, ◌||◌, ap, ◌∙◌, nat_cmp}, lemmas.Map.Text.{is_eq-slice_cmp}}
+use Rattle.std.specs.{Cmp.Lexicographic.{slice_cmp}, Ordering.{is_eq}, Str.{bytes_eq}}
+use Rattle.rio_num.proofs.{BytesEq.{bytes_eq-sym}, NameSets.{cond_or}}
 
 -- a set of names after one was put into it
 pub is_new_or : (name new : List ℕ) (b : Bool) → cond (is_eq (slice_cmp nat_cmp new name)) true b ≡ (bytes_eq name new || b)

@@ -1,18 +1,9 @@
 -- The newest class of a name, and one more class.
 use Rattle.std.proofs.Common.{◌≡◌, ◌≢◌, ℕ, ℤ, suc, zero, ◌<◌, List, [], ◌∷◌, ◌++◌, length, get_or, set, take, Bool, true, false, if◌then◌else◌, ⊎_elim, Option, Some, None, refl, sym, ap, ◌∙◌, arith}
-use Rattle.std.specs.Prelude.{int_le}
-use Rattle.std.specs.List.{slice_get}
-use Rattle.std.specs.Option.{option_and_then, option_map_or}
-use Rattle.std.specs.Str.{bytes_eq}
-use Rattle.std.proofs.lemmas.List.{length-append}
-use Rattle.std.proofs.lemmas.Option.{slice_get-get_or, slice_get_within, get_or_from_slice_get, slice_get_past}
-use Rattle.std.proofs.lemmas.Grind.{common_steps}
-use Rattle.std.proofs.lemmas.Slice.Eq.{bytes_eq-Decides}
-use Rattle.std.proofs.lemmas.Bool.{cases_Bool}
-use Rattle.rio_types.specs.Classes.{newest_in, newer_of}
-use Rattle.rio_types.specs.Index.{newest_place, NewestLead}
-use Rattle.rio_types.specs.Places.{place, is_named}
-use Rattle.rio_types.specs.declared.class.ClassDef.{ClassDef}
+use Rattle.std.proofs.{lemmas.List.{length-append}, lemmas.Option.{slice_get-get_or, slice_get_within, get_or_from_slice_get, slice_get_past}}
+use Rattle.std.proofs.{lemmas.Grind.{common_steps}, lemmas.Slice.Eq.{bytes_eq-Decides}, lemmas.Bool.{cases_Bool}}
+use Rattle.std.specs.{Prelude.{int_le}, List.{slice_get}, Option.{option_and_then, option_map_or}, Str.{bytes_eq}}
+use Rattle.rio_types.specs.{Classes.{newest_in, newer_of}, Index.{newest_place, NewestLead}, Places.{place, is_named}, declared.class.ClassDef.{ClassDef}}
 use Rattle.rio_types.proofs.LeadLaws.{slice_get-front, slice_get-last, one_name, place-push_failing, place-push_found, place-push_first}
 use Rattle.rio_types.proofs.PlaceLaws.{place_passes, no_place_fails}
 

@@ -1,10 +1,7 @@
 -- The place of the first class that passes a test.
 use Rattle.std.proofs.Common.{◌≡◌, ℕ, suc, zero, List, [], ◌∷◌, ◌++◌, length, Bool, true, false, cond, if◌then◌else◌, Option, Some, None, refl, sym, ap, ◌∙◌}
-use Rattle.std.specs.List.{slice_get, find}
-use Rattle.std.specs.Option.{option_and_then, option_map, option_or, option_map_or}
-use Rattle.rio_types.specs.Index.{passing}
-use Rattle.rio_types.specs.Places.{place}
-use Rattle.rio_types.specs.declared.class.ClassDef.{ClassDef}
+use Rattle.std.specs.{List.{slice_get, find}, Option.{option_and_then, option_map, option_or, option_map_or}}
+use Rattle.rio_types.specs.{Index.{passing}, Places.{place}, declared.class.ClassDef.{ClassDef}}
 
 -- the place that a new last class has, if it passes and no other does
 abbrev pub last_place : (ClassDef → Bool) → List ClassDef → ClassDef → Option ℕ

@@ -1,12 +1,8 @@
 -- The maps of an index once a class comes behind the others.
 use Rattle.std.proofs.Common.{◌≡◌, ℕ, ℤ, List, [], ◌∷◌, ◌++◌, length, Bool, true, false, ◌&&◌, if◌then◌else◌, Option, Some, None, refl, sym, ap, ◌∙◌, eqb}
-use Rattle.std.specs.Ordering.{int_eq}
-use Rattle.std.specs.Str.{bytes_eq}
-use Rattle.std.proofs.lemmas.Bool.Decides.{Decides-eqb}
-use Rattle.std.proofs.lemmas.Slice.Eq.{bytes_eq-Decides}
-use Rattle.rio_types.specs.Index.{passing, has_number, NamesLead, NumbersLead}
-use Rattle.rio_types.specs.Places.{place, is_named}
-use Rattle.rio_types.specs.declared.class.ClassDef.{ClassDef}
+use Rattle.std.proofs.{lemmas.Bool.Decides.{Decides-eqb}, lemmas.Slice.Eq.{bytes_eq-Decides}}
+use Rattle.std.specs.{Ordering.{int_eq}, Str.{bytes_eq}}
+use Rattle.rio_types.specs.{Index.{passing, has_number, NamesLead, NumbersLead}, Places.{place, is_named}, declared.class.ClassDef.{ClassDef}}
 use Rattle.rio_types.proofs.PlaceLaws.{passing_none}
 use Rattle.rio_types.proofs.LeadLaws.{int_self, name_is_found, names-stay, names-push, no_name_no_number, number_is_found, numbers-stay, numbers-push, passing_gave, place-push_found, place-push_first}
 

@@ -1,9 +1,6 @@
 -- The classes of one name, each leading to the one before it.
-use Rattle.std.specs.Prelude.{◌≡◌, ℕ, zero, suc, Bool, false, List, length, Option, Some, None, if◌then◌else◌, slice_get}
-use Rattle.std.specs.Option.{option_map_or}
-use Rattle.rio_types.specs.Places.{is_named, place}
-use Rattle.rio_types.specs.declared.chain.Chain.{Chain}
-use Rattle.rio_types.specs.declared.class.ClassDef.{ClassDef}
+use Rattle.std.specs.{Prelude.{◌≡◌, ℕ, zero, suc, Bool, false, List, length, Option, Some, None, if◌then◌else◌, slice_get}, Option.{option_map_or}}
+use Rattle.rio_types.specs.{Places.{is_named, place}, declared.chain.Chain.{Chain}, declared.class.ClassDef.{ClassDef}}
 
 -- the place of the last class that passes, of so many at the front
 abbrev pub last_before : (ClassDef → Bool) → List ClassDef → ℕ → Option ℕ

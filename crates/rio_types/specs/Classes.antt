@@ -1,9 +1,6 @@
 -- Looking classes up in a list of them.
-use Rattle.std.specs.Prelude.{ℕ, ℤ, Bool, List, [], ◌∷◌, Option, Some, None, ◌==◌, ◌&&◌, int_le, find, if◌then◌else◌}
-use Rattle.std.specs.Str.{bytes_eq}
-use Rattle.std.specs.Ordering.{int_eq}
-use Rattle.rio_types.specs.Members.{can_read_all}
-use Rattle.rio_types.specs.declared.class.ClassDef.{ClassDef}
+use Rattle.std.specs.{Prelude.{ℕ, ℤ, Bool, List, [], ◌∷◌, Option, Some, None, ◌==◌, ◌&&◌, int_le, find, if◌then◌else◌}, Str.{bytes_eq}, Ordering.{int_eq}}
+use Rattle.rio_types.specs.{Members.{can_read_all}, declared.class.ClassDef.{ClassDef}}
 
 -- the first of that name and version
 abbrev pub find_in : List ClassDef → List ℕ → ℤ → Option ClassDef

@@ -1,11 +1,6 @@
 -- The names of counters as a set.
-use Rattle.std.specs.Prelude.{◌≡◌, ℕ, List}
-use Rattle.std.specs.Borrow.{Bor}
-use Rattle.std.specs.BTreeSet.{BTreeSet, contains_by}
-use Rattle.std.specs.Cmp.Lexicographic.{slice_cmp}
-use Rattle.std.specs.List.{list_any}
-use Rattle.std.specs.Ordering.{nat_cmp}
-use Rattle.std.specs.Str.{bytes_eq}
+use Rattle.std.specs.{Prelude.{◌≡◌, ℕ, List}, Borrow.{Bor}, BTreeSet.{BTreeSet, contains_by}, Cmp.Lexicographic.{slice_cmp}, List.{list_any}}
+use Rattle.std.specs.{Ordering.{nat_cmp}, Str.{bytes_eq}}
 
 -- the set holds these names, however often each stands among them
 abbrev pub HasNames : BTreeSet (Bor (List ℕ)) → List (List ℕ) → Type 0

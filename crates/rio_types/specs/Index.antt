@@ -1,16 +1,8 @@
 -- Where classes stand in a list of them, by name and by name and number.
 use Rattle.std.specs.Prelude.{◌≡◌, ℕ, ℤ, pos, Bool, false, List, length, Option, Some, None, ◌&&◌, if◌then◌else◌, slice_get, int_le, true}
-use Rattle.std.specs.BTreeMap.{BTreeMap, get, get_by}
-use Rattle.std.specs.Cmp.Lexicographic.{slice_cmp}
-use Rattle.std.specs.Option.{option_and_then, option_map_or}
-use Rattle.std.specs.Ordering.{int_cmp, int_eq, nat_cmp, ordering_then}
-use Rattle.std.specs.Str.{bytes_eq}
-use Rattle.std.specs.declared.vec.Vec.{Vec}
-use Rattle.rio_types.specs.Classes.{newest_in}
-use Rattle.rio_types.specs.Chain.{IsChainOf}
-use Rattle.rio_types.specs.Places.{is_named, place}
-use Rattle.rio_types.specs.declared.class.ClassDef.{ClassDef}
-use Rattle.rio_types.specs.declared.index.Index.{Index}
+use Rattle.std.specs.{BTreeMap.{BTreeMap, get, get_by}, Cmp.Lexicographic.{slice_cmp}, Option.{option_and_then, option_map_or}}
+use Rattle.std.specs.{Ordering.{int_cmp, int_eq, nat_cmp, ordering_then}, Str.{bytes_eq}, declared.vec.Vec.{Vec}}
+use Rattle.rio_types.specs.{Classes.{newest_in}, Chain.{IsChainOf}, Places.{is_named, place}, declared.class.ClassDef.{ClassDef}, declared.index.Index.{Index}}
 
 -- a place, if a class that passes stands there
 abbrev pub passing : (ClassDef → Bool) → List ClassDef → Option ℕ → Option ℕ

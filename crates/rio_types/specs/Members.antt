@@ -1,27 +1,24 @@
 -- Which members can be read.
-use Rattle.std.specs.Prelude.{ℕ, List, [], ◌∷◌, Bool, true, false, ◌&&◌, if◌then◌else◌}
-use Rattle.std.specs.Str.{bytes_eq}
-use Rattle.std.specs.List.{list_any}
+use Rattle.std.specs.{Prelude.{ℕ, List, [], ◌∷◌, Bool, true, false, ◌&&◌, if◌then◌else◌}, Str.{bytes_eq}, List.{list_any}}
 use Rattle.rio_types.specs.declared.class.Member.{Member}
-use Rattle.rio_types.specs.declared.kind.Kind.{Kind}
-use Rattle.rio_types.specs.declared.kind.Kind.TheVariants.{Plain, Counter, Fixed, Counted, Text, Inline, Pointer, Other}
+use Rattle.rio_types.specs.declared.kind.Kind.{Kind, TheVariants.{Plain, Counter, Fixed, Counted, Text, Inline, Pointer, Other}}
 
 -- a member can be read behind counters of these names
 abbrev pub can_read : List (List ℕ) → Kind → Bool
-can_read counters (Plain of) = true
+can_read counters (Plain prim) = true
 can_read counters Counter = true
-can_read counters (Fixed of count) = true
-can_read counters (Counted of counter) = list_any (bytes_eq counter) counters
+can_read counters (Fixed prim count) = true
+can_read counters (Counted prim counter) = list_any (bytes_eq counter) counters
 can_read counters Text = true
 can_read counters (Inline class) = true
 can_read counters (Pointer class) = true
 can_read counters (Other code) = false
 
 abbrev pub is_counter : Kind → Bool
-is_counter (Plain of) = false
+is_counter (Plain prim) = false
 is_counter Counter = true
-is_counter (Fixed of count) = false
-is_counter (Counted of counter) = false
+is_counter (Fixed prim count) = false
+is_counter (Counted prim counter) = false
 is_counter Text = false
 is_counter (Inline class) = false
 is_counter (Pointer class) = false

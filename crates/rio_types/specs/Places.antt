@@ -1,7 +1,5 @@
 -- Places of classes in a list of them.
-use Rattle.std.specs.Prelude.{ℕ, suc, Bool, List, [], ◌∷◌, Option, Some, None, if◌then◌else◌}
-use Rattle.std.specs.Option.{option_map}
-use Rattle.std.specs.Str.{bytes_eq}
+use Rattle.std.specs.{Prelude.{ℕ, suc, Bool, List, [], ◌∷◌, Option, Some, None, if◌then◌else◌}, Option.{option_map}, Str.{bytes_eq}}
 use Rattle.rio_types.specs.declared.class.ClassDef.{ClassDef}
 
 -- the place of the first class that passes

@@ -54,7 +54,7 @@ impl Index {
         requires { IsIndexOf classes.now self.now }
         ensures { result ≡ place (is_named name.now) classes.now }
     {
-        first_passing(classes, self.names.get(name).copied(), name)
+        first_at(&self.names, classes, name)
     }
 
     /// The place of the first class of that name and version.
@@ -63,8 +63,8 @@ impl Index {
         ensures { option_and_then (slice_get classes.now) result
             ≡ find_in classes.now name.now version }
     {
-        let key = (self.first(classes, name)?, i64::from(version));
-        version_passing(classes, self.versions.get(&key).copied(), name, version)
+        let first = self.first(classes, name)?;
+        version_at(&self.versions, classes, first, name, version)
     }
 
     /// The place of the first class of that name that states this checksum.
@@ -73,8 +73,8 @@ impl Index {
         ensures { option_and_then (slice_get classes.now) result
             ≡ find_sum_in classes.now name.now sum }
     {
-        let key = (self.first(classes, name)?, i64::from(sum));
-        sum_passing(classes, self.sums.get(&key).copied(), name, sum)
+        let first = self.first(classes, name)?;
+        sum_at(&self.sums, classes, first, name, sum)
     }
 
     /// The place of the newest class of that name.
@@ -128,8 +128,7 @@ impl Index {
         requires { IsIndexOf (classes.now ++ class.now ∷ []) self.old }
         ensures { IsIndexOf classes.now self.new }
     {
-        let name = class.name.as_slice();
-        let first = first_passing(classes, self.names.get(name).copied(), name);
+        let first = first_at(&self.names, classes, class.name.as_slice());
         self.chain.forget(classes, class, first);
         forget_newest(&mut self.newest, &self.chain, classes, class, first);
     }
@@ -156,6 +155,13 @@ fn first_passing(classes: &[ClassDef], place: Option<usize>, name: &[u8]) -> Opt
     }
 }
 
+// The class that the name leads to, if it has the name.
+fn first_at(names: &Names, classes: &[ClassDef], name: &[u8]) -> Option<usize>
+    ensures { result ≡ passing (is_named name.now) classes.now (name_place names.now name.now) }
+{
+    first_passing(classes, names.get(name).copied(), name)
+}
+
 fn version_passing(
     classes: &[ClassDef],
     place: Option<usize>,
@@ -173,6 +179,21 @@ fn version_passing(
     }
 }
 
+// The class that the first one of its name and the version lead to, if it has both.
+fn version_at(
+    versions: &Numbers,
+    classes: &[ClassDef],
+    first: usize,
+    name: &[u8],
+    version: i32,
+) -> Option<usize>
+    ensures { result ≡ passing (has_number version_of name.now version) classes.now
+        (number_place versions.now first version) }
+{
+    let key = (first, i64::from(version));
+    version_passing(classes, versions.get(&key).copied(), name, version)
+}
+
 fn sum_passing(classes: &[ClassDef], place: Option<usize>, name: &[u8], sum: u32) -> Option<usize>
     ensures { result ≡ passing (has_number sum_of name.now (pos sum)) classes.now place }
 {
@@ -183,6 +204,21 @@ fn sum_passing(classes: &[ClassDef], place: Option<usize>, name: &[u8], sum: u32
     } else {
         None
     }
+}
+
+// The class that the first one of its name and the checksum lead to, if it has both.
+fn sum_at(
+    sums: &Numbers,
+    classes: &[ClassDef],
+    first: usize,
+    name: &[u8],
+    sum: u32,
+) -> Option<usize>
+    ensures { result ≡ passing (has_number sum_of name.now (pos sum)) classes.now
+        (number_place sums.now first (pos sum)) }
+{
+    let key = (first, i64::from(sum));
+    sum_passing(classes, sums.get(&key).copied(), name, sum)
 }
 
 // The name leads to the place from now on.
@@ -225,7 +261,7 @@ fn put_first(
         place (is_named class.now.name) (classes.now ++ class.now ∷ []) ≡ Some first) }
 {
     let name = class.name.as_slice();
-    match first_passing(classes, names.get(name).copied(), name) {
+    match first_at(names, classes, name) {
         Some(first) => Ok(first),
         None => {
             put_name(names, alloc, name, classes.len())?;
@@ -248,8 +284,7 @@ fn put_version(
         (number_place versions.new)) }
 {
     let (name, version) = (class.name.as_slice(), class.version);
-    let key = (first, i64::from(version));
-    match version_passing(classes, versions.get(&key).copied(), name, version) {
+    match version_at(versions, classes, first, name, version) {
         Some(_) => Ok(()),
         None => {
             put_number(versions, first, i64::from(version), classes.len())?;
@@ -272,8 +307,7 @@ fn put_sum(
         (number_place sums.new)) }
 {
     let (name, sum) = (class.name.as_slice(), class.sum);
-    let key = (first, i64::from(sum));
-    match sum_passing(classes, sums.get(&key).copied(), name, sum) {
+    match sum_at(sums, classes, first, name, sum) {
         Some(_) => Ok(()),
         None => {
             put_number(sums, first, i64::from(sum), classes.len())?;

@@ -9,7 +9,7 @@
 //! `==` of kinds, members, bases, classes and lists of them tells whether they are the same (`proofs/EqualLaws.antt`).
 //!
 //! `specs/Classes.antt` says which class is found, `Members.antt` which members can be read; the others say how the maps
-//! stand for the list.
+//! stand for the list. Its tests stand in `rio_rows`.
 #![tactic(auto)]
 
 mod chain;

@@ -1,26 +1,16 @@
 -- The fields of an object that fits, and the names of its class.
 use Rattle.std.proofs.Common.{◌≡◌, ◌&&◌, ℕ, ℤ, pos, Bool, true, false, cond, List, [], ◌∷◌, ◌++◌, map, codes, Option, Some, None, refl, ap, subst, arith}
-use Rattle.std.proofs.lemmas.Bool.Decides.{Decides-int_eq}
-use Rattle.std.proofs.lemmas.Slice.Eq.{bytes_eq-Decides}
-use Rattle.std.specs.List.{list_all}
-use Rattle.std.specs.Option.{option_map}
-use Rattle.std.specs.Ordering.{int_eq}
-use Rattle.std.specs.Str.{bytes_eq}
+use Rattle.std.proofs.{lemmas.Bool.{and_parts, Decides.{Decides-int_eq}}, lemmas.Slice.Eq.{bytes_eq-Decides}}
+use Rattle.std.specs.{List.{list_all}, Ordering.{int_eq}, Str.{bytes_eq}}
 use Rattle.rio_num.specs.Word.{is_name_text}
-use Rattle.rio_types.specs.Classes.{find_in}
-use Rattle.rio_types.specs.declared.class.ClassDef.{ClassDef}
-use Rattle.rio_types.specs.declared.kind.Kind.TheVariants.{Plain, Text as Texted}
+use Rattle.rio_types.specs.{Classes.{find_in}, declared.class.ClassDef.{ClassDef}, declared.kind.Kind.TheVariants.{Plain, Text as Texted}}
 use Rattle.rio_types.specs.declared.kind.Primitive.TheVariants.{I32, U32}
 use Rattle.rio_format.specs.Bodies.{form_of, Body, described, listed, arrayed, t_named, t_obj_string, t_object_base, built_in, headed_classes, headless_classes, row_of}
-use Rattle.rio_format.specs.declared.shape.Shape.{Shape as Form}
-use Rattle.rio_format.specs.declared.shape.Shape.TheVariants.{Bare as bare, Numbers as numbers, Headed as headed}
+use Rattle.rio_format.specs.declared.shape.Shape.{Shape as Form, TheVariants.{Bare as bare, Numbers as numbers, Headed as headed}}
 use Rattle.rio_format.specs.Fits.{Labels, Fitting, fields_fit, parts_fit}
 use Rattle.rio_format.specs.Slots.{Field, kinded, flags, any_pointer, link, many, field, base_field, member_field, body_fields, form_fields, fields_of, is_headed}
-use Rattle.rio_format.proofs.BuiltInLaws.{of_body, of_each}
-use Rattle.rio_format.proofs.Tests.{both_true}
-use Rattle.rio_format.proofs.ValueCases.{Each}
-use Rattle.rio_model.specs.Readable.{are_bases_first}
-use Rattle.rio_model.specs.Stated.{is_class_version}
+use Rattle.rio_format.proofs.{BuiltInLaws.{of_body, of_each}, ValueCases.{Each}, WrittenObjects.{declared_from}}
+use Rattle.rio_model.specs.{Readable.{are_bases_first}, Stated.{is_class_version}}
 use Rattle.rio_valtext.specs.Stored.{has_names}
 use Rattle.rio_valtext.proofs.StoredSlots.{IsPlaced, placed, base_placed, described_first, described_placed}
 
@@ -34,9 +24,9 @@ record IsNamed (class : List ℕ) (version : ℤ) (c : ClassDef) : Type 0 where
 
 named_by : (class : List ℕ) (version : ℤ) (c : ClassDef) → has_names c ≡ true → (bytes_eq c.name class && int_eq c.version version) ≡ true → IsNamed class version c
 named_by class version c named same =
-    let own = both_true (bytes_eq c.name class) (int_eq c.version version) same in
-    let parts = both_true (is_name_text c.name && is_class_version c.version) (list_all (λ m. is_name_text m.name) c.members) named in
-    let words = both_true (is_name_text c.name) (is_class_version c.version) parts.0 in
+    let own = and_parts (bytes_eq c.name class) (int_eq c.version version) same in
+    let parts = and_parts (is_name_text c.name && is_class_version c.version) (list_all (λ m. is_name_text m.name) c.members) named in
+    let words = and_parts (is_name_text c.name) (is_class_version c.version) parts.0 in
     record {
       class_named = subst (λ (n : List ℕ). is_name_text n ≡ true) ((bytes_eq-Decides c.name class).0 own.0) words.0;
       version_stated = subst (λ (z : ℤ). is_class_version z ≡ true) ((Decides-int_eq c.version version).0 own.1) words.1;
@@ -46,7 +36,7 @@ named_by class version c named same =
 found_named : (classes : List ClassDef) (class : List ℕ) (version : ℤ) (c : ClassDef) → list_all has_names classes ≡ true → find_in classes class version ≡ Some c → IsNamed class version c
 found_named [] class version c named e = absurd cc
 found_named (d ∷ ds) class version c named e =
-    let n = both_true (has_names d) (list_all has_names ds) named in
+    let n = and_parts (has_names d) (list_all has_names ds) named in
     by n.0 (bytes_eq d.name class && int_eq d.version version) refl e (found_named ds class version c n.1)
   where
     by : has_names d ≡ true → (b : Bool) → (bytes_eq d.name class && int_eq d.version version) ≡ b → cond b (Some d) (find_in ds class version) ≡ Some c → (find_in ds class version ≡ Some c → IsNamed class version c) → IsNamed class version c
@@ -127,10 +117,6 @@ built_known class version body =
 
     like : (own : ClassDef) → list_all (λ m. is_name_text m.name) own.members ≡ true → is_name_text class ≡ true → is_class_version version ≡ true → Some (described own) ≡ Some body → IsBodyKnown class version body
     like own members c v = by (described own) (described_known class version own (record { class_named = c; version_stated = v; members_named = members }))
-
-abbrev declared_from : Option ClassDef → Option Body → Option Body
-declared_from found (Some body) = Some body
-declared_from found None = option_map described found
 
 declared_known : (class : List ℕ) (version : ℤ) (own : Option Body) (found : Option ClassDef) → ((body : Body) → own ≡ Some body → IsBodyKnown class version body) → ((c : ClassDef) → found ≡ Some c → IsNamed class version c)
     → (parts : List (List ℕ × Fitting)) (before after : Labels) → parts_fit (body_fields (declared_from found own)) parts before ≡ Some after → IsFormed class version parts before after

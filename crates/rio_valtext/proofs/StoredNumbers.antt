@@ -1,13 +1,10 @@
 -- Single values that fit are readable.
-use Rattle.std.proofs.Common.{◌≡◌, ◌==◌, ℕ, ◌^◌, ℤ, pos, negsuc, Bool, true, false, Some, nat_lt, refl, arith}
-use Rattle.std.proofs.lemmas.Bool.Decides.{nat_tests}
+use Rattle.std.proofs.{Common.{◌≡◌, ◌==◌, ℕ, ◌^◌, ℤ, pos, negsuc, Bool, true, false, Some, nat_lt, refl, arith}, lemmas.Bool.{and_parts, Decides.{nat_tests}}}
 use Rattle.std.specs.Prelude.{bit_and}
 use Rattle.rio_types.specs.declared.kind.Kind.TheVariants.{Plain, Counter, Text as Texted, Pointer}
-use Rattle.rio_types.specs.declared.kind.Primitive.{Primitive}
-use Rattle.rio_types.specs.declared.kind.Primitive.TheVariants.{I8, I16, I32, I64, U8, U16, U32, U64, Bool as Boolean, F32, F64}
+use Rattle.rio_types.specs.declared.kind.Primitive.{Primitive, TheVariants.{I8, I16, I32, I64, U8, U16, U32, U64, Bool as Boolean, F32, F64}}
 use Rattle.rio_format.specs.Fits.{Labels, pass, fits_prim, fits_signed, fits_unsigned, int_fits, bits32_fits, bits64_fits, truth_fits, text_fits, is_pointer}
 use Rattle.rio_format.specs.Slots.{Slot, kinded, flags, any_pointer}
-use Rattle.rio_format.proofs.Tests.{both_true}
 use Rattle.rio_model.specs.Readable.{is_number}
 use Rattle.rio_valtext.proofs.StoredSlots.{is_object_slot}
 
@@ -69,7 +66,7 @@ passed false before after e = absurd cc
 pub int_readable : (z : ℤ) (slot : Slot) → int_fits z slot ≡ true → (is_number z ≡ true) × (is_object_slot slot ≡ false)
 int_readable z (kinded (Plain of)) e = (prim_number of z e, refl)
 int_readable z (kinded Counter) e = (signed_32 z e, refl)
-int_readable (pos n) flags e = (wider n (both_true (nat_lt n (2 ^ 32)) (bit_and n 16 == 0) e).0, refl)
+int_readable (pos n) flags e = (wider n (and_parts (nat_lt n (2 ^ 32)) (bit_and n 16 == 0) e).0, refl)
 int_readable z other e = absurd cc
 
 pub bits32_readable : (n : ℕ) (slot : Slot) → bits32_fits n slot ≡ true → (nat_lt n (2 ^ 32) ≡ true) × (is_object_slot slot ≡ false)

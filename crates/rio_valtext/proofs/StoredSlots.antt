@@ -1,19 +1,13 @@
 -- What stands in a slot: how many brackets its text has within one another, and the names of parts.
-use Rattle.std.proofs.Common.{◌≡◌, ◌==◌, ℕ, suc, ◌+◌, ◌*◌, ◌≤◌, ℤ, pos, negsuc, Bool, true, false, cond, List, [], ◌∷◌, ◌++◌, length, map, Option, Some, None, refl, ap, ◌∙◌, arith}
+use Rattle.std.proofs.{Common.{◌≡◌, ◌==◌, ℕ, suc, ◌+◌, ◌*◌, ◌≤◌, ℤ, pos, negsuc, Bool, true, false, cond, List, [], ◌∷◌, ◌++◌, length, map, Option, Some, None, refl, ap, ◌∙◌, arith}, lemmas.Bool.{and_parts}}
 use Rattle.std.proofs.lemmas.Bool.Decides.{nat_tests}
-use Rattle.std.specs.List.{list_all}
-use Rattle.std.specs.Map.{lookup}
-use Rattle.std.specs.Str.{bytes_eq}
+use Rattle.std.specs.{List.{list_all}, Map.{lookup}, Str.{bytes_eq}}
 use Rattle.rio_num.specs.Word.{is_name_text}
-use Rattle.rio_types.specs.declared.class.Base.{Base}
-use Rattle.rio_types.specs.declared.class.Member.{Member}
-use Rattle.rio_types.specs.declared.kind.Kind.{Kind}
-use Rattle.rio_types.specs.declared.kind.Kind.TheVariants.{Plain, Counter, Fixed, Counted, Text as Texted, Inline, Pointer, Other}
+use Rattle.rio_types.specs.{declared.class.Base.{Base}, declared.class.Member.{Member}}
+use Rattle.rio_types.specs.declared.kind.Kind.{Kind, TheVariants.{Plain, Counter, Fixed, Counted, Text as Texted, Inline, Pointer, Other}}
 use Rattle.rio_types.specs.declared.kind.Primitive.{Primitive}
-use Rattle.rio_format.specs.Bodies.{Counters}
-use Rattle.rio_format.specs.Fits.{counted_slot, fixed_by}
+use Rattle.rio_format.specs.{Bodies.{Counters}, Fits.{counted_slot, fixed_by}}
 use Rattle.rio_format.specs.Slots.{Slot, kinded, based, flags, any_pointer, link, many, Field, field, base_field, member_field}
-use Rattle.rio_format.proofs.Tests.{both_true}
 use Rattle.rio_format.proofs.ValueCases.{Each}
 use Rattle.rio_model.specs.Readable.{are_bases_first}
 
@@ -104,7 +98,7 @@ member_placed m e = placed m.name (kinded m.kind) e (kind_low m.kind)
 
 members_placed : (ms : List Member) → list_all (λ m. is_name_text m.name) ms ≡ true → Each IsPlaced (map member_field ms)
 members_placed [] e = tt
-members_placed (m ∷ ms) e = let n = both_true (is_name_text m.name) (list_all (λ m. is_name_text m.name) ms) e in (member_placed m n.0, members_placed ms n.1)
+members_placed (m ∷ ms) e = let n = and_parts (is_name_text m.name) (list_all (λ m. is_name_text m.name) ms) e in (member_placed m n.0, members_placed ms n.1)
 
 pub described_placed : (bs : List Base) (ms : List Member) → list_all (λ m. is_name_text m.name) ms ≡ true → Each IsPlaced (map base_field bs ++ map member_field ms)
 described_placed [] ms e = members_placed ms e
@@ -119,7 +113,7 @@ some_name (b ∷ bs) e = some_length (length bs)
 members_first : (front : Bool) (ms : List Member) → list_all (λ m. is_name_text m.name) ms ≡ true → are_bases_first front (map (λ f. f.name) (map member_field ms)) ≡ true
 members_first front [] e = refl
 members_first front (m ∷ ms) e =
-    let n = both_true (is_name_text m.name) (list_all (λ m. is_name_text m.name) ms) e in
+    let n = and_parts (is_name_text m.name) (list_all (λ m. is_name_text m.name) ms) e in
     rw (some_name m.name n.0) (members_first false ms n.1)
 
 pub described_first : (bs : List Base) (ms : List Member) → list_all (λ m. is_name_text m.name) ms ≡ true → are_bases_first true (map (λ f. f.name) (map base_field bs ++ map member_field ms)) ≡ true

@@ -1,26 +1,20 @@
 -- A value that fits is readable, within as many brackets as its slot and its depth ask for.
 use Rattle.std.proofs.Common.{◌≡◌, ◌&&◌, ◌==◌, ℕ, zero, suc, ◌+◌, ◌-◌, ◌*◌, ◌^◌, ◌≤◌, ℤ, Bool, true, false, cond, List, [], ◌∷◌, ◌++◌, length, map, nat_lt, Option, Some, None, refl, sym, ap, subst, ◌∙◌, arith}
-use Rattle.std.proofs.lemmas.Bool.Decides.{nat_tests}
-use Rattle.std.proofs.lemmas.Option.{option_and_then_some}
-use Rattle.std.specs.Prelude.{slice_get}
-use Rattle.std.specs.List.{list_all}
-use Rattle.std.specs.Str.{bytes_eq}
-use Rattle.std.proofs.lemmas.Bool.{and_from}
+use Rattle.std.proofs.{lemmas.Option.{option_and_then_some}, lemmas.Bool.{and_from, and_parts, Decides.{nat_tests}}}
+use Rattle.std.specs.{Prelude.{slice_get}, List.{list_all}, Str.{bytes_eq}}
 use Rattle.rio_num.specs.Word.{is_name_text}
-use Rattle.rio_types.specs.declared.class.ClassDef.{ClassDef}
-use Rattle.rio_types.specs.declared.kind.Kind.TheVariants.{Plain, Fixed, Text as Texted, Inline, Pointer}
+use Rattle.rio_types.specs.{declared.class.ClassDef.{ClassDef}, declared.kind.Kind.TheVariants.{Plain, Fixed, Text as Texted, Inline, Pointer}}
 use Rattle.rio_value.specs.Depth.{greatest, depth_step, depth_of}
-use Rattle.rio_value.specs.declared.value.Value.{Value, Int, Bits32, Bits64, Bool as Truth, Text, List as Items, Object, Pointed, Null, Back, Opaque}
-use Rattle.rio_value.specs.declared.value.Value.TheOpen as layer
-use Rattle.rio_value.specs.declared.value.Value.TheFolds.{fold-Part, fold_out-Part}
+use Rattle.rio_value.specs.declared.value.Value.{Value, Int, Bits32, Bits64, Bool as Truth, Text, List as Items, Object, Pointed, Null, Back, Opaque, TheFolds.{fold-Part, fold_out-Part}}
 use Rattle.rio_value.specs.declared.value.Part.{Part}
+use Rattle.rio_value.specs.declared.value.Value.TheOpen as layer
+use Rattle.rio_value.proofs.DepthLaws.{part_depth}
 use Rattle.rio_format.specs.Bodies.{Counters}
 use Rattle.rio_format.specs.Fits.{Labels, Fitting, int_fits, bits32_fits, bits64_fits, truth_fits, text_fits, is_pointer, all_fit, link_fits, fields_fit, parts_fit, counted_slot, counted_so_far, object_may_stand, may_point, pointed_fits, back_fits, fitting_step, fitting_of}
 use Rattle.rio_format.specs.Slots.{Slot, kinded, based, any_pointer, link, many, Field, fields_of}
-use Rattle.rio_format.proofs.Tests.{both_true, named_as}
+use Rattle.rio_format.proofs.Tests.{named_as}
 use Rattle.rio_format.proofs.ValueCases.{Each, by_cases, fold_Int, fold_Bits32, fold_Bits64, fold_Bool, fold_Text, fold_List, fold_Object, fold_Pointed, fold_Null, fold_Back, fold_Opaque}
-use Rattle.rio_format.proofs.WrittenLists.{fittings}
-use Rattle.rio_format.proofs.WrittenValues.{object_fitting, fit_object}
+use Rattle.rio_format.proofs.{WrittenLists.{fittings}, WrittenValues.{object_fitting, fit_object}}
 use Rattle.rio_model.specs.Readable.{PartReadability, Readability, are_bases_first, are_parts_within, is_number, part_readable, readability_of, readable_step, single}
 use Rattle.rio_model.specs.Stated.{is_class_version}
 use Rattle.rio_valtext.specs.Stored.{has_names, held_step, is_held}
@@ -121,9 +115,6 @@ read_Back : (label : ℕ) → readability_of (Back label) ≡ single (nat_lt lab
 unfolding readability_of
 read_Back label = fold_Back readable_step (λ p. part_readable p.name p.value) label
 
-part_depth : (p : Part) → fold-Part ℕ ℕ depth_step (λ p. p.value) p ≡ depth_of p.value
-part_depth p = fold_out-Part ℕ ℕ depth_step (λ p. p.value) p
-
 depth_Object : (class : List ℕ) (version : ℤ) (parts : List Part) → depth_of (Object class version parts) ≡ greatest (map (λ p. depth_of p.value) parts) + 1
 depth_Object class version parts = fold_Object depth_step (λ p. p.value) class version parts ∙ ap (λ (g : Part → ℕ). greatest (map g parts) + 1) (λ i p. part_depth p i)
 
@@ -154,7 +145,7 @@ module _ (classes : List ClassDef) (named : list_all has_names classes ≡ true)
       → levels_of slot d ≤ levels → list_all (λ r. r.within levels) (map readability_of vs) ≡ true
   all_read slot [] known before after d levels e deep held low = refl
   all_read slot (v ∷ vs) known before after d levels e deep held low =
-      let h = both_true (is_held v) (list_all (λ b. b) (map is_held vs)) held in
+      let h = and_parts (is_held v) (list_all (λ b. b) (map is_held vs)) held in
       option_and_then_some (all_fit slot (map (fitting_of classes) vs)) ((fitting_of classes v).fits slot before) after e (λ mid first rest.
       and_from ((readability_of v).within levels) (list_all (λ r. r.within levels) (map readability_of vs))
       (known.0 slot before mid d levels first (omega (arith, deep)) h.0 low).within
@@ -177,8 +168,8 @@ module _ (classes : List ClassDef) (named : list_all has_names classes ≡ true)
   link_read (v ∷ []) known before after d levels e deep held low = absurd cc
   link_read (v ∷ w ∷ x ∷ vs) known before after d levels e deep held low = absurd cc
   link_read (v ∷ w ∷ []) known before after d levels e deep held low =
-      let h = both_true (is_held v) (is_held w && true) held in
-      let k = both_true (is_held w) true h.1 in
+      let h = and_parts (is_held v) (is_held w && true) held in
+      let k = and_parts (is_held w) true h.1 in
       option_and_then_some ((fitting_of classes w).fits (kinded Texted)) ((fitting_of classes v).fits any_pointer before) after e (λ mid first rest.
       and_from ((readability_of v).within levels) ((readability_of w).within levels && true)
       (known.0 any_pointer before mid d levels first (omega (arith, deep)) h.0 low).within
@@ -210,7 +201,7 @@ module _ (classes : List ClassDef) (named : list_all has_names classes ≡ true)
   parts_read (f ∷ fs) [] known placed counters before after d levels e deep held low = absurd cc
   parts_read (f ∷ fs) (y ∷ ys) known placed counters before after d levels e deep held low =
       let n = named_as f.name y.name after (bytes_eq y.name f.name) _ refl e in
-      let h = both_true (is_held y.value) (list_all (λ b. b) (map (λ y. is_held y.value) ys)) held in
+      let h = and_parts (is_held y.value) (list_all (λ b. b) (map (λ y. is_held y.value) ys)) held in
       let behind = counted_so_far f (fitting_of classes y.value).number counters in
       let slot = counted_slot counters f.slot in
       let slot_low = counted_low counters f.slot d in
@@ -261,8 +252,8 @@ module _ (classes : List ClassDef) (named : list_all has_names classes ≡ true)
   pointed_by label object None known slot before after d levels e deep held low = absurd cc
   pointed_by label object (Some own) known slot before after d levels e deep held low =
       let t = tested (label == length before && may_point classes own slot) ((fitting_of classes object).fits (kinded (Inline own.0)) (before ++ own ∷ [])) after e in
-      let s = pointer_slot classes own slot (both_true (label == length before) (may_point classes own slot) t.0).1 in
-      let h = both_true (nat_lt label (2 ^ 32)) (is_held object) held in
+      let s = pointer_slot classes own slot (and_parts (label == length before) (may_point classes own slot) t.0).1 in
+      let h = and_parts (nat_lt label (2 ^ 32)) (is_held object) held in
       let wide = s.levels d in
       let none = s.none in
       let one = known (kinded (Inline own.0)) (before ++ own ∷ []) after d levels t.1 deep h.1 (omega (arith, wide, low)) in

@@ -1,21 +1,11 @@
 -- What is resolved leaves no version open.
 use Rattle.std.proofs.Common.{◌≡◌, ◌&&◌, ◌||◌, ℕ, ℤ, pos, List, [], ◌∷◌, Bool, true, false, not, cond, map, length, codes, ◌==◌, Some, None, is_some, if◌then◌else◌, refl, sym, ap, subst, ◌∙◌}
-use Rattle.std.specs.List.{list_all}
-use Rattle.std.specs.Option.{option_map, option_map_or, option_or}
-use Rattle.std.specs.Ordering.{int_eq}
-use Rattle.std.specs.Str.{bytes_eq}
-use Rattle.std.proofs.lemmas.Bool.Decides.{Decides-int_eq}
-use Rattle.std.proofs.lemmas.Option.{option_and_then_some}
-use Rattle.rio_types.specs.Classes.{find_in}
-use Rattle.rio_types.specs.declared.class.Base.{Base}
-use Rattle.rio_types.specs.declared.class.ClassDef.{ClassDef}
+use Rattle.std.proofs.{lemmas.Bool.{and_parts, Decides.{Decides-int_eq}}, lemmas.Option.{option_and_then_some}}
+use Rattle.std.specs.{List.{list_all}, Option.{option_map, option_map_or, option_or}, Ordering.{int_eq}, Str.{bytes_eq}}
+use Rattle.rio_types.specs.{Classes.{find_in}, declared.class.Base.{Base}, declared.class.ClassDef.{ClassDef}}
 use Rattle.rio_value.specs.declared.value.Part.{Part, Part-F}
-use Rattle.rio_value.specs.declared.value.Value.TheOpen.{Value-F}
-use Rattle.rio_value.specs.declared.value.Value.{Value, Int, Bits32, Bits64, Bool as Truth, Text, List as Items, Object, Pointed, Null, Back, Opaque}
-use Rattle.rio_value.specs.declared.value.Value.TheFolds.{fold_out-Part}
-use Rattle.rio_format.specs.Bodies.{form_of, part}
-use Rattle.rio_format.specs.Slots.{is_headed}
-use Rattle.rio_format.proofs.Tests.{both_true}
+use Rattle.rio_value.specs.declared.value.Value.{Value, Int, Bits32, Bits64, Bool as Truth, Text, List as Items, Object, Pointed, Null, Back, Opaque, TheOpen.{Value-F}, TheFolds.{fold_out-Part}}
+use Rattle.rio_format.specs.{Bodies.{form_of, part}, Slots.{is_headed}}
 use Rattle.rio_format.proofs.ValueCases.{Each, by_cases, fold_Int, fold_Bits32, fold_Bits64, fold_Bool, fold_Text, fold_List, fold_Object, fold_Pointed, fold_Null, fold_Back, fold_Opaque}
 use Rattle.rio_model.specs.Resolving.{ResolvedHasVersions, Resolving, bases_in_version, built_in_version, each_resolved, has_all_versions, has_versions_step, is_known_version, meant_version, object_resolved, part_resolved, resolved_version, resolving_of, resolving_of_part, resolving_step}
 use Rattle.rio_valtext.proofs.ResolveLaws.{at, is_known_then, mapped, resolving-List, resolving-Object, resolving-Pointed}
@@ -34,11 +24,11 @@ own_version version own closed e = subst (λ (z : ℤ). is_closed z ≡ true) (s
 found_closed : (classes : List ClassDef) (class : List ℕ) (version : ℤ) → list_all (λ c. is_closed c.version) classes ≡ true → is_some (find_in classes class version) ≡ true → is_closed version ≡ true
 found_closed [] class version closed e = absurd cc
 found_closed (d ∷ ds) class version closed e =
-    let c = both_true (is_closed d.version) (list_all (λ x. is_closed x.version) ds) closed in
+    let c = and_parts (is_closed d.version) (list_all (λ x. is_closed x.version) ds) closed in
     by c.0 (bytes_eq d.name class && int_eq d.version version) refl e (found_closed ds class version c.1)
   where
     by : is_closed d.version ≡ true → (b : Bool) → (bytes_eq d.name class && int_eq d.version version) ≡ b → is_some (cond b (Some d) (find_in ds class version)) ≡ true → (is_some (find_in ds class version) ≡ true → is_closed version ≡ true) → is_closed version ≡ true
-    by own true t e rest = same_version d.version version own (both_true (bytes_eq d.name class) (int_eq d.version version) t).1
+    by own true t e rest = same_version d.version version own (and_parts (bytes_eq d.name class) (int_eq d.version version) t).1
     by own false t e rest = rest e
 
 built_by : (version : ℤ) (named string list array headed : Bool)

@@ -1,13 +1,11 @@
 -- The depth of an object, by its parts.
 use Rattle.std.proofs.Common.{◌≡◌, ℕ, ◌+◌, List, map, ap, sym, ◌∙◌}
 use Rattle.rio_value.specs.Depth.{greatest, depth_step, depth_of}
-use Rattle.rio_value.specs.declared.value.Value.{Object}
-use Rattle.rio_value.specs.declared.value.Value.TheOpen as layer
-use Rattle.rio_value.specs.declared.value.Value.TheVariants.{rolls-Object}
+use Rattle.rio_value.specs.declared.value.Value.{Object, TheVariants.{rolls-Object}, TheFolds.{fold-roll-Value, fold-Part, fold_out-Part}}
 use Rattle.rio_value.specs.declared.value.Part.{Part}
-use Rattle.rio_value.specs.declared.value.Value.TheFolds.{fold-roll-Value, fold-Part, fold_out-Part}
+use Rattle.rio_value.specs.declared.value.Value.TheOpen as layer
 
-part_depth : (p : Part) → fold-Part ℕ ℕ depth_step (λ p. p.value) p ≡ depth_of p.value
+pub part_depth : (p : Part) → fold-Part ℕ ℕ depth_step (λ p. p.value) p ≡ depth_of p.value
 part_depth p = fold_out-Part ℕ ℕ depth_step (λ p. p.value) p
 
 pub depth_of-Object : (class : List ℕ) (version : _) (parts : List Part) → depth_of (Object class version parts) ≡ greatest (map (λ p. depth_of p.value) parts) + 1

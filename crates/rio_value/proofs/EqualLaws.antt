@@ -1,12 +1,9 @@
 -- The comparisons of lists of values and of parts tell whether they are the same.
 use Rattle.std.proofs.Common.{◌≡◌, List, Decides}
 use Rattle.std.specs.Cmp.Lexicographic.{pointwise, pointwise_decides}
-use Rattle.rio_value.specs.CodeLaws.{coded_decides}
-use Rattle.rio_value.specs.Codes.{is_coded_same}
+use Rattle.rio_value.specs.{CodeLaws.{coded_decides}, Codes.{is_coded_same}, declared.value.Part.{Part}, declared.value.Value.{Value}}
 use Rattle.rio_value.specs.contracts.value.Part as parts
 use Rattle.rio_value.specs.contracts.value.Value as values
-use Rattle.rio_value.specs.declared.value.Part.{Part}
-use Rattle.rio_value.specs.declared.value.Value.{Value}
 
 pub values_decide : (a b : List Value) → Decides (pointwise (is_coded_same values.the_row.coded) a b) (a ≡ b)
 values_decide = pointwise_decides (coded_decides values.the_row.coded)

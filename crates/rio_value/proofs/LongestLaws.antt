@@ -1,13 +1,9 @@
 -- The longest list of a value, by those in it.
-use Rattle.std.proofs.Common.{◌≡◌, ℕ, ℤ, max, List, length, map, ap, sym, ◌∙◌}
-use Rattle.std.proofs.lemmas.List.{length-map}
-use Rattle.rio_value.specs.Depth.{greatest}
-use Rattle.rio_value.specs.LongestList.{longest_list_of, longest_step}
-use Rattle.rio_value.specs.declared.value.Value.{Value, List as Items, Object}
-use Rattle.rio_value.specs.declared.value.Value.TheOpen as layer
-use Rattle.rio_value.specs.declared.value.Value.TheVariants.{rolls-List, rolls-Object}
+use Rattle.std.proofs.{Common.{◌≡◌, ℕ, ℤ, max, List, length, map, ap, sym, ◌∙◌}, lemmas.List.{length-map}}
+use Rattle.rio_value.specs.{Depth.{greatest}, LongestList.{longest_list_of, longest_step}}
+use Rattle.rio_value.specs.declared.value.Value.{Value, List as Items, Object, TheVariants.{rolls-List, rolls-Object}, TheFolds.{fold-roll-Value, fold-Part, fold_out-Part}}
 use Rattle.rio_value.specs.declared.value.Part.{Part}
-use Rattle.rio_value.specs.declared.value.Value.TheFolds.{fold-roll-Value, fold-Part, fold_out-Part}
+use Rattle.rio_value.specs.declared.value.Value.TheOpen as layer
 
 pub longest-List : (vs : List Value) → longest_list_of (Items vs) ≡ max (length vs) (greatest (map longest_list_of vs))
 longest-List vs =

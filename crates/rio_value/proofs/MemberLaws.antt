@@ -1,19 +1,11 @@
 -- The parts of an object and of its bases, one layer at a time.
 use Rattle.std.proofs.Common.{◌≡◌, ℕ, ◌+◌, ◌<◌, drop, get_or, length, ℤ, Bool, true, false, cond, List, [], ◌∷◌, ◌++◌, map, Option, Some, refl, sym, ap, ◌∙◌}
 use Rattle.std.proofs.lemmas.List.{at_drop_more}
-use Rattle.std.specs.Prelude.{find}
-use Rattle.std.specs.Option.{option_map, option_or}
-use Rattle.std.specs.Str.{bytes_eq}
-use Rattle.rio_value.specs.Accessors.{part_of}
-use Rattle.std.specs.List.{flat_map}
-use Rattle.rio_value.specs.declared.value.Part.{Part}
-use Rattle.rio_value.specs.declared.value.Value.{Value, Object, out-Value, roll-Value, roll-out-Value}
-use Rattle.rio_value.specs.declared.value.Value.TheVariants.{rolls-Object}
-use Rattle.rio_value.specs.declared.value.Value.TheOpen.{Value-F}
-use Rattle.rio_value.specs.declared.value.Value.TheOpen as layer
-use Rattle.rio_value.specs.declared.value.Value.TheFolds.{para-Part, para-roll-Value, para-roll-Part}
-use Rattle.rio_value.specs.declared.value.Value.TheViews.{out-Part, roll-out-Part}
+use Rattle.std.specs.{Prelude.{find}, Option.{option_map, option_or}, Str.{bytes_eq}, List.{flat_map}}
+use Rattle.rio_value.specs.{Accessors.{part_of}, declared.value.Part.{Part}}
+use Rattle.rio_value.specs.declared.value.Value.{Value, Object, out-Value, roll-Value, roll-out-Value, TheVariants.{rolls-Object}, TheOpen.{Value-F}, TheFolds.{para-Part, para-roll-Value, para-roll-Part}, TheViews.{out-Part, roll-out-Part}}
 use Rattle.rio_value.specs.PartsWithBases.{kept_parts, member_in, parts_of_base, parts_step, parts_with_bases}
+use Rattle.rio_value.specs.declared.value.Value.TheOpen as layer
 
 abbrev Parts : Type 0
 Parts = List Part

@@ -1,11 +1,8 @@
 -- What stands in a value: a number, a text, a list, or an object with its parts.
-use Rattle.std.specs.Prelude.{ℕ, ℤ, pos, ◌^◌, List, [], Bool, ◌&&◌, nat_lt, find, Option, Some, None, option_map, if◌then◌else◌}
-use Rattle.std.specs.Ordering.{int_eq}
+use Rattle.std.specs.{Prelude.{ℕ, ℤ, pos, ◌^◌, List, [], Bool, ◌&&◌, nat_lt, find, Option, Some, None, option_map, if◌then◌else◌}, Ordering.{int_eq}}
 use Rattle.std.specs.Str.{bytes_eq}
-use Rattle.rio_value.specs.Integers.{fits_signed}
-use Rattle.rio_value.specs.declared.value.Part.{Part}
-use Rattle.rio_value.specs.declared.value.Value.{Value, out-Value}
-use Rattle.rio_value.specs.declared.value.Value.TheOpen.{Value-F, Int, Bool as Truth, Text, List as Items, Object, Pointed}
+use Rattle.rio_value.specs.{Integers.{fits_signed}, declared.value.Part.{Part}}
+use Rattle.rio_value.specs.declared.value.Value.{Value, out-Value, TheOpen.{Value-F, Int, Bool as Truth, Text, List as Items, Object, Pointed}}
 
 -- ---- numbers, texts, lists
 

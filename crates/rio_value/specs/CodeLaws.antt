@@ -1,9 +1,7 @@
 -- Values are equal where the trees of numbers that stand for them are.
-use Rattle.std.proofs.Common.{◌≡◌, ℕ, Bool, true, Decides, refl, sym, ap, subst, ◌∙◌}
-use Rattle.std.proofs.lemmas.Bool.{and_parts, and_from}
-use Rattle.std.proofs.lemmas.Bool.Decides.{Decides-eqb, same_from_decides}
-use Rattle.std.specs.Cmp.{IsPartialEquivalence}
-use Rattle.std.specs.Coded.{Coded}
+use Rattle.std.proofs.Common.{◌≡◌, Bool, true, Decides, refl, sym, ap, subst, ◌∙◌}
+use Rattle.std.proofs.lemmas.Bool.{and_parts, and_from, Decides.{Decides-eqb, same_from_decides}}
+use Rattle.std.specs.{Cmp.{IsPartialEquivalence}, Coded.{Coded}}
 use Rattle.rio_value.specs.Codes.{is_same_tree, is_coded_same}
 use mathlib.Core.Bool.{true≢false}
 use base.Stored.{Gv, gnil, gnum, gcons, num}

@@ -1,6 +1,5 @@
 -- Whether two values are equal, by the trees of numbers that stand for them.
-use Rattle.std.specs.Prelude.{Bool, true, false, ◌&&◌, ◌==◌}
-use Rattle.std.specs.Coded.{Coded}
+use Rattle.std.specs.{Prelude.{Bool, true, false, ◌&&◌, ◌==◌}, Coded.{Coded}}
 use base.Stored.{Gv, gnil, gnum, gcons}
 
 abbrev pub is_same_tree : Gv → Gv → Bool

@@ -1,8 +1,6 @@
 -- How deep a value goes: an object is one deeper than its deepest part.
 use Rattle.std.specs.Prelude.{ℕ, ◌+◌, max, List, [], ◌∷◌}
-use Rattle.rio_value.specs.declared.value.Value.{Value}
-use Rattle.rio_value.specs.declared.value.Value.TheOpen.{Value-F, Int, Bits32, Bits64, Bool as Boolean, Text, List as Items, Object, Pointed, Null, Back, Opaque}
-use Rattle.rio_value.specs.declared.value.Value.TheFolds.{fold-Value}
+use Rattle.rio_value.specs.declared.value.Value.{Value, TheOpen.{Value-F, Int, Bits32, Bits64, Bool as Boolean, Text, List as Items, Object, Pointed, Null, Back, Opaque}, TheFolds.{fold-Value}}
 
 -- 0 where there is none
 abbrev pub greatest : List ℕ → ℕ

@@ -1,9 +1,6 @@
 -- How long the longest list within a value is. An array is a list, and so are the items of a collection.
 use Rattle.std.specs.Prelude.{ℕ, max, length}
-use Rattle.rio_value.specs.Depth.{greatest}
-use Rattle.rio_value.specs.declared.value.Value.{Value}
-use Rattle.rio_value.specs.declared.value.Value.TheOpen.{Value-F, List as Items, Object, Pointed}
-use Rattle.rio_value.specs.declared.value.Value.TheFolds.{fold-Value}
+use Rattle.rio_value.specs.{Depth.{greatest}, declared.value.Value.{Value, TheOpen.{Value-F, List as Items, Object, Pointed}, TheFolds.{fold-Value}}}
 
 -- one layer of a value, with the greatest length within each child in its place
 abbrev pub longest_step : Value-F ℕ ℕ → ℕ

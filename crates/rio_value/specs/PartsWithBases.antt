@@ -1,11 +1,6 @@
 -- The parts of an object with those of its bases, and its members by name.
-use Rattle.std.specs.Prelude.{ℕ, List, [], ◌++◌, length, map, ◌==◌, Option, if◌then◌else◌}
-use Rattle.std.specs.List.{flat_map}
-use Rattle.rio_value.specs.Accessors.{part_of}
-use Rattle.rio_value.specs.declared.value.Part.{Part}
-use Rattle.rio_value.specs.declared.value.Value.{Value}
-use Rattle.rio_value.specs.declared.value.Value.TheOpen.{Value-F, Object}
-use Rattle.rio_value.specs.declared.value.Value.TheFolds.{para-Value}
+use Rattle.std.specs.{Prelude.{ℕ, List, [], ◌++◌, length, map, ◌==◌, Option, if◌then◌else◌}, List.{flat_map}}
+use Rattle.rio_value.specs.{Accessors.{part_of}, declared.value.Part.{Part}, declared.value.Value.{Value, TheOpen.{Value-F, Object}, TheFolds.{para-Value}}}
 
 -- the parts of what stands in a part, if it is a base: a part without a name
 abbrev pub kept_parts : List ℕ → List Part → List Part

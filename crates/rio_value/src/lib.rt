@@ -6,7 +6,8 @@
 //!
 //! What stands in a value is told by the methods of `Value`: `as_i32` and its like for numbers, texts and lists, `class`,
 //! `version`, `part` and `member` for objects (`specs/Accessors.antt`, `PartsWithBases.antt`). `depth` tells how deep objects
-//! stand in one another (`Depth.antt`), `longest_list` how many items the longest list has (`LongestList.antt`).
+//! stand in one another (`Depth.antt`), `longest_list` how many items the longest list has (`LongestList.antt`). Its
+//! tests stand in `rio_rows`.
 #![tactic(auto)]
 
 mod accessors;

@@ -1,15 +1,10 @@
 -- Which forms and bodies the small built-in classes have.
 use Rattle.std.proofs.Common.{◌≡◌, ◌⊎◌, inl, inr, ℕ, ℤ, pos, Bool, true, false, not, ◌||◌, IsTrue, List, [], codes, Option, Some, None, refl, subst}
 use Rattle.std.proofs.lemmas.Slice.Eq.{bytes_eq-Decides}
-use Rattle.std.specs.Ordering.{int_eq}
-use Rattle.std.specs.Str.{bytes_eq}
+use Rattle.std.specs.{Ordering.{int_eq}, Str.{bytes_eq}}
 use Rattle.rio_types.specs.declared.class.ClassDef.{ClassDef}
-use Rattle.rio_format.specs.Bodies.{built_in, form_of}
-use Rattle.rio_format.specs.declared.shape.Shape.{Shape as Form}
-use Rattle.rio_format.specs.declared.shape.Shape.TheVariants.{Headed as headed}
-use Rattle.rio_format.specs.Fits.{Fitting, Labels, parts_fit}
-use Rattle.rio_format.specs.Slots.{declared_body, fields_of, is_headed}
-use Rattle.rio_format.specs.BuiltIn.{is_small_builtin}
+use Rattle.rio_format.specs.{Bodies.{built_in, form_of}, declared.shape.Shape.{Shape as Form, TheVariants.{Headed as headed}}}
+use Rattle.rio_format.specs.{Fits.{Fitting, Labels, parts_fit}, Slots.{declared_body, fields_of, is_headed}, BuiltIn.{is_small_builtin}}
 
 -- it fits behind some labels
 abbrev pub FitsSomewhere : (Labels → Option Labels) → Type 0

@@ -6,11 +6,9 @@ use Rattle.rio_num.specs.declared.no_memory.NoMemory.{NoMemory}
 use Rattle.rio_buffer.specs.ReaderState.{no_words, with_label}
 use Rattle.rio_buffer.specs.Writer.{Writer, WriterState, begun, begun_pointer, class_bytes, counted_from, ended, next_place, nothing_written, with_count}
 use Rattle.rio_format.specs.Written.{just, reference_bytes}
-use Rattle.rio_write.specs.Measuring.{CountsFor, FollowsWords, Grows, Measured, Measures, longer, too_long}
-use Rattle.rio_write.specs.Sinks.{Accepted, Closes, Opened, OpensIn}
+use Rattle.rio_write.specs.{Measuring.{CountsFor, FollowsWords, Grows, Measured, Measures, longer, too_long}, Sinks.{Accepted, Closes, Opened, OpensIn}}
 use Rattle.rio_write.specs.Writing.{with_written}
-use Rattle.rio_write.proofs.MeasureLaws.{back_grows, below_more, follows_on, just_grows}
-use Rattle.rio_write.proofs.WriteLaws.{first_written}
+use Rattle.rio_write.proofs.{MeasureLaws.{back_grows, below_more, follows_on, just_grows}, WriteLaws.{first_written}}
 
 -- it grows by what is written, and so counts it
 pub grown_counts : (f : Writer) (old new : Measured) → Grows f old new → Accepted CountsFor f old new

@@ -1,13 +1,10 @@
 -- How long single things are that are written.
 use Rattle.std.proofs.Common.{◌≡◌, ◌<◌, ◌≤◌, ◌^◌, ◌+◌, ◌-◌, ℕ, Bool, true, false, cond, ◌||◌, eqb, is_some, List, [], ◌∷◌, ◌++◌, length, min, nat_eq, Option, Some, None, refl, sym, ap, subst, ◌∙◌, arith}
-use Rattle.std.proofs.lemmas.Bool.{ne_eqb}
-use Rattle.std.proofs.lemmas.List.{length-append}
-use Rattle.std.specs.List.{find, list_any}
-use Rattle.std.specs.Str.{bytes_eq}
+use Rattle.std.proofs.{lemmas.Bool.{ne_eqb}, lemmas.List.{length-append}}
+use Rattle.std.specs.{List.{find, list_any}, Str.{bytes_eq}}
 use Rattle.byteorder.specs.Endian.{big_bytes}
 use Rattle.indexmap.specs.IndexMap.{insert_entry}
-use Rattle.rio_buffer.specs.ReaderState.{WordsMet}
-use Rattle.rio_buffer.specs.Writer.{class_by, class_bytes}
+use Rattle.rio_buffer.specs.{ReaderState.{WordsMet}, Writer.{class_by, class_bytes}}
 use Rattle.rio_format.specs.Written.{just, reference_bytes}
 use Rattle.rio_write.specs.Measuring.{AreBelow, FollowsWords, Grows, Measured, longer, too_long}
 

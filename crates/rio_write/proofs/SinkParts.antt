@@ -3,15 +3,12 @@ use Rattle.std.proofs.Common.{◌≡◌, ◌<◌, ◌≤◌, ◌⊎◌, inl, inr
 use Rattle.std.specs.Prelude.{pos, codes}
 use Rattle.byteorder.specs.Endian.{big_bytes}
 use Rattle.rio_num.specs.declared.no_memory.NoMemory.{NoMemory}
-use Rattle.rio_types.specs.declared.kind.Kind.TheVariants.{Plain, Text as Texted}
-use Rattle.rio_types.specs.declared.kind.Primitive.{Primitive}
-use Rattle.rio_types.specs.declared.kind.Primitive.TheVariants.{I32, U16, U32}
+use Rattle.rio_types.specs.{declared.kind.Kind.TheVariants.{Plain, Text as Texted}, declared.kind.Primitive.{Primitive, TheVariants.{I32, U16, U32}}}
 use Rattle.rio_format.specs.Slots.{any_pointer, based, flags, kinded, link, many}
+use Rattle.rio_format.specs.Written.{Writing, all, number_array_bytes, arrayed_bytes, bare_bytes, both, counted_bytes, just, link_bytes, listed_bytes}
 use Rattle.rio_buffer.specs.Writer.{Writer, WriterState}
-use Rattle.rio_format.specs.Written.{Writing, all, array_bytes, arrayed_bytes, bare_bytes, both, counted_bytes, just, link_bytes, listed_bytes}
 use Rattle.rio_write.specs.Sinks.{Accepted, Accepts, RoomFor}
-use Rattle.rio_write.proofs.Few.{one_is, two_are, three_are, four_are}
-use Rattle.rio_write.proofs.SinkLaws.{behind_room, both_accept, front_room, nothing_accepted}
+use Rattle.rio_write.proofs.{Few.{one_is, two_are, three_are, four_are}, SinkLaws.{behind_room, both_accept, front_room, nothing_accepted}}
 
 module _ {K : Type 0} (stands : K → WriterState → Type 0) (bounded : Bool) where
   -- ---- a pointer and a text
@@ -67,16 +64,16 @@ module _ {K : Type 0} (stands : K → WriterState → Type 0) (bounded : Bool) w
       abbrev items : Writer
       items = (h a).bytes (many (kinded (Plain of)))
 
-      array_is : array_bytes of (map h xs) ≡ both (just (big_bytes 4 count)) items
+      array_is : number_array_bytes of (map h xs) ≡ both (just (big_bytes 4 count)) items
       array_is = rw (one_is xs a le lt e, c) refl
 
-      pub array_room : (k1 : K) → Accepted stands (just (big_bytes 4 count)) k k1 → RoomFor stands bounded (array_bytes of (map h xs)) k → RoomFor stands bounded items k1
+      pub array_room : (k1 : K) → Accepted stands (just (big_bytes 4 count)) k k1 → RoomFor stands bounded (number_array_bytes of (map h xs)) k → RoomFor stands bounded items k1
       array_room k1 w room = behind_room stands bounded (just (big_bytes 4 count)) items k k1 w (rw array_is at room)
 
-      pub array_writes : (k1 k2 : K) (r : Result (Unit {0}) NoMemory) → Accepted stands (just (big_bytes 4 count)) k k1 → Accepts stands items r k1 k2 → Accepts stands (array_bytes of (map h xs)) r k k2
+      pub array_writes : (k1 k2 : K) (r : Result (Unit {0}) NoMemory) → Accepted stands (just (big_bytes 4 count)) k k1 → Accepts stands items r k1 k2 → Accepts stands (number_array_bytes of (map h xs)) r k k2
       array_writes k1 k2 r w done = rw array_is (both_accept stands (just (big_bytes 4 count)) items k k1 k2 r w done)
 
-  pub no_array : {X : Type 0} (h : X → Writing) (of : Primitive) (xs : List X) (k : K) → (length xs < 1) ⊎ (2 ≤ length xs) → Accepted stands (array_bytes of (map h xs)) k k
+  pub no_array : {X : Type 0} (h : X → Writing) (of : Primitive) (xs : List X) (k : K) → (length xs < 1) ⊎ (2 ≤ length xs) → Accepted stands (number_array_bytes of (map h xs)) k k
   no_array h of [] k n = nothing_accepted stands k
   no_array h of (x ∷ []) k (inl n) = absurd (omega arith)
   no_array h of (x ∷ []) k (inr n) = absurd (omega arith)

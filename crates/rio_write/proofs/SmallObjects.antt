@@ -1,25 +1,18 @@
 -- Objects of the small built-in classes fit and are written alike, whatever classes and words there are.
 use Rattle.std.proofs.Common.{◌≡◌, ◌^◌, ◌⊎◌, inl, inr, ℕ, ◌+◌, ℤ, pos, Bool, true, false, List, [], ◌∷◌, ◌++◌, length, map, codes, IsTrue, Option, Some, refl, sym, ap, subst, ◌∙◌}
 use Rattle.std.proofs.lemmas.List.{length-map}
-use Rattle.std.specs.Int.{w16, cast_unsigned}
-use Rattle.std.specs.Ordering.{int_eq}
+use Rattle.std.specs.{Int.{w16, cast_unsigned}, Ordering.{int_eq}}
 use Rattle.byteorder.specs.Endian.{big_bytes}
-use Rattle.rio_types.specs.declared.class.ClassDef.{ClassDef}
-use Rattle.rio_types.specs.declared.kind.Kind.TheVariants.{Plain}
-use Rattle.rio_types.specs.declared.kind.Primitive.{Primitive}
-use Rattle.rio_value.specs.declared.value.Part.{Part}
-use Rattle.rio_value.specs.declared.value.Value.{Value}
+use Rattle.rio_types.specs.{declared.class.ClassDef.{ClassDef}, declared.kind.Kind.TheVariants.{Plain}, declared.kind.Primitive.{Primitive}}
+use Rattle.rio_value.specs.{declared.value.Part.{Part}, declared.value.Value.{Value}}
 use Rattle.rio_format.specs.Bodies.{Body, built_in, form_of}
-use Rattle.rio_format.specs.declared.shape.Shape.{Shape as Form}
-use Rattle.rio_format.specs.declared.shape.Shape.TheVariants.{Bare as bare, Headed as headed, Numbers as numbered}
-use Rattle.rio_format.specs.Fits.{Labels, parts_fit}
+use Rattle.rio_format.specs.{declared.shape.Shape.{Shape as Form, TheVariants.{Bare as bare, Headed as headed, Numbers as numbered}}, Fits.{Labels, part_fitting, parts_fit}}
 use Rattle.rio_format.specs.Slots.{body_fields, declared_body, form_fields, kinded, many}
+use Rattle.rio_format.specs.Written.{Writing, number_array_bytes, body_bytes, counted, form_bytes, headed_bytes, just, writing_of, writing_step}
+use Rattle.rio_format.specs.BuiltIn.{is_small_builtin}
 use Rattle.rio_buffer.specs.Writer.{Writer}
-use Rattle.rio_format.specs.Written.{Writing, array_bytes, body_bytes, counted, form_bytes, headed_bytes, just, writing_of, writing_step}
 use Rattle.rio_format.proofs.ValueCases.{Each, Steps, by_cases, fold_Int, fold_Bits32, fold_Bits64, fold_Bool, fold_Text, fold_List, fold_Object, fold_Pointed, fold_Null, fold_Back, fold_Opaque}
 use Rattle.rio_format.proofs.WrittenBodies.{first_fits}
-use Rattle.rio_format.proofs.WrittenLists.{part_fitting}
-use Rattle.rio_format.specs.BuiltIn.{is_small_builtin}
 use Rattle.rio_write.specs.Writing.{part_writing}
 use Rattle.rio_write.proofs.BuiltinBodies.{refuted, which}
 use Rattle.rio_write.proofs.SmallValues.{FitIn, FitParts, FormStays, IsAlike, Named, Steady, bare_parts, bare_steady, base, fields_alike, is_alike, numbers, part_value, parts_stay, steady_both, steady_just, text}
@@ -67,7 +60,7 @@ named_parts = ([], base) ∷ (codes "fName", text) ∷ (codes "fTitle", text) �
 abbrev string_parts : List Named
 string_parts = ([], base) ∷ (codes "fString", text) ∷ []
 
-array_steady : (of : Primitive) (parts : List Part) (known : List ClassDef) (before after : Labels) (b : Bool) → FitParts parts before after known (array_parts of) b → Steady (λ classes. array_bytes of (map (part_writing classes) parts))
+array_steady : (of : Primitive) (parts : List Part) (known : List ClassDef) (before after : Labels) (b : Bool) → FitParts parts before after known (array_parts of) b → Steady (λ classes. number_array_bytes of (map (part_writing classes) parts))
 array_steady of parts known before after false e = refuted after e
 array_steady of [] known before after true e = steady_just []
 array_steady of (y ∷ z ∷ ys) known before after true e = steady_just []

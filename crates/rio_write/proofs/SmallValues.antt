@@ -1,35 +1,23 @@
 -- Values without pointers fit and are written alike, whatever classes and words there are.
 use Rattle.std.proofs.Common.{◌≡◌, ℕ, ◌+◌, ℤ, pos, Bool, true, false, cond, ◌&&◌, List, [], ◌∷◌, ◌++◌, length, map, codes, slice_get, Option, Some, None, refl, sym, ap, subst, ◌∙◌}
-use Rattle.std.proofs.lemmas.Option.{option_and_then_some}
-use Rattle.std.proofs.lemmas.Slice.Eq.{bytes_eq-Decides}
-use Rattle.std.specs.Option.{option_and_then}
-use Rattle.std.specs.Ordering.{int_eq}
-use Rattle.std.specs.Prelude.{◌==◌}
-use Rattle.std.specs.Str.{bytes_eq}
-use Rattle.std.proofs.lemmas.Bool.{and_parts}
+use Rattle.std.proofs.{lemmas.Option.{option_and_then_some}, lemmas.Slice.Eq.{bytes_eq-Decides}, lemmas.Bool.{and_parts}}
+use Rattle.std.specs.{Option.{option_and_then}, Ordering.{int_eq}, Prelude.{◌==◌}, Str.{bytes_eq}}
 use Rattle.byteorder.specs.Endian.{big_bytes}
 use Rattle.rio_num.specs.Text.{text_bytes}
-use Rattle.rio_types.specs.declared.class.ClassDef.{ClassDef}
-use Rattle.rio_types.specs.declared.kind.Kind.TheVariants.{Plain, Text as Texted}
-use Rattle.rio_types.specs.declared.kind.Primitive.{Primitive}
-use Rattle.rio_types.specs.declared.kind.Primitive.TheVariants.{U32}
+use Rattle.rio_types.specs.{declared.class.ClassDef.{ClassDef}, declared.kind.Kind.TheVariants.{Plain, Text as Texted}}
+use Rattle.rio_types.specs.declared.kind.Primitive.{Primitive, TheVariants.{U32}}
 use Rattle.rio_value.specs.declared.value.Part.{Part, Part-F}
-use Rattle.rio_value.specs.declared.value.Value.{Value, Int, Bits32, Bits64, Bool as Truth, Text, List as Items, Object}
+use Rattle.rio_value.specs.declared.value.Value.{Value, Int, Bits32, Bits64, Bool as Truth, Text, List as Items, Object, TheFolds.{fold-Part, fold_out-Part}}
 use Rattle.rio_value.specs.declared.value.Value.TheOpen as layer
-use Rattle.rio_value.specs.declared.value.Value.TheFolds.{fold-Part, fold_out-Part}
 use Rattle.rio_format.specs.Bodies.{Counters, form_of}
-use Rattle.rio_format.specs.Fits.{Fitting, Labels, all_fit, back_fits, counted_slot, counted_so_far, fields_fit, fitting_of, fitting_step, object_may_stand, is_pointer, list_fits, parts_fit, pass, pointed_fits}
-use Rattle.rio_buffer.specs.ReaderState.{WordsMet}
+use Rattle.rio_format.specs.Fits.{Fitting, Labels, all_fit, back_fits, counted_slot, counted_so_far, fields_fit, fitting_of, fitting_step, object_may_stand, is_pointer, list_fits, part_fitting, parts_fit, pass, pointed_fits}
 use Rattle.rio_format.specs.Slots.{Field, Slot, based, field, fields_of, flags, kinded, many}
-use Rattle.rio_buffer.specs.Writer.{Writer}
 use Rattle.rio_format.specs.Written.{Writing, all, bare_bytes, both, fields_bytes, form_bytes, int_bytes, just, plainly, truth_byte, writing_of, writing_step}
+use Rattle.rio_buffer.specs.{ReaderState.{WordsMet}, Writer.{Writer}}
 use Rattle.rio_format.proofs.ValueCases.{Each, Steps, by_cases, fold_Int, fold_Bits32, fold_Bits64, fold_Bool, fold_Text, fold_List, fold_Object, fold_Pointed, fold_Null, fold_Back, fold_Opaque}
 use Rattle.rio_format.proofs.WrittenBodies.{first_fits}
-use Rattle.rio_format.proofs.WrittenLists.{part_fitting}
-use Rattle.rio_write.specs.Small.{own_writing}
-use Rattle.rio_write.specs.Writing.{part_writing}
-use Rattle.rio_write.proofs.BuiltinBodies.{refuted}
-use Rattle.rio_write.proofs.WriteValues.{object_is}
+use Rattle.rio_write.specs.{Small.{own_writing}, Writing.{part_writing}}
+use Rattle.rio_write.proofs.{BuiltinBodies.{refuted}, WriteValues.{object_is}}
 
 -- ---- the same bytes everywhere, and no words
 

@@ -1,15 +1,12 @@
 -- What the writer of objects takes stands at its end.
 use Rattle.std.proofs.Common.{◌≡◌, suc, false, IsTrue, arith, ◌<◌, length, ℕ, ◌+◌, List, [], Bool, true, Some, Result, Ok, Err, refl, sym, ap, subst, ◌∙◌}
+use Rattle.std.proofs.{Math.Nat.{lt_of_not-le}, lemmas.List.{get_or_past}}
 use Rattle.std.specs.Prelude.{◌↔◌, slice_index}
-use Rattle.std.proofs.Math.Nat.{lt_of_not-le}
-use Rattle.std.proofs.lemmas.List.{get_or_past}
 use Rattle.byteorder.specs.Endian.{big_bytes}
 use Rattle.rio_num.specs.declared.no_memory.NoMemory.{NoMemory}
-use Rattle.rio_buffer.specs.ReaderState.{no_words}
-use Rattle.rio_buffer.specs.Writer.{Begins, Puts, Writer, WriterState, ended, innermost, nothing_written}
+use Rattle.rio_buffer.specs.{ReaderState.{no_words}, Writer.{Begins, Puts, Writer, WriterState, ended, innermost, nothing_written}}
 use Rattle.rio_format.specs.Written.{just, reference_bytes}
-use Rattle.rio_write.specs.Sinks.{Accepted, Accepts, Closes, Opened, OpensIn, StandsWithin}
-use Rattle.rio_write.specs.Writing.{Writes, with_written}
+use Rattle.rio_write.specs.{Sinks.{Accepted, Accepts, Closes, Opened, OpensIn, StandsWithin}, Writing.{Writes, with_written}}
 use Rattle.rio_write.proofs.WriteLaws.{first_written, just_writes}
 
 abbrev pub is_state : WriterState × List (List ℕ) → WriterState → Type 0

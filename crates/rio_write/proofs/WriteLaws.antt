@@ -1,17 +1,13 @@
 -- What is written, one thing behind the other.
 use Rattle.std.proofs.Common.{◌≡◌, ◌<◌, ◌≤◌, ◌^◌, ℕ, ◌+◌, ◌-◌, List, [], ◌∷◌, ◌++◌, Bool, true, false, cond, ltb, length, drop, map, slice_get, slice_index_or, None, Some, Result, Ok, Err, refl, sym, ap, subst, ◌∙◌, append_assoc, arith}
-use Rattle.std.proofs.Math.Seq.{drop-append-add, take-append_seam}
-use Rattle.std.proofs.lemmas.List.{append-nil, drop_more, drop_all, length-append}
-use Rattle.std.specs.Prelude.{ℤ}
-use Rattle.std.specs.Int.{w16, cast_unsigned}
+use Rattle.std.proofs.{Math.Seq.{drop-append-add, take-append_seam}, lemmas.List.{append-nil, drop_more, drop_all, length-append}}
+use Rattle.std.specs.{Prelude.{ℤ}, Int.{w16, cast_unsigned}}
 use Rattle.byteorder.specs.Endian.{big_bytes}
-use Rattle.rio_num.specs.Text.{text_bytes, short_form, long_form}
-use Rattle.rio_num.specs.declared.no_memory.NoMemory.{NoMemory}
+use Rattle.rio_num.specs.{Text.{text_bytes, short_form, long_form}, declared.no_memory.NoMemory.{NoMemory}}
 use Rattle.rio_buffer.specs.ReaderState.{WordsMet, no_words, with_label}
-use Rattle.rio_format.proofs.FieldLaws.{found_first, none_left}
-use Rattle.rio_format.specs.Slots.{Slot, Field}
 use Rattle.rio_buffer.specs.Writer.{Writer, class_bytes, Puts, WriterState, next_place, nothing_written, ended, with_count, counted_from, innermost}
-use Rattle.rio_format.specs.Written.{Writing, just, both, all, counted, fields_bytes, headed_bytes}
+use Rattle.rio_format.proofs.FieldLaws.{found_first, none_left}
+use Rattle.rio_format.specs.{Slots.{Slot, Field}, Written.{Writing, just, both, all, counted, fields_bytes, headed_bytes}}
 use Rattle.rio_write.specs.Writing.{HasRoom, Writes, pointer_to, with_written}
 
 pub nothing : (s : WriterState) → s ≡ with_written (just []) s

@@ -3,7 +3,7 @@ ghost use Rattle.std.specs.Prelude.{◌≡◌, List, map};
 ghost use Rattle.rio_types.specs.declared.class.ClassDef.{ClassDef as Class};
 ghost use Rattle.rio_format.specs.Bodies.{form_of};
 ghost use Rattle.rio_format.specs.Slots.{body_fields, declared_body};
-ghost use Rattle.rio_format.specs.Written.{all, array_bytes, arrayed_bytes, bare_bytes, body_bytes, counted_bytes, described_bytes, fields_bytes, form_bytes, headed_bytes, link_bytes, list_bytes, listed_bytes, pointed_bytes, writing_of};
+ghost use Rattle.rio_format.specs.Written.{all, number_array_bytes, arrayed_bytes, bare_bytes, body_bytes, counted_bytes, described_bytes, fields_bytes, form_bytes, headed_bytes, link_bytes, list_bytes, listed_bytes, pointed_bytes, writing_of};
 ghost use Rattle.rio_write.specs.Sinks.{Accepts, RoomFor};
 ghost use Rattle.rio_write.specs.Writing.{part_writing};
 
@@ -224,10 +224,10 @@ fn write_array<'a, S: Sink>(
     of: Prim,
     parts: &'a [Part],
 ) -> Result<(), NoMemory>
-    requires { RoomFor S.stands S.bounded (array_bytes of (map (part_writing classes.now)
+    requires { RoomFor S.stands S.bounded (number_array_bytes of (map (part_writing classes.now)
         parts.now)) (sink.old, names.old) }
-    ensures { Accepts S.stands (array_bytes of (map (part_writing classes.now) parts.now)) result
-        (sink.old, names.old) (sink.new, names.new) }
+    ensures { Accepts S.stands (number_array_bytes of (map (part_writing classes.now) parts.now))
+        result (sink.old, names.old) (sink.new, names.new) }
 {
     match parts {
         [items] => {

@@ -1,9 +1,7 @@
 -- The commands of a script are built and can be stated.
-use Rattle.std.proofs.Common.{◌≡◌, ◌<◌, ℕ, Bool, true, false, List, length, get_or, None, Some, refl, ap, ◌∙◌}
-use Rattle.std.proofs.lemmas.List.Folds.{list_all_at}
+use Rattle.std.proofs.{Common.{◌≡◌, ◌<◌, ℕ, Bool, true, false, List, length, get_or, None, Some, refl, ap, ◌∙◌}, lemmas.List.Folds.{list_all_at}}
 use Rattle.std.specs.List.{list_all}
-use Rattle.rio_machine.specs.declared.command.Command.{Command}
-use Rattle.rio_machine.specs.declared.command.Command.TheVariants.{Bad, Class, Put, Delete, Tree, Fill, Save, Get, Scan, Ls}
+use Rattle.rio_machine.specs.declared.command.Command.{Command, TheVariants.{Bad, Class, Put, Delete, Tree, Fill, Save, Get, Scan, Ls}}
 use Rattle.rio_step.specs.Statable.{IsStatable, is_statable}
 use Rattle.rio_cmd.specs.Laws.{is_built}
 use Rattle.rio_judge.specs.Judging.{is_judged}

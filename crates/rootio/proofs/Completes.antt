@@ -1,21 +1,14 @@
 -- Where nothing fails, all is done unless memory runs out.
 use Rattle.std.proofs.Common.{◌≡◌, ℕ, List, true, Some, None, subst, refl, arith}
-use Rattle.rio_head.specs.declared.fault.HeadFault.{HeadFault}
-use Rattle.rio_head.specs.Head.{fault_at}
-use Rattle.rio_host.specs.Host.{View}
-use Rattle.rio_host.specs.Source.{Input}
+use Rattle.rio_head.specs.{declared.fault.HeadFault.{HeadFault}, Head.{fault_at}}
+use Rattle.rio_host.specs.{Host.{View}, Source.{Input}}
 use Rattle.rio_dir.specs.Unborn.{header_fault, is_unborn}
 use Rattle.rio_meaning.specs.FirstFault.{first_fault}
 use Rattle.rio_state.specs.Reasons.{ReasonAt, reason_at}
-use Rattle.rootio.specs.Causes.{IsCause}
-use Rattle.rootio.specs.Complete.{CanBeDone, IsComplete}
-use Rattle.rootio.specs.Input.{TellsTooLong}
-use Rattle.rootio.specs.Reading.{TellsFirstFault, reads_input, rules_of, writes_of}
+use Rattle.rootio.specs.{Causes.{IsCause}, Complete.{CanBeDone, IsComplete}, Input.{TellsTooLong}, Reading.{TellsFirstFault, reads_input, rules_of, writes_of}}
 use Rattle.rootio.specs.Writing.{TellsFirstReason, made_reason, reason_against}
-use Rattle.rootio.specs.declared.status.Status.{Status}
-use Rattle.rootio.specs.declared.status.Status.TheVariants.{Done, Usage, BadFile, DiskFault, InputFault, NoMemory, InputTooLong, ReadOnly, SayFault}
-use Rattle.rootio.specs.declared.words.Form.{Form}
-use Rattle.rootio.specs.declared.words.Form.TheVariants.{Reads, Writes}
+use Rattle.rootio.specs.declared.status.Status.{Status, TheVariants.{Done, Usage, BadFile, DiskFault, InputFault, NoMemory, InputTooLong, ReadOnly, SayFault}}
+use Rattle.rootio.specs.declared.words.Form.{Form, TheVariants.{Reads, Writes}}
 use Rattle.rootio.proofs.Opening.{new_has_no_fault, no_reason_new}
 
 -- words that have a form aren't refused

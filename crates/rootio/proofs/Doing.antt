@@ -1,37 +1,22 @@
 -- A run's commands, one after the other.
 use Rattle.std.proofs.Common.{◌≡◌, inl, inr, ℕ, suc, ◌+◌, ◌<◌, ◌≤◌, false, List, ◌∷◌, ◌++◌, length, take, drop, get_or, Some, Result, Ok, Err, subst, sym, refl, ap, ◌∙◌, arith, append_assoc}
-use Rattle.std.proofs.lemmas.List.{append-nil, drop-drop, get_or_default, take_all}
-use Rattle.std.proofs.lemmas.Option.{slice_get-get_or}
-use Rattle.std.proofs.Math.Seq.{drop-cons}
+use Rattle.std.proofs.{lemmas.List.{append-nil, drop-drop, get_or_default, take_all}, lemmas.Option.{slice_get-get_or}, Math.Seq.{drop-cons}}
 use Rattle.std.specs.Result.{OnOk}
-use Rattle.rio_host.specs.Host.{Becomes, Elapses, IsLawful, View}
-use Rattle.rio_host.specs.OnlyReads.{Grown}
-use Rattle.rio_host.proofs.Moments.{elapses_join}
-use Rattle.rio_chain.specs.Stops.{Any}
+use Rattle.rio_host.specs.{Host.{Any, Becomes, Elapses, IsLawful, View}, OnlyReads.{Grown}}
+use Rattle.rio_host.proofs.{Moments.{elapses_join}, PiecesLaws.{grown_join}}
 use Rattle.rio_chain.specs.declared.segment.Segment.{Segment}
-use Rattle.rio_machine.specs.State.{State}
-use Rattle.rio_machine.specs.declared.command.Command.{Command}
-use Rattle.rio_machine.specs.declared.command.Command.TheVariants.{Ls}
-use Rattle.rio_machine.specs.declared.command.Outcome.{Outcome}
+use Rattle.rio_machine.specs.{State.{State}, declared.command.Command.{Command, TheVariants.{Ls}}, declared.command.Outcome.{Outcome}}
 use Rattle.rio_step.proofs.RunLaws.{runs_begin_alike}
-use Rattle.rio_step.specs.ReplyText.{text_of}
-use Rattle.rio_step.specs.Runs.{first_mark, said_of, saved_of, state_after}
-use Rattle.rio_step.specs.Step.{Stepped, outcome_of, step}
-use Rattle.rio_state.specs.Left.{IsLeftAs}
+use Rattle.rio_step.specs.{ReplyText.{text_of}, Runs.{first_mark, said_of, saved_of, state_after}, Step.{Stepped, outcome_of, step}}
 use Rattle.rio_step.specs.Costs.{HasFileRoom, cost_of}
-use Rattle.rio_session.specs.Behind.{SaysPart}
-use Rattle.rio_session.specs.Causes.{IsCloseCause, IsSaid, IsSessionCause, NoCountRose, SaysNothing}
+use Rattle.rio_state.specs.Left.{IsLeftAs}
+use Rattle.rio_session.specs.{Behind.{SaysPart}, Causes.{IsCloseCause, IsSaid, IsSessionCause, NoCountRose, SaysNothing}}
 use Rattle.rio_session.specs.Marks.{mark_of_command, marks_of_run, segments_behind}
 use Rattle.rio_session.specs.Session.{IsOpenAs, IsReady, LacksRoomIfFull, LeavesOpenAs, SessionState, StandsFor, Steps, Went, next_of, with_cost}
-use Rattle.rio_session.specs.declared.fault.SessionFault.{SessionFault}
-use Rattle.rio_session.specs.declared.fault.SessionFault.TheVariants.{HostFault, SayFault, NoMemory}
+use Rattle.rio_session.specs.declared.fault.SessionFault.{SessionFault, TheVariants.{HostFault, SayFault, NoMemory}}
 use Rattle.rio_session.proofs.Spoken.{grows_none}
-use Rattle.rootio.specs.Headline.{IsStopOf, SaidFindRoom, ScriptRun, replies}
-use Rattle.rootio.specs.Script.{HasDone, session_run}
-use Rattle.rootio.specs.Writing.{LeavesOpen, StandsUnsaid}
-use Rattle.rootio.proofs.SaidFronts.{grows_join}
-use Rattle.rootio.proofs.Unclosed.{steps_open}
-use Rattle.rootio.proofs.Untouched.{any_join, becomes_same, elapses_none}
+use Rattle.rootio.specs.{Headline.{IsStopOf, SaidFindRoom, ScriptRun, replies}, Script.{HasDone, session_run}, Writing.{LeavesOpen, StandsUnsaid}}
+use Rattle.rootio.proofs.{Unclosed.{steps_open}, Untouched.{any_join, becomes_same, elapses_none}}
 use Rattle.rootio.proofs.Room.{CostsSo, all_find_room, costs_more, no_costs, room_at_fault}
 use Rattle.rootio.proofs.RunStops.{IsNext, behind, behind_next, prefix_at, replies_next, step_at, stop_between, stop_within}
 
@@ -193,7 +178,7 @@ module _ (start v new : View) (first s s1 : SessionState) (commands : List Comma
     ready = ready;
     fresh = fresh;
     told = any_join start.holds v.holds new.holds doing.told told;
-    said = grows_join start.said v.said new.said doing.said said;
+    said = grown_join start.said v.said new.said doing.said said;
     none = (none.0 ∙ doing.none.0, none.1 ∙ doing.none.1);
     sofar = λ m text stands.
         let r = session_run first m commands in

@@ -1,28 +1,17 @@
 -- How a run ends that says a listing.
 use Rattle.std.proofs.Common.{◌≡◌, ℕ, List, Option, Some, Result, Ok, Err, refl, sym, ap, ◌∙◌}
 use Rattle.rio_num.specs.Reading.{◌>>=◌}
-use Rattle.rio_head.specs.declared.fault.FileFault.{FileFault}
-use Rattle.rio_head.specs.declared.fault.HeadFault.{HeadFault}
-use Rattle.rio_head.specs.Head.{fault_at}
-use Rattle.rio_host.specs.Host.{View}
-use Rattle.rio_host.specs.Source.{Input}
-use Rattle.rio_dir.specs.Closed.{closed_file, fault_of}
-use Rattle.rio_dir.specs.Listing.{key_lines, listed_file}
-use Rattle.rio_meaning.specs.declared.item.Item.{Item}
-use Rattle.rio_meaning.specs.Described.{described_file}
-use Rattle.rio_meaning.specs.Dump.{dump_text, dumped_file}
+use Rattle.rio_head.specs.{declared.fault.FileFault.{FileFault}, declared.fault.HeadFault.{HeadFault}, Head.{fault_at}}
+use Rattle.rio_host.specs.{Host.{View}, Source.{Input}}
+use Rattle.rio_dir.specs.{Closed.{closed_file, fault_of}, Listing.{key_lines, listed_file}}
+use Rattle.rio_meaning.specs.{declared.item.Item.{Item}, Described.{described_file}, Dump.{dump_text, dumped_file}}
 use Rattle.rio_scan.specs.Scan.{scan_text, scanned_file}
 use Rattle.rio_close.specs.Causes.{AnyKind, IsSayCauseOf, IsTested}
 use Rattle.rio_close.specs.declared.fault.ReportFault.TheVariants.{BadFile as FileBad, NoMemory as OutOfMemory, HostFault, SayFault as NotSaid}
 use Rattle.rio_report.specs.Lists.{AnswersOf, ListingAnswer}
-use Rattle.rootio.specs.declared.status.Status.{Status}
-use Rattle.rootio.specs.declared.status.Status.TheVariants.{BadFile}
-use Rattle.rootio.specs.declared.words.Form.TheVariants.{Reads}
-use Rattle.rootio.specs.declared.words.Listing.{Listing}
-use Rattle.rootio.specs.declared.words.Listing.TheVariants.{Ls, Dump, Scan}
-use Rattle.rootio.specs.Complete.{CanBeDone, IsComplete, IsDoneOrNoMemory, NoneRose}
-use Rattle.rootio.specs.Reading.{EndsListing, RefusesBroken, TellsFirstFault, TellsUnlessCut, rules_of}
-use Rattle.rootio.specs.Status.{status_of}
+use Rattle.rootio.specs.{declared.status.Status.{Status, TheVariants.{BadFile}}, declared.words.Form.TheVariants.{Reads}}
+use Rattle.rootio.specs.{declared.words.Listing.{Listing, TheVariants.{Ls, Dump, Scan}}, Complete.{CanBeDone, IsComplete, IsDoneOrNoMemory, NoneRose}}
+use Rattle.rootio.specs.{Reading.{EndsListing, RefusesBroken, TellsFirstFault, TellsUnlessCut, rules_of}, Status.{status_of}}
 
 -- ---- the first fault of a file is that of its listing
 

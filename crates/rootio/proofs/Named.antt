@@ -1,19 +1,13 @@
 -- A verb that writes has a file's name of at most 200 bytes.
 use Rattle.std.proofs.Common.{if◌then◌else◌, ◌≡◌, ◌⊎◌, inl, inr, ⊎_elim, ℕ, ◌≤◌, ◌&&◌, Bool, true, false, List, [], ◌∷◌, length, Option, Some, None, option_map, sym, refl, ap, subst, rules}
+use Rattle.std.proofs.lemmas.Bool.{and_parts}
 use Rattle.rio_meaning.specs.declared.item.Item.{Item}
 use Rattle.rio_token.specs.Words.{num_of}
 use Rattle.rio_num.specs.Word.{is_item_text}
-use Rattle.std.specs.Prelude.{codes}
-use Rattle.std.specs.List.{list_all}
-use Rattle.std.specs.Str.{bytes_eq}
-use Rattle.std.proofs.lemmas.Bool.{and_parts}
-use Rattle.rootio.specs.declared.words.Form.{Form}
-use Rattle.rootio.specs.declared.words.Form.TheVariants.{Reads, Writes}
-use Rattle.rootio.specs.declared.words.Listing.TheVariants.{Dump, Scan}
-use Rattle.rootio.specs.declared.words.Work.{Work}
-use Rattle.rootio.specs.declared.words.Work.TheVariants.{Run}
-use Rattle.rootio.specs.Words.{asked_by, dump_of, form_of_words, is_file, is_no_flag, item_of, ls_of, run_of, scan_of_words, written_at}
-use Rattle.rootio.specs.Writing.{target_of}
+use Rattle.std.specs.{Prelude.{codes}, List.{list_all}, Str.{bytes_eq}}
+use Rattle.rootio.specs.{declared.words.Form.{Form, TheVariants.{Reads, Writes}}, declared.words.Listing.TheVariants.{Dump, Scan}}
+use Rattle.rootio.specs.declared.words.Work.{Work, TheVariants.{Run}}
+use Rattle.rootio.specs.{Words.{asked_by, dump_of, form_of_words, is_file, is_no_flag, item_of, ls_of, run_of, scan_of_words, written_at}, Writing.{target_of}}
 
 -- ---- choices
 

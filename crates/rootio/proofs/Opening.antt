@@ -1,47 +1,29 @@
 -- How a run of a script ends: where nothing is done, where the file isn't opened, and where it is.
 use Rattle.std.proofs.Common.{if◌then◌else◌, ◌≡◌, ◌⊎◌, inl, inr, ⊎_elim, ℕ, Bool, true, false, List, length, Option, Some, None, Result, Ok, Err, subst, sym, refl, ap, ◌∙◌}
 use Rattle.std.specs.Result.{OnOk}
-use Rattle.rio_head.specs.declared.fault.FileFault.{FileFault}
-use Rattle.rio_head.specs.declared.fault.HeadFault.{HeadFault}
-use Rattle.rio_head.specs.declared.reason.Reason.{Reason}
-use Rattle.rio_head.specs.declared.reason.Reason.TheVariants.{NotYet}
+use Rattle.rio_head.specs.{declared.fault.FileFault.{FileFault}, declared.fault.HeadFault.{HeadFault}, declared.reason.Reason.{Reason, TheVariants.{NotYet}}}
 use Rattle.rio_head.specs.Head.{fault_at}
-use Rattle.rio_host.specs.Host.{Becomes, Elapses, IsLawful, IsQuiet, View}
-use Rattle.rio_host.specs.OnlyReads.{Grown, OnlyReads}
-use Rattle.rio_host.proofs.Moments.{elapses_as, elapses_join}
-use Rattle.rio_host.proofs.ReadsLaws.{reads_none}
+use Rattle.rio_host.specs.{Host.{Any, Becomes, Elapses, IsLawful, IsQuiet, View}, OnlyReads.{Grown, OnlyReads}}
+use Rattle.rio_host.proofs.{Moments.{elapses_as, elapses_join}, ReadsLaws.{reads_none}, PiecesLaws.{grown_join}}
 use Rattle.rio_dir.specs.Unborn.{header_fault, is_unborn}
-use Rattle.rio_chain.specs.Stops.{Any}
 use Rattle.rio_chain.specs.Walks.{Told}
-use Rattle.rio_machine.specs.State.{State}
-use Rattle.rio_machine.specs.declared.command.Command.{Command}
+use Rattle.rio_machine.specs.{State.{State}, declared.command.Command.{Command}}
 use Rattle.rio_meaning.specs.FirstFault.{HeaderAlone}
 use Rattle.rio_cmd.specs.Built.{built_script}
 use Rattle.rio_step.specs.Costs.{HasFileRoom}
-use Rattle.rio_state.specs.Reads.{ReadsAsState}
-use Rattle.rio_state.specs.Reasons.{reason_at}
+use Rattle.rio_state.specs.{Reads.{ReadsAsState}, Reasons.{reason_at}}
 use Rattle.rio_create.specs.Creation.{LeavesUnclosed}
-use Rattle.rio_session.specs.Closes.{IsWellClosed}
-use Rattle.rio_session.specs.Causes.{IsNotOpened, IsOpenCause, IsSessionCause, NoCountRose, TellsWhyNot}
-use Rattle.rio_session.specs.Marks.{marks_of_run}
+use Rattle.rio_session.specs.{Closes.{IsWellClosed}, Causes.{IsNotOpened, IsOpenCause, IsSessionCause, NoCountRose, TellsWhyNot}, Marks.{marks_of_run}}
 use Rattle.rio_session.specs.Session.{BeginsNew, SessionState, StandsFor}
-use Rattle.rio_session.specs.declared.fault.OpenFault.{OpenFault}
-use Rattle.rio_session.specs.declared.fault.OpenFault.TheVariants.{BadFile as FileBad, ReadOnly as FileReadOnly, NoMemory as NotRoomy, HostFault as NotOpened}
-use Rattle.rio_session.specs.declared.fault.SessionFault.{SessionFault}
-use Rattle.rio_session.specs.declared.fault.SessionFault.TheVariants.{HostFault, SayFault as NotSaid, NoMemory as OutOfMemory}
+use Rattle.rio_session.specs.declared.fault.OpenFault.{OpenFault, TheVariants.{BadFile as FileBad, ReadOnly as FileReadOnly, NoMemory as NotRoomy, HostFault as NotOpened}}
+use Rattle.rio_session.specs.declared.fault.SessionFault.{SessionFault, TheVariants.{HostFault, SayFault as NotSaid, NoMemory as OutOfMemory}}
 use Rattle.rio_session.proofs.Spoken.{front_none, grows_none}
-use Rattle.rootio.specs.Headline.{IsRunDone, IsStopOf, SaidFindRoom, ScriptRun, all_replies, opening_length}
-use Rattle.rootio.specs.Reading.{RefusesBroken, TellsFirstFault}
-use Rattle.rootio.specs.Script.{HasClosed, IsFileCause, RunsScript, StaysOpenBy, session_run, status_of_open, status_of_session}
-use Rattle.rootio.specs.Target.{TargetFile}
+use Rattle.rootio.specs.{Headline.{IsRunDone, IsStopOf, SaidFindRoom, ScriptRun, all_replies, opening_length}, Reading.{RefusesBroken, TellsFirstFault}}
+use Rattle.rootio.specs.{Script.{HasClosed, IsFileCause, RunsScript, StaysOpenBy, session_run, status_of_open, status_of_session}, Target.{TargetFile}}
 use Rattle.rootio.specs.Writing.{BeginsRun, EndsUnclosed, RefusesFile, RefusesReadOnly, TellsFirstReason, made_reason, run_of_work}
-use Rattle.rootio.specs.declared.status.Status.TheVariants.{Done, BadFile, NoMemory, ReadOnly}
-use Rattle.rootio.specs.declared.words.Form.TheVariants.{Writes}
+use Rattle.rootio.specs.{declared.status.Status.TheVariants.{Done, BadFile, NoMemory, ReadOnly}, declared.words.Form.TheVariants.{Writes}}
 use Rattle.rootio.specs.declared.words.Work.TheVariants.{Run}
-use Rattle.rootio.proofs.Room.{silent_room}
-use Rattle.rootio.proofs.SaidFronts.{grows_join, said_front}
-use Rattle.rootio.proofs.Scripts.{OpensAs, stop_opening}
-use Rattle.rootio.proofs.Unclosed.{ends_unclosed}
+use Rattle.rootio.proofs.{Room.{silent_room}, SaidFronts.{said_front}, Scripts.{OpensAs, stop_opening}, Unclosed.{ends_unclosed}}
 use Rattle.rootio.proofs.Untouched.{any_join, becomes_same, elapses_none}
 
 -- ---- nothing was done
@@ -259,7 +241,7 @@ module _ (target : TargetFile) (script : List ℕ) (v0 v1 v2 : View) (s : Sessio
     stops = does_all;
     said = λ file text m begins.
         said_front v0 v2 file text m (run_of_work (Run target) script m) law law' begins (does_all file text m begins) (any_join v0.holds v1.holds v2.holds told01 told12)
-        (grows_join v0.said v1.said v2.said (grows_none v0.said v1.said said01) said12);
+        (grown_join v0.said v1.said v2.said (grows_none v0.said v1.said said01) said12);
     room = λ file text m begins.
         subst (λ (run : ScriptRun). HasFileRoom (opening_length file) m run.commands run.marks → SaidFindRoom run text v2) (run_same target script s commands m new are)
         (λ room.

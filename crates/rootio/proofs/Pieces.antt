@@ -1,13 +1,10 @@
 -- An input, piece after piece.
 use Rattle.std.proofs.Common.{◌≡◌, ℕ, ◌+◌, ◌-◌, ◌<◌, ◌≤◌, List, [], ◌++◌, length, length-append, length-take, take, append_assoc, Option, Some, None, Err, refl, sym, ap, ◌∙◌, arith}
 use Rattle.std.proofs.lemmas.List.{append-nil}
-use Rattle.rio_host.specs.Host.{Becomes}
-use Rattle.rio_host.specs.Source.{Fills, Input}
+use Rattle.rio_host.specs.{Host.{Becomes}, Source.{Fills, Input}}
 use Rattle.rio_host.proofs.Images.{becomes_as, becomes_join, becomes_some}
-use Rattle.rootio.specs.Causes.{NoInputFault}
-use Rattle.rootio.specs.Input.{IsTooLong, ReadsAll, Taken, TakenAll, TakesMore, TakesPiece, input_limit}
-use Rattle.rootio.specs.declared.input.InputError.{InputError}
-use Rattle.rootio.specs.declared.input.InputError.TheVariants.{Fault, NoMemory, TooLong}
+use Rattle.rootio.specs.{Causes.{NoInputFault}, Input.{IsTooLong, ReadsAll, Taken, TakenAll, TakesMore, TakesPiece, input_limit}}
+use Rattle.rootio.specs.declared.input.InputError.{InputError, TheVariants.{Fault, NoMemory, TooLong}}
 
 -- ---- one piece
 

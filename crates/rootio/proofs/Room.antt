@@ -1,22 +1,14 @@
 -- The costs of a run's commands, and where there is room for them.
 use Rattle.std.proofs.Common.{◌≡◌, inl, inr, ℕ, zero, suc, add-zero, length-append, length-take, Some, Err, ◌+◌, ◌*◌, ◌-◌, ◌^◌, ◌<◌, ◌≤◌, min, List, [], ◌∷◌, ◌++◌, length, take, drop, take-append-drop, subst, sym, refl, ap, ◌∙◌, arith}
-use Rattle.std.proofs.lemmas.Bool.{cases_lt}
-use Rattle.std.proofs.lemmas.Option.{get_or_from_slice_get, same_Some, slice_get_within}
+use Rattle.std.proofs.{lemmas.Bool.{cases_lt}, lemmas.Option.{get_or_from_slice_get, same_Some, slice_get_within}}
 use Rattle.rio_host.specs.Host.{View}
-use Rattle.rio_machine.specs.State.{State}
-use Rattle.rio_machine.specs.declared.command.Command.{Command}
-use Rattle.rio_machine.specs.declared.command.Command.TheVariants.{Ls}
-use Rattle.rio_machine.specs.declared.command.Outcome.{Outcome}
+use Rattle.rio_machine.specs.{State.{State}, declared.command.Command.{Command, TheVariants.{Ls}}, declared.command.Outcome.{Outcome}}
 use Rattle.rio_machine.specs.declared.refusal.Refusal.TheVariants.{Full}
-use Rattle.rio_step.specs.Costs.{HasFileRoom, cost_of, costs_of_run, room_limit}
-use Rattle.rio_step.specs.Runs.{Marks, first_step, later_marks, state_after}
+use Rattle.rio_step.specs.{Costs.{HasFileRoom, cost_of, costs_of_run, room_limit}, Runs.{Marks, first_step, later_marks, state_after}}
 use Rattle.rio_step.specs.Step.{Reply, class_declared, object_put, item_deleted, tree_made, row_added, rows_saved, object_told, rows_told, items_listed, refused, outcome_of}
 use Rattle.rio_step.specs.ReplyText.{text_of}
-use Rattle.rio_session.specs.Behind.{SaysPart}
-use Rattle.rio_session.specs.Causes.{IsSaid, SaysNothing}
-use Rattle.rio_session.specs.Session.{LacksRoomIfFull, SessionState, with_cost}
-use Rattle.rio_session.specs.declared.fault.SessionFault.{SessionFault}
-use Rattle.rio_session.specs.declared.fault.SessionFault.TheVariants.{HostFault, SayFault, NoMemory}
+use Rattle.rio_session.specs.{Behind.{SaysPart}, Causes.{IsSaid, SaysNothing}, Session.{LacksRoomIfFull, SessionState, with_cost}}
+use Rattle.rio_session.specs.declared.fault.SessionFault.{SessionFault, TheVariants.{HostFault, SayFault, NoMemory}}
 use Rattle.rootio.specs.Headline.{AllFindRoom, IsWantOfRoom, SaidFindRoom, ScriptRun, replies, reply_at}
 use Rattle.rootio.proofs.RunStops.{IsNext, behind, pushed, replies_grow, replies_longer}
 

@@ -1,23 +1,15 @@
 -- What a stop leaves of a run: between two commands, within one, and within the close.
 use Rattle.std.proofs.Common.{◌≡◌, inl, inr, ℕ, zero, suc, ◌+◌, ◌<◌, ◌≤◌, List, [], ◌∷◌, ◌++◌, length, length-append, length-take, take, drop, get_or, sym, refl, ap, ◌∙◌, arith, append_assoc}
-use Rattle.std.proofs.lemmas.Bool.{cases_lt}
-use Rattle.std.proofs.lemmas.List.{append-nil, drop-drop, take_all, take-append-le, take_more}
+use Rattle.std.proofs.{lemmas.Bool.{cases_lt}, lemmas.List.{append-nil, take_all, take-append-le, take_more}}
 use Rattle.std.specs.List.{slice_get}
-use Rattle.rio_machine.specs.State.{State}
-use Rattle.rio_machine.specs.declared.command.Command.{Command}
-use Rattle.rio_machine.specs.declared.command.Command.TheVariants.{Ls}
-use Rattle.rio_step.proofs.RunLaws.{each_says, replies_say_something, runs_begin_alike, said_in_parts}
-use Rattle.rio_step.specs.ReplyText.{text_of}
-use Rattle.rio_step.specs.Runs.{Marks, first_step, later_marks, said_of, saved_of, state_after, states_of_run}
-use Rattle.rio_step.specs.Step.{Stepped}
+use Rattle.rio_machine.specs.{State.{State}, declared.command.Command.{Command, TheVariants.{Ls}}}
+use Rattle.rio_step.proofs.RunLaws.{drop_later, each_says, replies_say_something, runs_begin_alike, said_in_parts}
+use Rattle.rio_step.specs.{ReplyText.{text_of}, Runs.{Marks, first_step, later_marks, said_of, saved_of, state_after, states_of_run}, Step.{Stepped}}
 use Rattle.rio_state.specs.Left.{IsLeftAs}
 use Rattle.rio_session.specs.Session.{ClosesAs}
 use Rattle.rootio.specs.Headline.{HasSaid, HoldsPrefix, IsStopOf, ScriptRun, all_replies, replies}
 
 -- ---- one command more
-
-pub drop_one : (n : ℕ) (marks : Marks) → drop n (later_marks marks) ≡ drop (suc n) marks
-drop_one n marks = let e : 1 + n ≡ suc n = omega arith in drop-drop n 1 marks ∙ ap (λ k. drop k marks) e
 
 -- the state behind one command more
 state_push : (m : State) (cs : List Command) (c : Command) (marks : Marks)
@@ -27,7 +19,7 @@ state_push m [] c marks = refl
 state_push m (d ∷ cs) c marks =
     let next = first_step m d marks in
     state_push next.state cs c (later_marks marks)
-    ∙ ap (λ left. (first_step (state_after next.state cs (later_marks marks)) c left).state) (drop_one (length cs) marks)
+    ∙ ap (λ left. (first_step (state_after next.state cs (later_marks marks)) c left).state) (drop_later (length cs) marks)
 
 -- the states behind all commands are those of the close
 states_end : (m : State) (cs : List Command) (marks : Marks) (k : ℕ)

@@ -1,19 +1,10 @@
 -- What a run has said, whatever it answers: a front of all replies.
-use Rattle.std.proofs.Common.{◌≡◌, ⊎_elim, ℕ, List, ◌++◌, append_assoc, Option, Some, sym, ap, ◌∙◌}
-use Rattle.std.proofs.lemmas.List.{append-nil}
-use Rattle.rio_host.specs.Host.{Becomes, Elapses, IsLawful, View}
-use Rattle.rio_host.specs.OnlyReads.{Grown}
-use Rattle.rio_host.proofs.Images.{becomes_join, becomes_some}
-use Rattle.rio_host.proofs.Moments.{leaves_back}
-use Rattle.rio_chain.specs.Stops.{Any}
+use Rattle.std.proofs.{Common.{◌≡◌, ⊎_elim, ℕ, List, Option, Some, sym, ap, ◌∙◌}, lemmas.List.{append-nil}}
+use Rattle.rio_host.specs.{Host.{Any, Becomes, Elapses, IsLawful, View}, OnlyReads.{Grown}}
+use Rattle.rio_host.proofs.{Images.{becomes_some}, Moments.{leaves_back}}
 use Rattle.rio_machine.specs.State.{State}
 use Rattle.rio_session.specs.Behind.{SaysPart}
-use Rattle.rootio.specs.Headline.{IsStopOf, ScriptRun, all_replies}
-use Rattle.rootio.specs.Writing.{BeginsRun}
-
-pub grows_join : (a b c : Option (List ℕ)) → Becomes Grown a b → Becomes Grown b c → Becomes Grown a c
-grows_join a b c one two =
-    becomes_join Grown Grown Grown a b c (λ x y z p q. (p.0 ++ q.0, q.1 ∙ ap (λ (l : List ℕ). l ++ q.0) p.1 ∙ append_assoc x p.0 q.0)) one two
+use Rattle.rootio.specs.{Headline.{IsStopOf, ScriptRun, all_replies}, Writing.{BeginsRun}}
 
 abbrev some_said : List ℕ → Option (List ℕ)
 some_said l = Some l

@@ -1,17 +1,14 @@
 -- A script on a file that isn't opened, and on one that is.
 use Rattle.std.proofs.Common.{◌≡◌, ℕ, Bool, true, false, List, [], ◌++◌, Option, Some, None, MatchBool, option_map, subst, sym, refl, ap, ◌∙◌, arith}
 use Rattle.std.proofs.lemmas.List.{append-nil}
-use Rattle.std.specs.FinMap.{get, get-empty}
-use Rattle.std.specs.Option.{option_and_then}
+use Rattle.std.specs.{FinMap.{get, get-empty}, Option.{option_and_then}}
+use Rattle.rio_num.specs.Word.{name_order}
 use Rattle.rio_dir.specs.Unborn.{is_unborn}
 use Rattle.rio_machine.proofs.OrderLaws.{same_state}
-use Rattle.rio_machine.specs.State.{State, empty_state, name_order}
-use Rattle.rio_step.proofs.ClosedLaws.{saved_keeps_the_rest}
-use Rattle.rio_step.proofs.RunLaws.{runs_begin_alike}
+use Rattle.rio_machine.specs.State.{State, empty_state}
+use Rattle.rio_step.proofs.{ClosedLaws.{saved_keeps_the_rest}, RunLaws.{runs_begin_alike}}
 use Rattle.rio_step.specs.Runs.{said_of, saved_of, saved_tree, state_after}
-use Rattle.rio_state.specs.Contents.{tree_of}
-use Rattle.rio_state.specs.Left.{ReadsClosedUnlessOpen}
-use Rattle.rio_state.specs.Reads.{ReadsAsMade, ReadsAsState}
+use Rattle.rio_state.specs.{Contents.{tree_of}, Left.{ReadsClosedUnlessOpen}, Reads.{ReadsAsMade, ReadsAsState}}
 use Rattle.rootio.specs.Headline.{HoldsPrefix, IsStopOf, ScriptRun, replies}
 use Rattle.rootio.proofs.RunStops.{behind, stop_between}
 

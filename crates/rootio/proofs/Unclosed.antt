@@ -1,20 +1,14 @@
 -- Runs that end without a close: what a stop leaves is marked as open.
 use Rattle.std.proofs.Common.{◌≡◌, inl, inr, ⊎_elim, List, ◌++◌, ℕ, Some, Result, Ok, Err, subst, sym, refl}
-use Rattle.rio_host.specs.Host.{Elapses, IsLawful, View}
-use Rattle.rio_host.specs.OnlyReads.{OnlyReads}
-use Rattle.rio_host.proofs.Moments.{leaves_back}
-use Rattle.rio_host.proofs.ReadsLaws.{left_before}
+use Rattle.rio_host.specs.{Host.{Elapses, IsLawful, View}, OnlyReads.{OnlyReads}}
+use Rattle.rio_host.proofs.{Moments.{leaves_back}, ReadsLaws.{left_before}}
 use Rattle.rio_machine.specs.State.{State}
 use Rattle.rio_step.specs.Step.{Stepped}
 use Rattle.rio_state.specs.Left.{IsMarkedOpen}
-use Rattle.rio_session.specs.Causes.{IsCloseCause}
-use Rattle.rio_session.specs.Session.{IsReady, SessionState, StandsFor, Steps}
-use Rattle.rio_session.specs.declared.fault.SessionFault.{SessionFault}
-use Rattle.rio_session.specs.declared.fault.SessionFault.TheVariants.{HostFault, SayFault, NoMemory}
+use Rattle.rio_session.specs.{Causes.{IsCloseCause}, Session.{IsReady, SessionState, StandsFor, Steps}}
+use Rattle.rio_session.specs.declared.fault.SessionFault.{SessionFault, TheVariants.{HostFault, SayFault, NoMemory}}
 use Rattle.rio_session.proofs.Opened.{reads_open}
-use Rattle.rootio.specs.Headline.{ScriptRun, all_replies}
-use Rattle.rootio.specs.Script.{StaysOpenBy, status_of_session}
-use Rattle.rootio.specs.Writing.{EndsUnclosed, LeavesOpen, StandsUnsaid}
+use Rattle.rootio.specs.{Headline.{ScriptRun, all_replies}, Script.{StaysOpenBy, status_of_session}, Writing.{EndsUnclosed, LeavesOpen, StandsUnsaid}}
 
 pub steps_are_open : (m : State) (next : Stepped) (text image said : List ℕ) → Steps m next text image said → IsMarkedOpen image
 steps_are_open m next text image said (inl was) = was.0.marked

@@ -1,9 +1,7 @@
 -- A host that stays as it is, and one that is told again and again.
 use Rattle.std.proofs.Common.{inl, ℕ, List, Option, Some, None, refl, arith}
-use Rattle.rio_host.specs.Host.{Becomes, Elapses, View}
-use Rattle.rio_host.proofs.Images.{becomes_join}
-use Rattle.rio_host.proofs.Moments.{Outcomes}
-use Rattle.rio_chain.specs.Stops.{Any}
+use Rattle.rio_host.specs.Host.{Any, Becomes, Elapses, View}
+use Rattle.rio_host.proofs.{Images.{becomes_join}, Moments.{Outcomes}}
 
 pub becomes_same : (o : Option (List ℕ)) → Becomes Any o o
 becomes_same None = refl

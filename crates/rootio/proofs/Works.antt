@@ -1,33 +1,20 @@
 -- How a verb ends that writes: where its input isn't read whole, and where it is.
 use Rattle.std.proofs.Common.{◌≡◌, inl, inr, ℕ, List, length, Some, Ok, Err, subst, sym, refl, ap, ◌∙◌, arith}
 use Rattle.rio_num.specs.Room.{Room}
-use Rattle.rio_head.specs.declared.fault.FileFault.{FileFault}
-use Rattle.rio_head.specs.declared.fault.HeadFault.{HeadFault}
-use Rattle.rio_head.specs.declared.reason.Reason.{Reason}
-use Rattle.rio_host.specs.Host.{Elapses, View}
-use Rattle.rio_host.specs.Source.{Input}
-use Rattle.rio_host.proofs.Images.{becomes_some}
-use Rattle.rio_host.proofs.ReadsLaws.{reads_none}
+use Rattle.rio_head.specs.{declared.fault.FileFault.{FileFault}, declared.fault.HeadFault.{HeadFault}, declared.reason.Reason.{Reason}}
+use Rattle.rio_host.specs.{Host.{Elapses, View}, Source.{Input}}
+use Rattle.rio_host.proofs.{Images.{becomes_some}, ReadsLaws.{reads_none}}
 use Rattle.rio_state.specs.Reasons.{ReasonAt}
-use Rattle.rootio.specs.Causes.{IsCause, NoInputFault}
+use Rattle.rootio.specs.{Causes.{IsCause, NoInputFault}, Headline.{IsRunDone, IsStopOf, SaidFindRoom, ScriptRun, all_replies, opening_length}}
+use Rattle.rootio.specs.{Input.{IsPastInput, ReadsAll, RefusesTooLong, TakenAll, TellsTooLong, status_of_input}, Reading.{TellsUnlessCut}}
+use Rattle.rootio.specs.{Script.{IsFileCause, RunsScript, WorksOn}, Target.{TargetFile}, Writing.{EndsUnclosed, RefusesFile, TellsReasonUnlessCut, run_of_work}}
+use Rattle.rootio.specs.declared.input.InputError.{InputError, TheVariants.{Fault, NoMemory as OutOfMemory, TooLong}}
+use Rattle.rootio.specs.declared.status.Status.{Status, TheVariants.{Done, Usage, BadFile, DiskFault, InputFault, NoMemory, InputTooLong, ReadOnly, SayFault}}
+use Rattle.rootio.specs.{declared.words.Form.TheVariants.{Writes}, declared.words.Work.{Work, TheVariants.{Run}}}
 use Rattle.rio_step.specs.Costs.{HasFileRoom}
 use Rattle.rio_session.specs.Behind.{SaysPart}
 use Rattle.rio_session.proofs.Spoken.{front_none}
-use Rattle.rootio.specs.Headline.{IsRunDone, IsStopOf, SaidFindRoom, ScriptRun, all_replies, opening_length}
-use Rattle.rootio.specs.Input.{IsPastInput, ReadsAll, RefusesTooLong, TakenAll, TellsTooLong, status_of_input}
-use Rattle.rootio.specs.Reading.{TellsUnlessCut}
-use Rattle.rootio.specs.Script.{IsFileCause, RunsScript, WorksOn}
-use Rattle.rootio.specs.Target.{TargetFile}
-use Rattle.rootio.specs.Writing.{EndsUnclosed, RefusesFile, TellsReasonUnlessCut, run_of_work}
-use Rattle.rootio.specs.declared.input.InputError.{InputError}
-use Rattle.rootio.specs.declared.input.InputError.TheVariants.{Fault, NoMemory as OutOfMemory, TooLong}
-use Rattle.rootio.specs.declared.status.Status.{Status}
-use Rattle.rootio.specs.declared.status.Status.TheVariants.{Done, Usage, BadFile, DiskFault, InputFault, NoMemory, InputTooLong, ReadOnly, SayFault}
-use Rattle.rootio.specs.declared.words.Form.TheVariants.{Writes}
-use Rattle.rootio.specs.declared.words.Work.{Work}
-use Rattle.rootio.specs.declared.words.Work.TheVariants.{Run}
-use Rattle.rootio.proofs.Room.{silent_room}
-use Rattle.rootio.proofs.Untouched.{becomes_same, elapses_none}
+use Rattle.rootio.proofs.{Room.{silent_room}, Untouched.{becomes_same, elapses_none}}
 
 -- ---- no input
 

@@ -1,12 +1,10 @@
 -- Why a run ended so: which counts of faults rose.
 use Rattle.std.specs.Prelude.{◌≡◌, true, Option, None}
 use Rattle.rio_head.specs.declared.reason.Reason.TheVariants.{NotYet}
-use Rattle.rio_host.specs.Host.{Rose, View}
-use Rattle.rio_host.specs.Source.{Input}
+use Rattle.rio_host.specs.{Host.{Rose, View}, Source.{Input}}
 use Rattle.rio_close.specs.Causes.{NoDiskFault, NoSayFault}
 use Rattle.rootio.specs.Reading.{reads_input, tested_by, writes_of}
-use Rattle.rootio.specs.declared.status.Status.{Status}
-use Rattle.rootio.specs.declared.status.Status.TheVariants.{Done, Usage, BadFile, DiskFault, InputFault, NoMemory, InputTooLong, ReadOnly, SayFault}
+use Rattle.rootio.specs.declared.status.Status.{Status, TheVariants.{Done, Usage, BadFile, DiskFault, InputFault, NoMemory, InputTooLong, ReadOnly, SayFault}}
 use Rattle.rootio.specs.declared.words.Form.{Form}
 
 -- no read of the input failed

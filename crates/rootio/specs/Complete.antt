@@ -1,15 +1,11 @@
 -- Where nothing fails, all is done unless memory runs out.
 use Rattle.std.specs.Prelude.{◌≡◌, ◌≤◌, ℕ, List, length, true, Some, None}
-use Rattle.rio_host.specs.Host.{Rose, View}
-use Rattle.rio_host.specs.Source.{Input}
+use Rattle.rio_host.specs.{Host.{Rose, View}, Source.{Input}}
 use Rattle.rio_dir.specs.Unborn.{is_unborn}
 use Rattle.rio_meaning.specs.FirstFault.{first_fault}
-use Rattle.rootio.specs.Input.{input_limit}
-use Rattle.rootio.specs.Reading.{rules_of}
-use Rattle.rootio.specs.declared.status.Status.{Status}
-use Rattle.rootio.specs.declared.status.Status.TheVariants.{Done, Usage, BadFile, DiskFault, InputFault, NoMemory, InputTooLong, ReadOnly, SayFault}
-use Rattle.rootio.specs.declared.words.Form.{Form}
-use Rattle.rootio.specs.declared.words.Form.TheVariants.{Reads, Writes}
+use Rattle.rootio.specs.{Input.{input_limit}, Reading.{rules_of}}
+use Rattle.rootio.specs.declared.status.Status.{Status, TheVariants.{Done, Usage, BadFile, DiskFault, InputFault, NoMemory, InputTooLong, ReadOnly, SayFault}}
+use Rattle.rootio.specs.declared.words.Form.{Form, TheVariants.{Reads, Writes}}
 
 -- the file is told and breaks no rule that the verb tests
 pub record IsSound (form : Form) (old : View) : Type 0 where

@@ -5,14 +5,9 @@
 use Rattle.std.specs.Prelude.{◌≡◌, ◌<◌, ◌≤◌, ℕ, ◌+◌, List, ◌++◌, length, take, drop, slice_get, Some, if◌then◌else◌}
 use Rattle.rio_host.specs.Host.{Leaves, View}
 use Rattle.rio_dir.specs.Unborn.{is_unborn}
-use Rattle.rio_machine.specs.State.{State}
-use Rattle.rio_machine.specs.declared.command.Command.{Command}
-use Rattle.rio_machine.specs.declared.refusal.Refusal.TheVariants.{Full}
-use Rattle.rio_step.specs.Costs.{HasFileRoom}
-use Rattle.rio_step.specs.Runs.{Marks, closed_of, first_step, said_of, saved_of, state_after, states_of_run}
-use Rattle.rio_step.specs.Step.{Reply, refused}
-use Rattle.rio_state.specs.Left.{ReadsClosedUnlessOpen}
-use Rattle.rio_state.specs.Reads.{ReadsAsState, ReadsClosed}
+use Rattle.rio_machine.specs.{State.{State}, declared.command.Command.{Command}, declared.refusal.Refusal.TheVariants.{Full}}
+use Rattle.rio_step.specs.{Costs.{HasFileRoom}, Runs.{Marks, closed_of, first_step, said_of, saved_of, state_after, states_of_run}, Step.{Reply, refused}}
+use Rattle.rio_state.specs.{Left.{ReadsClosedUnlessOpen}, Reads.{ReadsAsState, ReadsClosed}}
 
 -- ---- a run
 

@@ -1,14 +1,10 @@
 -- The input: all of it is read before anything else is looked at, up to its limit.
 use Rattle.std.specs.Prelude.{◌≡◌, ◌<◌, ◌≤◌, ℕ, ◌+◌, List, [], ◌++◌, length, Some, Bool, true, false, Option, Result, Ok, Err}
 use Rattle.rio_num.specs.Room.{Room}
-use Rattle.rio_host.specs.Host.{Becomes, Rose}
-use Rattle.rio_host.specs.Source.{Input}
-use Rattle.rootio.specs.Causes.{NoInputFault}
-use Rattle.rootio.specs.Reading.{reads_input}
-use Rattle.rootio.specs.declared.input.InputError.{InputError}
-use Rattle.rootio.specs.declared.input.InputError.TheVariants.{Fault, NoMemory as OutOfMemory, TooLong}
-use Rattle.rootio.specs.declared.status.Status.{Status}
-use Rattle.rootio.specs.declared.status.Status.TheVariants.{Done, Usage, BadFile, DiskFault, InputFault, NoMemory, InputTooLong, ReadOnly, SayFault}
+use Rattle.rio_host.specs.{Host.{Becomes, Rose}, Source.{Input}}
+use Rattle.rootio.specs.{Causes.{NoInputFault}, Reading.{reads_input}}
+use Rattle.rootio.specs.declared.input.InputError.{InputError, TheVariants.{Fault, NoMemory as OutOfMemory, TooLong}}
+use Rattle.rootio.specs.declared.status.Status.{Status, TheVariants.{Done, Usage, BadFile, DiskFault, InputFault, NoMemory, InputTooLong, ReadOnly, SayFault}}
 use Rattle.rootio.specs.declared.words.Form.{Form}
 
 -- how many bytes an input may have

@@ -1,24 +1,16 @@
 -- What the words ask for, what of a file it tests, and how a run ends that says a listing.
 use Rattle.std.specs.Prelude.{◌≡◌, ℕ, List, Bool, true, false, Option, Some, None}
-use Rattle.rio_head.specs.declared.fault.FileFault.{FileFault}
-use Rattle.rio_head.specs.declared.fault.HeadFault.{HeadFault}
-use Rattle.rio_head.specs.Head.{IsHeaderKind, fault_at}
+use Rattle.rio_head.specs.{declared.fault.FileFault.{FileFault}, declared.fault.HeadFault.{HeadFault}, Head.{IsHeaderKind, fault_at}}
 use Rattle.rio_host.specs.Host.{View}
 use Rattle.rio_dir.specs.Listing.{listed_file}
-use Rattle.rio_meaning.specs.Dump.{dumped_file}
-use Rattle.rio_meaning.specs.FirstFault.{HeaderAlone, Tests, ToClassList, ToKeyList, first_fault}
+use Rattle.rio_meaning.specs.{Dump.{dumped_file}, FirstFault.{HeaderAlone, Tests, ToClassList, ToKeyList, first_fault}}
 use Rattle.rio_scan.specs.Scan.{scanned_file}
 use Rattle.rio_close.specs.Causes.{AnyKind, IsTested, NoKind}
 use Rattle.rio_report.specs.Lists.{AtOnce, InPieces, ListingAnswer, Lists}
 use Rattle.rootio.specs.Status.{status_of}
-use Rattle.rootio.specs.declared.status.Status.{Status}
-use Rattle.rootio.specs.declared.status.Status.TheVariants.{Done, Usage, BadFile, DiskFault, InputFault, NoMemory, InputTooLong, ReadOnly, SayFault}
-use Rattle.rootio.specs.declared.words.Form.{Form}
-use Rattle.rootio.specs.declared.words.Form.TheVariants.{Reads, Writes}
-use Rattle.rootio.specs.declared.words.Listing.{Listing}
-use Rattle.rootio.specs.declared.words.Listing.TheVariants.{Ls, Dump, Scan}
-use Rattle.rootio.specs.declared.words.Work.{Work}
-use Rattle.rootio.specs.declared.words.Work.TheVariants.{Run}
+use Rattle.rootio.specs.declared.status.Status.{Status, TheVariants.{Done, Usage, BadFile, DiskFault, InputFault, NoMemory, InputTooLong, ReadOnly, SayFault}}
+use Rattle.rootio.specs.{declared.words.Form.{Form, TheVariants.{Reads, Writes}}, declared.words.Listing.{Listing, TheVariants.{Ls, Dump, Scan}}}
+use Rattle.rootio.specs.declared.words.Work.{Work, TheVariants.{Run}}
 
 -- ---- what the words ask for
 

@@ -1,36 +1,21 @@
 -- A script on a file: how a run of it ends.
 use Rattle.std.specs.Prelude.{◌≡◌, ◌⊎◌, ℕ, List, ◌++◌, Some, Result, Ok, Err}
-use Rattle.rio_head.specs.Head.{IsHeaderKind}
-use Rattle.rio_head.specs.declared.reason.Reason.TheVariants.{NotYet}
-use Rattle.rio_host.specs.Host.{Becomes, Elapses, Leaves, Rose, View}
-use Rattle.rio_host.specs.Source.{Input}
-use Rattle.rio_chain.specs.Stops.{Any}
+use Rattle.rio_head.specs.{Head.{IsHeaderKind}, declared.reason.Reason.TheVariants.{NotYet}}
+use Rattle.rio_host.specs.{Host.{Any, Becomes, Elapses, Leaves, Rose, View}, Source.{Input}}
 use Rattle.rio_meaning.specs.FirstFault.{HeaderAlone}
 use Rattle.rio_close.specs.Causes.{NoDiskFault, NoSayFault}
-use Rattle.rio_machine.specs.State.{State}
-use Rattle.rio_machine.specs.declared.command.Command.{Command}
-use Rattle.rio_step.specs.Costs.{HasFileRoom}
-use Rattle.rio_step.specs.Runs.{state_after}
+use Rattle.rio_machine.specs.{State.{State}, declared.command.Command.{Command}}
+use Rattle.rio_step.specs.{Costs.{HasFileRoom}, Runs.{state_after}}
 use Rattle.rio_state.specs.Reads.{ReadsAsState, ReadsClosed}
-use Rattle.rio_session.specs.Behind.{SaysPart}
-use Rattle.rio_session.specs.Closes.{IsWellClosed}
-use Rattle.rio_session.specs.Marks.{marks_of_run}
-use Rattle.rio_session.specs.Session.{SessionState, StandsFor}
-use Rattle.rio_session.specs.declared.fault.OpenFault.{OpenFault}
-use Rattle.rio_session.specs.declared.fault.OpenFault.TheVariants.{BadFile as FileBad, ReadOnly as FileReadOnly, NoMemory as NotRoomy, HostFault as NotOpened}
-use Rattle.rio_session.specs.declared.fault.SessionFault.{SessionFault}
-use Rattle.rio_session.specs.declared.fault.SessionFault.TheVariants.{HostFault, SayFault as NotSaid, NoMemory as OutOfMemory}
-use Rattle.rootio.specs.Causes.{IsCause}
-use Rattle.rootio.specs.Input.{RefusesTooLong, TellsTooLong}
+use Rattle.rio_session.specs.{Behind.{SaysPart}, Closes.{IsWellClosed}, Marks.{marks_of_run}, Session.{SessionState, StandsFor}}
+use Rattle.rio_session.specs.declared.fault.OpenFault.{OpenFault, TheVariants.{BadFile as FileBad, ReadOnly as FileReadOnly, NoMemory as NotRoomy, HostFault as NotOpened}}
+use Rattle.rio_session.specs.declared.fault.SessionFault.{SessionFault, TheVariants.{HostFault, SayFault as NotSaid, NoMemory as OutOfMemory}}
+use Rattle.rootio.specs.{Causes.{IsCause}, Input.{RefusesTooLong, TellsTooLong}}
 use Rattle.rootio.specs.Headline.{AllFindRoom, IsRunDone, IsStopOf, SaidFindRoom, ScriptRun, all_replies, end_state, opening_length}
-use Rattle.rootio.specs.Reading.{RefusesBroken, TellsFirstFault}
-use Rattle.rootio.specs.Target.{TargetFile}
+use Rattle.rootio.specs.{Reading.{RefusesBroken, TellsFirstFault}, Target.{TargetFile}}
 use Rattle.rootio.specs.Writing.{BeginsRun, EndsUnclosed, EndsWriting, LeavesOpen, RefusesReadOnly, SparesRefused, StandsUnsaid, TellsFirstReason, run_of_work}
-use Rattle.rootio.specs.declared.status.Status.{Status}
-use Rattle.rootio.specs.declared.status.Status.TheVariants.{Done, Usage, BadFile, DiskFault, InputFault, NoMemory, InputTooLong, ReadOnly, SayFault}
-use Rattle.rootio.specs.declared.words.Form.TheVariants.{Writes}
-use Rattle.rootio.specs.declared.words.Work.{Work}
-use Rattle.rootio.specs.declared.words.Work.TheVariants.{Run}
+use Rattle.rootio.specs.declared.status.Status.{Status, TheVariants.{Done, Usage, BadFile, DiskFault, InputFault, NoMemory, InputTooLong, ReadOnly, SayFault}}
+use Rattle.rootio.specs.{declared.words.Form.TheVariants.{Writes}, declared.words.Work.{Work, TheVariants.{Run}}}
 
 -- the run of these commands from a session on
 abbrev pub session_run : SessionState → State → List Command → ScriptRun

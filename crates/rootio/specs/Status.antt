@@ -1,13 +1,9 @@
 -- The ways in which a run ends: exit status and text.
-use Rattle.std.specs.Prelude.{ℕ, List, [], ◌++◌, codes, Result, Ok, Err}
-use Rattle.std.specs.Fmt.{decimal}
-use Rattle.rio_head.specs.FaultName.{fault_name}
-use Rattle.rio_head.specs.ReasonName.{name_of_reason}
+use Rattle.std.specs.{Prelude.{ℕ, List, [], ◌++◌, codes, Result, Ok, Err}, Fmt.{decimal}}
+use Rattle.rio_head.specs.{FaultName.{fault_name}, ReasonName.{name_of_reason}}
 use Rattle.rio_num.specs.declared.no_memory.NoMemory.{NoMemory as NoMemoryFault}
-use Rattle.rio_close.specs.declared.fault.ReportFault.{ReportFault}
-use Rattle.rio_close.specs.declared.fault.ReportFault.TheVariants.{BadFile as FileBad, NoMemory as OutOfMemory, HostFault, SayFault as NotSaid}
-use Rattle.rootio.specs.declared.status.Status.{Status}
-use Rattle.rootio.specs.declared.status.Status.TheVariants.{Done, Usage, BadFile, DiskFault, InputFault, NoMemory, InputTooLong, ReadOnly, SayFault}
+use Rattle.rio_close.specs.declared.fault.ReportFault.{ReportFault, TheVariants.{BadFile as FileBad, NoMemory as OutOfMemory, HostFault, SayFault as NotSaid}}
+use Rattle.rootio.specs.declared.status.Status.{Status, TheVariants.{Done, Usage, BadFile, DiskFault, InputFault, NoMemory, InputTooLong, ReadOnly, SayFault}}
 
 abbrev pub status_code : Status → ℕ
 status_code Done = 0

@@ -1,13 +1,10 @@
 -- The form of the words of the command line.
 use Rattle.std.specs.Prelude.{ℕ, ◌+◌, List, [], ◌∷◌, length, take, drop, codes, Option, Some, None, option_map, Bool, true, not, nat_le, position, ◌==◌, ◌&&◌, if◌then◌else◌}
-use Rattle.std.specs.List.{list_all}
-use Rattle.std.specs.Str.{bytes_eq}
+use Rattle.std.specs.{List.{list_all}, Str.{bytes_eq}}
 use Rattle.rio_num.specs.Word.{is_item_text}
 use Rattle.rio_token.specs.Words.{num_of}
 use Rattle.rio_meaning.specs.declared.item.Item.{Item}
-use Rattle.rootio.specs.declared.words.Form.{Form}
-use Rattle.rootio.specs.declared.words.Form.TheVariants.{Reads, Writes}
-use Rattle.rootio.specs.declared.words.Listing.TheVariants.{Ls, Dump, Scan}
+use Rattle.rootio.specs.{declared.words.Form.{Form, TheVariants.{Reads, Writes}}, declared.words.Listing.TheVariants.{Ls, Dump, Scan}}
 use Rattle.rootio.specs.declared.words.Work.TheVariants.{Run}
 
 -- a word that doesn't begin with -

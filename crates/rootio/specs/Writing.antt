@@ -1,36 +1,18 @@
 -- What the verbs that write do: their commands, and what they leave of the file.
 use Rattle.std.specs.Prelude.{◌≡◌, ◌⊎◌, ℕ, ◌+◌, List, [], ◌++◌, slice_get, Bool, true, false, Option, Some, None}
-use Rattle.rio_head.specs.declared.fault.HeadFault.{HeadFault}
-use Rattle.rio_head.specs.declared.reason.Reason.{Reason}
-use Rattle.rio_head.specs.declared.reason.Reason.TheVariants.{NotYet}
-use Rattle.rio_host.specs.Host.{Becomes, Elapses, IsQuiet, Leaves, View}
-use Rattle.rio_host.specs.OnlyReads.{OnlyReads}
-use Rattle.rio_host.specs.Source.{Input}
+use Rattle.rio_head.specs.{declared.fault.HeadFault.{HeadFault}, declared.reason.Reason.{Reason, TheVariants.{NotYet}}}
+use Rattle.rio_host.specs.{Host.{Any, Becomes, Elapses, IsQuiet, Leaves, View}, OnlyReads.{OnlyReads}, Source.{Input}}
 use Rattle.rio_dir.specs.Unborn.{header_fault, is_unborn}
-use Rattle.rio_chain.specs.Stops.{Any}
-use Rattle.rio_machine.specs.State.{State}
-use Rattle.rio_machine.specs.declared.command.Command.{Command}
+use Rattle.rio_machine.specs.{State.{State}, declared.command.Command.{Command}}
 use Rattle.rio_cmd.specs.Built.{built_script}
-use Rattle.rio_state.specs.Left.{IsMarkedOpen}
-use Rattle.rio_step.specs.Costs.{HasFileRoom}
-use Rattle.rio_step.specs.ReplyText.{text_of}
-use Rattle.rio_step.specs.Runs.{saved_of}
-use Rattle.rio_state.specs.Reads.{ReadsAsState}
-use Rattle.rio_state.specs.Reasons.{ReasonAt, reason_at}
-use Rattle.rio_create.specs.Creation.{LeavesUnclosed}
-use Rattle.rio_create.specs.NewFile.{first_segments}
-use Rattle.rio_session.specs.Behind.{SaysPart}
-use Rattle.rio_session.specs.Closes.{IsWellClosed}
-use Rattle.rio_session.specs.Marks.{marks_of_run}
-use Rattle.rootio.specs.Headline.{IsRunDone, IsStopOf, SaidFindRoom, ScriptRun, all_replies, opening_length, replies, reply_at, states}
-use Rattle.rootio.specs.Input.{IsPastInput}
+use Rattle.rio_state.specs.{Left.{IsMarkedOpen}, Reads.{ReadsAsState}, Reasons.{ReasonAt, reason_at}}
+use Rattle.rio_step.specs.{Costs.{HasFileRoom}, ReplyText.{text_of}, Runs.{saved_of}}
+use Rattle.rio_create.specs.{Creation.{LeavesUnclosed}, NewFile.{first_segments}}
+use Rattle.rio_session.specs.{Behind.{SaysPart}, Closes.{IsWellClosed}, Marks.{marks_of_run}}
+use Rattle.rootio.specs.{Headline.{IsRunDone, IsStopOf, SaidFindRoom, ScriptRun, all_replies, opening_length, replies, reply_at, states}, Input.{IsPastInput}}
 use Rattle.rootio.specs.Target.{TargetFile}
-use Rattle.rootio.specs.declared.status.Status.{Status}
-use Rattle.rootio.specs.declared.status.Status.TheVariants.{Done, Usage, BadFile, DiskFault, InputFault, NoMemory, InputTooLong, ReadOnly, SayFault}
-use Rattle.rootio.specs.declared.words.Form.{Form}
-use Rattle.rootio.specs.declared.words.Form.TheVariants.{Reads, Writes}
-use Rattle.rootio.specs.declared.words.Work.{Work}
-use Rattle.rootio.specs.declared.words.Work.TheVariants.{Run}
+use Rattle.rootio.specs.declared.status.Status.{Status, TheVariants.{Done, Usage, BadFile, DiskFault, InputFault, NoMemory, InputTooLong, ReadOnly, SayFault}}
+use Rattle.rootio.specs.{declared.words.Form.{Form, TheVariants.{Reads, Writes}}, declared.words.Work.{Work, TheVariants.{Run}}}
 
 -- ---- what stands against writing
 

@@ -17,4 +17,4 @@ mod run;
 mod runs;
 mod scan;
 mod stops;
-mod worked;
+mod usage;

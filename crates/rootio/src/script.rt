@@ -1,9 +1,8 @@
 //! A script, from opening the file to closing it.
 ghost use Rattle.std.specs.Prelude.{◌≡◌, ◌≤◌, ◌<◌, ◌^◌, ℕ, List, length, true, false, OnOk, OnErr, IsErrOf};
 ghost use Rattle.std.specs.List.{list_all};
-ghost use Rattle.rio_host.specs.Host.{Becomes, Elapses};
+ghost use Rattle.rio_host.specs.Host.{Any, Becomes, Elapses};
 ghost use Rattle.rio_host.specs.OnlyReads.{Grown};
-ghost use Rattle.rio_chain.specs.Stops.{Any};
 ghost use Rattle.rio_machine.specs.State.{State};
 ghost use Rattle.rio_step.specs.Costs.{HasFileRoom};
 ghost use Rattle.rio_step.specs.Statable.{is_statable};

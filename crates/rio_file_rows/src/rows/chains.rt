@@ -1,43 +1,21 @@
 //! A walk along an empty file, and places for records.
+use super::parts::{END, FREE, FRONT, KEY_LIST};
 use rio_chain::{Chain, PlanFault, Segment, Segments, WalkFault, walk};
 use rio_host::MemHost;
 use rio_num::{Bytes, Lengths, NoMemory, Numbers, Places};
 use std::alloc::Global;
 
-// The header of an empty file `a.root`, without its identifier and the bytes behind it.
-const HEADER: &[u8] =
-    b"root\0\0\xea\x60\0\0\0\x64\0\0\x01\x30\0\0\0\xfc\0\0\0\x34\0\0\0\x01\0\0\0\x30\x04";
-
-const FIRST_KEY: &[u8] =
-    b"\0\0\0\x6c\0\x04\0\0\0\x44\0\0\0\x01\0\x28\0\x01\0\0\0\x64\0\0\0\0\x05TFile\x06a.root\0";
-
-// Name and title, and the directory record up to its identifier.
-const DIRECTORY: &[u8] =
-    b"\x06a.root\0\0\x05\0\0\0\x01\0\0\0\x01\0\0\0\x2c\0\0\0\x30\0\0\0\x64\0\0\0\0\0\0\0\xd0\0\x01";
-
-const KEY_LIST: &[u8] =
-    b"\0\0\0\x2c\0\x04\0\0\0\x04\0\0\0\x01\0\x28\0\x01\0\0\0\xd0\0\0\0\x64\x05TFile\x06a.root\0\0\0\0\0";
-
-const FREE: &[u8] =
-    b"\0\0\0\x34\0\x04\0\0\0\x0c\0\0\0\x01\0\x28\0\x01\0\0\0\xfc\0\0\0\x64\x05TFile\x06a.root\0\0\x01\0\0\x01\x30\x77\x35\x94\0\0\0";
-
-const ZEROS: &[u8] = &[0; 67];
-
-fn put_file(image: &mut Bytes) -> Result<(), NoMemory> {
-    image.put(HEADER)?;
-    image.put(ZEROS)?;
-    image.put(FIRST_KEY)?;
-    image.put(DIRECTORY)?;
-    image.put(&ZEROS[..28])?;
+// The closed file without objects, with these bytes behind its last record.
+fn put_file(image: &mut Bytes, end: &[u8]) -> Result<(), NoMemory> {
+    image.put(FRONT)?;
     image.put(KEY_LIST)?;
-    image.put(FREE)
+    image.put(FREE)?;
+    image.put(end)
 }
 
-// The file, with these bytes behind its last record.
 fn image_of(alloc: Global, end: &[u8]) -> Result<Bytes, NoMemory> {
     let mut image = Bytes::new(alloc);
-    put_file(&mut image)?;
-    image.put(end)?;
+    put_file(&mut image, end)?;
     Ok(image)
 }
 
@@ -77,7 +55,7 @@ fn breaks_at(alloc: Global, image: Bytes, place: u64) -> bool {
 }
 
 fn walks(alloc: Global) -> bool {
-    match image_of(alloc, b"\0\0\0\0") {
+    match image_of(alloc, END) {
         Ok(image) => is_walked(alloc, image),
         Err(_) => false,
     }

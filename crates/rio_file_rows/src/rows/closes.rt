@@ -1,15 +1,10 @@
 //! The records of a close of an empty file `a.root`, whose first record has 108 bytes.
+use super::parts::{FREE, KEY_LIST};
 use rio_chain::{Chain, Segment, Segments};
 use rio_close::{CloseRecords, close_length, close_records};
 use rio_dir::KeyTable;
 use rio_num::NoMemory;
 use std::alloc::Global;
-
-const KEY_LIST: &[u8] =
-    b"\0\0\0\x2c\0\x04\0\0\0\x04\0\0\0\x01\0\x28\0\x01\0\0\0\xd0\0\0\0\x64\x05TFile\x06a.root\0\0\0\0\0";
-
-const FREE: &[u8] =
-    b"\0\0\0\x34\0\x04\0\0\0\x0c\0\0\0\x01\0\x28\0\x01\0\0\0\xfc\0\0\0\x64\x05TFile\x06a.root\0\0\x01\0\0\x01\x30\x77\x35\x94\0\0\0";
 
 // Place, length and entries of the free record.
 const FREE_FIELDS: &[u8] = b"\0\0\0\xfc\0\0\0\x34\0\0\0\x01";

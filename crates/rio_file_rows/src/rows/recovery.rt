@@ -1,4 +1,5 @@
 //! Files `a.root` are recovered, in memory: the closed file without objects, and files of its first record and others.
+use super::parts::{END, FIRST, FREE, FRONT, KEY_LIST};
 use rio_decl::{print_class, read_class};
 use rio_dir::KeyTable;
 use rio_head::{FileFault, Reason};
@@ -10,35 +11,12 @@ use rio_recover::{RecoverFault, Recovered, is_unborn, recover};
 use rio_types::{ClassDef, Classes};
 use std::alloc::Global;
 
-// The header, and the first record at 100.
-const FRONT: &[u8] =
-    b"root\0\0\xea\x60\0\0\0\x64\0\0\x01\x30\0\0\0\xfc\0\0\0\x34\0\0\0\x01\0\0\0\x30\
-    \x04\0\0\0\0\0\0\0\0\0\0\0\0\
-    \0\x01\x97\x93\xee\x8c\x81\x94\x51\x08\x9d\xd8\xd6\x01\x4d\xf9\x45\xe7\
-    \0\0\0\0\0\0\0\0\0\0\0\0\0\0\0\0\0\0\0\0\0\0\0\0\0\0\0\0\0\0\0\0\0\0\0\0\0\
-    \0\0\0\x6c\0\x04\0\0\0\x44\0\0\0\x01\0\x28\0\x01\0\0\0\x64\0\0\0\0\x05TFile\x06a.root\0\
-    \x06a.root\0\
-    \0\x05\0\0\0\x01\0\0\0\x01\0\0\0\x2c\0\0\0\x30\0\0\0\x64\0\0\0\0\0\0\0\xd0\
-    \0\x01\x97\x93\xee\x8c\x81\x94\x51\x08\x9d\xd8\xd6\x01\x4d\xf9\x45\xe7\
-    \0\0\0\0\0\0\0\0\0\0\0\0";
-
-// The key list at 208 and the free record at 252 of the closed file without objects.
-const CLOSING: &[u8] =
-    b"\0\0\0\x2c\0\x04\0\0\0\x04\0\0\0\x01\0\x28\0\x01\0\0\0\xd0\0\0\0\x64\x05TFile\x06a.root\0\
-    \0\0\0\0\
-    \0\0\0\x34\0\x04\0\0\0\x0c\0\0\0\x01\0\x28\0\x01\0\0\0\xfc\0\0\0\x64\x05TFile\x06a.root\0\
-    \0\x01\0\0\x01\x30\x77\x35\x94\0\0\0";
-
-// The text `hi` under the name `s`, with cycle 1: at 208, and at 268.
-const FIRST: &[u8] =
-    b"\0\0\0\x3c\0\x04\0\0\0\x14\0\0\0\x01\0\x28\0\x01\0\0\0\xd0\0\0\0\x64\x0aTObjString\x01s\0\
-    \x40\0\0\x0f\0\x01\0\x01\0\0\0\0\0\0\0\0\x02hi\0";
-
+// The text `hi` under the name `s`, with cycle 1, at 268.
 const SECOND: &[u8] =
     b"\0\0\0\x3c\0\x04\0\0\0\x14\0\0\0\x01\0\x28\0\x01\0\0\x01\x0c\0\0\0\x64\x0aTObjString\x01s\0\
     \x40\0\0\x0f\0\x01\0\x01\0\0\0\0\0\0\0\0\x02hi\0";
 
-// The same at 208 with the title `t`.
+// The same text at 208, with the title `t`.
 const TITLED: &[u8] =
     b"\0\0\0\x3c\0\x04\0\0\0\x13\0\0\0\x01\0\x29\0\x01\0\0\0\xd0\0\0\0\x64\x0aTObjString\x01s\x01t\
     \x40\0\0\x0f\0\x01\0\x01\0\0\0\0\0\0\0\0\x02hi";
@@ -66,8 +44,6 @@ const LIST_FRONT: &[u8] = b"\0\0\0\x01\0\x2e";
 const LIST_BACK: &[u8] = b"\0\0\0\xd0\0\0\0\x64\x05TList\x0cStreamerInfo\0";
 
 const CLASS: &[u8] = b"class A 1 { x: i32 }";
-
-const END: &[u8] = &[0; 4];
 
 // The byte at this place, or what the last of these edits puts there.
 fn edited(edits: &[(usize, u8)], place: usize, old: u8) -> u8 {
@@ -139,7 +115,7 @@ fn is_image_refused(alloc: Global, image: Bytes, wanted: RecoverFault) -> bool {
     is_refused(alloc, &mut host, wanted)
 }
 
-static CLOSED: [&[u8]; 2] = [CLOSING, END];
+static CLOSED: [&[u8]; 3] = [KEY_LIST, FREE, END];
 
 // Whether a rule is broken at this place, where the closed file has another byte in its header.
 fn is_broken(alloc: Global, edit: (usize, u8), place: u64, kind: FileFault) -> bool {
@@ -167,14 +143,14 @@ struct Refused {
 static REASONS: [Refused; 15] = [
     // A header of the large form, version 1060000, has its units at 40.
     Refused {
-        records: &[CLOSING, END],
+        records: &[KEY_LIST, FREE, END],
         edits: &[(5, 0x10), (6, 0x2c), (7, 0xa0), (40, 8)],
         place: 4,
         reason: Reason::LargeForm,
     },
     // The word that ends the records lacks.
     Refused {
-        records: &[CLOSING],
+        records: &[KEY_LIST, FREE],
         edits: &[],
         place: 304,
         reason: Reason::NoChain,
@@ -298,7 +274,7 @@ struct Whole {
 
 static FILES: [Whole; 3] = [
     Whole {
-        records: &[CLOSING, END],
+        records: &[KEY_LIST, FREE, END],
         edits: &[],
         end: 304,
         objects: &[],

@@ -5,6 +5,7 @@ ghost use Rattle.rio_step.specs.Statable.{IsStatable};
 ghost use Rattle.rio_session.specs.Session.{IsReady};
 ghost use Rattle.rio_judge.specs.Judging.{is_judged};
 
+use super::parts::{END, FIRST, FREE, FRONT, KEY_LIST};
 use rio_host::MemHost;
 use rio_machine::Command;
 use rio_num::{Bytes, Name, NoMemory, Numbers};
@@ -12,28 +13,6 @@ use rio_session::{OpenFault, Session, SessionFault};
 use rio_valtext::read_value;
 use rio_value::Value;
 use std::alloc::Global;
-
-// The closed file without objects.
-const EMPTY: &[u8] =
-    b"root\0\0\xea\x60\0\0\0\x64\0\0\x01\x30\0\0\0\xfc\0\0\0\x34\0\0\0\x01\0\0\0\x30\
-    \x04\0\0\0\0\0\0\0\0\0\0\0\0\
-    \0\x01\x97\x93\xee\x8c\x81\x94\x51\x08\x9d\xd8\xd6\x01\x4d\xf9\x45\xe7\
-    \0\0\0\0\0\0\0\0\0\0\0\0\0\0\0\0\0\0\0\0\0\0\0\0\0\0\0\0\0\0\0\0\0\0\0\0\0\
-    \0\0\0\x6c\0\x04\0\0\0\x44\0\0\0\x01\0\x28\0\x01\0\0\0\x64\0\0\0\0\x05TFile\x06a.root\0\
-    \x06a.root\0\
-    \0\x05\0\0\0\x01\0\0\0\x01\0\0\0\x2c\0\0\0\x30\0\0\0\x64\0\0\0\0\0\0\0\xd0\
-    \0\x01\x97\x93\xee\x8c\x81\x94\x51\x08\x9d\xd8\xd6\x01\x4d\xf9\x45\xe7\
-    \0\0\0\0\0\0\0\0\0\0\0\0\
-    \0\0\0\x2c\0\x04\0\0\0\x04\0\0\0\x01\0\x28\0\x01\0\0\0\xd0\0\0\0\x64\x05TFile\x06a.root\0\
-    \0\0\0\0\
-    \0\0\0\x34\0\x04\0\0\0\x0c\0\0\0\x01\0\x28\0\x01\0\0\0\xfc\0\0\0\x64\x05TFile\x06a.root\0\
-    \0\x01\0\0\x01\x30\x77\x35\x94\0\0\0\
-    \0\0\0\0";
-
-// The record of the text `hi` that is stored first, under the name `s`.
-const FIRST: &[u8] =
-    b"\0\0\0\x3c\0\x04\0\0\0\x14\0\0\0\x01\0\x28\0\x01\0\0\0\xd0\0\0\0\x64\x0aTObjString\x01s\0\
-    \x40\0\0\x0f\0\x01\0\x01\0\0\0\0\0\0\0\0\x02hi\0";
 
 // Place, length and entries of the free record behind END, where two such records are stored.
 const FIELDS_OF_TWO: &[u8] = b"\0\0\x01\xf8\0\0\x01\xc4\0\0\0\x34\0\0\0\x01";
@@ -186,8 +165,12 @@ fn empty_host(alloc: Global) -> MemHost {
     MemHost::new(alloc, Bytes::new(alloc), Numbers::new(alloc))
 }
 
+// Whether it is the closed file without objects.
 fn is_empty_file(image: &[u8]) -> bool {
-    image == EMPTY
+    image.get(..208) == Some(FRONT)
+        && image.get(208..252) == Some(KEY_LIST)
+        && image.get(252..304) == Some(FREE)
+        && image.get(304..) == Some(END)
 }
 
 fn opens_and_closes(alloc: Global, host: &mut MemHost) -> bool {

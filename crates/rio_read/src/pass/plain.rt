@@ -4,7 +4,7 @@ ghost use Rattle.rio_num.specs.At.{GoesOn};
 ghost use Rattle.rio_buffer.specs.Frames.{ReadsAs};
 ghost use Rattle.rio_buffer.specs.Reader.{IsCounted};
 ghost use Rattle.rio_format.specs.Bodies.{t_named, t_obj_string};
-ghost use Rattle.rio_format.specs.Objects.{array, bare_layout, object_of, parts, unread};
+ghost use Rattle.rio_format.specs.Objects.{number_array, bare_layout, object_of, parts, unread};
 ghost use Rattle.rio_num.specs.Meanings.{read};
 ghost use Rattle.rio_read.specs.Passing.{counters_with_next, pass_of};
 
@@ -55,9 +55,9 @@ pub(crate) fn pass_base(
 }
 
 /// Passes over a TArray of the class.
-#[tactic(auto, unfolding(rio_format::specs::Objects::array))]
+#[tactic(auto, unfolding(rio_format::specs::Objects::number_array))]
 pub(crate) fn pass_array(reader: &mut ObjReader, class: &[u8], of: Prim) -> Result<(), ObjFault>
-    ensures exact { ReadsAs (λ x. x) result (read (pass_of (array class.now of)) reader.old)
+    ensures exact { ReadsAs (λ x. x) result (read (pass_of (number_array class.now of)) reader.old)
         reader.new }
     ensures goes { GoesOn reader.old.at reader.new.at }
 {

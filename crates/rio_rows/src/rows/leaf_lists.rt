@@ -43,6 +43,16 @@ static GOOD: [&str; 3] = [
      12345678901234567890123456789012345678901234567890/I",
 ];
 
+// Each differs in one thing from the leaves n/I:v[n]/F.
+static DIFFERENT: [&str; 6] = [
+    "n/I",
+    "n/I:w[n]/F",
+    "n/I:v[n]/D",
+    "n/I:v[2]/F",
+    "n/I:v/F",
+    "n/I:v[n]/F:x/I",
+];
+
 // The leaves of two branches, and whether a tree can be declared with them.
 static DECLARED: [(&str, &str, bool); 4] = [
     ("n/I", "v[n]/F", true),
@@ -102,11 +112,55 @@ fn reads_and_prints(rt: HostRuntime) {
     }
 }
 
+// Whether the texts list the same leaves.
+fn list_the_same(alloc: Global, text: &str, other: &str) -> bool {
+    match (leaves_of_row(alloc, text), leaves_of_row(alloc, other)) {
+        (Ok(leaves), Ok(others)) => leaves == others,
+        _ => false,
+    }
+}
+
+#[test]
+fn tells_which_leaves_are_the_same(rt: HostRuntime) {
+    for text in &GOOD {
+        assert!(rt; list_the_same(rt.alloc(), text, text), "{}", text);
+        assert!(rt; !list_the_same(rt.alloc(), text, "n/I:v[n]/F"), "{}", text);
+    }
+    for text in &DIFFERENT {
+        assert!(rt; !list_the_same(rt.alloc(), text, "n/I:v[n]/F"), "{}", text);
+    }
+}
+
 fn two_branches(alloc: Global, first: &str, second: &str) -> Result<BranchDefs, LeafFault> {
     let mut branches = BranchDefs::new(alloc);
     branches.push(branch_of_row(alloc, "a", first)?)?;
     branches.push(branch_of_row(alloc, "b", second)?)?;
-    Ok(branches.copy()?)
+    Ok(branches)
+}
+
+// Whether a copy of the branches has the same of each, and is nothing else.
+fn are_copied(branches: &BranchDefs) -> bool {
+    match branches.copy() {
+        Ok(copies) => copies == *branches,
+        Err(_) => false,
+    }
+}
+
+fn are_branches_copied(alloc: Global, first: &str, second: &str) -> bool {
+    match (
+        two_branches(alloc, first, second),
+        two_branches(alloc, second, first),
+    ) {
+        (Ok(branches), Ok(others)) => are_copied(&branches) && branches != others,
+        _ => false,
+    }
+}
+
+#[test]
+fn tells_which_branches_are_the_same(rt: HostRuntime) {
+    for (first, second, _) in &DECLARED {
+        assert!(rt; are_branches_copied(rt.alloc(), first, second), "{}", first);
+    }
 }
 
 fn can_be_declared(alloc: Global, first: &str, second: &str) -> Option<bool> {

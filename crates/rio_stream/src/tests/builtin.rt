@@ -6,25 +6,28 @@ ghost use Rattle.rio_format.specs.BuiltIn.{is_small_builtin};
 ghost use Rattle.rio_value.specs.declared.value.Value.{Int};
 ghost use Rattle.rio_write.specs.Small.{IsSmallObject};
 
-use crate::tests::classes::hex_bytes;
-use crate::tests::printed::put_value;
-use crate::tests::values::{object, part, t_named, t_obj_string, t_object};
-use crate::{fits, read_builtin, write_builtin, written_length};
+use crate::tests::classes::is_hex_of;
+use crate::tests::put_builtin;
+use crate::tests::values::{STRING, Tree, value_of};
+use crate::{fits, write_builtin, written_length};
+use Tree::{Int, List, Object, TObject, Text};
 use rio_buffer::{ObjFault, ObjReader, ObjWriter};
-use rio_num::{Bytes, Items, Name, NoMemory};
+use rio_num::{Bytes, Name, NoMemory};
 use rio_types::Classes;
 use rio_value::{Part, Parts, Value};
 use std::alloc::Global;
-use std::test::Fail;
 
-fn t_array_i(alloc: Global) -> Result<Value, NoMemory> {
-    let mut items = Items::new(alloc);
-    items.push(Value::Int(1))?;
-    items.push(Value::Int(-1))?;
-    let mut parts = Parts::new(alloc);
-    parts.push(part(alloc, "items", Value::List(items))?)?;
-    object(alloc, "TArrayI", 1, parts)
-}
+const NAMED: Tree = Object(
+    "TNamed",
+    1,
+    &[
+        ("", TObject(0)),
+        ("fName", Text("n")),
+        ("fTitle", Text("t")),
+    ],
+);
+
+const INTEGERS: Tree = Object("TArrayI", 1, &[("items", List(&[Int(1), Int(-1)]))]);
 
 // What is put into a writer for the object.
 fn put_object(alloc: Global, value: &Value) -> Result<Bytes, NoMemory>
@@ -51,37 +54,34 @@ fn put(alloc: Global, class: &[u8], value: &Value) -> Result<Option<Bytes>, NoMe
     Ok(Some(put_object(alloc, value)?))
 }
 
-fn put_row(alloc: Global, row: usize) -> Result<Option<Bytes>, NoMemory> {
-    match row {
-        0 => put(alloc, b"TObject", &t_object(alloc, 0)?),
-        1 => put(alloc, b"TNamed", &t_named(alloc, t_object(alloc, 0)?)?),
-        2 => put(
-            alloc,
-            b"TObjString",
-            &t_obj_string(alloc, t_object(alloc, 0)?)?,
-        ),
-        _ => put(alloc, b"TArrayI", &t_array_i(alloc)?),
+// Whether the value fits its class, and these bytes are put for it.
+fn is_put(alloc: Global, class: &[u8], value: &Value, text: &str) -> bool
+    requires { IsTrue (is_small_builtin class.now) }
+{
+    match put(alloc, class, value) {
+        Ok(Some(bytes)) => is_hex_of(alloc, text, bytes.as_slice()),
+        _ => false,
     }
 }
 
-static BUILTIN: [&str; 4] = [
-    "0001 00000005 00000000",
-    "40000010 0001 0001 00000005 00000000 01 6E 01 74",
-    "4000000F 0001 0001 00000005 00000000 02 6869",
-    "00000002 00000001 FFFFFFFF",
-];
+fn is_row_put(alloc: Global, class: &[u8], tree: &Tree, text: &str) -> bool
+    requires { IsTrue (is_small_builtin class.now) }
+{
+    match value_of(alloc, tree) {
+        Ok(value) => is_put(alloc, class, &value, text),
+        Err(_) => false,
+    }
+}
 
 #[test]
-fn writes_builtin_objects(rt: HostRuntime) -> Result<(), Fail> {
-    for (row, text) in BUILTIN.iter().enumerate() {
-        let wanted = hex_bytes(rt.alloc(), text).ok().ok_or("memory")?;
-        let bytes = put_row(rt.alloc(), row)
-            .ok()
-            .ok_or("memory")?
-            .ok_or("it doesn't fit")?;
-        assert!(rt; bytes.as_slice() == wanted.as_slice(), "{text}");
-    }
-    Ok(())
+fn writes_builtin_objects(rt: HostRuntime) {
+    let alloc = rt.alloc();
+    assert!(rt; is_row_put(alloc, b"TObject", &TObject(0), "0001 00000005 00000000"));
+    let named = "40000010 0001 0001 00000005 00000000 01 6E 01 74";
+    assert!(rt; is_row_put(alloc, b"TNamed", &NAMED, named));
+    let string = "4000000F 0001 0001 00000005 00000000 02 6869";
+    assert!(rt; is_row_put(alloc, b"TObjString", &STRING, string));
+    assert!(rt; is_row_put(alloc, b"TArrayI", &INTEGERS, "00000002 00000001 FFFFFFFF"));
 }
 
 fn named_part(alloc: Global, name: &[u8], value: Value) -> Result<Part, NoMemory>
@@ -126,31 +126,35 @@ fn put_with_pid(alloc: Global) -> Result<Option<Bytes>, NoMemory> {
     Ok(Some(put_object(alloc, &value)?))
 }
 
-fn printed_again(alloc: Global, bytes: &[u8]) -> Result<Bytes, ObjFault> {
-    let mut printed = Bytes::new(alloc);
-    if bytes.len() < 100 {
-        let mut reader = ObjReader::new(alloc, bytes, 34);
-        let value = read_builtin(alloc, &Classes::new(alloc), &mut reader, b"TObject")?;
-        put_value(&mut printed, &value)?;
+const WITH_PID: &[u8] = b"TObject#1{fUniqueID: 5, fBits: 16, fPid: 7}";
+
+// Puts the TObject that the bytes spell at the end of what is printed.
+fn put_again(printed: &mut Bytes, bytes: &[u8]) -> Result<(), ObjFault> {
+    if bytes.len() > 100 {
+        return Err(ObjFault::NoMemory);
     }
-    Ok(printed)
+    let classes = Classes::new(printed.allocator());
+    let mut reader = ObjReader::new(printed.allocator(), bytes, 34);
+    put_builtin(printed, &classes, &mut reader, b"TObject")
+}
+
+// Whether they are read as what was put.
+fn is_read_again(alloc: Global, bytes: &[u8]) -> bool {
+    let mut printed = Bytes::new(alloc);
+    put_again(&mut printed, bytes).is_ok() && printed.as_slice() == WITH_PID
+}
+
+fn is_put_with_pid(alloc: Global) -> bool {
+    match put_with_pid(alloc) {
+        Ok(Some(bytes)) => {
+            is_hex_of(alloc, "0001 00000005 00000010 0007", bytes.as_slice())
+                && is_read_again(alloc, bytes.as_slice())
+        }
+        _ => false,
+    }
 }
 
 #[test]
-fn writes_an_object_with_its_pid(rt: HostRuntime) -> Result<(), Fail> {
-    let wanted = hex_bytes(rt.alloc(), "0001 00000005 00000010 0007")
-        .ok()
-        .ok_or("memory")?;
-    let bytes = put_with_pid(rt.alloc())
-        .ok()
-        .ok_or("memory")?
-        .ok_or("it is too long")?;
-    assert!(rt; bytes.as_slice() == wanted.as_slice());
-    // It is read as what it was.
-    let again = printed_again(rt.alloc(), bytes.as_slice())
-        .ok()
-        .ok_or("it isn't read")?;
-    let text = b"TObject#1{fUniqueID: 5, fBits: 16, fPid: 7}";
-    assert!(rt; again.as_slice() == text.as_slice());
-    Ok(())
+fn writes_an_object_with_its_pid(rt: HostRuntime) {
+    assert!(rt; is_put_with_pid(rt.alloc()));
 }

@@ -1,12 +1,54 @@
-//! Small builders of values.
+//! Values as rows have them, and the values that they stand for.
+use crate::tests::classes::name_of;
 use rio_num::{Boxed, Name, NoMemory};
 use rio_value::{Part, Parts, Value, Values};
 use std::alloc::Global;
 
-pub(crate) fn part(alloc: Global, name: &str, value: Value) -> Result<Part, NoMemory> {
-    Ok(Part {
-        name: Name::from_slice(alloc, name.as_bytes())?,
-        value,
+/// A value of a row.
+#[derive(Clone, Copy)]
+pub(crate) enum Tree {
+    Int(i128),
+    Bits32(u32),
+    Bits64(u64),
+    Bool(bool),
+    Text(&'static str),
+    List(&'static [Tree]),
+    /// Its class, its version and its parts.
+    Object(&'static str, i32, &'static [(&'static str, Tree)]),
+    /// A pointer to an object that begins there.
+    At(u32, &'static Tree),
+    Null,
+    Back(u32),
+    /// A TObject of the number 5 and these bits.
+    TObject(i128),
+    /// An object of the class `Node`, of the number 1 and this pointer.
+    Node(&'static Tree),
+    /// A TList without a name of these pointers, each with an empty option.
+    Pointers(&'static [Tree]),
+}
+
+/// A TObjString of two letters.
+pub(crate) const STRING: Tree = Tree::Object(
+    "TObjString",
+    1,
+    &[("", Tree::TObject(0)), ("fString", Tree::Text("hi"))],
+);
+
+fn text_of(alloc: Global, text: &str) -> Result<Value, NoMemory> {
+    Ok(Value::Text(name_of(alloc, text)?))
+}
+
+/// An object of these parts.
+pub(crate) fn object(
+    alloc: Global,
+    class: &str,
+    version: i32,
+    parts: Parts,
+) -> Result<Value, NoMemory> {
+    Ok(Value::Object {
+        class: name_of(alloc, class)?,
+        version,
+        parts,
     })
 }
 
@@ -17,117 +59,104 @@ pub(crate) fn put_part(
     name: &str,
     value: Value,
 ) -> Result<(), NoMemory> {
-    parts.push(part(alloc, name, value)?)
+    let name = name_of(alloc, name)?;
+    parts.push(Part { name, value })
 }
 
-pub(crate) fn text(alloc: Global, text: &str) -> Result<Value, NoMemory> {
-    Ok(Value::Text(Name::from_slice(alloc, text.as_bytes())?))
-}
-
-pub(crate) fn object(
-    alloc: Global,
-    class: &str,
-    version: i32,
-    parts: Parts,
-) -> Result<Value, NoMemory> {
-    Ok(Value::Object {
-        class: Name::from_slice(alloc, class.as_bytes())?,
-        version,
-        parts,
-    })
-}
-
-/// An object of a class without bases and members, in version 1.
-pub(crate) fn empty(alloc: Global, class: &str) -> Result<Value, NoMemory> {
-    object(alloc, class, 1, Parts::new(alloc))
-}
-
-/// A pointer to an object that begins there.
-pub(crate) fn at(alloc: Global, label: u32, object: Value) -> Result<Value, NoMemory> {
+fn pointed(alloc: Global, label: u32, object: Value) -> Result<Value, NoMemory> {
     Ok(Value::Pointed {
         label,
         object: Boxed::new(alloc, object)?,
     })
 }
 
-/// Two parts of an object in version 1.
-pub(crate) fn two(
-    alloc: Global,
-    class: &str,
-    first: Part,
-    second: Part,
-) -> Result<Value, NoMemory> {
+fn put_bits(parts: &mut Parts, alloc: Global, bits: i128) -> Result<(), NoMemory> {
+    put_part(parts, alloc, "fUniqueID", Value::Int(5))?;
+    put_part(parts, alloc, "fBits", Value::Int(bits))
+}
+
+fn t_object(alloc: Global, bits: i128) -> Result<Value, NoMemory> {
     let mut parts = Parts::new(alloc);
-    parts.push(first)?;
-    parts.push(second)?;
-    object(alloc, class, 1, parts)
+    put_bits(&mut parts, alloc, bits)?;
+    object(alloc, "TObject", 1, parts)
 }
 
-/// Three parts of an object.
-pub(crate) fn three(
-    alloc: Global,
-    class: &str,
-    version: i32,
-    first: Part,
-    second: Part,
-    third: Part,
-) -> Result<Value, NoMemory> {
+fn put_node(parts: &mut Parts, alloc: Global, next: Value) -> Result<(), NoMemory> {
+    put_part(parts, alloc, "val", Value::Int(1))?;
+    put_part(parts, alloc, "next", next)
+}
+
+fn node(alloc: Global, next: Value) -> Result<Value, NoMemory> {
     let mut parts = Parts::new(alloc);
-    parts.push(first)?;
-    parts.push(second)?;
-    parts.push(third)?;
-    object(alloc, class, version, parts)
+    put_node(&mut parts, alloc, next)?;
+    object(alloc, "Node", 1, parts)
 }
 
-pub(crate) fn node(alloc: Global, next: Value) -> Result<Value, NoMemory> {
-    let val = part(alloc, "val", Value::Int(1))?;
-    two(alloc, "Node", val, part(alloc, "next", next)?)
-}
-
-/// A list of as many numbers 7.
-pub(crate) fn sevens(alloc: Global, count: u32) -> Result<Value, NoMemory> {
-    let mut items = Values::new(alloc);
-    for _done in 0..count {
-        items.push(Value::Int(7))?;
-    }
-    Ok(Value::List(items))
-}
-
-pub(crate) fn t_object(alloc: Global, bits: i128) -> Result<Value, NoMemory> {
-    let id = part(alloc, "fUniqueID", Value::Int(5))?;
-    two(
-        alloc,
-        "TObject",
-        id,
-        part(alloc, "fBits", Value::Int(bits))?,
-    )
-}
-
-pub(crate) fn t_named(alloc: Global, base: Value) -> Result<Value, NoMemory> {
-    let base = part(alloc, "", base)?;
-    let name = part(alloc, "fName", text(alloc, "n")?)?;
-    let title = part(alloc, "fTitle", text(alloc, "t")?)?;
-    three(alloc, "TNamed", 1, base, name, title)
-}
-
-pub(crate) fn t_obj_string(alloc: Global, base: Value) -> Result<Value, NoMemory> {
-    let base = part(alloc, "", base)?;
-    let text = part(alloc, "fString", text(alloc, "hi")?)?;
-    two(alloc, "TObjString", base, text)
-}
-
-/// A TList of these pointers, each with an empty option.
-pub(crate) fn t_list(alloc: Global, pointers: Values) -> Result<Value, NoMemory> {
-    let base = part(alloc, "", t_object(alloc, 0)?)?;
-    let name = part(alloc, "fName", text(alloc, "")?)?;
-    let items = part(alloc, "items", Value::List(pointers))?;
-    three(alloc, "TList", 5, base, name, items)
-}
-
-/// An item of a TList.
-pub(crate) fn item(alloc: Global, pointer: Value) -> Result<Value, NoMemory> {
+fn put_item(items: &mut Values, alloc: Global, pointer: Value) -> Result<(), NoMemory> {
     let mut pair = Values::new(alloc);
     pair.push(pointer)?;
-    pair.push(text(alloc, "")?)?;
-    Ok(Value::List(pair))
+    pair.push(Value::Text(Name::new(alloc)))?;
+    items.push(Value::List(pair))
+}
+
+// The parts of a TList without a name.
+fn put_list(parts: &mut Parts, alloc: Global, items: Values) -> Result<(), NoMemory> {
+    put_part(parts, alloc, "", t_object(alloc, 0)?)?;
+    put_part(parts, alloc, "fName", Value::Text(Name::new(alloc)))?;
+    put_part(parts, alloc, "items", Value::List(items))
+}
+
+fn t_list(alloc: Global, items: Values) -> Result<Value, NoMemory> {
+    let mut parts = Parts::new(alloc);
+    put_list(&mut parts, alloc, items)?;
+    object(alloc, "TList", 5, parts)
+}
+
+#[cycle(value)]
+fn items_of(alloc: Global, pointers: &[Tree]) -> Result<Values, NoMemory> {
+    let mut items = Values::new(alloc);
+    for pointer in pointers {
+        put_item(&mut items, alloc, value_of(alloc, pointer)?)?;
+    }
+    Ok(items)
+}
+
+#[cycle(value)]
+fn values_of(alloc: Global, trees: &[Tree]) -> Result<Values, NoMemory> {
+    let mut values = Values::new(alloc);
+    for tree in trees {
+        values.push(value_of(alloc, tree)?)?;
+    }
+    Ok(values)
+}
+
+#[cycle(value)]
+fn parts_of(alloc: Global, trees: &[(&'static str, Tree)]) -> Result<Parts, NoMemory> {
+    let mut parts = Parts::new(alloc);
+    for (name, tree) in trees {
+        put_part(&mut parts, alloc, name, value_of(alloc, tree)?)?;
+    }
+    Ok(parts)
+}
+
+/// The value that a row's stands for.
+#[cycle(value)]
+pub(crate) fn value_of(alloc: Global, tree: &Tree) -> Result<Value, NoMemory> {
+    match tree {
+        Tree::Int(n) => Ok(Value::Int(*n)),
+        Tree::Bits32(bits) => Ok(Value::Bits32(*bits)),
+        Tree::Bits64(bits) => Ok(Value::Bits64(*bits)),
+        Tree::Bool(is_true) => Ok(Value::Bool(*is_true)),
+        Tree::Text(text) => text_of(alloc, text),
+        Tree::List(items) => Ok(Value::List(values_of(alloc, items)?)),
+        Tree::Object(class, version, parts) => {
+            object(alloc, class, *version, parts_of(alloc, parts)?)
+        }
+        Tree::At(label, object) => pointed(alloc, *label, value_of(alloc, object)?),
+        Tree::Null => Ok(Value::Null),
+        Tree::Back(label) => Ok(Value::Back(*label)),
+        Tree::TObject(bits) => t_object(alloc, *bits),
+        Tree::Node(next) => node(alloc, value_of(alloc, next)?),
+        Tree::Pointers(pointers) => t_list(alloc, items_of(alloc, pointers)?),
+    }
 }

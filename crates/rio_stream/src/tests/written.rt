@@ -1,12 +1,12 @@
 //! Rows of objects that are written.
 use crate::tests::classes::{classes_of_rows, hex_bytes};
+use crate::tests::values::{Tree, object, put_part, value_of};
 use crate::{fits, read_object, write_object, written_length};
 use rio_buffer::ObjFault;
 use rio_num::{Bytes, Name, NoMemory};
 use rio_types::Classes;
-use rio_value::{Part, Parts, Value};
+use rio_value::{Parts, Value};
 use std::alloc::Global;
-use std::test::Fail;
 
 // Objects as they are written, whose first byte has the place 34.
 static WRITTEN: [(&str, &str); 13] = [
@@ -63,6 +63,20 @@ fn written(alloc: Global, classes: &Classes, value: &Value) -> Result<Option<Byt
     Ok(Some(bytes))
 }
 
+// The same, where it fits the class.
+fn written_where_it_fits(
+    alloc: Global,
+    classes: &Classes,
+    class: &str,
+    value: &Value,
+) -> Result<Option<Bytes>, NoMemory> {
+    if fits(alloc, classes, class.as_bytes(), value)? {
+        written(alloc, classes, value)
+    } else {
+        Ok(None)
+    }
+}
+
 // What is written for the object that the bytes spell, where it fits its class.
 fn rewritten(alloc: Global, class: &str, bytes: &[u8]) -> Result<Option<Bytes>, ObjFault> {
     if bytes.len() > 10_000 {
@@ -70,32 +84,42 @@ fn rewritten(alloc: Global, class: &str, bytes: &[u8]) -> Result<Option<Bytes>, 
     }
     let classes = classes_of_rows(alloc)?;
     let value = read_object(alloc, &classes, class.as_bytes(), bytes, 34)?;
-    if !fits(alloc, &classes, class.as_bytes(), &value)? {
-        return Ok(None);
+    Ok(written_where_it_fits(alloc, &classes, class, &value)?)
+}
+
+fn is_rewritten(alloc: Global, class: &str, bytes: &[u8], wanted: &[u8]) -> bool {
+    match rewritten(alloc, class, bytes) {
+        Ok(Some(again)) => again.as_slice() == wanted,
+        _ => false,
     }
-    Ok(written(alloc, &classes, &value)?)
+}
+
+fn is_written(alloc: Global, class: &str, text: &str) -> bool {
+    match hex_bytes(alloc, text) {
+        Ok(bytes) => is_rewritten(alloc, class, bytes.as_slice(), bytes.as_slice()),
+        Err(_) => false,
+    }
+}
+
+// The first row that is written otherwise.
+fn written_otherwise(alloc: Global) -> Option<&'static str> {
+    for (class, text) in &WRITTEN {
+        if !is_written(alloc, class, text) {
+            return Some(text);
+        }
+    }
+    None
 }
 
 #[test]
-fn writes(rt: HostRuntime) -> Result<(), Fail> {
-    for (class, text) in &WRITTEN {
-        let bytes = hex_bytes(rt.alloc(), text).ok().ok_or("memory")?;
-        let again = rewritten(rt.alloc(), class, bytes.as_slice())
-            .ok()
-            .ok_or("it isn't read")?
-            .ok_or("it doesn't fit")?;
-        assert!(rt; again.as_slice() == bytes.as_slice(), "{text}");
-    }
-    Ok(())
+fn writes(rt: HostRuntime) {
+    assert_eq!(rt; written_otherwise(rt.alloc()), None);
 }
 
 // The front of a TObjString up to its text, which has so many bytes with its length.
-fn string_front(alloc: Global, count: u32, text: &[u8]) -> Result<Bytes, NoMemory> {
-    let mut bytes = Bytes::new(alloc);
+fn put_front(bytes: &mut Bytes, count: u32) -> Result<(), NoMemory> {
     bytes.put_u32(0x4000_000C_u32.wrapping_add(count))?;
-    bytes.put(b"\0\x01\0\x01\0\0\0\0\0\0\0\0")?;
-    bytes.put(text)?;
-    Ok(bytes)
+    bytes.put(b"\0\x01\0\x01\0\0\0\0\0\0\0\0")
 }
 
 fn put_times(bytes: &mut Bytes, count: u32) -> Result<(), NoMemory> {
@@ -105,76 +129,79 @@ fn put_times(bytes: &mut Bytes, count: u32) -> Result<(), NoMemory> {
     Ok(())
 }
 
-// A TObjString of so many letters, whose text stands behind this length.
-fn string_of(alloc: Global, count: u32, length: &[u8], letters: u32) -> Result<Bytes, NoMemory> {
-    let mut bytes = string_front(alloc, count, length)?;
-    put_times(&mut bytes, letters)?;
+// A TObjString: how many bytes its text has with its length, the length, and how many letters stand behind it.
+type LongString = (u32, &'static [u8], u32);
+
+static LONG_STRINGS: [LongString; 3] = [
+    (255, b"\xFE", 254),
+    (260, b"\xFF\0\0\0\xFF", 255),
+    (261, b"\xFF\0\0\x01\0", 256),
+];
+
+// The first of them with its length in the long form.
+const LONG_FORM: LongString = (259, b"\xFF\0\0\0\xFE", 254);
+
+fn put_string(bytes: &mut Bytes, row: &LongString) -> Result<(), NoMemory> {
+    let (count, length, letters) = row;
+    put_front(bytes, *count)?;
+    bytes.put(length)?;
+    put_times(bytes, *letters)
+}
+
+fn string_of(alloc: Global, row: &LongString) -> Result<Bytes, NoMemory> {
+    let mut bytes = Bytes::new(alloc);
+    put_string(&mut bytes, row)?;
     Ok(bytes)
 }
 
-#[test]
-fn writes_texts_in_the_short_form_below_255_bytes(rt: HostRuntime) -> Result<(), Fail> {
-    let rows: [(u32, &[u8], u32); 3] = [
-        (255, b"\xFE", 254),
-        (260, b"\xFF\0\0\0\xFF", 255),
-        (261, b"\xFF\0\0\x01\0", 256),
-    ];
-    for (count, length, letters) in &rows {
-        let bytes = string_of(rt.alloc(), *count, length, *letters)
-            .ok()
-            .ok_or("memory")?;
-        let again = rewritten(rt.alloc(), "TObjString", bytes.as_slice())
-            .ok()
-            .ok_or("it isn't read")?
-            .ok_or("it doesn't fit")?;
-        assert!(rt; again.as_slice() == bytes.as_slice(), "{letters}");
+fn are_rewritten(alloc: Global, bytes: &[u8], wanted: &LongString) -> bool {
+    match string_of(alloc, wanted) {
+        Ok(wanted) => is_rewritten(alloc, "TObjString", bytes, wanted.as_slice()),
+        Err(_) => false,
     }
-    // The long form of a short text isn't written.
-    let long = string_of(rt.alloc(), 259, b"\xFF\0\0\0\xFE", 254)
-        .ok()
-        .ok_or("memory")?;
-    let short = string_of(rt.alloc(), 255, b"\xFE", 254)
-        .ok()
-        .ok_or("memory")?;
-    let again = rewritten(rt.alloc(), "TObjString", long.as_slice())
-        .ok()
-        .ok_or("it isn't read")?
-        .ok_or("it doesn't fit")?;
-    assert!(rt; again.as_slice() == short.as_slice());
-    Ok(())
+}
+
+// Whether the first is read, and written as the second.
+fn is_written_as(alloc: Global, row: &LongString, wanted: &LongString) -> bool {
+    match string_of(alloc, row) {
+        Ok(bytes) => are_rewritten(alloc, bytes.as_slice(), wanted),
+        Err(_) => false,
+    }
+}
+
+// How many rows are written as they are, up to the first that isn't.
+fn count_written(alloc: Global) -> usize {
+    for (k, row) in LONG_STRINGS.iter().enumerate() {
+        if !is_written_as(alloc, row, row) {
+            return k;
+        }
+    }
+    LONG_STRINGS.len()
+}
+
+#[test]
+fn writes_texts_in_the_short_form_below_255_bytes(rt: HostRuntime) {
+    assert_eq!(rt; count_written(rt.alloc()), LONG_STRINGS.len());
+    assert!(rt; is_written_as(rt.alloc(), &LONG_FORM, &LONG_STRINGS[0]));
+}
+
+// A text of so many letters.
+fn letters(alloc: Global, count: u32) -> Result<Value, NoMemory> {
+    let mut text = Bytes::new(alloc);
+    put_times(&mut text, count)?;
+    Ok(Value::Text(Name::from_slice(alloc, text.as_slice())?))
+}
+
+fn put_long(parts: &mut Parts, alloc: Global, count: u32) -> Result<(), NoMemory> {
+    put_part(parts, alloc, "", value_of(alloc, &Tree::TObject(0))?)?;
+    put_part(parts, alloc, "fString", letters(alloc, count)?)
 }
 
 // A TObjString whose text has so many bytes.
 fn long_string(alloc: Global, count: u32) -> Result<Value, NoMemory> {
     let mut parts = Parts::new(alloc);
-    let mut base = Parts::new(alloc);
-    base.push(Part {
-        name: Name::from_slice(alloc, b"fUniqueID")?,
-        value: Value::Int(0),
-    })?;
-    base.push(Part {
-        name: Name::from_slice(alloc, b"fBits")?,
-        value: Value::Int(0),
-    })?;
-    parts.push(Part {
-        name: Name::new(alloc),
-        value: Value::Object {
-            class: Name::from_slice(alloc, b"TObject")?,
-            version: 1,
-            parts: base,
-        },
-    })?;
-    let mut text = Bytes::new(alloc);
-    put_times(&mut text, count)?;
-    parts.push(Part {
-        name: Name::from_slice(alloc, b"fString")?,
-        value: Value::Text(Name::from_slice(alloc, text.as_slice())?),
-    })?;
-    Ok(Value::Object {
-        class: Name::from_slice(alloc, b"TObjString")?,
-        version: 1,
-        parts,
-    })
+    put_long(&mut parts, alloc, count)?;
+    object(alloc, "TObjString", 1, parts)
 }
 
 fn length_of_string(alloc: Global, count: u32) -> Result<u64, NoMemory> {
@@ -184,9 +211,8 @@ fn length_of_string(alloc: Global, count: u32) -> Result<u64, NoMemory> {
 
 // 21 bytes stand before the text's own.
 #[test]
-fn tells_lengths_up_to_the_limit(rt: HostRuntime) -> Result<(), Fail> {
+fn tells_lengths_up_to_the_limit(rt: HostRuntime) {
     assert_eq!(rt; length_of_string(rt.alloc(), 16_777_195), Ok(16_777_216));
     assert_eq!(rt; length_of_string(rt.alloc(), 16_777_196), Ok(16_777_217));
     assert_eq!(rt; length_of_string(rt.alloc(), 16_777_200), Ok(16_777_217));
-    Ok(())
 }

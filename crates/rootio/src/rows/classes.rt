@@ -21,7 +21,8 @@ enum Element {
 struct Class {
     name: &'static str,
     version: u32,
-    elements: &'static [Element],
+    // One run behind the other.
+    elements: &'static [&'static [Element]],
 }
 
 use Element::{Array, Base, Basic, Counted, Leaf, Text};
@@ -46,7 +47,24 @@ impl ClassList {
 
 const NAMED: Element = Base("TNamed", 67, 1);
 
-const LEAF: [Element; 1] = [Base("TLeaf", 0, 102)];
+const LEAF: &[Element] = &[Base("TLeaf", 0, 102)];
+
+const BRANCH_FRONT: &[Element] = &[
+    NAMED,
+    Basic("fEntryOffsetLen", 3, "int"),
+    Basic("fWriteBasket", 3, "int"),
+    Basic("fMaxBaskets", 6, "int"),
+    ENTRIES,
+    BRANCHES,
+    LEAVES,
+    Array("fBaskets"),
+];
+
+const BRANCH_OF_OBJECTS: &[Element] = &[
+    Base("TBranch", 0, 113),
+    Text("fClassName"),
+    Basic("fClassVersion", 3, "int"),
+];
 
 /// The classes of trees, with a few more: a class `P` of objects, classes that can't be of a tree's parts, and some
 /// versions in which a member is lacking.
@@ -54,162 +72,144 @@ static CLASSES: [Class; 22] = [
     Class {
         name: "TTree",
         version: 120,
-        elements: &[NAMED, ENTRIES, BRANCHES, LEAVES],
+        elements: &[&[NAMED, ENTRIES, BRANCHES, LEAVES]],
     },
     Class {
         name: "TBranch",
         version: 113,
         elements: &[
-            NAMED,
-            Basic("fEntryOffsetLen", 3, "int"),
-            Basic("fWriteBasket", 3, "int"),
-            Basic("fMaxBaskets", 6, "int"),
-            ENTRIES,
-            BRANCHES,
-            LEAVES,
-            Array("fBaskets"),
-            Counted("fBasketBytes", 43, "int*", "TBranch", 113),
-            Counted("fBasketEntry", 56, "Long64_t*", "TBranch", 113),
-            Counted("fBasketSeek", 56, "Long64_t*", "TBranch", 113),
+            BRANCH_FRONT,
+            &[
+                Counted("fBasketBytes", 43, "int*", "TBranch", 113),
+                Counted("fBasketEntry", 56, "Long64_t*", "TBranch", 113),
+                Counted("fBasketSeek", 56, "Long64_t*", "TBranch", 113),
+            ],
         ],
     },
     Class {
         name: "TBranchElement",
         version: 110,
-        elements: &[
-            Base("TBranch", 0, 113),
-            Text("fClassName"),
-            Basic("fClassVersion", 3, "int"),
-        ],
+        elements: &[BRANCH_OF_OBJECTS],
     },
     Class {
         name: "TLeaf",
         version: 102,
-        elements: &[
+        elements: &[&[
             NAMED,
             LENGTH,
             Basic("fLenType", 3, "int"),
             UNSIGNED,
             Leaf("fLeafCount"),
-        ],
+        ]],
     },
     Class {
         name: "TLeafB",
         version: 101,
-        elements: &LEAF,
+        elements: &[LEAF],
     },
     Class {
         name: "TLeafS",
         version: 101,
-        elements: &LEAF,
+        elements: &[LEAF],
     },
     Class {
         name: "TLeafI",
         version: 101,
-        elements: &LEAF,
+        elements: &[LEAF],
     },
     Class {
         name: "TLeafL",
         version: 101,
-        elements: &LEAF,
+        elements: &[LEAF],
     },
     Class {
         name: "TLeafF",
         version: 101,
-        elements: &LEAF,
+        elements: &[LEAF],
     },
     Class {
         name: "TLeafD",
         version: 101,
-        elements: &LEAF,
+        elements: &[LEAF],
     },
     Class {
         name: "TLeafO",
         version: 101,
-        elements: &LEAF,
+        elements: &[LEAF],
     },
     Class {
         name: "TLeafC",
         version: 101,
-        elements: &LEAF,
+        elements: &[LEAF],
     },
     Class {
         name: "P",
         version: 1,
-        elements: &[Basic("a", 3, "int")],
+        elements: &[&[Basic("a", 3, "int")]],
     },
     // A leaf of no letter.
     Class {
         name: "TLeafElement",
         version: 101,
-        elements: &LEAF,
+        elements: &[LEAF],
     },
     // A branch of another class.
     Class {
         name: "TBranchClones",
         version: 113,
-        elements: &[Base("TBranch", 0, 113)],
+        elements: &[&[Base("TBranch", 0, 113)]],
     },
     // A branch of objects of an older version.
     Class {
         name: "TBranchElement",
         version: 10,
-        elements: &[
-            Base("TBranch", 0, 113),
-            Text("fClassName"),
-            Basic("fClassVersion", 3, "int"),
-        ],
+        elements: &[BRANCH_OF_OBJECTS],
     },
     // Without fBasketSeek.
     Class {
         name: "TBranch",
         version: 114,
         elements: &[
-            NAMED,
-            Basic("fEntryOffsetLen", 3, "int"),
-            Basic("fWriteBasket", 3, "int"),
-            Basic("fMaxBaskets", 6, "int"),
-            ENTRIES,
-            BRANCHES,
-            LEAVES,
-            Array("fBaskets"),
-            Counted("fBasketBytes", 43, "int*", "TBranch", 114),
-            Counted("fBasketEntry", 56, "Long64_t*", "TBranch", 114),
+            BRANCH_FRONT,
+            &[
+                Counted("fBasketBytes", 43, "int*", "TBranch", 114),
+                Counted("fBasketEntry", 56, "Long64_t*", "TBranch", 114),
+            ],
         ],
     },
     // Without fLen.
     Class {
         name: "TLeaf",
         version: 103,
-        elements: &[
+        elements: &[&[
             NAMED,
             Basic("fLenType", 3, "int"),
             UNSIGNED,
             Leaf("fLeafCount"),
-        ],
+        ]],
     },
     Class {
         name: "TLeafI",
         version: 103,
-        elements: &[Base("TLeaf", 0, 103)],
+        elements: &[&[Base("TLeaf", 0, 103)]],
     },
     // Without fEntries.
     Class {
         name: "TTree",
         version: 121,
-        elements: &[NAMED, BRANCHES, LEAVES],
+        elements: &[&[NAMED, BRANCHES, LEAVES]],
     },
     // Without fBranches.
     Class {
         name: "TTree",
         version: 122,
-        elements: &[NAMED, ENTRIES, LEAVES],
+        elements: &[&[NAMED, ENTRIES, LEAVES]],
     },
     // Without both.
     Class {
         name: "TTree",
         version: 123,
-        elements: &[NAMED, LEAVES],
+        elements: &[&[NAMED, LEAVES]],
     },
 ];
 
@@ -229,32 +229,32 @@ static THEIR_CLASSES: [Class; 7] = [
     Class {
         name: "TParts",
         version: 7,
-        elements: &[LEAVES, BRANCHES],
+        elements: &[&[LEAVES, BRANCHES]],
     },
     Class {
         name: "TTree",
         version: 20,
-        elements: &[
+        elements: &[&[
             NAMED,
             Base("TParts", 0, 7),
             Basic("fWeight", 8, "double"),
             ENTRIES,
-        ],
+        ]],
     },
     Class {
         name: "TBasketList",
         version: 2,
-        elements: &[
+        elements: &[&[
             Basic("fMaxBaskets", 6, "int"),
             Counted("fBasketSeek", 56, "Long64_t*", "TBasketList", 2),
             Counted("fBasketEntry", 56, "Long64_t*", "TBasketList", 2),
             Counted("fBasketBytes", 43, "int*", "TBasketList", 2),
-        ],
+        ]],
     },
     Class {
         name: "TBranch",
         version: 13,
-        elements: &[
+        elements: &[&[
             NAMED,
             Base("TBasketList", 0, 2),
             Array("fBaskets"),
@@ -262,27 +262,27 @@ static THEIR_CLASSES: [Class; 7] = [
             ENTRIES,
             BRANCHES,
             Basic("fWriteBasket", 3, "int"),
-        ],
+        ]],
     },
     Class {
         name: "TLeaf",
         version: 3,
-        elements: &[
+        elements: &[&[
             NAMED,
             UNSIGNED,
             Leaf("fLeafCount"),
             Basic("fLen", 2, "short"),
-        ],
+        ]],
     },
     Class {
         name: "TLeafI",
         version: 1,
-        elements: &[Base("TLeaf", 0, 3)],
+        elements: &[&[Base("TLeaf", 0, 3)]],
     },
     Class {
         name: "TLeafF",
         version: 1,
-        elements: &[Base("TLeaf", 0, 3)],
+        elements: &[&[Base("TLeaf", 0, 3)]],
     },
 ];
 
@@ -373,12 +373,27 @@ impl Element {
     }
 }
 
+fn put_elements(pen: &mut Pen, elements: &[Element]) -> Result<(), NoMemory> {
+    for element in elements {
+        element.put(pen)?;
+    }
+    Ok(())
+}
+
 impl Class {
+    fn count(&self) -> usize {
+        let mut count: usize = 0;
+        for elements in self.elements {
+            count = count.saturating_add(elements.len());
+        }
+        count
+    }
+
     fn put_elements(&self, pen: &mut Pen) -> Result<(), NoMemory> {
         pen.point("TObjArray")?;
-        pen.array(self.elements.len())?;
-        for element in self.elements {
-            element.put(pen)?;
+        pen.array(self.count())?;
+        for elements in self.elements {
+            put_elements(pen, elements)?;
         }
         pen.end();
         pen.end();

@@ -1,31 +1,10 @@
 //! Rows of `dump`.
-use super::hand::HAND;
-use super::images::{EMPTY, LARGE, ONE};
-use super::runs::{changed, decode, ran, ran_with, words_of};
+use super::images::File;
+use super::runs::{cut_otherwise, says};
 use crate::status::Status;
 use rio_head::FileFault;
-use rio_num::{Bytes, Name, NoMemory};
+use rio_num::{Bytes, NoMemory};
 use std::alloc::Global;
-use std::test::Fail;
-
-#[derive(Clone, Copy)]
-enum File {
-    Empty,
-    One,
-    Large,
-    Hand,
-}
-
-impl File {
-    fn lines(self) -> &'static [&'static str] {
-        match self {
-            File::Empty => &EMPTY,
-            File::One => &ONE,
-            File::Large => &LARGE,
-            File::Hand => &HAND,
-        }
-    }
-}
 
 // One of the files, with some words written over: what `dump` answers and says.
 pub(super) struct Row {
@@ -39,18 +18,34 @@ pub(super) struct Row {
 
 impl Row {
     pub(super) fn image(&self, alloc: Global) -> Result<Bytes, NoMemory> {
-        let whole = decode(alloc, self.file.lines())?;
-        changed(alloc, whole.as_slice(), usize::MAX, self.words)
+        self.file.image(alloc, usize::MAX, self.words)
     }
 
-    fn run(&self, alloc: Global) -> Result<(Status, Name), NoMemory> {
-        let image = self.image(alloc)?;
+    fn is_said_of(&self, alloc: Global, image: Bytes) -> bool {
+        let end = (self.status, self.said.as_bytes());
         match self.item {
-            None => ran(alloc, &["dump", "b.root"], image, &[]),
-            Some(item) => ran(alloc, &["dump", "b.root", item], image, &[]),
+            None => says(alloc, &["dump", "b.root"], image, end),
+            Some(item) => says(alloc, &["dump", "b.root", item], image, end),
+        }
+    }
+
+    fn is_said(&self, alloc: Global) -> bool {
+        match self.image(alloc) {
+            Ok(image) => self.is_said_of(alloc, image),
+            Err(_) => false,
         }
     }
 }
+
+// What is said of all keys of the file of another maker.
+const HAND: &str = "class Node 1 { val: i32, next: Node* }\nclass C 1 { n: i32, w: u8[n] }\n\
+    class Odd 1 { v: other(500), ?: other(0) }\n\
+    s;2 TObjString#1{TObject#1{fUniqueID: 0, fBits: 0}, fString: \"ho\"}\n\
+    s;1 TObjString#1{TObject#1{fUniqueID: 0, fBits: 0}, fString: \"hi\"}\n\
+    L;1 Node#1{val: 1, next: @0=Node#1{val: 2, next: @1=Node#1{val: 3, next: null}}}\n\
+    c;1 Node#1{val: 1, next: @0=Node#1{val: 2, next: @0}}\na;1 C#1{n: 2, w: [7, 255]}\n\
+    o;1 opaque(Odd, 12)\nT;1 fault MissingMember fEntries\nz;1 compressed\n\
+    \"deep name\";7 TObjString#1{TObject#1{fUniqueID: 0, fBits: 0}, fString: \"tab\\t\"}\n";
 
 pub(super) static ROWS: [Row; 32] = [
     Row {
@@ -191,7 +186,7 @@ pub(super) static ROWS: [Row; 32] = [
         item: None,
         words: &[],
         status: Status::Done,
-        said: "class Node 1 { val: i32, next: Node* }\nclass C 1 { n: i32, w: u8[n] }\nclass Odd 1 { v: other(500), ?: other(0) }\ns;2 TObjString#1{TObject#1{fUniqueID: 0, fBits: 0}, fString: \"ho\"}\ns;1 TObjString#1{TObject#1{fUniqueID: 0, fBits: 0}, fString: \"hi\"}\nL;1 Node#1{val: 1, next: @0=Node#1{val: 2, next: @1=Node#1{val: 3, next: null}}}\nc;1 Node#1{val: 1, next: @0=Node#1{val: 2, next: @0}}\na;1 C#1{n: 2, w: [7, 255]}\no;1 opaque(Odd, 12)\nT;1 fault MissingMember fEntries\nz;1 compressed\n\"deep name\";7 TObjString#1{TObject#1{fUniqueID: 0, fBits: 0}, fString: \"tab\\t\"}\n",
+        said: HAND,
     },
     Row {
         name: "the greatest cycle",
@@ -332,103 +327,59 @@ pub(super) static ROWS: [Row; 32] = [
     },
 ];
 
-#[test]
-fn rows(rt: HostRuntime) -> Result<(), Fail> {
+// The first row that is said otherwise.
+fn said_otherwise(alloc: Global) -> Option<&'static str> {
     for row in &ROWS {
-        let (status, said) = row.run(rt.alloc()).ok().ok_or("a run")?;
-        assert_eq!(rt; status, row.status, "{}", row.name);
-        assert_eq!(rt; said.as_slice(), row.said.as_bytes(), "{}", row.name);
+        if !row.is_said(alloc) {
+            return Some(row.name);
+        }
     }
-    Ok(())
+    None
 }
 
-// Words of no form, over a host that fails at its first call.
-static NO_FORMS: [&[&str]; 13] = [
-    &["dump"],
-    &["dump", "-x"],
-    &["dump", "a.root", "s", "1"],
-    &["dump", "a.root", ""],
-    &["dump", "a.root", "-s"],
-    &["dump", "a.root", "a b"],
-    &["dump", "a.root", "s;"],
-    &["dump", "a.root", ";1"],
-    &["dump", "a.root", "s;01"],
-    &["dump", "a.root", "s;+1"],
-    &["dump", "a.root", "s;1;2"],
-    &["dump", "a.root", "s;4294967296"],
-    &["DUMP", "a.root"],
-];
-
 #[test]
-fn usage(rt: HostRuntime) -> Result<(), Fail> {
-    let alloc = rt.alloc();
-    for words in &NO_FORMS {
-        let image = decode(alloc, &ONE).ok().ok_or("an image")?;
-        let (status, said) = ran(alloc, words, image, &[0]).ok().ok_or("a run")?;
-        assert_eq!(rt; status, Status::Usage, "{words:?}");
-        assert!(rt; said.is_empty(), "{words:?}");
-    }
-    Ok(())
-}
-
-// An item's name has at most 100 bytes.
-#[test]
-fn long_items(rt: HostRuntime) -> Result<(), Fail> {
-    let alloc = rt.alloc();
-    for (length, wanted) in [(100, Status::Done), (101, Status::Usage)] {
-        let mut words = words_of(alloc, &["dump", "a.root"]).ok().ok_or("words")?;
-        let name = Name::from_slice(alloc, &[b'a'; 101][..length])
-            .ok()
-            .ok_or("a name")?;
-        words.push(name).ok().ok_or("words")?;
-        let image = decode(alloc, &ONE).ok().ok_or("an image")?;
-        let (status, _said) = ran_with(alloc, &words, image, &[]).ok().ok_or("a run")?;
-        assert_eq!(rt; status, wanted, "{length}");
-    }
-    Ok(())
+fn rows(rt: HostRuntime) {
+    assert_eq!(rt; said_otherwise(rt.alloc()), None);
 }
 
 // How many calls a run over the file of another maker makes on the file, before it says all its lines at
 // once: the length, the header, the directory record and two for each of the key list and the class list,
 // and then one for each record of an object or a tree. The compressed one isn't read.
-static CALLS: [(&[&str], u64); 5] = [
-    (&["dump", "b.root"], 15),
-    (&["dump", "b.root", "s"], 8),
-    (&["dump", "b.root", "T"], 8),
-    (&["dump", "b.root", "z"], 7),
-    (&["dump", "b.root", "x"], 7),
+static CALLS: [(&[&str], u64, &str); 5] = [
+    (&["dump", "b.root"], 15, HAND),
+    (
+        &["dump", "b.root", "s"],
+        8,
+        "s;2 TObjString#1{TObject#1{fUniqueID: 0, fBits: 0}, fString: \"ho\"}\n",
+    ),
+    (
+        &["dump", "b.root", "T"],
+        8,
+        "T;1 fault MissingMember fEntries\n",
+    ),
+    (&["dump", "b.root", "z"], 7, "z;1 compressed\n"),
+    (&["dump", "b.root", "x"], 7, "no 3 NoSuchName\n"),
 ];
 
-// What a run answers whose call of that number fails, and how much it says of its text: a say that fails
-// says its first half.
-fn cut_short(reads: u64, number: u64, all: usize) -> (Status, usize) {
-    if number < reads {
-        (Status::DiskFault, 0)
-    } else if number == reads {
-        (Status::SayFault, all / 2)
-    } else {
-        (Status::Done, all)
+// The first run, and the first of its calls, that is told otherwise where it fails.
+fn failing_otherwise(alloc: Global, image: &[u8]) -> Option<(&'static str, u64)> {
+    for (words, reads, text) in &CALLS {
+        if let Some(call) = cut_otherwise(alloc, words, image, *reads, text.as_bytes()) {
+            return Some((text, call));
+        }
+    }
+    None
+}
+
+fn failing_otherwise_of_hand(alloc: Global) -> Option<(&'static str, u64)> {
+    match File::Hand.image(alloc, usize::MAX, &[]) {
+        Ok(image) => failing_otherwise(alloc, image.as_slice()),
+        Err(_) => Some(("no file", 0)),
     }
 }
 
 // Each call of the host failing in turn.
 #[test]
-fn failing_calls(rt: HostRuntime) -> Result<(), Fail> {
-    let alloc = rt.alloc();
-    for (words, reads) in &CALLS {
-        let image = decode(alloc, &HAND).ok().ok_or("an image")?;
-        let (_status, all) = ran(alloc, words, image, &[]).ok().ok_or("a run")?;
-        for call in 0..17u64 {
-            let image = decode(alloc, &HAND).ok().ok_or("an image")?;
-            let (status, said) = ran(alloc, words, image, &[call]).ok().ok_or("a run")?;
-            let (wanted, length) = cut_short(*reads, call, all.len());
-            assert_eq!(rt; status, wanted, "{words:?}, call {call}");
-            assert_eq!(rt; said.len(), length, "{words:?}, call {call}");
-            assert!(rt;
-                all.as_slice().starts_with(said.as_slice()),
-                "{words:?}, call {call}"
-            );
-        }
-    }
-    Ok(())
+fn failing_calls(rt: HostRuntime) {
+    assert_eq!(rt; failing_otherwise_of_hand(rt.alloc()), None);
 }

@@ -1,8 +1,10 @@
 //! Rows of `scan` with entries of all kinds. Offsets count from the key's first byte: 57 bytes, 0x39, stand before the entries.
 use super::classes::ClassList;
 use super::forest::Forest;
-use super::header::{Basket, Branch, BranchLayout, Leaf, LeafLayout, Tree, TreeLayout};
-use super::parts::{FILE, FIVE, FLOAT, GOOD, INTEGER, NO_LETTER, SHORT, TEXT, TREE};
+use super::header::{Basket, Branch, Leaf, OBJECTS, THEIR_BRANCH, THEIR_LEAF, THEIR_TREE, Tree};
+use super::parts::{
+    FILE, FIVE, FLOAT, FLOATS, GOOD, INTEGER, NO_LETTER, OF_OBJECTS, SHORT, TEXT, TREE, TWO,
+};
 use super::scan::Row;
 
 // A tree of nine entries in baskets of three, two and four, and of four and five.
@@ -64,7 +66,7 @@ pub(super) const BASKETS: Tree = Tree {
     ..TREE
 };
 
-pub(super) static ENTRIES: [Row; 9] = [
+pub(super) static ENTRIES_OF_OBJECTS: [Row; 1] = [
     // A leaf of a branch of objects may count one of its own branch, and none of another.
     Row {
         name: "branches of objects",
@@ -74,18 +76,7 @@ pub(super) static ENTRIES: [Row; 9] = [
                     GOOD,
                     Branch {
                         name: "b",
-                        leaves: &[],
-                        baskets: &[Basket {
-                            entries: 1,
-                            size: 1,
-                            data: b"\x40\0\0\x06\0\x01\0\0\0\x07\0\0\0\x02\0\0\0\x39\0\0\0\x43",
-                            used: 10,
-                            ..FIVE
-                        }],
-                        class: "TBranchElement",
-                        layout: BranchLayout::Objects,
-                        objects: "P",
-                        ..GOOD
+                        ..OF_OBJECTS
                     },
                     Branch {
                         name: "c",
@@ -95,29 +86,17 @@ pub(super) static ENTRIES: [Row; 9] = [
                                 ..INTEGER
                             },
                             Leaf {
-                                name: "v",
                                 counter: Some(1),
-                                ..FLOAT
+                                ..FLOATS
                             },
                         ],
-                        baskets: &[Basket {
-                            entries: 1,
-                            size: 1,
-                            data: b"\x40\0\0\x06\0\x01\0\0\0\x07\0\0\0\x02\0\0\0\x39\0\0\0\x43",
-                            used: 10,
-                            ..FIVE
-                        }],
-                        class: "TBranchElement",
-                        layout: BranchLayout::Objects,
-                        objects: "P",
-                        ..GOOD
+                        ..OF_OBJECTS
                     },
                     Branch {
                         name: "d",
                         leaves: &[Leaf {
-                            name: "v",
                             counter: Some(1),
-                            ..FLOAT
+                            ..FLOATS
                         }],
                         ..GOOD
                     },
@@ -128,21 +107,10 @@ pub(super) static ENTRIES: [Row; 9] = [
                             name: "x",
                             ..INTEGER
                         }],
-                        baskets: &[Basket {
-                            entries: 1,
-                            size: 1,
-                            data: b"\x40\0\0\x06\0\x01\0\0\0\x07\0\0\0\x02\0\0\0\x39\0\0\0\x43",
-                            used: 10,
-                            ..FIVE
-                        }],
-                        class: "TBranchElement",
-                        layout: BranchLayout::Objects,
-                        objects: "P",
-                        ..GOOD
+                        ..OF_OBJECTS
                     },
                     Branch {
                         name: "f",
-                        leaves: &[],
                         baskets: &[Basket {
                             entries: 1,
                             size: 1,
@@ -150,14 +118,10 @@ pub(super) static ENTRIES: [Row; 9] = [
                             used: 11,
                             ..FIVE
                         }],
-                        class: "TBranchElement",
-                        layout: BranchLayout::Objects,
-                        objects: "P",
-                        ..GOOD
+                        ..OF_OBJECTS
                     },
                     Branch {
                         name: "g",
-                        leaves: &[],
                         baskets: &[Basket {
                             entries: 2,
                             size: 2,
@@ -167,10 +131,7 @@ pub(super) static ENTRIES: [Row; 9] = [
                             used: 20,
                             ..FIVE
                         }],
-                        class: "TBranchElement",
-                        layout: BranchLayout::Objects,
-                        objects: "P",
-                        ..GOOD
+                        ..OF_OBJECTS
                     },
                 ],
                 ..TREE
@@ -184,86 +145,90 @@ pub(super) static ENTRIES: [Row; 9] = [
             ok scan T 1\n\
             0 [5, P#1{a: 7}, P#1{a: 7}]\n",
     },
-    Row {
-        name: "a leaf of each letter",
-        forest: Forest {
-            trees: &[Tree {
-                branches: &[Branch {
-                    leaves: &[
-                        Leaf {
-                            class: "TLeafB",
-                            name: "a",
-                            ..INTEGER
-                        },
-                        Leaf {
-                            class: "TLeafB",
-                            name: "b",
-                            unsigned: true,
-                            ..INTEGER
-                        },
-                        Leaf { name: "c", ..SHORT },
-                        Leaf {
-                            name: "d",
-                            unsigned: true,
-                            ..SHORT
-                        },
-                        Leaf {
-                            name: "e",
-                            ..INTEGER
-                        },
-                        Leaf {
-                            name: "f",
-                            unsigned: true,
-                            ..INTEGER
-                        },
-                        Leaf {
-                            class: "TLeafL",
-                            name: "g",
-                            ..INTEGER
-                        },
-                        Leaf {
-                            class: "TLeafL",
-                            name: "h",
-                            unsigned: true,
-                            ..INTEGER
-                        },
-                        Leaf {
-                            unsigned: true,
-                            ..FLOAT
-                        },
-                        Leaf {
-                            class: "TLeafD",
-                            name: "j",
-                            ..INTEGER
-                        },
-                        Leaf {
-                            class: "TLeafO",
-                            name: "k",
-                            ..INTEGER
-                        },
-                        Leaf { name: "l", ..TEXT },
-                    ],
-                    baskets: &[Basket {
-                        entries: 1,
-                        size: 1,
-                        data: b"\xff\xff\xff\xfe\xff\xfe\
+];
+
+pub(super) static ENTRIES_OF_LETTERS: [Row; 1] = [Row {
+    name: "a leaf of each letter",
+    forest: Forest {
+        trees: &[Tree {
+            branches: &[Branch {
+                leaves: &[
+                    Leaf {
+                        class: "TLeafB",
+                        name: "a",
+                        ..INTEGER
+                    },
+                    Leaf {
+                        class: "TLeafB",
+                        name: "b",
+                        unsigned: true,
+                        ..INTEGER
+                    },
+                    Leaf { name: "c", ..SHORT },
+                    Leaf {
+                        name: "d",
+                        unsigned: true,
+                        ..SHORT
+                    },
+                    Leaf {
+                        name: "e",
+                        ..INTEGER
+                    },
+                    Leaf {
+                        name: "f",
+                        unsigned: true,
+                        ..INTEGER
+                    },
+                    Leaf {
+                        class: "TLeafL",
+                        name: "g",
+                        ..INTEGER
+                    },
+                    Leaf {
+                        class: "TLeafL",
+                        name: "h",
+                        unsigned: true,
+                        ..INTEGER
+                    },
+                    Leaf {
+                        unsigned: true,
+                        ..FLOAT
+                    },
+                    Leaf {
+                        class: "TLeafD",
+                        name: "j",
+                        ..INTEGER
+                    },
+                    Leaf {
+                        class: "TLeafO",
+                        name: "k",
+                        ..INTEGER
+                    },
+                    Leaf { name: "l", ..TEXT },
+                ],
+                baskets: &[Basket {
+                    entries: 1,
+                    size: 1,
+                    data: b"\xff\xff\xff\xfe\xff\xfe\
                             \xff\xff\xff\xfd\xff\xff\xff\xfd\
                             \xff\xff\xff\xff\xff\xff\xff\xfc\
                             \xff\xff\xff\xff\xff\xff\xff\xfc\
                             \x3f\x80\0\0\x3f\xf0\0\0\0\0\0\0\x02\x02h\x22\
                             \0\0\0\x02\0\0\0\x39\0\0\0\x67",
-                        used: 46,
-                        ..FIVE
-                    }],
-                    ..GOOD
+                    used: 46,
+                    ..FIVE
                 }],
-                ..TREE
+                ..GOOD
             }],
-            ..FILE
-        },
-        said: "ok scan T 1\n\
-            0 [-1, 255, -2, 65534, -3, 4294967293, -4, 18446744073709551612, 0x3f800000, 0x3ff0000000000000, true, \"h\\\"\"]\n",
+            ..TREE
+        }],
+        ..FILE
     },
+    said: "ok scan T 1\n\
+            0 [-1, 255, -2, 65534, -3, 4294967293, -4, 18446744073709551612, 0x3f800000, 0x3ff0000000000000, true, \"h\\\"\"]\n",
+}];
+
+pub(super) static ENTRIES_OF_LISTS: [Row; 1] = [
     // Counted in an earlier branch, of three numbers, and a text that has no dimension whatever its leaf says.
     Row {
         name: "lists",
@@ -283,15 +248,13 @@ pub(super) static ENTRIES: [Row; 9] = [
                             used: 8,
                             ..FIVE
                         }],
-                        entries: 2,
-                        ..GOOD
+                        ..TWO
                     },
                     Branch {
                         name: "v",
                         leaves: &[Leaf {
-                            name: "v",
                             counter: Some(0),
-                            ..FLOAT
+                            ..FLOATS
                         }],
                         baskets: &[Basket {
                             entries: 2,
@@ -300,8 +263,7 @@ pub(super) static ENTRIES: [Row; 9] = [
                             used: 8,
                             ..FIVE
                         }],
-                        entries: 2,
-                        ..GOOD
+                        ..TWO
                     },
                     Branch {
                         name: "w",
@@ -318,8 +280,7 @@ pub(super) static ENTRIES: [Row; 9] = [
                             used: 8,
                             ..FIVE
                         }],
-                        entries: 2,
-                        ..GOOD
+                        ..TWO
                     },
                     Branch {
                         name: "d",
@@ -335,8 +296,7 @@ pub(super) static ENTRIES: [Row; 9] = [
                             used: 12,
                             ..FIVE
                         }],
-                        entries: 2,
-                        ..GOOD
+                        ..TWO
                     },
                     Branch {
                         name: "t",
@@ -353,8 +313,7 @@ pub(super) static ENTRIES: [Row; 9] = [
                             used: 4,
                             ..FIVE
                         }],
-                        entries: 2,
-                        ..GOOD
+                        ..TWO
                     },
                     Branch {
                         name: "z",
@@ -372,8 +331,7 @@ pub(super) static ENTRIES: [Row; 9] = [
                             used: 2,
                             ..FIVE
                         }],
-                        entries: 2,
-                        ..GOOD
+                        ..TWO
                     },
                 ],
                 entries: 2,
@@ -385,6 +343,9 @@ pub(super) static ENTRIES: [Row; 9] = [
             0 [2, [0x3f800000, 0x40000000], [1, 2, 3, 4], [1, 2, -3], \"hi\", [1, 2]]\n\
             1 [0, [], [], [0, 0, 0], \"\", []]\n",
     },
+];
+
+pub(super) static ENTRIES_IN_BASKETS: [Row; 5] = [
     Row {
         name: "baskets of three, two and four entries",
         forest: Forest {
@@ -469,59 +430,60 @@ pub(super) static ENTRIES: [Row; 9] = [
             ok scan T 1\n\
             0 []\n",
     },
-    Row {
-        name: "another maker's classes",
-        forest: Forest {
-            trees: &[Tree {
-                branches: &[
-                    Branch {
-                        name: "n",
-                        leaves: &[Leaf {
-                            name: "n",
-                            layout: LeafLayout::Theirs,
-                            ..INTEGER
-                        }],
-                        baskets: &[Basket {
-                            entries: 2,
-                            size: 4,
-                            data: b"\0\0\0\x01\0\0\0\x02",
-                            used: 8,
-                            ..FIVE
-                        }],
-                        entries: 2,
-                        layout: BranchLayout::Theirs,
-                        ..GOOD
-                    },
-                    Branch {
-                        name: "v",
-                        leaves: &[Leaf {
-                            name: "v",
-                            counter: Some(0),
-                            layout: LeafLayout::Theirs,
-                            ..FLOAT
-                        }],
-                        baskets: &[Basket {
-                            entries: 2,
-                            size: 2,
-                            data: b"\x3f\x80\0\0\x40\0\0\0\x40\x40\0\0\0\0\0\x03\0\0\0\x39\0\0\0\x3d\0\0\0\x45",
-                            used: 12,
-                            ..FIVE
-                        }],
-                        entries: 2,
-                        layout: BranchLayout::Theirs,
-                        ..GOOD
-                    },
-                ],
-                layout: TreeLayout::Theirs,
-                entries: 2,
-                ..TREE
-            }],
-            classes: ClassList::Theirs,
-            ..FILE
-        },
-        said: "ok scan T 2\n0 [1, [0x3f800000]]\n1 [2, [0x40000000, 0x40400000]]\n",
-    },
 ];
+
+pub(super) static ENTRIES_OF_ANOTHER_MAKER: [Row; 1] = [Row {
+    name: "another maker's classes",
+    forest: Forest {
+        trees: &[Tree {
+            branches: &[
+                Branch {
+                    name: "n",
+                    leaves: &[Leaf {
+                        name: "n",
+                        layout: THEIR_LEAF,
+                        ..INTEGER
+                    }],
+                    baskets: &[Basket {
+                        entries: 2,
+                        size: 4,
+                        data: b"\0\0\0\x01\0\0\0\x02",
+                        used: 8,
+                        ..FIVE
+                    }],
+                    entries: 2,
+                    layout: THEIR_BRANCH,
+                    ..GOOD
+                },
+                Branch {
+                    name: "v",
+                    leaves: &[Leaf {
+                        name: "v",
+                        counter: Some(0),
+                        layout: THEIR_LEAF,
+                        ..FLOAT
+                    }],
+                    baskets: &[Basket {
+                        entries: 2,
+                        size: 2,
+                        data: b"\x3f\x80\0\0\x40\0\0\0\x40\x40\0\0\0\0\0\x03\0\0\0\x39\0\0\0\x3d\0\0\0\x45",
+                        used: 12,
+                        ..FIVE
+                    }],
+                    entries: 2,
+                    layout: THEIR_BRANCH,
+                    ..GOOD
+                },
+            ],
+            layout: THEIR_TREE,
+            entries: 2,
+            ..TREE
+        }],
+        classes: ClassList::Theirs,
+        ..FILE
+    },
+    said: "ok scan T 2\n0 [1, [0x3f800000]]\n1 [2, [0x40000000, 0x40400000]]\n",
+}];
 
 /// Counters in two earlier branches.
 pub(super) static ENTRIES_COUNTED_BY_TWO: [Row; 1] = [
@@ -549,8 +511,7 @@ pub(super) static ENTRIES_COUNTED_BY_TWO: [Row; 1] = [
                             used: 16,
                             ..FIVE
                         }],
-                        entries: 2,
-                        ..GOOD
+                        ..TWO
                     },
                     Branch {
                         name: "b",
@@ -565,8 +526,7 @@ pub(super) static ENTRIES_COUNTED_BY_TWO: [Row; 1] = [
                             used: 8,
                             ..FIVE
                         }],
-                        entries: 2,
-                        ..GOOD
+                        ..TWO
                     },
                     Branch {
                         name: "c",
@@ -591,8 +551,7 @@ pub(super) static ENTRIES_COUNTED_BY_TWO: [Row; 1] = [
                             used: 9,
                             ..FIVE
                         }],
-                        entries: 2,
-                        ..GOOD
+                        ..TWO
                     },
                 ],
                 entries: 2,

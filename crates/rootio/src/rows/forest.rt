@@ -1,9 +1,8 @@
 //! Files with trees: baskets, headers, a class list and a key list, one record behind the other.
 use super::classes::{ClassList, put_classes};
 use super::header::{Basket, Branch, Placed, Tree};
-use super::images::{EMPTY, LARGE};
+use super::images::File as Made;
 use super::pen::{Field, Pen, half, patch, put_fields, word};
-use super::runs::{changed, decode};
 use rio_num::{Bytes, NoMemory};
 use std::alloc::Global;
 
@@ -21,8 +20,8 @@ impl Form {
     /// Up to the first record behind the directory record: 208 bytes, or 216.
     fn front(self, alloc: Global) -> Result<Bytes, NoMemory> {
         match self {
-            Form::Small => changed(alloc, decode(alloc, &EMPTY)?.as_slice(), 208, &[]),
-            Form::Large => changed(alloc, decode(alloc, &LARGE)?.as_slice(), 216, &[]),
+            Form::Small => Made::Empty.image(alloc, 208, &[]),
+            Form::Large => Made::Large.image(alloc, 216, &[]),
         }
     }
 

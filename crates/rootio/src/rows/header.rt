@@ -7,7 +7,7 @@ use rio_num::NoMemory;
 pub(super) struct Leaf {
     pub(super) name: &'static str,
     pub(super) class: &'static str,
-    pub(super) layout: LeafLayout,
+    pub(super) layout: Layout,
     pub(super) length: u32,
     pub(super) unsigned: bool,
     /// The leaf that counts it, from 0 over the leaves of all branches.
@@ -36,7 +36,7 @@ pub(super) struct Basket {
 pub(super) struct Branch {
     pub(super) name: &'static str,
     pub(super) class: &'static str,
-    pub(super) layout: BranchLayout,
+    pub(super) layout: Layout,
     /// The class of its objects.
     pub(super) objects: &'static str,
     pub(super) leaves: &'static [Leaf],
@@ -54,7 +54,7 @@ pub(super) struct Branch {
 pub(super) struct Tree {
     pub(super) name: &'static str,
     pub(super) cycle: u16,
-    pub(super) layout: TreeLayout,
+    pub(super) layout: Layout,
     pub(super) entries: u64,
     pub(super) branches: &'static [Branch],
     /// How much longer its header was before it was compressed.
@@ -103,72 +103,28 @@ use Step::{
     Weight,
 };
 
-/// How a tree is laid out.
-#[derive(Clone, Copy)]
-pub(super) enum TreeLayout {
-    /// As the format's own classes have it.
-    Own,
-    /// Without fEntries.
-    Endless,
-    /// Without fBranches.
-    Bare,
-    /// Without both.
-    Empty,
-    /// As another maker has it.
-    Theirs,
-}
+/// What stands in an object, one run of steps behind the other.
+pub(super) type Layout = &'static [&'static [Step]];
 
-static TREE: [Step; 6] = [Begin(120), Named, Entries, Branches, Leaves, End];
+/// A tree as the format's own classes have it.
+pub(super) const OWN_TREE: Layout = &[&[Begin(120), Named, Entries, Branches, Leaves, End]];
 
-static ENDLESS_TREE: [Step; 5] = [Begin(121), Named, Branches, Leaves, End];
+/// Without fEntries, without fBranches, and without both.
+pub(super) const ENDLESS_TREE: Layout = &[&[Begin(121), Named, Branches, Leaves, End]];
 
-static BARE_TREE: [Step; 5] = [Begin(122), Named, Entries, Leaves, End];
+pub(super) const BARE_TREE: Layout = &[&[Begin(122), Named, Entries, Leaves, End]];
 
-static EMPTY_TREE: [Step; 4] = [Begin(123), Named, Leaves, End];
+pub(super) const EMPTY_TREE: Layout = &[&[Begin(123), Named, Leaves, End]];
 
-static THEIR_TREE: [Step; 9] = [
-    Begin(20),
-    Named,
-    Begin(7),
-    Leaves,
-    Branches,
-    End,
-    Weight,
-    Entries,
-    End,
+/// A tree as another maker has it.
+pub(super) const THEIR_TREE: Layout = &[
+    &[Begin(20), Named],
+    &[Begin(7), Leaves, Branches, End],
+    &[Weight, Entries, End],
 ];
 
-impl TreeLayout {
-    fn steps(self) -> &'static [Step] {
-        match self {
-            TreeLayout::Own => &TREE,
-            TreeLayout::Endless => &ENDLESS_TREE,
-            TreeLayout::Bare => &BARE_TREE,
-            TreeLayout::Empty => &EMPTY_TREE,
-            TreeLayout::Theirs => &THEIR_TREE,
-        }
-    }
-}
-
-/// How a branch is laid out.
-#[derive(Clone, Copy)]
-pub(super) enum BranchLayout {
-    /// As the format's own classes have it.
-    Own,
-    /// Without fBasketSeek.
-    Bare,
-    /// As one of a class whose base is that of branches.
-    Heir,
-    /// As one of objects.
-    Objects,
-    /// As one of objects, in an older version.
-    OldObjects,
-    /// As another maker has it.
-    Theirs,
-}
-
-static BRANCH: [Step; 13] = [
-    Begin(113),
+/// What all branches of the format's own classes begin with.
+const BRANCH_FRONT: &[Step] = &[
     Named,
     OffsetLength,
     Used,
@@ -179,167 +135,46 @@ static BRANCH: [Step; 13] = [
     Baskets,
     Bytes,
     Firsts,
-    Places,
-    End,
 ];
 
-static BARE_BRANCH: [Step; 12] = [
-    Begin(114),
-    Named,
-    OffsetLength,
-    Used,
-    Most,
-    Entries,
-    Branches,
-    Leaves,
-    Baskets,
-    Bytes,
-    Firsts,
-    End,
+/// What stands behind that in a branch of objects.
+const OBJECTS_BACK: &[Step] = &[Places, End, ClassName, ClassVersion, End];
+
+/// A branch as the format's own classes have it.
+pub(super) const OWN_BRANCH: Layout = &[&[Begin(113)], BRANCH_FRONT, &[Places, End]];
+
+/// Without fBasketSeek.
+pub(super) const BARE_BRANCH: Layout = &[&[Begin(114)], BRANCH_FRONT, &[End]];
+
+/// A branch of a class whose base is that of branches.
+pub(super) const HEIR: Layout = &[&[Begin(113), Begin(113)], BRANCH_FRONT, &[Places, End, End]];
+
+/// A branch of objects, and one in an older version.
+pub(super) const OBJECTS: Layout = &[&[Begin(110), Begin(113)], BRANCH_FRONT, OBJECTS_BACK];
+
+pub(super) const OLD_OBJECTS: Layout = &[&[Begin(10), Begin(113)], BRANCH_FRONT, OBJECTS_BACK];
+
+/// A branch as another maker has it.
+pub(super) const THEIR_BRANCH: Layout = &[
+    &[Begin(13), Named],
+    &[Begin(2), Most, Places, Firsts, Bytes, End],
+    &[Baskets, Leaves, Entries, Branches, Used, End],
 ];
 
-static HEIR: [Step; 15] = [
-    Begin(113),
-    Begin(113),
-    Named,
-    OffsetLength,
-    Used,
-    Most,
-    Entries,
-    Branches,
-    Leaves,
-    Baskets,
-    Bytes,
-    Firsts,
-    Places,
-    End,
-    End,
+/// What stands behind the length of a leaf of the format's own classes.
+const LEAF_BACK: &[Step] = &[LengthType, Unsigned, Counter, End, End];
+
+/// A leaf as the format's own classes have it.
+pub(super) const OWN_LEAF: Layout = &[&[Begin(101), Begin(102), Named, Length], LEAF_BACK];
+
+/// Without fLen.
+pub(super) const BARE_LEAF: Layout = &[&[Begin(103), Begin(103), Named], LEAF_BACK];
+
+/// A leaf as another maker has it.
+pub(super) const THEIR_LEAF: Layout = &[
+    &[Begin(1), Begin(3), Named],
+    &[Unsigned, Counter, ShortLength, End, End],
 ];
-
-static OBJECTS: [Step; 17] = [
-    Begin(110),
-    Begin(113),
-    Named,
-    OffsetLength,
-    Used,
-    Most,
-    Entries,
-    Branches,
-    Leaves,
-    Baskets,
-    Bytes,
-    Firsts,
-    Places,
-    End,
-    ClassName,
-    ClassVersion,
-    End,
-];
-
-static OLD_OBJECTS: [Step; 17] = [
-    Begin(10),
-    Begin(113),
-    Named,
-    OffsetLength,
-    Used,
-    Most,
-    Entries,
-    Branches,
-    Leaves,
-    Baskets,
-    Bytes,
-    Firsts,
-    Places,
-    End,
-    ClassName,
-    ClassVersion,
-    End,
-];
-
-static THEIR_BRANCH: [Step; 14] = [
-    Begin(13),
-    Named,
-    Begin(2),
-    Most,
-    Places,
-    Firsts,
-    Bytes,
-    End,
-    Baskets,
-    Leaves,
-    Entries,
-    Branches,
-    Used,
-    End,
-];
-
-impl BranchLayout {
-    fn steps(self) -> &'static [Step] {
-        match self {
-            BranchLayout::Own => &BRANCH,
-            BranchLayout::Bare => &BARE_BRANCH,
-            BranchLayout::Heir => &HEIR,
-            BranchLayout::Objects => &OBJECTS,
-            BranchLayout::OldObjects => &OLD_OBJECTS,
-            BranchLayout::Theirs => &THEIR_BRANCH,
-        }
-    }
-}
-
-/// How a leaf is laid out.
-#[derive(Clone, Copy)]
-pub(super) enum LeafLayout {
-    /// As the format's own classes have it.
-    Own,
-    /// Without fLen.
-    Bare,
-    /// As another maker has it.
-    Theirs,
-}
-
-static LEAF: [Step; 9] = [
-    Begin(101),
-    Begin(102),
-    Named,
-    Length,
-    LengthType,
-    Unsigned,
-    Counter,
-    End,
-    End,
-];
-
-static BARE_LEAF: [Step; 8] = [
-    Begin(103),
-    Begin(103),
-    Named,
-    LengthType,
-    Unsigned,
-    Counter,
-    End,
-    End,
-];
-
-static THEIR_LEAF: [Step; 8] = [
-    Begin(1),
-    Begin(3),
-    Named,
-    Unsigned,
-    Counter,
-    ShortLength,
-    End,
-    End,
-];
-
-impl LeafLayout {
-    fn steps(self) -> &'static [Step] {
-        match self {
-            LeafLayout::Own => &LEAF,
-            LeafLayout::Bare => &BARE_LEAF,
-            LeafLayout::Theirs => &THEIR_LEAF,
-        }
-    }
-}
 
 /// An array with nothing in it.
 fn put_nothing(pen: &mut Pen) -> Result<(), NoMemory> {
@@ -392,10 +227,17 @@ impl Leaf {
         }
     }
 
+    fn put_steps(&self, pen: &mut Pen, steps: &[Step]) -> Result<(), NoMemory> {
+        for step in steps {
+            self.put_step(pen, *step)?;
+        }
+        Ok(())
+    }
+
     fn put(&self, pen: &mut Pen) -> Result<(), NoMemory> {
         pen.point_leaf(self.class)?;
-        for step in self.layout.steps() {
-            self.put_step(pen, *step)?;
+        for steps in self.layout {
+            self.put_steps(pen, steps)?;
         }
         pen.end();
         Ok(())
@@ -480,13 +322,20 @@ impl Branch {
         }
     }
 
+    fn put_steps(&self, pen: &mut Pen, placed: &[Placed], steps: &[Step]) -> Result<(), NoMemory> {
+        for step in steps {
+            self.put_step(pen, placed, *step)?;
+        }
+        Ok(())
+    }
+
     fn put(&self, pen: &mut Pen, placed: &[Placed]) -> Result<(), NoMemory> {
         if self.class.is_empty() {
             return pen.refer(None);
         }
         pen.point(self.class)?;
-        for step in self.layout.steps() {
-            self.put_step(pen, placed, *step)?;
+        for steps in self.layout {
+            self.put_steps(pen, placed, steps)?;
         }
         pen.end();
         Ok(())
@@ -532,10 +381,17 @@ impl Tree {
         }
     }
 
+    fn put_steps(&self, pen: &mut Pen, placed: &[Placed], steps: &[Step]) -> Result<(), NoMemory> {
+        for step in steps {
+            self.put_step(pen, placed, *step)?;
+        }
+        Ok(())
+    }
+
     /// Its header, an object. Its baskets stand there, those of its first branch first.
     pub(super) fn put(&self, pen: &mut Pen, placed: &[Placed]) -> Result<(), NoMemory> {
-        for step in self.layout.steps() {
-            self.put_step(pen, placed, *step)?;
+        for steps in self.layout {
+            self.put_steps(pen, placed, steps)?;
         }
         Ok(())
     }

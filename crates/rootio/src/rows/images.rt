@@ -1,5 +1,58 @@
-//! Files in hexadecimal, record after record. The first four are as the format's rules give them for a
-//! file `a.root` of datime 1; the others are made by hand.
+//! Files in hexadecimal, record after record. EMPTY, ONE, TWO and WORKED are as the format's rules give
+//! them for a file `a.root` of datime 1; the others are made by hand.
+
+use super::hand::HAND;
+use super::runs::{changed, decode};
+use rio_num::{Bytes, NoMemory};
+use std::alloc::Global;
+
+/// One of the files.
+#[derive(Clone, Copy)]
+pub(super) enum File {
+    Nothing,
+    Three,
+    ZeroWord,
+    RootAlone,
+    Empty,
+    One,
+    Two,
+    /// What the worked run leaves.
+    Worked,
+    OddNames,
+    Compressed,
+    Large,
+    Hand,
+}
+
+impl File {
+    fn lines(self) -> &'static [&'static str] {
+        match self {
+            File::Nothing => &[],
+            File::Three => &["616263"],
+            File::ZeroWord => &["0000000009"],
+            File::RootAlone => &["726F6F74"],
+            File::Empty => &EMPTY,
+            File::One => &ONE,
+            File::Two => &TWO,
+            File::Worked => &WORKED,
+            File::OddNames => &ODD_NAMES,
+            File::Compressed => &COMPRESSED,
+            File::Large => &LARGE,
+            File::Hand => &HAND,
+        }
+    }
+
+    /// Its front, with some words written over.
+    pub(super) fn image(
+        self,
+        alloc: Global,
+        length: usize,
+        words: &[(usize, u32)],
+    ) -> Result<Bytes, NoMemory> {
+        let whole = decode(alloc, self.lines())?;
+        changed(alloc, whole.as_slice(), length, words)
+    }
+}
 
 /// The closed file without objects, 308 bytes.
 pub(super) static EMPTY: [&str; 11] = [

@@ -1,12 +1,10 @@
 //! The longest input, and one that is longer by a byte.
-use super::images::EMPTY;
-use super::runs::{decode, words_of};
+use super::images::File;
+use super::runs::{answer, host_of_copy, words_of};
 use crate::status::Status;
-use crate::top::run;
 use rio_host::{Failed, Host, MemHost, Source};
-use rio_num::{Bytes, NoMemory, Numbers};
+use rio_num::NoMemory;
 use std::alloc::Global;
-use std::test::Fail;
 
 // An input of so many line feeds, which are kept nowhere. No read of it fails.
 #[derive(Drop)]
@@ -27,32 +25,48 @@ impl Source for LineFeeds {
     }
 }
 
-// What a run of so many line feeds answers over an empty file, where these calls of its host fail, and the host behind it.
-fn fed(alloc: Global, count: usize, failing: &[u64]) -> Result<(Status, MemHost), NoMemory> {
+// What a run of so many line feeds answers over the host.
+fn fed(alloc: Global, count: usize, host: &mut MemHost) -> Result<Status, NoMemory> {
     let words = words_of(alloc, &["run", "a.root"])?;
-    let failing = Numbers::from_slice(alloc, failing)?;
-    let mut host = MemHost::new(alloc, Bytes::new(alloc), failing);
-    let mut input = LineFeeds { left: count };
-    let status = run(alloc, &words, &mut host, &mut input);
-    Ok((status, host))
+    Ok(answer(alloc, &words, host, &mut LineFeeds { left: count }))
+}
+
+fn is_empty_file(alloc: Global, image: &[u8]) -> bool {
+    match File::Empty.image(alloc, usize::MAX, &[]) {
+        Ok(wanted) => image == wanted.as_slice() && image.len() == 308,
+        Err(_) => false,
+    }
+}
+
+fn is_read_to_the_end(alloc: Global) -> bool {
+    match host_of_copy(alloc, b"", &[]) {
+        Ok(mut host) => {
+            fed(alloc, 67_108_864, &mut host) == Ok(Status::Done)
+                && host.said().is_empty()
+                && is_empty_file(alloc, host.image())
+        }
+        Err(_) => false,
+    }
 }
 
 #[test]
-fn the_longest_input(rt: HostRuntime) -> Result<(), Fail> {
-    let (status, host) = fed(rt.alloc(), 67_108_864, &[])?;
-    assert_eq!(rt; status, Status::Done);
-    assert!(rt; host.said().is_empty());
-    assert!(rt; host.image() == decode(rt.alloc(), &EMPTY)?.as_slice());
-    assert_eq!(rt; host.image().len(), 308);
-    Ok(())
+fn the_longest_input(rt: HostRuntime) {
+    assert!(rt; is_read_to_the_end(rt.alloc()));
+}
+
+fn is_refused(alloc: Global) -> bool {
+    match host_of_copy(alloc, b"", &[0]) {
+        Ok(mut host) => {
+            fed(alloc, 67_108_865, &mut host) == Ok(Status::InputTooLong)
+                && host.image().is_empty()
+                && host.length().is_err()
+        }
+        Err(_) => false,
+    }
 }
 
 // The host's first call would fail, and still does behind the run: no call came before it.
 #[test]
-fn an_input_that_is_too_long(rt: HostRuntime) -> Result<(), Fail> {
-    let (status, mut host) = fed(rt.alloc(), 67_108_865, &[0])?;
-    assert_eq!(rt; status, Status::InputTooLong);
-    assert!(rt; host.image().is_empty());
-    assert!(rt; host.length().is_err());
-    Ok(())
+fn an_input_that_is_too_long(rt: HostRuntime) {
+    assert!(rt; is_refused(rt.alloc()));
 }

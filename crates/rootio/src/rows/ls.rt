@@ -1,38 +1,12 @@
 //! Rows of `ls`.
-use super::hand::HAND;
-use super::images::{COMPRESSED, EMPTY, LARGE, ODD_NAMES, ONE, TWO};
-use super::runs::{changed, decode, ran, ran_with, words_of};
+use super::images::File;
+use super::runs::{cut_otherwise, says};
 use crate::status::{Status, code, fault_text};
 use rio_head::{FileFault, Reason};
-use rio_num::{Bytes, Name};
-use std::test::Fail;
+use rio_num::Bytes;
+use std::alloc::Global;
 
 static WORDS: [&str; 2] = ["ls", "a.root"];
-
-#[derive(Clone, Copy)]
-enum File {
-    Empty,
-    One,
-    Two,
-    OddNames,
-    Compressed,
-    Large,
-    Hand,
-}
-
-impl File {
-    fn lines(self) -> &'static [&'static str] {
-        match self {
-            File::Empty => &EMPTY,
-            File::One => &ONE,
-            File::Two => &TWO,
-            File::OddNames => &ODD_NAMES,
-            File::Compressed => &COMPRESSED,
-            File::Large => &LARGE,
-            File::Hand => &HAND,
-        }
-    }
-}
 
 // One of the files, cut to a length, with some words written over: what `ls` answers and says.
 struct Row {
@@ -368,144 +342,99 @@ static ROWS: [Row; 32] = [
     },
 ];
 
-#[test]
-fn rows(rt: HostRuntime) -> Result<(), Fail> {
-    let alloc = rt.alloc();
+impl Row {
+    fn is_said(&self, alloc: Global) -> bool {
+        match self.file.image(alloc, self.length, self.words) {
+            Ok(image) => says(alloc, &WORDS, image, (self.status, self.said.as_bytes())),
+            Err(_) => false,
+        }
+    }
+}
+
+// The first row that is said otherwise.
+fn said_otherwise(alloc: Global) -> Option<&'static str> {
     for row in &ROWS {
-        let whole = decode(alloc, row.file.lines()).ok().ok_or("an image")?;
-        let image = changed(alloc, whole.as_slice(), row.length, row.words)
-            .ok()
-            .ok_or("an image")?;
-        let (status, said) = ran(alloc, &WORDS, image, &[]).ok().ok_or("a run")?;
-        assert_eq!(rt; status, row.status, "{}", row.name);
-        assert_eq!(rt; said.as_slice(), row.said.as_bytes(), "{}", row.name);
+        if !row.is_said(alloc) {
+            return Some(row.name);
+        }
     }
-    Ok(())
+    None
 }
 
-// A file that was cut before its END is refused by its header alone.
 #[test]
-fn cuts(rt: HostRuntime) -> Result<(), Fail> {
-    let alloc = rt.alloc();
-    let whole = decode(alloc, &TWO).ok().ok_or("an image")?;
+fn rows(rt: HostRuntime) {
+    assert_eq!(rt; said_otherwise(rt.alloc()), None);
+}
+
+// Whether a file of two objects that is cut there, before its END, is refused by its header alone.
+fn is_cut_refused(alloc: Global, length: usize) -> bool {
+    let closed = Status::BadFile {
+        place: 12,
+        kind: FileFault::NotClosed,
+    };
+    match File::Two.image(alloc, length, &[]) {
+        Ok(image) => says(alloc, &WORDS, image, (closed, b"")),
+        Err(_) => false,
+    }
+}
+
+#[test]
+fn cuts(rt: HostRuntime) {
     for length in 63..504 {
-        let image = changed(alloc, whole.as_slice(), length, &[])
-            .ok()
-            .ok_or("an image")?;
-        let (status, said) = ran(alloc, &WORDS, image, &[]).ok().ok_or("a run")?;
-        let closed = Status::BadFile {
-            place: 12,
-            kind: FileFault::NotClosed,
-        };
-        assert_eq!(rt; status, closed, "at {length}");
-        assert!(rt; said.is_empty(), "at {length}");
+        assert!(rt; is_cut_refused(rt.alloc(), length), "at {length}");
     }
-    Ok(())
 }
 
-// Words of no form, over a host that fails at its first call.
-static NO_FORMS: [&[&str]; 15] = [
-    &[],
-    &["ls"],
-    &["ls", "-x"],
-    &["ls", ""],
-    &["ls", "a\tb"],
-    &["ls", "-"],
-    &["gen", "a.root", "0"],
-    &["ls", "a.root", "b"],
-    &["LS", "a.root"],
-    &["-ls", "a.root"],
-    &["run"],
-    &["run", "a.root", "01"],
-    &["run", "a.root", "-1"],
-    &["run", "a.root", "4294967296"],
-    &["run", "a.root", "1", "2"],
-];
+// The first call of the host that is told otherwise where it fails: five look at the file, and one says the text.
+fn failing_otherwise(alloc: Global) -> Option<u64> {
+    match File::One.image(alloc, WHOLE, &[]) {
+        Ok(image) => cut_otherwise(alloc, &WORDS, image.as_slice(), 5, b"s;1 TObjString\n"),
+        Err(_) => Some(0),
+    }
+}
 
 #[test]
-fn usage(rt: HostRuntime) -> Result<(), Fail> {
-    let alloc = rt.alloc();
-    for words in &NO_FORMS {
-        let image = decode(alloc, &ONE).ok().ok_or("an image")?;
-        let (status, said) = ran(alloc, words, image, &[0]).ok().ok_or("a run")?;
-        assert_eq!(rt; status, Status::Usage, "{words:?}");
-        assert!(rt; said.is_empty(), "{words:?}");
-    }
-    Ok(())
+fn failing_calls(rt: HostRuntime) {
+    assert_eq!(rt; failing_otherwise(rt.alloc()), None);
 }
 
-// A file's name has at most 200 bytes.
-#[test]
-fn long_names(rt: HostRuntime) -> Result<(), Fail> {
-    let alloc = rt.alloc();
-    for (length, wanted) in [(200, Status::Done), (201, Status::Usage)] {
-        let mut words = words_of(alloc, &["ls"]).ok().ok_or("words")?;
-        let name = Name::from_slice(alloc, &[b'a'; 201][..length])
-            .ok()
-            .ok_or("a name")?;
-        words.push(name).ok().ok_or("words")?;
-        let image = decode(alloc, &ONE).ok().ok_or("an image")?;
-        let (status, _said) = ran_with(alloc, &words, image, &[]).ok().ok_or("a run")?;
-        assert_eq!(rt; status, wanted, "{length}");
-    }
-    Ok(())
+fn is_told(alloc: Global, status: &Status, number: u8, text: &str) -> bool {
+    let mut said = Bytes::new(alloc);
+    fault_text(alloc, status, &mut said).is_ok()
+        && code(status) == number
+        && said.as_slice() == text.as_bytes()
 }
 
-// Each call of the host failing in turn: the last one says the text.
-#[test]
-fn failing_calls(rt: HostRuntime) -> Result<(), Fail> {
-    let alloc = rt.alloc();
-    for call in 0..7 {
-        let image = decode(alloc, &ONE).ok().ok_or("an image")?;
-        let (status, said) = ran(alloc, &WORDS, image, &[call]).ok().ok_or("a run")?;
-        let wanted = match call {
-            0..=4 => Status::DiskFault,
-            5 => Status::SayFault,
-            _ => Status::Done,
-        };
-        assert_eq!(rt; status, wanted, "call {call}");
-        assert!(rt;
-            b"s;1 TObjString\n".starts_with(said.as_slice()),
-            "call {call}"
-        );
-    }
-    Ok(())
-}
-
-static STATUSES: [(Status, u8, &str); 9] = [
+static STATUSES: [(Status, u8, &str); 7] = [
     (Status::Done, 0, ""),
     (Status::Usage, 1, "rootio: usage: rootio VERB FILE ARG..."),
-    (
-        Status::BadFile {
-            place: 4096,
-            kind: FileFault::BadKeyList,
-        },
-        2,
-        "rootio: bad file at 4096: BadKeyList",
-    ),
     (Status::DiskFault, 3, "rootio: disk fault"),
     (Status::InputFault, 4, "rootio: input fault"),
     (Status::NoMemory, 5, "rootio: no memory"),
     (Status::InputTooLong, 6, "rootio: input too long"),
-    (
-        Status::ReadOnly {
-            place: 304,
-            reason: Reason::NoChain,
-        },
-        7,
-        "rootio: read only at 304: NoChain",
-    ),
     (Status::SayFault, 8, "rootio: output fault"),
 ];
 
-#[test]
-fn statuses(rt: HostRuntime) -> Result<(), Fail> {
-    let alloc = rt.alloc();
-    for (status, number, text) in &STATUSES {
-        let mut said = Bytes::new(alloc);
-        fault_text(alloc, status, &mut said).ok().ok_or("a text")?;
-        assert_eq!(rt; code(status), *number);
-        assert_eq!(rt; said.as_slice(), text.as_bytes());
+// How many are told so, up to the first that isn't.
+fn count_told(alloc: Global) -> usize {
+    for (k, (status, number, text)) in STATUSES.iter().enumerate() {
+        if !is_told(alloc, status, *number, text) {
+            return k;
+        }
     }
-    Ok(())
+    STATUSES.len()
+}
+
+#[test]
+fn statuses(rt: HostRuntime) {
+    assert_eq!(rt; count_told(rt.alloc()), STATUSES.len());
+    let bad = Status::BadFile {
+        place: 4096,
+        kind: FileFault::BadKeyList,
+    };
+    let text = "rootio: bad file at 4096: BadKeyList";
+    assert!(rt; is_told(rt.alloc(), &bad, 2, text));
+    let (place, reason) = (304, Reason::NoChain);
+    let text = "rootio: read only at 304: NoChain";
+    assert!(rt; is_told(rt.alloc(), &Status::ReadOnly { place, reason }, 7, text));
 }

@@ -1,13 +1,13 @@
 //! Parts of files with trees, of which the rows of `scan` are made.
 use super::classes::ClassList;
 use super::forest::{Forest, Form};
-use super::header::{Basket, Branch, BranchLayout, Leaf, LeafLayout, Tree, TreeLayout};
+use super::header::{Basket, Branch, Leaf, OBJECTS, OWN_BRANCH, OWN_LEAF, OWN_TREE, Tree};
 
 // A leaf of one integer of four bytes.
 pub(super) const INTEGER: Leaf = Leaf {
     name: "i",
     class: "TLeafI",
-    layout: LeafLayout::Own,
+    layout: OWN_LEAF,
     length: 1,
     unsigned: false,
     counter: None,
@@ -50,7 +50,7 @@ pub(super) const FIVE: Basket = Basket {
 pub(super) const GOOD: Branch = Branch {
     name: "a",
     class: "TBranch",
-    layout: BranchLayout::Own,
+    layout: OWN_BRANCH,
     objects: "",
     leaves: &[INTEGER],
     entries: 1,
@@ -64,7 +64,7 @@ pub(super) const GOOD: Branch = Branch {
 pub(super) const TREE: Tree = Tree {
     name: "T",
     cycle: 1,
-    layout: TreeLayout::Own,
+    layout: OWN_TREE,
     entries: 1,
     branches: &[GOOD],
     shrunk: 0,
@@ -128,3 +128,32 @@ pub(super) const SIX: Branch = Branch {
     }],
     ..GOOD
 };
+
+// A branch of objects `P` without leaves, with the one entry of the number 7.
+pub(super) const OF_OBJECTS: Branch = Branch {
+    class: "TBranchElement",
+    layout: OBJECTS,
+    objects: "P",
+    leaves: &[],
+    baskets: &[Basket {
+        size: 1,
+        data: b"\x40\0\0\x06\0\x01\0\0\0\x07\0\0\0\x02\0\0\0\x39\0\0\0\x43",
+        used: 10,
+        ..FIVE
+    }],
+    ..GOOD
+};
+
+// A leaf `v` of floats, which a row may say another one counts.
+pub(super) const FLOATS: Leaf = Leaf { name: "v", ..FLOAT };
+
+// A basket with the entries 5 and 6.
+pub(super) const FIVE_AND_SIX: Basket = Basket {
+    entries: 2,
+    data: b"\0\0\0\x05\0\0\0\x06",
+    used: 8,
+    ..FIVE
+};
+
+// The good branch, said to have two entries.
+pub(super) const TWO: Branch = Branch { entries: 2, ..GOOD };

@@ -1,9 +1,11 @@
 //! Rows of `scan` in which branches are refused.
 use super::forest::Forest;
-use super::header::{Basket, Branch, BranchLayout, Leaf, LeafLayout, Tree};
+use super::header::{
+    BARE_BRANCH, BARE_LEAF, Basket, Branch, HEIR, Leaf, OBJECTS, OLD_OBJECTS, Tree,
+};
 use super::parts::{
-    COUNTED, FILE, FIVE, FLOAT, GOOD, INTEGER, LONG, NO_LETTER, PACKED, SHORT, TEXT, TREE, WORST,
-    WRONG,
+    COUNTED, FILE, FIVE, FIVE_AND_SIX, FLOAT, FLOATS, GOOD, INTEGER, LONG, NO_LETTER, PACKED,
+    SHORT, TEXT, TREE, TWO, WORST, WRONG,
 };
 use super::scan::Row;
 
@@ -35,18 +37,18 @@ pub(super) static REFUSED_BY_HEADER: [Row; 2] = [
                     Branch {
                         name: "b",
                         class: "TBranchClones",
-                        layout: BranchLayout::Heir,
+                        layout: HEIR,
                         ..GOOD
                     },
                     Branch {
                         name: "c",
                         class: "TBranchElement",
-                        layout: BranchLayout::OldObjects,
+                        layout: OLD_OBJECTS,
                         ..GOOD
                     },
                     Branch {
                         name: "d",
-                        layout: BranchLayout::Bare,
+                        layout: BARE_BRANCH,
                         ..GOOD
                     },
                     Branch { class: "", ..GOOD },
@@ -68,17 +70,13 @@ pub(super) static REFUSED_BY_HEADER: [Row; 2] = [
                     Branch {
                         name: "h",
                         leaves: &[Leaf {
-                            layout: LeafLayout::Bare,
+                            layout: BARE_LEAF,
                             ..INTEGER
                         }],
                         ..GOOD
                     },
                     GOOD,
-                    Branch {
-                        name: "i",
-                        entries: 2,
-                        ..GOOD
-                    },
+                    Branch { name: "i", ..TWO },
                     // The arrays are too short.
                     Branch {
                         name: "j",
@@ -190,12 +188,7 @@ pub(super) static REFUSED_BY_FILE: [Row; 1] = [Row {
                 Branch {
                     name: "h",
                     baskets: &[
-                        Basket {
-                            entries: 2,
-                            data: b"\0\0\0\x05\0\0\0\x06",
-                            used: 8,
-                            ..FIVE
-                        },
+                        FIVE_AND_SIX,
                         Basket {
                             first: 2,
                             entries: 0,
@@ -276,7 +269,7 @@ pub(super) static REFUSED_IN_ORDER: [Row; 1] = [
                     },
                     Branch {
                         class: "TBranchClones",
-                        layout: BranchLayout::Heir,
+                        layout: HEIR,
                         parent: true,
                         ..WORST
                     },
@@ -383,27 +376,24 @@ pub(super) static REFUSED_COUNTERS: [Row; 4] = [
                     Branch {
                         name: "c",
                         leaves: &[Leaf {
-                            name: "v",
                             counter: Some(1),
-                            ..FLOAT
+                            ..FLOATS
                         }],
                         ..GOOD
                     },
                     Branch {
                         name: "d",
                         leaves: &[Leaf {
-                            name: "v",
                             counter: Some(2),
-                            ..FLOAT
+                            ..FLOATS
                         }],
                         ..GOOD
                     },
                     Branch {
                         name: "e",
                         leaves: &[Leaf {
-                            name: "v",
                             counter: Some(3),
-                            ..FLOAT
+                            ..FLOATS
                         }],
                         ..GOOD
                     },
@@ -419,9 +409,8 @@ pub(super) static REFUSED_COUNTERS: [Row; 4] = [
                     Branch {
                         name: "g",
                         leaves: &[Leaf {
-                            name: "v",
                             counter: Some(7),
-                            ..FLOAT
+                            ..FLOATS
                         }],
                         ..GOOD
                     },
@@ -532,9 +521,8 @@ pub(super) static REFUSED_COUNTERS: [Row; 4] = [
                         name: "b",
                         leaves: &[
                             Leaf {
-                                name: "v",
                                 counter: Some(0),
-                                ..FLOAT
+                                ..FLOATS
                             },
                             Leaf {
                                 name: "m",
@@ -555,31 +543,27 @@ pub(super) static REFUSED_COUNTERS: [Row; 4] = [
                     Branch {
                         name: "d",
                         leaves: &[Leaf {
-                            name: "v",
                             counter: Some(0),
-                            ..FLOAT
+                            ..FLOATS
                         }],
-                        entries: 2,
-                        ..GOOD
+                        ..TWO
                     },
                     Branch {
                         name: "e",
                         leaves: &[Leaf {
-                            name: "v",
                             counter: Some(0),
-                            ..FLOAT
+                            ..FLOATS
                         }],
                         class: "TBranchElement",
-                        layout: BranchLayout::Objects,
+                        layout: OBJECTS,
                         objects: "P",
                         ..GOOD
                     },
                     Branch {
                         name: "f",
                         leaves: &[Leaf {
-                            name: "v",
                             counter: Some(0),
-                            ..FLOAT
+                            ..FLOATS
                         }],
                         parent: true,
                         ..GOOD
@@ -658,15 +642,13 @@ pub(super) static REFUSED_COUNTERS: [Row; 4] = [
                             used: 9,
                             ..FIVE
                         }],
-                        entries: 2,
-                        ..GOOD
+                        ..TWO
                     },
                     Branch {
                         name: "v",
                         leaves: &[Leaf {
-                            name: "v",
                             counter: Some(0),
-                            ..FLOAT
+                            ..FLOATS
                         }],
                         baskets: &[Basket {
                             entries: 2,
@@ -675,18 +657,11 @@ pub(super) static REFUSED_COUNTERS: [Row; 4] = [
                             used: 4,
                             ..FIVE
                         }],
-                        entries: 2,
-                        ..GOOD
+                        ..TWO
                     },
                     Branch {
-                        baskets: &[Basket {
-                            entries: 2,
-                            data: b"\0\0\0\x05\0\0\0\x06",
-                            used: 8,
-                            ..FIVE
-                        }],
-                        entries: 2,
-                        ..GOOD
+                        baskets: &[FIVE_AND_SIX],
+                        ..TWO
                     },
                 ],
                 entries: 2,

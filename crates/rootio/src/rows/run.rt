@@ -1,78 +1,63 @@
 //! Rows of `run`.
-use super::images::{EMPTY, ONE, TWO, WORKED};
-use super::runs::{changed, decode, scripted, words_of};
+use super::images::File;
+use super::runs::{answer, ends_so, host_of, host_of_copy, ran, words_of};
+use super::stops::{SAID, WORDS, WORKED};
 use crate::status::Status;
-use crate::top::run;
 use rio_head::{FileFault, Reason};
 use rio_host::{MemHost, MemSource};
 use rio_num::{Bytes, NoMemory, Numbers};
 use std::alloc::Global;
-use std::test::Fail;
 
-static NOTHING: [&str; 0] = [];
-
-static THREE: [&str; 1] = ["616263"];
-
-static ZERO_WORD: [&str; 1] = ["0000000009"];
-
-static ROOT_ALONE: [&str; 1] = ["726F6F74"];
-
-static FOURTH_BYTE: [(usize, u32); 1] = [(0, 0x726F6F54)];
-
-static FIVE: [(usize, u32); 5] = [(110, 5), (150, 5), (154, 5), (218, 5), (262, 5)];
-
-// A file before a run, or behind it.
+// A file before a run, or behind it: the front of one of the files, with some words written over.
 #[derive(Clone, Copy)]
-enum File {
-    Nothing,
-    Three,
-    ZeroWord,
-    RootAlone,
-    Empty,
-    // The fourth byte is T.
-    FourthByte,
-    // Cut to 304 bytes: no zero word is behind the last record.
-    Endless,
-    // Made and closed with the datime 5.
-    Five,
-    One,
-    Two,
-    // What the worked run leaves.
-    Worked,
+struct Made {
+    file: File,
+    length: usize,
+    words: &'static [(usize, u32)],
 }
 
-impl File {
-    fn lines(self) -> &'static [&'static str] {
-        match self {
-            File::Nothing => &NOTHING,
-            File::Three => &THREE,
-            File::ZeroWord => &ZERO_WORD,
-            File::RootAlone => &ROOT_ALONE,
-            File::One => &ONE,
-            File::Two => &TWO,
-            File::Worked => &WORKED,
-            _ => &EMPTY,
-        }
-    }
+const NOTHING: Made = Made {
+    file: File::Nothing,
+    length: usize::MAX,
+    words: &[],
+};
 
-    fn words(self) -> &'static [(usize, u32)] {
-        match self {
-            File::FourthByte => &FOURTH_BYTE,
-            File::Five => &FIVE,
-            _ => &[],
-        }
-    }
+const EMPTY: Made = Made {
+    file: File::Empty,
+    ..NOTHING
+};
 
-    fn length(self) -> usize {
-        match self {
-            File::Endless => 304,
-            _ => usize::MAX,
-        }
-    }
+const ONE: Made = Made {
+    file: File::One,
+    ..NOTHING
+};
 
-    fn image(self, alloc: Global) -> Result<Bytes, NoMemory> {
-        let whole = decode(alloc, self.lines())?;
-        changed(alloc, whole.as_slice(), self.length(), self.words())
+const ROOT_ALONE: Made = Made {
+    file: File::RootAlone,
+    ..NOTHING
+};
+
+// The fourth byte is T.
+const FOURTH_BYTE: Made = Made {
+    words: &[(0, 0x726F6F54)],
+    ..EMPTY
+};
+
+// Cut to 304 bytes: no zero word is behind the last record.
+const ENDLESS: Made = Made {
+    length: 304,
+    ..EMPTY
+};
+
+// Made and closed with the datime 5.
+const FIVE: Made = Made {
+    words: &[(110, 5), (150, 5), (154, 5), (218, 5), (262, 5)],
+    ..EMPTY
+};
+
+impl Made {
+    fn image(&self, alloc: Global) -> Result<Bytes, NoMemory> {
+        self.file.image(alloc, self.length, self.words)
     }
 }
 
@@ -80,185 +65,216 @@ impl File {
 struct Row {
     name: &'static str,
     datime: Option<&'static str>,
-    before: File,
+    before: Made,
     script: &'static str,
     status: Status,
     said: &'static str,
-    after: File,
+    after: Made,
 }
-
-static WORDS: [&str; 2] = ["run", "a.root"];
 
 static ROWS: [Row; 13] = [
     Row {
         name: "no bytes, no lines",
         datime: None,
-        before: File::Nothing,
+        before: NOTHING,
         script: "",
         status: Status::Done,
         said: "",
-        after: File::Empty,
+        after: EMPTY,
     },
     Row {
         name: "three bytes",
         datime: None,
-        before: File::Three,
+        before: Made {
+            file: File::Three,
+            ..NOTHING
+        },
         script: "",
         status: Status::Done,
         said: "",
-        after: File::Empty,
+        after: EMPTY,
     },
     Row {
         name: "a first word of zero",
         datime: None,
-        before: File::ZeroWord,
+        before: Made {
+            file: File::ZeroWord,
+            ..NOTHING
+        },
         script: "",
         status: Status::Done,
         said: "",
-        after: File::Empty,
+        after: EMPTY,
     },
     Row {
         name: "a datime",
         datime: Some("5"),
-        before: File::Nothing,
+        before: NOTHING,
         script: "",
         status: Status::Done,
         said: "",
-        after: File::Five,
+        after: FIVE,
     },
     Row {
         name: "a made file",
         datime: None,
-        before: File::Empty,
+        before: EMPTY,
         script: "ls\n",
         status: Status::ReadOnly {
             place: 0,
             reason: Reason::NotYet,
         },
         said: "",
-        after: File::Empty,
+        after: EMPTY,
     },
     Row {
         name: "a made file with another datime",
         datime: Some("5"),
-        before: File::One,
+        before: ONE,
         script: "ls\n",
         status: Status::ReadOnly {
             place: 0,
             reason: Reason::NotYet,
         },
         said: "",
-        after: File::One,
+        after: ONE,
     },
     Row {
         name: "the fourth byte is T",
         datime: None,
-        before: File::FourthByte,
+        before: FOURTH_BYTE,
         script: "",
         status: Status::BadFile {
             place: 0,
             kind: FileFault::NotRoot,
         },
         said: "",
-        after: File::FourthByte,
+        after: FOURTH_BYTE,
     },
     Row {
         name: "four bytes alone",
         datime: None,
-        before: File::RootAlone,
+        before: ROOT_ALONE,
         script: "",
         status: Status::BadFile {
             place: 4,
             kind: FileFault::Short,
         },
         said: "",
-        after: File::RootAlone,
+        after: ROOT_ALONE,
     },
     Row {
         name: "a made file without its end",
         datime: None,
-        before: File::Endless,
+        before: ENDLESS,
         script: "",
         status: Status::ReadOnly {
             place: 0,
             reason: Reason::NotYet,
         },
         said: "",
-        after: File::Endless,
+        after: ENDLESS,
     },
     Row {
         name: "one object",
         datime: None,
-        before: File::Nothing,
+        before: NOTHING,
         script: "put s TObjString{TObject{fUniqueID: 0, fBits: 0}, fString: \"hi\"}",
         status: Status::Done,
         said: "ok put s;1\n",
-        after: File::One,
+        after: ONE,
     },
     Row {
         name: "two objects",
         datime: None,
-        before: File::Nothing,
+        before: NOTHING,
         script: "put s TObjString{TObject{fUniqueID: 0, fBits: 0}, fString: \"hi\"}\nput s TObjString{TObject{fUniqueID: 0, fBits: 0}, fString: \"hu\"}\nls\n",
         status: Status::Done,
         said: "ok put s;1\nok put s;2\nok ls 2\ns;2 TObjString\ns;1 TObjString\n",
-        after: File::Two,
+        after: Made {
+            file: File::Two,
+            ..NOTHING
+        },
     },
     Row {
         name: "the worked run",
         datime: None,
-        before: File::Nothing,
-        script: "put s TObjString{TObject{fUniqueID: 0, fBits: 0}, fString: \"hi\"}\nput s TObjString{TObject{fUniqueID: 0, fBits: 0}, fString: \"ho\"}\nput s TObjString{TObject{fUniqueID: 0, fBits: 0}, fString: \"hu\"}\nls\n",
+        before: NOTHING,
+        script: WORKED,
         status: Status::Done,
-        said: "ok put s;1\nok put s;2\nok put s;3\nok ls 3\ns;3 TObjString\ns;2 TObjString\ns;1 TObjString\n",
-        after: File::Worked,
+        said: SAID,
+        after: Made {
+            file: File::Worked,
+            ..NOTHING
+        },
     },
     Row {
         name: "bad lines",
         datime: None,
-        before: File::Nothing,
+        before: NOTHING,
         script: "put s TObjString{\n\nfrob x\n",
         status: Status::Done,
         said: "no 1 BadLine 1 17\nno 1 BadLine 3 0\n",
-        after: File::Empty,
+        after: EMPTY,
     },
 ];
 
 impl Row {
-    fn run(&self, alloc: Global) -> Result<(Status, MemHost), NoMemory> {
-        let image = self.before.image(alloc)?;
+    fn ends(&self, alloc: Global, host: &mut MemHost) -> bool {
         let script = self.script.as_bytes();
+        let end = (self.status, self.said.as_bytes());
         match self.datime {
-            None => scripted(alloc, &WORDS, image, script, &[]),
-            Some(datime) => scripted(alloc, &["run", "a.root", datime], image, script, &[]),
+            None => ends_so(alloc, &WORDS, host, script, end),
+            Some(datime) => ends_so(alloc, &["run", "a.root", datime], host, script, end),
         }
     }
 
-    fn leaves(&self, alloc: Global, host: &MemHost) -> Result<bool, NoMemory> {
-        Ok(host.image() == self.after.image(alloc)?.as_slice())
+    fn is_left(&self, alloc: Global, image: &[u8]) -> bool {
+        match self.after.image(alloc) {
+            Ok(wanted) => image == wanted.as_slice(),
+            Err(_) => false,
+        }
+    }
+
+    fn host(&self, alloc: Global) -> Result<MemHost, NoMemory> {
+        host_of(alloc, self.before.image(alloc)?, &[])
+    }
+
+    fn holds(&self, alloc: Global) -> bool {
+        match self.host(alloc) {
+            Ok(mut host) => self.ends(alloc, &mut host) && self.is_left(alloc, host.image()),
+            Err(_) => false,
+        }
     }
 }
 
-#[test]
-fn rows(rt: HostRuntime) -> Result<(), Fail> {
+// The first row that ends otherwise.
+fn ends_otherwise(alloc: Global) -> Option<&'static str> {
     for row in &ROWS {
-        let (status, host) = row.run(rt.alloc())?;
-        assert_eq!(rt; status, row.status, "{}", row.name);
-        assert_eq!(rt; host.said().as_slice(), row.said.as_bytes(), "{}", row.name);
-        assert!(rt; row.leaves(rt.alloc(), &host)?, "{}", row.name);
+        if !row.holds(alloc) {
+            return Some(row.name);
+        }
     }
-    Ok(())
+    None
+}
+
+#[test]
+fn rows(rt: HostRuntime) {
+    assert_eq!(rt; ends_otherwise(rt.alloc()), None);
+}
+
+const LETTERS: [u8; 256] = [b'x'; 256];
+
+fn put_letters(script: &mut Bytes, letters: usize) -> Result<(), NoMemory> {
+    script.put(b"put s TObjString{TObject{fUniqueID: 0, fBits: 0}, fString: \"")?;
+    script.put(LETTERS.get(..letters).unwrap_or(&[]))?;
+    script.put(b"\"}\n")
 }
 
 // A put of a text of so many letters, at most 256.
 fn long_put(alloc: Global, letters: usize) -> Result<Bytes, NoMemory> {
-    let text = [b'x'; 256];
-    let mut script = Bytes::from_slice(
-        alloc,
-        b"put s TObjString{TObject{fUniqueID: 0, fBits: 0}, fString: \"",
-    )?;
-    script.put(text.get(..letters).unwrap_or(&[]))?;
-    script.put(b"\"}\n")?;
+    let mut script = Bytes::new(alloc);
+    put_letters(&mut script, letters)?;
     Ok(script)
 }
 
@@ -269,38 +285,63 @@ static TEXTS: [(usize, [u8; 4], &[u8]); 3] = [
     (256, [0, 0, 1, 0x40], b"\xff\0\0\x01\0x"),
 ];
 
-#[test]
-fn long_texts(rt: HostRuntime) -> Result<(), Fail> {
-    for (letters, length, front) in &TEXTS {
-        let script = long_put(rt.alloc(), *letters)?;
-        let fresh = Bytes::new(rt.alloc());
-        let (status, host) = scripted(rt.alloc(), &WORDS, fresh, script.as_slice(), &[])?;
-        assert_eq!(rt; status, Status::Done, "{letters}");
-        assert!(rt;
-            host.image().get(208..212) == Some(length.as_slice()),
-            "{letters}"
-        );
-        let text = host.image().get(264..).unwrap_or(&[]);
-        assert!(rt; text.starts_with(front), "{letters}");
-    }
-    Ok(())
+fn has_text(image: &[u8], length: &[u8], front: &[u8]) -> bool {
+    image.get(208..212) == Some(length) && image.get(264..).unwrap_or(&[]).starts_with(front)
 }
 
-// A host and an input that fail at their first call.
-fn failing_at_once(alloc: Global) -> Result<(MemHost, MemSource), NoMemory> {
+fn does_put(alloc: Global, host: &mut MemHost, script: &[u8]) -> bool {
+    ran(alloc, &WORDS, host, script) == Ok(Status::Done)
+}
+
+fn is_put(alloc: Global, script: &[u8], length: &[u8], front: &[u8]) -> bool {
+    match host_of_copy(alloc, b"", &[]) {
+        Ok(mut host) => {
+            does_put(alloc, &mut host, script) && has_text(host.image(), length, front)
+        }
+        Err(_) => false,
+    }
+}
+
+fn is_text_put(alloc: Global, letters: usize, length: &[u8], front: &[u8]) -> bool {
+    match long_put(alloc, letters) {
+        Ok(script) => is_put(alloc, script.as_slice(), length, front),
+        Err(_) => false,
+    }
+}
+
+#[test]
+fn long_texts(rt: HostRuntime) {
+    for (letters, length, front) in &TEXTS {
+        assert!(rt;
+            is_text_put(rt.alloc(), *letters, length, front),
+            "{letters}"
+        );
+    }
+}
+
+// An input that fails at its first call.
+fn failing_input_of(alloc: Global, script: &[u8]) -> Result<MemSource, NoMemory> {
     let first = Numbers::from_slice(alloc, &[0])?;
-    let input = MemSource::new(Bytes::from_slice(alloc, b"ls\n")?, first);
-    let first = Numbers::from_slice(alloc, &[0])?;
-    Ok((MemHost::new(alloc, Bytes::new(alloc), first), input))
+    Ok(MemSource::new(Bytes::from_slice(alloc, script)?, first))
+}
+
+fn answer_to_failing(alloc: Global, host: &mut MemHost) -> Result<Status, NoMemory> {
+    let words = words_of(alloc, &WORDS)?;
+    let mut input = failing_input_of(alloc, b"ls\n")?;
+    Ok(answer(alloc, &words, host, &mut input))
+}
+
+fn is_input_fault(alloc: Global) -> bool {
+    match host_of_copy(alloc, b"", &[0]) {
+        Ok(mut host) => {
+            answer_to_failing(alloc, &mut host) == Ok(Status::InputFault) && host.image().is_empty()
+        }
+        Err(_) => false,
+    }
 }
 
 // The input is read before the host is called, whose first call would fail.
 #[test]
-fn failing_input(rt: HostRuntime) -> Result<(), Fail> {
-    let words = words_of(rt.alloc(), &WORDS)?;
-    let (mut host, mut input) = failing_at_once(rt.alloc())?;
-    let status = run(rt.alloc(), &words, &mut host, &mut input);
-    assert_eq!(rt; status, Status::InputFault);
-    assert!(rt; host.image().is_empty());
-    Ok(())
+fn failing_input(rt: HostRuntime) {
+    assert!(rt; is_input_fault(rt.alloc()));
 }

@@ -1,11 +1,11 @@
 //! What a run over a file in memory answers and says.
 use crate::status::Status;
 use crate::top::run;
-use rio_host::{MemHost, SureSource};
+use rio_host::{Host, MemHost, Source, SureSource};
 use rio_num::{Bytes, Name, NoMemory, Numbers, Words};
 use std::alloc::Global;
 
-// Bytes in hexadecimal.
+/// Bytes in hexadecimal.
 pub(super) fn decode(alloc: Global, lines: &[&str]) -> Result<Bytes, NoMemory> {
     let mut bytes = Bytes::new(alloc);
     for line in lines {
@@ -24,7 +24,7 @@ fn nibble(digit: u8) -> u8 {
     }
 }
 
-// The front of the bytes, with some words written over.
+/// The front of the bytes, with some words written over.
 pub(super) fn changed(
     alloc: Global,
     bytes: &[u8],
@@ -48,39 +48,108 @@ pub(super) fn words_of(alloc: Global, words: &[&str]) -> Result<Words, NoMemory>
     Ok(all)
 }
 
-// What a run over a file answers and says, where these calls of its host fail.
-pub(super) fn ran(
-    alloc: Global,
-    words: &[&str],
-    image: Bytes,
-    failing: &[u64],
-) -> Result<(Status, Name), NoMemory> {
-    ran_with(alloc, &words_of(alloc, words)?, image, failing)
+/// A host of a file, of which these calls fail.
+pub(super) fn host_of(alloc: Global, image: Bytes, failing: &[u64]) -> Result<MemHost, NoMemory> {
+    let failing = Numbers::from_slice(alloc, failing)?;
+    Ok(MemHost::new(alloc, image, failing))
 }
 
-pub(super) fn ran_with(
+/// A host of a copy of the file.
+pub(super) fn host_of_copy(
+    alloc: Global,
+    image: &[u8],
+    failing: &[u64],
+) -> Result<MemHost, NoMemory> {
+    host_of(alloc, Bytes::from_slice(alloc, image)?, failing)
+}
+
+/// What a run answers. Nothing that is proved of it is needed by the rows, which only call it here.
+pub(super) fn answer<H: Host, S: Source>(
     alloc: Global,
     words: &Words,
-    image: Bytes,
-    failing: &[u64],
-) -> Result<(Status, Name), NoMemory> {
-    let mut host = MemHost::new(alloc, image, Numbers::from_slice(alloc, failing)?);
-    let mut input = SureSource::new(Bytes::new(alloc));
-    let status = run(alloc, words, &mut host, &mut input);
-    Ok((status, Name::from_slice(alloc, host.said().as_slice())?))
+    host: &mut H,
+    input: &mut S,
+) -> Status {
+    run(alloc, words, host, input)
 }
 
-// What a run of a script over a file answers, where these calls of its host fail, and the host behind it.
-pub(super) fn scripted(
+/// What a run of these words answers over the host, with this input.
+pub(super) fn answer_of<H: Host>(
+    alloc: Global,
+    words: &Words,
+    host: &mut H,
+    script: &[u8],
+) -> Result<Status, NoMemory> {
+    let mut input = SureSource::new(Bytes::from_slice(alloc, script)?);
+    Ok(answer(alloc, words, host, &mut input))
+}
+
+/// The same, of words that are given as texts.
+pub(super) fn ran<H: Host>(
     alloc: Global,
     words: &[&str],
-    image: Bytes,
+    host: &mut H,
     script: &[u8],
-    failing: &[u64],
-) -> Result<(Status, MemHost), NoMemory> {
+) -> Result<Status, NoMemory> {
     let words = words_of(alloc, words)?;
-    let mut input = SureSource::new(Bytes::from_slice(alloc, script)?);
-    let mut host = MemHost::new(alloc, image, Numbers::from_slice(alloc, failing)?);
-    let status = run(alloc, &words, &mut host, &mut input);
-    Ok((status, host))
+    answer_of(alloc, &words, host, script)
+}
+
+/// How a run ends: what it answers, and what it has said.
+pub(super) type End<'a> = (Status, &'a [u8]);
+
+/// Whether a run over the host ends so.
+pub(super) fn ends_so(
+    alloc: Global,
+    words: &[&str],
+    host: &mut MemHost,
+    script: &[u8],
+    end: End,
+) -> bool {
+    let (status, said) = end;
+    ran(alloc, words, host, script) == Ok(status) && host.said().as_slice() == said
+}
+
+/// Whether a run over the file ends so that has no input.
+pub(super) fn says(alloc: Global, words: &[&str], image: Bytes, end: End) -> bool {
+    match host_of(alloc, image, &[]) {
+        Ok(mut host) => ends_so(alloc, words, &mut host, b"", end),
+        Err(_) => false,
+    }
+}
+
+// What a run answers and says whose call of that number fails, where it makes so many calls before it says
+// all of its text at once: a say that fails says its first half.
+fn cut_short(reads: u64, call: u64, text: &[u8]) -> End {
+    if call < reads {
+        (Status::DiskFault, b"")
+    } else if call == reads {
+        (Status::SayFault, &text[..text.len() / 2])
+    } else {
+        (Status::Done, text)
+    }
+}
+
+fn is_cut_short(alloc: Global, words: &[&str], image: &[u8], call: u64, end: End) -> bool {
+    match host_of_copy(alloc, image, &[call]) {
+        Ok(mut host) => ends_so(alloc, words, &mut host, b"", end),
+        Err(_) => false,
+    }
+}
+
+/// The first call of the host that is told otherwise where it fails. The run makes so many calls before
+/// it says this text at once.
+pub(super) fn cut_otherwise(
+    alloc: Global,
+    words: &[&str],
+    image: &[u8],
+    reads: u64,
+    text: &[u8],
+) -> Option<u64> {
+    for call in 0..reads.saturating_add(3) {
+        if !is_cut_short(alloc, words, image, call, cut_short(reads, call, text)) {
+            return Some(call);
+        }
+    }
+    None
 }

@@ -1,20 +1,20 @@
 //! Rows of `scan`.
 use super::classes::ClassList;
 use super::dump;
-use super::entries::{BASKETS, ENTRIES, ENTRIES_COUNTED_BY_TWO};
+use super::entries::{
+    BASKETS, ENTRIES_COUNTED_BY_TWO, ENTRIES_IN_BASKETS, ENTRIES_OF_ANOTHER_MAKER,
+    ENTRIES_OF_LETTERS, ENTRIES_OF_LISTS, ENTRIES_OF_OBJECTS,
+};
 use super::far::FarHost;
 use super::forest::{Forest, Form};
-use super::header::{Tree, TreeLayout};
-use super::images::EMPTY;
+use super::header::{BARE_TREE, EMPTY_TREE, ENDLESS_TREE, Tree};
 use super::parts::{FILE, SIX, TREE};
 use super::refused::{REFUSED_BY_FILE, REFUSED_BY_HEADER, REFUSED_COUNTERS, REFUSED_IN_ORDER};
-use super::runs::{changed, decode, ran, ran_with, words_of};
+use super::runs::{changed, cut_otherwise, host_of, ran, says};
 use crate::status::Status;
-use crate::top::run;
-use rio_host::{MemHost, SureSource};
-use rio_num::{Bytes, Name, NoMemory, Numbers, Words};
+use rio_host::MemHost;
+use rio_num::{Bytes, NoMemory, Numbers};
 use std::alloc::Global;
-use std::test::Fail;
 
 // A file, and what `scan` says of its tree `T`.
 pub(super) struct Row {
@@ -24,65 +24,61 @@ pub(super) struct Row {
 }
 
 impl Row {
-    fn run(&self, alloc: Global) -> Result<(Status, Name), NoMemory> {
-        ran(
-            alloc,
-            &["scan", "a.root", "T"],
-            self.forest.image(alloc)?,
-            &[],
-        )
-    }
-}
-
-// The first row that is said otherwise, or "" where none is.
-fn said_otherwise(alloc: Global, rows: &'static [Row]) -> Result<&'static str, NoMemory> {
-    for row in rows {
-        let (status, said) = row.run(alloc)?;
-        if status != Status::Done || said.as_slice() != row.said.as_bytes() {
-            return Ok(row.name);
+    fn is_said(&self, alloc: Global) -> bool {
+        let end = (Status::Done, self.said.as_bytes());
+        match self.forest.image(alloc) {
+            Ok(image) => says(alloc, &["scan", "a.root", "T"], image, end),
+            Err(_) => false,
         }
     }
-    Ok("")
 }
 
-#[test]
-fn refused_by_header(rt: HostRuntime) -> Result<(), Fail> {
-    assert_eq!(rt; said_otherwise(rt.alloc(), &REFUSED_BY_HEADER)?, "");
-    Ok(())
-}
-
-#[test]
-fn refused_by_file(rt: HostRuntime) -> Result<(), Fail> {
-    assert_eq!(rt; said_otherwise(rt.alloc(), &REFUSED_BY_FILE)?, "");
-    Ok(())
-}
-
-#[test]
-fn refused_in_order(rt: HostRuntime) -> Result<(), Fail> {
-    assert_eq!(rt; said_otherwise(rt.alloc(), &REFUSED_IN_ORDER)?, "");
-    Ok(())
-}
-
-#[test]
-fn refused_counters(rt: HostRuntime) -> Result<(), Fail> {
-    assert_eq!(rt; said_otherwise(rt.alloc(), &REFUSED_COUNTERS)?, "");
-    Ok(())
-}
-
-#[test]
-fn entries(rt: HostRuntime) -> Result<(), Fail> {
-    for row in &ENTRIES {
-        let (status, said) = row.run(rt.alloc())?;
-        assert_eq!(rt; status, Status::Done, "{}", row.name);
-        assert_eq!(rt; said.as_slice(), row.said.as_bytes(), "{}", row.name);
+// The first row that is said otherwise.
+fn said_otherwise(alloc: Global, rows: &'static [Row]) -> Option<&'static str> {
+    for row in rows {
+        if !row.is_said(alloc) {
+            return Some(row.name);
+        }
     }
-    Ok(())
+    None
 }
 
 #[test]
-fn entries_counted_by_two(rt: HostRuntime) -> Result<(), Fail> {
-    assert_eq!(rt; said_otherwise(rt.alloc(), &ENTRIES_COUNTED_BY_TWO)?, "");
-    Ok(())
+fn refused(rt: HostRuntime) {
+    assert_eq!(rt; said_otherwise(rt.alloc(), &REFUSED_BY_HEADER), None);
+    assert_eq!(rt; said_otherwise(rt.alloc(), &REFUSED_BY_FILE), None);
+    assert_eq!(rt; said_otherwise(rt.alloc(), &REFUSED_IN_ORDER), None);
+    assert_eq!(rt; said_otherwise(rt.alloc(), &REFUSED_COUNTERS), None);
+}
+
+#[test]
+fn entries_of_objects(rt: HostRuntime) {
+    assert_eq!(rt; said_otherwise(rt.alloc(), &ENTRIES_OF_OBJECTS), None);
+}
+
+#[test]
+fn entries_of_letters(rt: HostRuntime) {
+    assert_eq!(rt; said_otherwise(rt.alloc(), &ENTRIES_OF_LETTERS), None);
+}
+
+#[test]
+fn entries_of_lists(rt: HostRuntime) {
+    assert_eq!(rt; said_otherwise(rt.alloc(), &ENTRIES_OF_LISTS), None);
+}
+
+#[test]
+fn entries_in_baskets(rt: HostRuntime) {
+    assert_eq!(rt; said_otherwise(rt.alloc(), &ENTRIES_IN_BASKETS), None);
+}
+
+#[test]
+fn entries_of_another_maker(rt: HostRuntime) {
+    assert_eq!(rt; said_otherwise(rt.alloc(), &ENTRIES_OF_ANOTHER_MAKER), None);
+}
+
+#[test]
+fn entries_counted_by_two(rt: HostRuntime) {
+    assert_eq!(rt; said_otherwise(rt.alloc(), &ENTRIES_COUNTED_BY_TWO), None);
 }
 
 // A file with some words written over, and what `scan` and `dump` say of an item of it.
@@ -167,7 +163,7 @@ static LINES: [Line; 11] = [
         name: "no fEntries",
         forest: Forest {
             trees: &[Tree {
-                layout: TreeLayout::Endless,
+                layout: ENDLESS_TREE,
                 ..TREE
             }],
             ..FILE
@@ -181,7 +177,7 @@ static LINES: [Line; 11] = [
         name: "no fBranches",
         forest: Forest {
             trees: &[Tree {
-                layout: TreeLayout::Bare,
+                layout: BARE_TREE,
                 ..TREE
             }],
             ..FILE
@@ -195,7 +191,7 @@ static LINES: [Line; 11] = [
         name: "neither",
         forest: Forest {
             trees: &[Tree {
-                layout: TreeLayout::Empty,
+                layout: EMPTY_TREE,
                 ..TREE
             }],
             ..FILE
@@ -243,82 +239,62 @@ static LINES: [Line; 11] = [
 ];
 
 impl Line {
-    fn run(&self, alloc: Global, verb: &'static str) -> Result<(Status, Name), NoMemory> {
+    fn image(&self, alloc: Global) -> Result<Bytes, NoMemory> {
         let whole = self.forest.image(alloc)?;
-        let image = changed(alloc, whole.as_slice(), usize::MAX, self.words)?;
-        ran(alloc, &[verb, "a.root", self.item], image, &[])
+        changed(alloc, whole.as_slice(), usize::MAX, self.words)
+    }
+
+    fn is_said(&self, alloc: Global, verb: &'static str, text: &str) -> bool {
+        let end = (Status::Done, text.as_bytes());
+        match self.image(alloc) {
+            Ok(image) => says(alloc, &[verb, "a.root", self.item], image, end),
+            Err(_) => false,
+        }
     }
 }
 
-#[test]
-fn lines(rt: HostRuntime) -> Result<(), Fail> {
+// The first that is said otherwise.
+fn line_otherwise(alloc: Global) -> Option<&'static str> {
     for line in &LINES {
-        for (verb, wanted) in [("scan", line.scanned), ("dump", line.dumped)] {
-            let (status, said) = line.run(rt.alloc(), verb)?;
-            assert_eq!(rt; status, Status::Done, "{}, {verb}", line.name);
-            assert_eq!(rt; said.as_slice(), wanted.as_bytes(), "{}, {verb}", line.name);
+        let is_said = line.is_said(alloc, "scan", line.scanned)
+            && line.is_said(alloc, "dump", line.dumped);
+        if !is_said {
+            return Some(line.name);
         }
     }
-    Ok(())
+    None
+}
+
+#[test]
+fn lines(rt: HostRuntime) {
+    assert_eq!(rt; line_otherwise(rt.alloc()), None);
+}
+
+// Whether it ends so over the host, and says nothing unless it is done.
+fn ends_by(alloc: Global, host: &mut MemHost, status: Status) -> bool {
+    ran(alloc, &["scan", "b.root", "s"], host, b"") == Ok(status)
+        && (host.said().is_empty() || status == Status::Done)
+}
+
+fn ends_as_dump(alloc: Global, row: &dump::Row) -> Result<bool, NoMemory> {
+    let mut host = host_of(alloc, row.image(alloc)?, &[])?;
+    Ok(ends_by(alloc, &mut host, row.status))
+}
+
+// The first file of which it is told otherwise.
+fn bad_file_otherwise(alloc: Global) -> Option<&'static str> {
+    for row in &dump::ROWS {
+        if ends_as_dump(alloc, row) != Ok(true) {
+            return Some(row.name);
+        }
+    }
+    None
 }
 
 // A file with a fault is told as by `dump`, and no tree is in one without.
 #[test]
-fn bad_files(rt: HostRuntime) -> Result<(), Fail> {
-    for row in &dump::ROWS {
-        let image = row.image(rt.alloc())?;
-        let (status, said) = ran(rt.alloc(), &["scan", "b.root", "s"], image, &[])?;
-        assert_eq!(rt; status, row.status, "{}", row.name);
-        assert!(rt; said.is_empty() || status == Status::Done, "{}", row.name);
-    }
-    Ok(())
-}
-
-// Words of no form, over a host that fails at its first call.
-static NO_FORMS: [&[&str]; 12] = [
-    &["scan"],
-    &["scan", "a.root"],
-    &["scan", "a.root", ""],
-    &["scan", "a.root", "-T"],
-    &["scan", "a.root", "a b"],
-    &["scan", "a.root", "T;1"],
-    &["scan", "a.root", "T", "P#1"],
-    &["scan", "a.root", "T", ""],
-    &["scan", "-x", "T"],
-    &["scan", "", "T"],
-    &["SCAN", "a.root", "T"],
-    &["scan", "a.root", "T", "P#1", "x"],
-];
-
-#[test]
-fn usage(rt: HostRuntime) -> Result<(), Fail> {
-    for words in &NO_FORMS {
-        let image = decode(rt.alloc(), &EMPTY)?;
-        let (status, said) = ran(rt.alloc(), words, image, &[0])?;
-        assert_eq!(rt; status, Status::Usage, "{words:?}");
-        assert!(rt; said.is_empty(), "{words:?}");
-    }
-    Ok(())
-}
-
-// `scan FILE TREE` with a tree's name of so many letters.
-fn long_words(alloc: Global, letters: usize) -> Result<Words, NoMemory> {
-    let mut words = words_of(alloc, &["scan", "a.root"])?;
-    let name = [b'a'; 101];
-    words.push(Name::from_slice(alloc, name.get(..letters).unwrap_or(&[]))?)?;
-    Ok(words)
-}
-
-// A tree's name has at most 100 bytes.
-#[test]
-fn long_names(rt: HostRuntime) -> Result<(), Fail> {
-    for (letters, wanted) in [(100, Status::Done), (101, Status::Usage)] {
-        let words = long_words(rt.alloc(), letters)?;
-        let image = decode(rt.alloc(), &EMPTY)?;
-        let (status, _said) = ran_with(rt.alloc(), &words, image, &[])?;
-        assert_eq!(rt; status, wanted, "{letters}");
-    }
-    Ok(())
+fn bad_files(rt: HostRuntime) {
+    assert_eq!(rt; bad_file_otherwise(rt.alloc()), None);
 }
 
 // A tree of nine entries, in a small file and in a large one.
@@ -333,87 +309,105 @@ static FAR_ENTRIES: Forest = Forest {
     ..FILE
 };
 
-// What `scan` of the tree of nine entries answers and says, where these calls of its host fail, and the host behind it.
-fn failing(alloc: Global, calls: &[u64]) -> Result<(Status, MemHost), NoMemory> {
-    let numbers = Numbers::from_slice(alloc, calls)?;
-    let mut host = MemHost::new(alloc, NINE_ENTRIES.image(alloc)?, numbers);
-    let mut input = SureSource::new(Bytes::new(alloc));
-    let words = words_of(alloc, &["scan", "a.root", "T"])?;
-    let status = run(alloc, &words, &mut host, &mut input);
-    Ok((status, host))
-}
+static NINE_WORDS: [&str; 3] = ["scan", "a.root", "T"];
 
 // What is said of it.
 const NINE: &[u8] = b"ok scan T 9\n0 [1, 11]\n1 [2, 12]\n2 [3, 13]\n3 [4, 14]\n\
     4 [5, 15]\n5 [6, 16]\n6 [7, 17]\n7 [8, 18]\n8 [9, 19]\n";
 
-// The file is looked at by 23 calls: the length, the header, the directory record, two for each of the key list and the class list,
-// one for the tree's header, and three for each of five baskets, which are checked, checked entry by entry, and said. All is said at
-// once.
-fn end_by(call: u64) -> (Status, usize) {
-    match call {
-        0..=22 => (Status::DiskFault, 0),
-        23 => (Status::SayFault, NINE.len() / 2),
-        _ => (Status::Done, NINE.len()),
+// The first call of the host that is told otherwise where it fails. The file is looked at by 23 calls: the length, the header, the
+// directory record, two for each of the key list and the class list, one for the tree's header, and three for each of five baskets,
+// which are checked, checked entry by entry, and said. All is said at once.
+fn failing_otherwise(alloc: Global) -> Option<u64> {
+    match NINE_ENTRIES.image(alloc) {
+        Ok(image) => cut_otherwise(alloc, &NINE_WORDS, image.as_slice(), 23, NINE),
+        Err(_) => Some(0),
     }
 }
 
-// Each call of the host failing in turn.
 #[test]
-fn failing_calls(rt: HostRuntime) -> Result<(), Fail> {
-    for call in 0..26 {
-        let (status, host) = failing(rt.alloc(), &[call])?;
-        let (wanted, length) = end_by(call);
-        assert_eq!(rt; status, wanted, "call {call}");
-        assert!(rt;
-            NINE.get(..length) == Some(host.said().as_slice()),
-            "call {call}"
-        );
-    }
-    Ok(())
+fn failing_calls(rt: HostRuntime) {
+    assert_eq!(rt; failing_otherwise(rt.alloc()), None);
 }
 
-// A stop at any moment leaves the file as it is, and a front of what is said.
-#[test]
-fn stops(rt: HostRuntime) -> Result<(), Fail> {
-    let (_status, host) = failing(rt.alloc(), &[])?;
-    for moment in 0..8 {
-        for front in 0..104 {
-            let left = host.left(moment, &[], front)?;
-            assert!(rt; left.image.as_slice() == host.image(), "{moment}, {front}");
-            assert!(rt; NINE.starts_with(left.said.as_slice()), "{moment}, {front}");
+// Whether a stop leaves the file as it is, and a front of what is said.
+fn is_kept(host: &MemHost, moment: u64, front: u64) -> bool {
+    match host.left(moment, &[], front) {
+        Ok(left) => {
+            left.image.as_slice() == host.image() && NINE.starts_with(left.said.as_slice())
+        }
+        Err(_) => false,
+    }
+}
+
+// The first moment and front at which it isn't.
+fn not_kept(host: &MemHost) -> Option<(u64, u64)> {
+    for at in 0..8 * 104 {
+        let (moment, front) = (at / 104, at % 104);
+        if !is_kept(host, moment, front) {
+            return Some((moment, front));
         }
     }
-    Ok(())
+    None
 }
 
-// The same tree in a large file, far behind its front. After so many calls that look at the file the word at this place of the
-// records is overwritten by this one.
-fn far(alloc: Global, change: (u64, usize, u32)) -> Result<(Status, FarHost), NoMemory> {
-    let mut host = FarHost::new(alloc, FAR_ENTRIES.file(alloc)?, change);
-    let mut input = SureSource::new(Bytes::new(alloc));
-    let words = words_of(alloc, &["scan", "a.root", "T"])?;
-    let status = run(alloc, &words, &mut host, &mut input);
-    Ok((status, host))
+fn not_kept_by_a_run(alloc: Global, host: &mut MemHost) -> Option<(u64, u64)> {
+    match ran(alloc, &NINE_WORDS, host, b"") {
+        Ok(Status::Done) => not_kept(host),
+        Ok(_) | Err(_) => Some((u64::MAX, 0)),
+    }
+}
+
+fn not_kept_of_nine(alloc: Global) -> Option<(u64, u64)> {
+    match NINE_ENTRIES.image(alloc) {
+        Ok(image) => not_kept_by_a_run(alloc, &mut MemHost::new(alloc, image, Numbers::new(alloc))),
+        Err(_) => Some((u64::MAX, 0)),
+    }
+}
+
+// A stop at any moment.
+#[test]
+fn stops(rt: HostRuntime) {
+    assert_eq!(rt; not_kept_of_nine(rt.alloc()), None);
+}
+
+// Whether `scan` of the same tree in a large file, far behind its front, says this.
+fn is_said_far(alloc: Global, host: &mut FarHost, said: &[u8]) -> bool {
+    ran(alloc, &NINE_WORDS, host, b"") == Ok(Status::Done) && host.said() == said
+}
+
+// The file is looked at by as many calls.
+fn is_large_said(alloc: Global) -> bool {
+    match FAR_ENTRIES.file(alloc) {
+        Ok(file) => {
+            let mut host = FarHost::new(alloc, file, (u64::MAX, 0, 0));
+            is_said_far(alloc, &mut host, NINE) && host.reads() == 23
+        }
+        Err(_) => false,
+    }
 }
 
 #[test]
-fn a_large_file(rt: HostRuntime) -> Result<(), Fail> {
-    let (status, host) = far(rt.alloc(), (u64::MAX, 0, 0))?;
-    assert_eq!(rt; status, Status::Done);
-    assert_eq!(rt; host.said(), NINE);
-    assert_eq!(rt; host.reads(), 23);
-    Ok(())
+fn a_large_file(rt: HostRuntime) {
+    assert!(rt; is_large_said(rt.alloc()));
 }
 
-// The second basket of the first branch, of entries 3 and 4, can't be read any more when its entries are said: it stands behind
-// one of 77 bytes, and has its end at 60.
+const CHANGED: &[u8] = b"ok scan T 9\n0 [1, 11]\n1 [2, 12]\n2 [3, 13]\n3 fault BadLast 60\n\
+    4 fault BadLast 60\n5 [6, 16]\n6 [7, 17]\n7 [8, 18]\n8 [9, 19]\n";
+
+fn is_change_said(alloc: Global) -> bool {
+    match FAR_ENTRIES.file(alloc) {
+        Ok(file) => {
+            let mut host = FarHost::new(alloc, file, (18, 77 + 60, 0));
+            is_said_far(alloc, &mut host, CHANGED)
+        }
+        Err(_) => false,
+    }
+}
+
+// After 18 calls that look at the file a word of its records is overwritten by 0. The second basket of the first branch, of entries 3
+// and 4, can't be read any more when its entries are said: it stands behind one of 77 bytes, and has its end at 60.
 #[test]
-fn a_file_that_changes(rt: HostRuntime) -> Result<(), Fail> {
-    let (status, host) = far(rt.alloc(), (18, 77 + 60, 0))?;
-    assert_eq!(rt; status, Status::Done);
-    let said: &[u8] = b"ok scan T 9\n0 [1, 11]\n1 [2, 12]\n2 [3, 13]\n3 fault BadLast 60\n\
-        4 fault BadLast 60\n5 [6, 16]\n6 [7, 17]\n7 [8, 18]\n8 [9, 19]\n";
-    assert_eq!(rt; host.said(), said);
-    Ok(())
+fn a_file_that_changes(rt: HostRuntime) {
+    assert!(rt; is_change_said(rt.alloc()));
 }

@@ -1,15 +1,13 @@
 //! What a stop leaves of a run, and one whose calls fail.
-use super::images::EMPTY;
-use super::runs::{changed, decode, ran, scripted};
+use super::images::File;
+use super::runs::{ends_so, host_of_copy, ran};
 use crate::status::Status;
-use rio_chain::walk;
+use rio_chain::{Segment, walk};
 use rio_head::FileFault;
 use rio_host::{Left, MemHost, Remains};
 use rio_num::{Bytes, NoMemory, Numbers};
 use rio_recover::recover;
 use std::alloc::Global;
-use std::process::Abort;
-use std::test::Fail;
 
 // Whether the file isn't made yet.
 fn is_unborn(image: &[u8]) -> bool {
@@ -28,25 +26,33 @@ fn is_object(image: &[u8], place: u64) -> bool {
     }
 }
 
-// How many such objects a walk along the records finds.
-fn count_objects(alloc: Global, host: &mut MemHost) -> Result<usize, Fail> {
-    let segments = walk(alloc, host)?;
+fn count_objects(image: &[u8], segments: &[Segment]) -> usize {
     let mut objects: usize = 0;
-    for segment in segments.as_slice() {
-        if is_object(host.image(), segment.place()) {
+    for segment in segments {
+        if is_object(image, segment.place()) {
             objects = objects.saturating_add(1);
         }
     }
-    Ok(objects)
+    objects
+}
+
+// How many such objects a walk along the records finds.
+fn objects_of(alloc: Global, host: &mut MemHost) -> Option<usize> {
+    match walk(alloc, host) {
+        Ok(segments) => Some(count_objects(host.image(), segments.as_slice())),
+        Err(_) => None,
+    }
 }
 
 // The same of an image; one that isn't made yet has none.
-fn objects_in(alloc: Global, image: &[u8]) -> Result<usize, Fail> {
+fn objects_in(alloc: Global, image: &[u8]) -> Option<usize> {
     if is_unborn(image) {
-        return Ok(0);
+        return Some(0);
     }
-    let copy = Bytes::from_slice(alloc, image)?;
-    count_objects(alloc, &mut MemHost::new(alloc, copy, Numbers::new(alloc)))
+    match host_of_copy(alloc, image, &[]) {
+        Ok(mut host) => objects_of(alloc, &mut host),
+        Err(_) => None,
+    }
 }
 
 const PUT: &[u8] = b"put s TObjString{TObject{fUniqueID: 0, fBits: 0}, fString: \"hi\"}";
@@ -99,62 +105,102 @@ fn answer(image: &[u8]) -> Status {
 }
 
 // Whether `ls` answers so, and lists the one object, or none.
-fn is_listed(alloc: Global, image: &[u8], objects: usize) -> Result<bool, NoMemory> {
+fn is_listed(alloc: Global, image: &[u8], objects: usize) -> bool {
     let wanted = answer(image);
     let listing: &[u8] = if wanted == Status::Done && objects == 1 {
         b"s;1 TObjString\n"
     } else {
         b""
     };
-    let copy = Bytes::from_slice(alloc, image)?;
-    let (status, said) = ran(alloc, &["ls", "a.root"], copy, &[])?;
-    Ok(status == wanted && said.as_slice() == listing)
+    match host_of_copy(alloc, image, &[]) {
+        Ok(mut host) => ends_so(alloc, &["ls", "a.root"], &mut host, b"", (wanted, listing)),
+        Err(_) => false,
+    }
+}
+
+// Whether the host's file is made, and so many keys are recovered of it.
+fn is_host_recovered(alloc: Global, host: &mut MemHost, objects: usize) -> bool {
+    match rio_recover::is_unborn(host) {
+        Ok(false) => match recover(alloc, host) {
+            Ok(found) => found.table.count() == objects,
+            Err(_) => false,
+        },
+        Ok(true) | Err(_) => false,
+    }
 }
 
 // Whether so many keys are recovered of it. One that isn't made yet isn't recovered.
-fn is_recovered(alloc: Global, image: &[u8], objects: usize) -> Result<bool, Fail> {
+fn is_recovered(alloc: Global, image: &[u8], objects: usize) -> bool {
     if is_unborn(image) {
-        return Ok(objects == 0);
+        return objects == 0;
     }
-    let copy = Bytes::from_slice(alloc, image)?;
-    let mut host = MemHost::new(alloc, copy, Numbers::new(alloc));
-    if rio_recover::is_unborn(&mut host)? {
-        return Ok(false);
+    match host_of_copy(alloc, image, &[]) {
+        Ok(mut host) => is_host_recovered(alloc, &mut host, objects),
+        Err(_) => false,
     }
-    Ok(recover(alloc, &mut host)?.table.count() == objects)
 }
 
 // It holds the object if that was said, and one at most, is recovered so, and is listed so.
-fn is_prefix(alloc: Global, left: &Left) -> Result<bool, Fail> {
+fn is_prefix(alloc: Global, left: &Left) -> bool {
     let image = left.image.as_slice();
-    let objects = objects_in(alloc, image)?;
-    if objects > 1 || objects < left.said.len() / 11 || !is_recovered(alloc, image, objects)? {
-        return Ok(false);
+    match objects_in(alloc, image) {
+        Some(objects) => {
+            objects <= 1
+                && left.said.len() / 11 <= objects
+                && is_recovered(alloc, image, objects)
+                && is_listed(alloc, image, objects)
+        }
+        None => false,
     }
-    Ok(is_listed(alloc, image, objects)?)
 }
 
-// A run of one put, with less than 40 moments.
-fn one_put(rt: &impl Abort, alloc: Global) -> Result<MemHost, NoMemory> {
-    let (status, host) = scripted(alloc, &WORDS, Bytes::new(alloc), PUT, &[])?;
-    assert_eq!(rt; status, Status::Done);
-    assert!(rt; host.moment() < 40);
-    Ok(host)
+// Does a run of one put, which has less than 40 moments.
+fn does_put(alloc: Global, host: &mut MemHost) -> bool {
+    ran(alloc, &WORDS, host, PUT) == Ok(Status::Done) && host.moment() < 40
+}
+
+fn is_prefix_at(alloc: Global, host: &MemHost, moment: u64, choice: u8) -> bool {
+    match left_at(host, moment, choice) {
+        Ok(left) => is_prefix(alloc, &left),
+        Err(_) => false,
+    }
+}
+
+// The first moment and choice at which it isn't one.
+fn no_prefix(alloc: Global, host: &MemHost) -> Option<(u64, u8)> {
+    for at in 0..40 * 125u64 {
+        let (moment, choice) = (at / 125, (at % 125) as u8);
+        if !is_prefix_at(alloc, host, moment, choice) {
+            return Some((moment, choice));
+        }
+    }
+    None
+}
+
+// The host behind a run of one put on a fresh file.
+fn put_host(alloc: Global) -> Option<MemHost> {
+    match host_of_copy(alloc, b"", &[]) {
+        Ok(mut host) => {
+            if does_put(alloc, &mut host) {
+                Some(host)
+            } else {
+                None
+            }
+        }
+        Err(_) => None,
+    }
+}
+
+fn no_prefix_of_a_put(alloc: Global) -> Option<(u64, u8)> {
+    match put_host(alloc) {
+        Some(host) => no_prefix(alloc, &host),
+        None => Some((u64::MAX, 0)),
+    }
 }
 
 #[test]
-fn stops_of_one_put(rt: HostRuntime) -> Result<(), Fail> {
-    let host = one_put(&rt, rt.alloc())?;
-    for moment in 0..40 {
-        for choice in 0..125 {
-            let left = left_at(&host, moment, choice)?;
-            assert!(rt;
-                is_prefix(rt.alloc(), &left)?,
-                "moment {moment}, choice {choice}"
-            );
-        }
-    }
-    Ok(())
+fn stops_of_one_put(rt: HostRuntime) {
+    assert_eq!(rt; no_prefix_of_a_put(rt.alloc()), None);
 }
 
 // What a stop at this moment leaves, with a front of each write in flight and all that was being said. Behind three writes none
@@ -163,56 +209,112 @@ fn left_by(host: &MemHost, moment: u64, front: u64) -> Result<Left, NoMemory> {
     host.left(moment, &[Remains::Front(front); 3], 11)
 }
 
-// Whether it is another image than that of the front before.
-fn is_new(host: &MemHost, moment: u64, front: u64) -> Result<bool, NoMemory> {
-    let before = left_by(host, moment, front.saturating_sub(1))?;
-    Ok(front == 0 || left_by(host, moment, front)?.image.as_slice() != before.image.as_slice())
+// Whether both leave the same image.
+fn are_alike(left: Result<Left, NoMemory>, right: Result<Left, NoMemory>) -> bool {
+    match (left, right) {
+        (Ok(left), Ok(right)) => left.image.as_slice() == right.image.as_slice(),
+        _ => false,
+    }
 }
 
 // Whether no write is in flight behind three.
-fn are_three(host: &MemHost, moment: u64) -> Result<bool, NoMemory> {
-    let three = host.left(moment, &[Remains::All; 3], 0)?;
-    let four = host.left(moment, &[Remains::All; 4], 0)?;
-    Ok(three.image.as_slice() == four.image.as_slice())
+fn are_three(host: &MemHost, moment: u64) -> bool {
+    are_alike(
+        host.left(moment, &[Remains::All; 3], 0),
+        host.left(moment, &[Remains::All; 4], 0),
+    )
 }
 
-// The same of each front, the longest write having 208 bytes.
-#[test]
-fn stops_within_a_write(rt: HostRuntime) -> Result<(), Fail> {
-    let host = one_put(&rt, rt.alloc())?;
-    for moment in 0..40 {
-        assert!(rt; are_three(&host, moment)?, "moment {moment}");
-        for front in 0..209 {
-            assert!(rt;
-                !is_new(&host, moment, front)?
-                    || is_prefix(rt.alloc(), &left_by(&host, moment, front)?)?,
-                "moment {moment}, front {front}"
-            );
+// Whether it is the image of the front before.
+fn is_old(host: &MemHost, moment: u64, front: u64) -> bool {
+    front != 0
+        && are_alike(
+            left_by(host, moment, front.saturating_sub(1)),
+            left_by(host, moment, front),
+        )
+}
+
+fn is_front_prefix(alloc: Global, host: &MemHost, moment: u64, front: u64) -> bool {
+    if is_old(host, moment, front) {
+        return true;
+    }
+    match left_by(host, moment, front) {
+        Ok(left) => is_prefix(alloc, &left),
+        Err(_) => false,
+    }
+}
+
+// The first front at which it isn't one, the longest write having 208 bytes.
+fn no_front_prefix(alloc: Global, host: &MemHost, moment: u64) -> Option<u64> {
+    for front in 0..209 {
+        if !is_front_prefix(alloc, host, moment, front) {
+            return Some(front);
         }
     }
-    Ok(())
+    None
+}
+
+// The first moment at which there is such a front, or at which more than three writes are in flight.
+fn no_moment_prefix(alloc: Global, host: &MemHost) -> Option<u64> {
+    for moment in 0..40 {
+        if !are_three(host, moment) || no_front_prefix(alloc, host, moment).is_some() {
+            return Some(moment);
+        }
+    }
+    None
+}
+
+fn no_moment_prefix_of_a_put(alloc: Global) -> Option<u64> {
+    match put_host(alloc) {
+        Some(host) => no_moment_prefix(alloc, &host),
+        None => Some(u64::MAX),
+    }
+}
+
+// The same of each front.
+#[test]
+fn stops_within_a_write(rt: HostRuntime) {
+    assert_eq!(rt; no_moment_prefix_of_a_put(rt.alloc()), None);
+}
+
+fn put_body(image: &mut Bytes) -> Result<(), NoMemory> {
+    image.put(&[0; 4])?;
+    image.put(&[0xee; 60])
+}
+
+fn without_its_word(alloc: Global) -> Result<Bytes, NoMemory> {
+    let mut image = File::Empty.image(alloc, 208, &[(12, 2_000_000_000)])?;
+    put_body(&mut image)?;
+    Ok(image)
+}
+
+fn segments_of(alloc: Global, host: &mut MemHost) -> Option<usize> {
+    match walk(alloc, host) {
+        Ok(segments) => Some(segments.len()),
+        Err(_) => None,
+    }
+}
+
+fn segments_without_the_word(alloc: Global) -> Option<usize> {
+    match without_its_word(alloc) {
+        Ok(image) => segments_of(alloc, &mut MemHost::new(alloc, image, Numbers::new(alloc))),
+        Err(_) => None,
+    }
 }
 
 // A record whose body is there and whose length word isn't.
 #[test]
-fn a_record_without_its_word(rt: HostRuntime) -> Result<(), Fail> {
-    let whole = decode(rt.alloc(), &EMPTY)?;
-    let mut image = changed(rt.alloc(), whole.as_slice(), 208, &[(12, 2_000_000_000)])?;
-    image.put(&[0; 4])?;
-    image.put(&[0xee; 60])?;
-    let mut host = MemHost::new(rt.alloc(), image, Numbers::new(rt.alloc()));
-    let segments = walk(rt.alloc(), &mut host)?;
-    assert_eq!(rt; segments.len(), 1);
-    Ok(())
+fn a_record_without_its_word(rt: HostRuntime) {
+    assert_eq!(rt; segments_without_the_word(rt.alloc()), Some(1));
 }
 
-pub(super) const WORKED: &[u8] =
-    b"put s TObjString{TObject{fUniqueID: 0, fBits: 0}, fString: \"hi\"}\n\
+pub(super) const WORKED: &str =
+    "put s TObjString{TObject{fUniqueID: 0, fBits: 0}, fString: \"hi\"}\n\
     put s TObjString{TObject{fUniqueID: 0, fBits: 0}, fString: \"ho\"}\n\
     put s TObjString{TObject{fUniqueID: 0, fBits: 0}, fString: \"hu\"}\n\
     ls\n";
 
-pub(super) const SAID: &[u8] = b"ok put s;1\nok put s;2\nok put s;3\nok ls 3\n\
+pub(super) const SAID: &str = "ok put s;1\nok put s;2\nok put s;3\nok ls 3\n\
     s;3 TObjString\ns;2 TObjString\ns;1 TObjString\n";
 
 // How the run ends where this call fails, and how many bytes it has said then. The file is looked at and synced by 3 calls, made by
@@ -232,26 +334,39 @@ fn end_by(call: u64) -> (Status, usize) {
     }
 }
 
-#[test]
-fn failing_calls(rt: HostRuntime) -> Result<(), Fail> {
-    for call in 0..64 {
-        let fresh = Bytes::new(rt.alloc());
-        let (status, host) = scripted(rt.alloc(), &WORDS, fresh, WORKED, &[call])?;
-        let (wanted, length) = end_by(call);
-        assert_eq!(rt; status, wanted, "call {call}");
-        let said = host.said().as_slice();
-        assert!(rt;
-            said.len() == length && SAID.starts_with(said),
-            "call {call}"
-        );
-        let objects = objects_in(rt.alloc(), host.image())?;
-        let put = (length / 11).min(3);
-        // A reply that can't be said is one of a command that stands.
-        let least = match status {
-            Status::SayFault => (put + 1).min(3),
-            _ => put,
-        };
-        assert!(rt; least <= objects && objects <= put + 1, "call {call}");
+// Whether it has as many objects as were put before it ended so, and the one whose put was going on or not. A reply that can't be
+// said is one of a command that stands.
+fn holds(alloc: Global, image: &[u8], end: (Status, usize)) -> bool {
+    let (status, length) = end;
+    let put = (length / 11).min(3);
+    let least = match status {
+        Status::SayFault => (put + 1).min(3),
+        _ => put,
+    };
+    match objects_in(alloc, image) {
+        Some(objects) => least <= objects && objects <= put + 1,
+        None => false,
     }
-    Ok(())
+}
+
+// Whether the worked run ends as it does where this call fails.
+fn ends_by(alloc: Global, host: &mut MemHost, call: u64) -> bool {
+    let (status, length) = end_by(call);
+    let said = SAID.as_bytes().get(..length).unwrap_or(b"none");
+    ends_so(alloc, &WORDS, host, WORKED.as_bytes(), (status, said))
+        && holds(alloc, host.image(), (status, length))
+}
+
+fn is_failing_told(alloc: Global, call: u64) -> bool {
+    match host_of_copy(alloc, b"", &[call]) {
+        Ok(mut host) => ends_by(alloc, &mut host, call),
+        Err(_) => false,
+    }
+}
+
+#[test]
+fn failing_calls(rt: HostRuntime) {
+    for call in 0..64 {
+        assert!(rt; is_failing_told(rt.alloc(), call), "call {call}");
+    }
 }

@@ -1,6 +1,5 @@
-use Rattle.std.proofs.Common.{◌≡◌, ℕ, List, map, ◌∷◌, [], ◌++◌, sym, ap, ◌∙◌, arith}
+use Rattle.std.proofs.{Common.{◌≡◌, ℕ, List, map, ◌∷◌, [], ◌++◌, sym, ap, ◌∙◌, arith}, lemmas.List.FromFn.{map-range_with_len_more}}
 use Rattle.std.specs.List.{range_with_len}
-use Rattle.std.proofs.lemmas.List.FromFn.{map-range_with_len_more}
 use Rattle.rio_num.specs.Room.{Room}
 use Rattle.rio_basket.specs.Entries.{laid_entry}
 use Rattle.rio_basket.proofs.entries.read_basket.Goals as goal

@@ -1,8 +1,5 @@
 use Rattle.std.proofs.Common.{◌≡◌, ℕ, List, Bool, length, Result, Ok, Err, IfOk, sym, ap, ◌∙◌}
-use Rattle.rio_basket.specs.declared.fault.BasketFault.{BasketFault}
-use Rattle.rio_basket.specs.declared.layout.Layout.{Layout}
-use Rattle.rio_basket.specs.Laid.{IsLayoutWithin}
-use Rattle.rio_basket.specs.Stored.{layout_by, layout_in}
+use Rattle.rio_basket.specs.{declared.fault.BasketFault.{BasketFault}, declared.layout.Layout.{Layout}, Laid.{IsLayoutWithin}, Stored.{layout_by, layout_in}}
 use Rattle.rio_basket.proofs.LaidLaws.{layout_within}
 use Rattle.rio_basket.proofs.layout.read_layout.Goals as goal
 

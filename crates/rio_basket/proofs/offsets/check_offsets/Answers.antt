@@ -1,6 +1,5 @@
 use Rattle.std.proofs.Common.{ℕ, Result, Err, sym, ap, ◌∙◌}
-use Rattle.rio_basket.specs.declared.fault.BasketFault.{BasketFault}
-use Rattle.rio_basket.specs.declared.fault.BasketFault.TheVariants.{BadOffsets}
+use Rattle.rio_basket.specs.declared.fault.BasketFault.{BasketFault, TheVariants.{BadOffsets}}
 use Rattle.rio_basket.proofs.OffsetLaws.{before_next, offset_sound, one_bad, one_sound}
 use Rattle.rio_basket.proofs.offsets.check_offsets.Goals as goal
 

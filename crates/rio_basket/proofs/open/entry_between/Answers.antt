@@ -1,5 +1,4 @@
-use Rattle.std.proofs.Common.{ℕ, List, Option, Some, length, get_or, slice_range, sym, ap, ◌∙◌, arith}
-use Rattle.std.proofs.lemmas.Option.{slice_get_past}
+use Rattle.std.proofs.{Common.{ℕ, List, Option, Some, length, get_or, slice_range, sym, ap, ◌∙◌, arith}, lemmas.Option.{slice_get_past}}
 use Rattle.rio_basket.specs.Open.{cut_from}
 use Rattle.rio_basket.proofs.OpenLaws.{cut_bounds, cut_there, length-cut}
 use Rattle.rio_basket.proofs.open.entry_between.Goals as goal

@@ -1,8 +1,7 @@
 use Rattle.std.proofs.Common.{◌↔◌, ◌∙◌, sym, subst}
 use Rattle.std.specs.Prelude.{IsTrue}
 use Rattle.rio_chain.specs.Found.{FindsKey, IsFirstBy}
-use Rattle.rio_chain.proofs.Finding.{finds_first, finds_no_first}
-use Rattle.rio_chain.proofs.Words.{has_same}
+use Rattle.rio_chain.proofs.{Finding.{finds_first, finds_no_first}, Words.{has_same}}
 use Rattle.rio_chain.proofs.found.is_first_at.Goals as goal
 
 pub returns-in-Some-clause-first : goal.returns-in-Some-clause-first

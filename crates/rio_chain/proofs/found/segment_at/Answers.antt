@@ -1,6 +1,5 @@
 use Rattle.std.proofs.Common.{◌≡◌, inl, inr, refl, sym, subst, ◌∙◌, length, arith, rules, ℕ}
-use Rattle.rio_chain.specs.Segments.{HasWord, HoldsLink, Link}
-use Rattle.rio_chain.specs.Found.{FindsWhole}
+use Rattle.rio_chain.specs.{Segments.{HasWord, HoldsLink, Link}, Found.{FindsWhole}}
 use Rattle.rio_chain.proofs.Links.{IsBadLength, bad_length, no_first_gap, whole_holds, not_whole}
 use Rattle.rio_chain.proofs.found.segment_at.Goals.{then-length-lt4-via-then-length-lt4, then-length-lt4-via-else-length-lt4+then-length-ne0, then-length-lt4-via-else-length-lt4+else-length-ne0+then-file_length-place}
 use Rattle.rio_chain.proofs.found.segment_at.Goals as goal

@@ -1,10 +1,7 @@
 use Rattle.std.proofs.Common.{◌≡◌, ◌∙◌, ◌+◌, get_or, take, suc, ℕ, List, refl, sym, ap, subst, arith}
-use Rattle.rio_free.specs.Gaps.{FreeGaps, IsApart, gap_of, given}
-use Rattle.rio_free.specs.declared.gap.Gap.{Gap as FreeGap}
-use Rattle.rio_chain.specs.declared.segment.Segment.TheVariants.{Record}
-use Rattle.rio_chain.specs.Placing.{gaps_in}
-use Rattle.rio_chain.proofs.Gathered.{gathering}
-use Rattle.rio_chain.proofs.gather.gaps_of.Goals.{in-Record, in-Gap+in_ok-reserve-in-Gap}
+use Rattle.rio_free.specs.{Gaps.{FreeGaps, IsApart, gap_of, given}, declared.gap.Gap.{Gap as FreeGap}}
+use Rattle.rio_chain.specs.{declared.segment.Segment.TheVariants.{Record}, Placing.{gaps_in}}
+use Rattle.rio_chain.proofs.{Gathered.{gathering}, gather.gaps_of.Goals.{in-Record, in-Gap+in_ok-reserve-in-Gap}}
 use Rattle.rio_chain.proofs.gather.gaps_of.Goals as goal
 
 pub give-requires-clause-some : goal.give-requires-clause-some

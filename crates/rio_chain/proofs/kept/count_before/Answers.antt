@@ -1,7 +1,5 @@
-use Rattle.std.proofs.Common.{ltb, rules}
-use Rattle.std.proofs.lemmas.List.Sorted.{IsPartitionedBy-ltb, IsPartitionPoint-from_clause}
-use Rattle.rio_chain.specs.declared.segment.Segment.TheVariants.{Gap}
-use Rattle.rio_chain.specs.Adjoining.{segment_place}
+use Rattle.std.proofs.{Common.{ltb, rules}, lemmas.List.Sorted.{IsPartitionedBy-ltb, IsPartitionPoint-from_clause}}
+use Rattle.rio_chain.specs.{declared.segment.Segment.TheVariants.{Gap}, Adjoining.{segment_place}}
 use Rattle.rio_chain.proofs.Indices.{places_rise, point_at}
 use Rattle.rio_chain.proofs.kept.count_before.Goals as goal
 

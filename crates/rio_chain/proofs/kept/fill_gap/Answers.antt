@@ -1,8 +1,7 @@
 use Rattle.std.proofs.Common.{◌∙◌, ◌+◌, ◌-◌, ap, length, set, ℕ, rules, arith}
 use Rattle.std.specs.List.{insert}
-use Rattle.rio_chain.proofs.Indices.{kept_if_ok}
+use Rattle.rio_chain.proofs.{Indices.{kept_if_ok}, Placed.{filling}}
 use Rattle.rio_chain.specs.declared.segment.Segment.TheVariants.{Record, Gap}
-use Rattle.rio_chain.proofs.Placed.{filling}
 use Rattle.rio_chain.proofs.kept.fill_gap.Goals as goal
 
 pub index-requires : goal.index-requires

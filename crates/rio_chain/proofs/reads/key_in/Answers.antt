@@ -2,13 +2,9 @@ use Rattle.std.proofs.Common.{◌≡◌, ◌∙◌, ap, sym, subst, Option, Some
 use Rattle.std.specs.Prelude.{IfOk, IfSome}
 use Rattle.rio_num.proofs.ReadLaws.{ok_is}
 use Rattle.rio_num.specs.Plain.{IsSpelledIn}
-use Rattle.rio_key.specs.Key.{SpellsKey}
-use Rattle.rio_key.specs.declared.fault.KeyFault.{KeyFault}
-use Rattle.rio_key.specs.declared.head.KeyHead.{KeyHead}
-use Rattle.rio_chain.specs.Found.{IsShortKey}
-use Rattle.rio_chain.specs.declared.fault.WalkFault.{WalkFault}
-use Rattle.rio_chain.proofs.Keys.{standing_rest, no_key_found}
-use Rattle.rio_chain.proofs.ShortKeys.{short_key}
+use Rattle.rio_key.specs.{Key.{SpellsKey}, declared.fault.KeyFault.{KeyFault}, declared.head.KeyHead.{KeyHead}}
+use Rattle.rio_chain.specs.{Found.{IsShortKey}, declared.fault.WalkFault.{WalkFault}}
+use Rattle.rio_chain.proofs.{Keys.{standing_rest, no_key_found}, ShortKeys.{short_key}}
 use Rattle.rio_chain.proofs.reads.key_in.Goals as goal
 
 pub returns-in-Ok-clause-key : goal.returns-in-Ok-clause-key

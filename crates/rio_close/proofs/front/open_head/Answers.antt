@@ -1,7 +1,5 @@
-use Rattle.std.proofs.Common.{◌≡◌, length, arith}
-use Rattle.std.proofs.lemmas.Result.{err_from_is_err_and}
-use Rattle.rio_close.proofs.Answering.{header_tested}
-use Rattle.rio_close.proofs.Fronts.{head_fails, head_late, head_whole}
+use Rattle.std.proofs.{Common.{◌≡◌, length, arith}, lemmas.Result.{err_from_is_err_and}}
+use Rattle.rio_close.proofs.{Answering.{header_tested}, Fronts.{head_fails, head_late, head_whole}}
 use Rattle.rio_close.proofs.front.open_head.Goals as goal
 
 pub returns-in_err-head-clause-exact : goal.returns-in_err-head-clause-exact

@@ -1,5 +1,4 @@
-use Rattle.rio_head.specs.declared.fault.FileFault.TheVariants.{BadKeyList}
-use Rattle.rio_head.specs.Head.{fault_at}
+use Rattle.rio_head.specs.{declared.fault.FileFault.TheVariants.{BadKeyList}, Head.{fault_at}}
 use Rattle.rio_dir.specs.Closed.{heads_of, listed_at}
 use Rattle.rio_close.specs.Opens.{listed_in}
 use Rattle.rio_close.proofs.Records.{record_none, record_found}

@@ -1,6 +1,5 @@
-use Rattle.std.proofs.Common.{◌≡◌, ◌+◌, ◌∙◌, [], ◌∷◌, ap, arith}
+use Rattle.std.proofs.{Common.{◌≡◌, ◌+◌, ◌∙◌, [], ◌∷◌, ap, arith}, lemmas.List.Sums.{sum_by-cons}}
 use Rattle.std.specs.List.{sum_by}
-use Rattle.std.proofs.lemmas.List.Sums.{sum_by-cons}
 use Rattle.rio_dir.specs.Table.{heads_size}
 use Rattle.rio_state.specs.Closing.{close_need, free_length, list_length, padded_length}
 use Rattle.rio_close.specs.Sizes.{close_size, headless}

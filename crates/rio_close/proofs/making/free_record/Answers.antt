@@ -1,10 +1,8 @@
 use Rattle.std.proofs.Common.{◌≡◌, ◌+◌, ◌-◌, ◌*◌, ◌++◌, List, codes, length, ap, sym, ◌∙◌, arith}
 use Rattle.rio_num.specs.Room.{Room}
-use Rattle.rio_free.specs.Record.{free_bytes}
-use Rattle.rio_free.specs.declared.gap.Gap.{Gap as FreeGap}
+use Rattle.rio_free.specs.{Record.{free_bytes}, declared.gap.Gap.{Gap as FreeGap}}
 use Rattle.rio_free.proofs.Written.{length-free}
-use Rattle.rio_chain.specs.Chains.{ChainState}
-use Rattle.rio_chain.specs.Placing.{file_end, gaps_in, with_segment}
+use Rattle.rio_chain.specs.{Chains.{ChainState}, Placing.{file_end, gaps_in, with_segment}}
 use Rattle.rio_chain.proofs.Placed.{end_grows}
 use Rattle.rio_machine.specs.Limits.{head_length}
 use Rattle.rio_state.specs.Closing.{padded_length}

@@ -5,8 +5,7 @@ use Rattle.rio_chain.specs.Placing.{file_end, place_of, with_segment}
 use Rattle.rio_machine.specs.Limits.{head_length}
 use Rattle.rio_state.specs.Closing.{padded_length}
 use Rattle.rio_close.specs.Written.{record_size}
-use Rattle.rio_close.proofs.ClosedFile.{few_heads}
-use Rattle.rio_close.proofs.Fitting.{list_length_is, list_size, own_as, padded_aligned, placed_low, words_fit}
+use Rattle.rio_close.proofs.{ClosedFile.{few_heads}, Fitting.{list_length_is, list_size, own_as, padded_aligned, placed_low, words_fit}}
 use Rattle.rio_close.proofs.making.list_record.Goals as goal
 
 pub write_key_list-requires-clause-count : goal.write_key_list-requires-clause-count

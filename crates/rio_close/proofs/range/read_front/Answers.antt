@@ -1,5 +1,4 @@
-use Rattle.std.proofs.Common.{◌≡◌, ◌∙◌, ◌+◌, ◌≤◌, length, length-drop, length-take, drop, arith}
-use Rattle.std.proofs.lemmas.List.{take_at}
+use Rattle.std.proofs.{Common.{◌≡◌, ◌∙◌, ◌+◌, ◌≤◌, length, length-drop, length-take, drop, arith}, lemmas.List.{take_at}}
 use Rattle.rio_host.proofs.RangeLaws.{has_range, take_within}
 use Rattle.rio_close.proofs.range.read_front.Goals as goal
 

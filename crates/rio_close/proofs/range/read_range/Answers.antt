@@ -1,5 +1,4 @@
-use Rattle.std.proofs.Common.{◌≡◌, ◌∙◌, ◌+◌, ◌≤◌, length, arith}
-use Rattle.std.proofs.lemmas.List.{take_at}
+use Rattle.std.proofs.{Common.{◌≡◌, ◌∙◌, ◌+◌, ◌≤◌, length, arith}, lemmas.List.{take_at}}
 use Rattle.rio_host.proofs.RangeLaws.{has_range}
 use Rattle.rio_close.proofs.range.read_range.Goals as goal
 

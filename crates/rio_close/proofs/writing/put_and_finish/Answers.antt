@@ -1,11 +1,6 @@
-use Rattle.std.proofs.Common.{◌≡◌, ◌+◌, length, ap, sym, subst, ◌∙◌, arith, ℕ, List}
-use Rattle.std.proofs.lemmas.Option.{same_Some}
-use Rattle.rio_host.proofs.Images.{told_before}
-use Rattle.rio_chain.specs.Chains.{ChainState, HasChain}
-use Rattle.rio_chain.specs.Placing.{file_end}
-use Rattle.rio_chain.specs.Segments.{IsRecord}
-use Rattle.rio_chain.specs.Stops.{Any}
-use Rattle.rio_chain.specs.declared.segment.Segment.{Segment}
+use Rattle.std.proofs.{Common.{◌≡◌, ◌+◌, length, ap, sym, subst, ◌∙◌, arith, ℕ, List}, lemmas.Option.{same_Some}}
+use Rattle.rio_host.{proofs.Images.{told_before}, specs.Host.{Any}}
+use Rattle.rio_chain.specs.{Chains.{ChainState, HasChain}, Placing.{file_end}, Segments.{IsRecord}, declared.segment.Segment.{Segment}}
 use Rattle.rio_close.proofs.Closing.{both_there, closed_then, dir_within, fields_time, free_is_record, free_reached, free_seek, free_time, list_is_record, list_low, list_reached, list_seek, list_time, written_then}
 use Rattle.rio_close.proofs.writing.put_and_finish.Goals as goal
 
@@ -37,7 +32,7 @@ returns-in_err-put_record-2-clause-any_moment g c f m ready =
     let v0 = g.H.Host.view c.args.host.now in
     let v1 = g.H.Host.view c.put_record.new.host in
     let chain = subst (λ (s : List Segment). HasChain ready.held.links s ready.held.file) ready.same ready.held.chain in
-    let one = list_reached v0 f records m ready.made ready.held v1 records.list.head.seek c.put_record.new.self.segments (list_seek f records ready.made) c.put_record.ensures.said
+    let one = list_reached v0 f records m ready.made ready.held v1 records.list.head.seek c.put_record.new.self.segments (list_seek f records ready.made) c.put_record.ensures.writes.said
     (c.put_record.ensures.any_moment ready.held.file ready.held.links ready.held.holds chain) (c.in_ok-put_record.ensures.holds ready.held.file ready.held.links ready.held.holds chain) in
     free_time v0 f records m ready.made ready.held v1 c.put_record.new.self.segments one (g.H.Host.view c.put_record-2.new.host) records.free.head.seek (free_seek f records ready.made)
     (c.put_record-2.ensures.any_moment one.file _ one.holds one.chain)
@@ -46,8 +41,8 @@ pub finish-requires-clause-within : goal.finish-requires-clause-within
 finish-requires-clause-within g c bytes told =
     let r = c.requires.records in
     let records = c.args.records.now in
-    let b1 = told_before Any _ _ bytes c.put_record-2.ensures.told told in
-    let b0 = told_before Any _ _ b1.0 c.put_record.ensures.told b1.1 in
+    let b1 = told_before Any _ _ bytes c.put_record-2.ensures.writes.told told in
+    let b0 = told_before Any _ _ b1.0 c.put_record.ensures.writes.told b1.1 in
     let has = c.requires.holds b0.0 b0.1 in
     let one = c.in_ok-put_record.ensures.holds b0.0 has.0 b0.1 has.1 in
     let two = c.in_ok-put_record-2.ensures.holds one.0 _ one.1 one.2 in
@@ -64,9 +59,9 @@ returns-in_err-finish-clause-any_moment g c f m ready =
     let v1 = g.H.Host.view c.put_record.new.host in
     let v2 = g.H.Host.view c.put_record-2.new.host in
     let chain = subst (λ (s : List Segment). HasChain ready.held.links s ready.held.file) ready.same ready.held.chain in
-    let one = list_reached v0 f records m ready.made ready.held v1 records.list.head.seek c.put_record.new.self.segments (list_seek f records ready.made) c.put_record.ensures.said
+    let one = list_reached v0 f records m ready.made ready.held v1 records.list.head.seek c.put_record.new.self.segments (list_seek f records ready.made) c.put_record.ensures.writes.said
     (c.put_record.ensures.any_moment ready.held.file ready.held.links ready.held.holds chain) (c.in_ok-put_record.ensures.holds ready.held.file ready.held.links ready.held.holds chain) in
-    let two = free_reached v0 f records m ready.made ready.held v1 c.put_record.new.self.segments one v2 records.free.head.seek c.put_record-2.new.self.segments (free_seek f records ready.made) c.put_record-2.ensures.said
+    let two = free_reached v0 f records m ready.made ready.held v1 c.put_record.new.self.segments one v2 records.free.head.seek c.put_record-2.new.self.segments (free_seek f records ready.made) c.put_record-2.ensures.writes.said
     (c.put_record-2.ensures.any_moment one.file _ one.holds one.chain) (c.in_ok-put_record-2.ensures.holds one.file _ one.holds one.chain) in
     let first = ap (λ (s : ChainState). s.segments) c.in_ok-put_record.ensures.chain in
     let both = ap (λ (s : ChainState). s.segments) c.in_ok-put_record-2.ensures.chain ∙ both_there f records ready.made c.args.chain.now.segments c.put_record.new.self.segments ready.same first in
@@ -82,9 +77,9 @@ returns-clause-any_moment g c f m ready =
     let v1 = g.H.Host.view c.put_record.new.host in
     let v2 = g.H.Host.view c.put_record-2.new.host in
     let chain = subst (λ (s : List Segment). HasChain ready.held.links s ready.held.file) ready.same ready.held.chain in
-    let one = list_reached v0 f records m ready.made ready.held v1 records.list.head.seek c.put_record.new.self.segments (list_seek f records ready.made) c.put_record.ensures.said
+    let one = list_reached v0 f records m ready.made ready.held v1 records.list.head.seek c.put_record.new.self.segments (list_seek f records ready.made) c.put_record.ensures.writes.said
     (c.put_record.ensures.any_moment ready.held.file ready.held.links ready.held.holds chain) (c.in_ok-put_record.ensures.holds ready.held.file ready.held.links ready.held.holds chain) in
-    let two = free_reached v0 f records m ready.made ready.held v1 c.put_record.new.self.segments one v2 records.free.head.seek c.put_record-2.new.self.segments (free_seek f records ready.made) c.put_record-2.ensures.said
+    let two = free_reached v0 f records m ready.made ready.held v1 c.put_record.new.self.segments one v2 records.free.head.seek c.put_record-2.new.self.segments (free_seek f records ready.made) c.put_record-2.ensures.writes.said
     (c.put_record-2.ensures.any_moment one.file _ one.holds one.chain) (c.in_ok-put_record-2.ensures.holds one.file _ one.holds one.chain) in
     let first = ap (λ (s : ChainState). s.segments) c.in_ok-put_record.ensures.chain in
     let both = ap (λ (s : ChainState). s.segments) c.in_ok-put_record-2.ensures.chain ∙ both_there f records ready.made c.args.chain.now.segments c.put_record.new.self.segments ready.same first in
@@ -100,9 +95,9 @@ returns-clause-closed g c f m ready =
     let v1 = g.H.Host.view c.put_record.new.host in
     let v2 = g.H.Host.view c.put_record-2.new.host in
     let chain = subst (λ (s : List Segment). HasChain ready.held.links s ready.held.file) ready.same ready.held.chain in
-    let one = list_reached v0 f records m ready.made ready.held v1 records.list.head.seek c.put_record.new.self.segments (list_seek f records ready.made) c.put_record.ensures.said
+    let one = list_reached v0 f records m ready.made ready.held v1 records.list.head.seek c.put_record.new.self.segments (list_seek f records ready.made) c.put_record.ensures.writes.said
     (c.put_record.ensures.any_moment ready.held.file ready.held.links ready.held.holds chain) (c.in_ok-put_record.ensures.holds ready.held.file ready.held.links ready.held.holds chain) in
-    let two = free_reached v0 f records m ready.made ready.held v1 c.put_record.new.self.segments one v2 records.free.head.seek c.put_record-2.new.self.segments (free_seek f records ready.made) c.put_record-2.ensures.said
+    let two = free_reached v0 f records m ready.made ready.held v1 c.put_record.new.self.segments one v2 records.free.head.seek c.put_record-2.new.self.segments (free_seek f records ready.made) c.put_record-2.ensures.writes.said
     (c.put_record-2.ensures.any_moment one.file _ one.holds one.chain) (c.in_ok-put_record-2.ensures.holds one.file _ one.holds one.chain) in
     let first = ap (λ (s : ChainState). s.segments) c.in_ok-put_record.ensures.chain in
     let both = ap (λ (s : ChainState). s.segments) c.in_ok-put_record-2.ensures.chain ∙ both_there f records ready.made c.args.chain.now.segments c.put_record.new.self.segments ready.same first in
@@ -118,9 +113,9 @@ returns-clause-written g c f m ready =
     let v1 = g.H.Host.view c.put_record.new.host in
     let v2 = g.H.Host.view c.put_record-2.new.host in
     let chain = subst (λ (s : List Segment). HasChain ready.held.links s ready.held.file) ready.same ready.held.chain in
-    let one = list_reached v0 f records m ready.made ready.held v1 records.list.head.seek c.put_record.new.self.segments (list_seek f records ready.made) c.put_record.ensures.said
+    let one = list_reached v0 f records m ready.made ready.held v1 records.list.head.seek c.put_record.new.self.segments (list_seek f records ready.made) c.put_record.ensures.writes.said
     (c.put_record.ensures.any_moment ready.held.file ready.held.links ready.held.holds chain) (c.in_ok-put_record.ensures.holds ready.held.file ready.held.links ready.held.holds chain) in
-    let two = free_reached v0 f records m ready.made ready.held v1 c.put_record.new.self.segments one v2 records.free.head.seek c.put_record-2.new.self.segments (free_seek f records ready.made) c.put_record-2.ensures.said
+    let two = free_reached v0 f records m ready.made ready.held v1 c.put_record.new.self.segments one v2 records.free.head.seek c.put_record-2.new.self.segments (free_seek f records ready.made) c.put_record-2.ensures.writes.said
     (c.put_record-2.ensures.any_moment one.file _ one.holds one.chain) (c.in_ok-put_record-2.ensures.holds one.file _ one.holds one.chain) in
     let first = ap (λ (s : ChainState). s.segments) c.in_ok-put_record.ensures.chain in
     let both = ap (λ (s : ChainState). s.segments) c.in_ok-put_record-2.ensures.chain ∙ both_there f records ready.made c.args.chain.now.segments c.put_record.new.self.segments ready.same first in

@@ -1,7 +1,7 @@
 use Rattle.std.proofs.Common.{◌+◌, refl, sym, ◌∙◌, arith}
 use Rattle.rio_cmd.proofs.LineLaws.{command_read, line_passed, no_lines_left}
-use Rattle.rio_cmd.proofs.script.read_script.Goals as goal
 use Rattle.rio_cmd.proofs.script.read_script.Goals.{then-is_command_line+in_ok-read_line+in_ok-push, else-is_command_line}
+use Rattle.rio_cmd.proofs.script.read_script.Goals as goal
 
 pub loop-line-preserved : goal.loop-line-preserved
 loop-line-preserved c =

@@ -1,6 +1,5 @@
 use Rattle.std.proofs.Common.{◌^◌, ◌<◌, ◌∙◌, ap, length, arith}
-use Rattle.rio_create.proofs.Drafts.{first_is}
-use Rattle.rio_create.proofs.NewFiles.{first_size}
+use Rattle.rio_create.proofs.{Drafts.{first_is}, NewFiles.{first_size}}
 use Rattle.rio_create.proofs.first.first_of.Goals as goal
 
 pub returns-clause-bytes : goal.returns-clause-bytes

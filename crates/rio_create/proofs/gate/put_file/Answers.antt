@@ -10,7 +10,7 @@ pub returns-clause-any_moment : goal.returns-clause-any_moment
 returns-clause-any_moment g c file holds unborn =
     let zero = c.in_ok-put_word.ensures.holds file holds in
     both_time (g.H.Host.view c.args.host.now) file c.args.tail.now unborn (g.H.Host.view c.put_word.new.host) (g.H.Host.view c.put_behind.new.host) zero.0
-    (c.put_word.ensures.any_moment file holds) c.put_word.ensures.said zero.2 (c.put_behind.ensures.any_moment zero.0 zero.1)
+    (c.put_word.ensures.any_moment file holds) c.put_word.ensures.writes.said zero.2 (c.put_behind.ensures.any_moment zero.0 zero.1)
 
 pub returns-clause-made : goal.returns-clause-made
 returns-clause-made g c =

@@ -1,6 +1,5 @@
 use Rattle.std.proofs.Common.{rules, ◌≡◌, ◌+◌, ◌<◌, ◌++◌, ◌∷◌, [], true, false, length, drop, refl, sym, ap, ◌∙◌}
-use Rattle.std.specs.List.{list_any}
-use Rattle.std.specs.Str.{bytes_eq}
+use Rattle.std.specs.{List.{list_any}, Str.{bytes_eq}}
 use Rattle.rio_model.specs.Stated.{are_stated_members, is_stated_member}
 use Rattle.rio_model.proofs.ReadClasses.{known_none}
 use Rattle.rio_decl.proofs.KnownLaws.{known_stated, not_stated, parts_here, parts_more, same_member, stated_more}

@@ -1,8 +1,5 @@
-use Rattle.std.proofs.Common.{◌≡◌, ◌∙◌, true, false, sym}
-use Rattle.std.proofs.lemmas.Int.{to_z-of_z}
-use Rattle.rio_format.specs.Bases.{visit_bases}
-use Rattle.rio_format.specs.Lists.{listed}
-use Rattle.rio_format.specs.Visits.{base_of}
+use Rattle.std.proofs.{Common.{◌≡◌, ◌∙◌, true, false, sym}, lemmas.Int.{to_z-of_z}}
+use Rattle.rio_format.specs.{Bases.{visit_bases}, Lists.{listed}, Visits.{base_of}}
 use Rattle.rio_describe.specs.Heirs.{has_reaching}
 use Rattle.rio_describe.proofs.HeirLaws.{judged_heir, judged_no_heir}
 use Rattle.rio_describe.proofs.judged.judge.Goals as goal

@@ -1,7 +1,5 @@
-use Rattle.std.proofs.Common.{◌++◌, List, arith, map, ap, subst, sym}
+use Rattle.std.proofs.{Common.{◌++◌, List, arith, map, ap, subst, sym}, lemmas.Int.{to_z-of_z}, lemmas.Result.{on_ok_weaker}}
 use Rattle.std.specs.Prelude.{OnOk}
-use Rattle.std.proofs.lemmas.Int.{to_z-of_z}
-use Rattle.std.proofs.lemmas.Result.{on_ok_weaker}
 use Rattle.rio_types.specs.declared.class.ClassDef.{ClassDef}
 use Rattle.rio_format.specs.Lists.{listed}
 use Rattle.rio_describe.specs.Heirs.{Judged, class_base}

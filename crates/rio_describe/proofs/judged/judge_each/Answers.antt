@@ -1,5 +1,4 @@
-use Rattle.std.proofs.Common.{map}
-use Rattle.std.proofs.lemmas.Result.{on_ok_weaker}
+use Rattle.std.proofs.{Common.{map}, lemmas.Result.{on_ok_weaker}}
 use Rattle.rio_format.specs.Lists.{listed}
 use Rattle.rio_describe.specs.Heirs.{built_in_bases, class_base}
 use Rattle.rio_describe.proofs.HeirLaws.{judged_then}

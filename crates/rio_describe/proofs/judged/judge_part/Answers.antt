@@ -1,5 +1,4 @@
-use Rattle.std.proofs.Common.{arith}
-use Rattle.std.proofs.lemmas.Int.{to_z-of_z}
+use Rattle.std.proofs.{Common.{arith}, lemmas.Int.{to_z-of_z}}
 use Rattle.rio_format.specs.Lists.{listed}
 use Rattle.rio_describe.proofs.HeirLaws.{judged_more}
 use Rattle.rio_describe.proofs.judged.judge_part.Goals as goal

@@ -1,8 +1,6 @@
 use Rattle.std.proofs.Common.{refl, ap}
 use Rattle.rio_num.proofs.Plain.{standing, value_err}
-use Rattle.rio_key.specs.KeyList.{key_list_at}
-use Rattle.rio_key.specs.declared.fault.KeyFault.{KeyFault}
-use Rattle.rio_key.specs.declared.fault.ListFault.{ListFault}
+use Rattle.rio_key.specs.{KeyList.{key_list_at}, declared.fault.KeyFault.{KeyFault}, declared.fault.ListFault.{ListFault}}
 use Rattle.rio_dir.specs.KeyList.{heads_in}
 use Rattle.rio_dir.proofs.list.read_key_list.Goals as goal
 

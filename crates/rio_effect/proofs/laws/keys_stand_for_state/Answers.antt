@@ -1,5 +1,4 @@
-use Rattle.rio_effect.proofs.KeyReads.{keys_have_records}
-use Rattle.rio_effect.proofs.KeysOfState.{keys_name_objects, keys_stand_for_state}
+use Rattle.rio_effect.proofs.{KeyReads.{keys_have_records}, KeysOfState.{keys_name_objects, keys_stand_for_state}}
 use Rattle.rio_effect.proofs.laws.keys_stand_for_state.Goals as goal
 
 pub returns-clause-stand : goal.returns-clause-stand

@@ -1,7 +1,4 @@
-use Rattle.rio_effect.proofs.Held.{held_grows}
-use Rattle.rio_effect.proofs.Needs.{need_grows}
-use Rattle.rio_effect.proofs.NeedsByKeys.{need_by_keys}
-use Rattle.rio_effect.proofs.StateNeeds.{need_of_state}
+use Rattle.rio_effect.proofs.{Held.{held_grows}, Needs.{need_grows}, NeedsByKeys.{need_by_keys}, StateNeeds.{need_of_state}}
 use Rattle.rio_effect.proofs.laws.need_grows.Goals as goal
 
 pub returns-clause-grows : goal.returns-clause-grows

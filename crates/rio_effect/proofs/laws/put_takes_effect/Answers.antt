@@ -1,5 +1,4 @@
-use Rattle.rio_effect.proofs.PutEffect.{put_takes_effect, puts_have_records, saved_put_takes_effect}
-use Rattle.rio_effect.proofs.SavedPuts.{puts_ignore_pending}
+use Rattle.rio_effect.proofs.{PutEffect.{put_takes_effect, puts_have_records, saved_put_takes_effect}, SavedPuts.{puts_ignore_pending}}
 use Rattle.rio_effect.proofs.laws.put_takes_effect.Goals as goal
 
 pub returns-clause-puts : goal.returns-clause-puts

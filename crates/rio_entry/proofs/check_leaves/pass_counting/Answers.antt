@@ -1,14 +1,11 @@
-use Rattle.std.proofs.Common.{◌≡◌, ℤ, List, [], ◌∷◌, ◌++◌, drop, take, rules, Ok, ◌∙◌, sym, ap, arith}
-use Rattle.std.specs.Int.{w128}
-use Rattle.std.proofs.lemmas.Int.{to_z-of_z}
-use Rattle.std.proofs.lemmas.List.{length-append}
+use Rattle.std.proofs.{Common.{◌≡◌, ℤ, List, [], ◌∷◌, ◌++◌, drop, take, rules, Ok, ◌∙◌, sym, ap, arith}, lemmas.Int.{to_z-of_z}, lemmas.List.{length-append}}
 use Rattle.std.proofs.lemmas.Result.{err_from_is_err_and}
+use Rattle.std.specs.Int.{w128}
 use Rattle.rio_num.specs.Meanings.{read}
 use Rattle.rio_buffer.specs.Frames.{Step}
 use Rattle.rio_machine.specs.Rows.{leaf_kind}
 use Rattle.rio_value.specs.declared.value.Value.{Value, Int}
-use Rattle.rio_entry.specs.Entries.{counter_saying, given_count, said_count}
-use Rattle.rio_entry.specs.Leaves.{kind_layout, numbers_after, number_of_value}
+use Rattle.rio_entry.specs.{Entries.{counter_saying, given_count, said_count}, Leaves.{kind_layout, numbers_after, number_of_value}}
 use Rattle.rio_entry.proofs.LeafNumbers.{numbers_done, numbers_fail, numbers_go_on}
 use Rattle.rio_entry.proofs.check_leaves.pass_counting.Goals as goal
 

@@ -1,5 +1,4 @@
-use Rattle.std.proofs.Common.{arith}
-use Rattle.std.proofs.lemmas.Result.{err_from_is_err_and}
+use Rattle.std.proofs.{Common.{arith}, lemmas.Result.{err_from_is_err_and}}
 use Rattle.rio_entry.proofs.LeafPasses.{list_breaks, list_is_passed}
 use Rattle.rio_entry.proofs.check_leaves.pass_list.Goals as goal
 

@@ -1,9 +1,7 @@
-use Rattle.std.proofs.Common.{◌≡◌, ℤ, [], drop, take, true, false, rules, ◌∙◌, sym, ap, arith}
+use Rattle.std.proofs.{Common.{◌≡◌, ℤ, [], drop, take, true, false, rules, ◌∙◌, sym, ap, arith}, lemmas.Int.{to_z-of_z}}
 use Rattle.std.specs.Int.{w128}
-use Rattle.std.proofs.lemmas.Int.{to_z-of_z}
 use Rattle.rio_machine.specs.Rows.{leaf_kind}
-use Rattle.rio_entry.specs.Entries.{counter_saying, said_count}
-use Rattle.rio_entry.specs.Leaves.{entry_kind, kind_fits, numbers_after}
+use Rattle.rio_entry.specs.{Entries.{counter_saying, said_count}, Leaves.{entry_kind, kind_fits, numbers_after}}
 use Rattle.rio_entry.proofs.LeafBytes.{fits_fail, fits_go_on, too_few}
 use Rattle.rio_entry.proofs.fit.leaves_fit.Goals as goal
 

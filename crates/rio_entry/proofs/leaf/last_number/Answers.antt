@@ -1,7 +1,5 @@
-use Rattle.std.proofs.Common.{◌+◌, ℤ, Option, Some, cond, [], drop, rules, ◌∙◌, sym, ap, arith}
-use Rattle.std.specs.Int.{w128}
-use Rattle.std.proofs.lemmas.Int.{to_z-of_z}
-use Rattle.std.specs.Str.{bytes_eq}
+use Rattle.std.proofs.{Common.{◌+◌, ℤ, Option, Some, cond, [], drop, rules, ◌∙◌, sym, ap, arith}, lemmas.Int.{to_z-of_z}}
+use Rattle.std.specs.{Int.{w128}, Str.{bytes_eq}}
 use Rattle.rio_entry.specs.Leaves.{last_number}
 use Rattle.rio_entry.proofs.Counting.{last_done, last_goes_on, last_is}
 use Rattle.rio_entry.proofs.leaf.last_number.Goals as goal

@@ -1,12 +1,8 @@
-use Rattle.std.proofs.Common.{◌≤◌, ◌∙◌, ℤ, cond, List, length, Option, Some, sym, ap, arith, rules, ℕ}
-use Rattle.std.specs.Int.{w128}
-use Rattle.std.specs.Map.{lookup}
-use Rattle.std.specs.Str.{bytes_eq}
-use Rattle.std.proofs.lemmas.Bool.{ltb-false, ltb-true}
+use Rattle.std.proofs.{Common.{◌≤◌, ◌∙◌, ℤ, cond, List, length, Option, Some, sym, ap, arith, rules, ℕ}, lemmas.Bool.{ltb-false, ltb-true}}
 use Rattle.std.proofs.lemmas.Int.{to_z-of_z}
-use Rattle.rio_value.specs.Accessors.{number_in}
-use Rattle.rio_format.specs.Counts.{number_in_map}
-use Rattle.rio_value.specs.declared.value.Value.{out-Value}
+use Rattle.std.specs.{Int.{w128}, Map.{lookup}, Str.{bytes_eq}}
+use Rattle.rio_value.specs.{Accessors.{number_in}, declared.value.Value.{out-Value}}
+use Rattle.rio_format.specs.Counts.{number_by_name}
 use Rattle.rio_entry.specs.Leaves.{numbers_with}
 use Rattle.rio_entry.proofs.RowReads.{noted_all, noted_next, noted_past}
 use Rattle.rio_entry.proofs.numbers.note_leaves.Goals as goal
@@ -35,8 +31,8 @@ loop-k-preserved c = λ before says.
     let own : Option ℤ = Some n in (
       numbers_with l v i.0,
       (λ q. c.in_ok-put_number-in-Some.ensures q
-          ∙ ap (λ (z : ℤ). cond (bytes_eq q c.as_slice.result.now) (Some z) (number_in_map c.loop-k.numbers q)) said
-          ∙ ap (λ (name : List ℕ). cond (bytes_eq q name) own (number_in_map c.loop-k.numbers q)) c.as_slice.ensures
+          ∙ ap (λ (z : ℤ). cond (bytes_eq q c.as_slice.result.now) (Some z) (number_by_name c.loop-k.numbers q)) said
+          ∙ ap (λ (name : List ℕ). cond (bytes_eq q name) own (number_by_name c.loop-k.numbers q)) c.as_slice.ensures
           ∙ ap (λ (o : Option ℤ). cond (bytes_eq q l.name) own o) (i.1 q)),
       noted_next c.args.leaves.now c.args.values.now c.loop-k.k i.0 _ l v (omega arith) there c.index-leaves-k.is c.in-Some.ensures.lookup.1 i.2,
     )

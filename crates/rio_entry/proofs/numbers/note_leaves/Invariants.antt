@@ -1,6 +1,5 @@
 use Rattle.std.proofs.Common.{◌≡◌, drop}
-use Rattle.rio_format.specs.Bodies.{Counters}
-use Rattle.rio_format.specs.Counts.{SaysAsFirst}
+use Rattle.rio_format.specs.{Bodies.{Counters}, Counts.{SaysAsFirst}}
 use Rattle.rio_entry.specs.Leaves.{numbers_after}
 use Rattle.rio_entry.proofs.numbers.note_leaves.Given as goal
 

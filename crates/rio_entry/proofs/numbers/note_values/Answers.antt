@@ -1,9 +1,7 @@
 use Rattle.std.proofs.Common.{◌∙◌, List, subst, sym, ap}
 use Rattle.std.specs.Prelude.{OnOk}
-use Rattle.rio_leaf.specs.declared.branch.Shape.{Shape}
-use Rattle.rio_leaf.specs.declared.leaf.Leaf.{Leaf}
-use Rattle.rio_format.specs.Bodies.{Counters}
-use Rattle.rio_format.specs.Counts.{SaysAsFirst}
+use Rattle.rio_leaf.specs.{declared.branch.Shape.{Shape}, declared.leaf.Leaf.{Leaf}}
+use Rattle.rio_format.specs.{Bodies.{Counters}, Counts.{SaysAsFirst}}
 use Rattle.rio_machine.specs.Rows.{leaf_numbers_after, shape_columns}
 use Rattle.rio_entry.specs.Leaves.{numbers_after}
 use Rattle.rio_entry.proofs.RowReads.{numbers_as_columns}

@@ -1,10 +1,10 @@
-use Rattle.std.proofs.Common.{rules, ℕ, List, SFits, sym, subst}
-use Rattle.std.proofs.lemmas.Int.{to_z-of_z}
+use Rattle.std.proofs.{Common.{rules, ℕ, List, SFits, sym, subst}, lemmas.Int.{to_z-of_z}}
 use Rattle.std.specs.Int.{w128}
 use Rattle.rio_format.specs.Written.{just}
+use Rattle.rio_format.proofs.ValueCases.{out_int}
 use Rattle.rio_write.specs.Sinks.{Accepted}
 use Rattle.rio_write.proofs.SinkLaws.{nothing_accepted}
-use Rattle.rio_entry.proofs.PutValues.{nothing_single, out_bits32, out_bits64, out_int, out_truth}
+use Rattle.rio_entry.proofs.PutValues.{nothing_single, out_bits32, out_bits64, out_truth}
 use Rattle.rio_entry.proofs.put.put_single.Goals as goal
 
 pub returns-in-Int : goal.returns-in-Int

@@ -1,13 +1,10 @@
-use Rattle.std.proofs.Common.{ℤ, List, [], ◌∷◌, drop, take, rules, ◌∙◌, sym, ap, arith}
-use Rattle.std.specs.Int.{w128}
-use Rattle.std.proofs.lemmas.Int.{to_z-of_z}
-use Rattle.std.proofs.lemmas.List.{length-append}
+use Rattle.std.proofs.{Common.{ℤ, List, [], ◌∷◌, drop, take, rules, ◌∙◌, sym, ap, arith}, lemmas.Int.{to_z-of_z}, lemmas.List.{length-append}}
 use Rattle.std.proofs.lemmas.Result.{err_from_is_err_and}
+use Rattle.std.specs.Int.{w128}
 use Rattle.rio_num.specs.Meanings.{read}
 use Rattle.rio_machine.specs.Rows.{leaf_kind}
 use Rattle.rio_value.specs.declared.value.Value.{Value}
-use Rattle.rio_entry.specs.Entries.{counter_saying, given_count, said_count}
-use Rattle.rio_entry.specs.Leaves.{kind_layout, numbers_after}
+use Rattle.rio_entry.specs.{Entries.{counter_saying, given_count, said_count}, Leaves.{kind_layout, numbers_after}}
 use Rattle.rio_entry.proofs.LeafReads.{leaves_done, leaves_fail, leaves_go_on}
 use Rattle.rio_entry.proofs.read_leaves.read_leaves.Goals as goal
 

@@ -1,5 +1,4 @@
-use Rattle.std.proofs.Common.{arith}
-use Rattle.std.proofs.lemmas.Result.{err_from_is_err_and}
+use Rattle.std.proofs.{Common.{arith}, lemmas.Result.{err_from_is_err_and}}
 use Rattle.rio_entry.proofs.Totals.{list_fails, list_is_read}
 use Rattle.rio_entry.proofs.read_leaves.read_list.Goals as goal
 

@@ -1,7 +1,6 @@
 use Rattle.std.proofs.Common.{◌≡◌, ◌+◌, drop, map}
 use Rattle.std.specs.Option.{option_map}
-use Rattle.rio_format.specs.Bodies.{Counters}
-use Rattle.rio_format.specs.Counts.{SaysAsFirst}
+use Rattle.rio_format.specs.{Bodies.{Counters}, Counts.{SaysAsFirst}}
 use Rattle.rio_entry.specs.Rows.{broken_branch, broken_from}
 use Rattle.rio_entry.proofs.row.broken_branch.Given as goal
 

@@ -1,12 +1,9 @@
-use Rattle.std.proofs.Common.{◌≡◌, ℕ, List, [], ◌∷◌, true, Result, Ok, ◌∙◌, sym, ap, arith, refl}
+use Rattle.std.proofs.{Common.{◌≡◌, ℕ, List, [], ◌∷◌, true, Result, Ok, ◌∙◌, sym, ap, arith, refl}, lemmas.Result.{err_from_is_err_and}}
 use Rattle.rio_num.specs.Room.{Room}
 use Rattle.rio_leaf.specs.declared.branch.Shape.TheVariants.{Class}
-use Rattle.rio_format.specs.Fits.{fits}
-use Rattle.rio_format.specs.Written.{written_form}
-use Rattle.rio_entry.proofs.Answered.{too_long, written}
-use Rattle.rio_entry.proofs.ClassBytes.{object_bytes, object_fits}
+use Rattle.rio_format.specs.{Fits.{fits}, Written.{written_form}}
+use Rattle.rio_entry.proofs.{Answered.{too_long, written}, ClassBytes.{object_bytes, object_fits}}
 use Rattle.rio_entry.specs.declared.fault.EntryFault.{EntryFault}
-use Rattle.std.proofs.lemmas.Result.{err_from_is_err_and}
 use Rattle.rio_entry.proofs.write.write_value.Goals as goal
 
 pub returns-then-branch-gt-LIMIT : goal.returns-then-branch-gt-LIMIT

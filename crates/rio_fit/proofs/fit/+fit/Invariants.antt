@@ -1,6 +1,5 @@
 use Rattle.std.proofs.Common.{◌≡◌, map, drop, []}
-use Rattle.rio_format.specs.Fits.{all_fit, fields_fit, fitting_of}
-use Rattle.rio_fit.specs.Fitting.{part_fitting}
+use Rattle.rio_format.specs.Fits.{all_fit, fields_fit, fitting_of, part_fitting}
 use Rattle.rio_fit.proofs.fit.+fit.Given as goal
 
 abbrev pub invariant-all_fit-loop-item : goal.invariant-all_fit-loop-item

@@ -1,5 +1,4 @@
-use Rattle.std.proofs.Common.{rules, refl, SFits, w32}
-use Rattle.std.proofs.lemmas.Int.{to_z-of_z}
+use Rattle.std.proofs.{Common.{rules, refl, SFits, w32}, lemmas.Int.{to_z-of_z}}
 use Rattle.rio_format.specs.Fits.{fitting_of}
 use Rattle.rio_fit.proofs.FitLaws.{counter_noted}
 use Rattle.rio_fit.proofs.fit.counter_fits.Goals as goal

@@ -1,5 +1,4 @@
-use Rattle.rio_format.specs.Bases.{Expanded}
-use Rattle.rio_format.specs.Lists.{listed}
+use Rattle.rio_format.specs.{Bases.{Expanded}, Lists.{listed}}
 use Rattle.rio_format.proofs.bases.expand_round.Given as goal
 
 abbrev pub invariant-loop-k : goal.invariant-loop-k

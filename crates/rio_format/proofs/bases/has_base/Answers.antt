@@ -1,7 +1,5 @@
-use Rattle.std.proofs.Common.{◌∙◌, ◌≡◌, ◌-◌, ℕ, suc, length, subst, sym, arith, ap, length-append}
-use Rattle.std.proofs.lemmas.Int.{to_z-of_z}
-use Rattle.rio_format.specs.Bases.{Expanded, HaveVisitedBases, any_below}
-use Rattle.rio_format.specs.Lists.{listed}
+use Rattle.std.proofs.{Common.{◌∙◌, ◌≡◌, ◌-◌, ℕ, suc, length, subst, sym, arith, ap, length-append}, lemmas.Int.{to_z-of_z}}
+use Rattle.rio_format.specs.{Bases.{Expanded, HaveVisitedBases, any_below}, Lists.{listed}}
 use Rattle.rio_format.proofs.BaseLaws.{direct_below, none_below, nothing_below, whole_round}
 use Rattle.rio_format.proofs.bases.has_base.Goals as goal
 

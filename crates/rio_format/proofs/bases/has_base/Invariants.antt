@@ -1,7 +1,5 @@
 use Rattle.std.proofs.Common.{◌≡◌, ◌≤◌, length}
-use Rattle.rio_format.specs.Slots.{has_base}
-use Rattle.rio_format.specs.Bases.{HaveVisitedBases, any_below}
-use Rattle.rio_format.specs.Lists.{listed}
+use Rattle.rio_format.specs.{Slots.{has_base}, Bases.{HaveVisitedBases, any_below}, Lists.{listed}}
 use Rattle.rio_format.proofs.bases.has_base.Given as goal
 
 abbrev pub invariant-loop-left : goal.invariant-loop-left

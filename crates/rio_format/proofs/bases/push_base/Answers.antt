@@ -1,5 +1,4 @@
-use Rattle.std.proofs.Common.{sym}
-use Rattle.std.proofs.lemmas.Int.{to_z-of_z}
+use Rattle.std.proofs.{Common.{sym}, lemmas.Int.{to_z-of_z}}
 use Rattle.rio_format.specs.Visits.{base_of}
 use Rattle.rio_format.proofs.BaseLaws.{pushed_visit}
 use Rattle.rio_format.proofs.bases.push_base.Goals as goal

@@ -1,5 +1,4 @@
-use Rattle.std.proofs.Common.{arith}
-use Rattle.std.proofs.lemmas.Int.{to_z-of_z}
+use Rattle.std.proofs.{Common.{arith}, lemmas.Int.{to_z-of_z}}
 use Rattle.rio_format.proofs.BaseLaws.{pushed_more}
 use Rattle.rio_format.proofs.bases.push_bases.Goals as goal
 

@@ -1,6 +1,5 @@
 use Rattle.std.proofs.Common.{◌≡◌, ap, sym, ◌∙◌}
-use Rattle.rio_format.specs.Bodies.{described, t_named}
-use Rattle.rio_format.specs.BodyKinds.{body_of_kind}
+use Rattle.rio_format.specs.{Bodies.{described, t_named}, BodyKinds.{body_of_kind}}
 use Rattle.rio_format.proofs.bases.push_body.Goals as goal
 
 pub returns-in-Named-clause-pushed : goal.returns-in-Named-clause-pushed

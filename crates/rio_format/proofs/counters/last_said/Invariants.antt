@@ -1,6 +1,5 @@
 use Rattle.std.proofs.Common.{◌≡◌, take}
-use Rattle.std.specs.Map.{lookup}
-use Rattle.std.specs.Str.{bytes_eq}
+use Rattle.std.specs.{Map.{lookup}, Str.{bytes_eq}}
 use Rattle.rio_format.specs.Counts.{last_first}
 use Rattle.rio_format.proofs.counters.last_said.Given as goal
 

@@ -1,5 +1,4 @@
-use Rattle.std.proofs.Common.{refl}
-use Rattle.std.proofs.lemmas.Int.{to_z-of_z}
+use Rattle.std.proofs.{Common.{refl}, lemmas.Int.{to_z-of_z}}
 use Rattle.rio_format.proofs.ListLaws.{find_in-append}
 use Rattle.rio_format.proofs.lists.find_in_two.Goals as goal
 

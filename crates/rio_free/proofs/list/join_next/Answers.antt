@@ -1,7 +1,6 @@
 use Rattle.std.proofs.Common.{◌∙◌, ℕ, List, ap, sym}
 use Rattle.std.specs.List.{slice_get}
-use Rattle.rio_free.specs.Gaps.{length_at}
-use Rattle.rio_free.specs.declared.gap.Gap.{Gap}
+use Rattle.rio_free.specs.{Gaps.{length_at}, declared.gap.Gap.{Gap}}
 use Rattle.rio_free.proofs.Given.{join_none, join_removed}
 use Rattle.rio_free.proofs.list.join_next.Goals as goal
 

@@ -1,7 +1,5 @@
 use Rattle.std.proofs.Common.{◌≡◌, ◌+◌, ◌-◌, None, length, get_or, ap, arith, ◌∙◌}
-use Rattle.rio_free.specs.declared.entry.FreeEntry.{FreeEntry}
-use Rattle.rio_free.specs.EntryList.{gap_of_entry}
-use Rattle.rio_free.specs.Gaps.{FreeGaps, given}
+use Rattle.rio_free.specs.{declared.entry.FreeEntry.{FreeEntry}, EntryList.{gap_of_entry}, Gaps.{FreeGaps, given}}
 use Rattle.rio_free.proofs.EntryGaps.{in_order_at, next_apart, next_given}
 use Rattle.rio_free.proofs.read.gaps_of.Goals as goal
 

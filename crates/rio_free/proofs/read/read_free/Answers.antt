@@ -1,7 +1,6 @@
 use Rattle.std.proofs.Common.{◌≡◌, ◌+◌, ◌-◌, ◌<◌, ◌^◌, List, None, length, sym, subst, ◌∙◌, ap}
 use Rattle.std.specs.List.{All}
-use Rattle.rio_free.specs.declared.entry.FreeEntry.{FreeEntry}
-use Rattle.rio_free.specs.EntryList.{AreEntriesAbove, inner_entries}
+use Rattle.rio_free.specs.{declared.entry.FreeEntry.{FreeEntry}, EntryList.{AreEntriesAbove, inner_entries}}
 use Rattle.rio_free.proofs.EntryGaps.{above_front, inner_fit}
 use Rattle.rio_free.proofs.read.read_free.Goals as goal
 

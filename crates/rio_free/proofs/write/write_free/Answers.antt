@@ -1,10 +1,8 @@
 use Rattle.std.proofs.Common.{◌+◌, ◌*◌, ◌<◌, length, ap, arith}
 use Rattle.rio_num.specs.Room.{Room}
 use Rattle.rio_free.specs.Record.{end_entry, entry_bytes, free_bytes, gaps_bytes}
-use Rattle.rio_free.proofs.Order.{all_some}
+use Rattle.rio_free.proofs.{Order.{all_some}, Puts.{refuses}, Written.{length-free, length-gaps}}
 use Rattle.rio_num.proofs.Puts.{puts_then, puts_reserved}
-use Rattle.rio_free.proofs.Puts.{refuses}
-use Rattle.rio_free.proofs.Written.{length-free, length-gaps}
 use Rattle.rio_free.proofs.write.write_free.Goals as goal
 
 pub put_gaps-requires-clause-some : goal.put_gaps-requires-clause-some

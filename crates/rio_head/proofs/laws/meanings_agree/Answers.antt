@@ -1,6 +1,5 @@
 use Rattle.rio_num.proofs.Agree.{agrees}
-use Rattle.rio_head.specs.Dir.{dir_layout}
-use Rattle.rio_head.specs.Head.{header_layout}
+use Rattle.rio_head.specs.{Dir.{dir_layout}, Head.{header_layout}}
 use Rattle.rio_head.proofs.laws.meanings_agree.Goals as goal
 
 pub returns-clause-header : goal.returns-clause-header

@@ -1,7 +1,5 @@
 use Rattle.std.proofs.Common.{◌++◌, replicate, if◌then◌else◌, append_assoc}
-use Rattle.rio_head.specs.Form.{is_large_dir}
-use Rattle.rio_head.specs.Dir.{dir_bytes}
-use Rattle.rio_head.specs.Written.{written_dir}
+use Rattle.rio_head.specs.{Form.{is_large_dir}, Dir.{dir_bytes}, Written.{written_dir}}
 use Rattle.rio_head.proofs.DirLaws.{dir_only}
 use Rattle.rio_head.proofs.laws.written_dir_is_read.Goals as goal
 

@@ -1,7 +1,5 @@
 use Rattle.std.proofs.Common.{◌++◌, replicate, if◌then◌else◌, append_assoc}
-use Rattle.rio_head.specs.Form.{is_large_head}
-use Rattle.rio_head.specs.Head.{head_bytes}
-use Rattle.rio_head.specs.Written.{written_head}
+use Rattle.rio_head.specs.{Form.{is_large_head}, Head.{head_bytes}, Written.{written_head}}
 use Rattle.rio_head.proofs.HeadAgain.{head_only}
 use Rattle.rio_head.proofs.laws.written_head_is_read.Goals as goal
 

@@ -1,6 +1,5 @@
 use Rattle.std.proofs.Common.{◌≡◌, ◌++◌, length, replicate, if◌then◌else◌, rules}
-use Rattle.rio_head.specs.Form.{is_large_head}
-use Rattle.rio_head.specs.Written.{front_bytes, back_bytes}
+use Rattle.rio_head.specs.{Form.{is_large_head}, Written.{front_bytes, back_bytes}}
 use Rattle.rio_num.proofs.Puts.{puts_then, puts_reserved}
 use Rattle.rio_head.proofs.Lengths.{length-head, head_parts}
 use Rattle.rio_head.proofs.write.write_head.Goals as goal

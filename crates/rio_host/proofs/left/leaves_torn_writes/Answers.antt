@@ -1,7 +1,6 @@
 use Rattle.std.proofs.Common.{◌≡◌, inl, ℕ, Option, List, [], ◌∷◌, Some, refl, ◌∙◌, ap, arith}
 use Rattle.std.specs.List.{slice_get}
-use Rattle.rio_host.specs.Left.{three_written}
-use Rattle.rio_host.specs.ReplayLaws.{left_now}
+use Rattle.rio_host.specs.{Left.{three_written}, ReplayLaws.{left_now}}
 use Rattle.rio_host.proofs.left.leaves_torn_writes.Goals as goal
 
 pub returns-clause-outside : goal.returns-clause-outside

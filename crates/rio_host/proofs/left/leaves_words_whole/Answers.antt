@@ -1,8 +1,6 @@
 use Rattle.std.proofs.Common.{◌≡◌, ⊎_elim, ℕ, List, [], ◌∷◌, Some, refl, ◌∙◌, ap}
 use Rattle.std.specs.List.{slice_get}
-use Rattle.rio_host.specs.Image.{Put}
-use Rattle.rio_host.specs.Left.{word_written}
-use Rattle.rio_host.specs.ReplayLaws.{left_now}
+use Rattle.rio_host.specs.{Image.{Put}, Left.{word_written}, ReplayLaws.{left_now}}
 use Rattle.rio_host.proofs.left.leaves_words_whole.Goals as goal
 
 abbrev zeros : List ℕ

@@ -1,6 +1,5 @@
 use Rattle.std.proofs.Common.{◌≡◌, ◌∙◌, ℕ, ◌+◌, ◌-◌, ◌<◌, ◌≤◌, List, length, Option, Some, slice_get, slice_index_or, sym, ap, arith}
-use Rattle.std.proofs.lemmas.Bool.{ltb-false, ltb-true}
-use Rattle.std.proofs.lemmas.Option.{slice_get-get_or, slice_get_past}
+use Rattle.std.proofs.{lemmas.Bool.{ltb-false, ltb-true}, lemmas.Option.{slice_get-get_or, slice_get_past}}
 use Rattle.std.specs.Option.{option_map}
 use Rattle.rio_tree_head.specs.declared.basket_at.BasketAt.{BasketAt}
 use Rattle.rio_index.specs.Scan.{first_behind}

@@ -1,5 +1,4 @@
-use Rattle.std.proofs.Common.{◌≡◌, append_assoc, arith, of_z, to_z, w32}
-use Rattle.std.proofs.lemmas.Int.{to_z-of_z}
+use Rattle.std.proofs.{Common.{◌≡◌, append_assoc, arith, of_z, to_z, w32}, lemmas.Int.{to_z-of_z}}
 use Rattle.rio_info.proofs.element_value.with_counter.Goals as goal
 
 pub returns : goal.returns

@@ -1,7 +1,7 @@
 use Rattle.std.proofs.Common.{sym, ◌∙◌}
 use Rattle.rio_info.proofs.MemberLaws.{done, goes_on, passes}
-use Rattle.rio_info.proofs.members.members_of.Goals as goal
 use Rattle.rio_info.proofs.members.members_of.Goals.{then-not-is_base+in_ok-member_of+in_ok-push+in_ok-note_counter, else-not-is_base}
+use Rattle.rio_info.proofs.members.members_of.Goals as goal
 
 pub loop-item-preserved : goal.loop-item-preserved
 loop-item-preserved c =

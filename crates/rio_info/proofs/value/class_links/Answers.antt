@@ -1,11 +1,8 @@
 use Rattle.std.proofs.Common.{◌≡◌, ◌+◌, ℕ, List, [], ◌∷◌, ◌++◌, length, drop, slice_get, suc, Some, sym, ap, ◌∙◌, append_assoc, arith}
-use Rattle.rio_types.specs.declared.class.Base.{Base}
-use Rattle.rio_types.specs.declared.class.ClassDef.{ClassDef}
-use Rattle.rio_types.specs.declared.class.Member.{Member}
+use Rattle.rio_types.specs.{declared.class.Base.{Base}, declared.class.ClassDef.{ClassDef}, declared.class.Member.{Member}}
 use Rattle.rio_types.proofs.ChainLaws.{drop_at}
 use Rattle.rio_value.specs.declared.value.Value.{Value}
-use Rattle.rio_format.specs.Lists.{listed}
-use Rattle.rio_format.specs.WrittenList.{class_links, class_pointer, label_count, linked}
+use Rattle.rio_format.specs.{Lists.{listed}, WrittenList.{class_links, class_pointer, label_count, linked}}
 use Rattle.rio_info.proofs.value.class_links.Goals as goal
 
 module _ (classes : List ClassDef) (links : List Value) (label k : ℕ) (c : ClassDef) (at : slice_get classes k ≡ Some c) (so_far : links ++ class_links classes label (drop k classes) ≡ class_links classes 0 classes) where

@@ -1,6 +1,5 @@
 use Rattle.std.proofs.Common.{◌≡◌, ◌++◌, drop}
-use Rattle.rio_format.specs.Lists.{listed}
-use Rattle.rio_format.specs.WrittenList.{class_links}
+use Rattle.rio_format.specs.{Lists.{listed}, WrittenList.{class_links}}
 use Rattle.rio_info.proofs.value.class_links.Given as goal
 
 abbrev pub invariant-loop-k : goal.invariant-loop-k

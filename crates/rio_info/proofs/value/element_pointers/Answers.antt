@@ -1,21 +1,9 @@
-use Rattle.std.proofs.Common.{◌≡◌, ◌+◌, ℕ, List, [], ◌∷◌, ◌++◌, length, map, refl, ap, ◌∙◌, arith}
-use Rattle.std.proofs.lemmas.List.{length-map, map-append}
+use Rattle.std.proofs.{Common.{◌≡◌, ◌+◌, ℕ, List, ◌++◌, length, map, refl, arith}, lemmas.List.{length-map, map-append}}
 use Rattle.rio_types.specs.declared.class.ClassDef.{ClassDef}
-use Rattle.rio_value.specs.declared.value.Value.{Value, Pointed}
-use Rattle.rio_format.specs.Lists.{listed}
-use Rattle.rio_format.specs.WrittenElements.{base_element, member_element, written_elements}
-use Rattle.rio_format.specs.WrittenList.{element_object, pointers_from}
+use Rattle.rio_value.specs.declared.value.Value.{Value}
+use Rattle.rio_format.specs.{Lists.{listed}, WrittenElements.{base_element, member_element, written_elements}, WrittenList.{element_object, pointers_from}}
+use Rattle.rio_model.proofs.PointerLaws.{pointers_from-append}
 use Rattle.rio_info.proofs.value.element_pointers.Goals as goal
-
--- pointers to objects, and to others behind them
-pointers_behind : (label : ℕ) (vs ws : List Value) → pointers_from label (vs ++ ws) ≡ pointers_from label vs ++ pointers_from (label + length vs) ws
-unfolding pointers_from
-pointers_behind label [] ws =
-    let here : label ≡ label + length {A = Value} [] = omega arith in
-    ap (λ (n : ℕ). pointers_from n ws) here
-pointers_behind label (v ∷ vs) ws =
-    let next : label + 1 + length vs ≡ label + length (v ∷ vs) = omega arith in
-    ap (λ (ps : List Value). Pointed label v ∷ ps) (pointers_behind (label + 1) vs ws ∙ ap (λ (n : ℕ). pointers_from (label + 1) vs ++ pointers_from n ws) next)
 
 module _ (classes : List ClassDef) (class : ClassDef) (first behind : ℕ) (is : behind ≡ first + length class.bases) where
   abbrev bases : List Value
@@ -29,7 +17,7 @@ module _ (classes : List ClassDef) (class : ClassDef) (first behind : ℕ) (is :
   all_pointers =
       let len : first + length bases ≡ behind = omega (arith, is, length-map (map base_element class.bases) element_object, length-map class.bases base_element) in
       let whole = map-append element_object (map base_element class.bases) (map (member_element classes class) class.members) in
-      rw (whole, pointers_behind first bases members, len) refl
+      rw (whole, pointers_from-append first bases members, len) refl
 
 pub returns : goal.returns
 returns c =

@@ -1,5 +1,4 @@
-use Rattle.std.proofs.Common.{◌≡◌, arith, of_z, to_z, w32}
-use Rattle.std.proofs.lemmas.Int.{to_z-of_z}
+use Rattle.std.proofs.{Common.{◌≡◌, arith, of_z, to_z, w32}, lemmas.Int.{to_z-of_z}}
 use Rattle.rio_format.specs.WrittenList.{info_object}
 use Rattle.rio_info.proofs.value.info_object.Goals as goal
 

@@ -1,6 +1,5 @@
 use Rattle.std.proofs.Common.{◌≡◌, ◌++◌, drop, map}
-use Rattle.rio_format.specs.WrittenElements.{base_element}
-use Rattle.rio_format.specs.WrittenList.{element_object, pointers_from}
+use Rattle.rio_format.specs.{WrittenElements.{base_element}, WrittenList.{element_object, pointers_from}}
 use Rattle.rio_info.proofs.value.put_bases.Given as goal
 
 abbrev pub invariant-loop-base : goal.invariant-loop-base

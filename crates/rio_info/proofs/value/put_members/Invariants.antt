@@ -1,7 +1,5 @@
 use Rattle.std.proofs.Common.{◌≡◌, ◌++◌, drop, map}
-use Rattle.rio_format.specs.Lists.{listed}
-use Rattle.rio_format.specs.WrittenElements.{member_element}
-use Rattle.rio_format.specs.WrittenList.{element_object, pointers_from}
+use Rattle.rio_format.specs.{Lists.{listed}, WrittenElements.{member_element}, WrittenList.{element_object, pointers_from}}
 use Rattle.rio_info.proofs.value.put_members.Given as goal
 
 abbrev pub invariant-loop-member : goal.invariant-loop-member

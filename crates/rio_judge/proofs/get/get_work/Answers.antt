@@ -1,11 +1,7 @@
 use Rattle.std.proofs.Common.{◌<◌, ℕ, Option, None, Ok, Err, sym, subst, arith}
-use Rattle.rio_machine.specs.declared.command.Command.TheVariants.{Get}
-use Rattle.rio_machine.specs.declared.refusal.Refusal.TheVariants.{NoSuchCycle}
-use Rattle.rio_judge.specs.Stops.{GoesByState}
-use Rattle.rio_judge.specs.declared.stop.Stop.TheVariants.{Refused}
-use Rattle.rio_judge.specs.declared.work.Work.TheVariants.{Get as Telling}
-use Rattle.rio_judge.proofs.GetTests.{no_cycle, no_name, tells_cycle, tells_newest}
-use Rattle.rio_judge.proofs.KeysOfState.{first_is_there, none_above_first}
+use Rattle.rio_machine.specs.{declared.command.Command.TheVariants.{Get}, declared.refusal.Refusal.TheVariants.{NoSuchCycle}}
+use Rattle.rio_judge.specs.{Stops.{GoesByState}, declared.stop.Stop.TheVariants.{Refused}, declared.work.Work.TheVariants.{Get as Telling}}
+use Rattle.rio_judge.proofs.{GetTests.{no_cycle, no_name, tells_cycle, tells_newest}, KeysOfState.{first_is_there, none_above_first}}
 use Rattle.rio_judge.proofs.get.get_work.Goals as goal
 
 pub returns-in_default-clause-answers : goal.returns-in_default-clause-answers

@@ -1,9 +1,6 @@
 use Rattle.std.proofs.Common.{Ok, Err, rules, sym, subst}
-use Rattle.rio_machine.specs.declared.command.Command.{Command}
-use Rattle.rio_machine.specs.declared.refusal.Refusal.TheVariants.{BadLine}
-use Rattle.rio_judge.specs.Stops.{GoesByState}
-use Rattle.rio_judge.specs.declared.stop.Stop.TheVariants.{Refused}
-use Rattle.rio_judge.specs.declared.work.Work.TheVariants.{Ls as Listing}
+use Rattle.rio_machine.specs.{declared.command.Command.{Command}, declared.refusal.Refusal.TheVariants.{BadLine}}
+use Rattle.rio_judge.specs.{Stops.{GoesByState}, declared.stop.Stop.TheVariants.{Refused}, declared.work.Work.TheVariants.{Ls as Listing}}
 use Rattle.rio_judge.proofs.GetTests.{bad_line_refused, list_accepted}
 use Rattle.rio_judge.proofs.judging.work_of.Goals as goal
 

@@ -1,12 +1,9 @@
-use Rattle.std.proofs.Common.{◌≡◌, ℕ, List, None, subst}
-use Rattle.std.proofs.lemmas.Result.{err_from_is_err_and}
+use Rattle.std.proofs.{Common.{◌≡◌, ℕ, List, None, subst}, lemmas.Result.{err_from_is_err_and}}
 use Rattle.rio_step.specs.Refusing.{first_of}
-use Rattle.rio_judge.specs.Stops.{StopsAt}
+use Rattle.rio_judge.specs.{Stops.{StopsAt}, Judging.{CanBeStored}}
 use Rattle.rio_judge.proofs.PutTests.{own_length_tests, stopped, stops_at_class, stops_at_counts, stops_at_cycle, stops_at_fit, stops_at_length, stops_at_name}
-use Rattle.rio_judge.proofs.PutLaws.{can_be_stored, put_answers}
-use Rattle.rio_judge.specs.Judging.{CanBeStored}
+use Rattle.rio_judge.proofs.{PutLaws.{can_be_stored, put_answers}, put.put_work.Goals.{In_ok-check_counts}}
 use Rattle.rio_judge.proofs.put.put_work.Goals as goal
-use Rattle.rio_judge.proofs.put.put_work.Goals.{In_ok-check_counts}
 
 pub returns-in_err-check_name-clause-answers : goal.returns-in_err-check_name-clause-answers
 returns-in_err-check_name-clause-answers c =

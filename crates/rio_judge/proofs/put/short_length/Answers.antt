@@ -1,7 +1,6 @@
 use Rattle.std.proofs.Common.{[], ◌∷◌, length, ap, arith}
 use Rattle.rio_format.specs.Written.{written_form}
-use Rattle.rio_machine.specs.Limits.{head_length}
-use Rattle.rio_machine.specs.declared.refusal.Refusal.TheVariants.{TooLarge}
+use Rattle.rio_machine.specs.{Limits.{head_length}, declared.refusal.Refusal.TheVariants.{TooLarge}}
 use Rattle.rio_step.specs.Refusing.{first_of, refused_if}
 use Rattle.rio_judge.proofs.LengthLaws.{short_told, too_long_told, whole_size}
 use Rattle.rio_judge.proofs.put.short_length.Goals as goal

@@ -1,8 +1,6 @@
 use Rattle.std.proofs.Common.{Err, sym, ap, ◌∙◌}
-use Rattle.rio_num.specs.At.{At}
-use Rattle.rio_num.specs.Plain.{value_of}
-use Rattle.rio_key.specs.BasketHead.{basket_head_at}
-use Rattle.rio_key.specs.declared.fault.KeyFault.{KeyFault}
+use Rattle.rio_num.specs.{At.{At}, Plain.{value_of}}
+use Rattle.rio_key.specs.{BasketHead.{basket_head_at}, declared.fault.KeyFault.{KeyFault}}
 use Rattle.rio_key.proofs.BasketFrontLaws.{head_within, whole}
 use Rattle.rio_key.proofs.basket_head.head_within.Goals as goal
 

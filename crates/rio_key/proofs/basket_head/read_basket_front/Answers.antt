@@ -1,12 +1,8 @@
-use Rattle.std.proofs.Common.{◌≡◌, ℕ, Result, Ok, sym, ap, ◌∙◌, ◌+◌, ◌-◌, ◌≤◌, length, arith}
-use Rattle.std.proofs.lemmas.Result.{err_from_is_err_and}
+use Rattle.std.proofs.{Common.{◌≡◌, ℕ, Result, Ok, sym, ap, ◌∙◌, ◌+◌, ◌-◌, ◌≤◌, length, arith}, lemmas.Result.{err_from_is_err_and}}
 use Rattle.rio_num.specs.At.{At}
 use Rattle.rio_num.proofs.Plain.{standing}
-use Rattle.rio_key.specs.Key.{key_head_at}
-use Rattle.rio_key.specs.declared.basket_head.BasketFront.{BasketFront}
-use Rattle.rio_key.specs.declared.fault.KeyFault.{KeyFault}
-use Rattle.rio_key.proofs.BasketFrontLaws.{front_told}
-use Rattle.rio_key.proofs.BasketHeadLaws.{place_within}
+use Rattle.rio_key.specs.{Key.{key_head_at}, declared.basket_head.BasketFront.{BasketFront}, declared.fault.KeyFault.{KeyFault}}
+use Rattle.rio_key.proofs.{BasketFrontLaws.{front_told}, BasketHeadLaws.{place_within}}
 use Rattle.rio_key.proofs.basket_head.read_basket_front.Goals as goal
 
 pub returns-in_err-head-clause-exact : goal.returns-in_err-head-clause-exact

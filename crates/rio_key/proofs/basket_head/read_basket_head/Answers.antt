@@ -1,10 +1,6 @@
 use Rattle.std.proofs.Common.{ap, ◌∙◌, arith}
-use Rattle.rio_num.specs.At.{At}
-use Rattle.rio_num.specs.Meanings.{Reading}
-use Rattle.rio_num.specs.declared.cursor.Short.{Short as Shortage}
-use Rattle.rio_key.specs.BasketHead.{basket_head_at}
-use Rattle.rio_num.specs.Plain.{value_of}
-use Rattle.rio_key.specs.declared.basket_head.BasketHead.{BasketHead}
+use Rattle.rio_num.specs.{At.{At}, Meanings.{Reading}, declared.cursor.Short.{Short as Shortage}, Plain.{value_of}}
+use Rattle.rio_key.specs.{BasketHead.{basket_head_at}, declared.basket_head.BasketHead.{BasketHead}}
 use Rattle.rio_key.proofs.BasketHeadLaws.{basket_head_again, is_head_broken, is_head_found}
 use Rattle.rio_num.proofs.Plain.{standing}
 use Rattle.rio_key.proofs.basket_head.read_basket_head.Goals as goal

@@ -1,8 +1,5 @@
 use Rattle.rio_num.proofs.Agree.{agrees}
-use Rattle.rio_key.specs.BasketFront.{basket_front}
-use Rattle.rio_key.specs.BasketHead.{basket_head_layout}
-use Rattle.rio_key.specs.Key.{key_layout}
-use Rattle.rio_key.specs.KeyList.{key_list_layout}
+use Rattle.rio_key.specs.{BasketFront.{basket_front}, BasketHead.{basket_head_layout}, Key.{key_layout}, KeyList.{key_list_layout}}
 use Rattle.rio_key.proofs.laws.meanings_agree.Goals as goal
 
 pub returns-clause-key : goal.returns-clause-key

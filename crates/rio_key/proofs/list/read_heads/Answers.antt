@@ -1,7 +1,5 @@
 use Rattle.std.proofs.Common.{subst, arith}
-use Rattle.rio_num.specs.Answers.{ReadsUnless}
-use Rattle.rio_num.specs.At.{At}
-use Rattle.rio_num.specs.Plain.{plain}
+use Rattle.rio_num.specs.{Answers.{ReadsUnless}, At.{At}, Plain.{plain}}
 use Rattle.rio_key.specs.KeyList.{key_list_at, list_memory}
 use Rattle.rio_num.proofs.Plain.{standing}
 use Rattle.rio_key.proofs.KeyListLaws.{is_list_broken, is_list_found, is_list_only}

@@ -1,7 +1,5 @@
 use Rattle.std.proofs.Common.{◌≡◌, ◌-◌}
-use Rattle.rio_num.specs.Layout.{times}
-use Rattle.rio_num.specs.Meanings.{read}
-use Rattle.rio_num.specs.Plain.{plain}
+use Rattle.rio_num.specs.{Layout.{times}, Meanings.{read}, Plain.{plain}}
 use Rattle.rio_key.specs.KeyList.{listed_key}
 use Rattle.rio_num.proofs.Loops.{with_front}
 use Rattle.rio_key.proofs.list.take_heads.Given as goal

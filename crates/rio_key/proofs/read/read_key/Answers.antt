@@ -1,9 +1,6 @@
 use Rattle.std.proofs.Common.{subst, arith}
-use Rattle.rio_num.specs.Answers.{ReadsUnless}
-use Rattle.rio_num.specs.At.{At, standing_at}
-use Rattle.rio_num.specs.Plain.{plain}
-use Rattle.rio_key.specs.Key.{key_head_at}
-use Rattle.rio_key.specs.declared.fault.KeyFault.TheVariants.{NoMemory}
+use Rattle.rio_num.specs.{Answers.{ReadsUnless}, At.{At, standing_at}, Plain.{plain}}
+use Rattle.rio_key.specs.{Key.{key_head_at}, declared.fault.KeyFault.TheVariants.{NoMemory}}
 use Rattle.rio_num.proofs.ReadLaws.{IsBytes-standing}
 use Rattle.rio_key.proofs.KeyRead.{is_broken, is_found, is_only}
 use Rattle.rio_key.proofs.read.read_key.Goals as goal

@@ -1,7 +1,6 @@
 use Rattle.std.proofs.Common.{◌∙◌, ℕ, List, ◌++◌, ap, subst}
 use Rattle.std.specs.Int.{w32, cast_unsigned}
-use Rattle.rio_num.specs.Room.{Appends, with_more}
-use Rattle.rio_num.specs.Text.{text_bytes}
+use Rattle.rio_num.specs.{Room.{Appends, with_more}, Text.{text_bytes}}
 use Rattle.rio_key.specs.Written.{number_bytes, written_key}
 use Rattle.rio_num.proofs.Puts.{puts_then, puts_reserved}
 use Rattle.rio_key.proofs.write.write_key.Goals as goal

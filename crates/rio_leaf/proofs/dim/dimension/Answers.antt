@@ -2,8 +2,8 @@ use Rattle.std.proofs.Common.{rules, sym, ap, Bool, arith}
 use Rattle.std.specs.Str.Parse.{digits_value}
 use Rattle.rio_num.specs.Reading.{some_if}
 use Rattle.rio_leaf.proofs.DigitLaws.{no_digit, too_great}
-use Rattle.rio_leaf.proofs.dim.dimension.Goals as goal
 use Rattle.rio_leaf.proofs.dim.dimension.Goals.{then-not-is_ascii_digit-via-then-not-is_ascii_digit, then-not-is_ascii_digit-via-else-not-is_ascii_digit+then-n-gt100000}
+use Rattle.rio_leaf.proofs.dim.dimension.Goals as goal
 
 pub returns-then-not-is_ascii_digit : goal.returns-then-not-is_ascii_digit
 returns-then-not-is_ascii_digit c =

@@ -1,7 +1,6 @@
 use Rattle.std.proofs.Common.{◌≡◌, ◌∷◌, ◌++◌, drop}
 use Rattle.std.specs.List.{flat_map}
-use Rattle.rio_leaf.specs.Marks.{between_leaves}
-use Rattle.rio_leaf.specs.Spelling.{text_of_leaf}
+use Rattle.rio_leaf.specs.{Marks.{between_leaves}, Spelling.{text_of_leaf}}
 use Rattle.rio_leaf.proofs.print.put_more_leaves.Given as goal
 
 abbrev pub invariant-loop-leaf : goal.invariant-loop-leaf

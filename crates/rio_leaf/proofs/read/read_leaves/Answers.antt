@@ -1,9 +1,6 @@
 use Rattle.std.proofs.Common.{◌≡◌, ℕ, List, true, Result, Ok, Err, IfOk, IsTrue, ap, subst, ◌∙◌}
 use Rattle.rio_num.specs.Answers.{GivesUnless}
-use Rattle.rio_leaf.specs.declared.fault.LeafFault.{LeafFault}
-use Rattle.rio_leaf.specs.declared.fault.LeafFault.TheVariants.{NoMemory}
-use Rattle.rio_leaf.specs.declared.leaf.Leaf.{Leaf}
-use Rattle.rio_leaf.specs.Spelling.{is_leaf_list, text_of_leaves}
+use Rattle.rio_leaf.specs.{declared.fault.LeafFault.{LeafFault, TheVariants.{NoMemory}}, declared.leaf.Leaf.{Leaf}, Spelling.{is_leaf_list, text_of_leaves}}
 use Rattle.rio_leaf.specs.Reading.{leaves_in}
 use Rattle.rio_leaf.proofs.ListLaws.{list_again, list_found}
 use Rattle.rio_leaf.proofs.read.read_leaves.Goals as goal

@@ -1,6 +1,5 @@
 use Rattle.std.proofs.Common.{◌≡◌, ◌++◌, drop}
-use Rattle.rio_leaf.specs.Leaves.{has_counting_leaf}
-use Rattle.rio_leaf.specs.Stated.{all_leaves}
+use Rattle.rio_leaf.specs.{Leaves.{has_counting_leaf}, Stated.{all_leaves}}
 use Rattle.rio_leaf.proofs.stated.is_counter_name.Given as goal
 
 abbrev pub invariant-loop-branch : goal.invariant-loop-branch

@@ -1,8 +1,5 @@
-use Rattle.rio_model.specs.ClassText.{text_of_class}
-use Rattle.rio_model.specs.ValueText.{text_of_value}
-use Rattle.rio_model.proofs.ClassLines.{class_line}
-use Rattle.rio_model.proofs.OneLineLaws.{line_is}
-use Rattle.rio_model.proofs.ValueLines.{value_line}
+use Rattle.rio_model.specs.{ClassText.{text_of_class}, ValueText.{text_of_value}}
+use Rattle.rio_model.proofs.{ClassLines.{class_line}, OneLineLaws.{line_is}, ValueLines.{value_line}}
 use Rattle.rio_model.proofs.laws.texts_are_one_line.Goals as goal
 
 pub returns-clause-values : goal.returns-clause-values

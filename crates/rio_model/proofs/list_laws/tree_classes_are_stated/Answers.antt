@@ -1,5 +1,4 @@
-use Rattle.rio_model.proofs.DescribedTrees.{trees_stated}
-use Rattle.rio_model.proofs.ListNumbers.{written_are_described}
+use Rattle.rio_model.proofs.{DescribedTrees.{trees_stated}, ListNumbers.{written_are_described}}
 use Rattle.rio_model.proofs.list_laws.tree_classes_are_stated.Goals as goal
 
 pub returns-clause-trees : goal.returns-clause-trees

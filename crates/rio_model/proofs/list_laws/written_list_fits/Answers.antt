@@ -1,5 +1,4 @@
-use Rattle.rio_model.proofs.ListDepth.{written_list_has_versions, written_list_is_shallow}
-use Rattle.rio_model.proofs.ListFits.{written_list_fits}
+use Rattle.rio_model.proofs.{ListDepth.{written_list_has_versions, written_list_is_shallow}, ListFits.{written_list_fits}}
 use Rattle.rio_model.proofs.list_laws.written_list_fits.Goals as goal
 
 pub returns-clause-fits : goal.returns-clause-fits

@@ -11,14 +11,11 @@ use denote.HoleLaws.{Alike}
 use denote.HolePlaces.{Recodes, struct_places, laid, one_value}
 use denote.Hole.Fix.{over}
 use denote.Model.Placed.{view_places}
-use Rattle.std.specs.declared.boxed.Box.{Box}
+use Rattle.std.specs.{declared.boxed.Box.{Box}, declared.alloc.Global.{Global}, contracts.impls.GlobalAllocator.TheImpl.{ghosts}}
 use Rattle.std.specs.contracts.boxed.Box as box
-use Rattle.std.specs.declared.alloc.Global.{Global}
 use Rattle.std.specs.contracts.alloc.Global as heap
-use Rattle.std.specs.contracts.impls.GlobalAllocator.TheImpl.{ghosts}
 pub use Rattle.rio_num.specs.Holding.{boxed_shape as the_former, boxed_measure as the_weighed}
-use Rattle.rio_num.specs.declared.boxed.Boxed.TheInside.{Inside}
-use Rattle.rio_num.specs.declared.boxed.Boxed.TheView.{view, invariant}
+use Rattle.rio_num.specs.{declared.boxed.Boxed.TheInside.{Inside}, declared.boxed.Boxed.TheView.{view, invariant}}
 use Rattle.rio_num.specs.contracts.boxed.Boxed as C
 use Rattle.rio_num.specs.contracts.boxed.Boxed.TheInside as I
 

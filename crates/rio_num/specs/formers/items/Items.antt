@@ -10,12 +10,10 @@ use denote.Hole.Carrier.{listed, list-listed}
 use denote.Hole.Fix.{over}
 use denote.Model.Placed.{view_places}
 use Rattle.std.specs.formers.vec.Vec as vec
-use Rattle.std.specs.declared.alloc.Global.{Global}
+use Rattle.std.specs.{declared.alloc.Global.{Global}, contracts.impls.GlobalAllocator.TheImpl.{ghosts}}
 use Rattle.std.specs.contracts.alloc.Global as heap
-use Rattle.std.specs.contracts.impls.GlobalAllocator.TheImpl.{ghosts}
 pub use Rattle.rio_num.specs.Holding.{listed_shape as the_former, listed_measure as the_weighed}
-use Rattle.rio_num.specs.declared.items.Items.TheInside.{Inside}
-use Rattle.rio_num.specs.declared.items.Items.TheView.{view, invariant}
+use Rattle.rio_num.specs.{declared.items.Items.TheInside.{Inside}, declared.items.Items.TheView.{view, invariant}}
 use Rattle.rio_num.specs.contracts.items.Items as C
 use Rattle.rio_num.specs.contracts.items.Items.TheInside as I
 

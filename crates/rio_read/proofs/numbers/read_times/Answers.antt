@@ -1,7 +1,6 @@
-use Rattle.std.proofs.Common.{rules}
-use Rattle.std.proofs.lemmas.Result.{err_from_is_err_and}
+use Rattle.std.proofs.{Common.{rules}, lemmas.Result.{err_from_is_err_and}}
+use Rattle.rio_num.proofs.Loops.{times_goes_on, times_fails, times_done}
 use Rattle.rio_format.specs.Objects.{number_value}
-use Rattle.rio_read.proofs.Each.{times_goes_on, times_fails, times_done}
 use Rattle.rio_read.proofs.numbers.read_times.Goals as goal
 
 pub returns-in_err-read_number-clause-exact : goal.returns-in_err-read_number-clause-exact

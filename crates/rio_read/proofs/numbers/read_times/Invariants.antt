@@ -1,7 +1,5 @@
 use Rattle.std.proofs.Common.{◌≡◌, ◌-◌}
-use Rattle.rio_num.specs.At.{GoesOn}
-use Rattle.rio_num.specs.Layout.{times}
-use Rattle.rio_num.specs.Meanings.{read}
+use Rattle.rio_num.specs.{At.{GoesOn}, Layout.{times}, Meanings.{read}}
 use Rattle.rio_format.specs.Objects.{number_value}
 use Rattle.rio_read.specs.Lists.{with_front}
 use Rattle.rio_read.proofs.numbers.read_times.Given as goal

@@ -1,7 +1,7 @@
-use Rattle.std.proofs.Common.{rules}
-use Rattle.std.proofs.lemmas.Result.{err_from_is_err_and}
+use Rattle.std.proofs.{Common.{rules}, lemmas.Result.{err_from_is_err_and}}
+use Rattle.rio_num.proofs.Loops.{times_goes_on, times_fails, times_done}
 use Rattle.rio_format.specs.Objects.{base_part, link, object_of, pointer}
-use Rattle.rio_read.proofs.Each.{each_goes_on, each_fails, each_done, times_goes_on, times_fails, times_done, counter_member, members_go_on, members_fail, members_done}
+use Rattle.rio_read.proofs.Each.{each_goes_on, each_fails, each_done, counter_member, members_go_on, members_fail, members_done}
 use Rattle.rio_read.proofs.object.+object.Goals as goal
 
 pub read_bases-returns-in_err-read_base_part-clause-exact : goal.read_bases-returns-in_err-read_base_part-clause-exact

@@ -1,7 +1,5 @@
 use Rattle.std.proofs.Common.{◌≡◌, ◌*◌, ◌+◌, ◌-◌, [], drop}
-use Rattle.rio_num.specs.At.{GoesOn}
-use Rattle.rio_num.specs.Layout.{each, times}
-use Rattle.rio_num.specs.Meanings.{read}
+use Rattle.rio_num.specs.{At.{GoesOn}, Layout.{each, times}, Meanings.{read}}
 use Rattle.rio_format.specs.Objects.{base_part, link, member_parts, object_of, pointer}
 use Rattle.rio_read.specs.Lists.{with_front}
 use Rattle.rio_read.proofs.object.+object.Given as goal

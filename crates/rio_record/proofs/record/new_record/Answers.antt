@@ -1,7 +1,6 @@
 use Rattle.std.proofs.Common.{◌+◌, subst, sym, arith}
 use Rattle.rio_chain.specs.Segments.{IsRecord}
-use Rattle.rio_record.proofs.Assembled.{four_spare, padded_is}
-use Rattle.rio_record.proofs.Records.{is_new_record}
+use Rattle.rio_record.proofs.{Assembled.{four_spare, padded_is}, Records.{is_new_record}}
 use Rattle.rio_record.proofs.record.new_record.Goals as goal
 
 pub returns-clause-bytes : goal.returns-clause-bytes

@@ -1,9 +1,6 @@
-use Rattle.std.proofs.Common.{◌≡◌, ◌&&◌, ℕ, true, Decides, ap, ◌∙◌, eqb}
-use Rattle.std.proofs.lemmas.Bool.{and_parts, and_from, eqb-true, eq-eqb}
+use Rattle.std.proofs.{Common.{◌≡◌, ◌&&◌, ℕ, true, Decides, ap, ◌∙◌, eqb}, lemmas.Bool.{and_parts, and_from, eqb-true, eq-eqb}}
 use Rattle.std.proofs.lemmas.Slice.Eq.{slice_eq-Decides}
-use Rattle.rio_chain.specs.contracts.segment.SegmentPartialEq.TheImpl.{eq-value}
-use Rattle.rio_chain.specs.declared.segment.Segment.{Segment}
-use Rattle.rio_chain.specs.declared.segment.Segment.TheVariants.{Record, Gap}
+use Rattle.rio_chain.specs.{contracts.segment.SegmentPartialEq.TheImpl.{eq-value}, declared.segment.Segment.{Segment, TheVariants.{Record, Gap}}}
 use Rattle.rio_record.proofs.tests.are_same.Goals as goal
 
 -- segments of one kind are equal where their numbers are

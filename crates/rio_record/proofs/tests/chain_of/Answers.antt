@@ -1,6 +1,5 @@
 use Rattle.std.proofs.Common.{List, false, sym, ap, ◌∙◌}
-use Rattle.rio_chain.specs.declared.segment.Segment.{Segment}
-use Rattle.rio_chain.specs.Chains.{ChainState}
+use Rattle.rio_chain.specs.{declared.segment.Segment.{Segment}, Chains.{ChainState}}
 use Rattle.rio_record.proofs.tests.chain_of.Goals as goal
 
 pub returns-clause-chain : goal.returns-clause-chain

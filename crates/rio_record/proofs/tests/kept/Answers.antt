@@ -1,7 +1,5 @@
 use Rattle.std.proofs.Common.{◌≡◌, ◌≤◌, List, true, max, sym, ap, subst, ◌∙◌, rules}
-use Rattle.rio_chain.specs.declared.segment.Segment.{Segment}
-use Rattle.rio_chain.specs.Chains.{ChainState}
-use Rattle.rio_chain.specs.Placing.{file_end}
+use Rattle.rio_chain.specs.{declared.segment.Segment.{Segment}, Chains.{ChainState}, Placing.{file_end}}
 use Rattle.rio_record.proofs.tests.kept.Goals as goal
 
 pub from_segments-requires-clause-low : goal.from_segments-requires-clause-low

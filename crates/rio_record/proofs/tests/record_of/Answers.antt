@@ -1,7 +1,6 @@
 use Rattle.std.proofs.Common.{◌≡◌, ℕ, ◌+◌, ◌^◌, ◌<◌, ◌≤◌, nat_lt, Bool, true, false, cond, List, [], length, refl, ap, arith}
 use Rattle.rio_num.specs.Text.{long_form, short_form, text_bytes}
-use Rattle.rio_record.specs.Record.{FitsWords}
-use Rattle.rio_record.specs.declared.words.KeyWords.{KeyWords}
+use Rattle.rio_record.specs.{Record.{FitsWords}, declared.words.KeyWords.{KeyWords}}
 use Rattle.rio_record.proofs.tests.record_of.Goals as goal
 
 -- the bytes of a text are at most five more

@@ -1,8 +1,6 @@
-use Rattle.std.proofs.Common.{◌∙◌, length, sym, ap, arith}
-use Rattle.std.proofs.lemmas.Bool.{eqb-false, eqb-true}
+use Rattle.std.proofs.{Common.{◌∙◌, length, sym, ap, arith}, lemmas.Bool.{eqb-false, eqb-true}}
 use Rattle.rio_format.specs.TreeClasses.{written_classes}
-use Rattle.rio_recover.proofs.Accepting.{not_if_long, state_if_empty, state_if_short}
-use Rattle.rio_recover.proofs.Declared.{not_declared}
+use Rattle.rio_recover.proofs.{Accepting.{not_if_long, state_if_empty, state_if_short}, Declared.{not_declared}}
 use Rattle.rio_recover.proofs.classes.accept_all.Goals.{then-is_empty, else-is_empty+in_ok-has_short_list}
 use Rattle.rio_recover.proofs.classes.accept_all.Goals as goal
 

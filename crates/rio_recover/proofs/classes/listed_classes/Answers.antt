@@ -1,8 +1,6 @@
 use Rattle.std.proofs.Common.{◌≡◌, ◌∙◌, Ok, codes, sym, rules}
-use Rattle.rio_format.specs.ClassList.{class_list_at}
-use Rattle.rio_format.specs.TreeClasses.{written_classes}
-use Rattle.rio_state.specs.Contents.{described_in}
-use Rattle.rio_state.specs.KeyedRecords.{KeyedRecord}
+use Rattle.rio_format.specs.{ClassList.{class_list_at}, TreeClasses.{written_classes}}
+use Rattle.rio_state.specs.{Contents.{described_in}, KeyedRecords.{KeyedRecord}}
 use Rattle.rio_recover.proofs.Declared.{is_list, list_cycle, list_other}
 use Rattle.rio_recover.proofs.classes.listed_classes.Goals.{in_default-via-in-Some+else-has_cycle_of, in_default-via-in_default}
 use Rattle.rio_recover.proofs.classes.listed_classes.Goals as goal

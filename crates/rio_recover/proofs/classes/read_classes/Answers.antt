@@ -1,8 +1,6 @@
-use Rattle.std.proofs.Common.{◌∙◌, ap}
-use Rattle.std.proofs.lemmas.Result.{err_from_is_err_and}
+use Rattle.std.proofs.{Common.{◌∙◌, ap}, lemmas.Result.{err_from_is_err_and}}
 use Rattle.std.specs.Option.{option_copied}
-use Rattle.rio_recover.proofs.BytesRead.{stands_with}
-use Rattle.rio_recover.proofs.Judging.{obtains_on}
+use Rattle.rio_recover.proofs.{BytesRead.{stands_with}, Judging.{obtains_on}}
 use Rattle.rio_recover.proofs.classes.read_classes.Goals as goal
 
 pub returns-in_err-bytes-in-Some-clause-classes : goal.returns-in_err-bytes-in-Some-clause-classes

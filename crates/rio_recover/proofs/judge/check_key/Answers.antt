@@ -1,7 +1,5 @@
-use Rattle.std.proofs.Common.{◌∙◌, refl, ap}
-use Rattle.std.proofs.lemmas.Result.{err_from_is_err_and}
-use Rattle.rio_recover.proofs.Judging.{cause_alone, cause_alone_on}
-use Rattle.rio_recover.proofs.KeyJudged.{name_reasons, object_refused}
+use Rattle.std.proofs.{Common.{◌∙◌, refl, ap}, lemmas.Result.{err_from_is_err_and}}
+use Rattle.rio_recover.proofs.{Judging.{cause_alone, cause_alone_on}, KeyJudged.{name_reasons, object_refused}}
 use Rattle.rio_recover.proofs.judge.check_key.Goals as goal
 
 pub returns-in_err-check_name-clause-cause : goal.returns-in_err-check_name-clause-cause

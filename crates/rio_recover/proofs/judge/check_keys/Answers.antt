@@ -1,10 +1,7 @@
-use Rattle.std.proofs.Common.{◌≡◌, ◌∙◌, ◌++◌, ◌∷◌, [], length, sym, ap, arith}
-use Rattle.std.proofs.lemmas.List.{length-map}
-use Rattle.std.proofs.lemmas.Result.{err_from_is_err_and}
+use Rattle.std.proofs.{Common.{◌≡◌, ◌∙◌, ◌++◌, ◌∷◌, [], length, sym, ap, arith}, lemmas.List.{length-map}, lemmas.Result.{err_from_is_err_and}}
 use Rattle.rio_host.proofs.ReadsLaws.{reads_join}
 use Rattle.rio_recover.specs.Checks.{IsChecking, beside_of}
-use Rattle.rio_recover.proofs.Checking.{all_checked}
-use Rattle.rio_recover.proofs.KeyLoop.{keys_begin, keys_moved, keys_pass, keys_refuse, keys_skip}
+use Rattle.rio_recover.proofs.{Checking.{all_checked}, KeyLoop.{keys_begin, keys_moved, keys_pass, keys_refuse, keys_skip}}
 use Rattle.rio_recover.proofs.judge.check_keys.Goals.{then-is_top_key+in_ok-check_key, else-is_top_key}
 use Rattle.rio_recover.proofs.judge.check_keys.Goals as goal
 

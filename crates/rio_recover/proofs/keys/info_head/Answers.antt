@@ -1,5 +1,4 @@
-use Rattle.std.proofs.Common.{◌≡◌, ◌∙◌, List, [], drop, sym, ap, arith}
-use Rattle.std.proofs.lemmas.List.{drop_all}
+use Rattle.std.proofs.{Common.{◌≡◌, ◌∙◌, List, [], drop, sym, ap, arith}, lemmas.List.{drop_all}}
 use Rattle.std.specs.Option.{option_copied}
 use Rattle.rio_key.specs.declared.head.KeyHead.{KeyHead}
 use Rattle.rio_recover.proofs.Keyed.{info_head_keyed, info_head_of, latest, latest_none}

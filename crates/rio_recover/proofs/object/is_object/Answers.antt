@@ -1,11 +1,9 @@
-use Rattle.std.proofs.Common.{◌∙◌, List, ℕ, drop, ap}
-use Rattle.std.proofs.lemmas.Result.{err_from_is_err_and}
+use Rattle.std.proofs.{Common.{◌∙◌, List, ℕ, drop, ap}, lemmas.Result.{err_from_is_err_and}}
 use Rattle.std.specs.Option.{is_some}
 use Rattle.rio_format.specs.Objects.{first_at}
 use Rattle.rio_state.specs.Contents.{stored_in}
 use Rattle.rio_recover.specs.Keys.{keyed}
-use Rattle.rio_recover.proofs.Judging.{obtains_on}
-use Rattle.rio_recover.proofs.Objects.{object_same}
+use Rattle.rio_recover.proofs.{Judging.{obtains_on}, Objects.{object_same}}
 use Rattle.rio_recover.proofs.object.is_object.Goals as goal
 
 pub returns-in_err-bytes-clause-object : goal.returns-in_err-bytes-clause-object

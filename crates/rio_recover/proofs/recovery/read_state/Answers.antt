@@ -1,15 +1,10 @@
-use Rattle.std.proofs.Common.{◌≡◌, ◌∙◌, Err, [], sym, ap, subst}
-use Rattle.std.proofs.lemmas.Result.{err_from_is_err_and}
+use Rattle.std.proofs.{Common.{◌≡◌, ◌∙◌, Err, [], sym, ap, subst}, lemmas.Result.{err_from_is_err_and}}
 use Rattle.rio_host.proofs.ReadsLaws.{reads_join}
 use Rattle.std.specs.List.Sorted.{IsPermutation}
 use Rattle.rio_dir.specs.Table.{TableRoom}
-use Rattle.rio_state.specs.KeyedRecords.{info_key, top_keys}
-use Rattle.rio_state.specs.Reasons.{directory_reasons}
-use Rattle.rio_recover.specs.Classes.{AreClassesOf}
-use Rattle.rio_recover.specs.Keys.{StandsIn, keyed_by, record_heads}
-use Rattle.rio_recover.specs.Recovered.{place_in}
-use Rattle.rio_recover.proofs.Gathering.{info_walked}
-use Rattle.rio_recover.proofs.Judging.{cause_alone_on, judges_same}
+use Rattle.rio_state.specs.{KeyedRecords.{info_key, top_keys}, Reasons.{directory_reasons}}
+use Rattle.rio_recover.specs.{Classes.{AreClassesOf}, Keys.{StandsIn, keyed_by, record_heads}, Recovered.{place_in}}
+use Rattle.rio_recover.proofs.{Gathering.{info_walked}, Judging.{cause_alone_on, judges_same}}
 use Rattle.rio_recover.proofs.StateJudged.{directory_first, info_first, key_first, none_against, of_keys, unread}
 use Rattle.rio_recover.proofs.StateRead.{directory_same, info_stands, info_within, place_seen}
 use Rattle.rio_recover.proofs.recovery.read_state.Goals as goal

@@ -1,7 +1,5 @@
-use Rattle.std.proofs.Common.{◌∙◌}
-use Rattle.std.proofs.lemmas.Result.{err_from_is_err_and}
-use Rattle.rio_recover.proofs.Answering.{tells_all, walk_refused}
-use Rattle.rio_recover.proofs.Recovering.{answered}
+use Rattle.std.proofs.{Common.{◌∙◌}, lemmas.Result.{err_from_is_err_and}}
+use Rattle.rio_recover.proofs.{Answering.{tells_all, walk_refused}, Recovering.{answered}}
 use Rattle.rio_recover.proofs.recovery.recover.Goals as goal
 
 pub returns-in_err-walked-clause-answer : goal.returns-in_err-walked-clause-answer

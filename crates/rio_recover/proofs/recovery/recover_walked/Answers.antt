@@ -1,20 +1,12 @@
-use Rattle.std.proofs.Common.{◌≡◌, ◌∙◌, ◌+◌, List, Option, length, sym, ap, subst, arith}
-use Rattle.std.proofs.lemmas.Result.{err_from_is_err_and}
-use Rattle.std.specs.List.{All}
-use Rattle.std.specs.Option.{option_map_or}
+use Rattle.std.proofs.{Common.{◌≡◌, ◌∙◌, ◌+◌, List, Option, length, sym, ap, subst, arith}, lemmas.Result.{err_from_is_err_and}}
+use Rattle.std.specs.{List.{All}, Option.{option_map_or}}
 use Rattle.rio_key.specs.declared.head.KeyHead.{KeyHead}
-use Rattle.rio_chain.specs.Found.{IsShortKey}
-use Rattle.rio_chain.specs.Placing.{file_end}
+use Rattle.rio_chain.specs.{Found.{IsShortKey}, Placing.{file_end}}
 use Rattle.rio_dir.specs.Table.{AreOrdered}
-use Rattle.rio_state.specs.Closing.{name_in}
-use Rattle.rio_state.specs.KeyedRecords.{info_key, keyed_records}
+use Rattle.rio_state.specs.{Closing.{name_in}, KeyedRecords.{info_key, keyed_records}, Left.{info_head}}
 use Rattle.rio_recover.specs.Keys.{keyed_by}
-use Rattle.rio_recover.proofs.Gathering.{all_gathered}
-use Rattle.rio_recover.proofs.Judging.{cause_alone_on}
-use Rattle.rio_recover.proofs.Keyed.{head_in}
-use Rattle.rio_recover.proofs.LinkRecords.{all_stand}
-use Rattle.rio_recover.proofs.Recovering.{has_room, name_short, no_room, some_room}
-use Rattle.rio_recover.proofs.StateJudged.{state_refused}
+use Rattle.rio_recover.proofs.{Gathering.{all_gathered}, Judging.{cause_alone_on}, LinkRecords.{all_stand}}
+use Rattle.rio_recover.proofs.{Recovering.{has_room, name_short, no_room, some_room}, StateJudged.{state_refused}}
 use Rattle.rio_recover.proofs.recovery.recover_walked.Goals as goal
 
 pub returns-in_err-state-clause-told : goal.returns-in_err-state-clause-told
@@ -41,7 +33,7 @@ returns-in_err-check_room-clause-told g c file links told chain same =
     let state = c.in_ok-state.state in
     let items = c.in_ok-state.ensures.told file records told stand (seen ∙ same) in
     let named = c.in_ok-name.ensures ∙ ap (λ (hs : List KeyHead). name_in (keyed_by hs)) seen in
-    let counts = c.in_ok-info.ensures ∙ c.info_head.ensures ∙ ap (λ (hs : List KeyHead). head_in (info_key (keyed_by hs))) seen in
+    let counts = c.in_ok-info.ensures ∙ c.info_head.ensures ∙ ap (λ (hs : List KeyHead). info_head (info_key (keyed_by hs))) seen in
     let other = c.count_others.ensures.value ∙ ap (λ (o : Option KeyHead). 1 + option_map_or (λ h. 1) o 0) c.as_ref-2.ensures.value in
     let ends = c.end_of-end.ensures ∙ ap file_end c.as_slice.ensures in
     let p = err_from_is_err_and c.from_residual-in_err-check_room.result c.from_residual-in_err-check_room.ensures.1 in
@@ -64,7 +56,7 @@ returns-clause-told g c file links told chain same =
     let state = c.in_ok-state.state in
     let items = c.in_ok-state.ensures.told file records told stand (seen ∙ same) in
     let named = c.in_ok-name.ensures ∙ ap (λ (hs : List KeyHead). name_in (keyed_by hs)) seen in
-    let counts = c.in_ok-info.ensures ∙ c.info_head.ensures ∙ ap (λ (hs : List KeyHead). head_in (info_key (keyed_by hs))) seen in
+    let counts = c.in_ok-info.ensures ∙ c.info_head.ensures ∙ ap (λ (hs : List KeyHead). info_head (info_key (keyed_by hs))) seen in
     let other = c.count_others.ensures.value ∙ ap (λ (o : Option KeyHead). 1 + option_map_or (λ h. 1) o 0) c.as_ref-2.ensures.value in
     let ends = c.end_of-end.ensures ∙ ap file_end c.as_slice.ensures in
     let room = some_room file links walked chain same state items c.in_ok-name.name named c.in_ok-info.info counts c.count_others.result other c.end_of-end.result ends c.as_slice-2.result.now c.as_slice-2.ensures

@@ -1,5 +1,4 @@
-use Rattle.std.proofs.Common.{◌∙◌, ap}
-use Rattle.std.proofs.lemmas.Result.{err_from_is_err_and}
+use Rattle.std.proofs.{Common.{◌∙◌, ap}, lemmas.Result.{err_from_is_err_and}}
 use Rattle.rio_host.proofs.ReadsLaws.{reads_join}
 use Rattle.rio_recover.proofs.HeadLoop.{heads_after_gap, heads_after_record, heads_all, heads_moved, key_refused, record_fits, record_within}
 use Rattle.rio_recover.proofs.walked.record_heads.Goals.{in-Record+in_ok-record_head-in-Record+in_ok-push-in-Record, in-Gap}

@@ -1,5 +1,4 @@
-use Rattle.std.proofs.Common.{◌≡◌, ◌∙◌, min, length, sym, arith}
-use Rattle.std.proofs.lemmas.Result.{err_from_is_err_and}
+use Rattle.std.proofs.{Common.{◌≡◌, ◌∙◌, min, length, sym, arith}, lemmas.Result.{err_from_is_err_and}}
 use Rattle.rio_recover.proofs.Walking.{head_by_front, large_by_front, small_by_front}
 use Rattle.rio_recover.proofs.walked.small_head.Goals as goal
 

@@ -1,12 +1,10 @@
-use Rattle.std.proofs.Common.{◌∙◌, ◌≤◌, length, refl, sym, subst}
-use Rattle.std.proofs.lemmas.Result.{err_from_is_err_and}
+use Rattle.std.proofs.{Common.{◌∙◌, ◌≤◌, length, refl, sym, subst}, lemmas.Result.{err_from_is_err_and}}
 use Rattle.std.specs.List.{All}
 use Rattle.rio_chain.specs.Chains.{HasChain}
 use Rattle.rio_key.specs.declared.head.KeyHead.{KeyHead}
 use Rattle.rio_state.specs.KeyedRecords.{keyed_records}
 use Rattle.rio_recover.specs.Keys.{record_end}
-use Rattle.rio_recover.proofs.LinkRecords.{all_stand}
-use Rattle.rio_recover.proofs.Walking.{heads_within, walk_judged}
+use Rattle.rio_recover.proofs.{LinkRecords.{all_stand}, Walking.{heads_within, walk_judged}}
 use Rattle.rio_recover.proofs.walked.walk_file.Goals as goal
 
 pub returns-in_err-segments-clause-told : goal.returns-in_err-segments-clause-told

@@ -1,5 +1,4 @@
-use Rattle.std.proofs.Common.{arith, sym, refl}
-use Rattle.std.proofs.lemmas.Option.{slice_get_within}
+use Rattle.std.proofs.{Common.{arith, sym, refl}, lemmas.Option.{slice_get_within}}
 use Rattle.rio_registry.proofs.Ways.{followed_all, followed_falls, followed_met, followed_more}
 use Rattle.rio_registry.proofs.reach.comes_to.Goals as goal
 

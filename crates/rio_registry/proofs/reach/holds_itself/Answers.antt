@@ -1,10 +1,8 @@
-use Rattle.std.proofs.Common.{◌≡◌, ℕ, List, [], Bool, ◌||◌, sym, ap, ◌∙◌}
-use Rattle.std.proofs.lemmas.Result.{IfOk-weaker}
+use Rattle.std.proofs.{Common.{◌≡◌, ℕ, List, [], Bool, ◌||◌, sym, ap, ◌∙◌}, lemmas.Result.{IfOk-weaker}}
+use Rattle.rio_num.specs.Word.{is_among}
 use Rattle.rio_model.specs.Declaring.{has_within, holds}
-use Rattle.rio_registry.specs.Reaching.{IsGrown, is_among}
-use Rattle.rio_registry.proofs.ClosedLaws.{new_name, tested}
-use Rattle.rio_registry.proofs.Growth.{grown_first}
-use Rattle.rio_registry.proofs.Ways.{comes_back, goes_out}
+use Rattle.rio_registry.specs.Reaching.{IsGrown}
+use Rattle.rio_registry.proofs.{ClosedLaws.{new_name, tested}, Growth.{grown_first}, Ways.{comes_back, goes_out}}
 use Rattle.rio_registry.proofs.reach.holds_itself.Goals as goal
 
 -- the names that the class has within, where there were none

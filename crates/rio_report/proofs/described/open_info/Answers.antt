@@ -1,5 +1,4 @@
-use Rattle.rio_head.specs.declared.fault.FileFault.TheVariants.{BadInfo}
-use Rattle.rio_head.specs.Head.{fault_at}
+use Rattle.rio_head.specs.{declared.fault.FileFault.TheVariants.{BadInfo}, Head.{fault_at}}
 use Rattle.rio_meaning.specs.Described.{classes_in, info_at}
 use Rattle.rio_close.proofs.Records.{record_none, record_found}
 use Rattle.rio_report.specs.Described.{info_in}

@@ -1,12 +1,8 @@
-use Rattle.std.proofs.Common.{◌∙◌, List, ℕ}
+use Rattle.std.proofs.{Common.{◌∙◌, List, ℕ}, lemmas.Result.{err_from_is_err_and}}
 use Rattle.std.specs.Option.{option_copied}
-use Rattle.std.proofs.lemmas.Result.{err_from_is_err_and}
 use Rattle.rio_host.specs.OnlyReads.{OnlyReads}
-use Rattle.rio_host.proofs.ReadsLaws.{reads_join, reads_one}
-use Rattle.rio_host.proofs.PiecesLaws.{reads_then_piece}
-use Rattle.rio_meaning.specs.declared.described.Described.{Described}
-use Rattle.rio_meaning.specs.Described.{described_file}
-use Rattle.rio_meaning.specs.Dump.{dump_text, dumped_file}
+use Rattle.rio_host.proofs.{ReadsLaws.{reads_join, reads_one}, PiecesLaws.{reads_then_piece}}
+use Rattle.rio_meaning.specs.{declared.described.Described.{Described}, Described.{described_file}, Dump.{dump_text, dumped_file}}
 use Rattle.rio_close.specs.Causes.{AnyKind}
 use Rattle.rio_report.proofs.Dumps.{dumped_bad, dumped_is, read_answers, read_refuses, told_calls, told_done}
 use Rattle.rio_report.proofs.dump.say_all_or_item.Goals as goal

@@ -1,12 +1,8 @@
-use Rattle.std.proofs.Common.{◌∙◌, ap, arith}
-use Rattle.std.proofs.lemmas.Result.{err_from_is_err_and}
+use Rattle.std.proofs.{Common.{◌∙◌, ap, arith}, lemmas.Result.{err_from_is_err_and}}
 use Rattle.rio_host.proofs.ReadsLaws.{reads_then_says, said_all}
-use Rattle.rio_dir.specs.declared.closed.Closed.{Closed}
-use Rattle.rio_dir.specs.Closed.{closed_file}
-use Rattle.rio_dir.specs.Listing.{key_lines, listed_file, said_listing}
+use Rattle.rio_dir.specs.{declared.closed.Closed.{Closed}, Closed.{closed_file}, Listing.{key_lines, listed_file, said_listing}}
 use Rattle.rio_close.specs.Causes.{IsTested}
-use Rattle.rio_report.proofs.Dumps.{read_refuses}
-use Rattle.rio_report.proofs.Lines.{listed_bad, listed_ok, listed_said, listed_text}
+use Rattle.rio_report.proofs.{Dumps.{read_refuses}, Lines.{listed_bad, listed_ok, listed_said, listed_text}}
 use Rattle.rio_report.proofs.ls.say_listing.Goals as goal
 
 pub returns-in_err-closed-clause-refused : goal.returns-in_err-closed-clause-refused

@@ -1,7 +1,6 @@
 use Rattle.std.proofs.Common.{◌≡◌, List, false, sym, subst, ◌∙◌}
 use Rattle.std.specs.List.{list_any}
-use Rattle.rio_report.specs.Checked.{is_nothing, made_there}
-use Rattle.rio_report.specs.declared.checked.Made.{Made}
+use Rattle.rio_report.specs.{Checked.{is_nothing, made_there}, declared.checked.Made.{Made}}
 use Rattle.rio_report.proofs.CheckedRows.{counters_made}
 use Rattle.rio_report.proofs.refusals.find_refusals.Goals as goal
 

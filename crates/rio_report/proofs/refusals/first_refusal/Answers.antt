@@ -1,11 +1,8 @@
-use Rattle.std.proofs.Common.{List, get_or, take, sym, ap, ◌∙◌}
-use Rattle.std.proofs.lemmas.Option.{get_or_from_slice_get}
-use Rattle.rio_tree_head.specs.declared.basket_at.BasketAt.{BasketAt}
-use Rattle.rio_tree_head.specs.declared.head.Branch.{Branch}
-use Rattle.rio_scan.specs.StoredEntries.{baskets_refusal, refusal_of_baskets}
-use Rattle.rio_scan.specs.Sweeps.{refusal_before}
-use Rattle.rio_report.proofs.FirstRefusals.{refusal_by_baskets, refusal_told_by}
-use Rattle.rio_report.proofs.Left.{if_ok_more, none_of}
+use Rattle.std.proofs.{Common.{List, get_or, take, sym, ap, ◌∙◌}, lemmas.Option.{get_or_from_slice_get}}
+use Rattle.rio_num.proofs.Cases.{none_from}
+use Rattle.rio_tree_head.specs.{declared.basket_at.BasketAt.{BasketAt}, declared.head.Branch.{Branch}}
+use Rattle.rio_scan.specs.{StoredEntries.{baskets_refusal, refusal_of_baskets}, Sweeps.{refusal_before}}
+use Rattle.rio_report.proofs.{FirstRefusals.{refusal_by_baskets, refusal_told_by}, Left.{if_ok_more}}
 use Rattle.rio_report.proofs.refusals.first_refusal.Goals as goal
 
 pub returns-then-is_some-clause-refusal : goal.returns-then-is_some-clause-refusal
@@ -19,7 +16,7 @@ returns-clause-refusal g c =
     if_ok_more c.refusal_of_baskets.result c.refusal_of_baskets.ensures.refusal (λ refusal h file told b is.
     let same = get_or_from_slice_get c.args.tree.now.branches.now c.args.k b c.index-tree-k.result is in
     let x = get_or c.args.tree.now.branches.now c.args.k c.index-tree-k.result in
-    let none = none_of c.refusal_before-told.result (sym c.is_some.ensures ∙ c.if-is_some.false) in
+    let none = none_from c.refusal_before-told.result (sym c.is_some.ensures ∙ c.if-is_some.false) in
     let before = c.refusal_before-told.ensures ∙ ap (λ (x : Branch). refusal_before c.args.refusals.now x x.refused) same in
     h file told
     ∙ ap (λ (l : List BasketAt). refusal_of_baskets file x.offsets x.entries l) c.as_slice-baskets.ensures

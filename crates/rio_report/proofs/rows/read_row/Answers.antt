@@ -1,13 +1,8 @@
-use Rattle.std.proofs.Common.{length, take, get_or, None, length-set, refl, sym, ap, ◌∙◌, arith}
-use Rattle.std.proofs.lemmas.Option.{slice_get-get_or}
+use Rattle.std.proofs.{Common.{length, take, get_or, None, length-set, refl, sym, ap, ◌∙◌, arith}, lemmas.Option.{slice_get-get_or}}
 use Rattle.rio_host.proofs.ReadsLaws.{reads_join, reads_none}
-use Rattle.rio_scan.specs.declared.row.Row.{Row}
-use Rattle.rio_scan.specs.Sweeps.{empty_row, sweep, sweep_one}
-use Rattle.rio_report.specs.Checked.{made_one, made_there, row_made}
-use Rattle.rio_report.specs.declared.checked.Made.{Made}
-use Rattle.rio_report.proofs.Left.{any_default}
-use Rattle.rio_report.proofs.CheckedRows.{empty_made, length-values_made, one_more_made}
-use Rattle.rio_report.proofs.Walks.{lanes_set, sweep_last, sweep_more}
+use Rattle.rio_scan.specs.{declared.row.Row.{Row}, Sweeps.{empty_row, sweep, sweep_one}}
+use Rattle.rio_report.specs.{Checked.{made_one, made_there, row_made}, declared.checked.Made.{Made}}
+use Rattle.rio_report.proofs.{Left.{any_default}, CheckedRows.{empty_made, length-values_made, one_more_made}, Walks.{lanes_set, sweep_last, sweep_more}}
 use Rattle.rio_report.proofs.rows.read_row.Goals as goal
 
 pub loop-k-init : goal.loop-k-init

@@ -1,10 +1,8 @@
 use Rattle.std.proofs.Common.{◌≡◌, ℕ, List, Some, drop, length, take}
 use Rattle.rio_host.specs.OnlyReads.{OnlyReads}
 use Rattle.rio_close.specs.Causes.{NoDiskFault}
-use Rattle.rio_scan.specs.declared.row.Row.{Row}
-use Rattle.rio_scan.specs.Sweeps.{sweep, sweep_behind}
-use Rattle.rio_report.specs.Lanes.{AreLanes}
-use Rattle.rio_report.specs.Checked.{row_made}
+use Rattle.rio_scan.specs.{declared.row.Row.{Row}, Sweeps.{sweep, sweep_behind}}
+use Rattle.rio_report.specs.{Lanes.{AreLanes}, Checked.{row_made}}
 use Rattle.rio_report.proofs.rows.read_row.Given as goal
 
 abbrev pub invariant-loop-k : goal.invariant-loop-k

@@ -1,10 +1,8 @@
-use Rattle.std.proofs.Common.{◌≡◌, ◌++◌, List, ℕ, Result, Err, ap, ◌∙◌}
-use Rattle.std.proofs.lemmas.Result.{err_from_is_err_and}
+use Rattle.std.proofs.{Common.{◌≡◌, ◌++◌, List, ℕ, Result, Err, ap, ◌∙◌}, lemmas.Result.{err_from_is_err_and}}
 use Rattle.rio_host.proofs.PiecesLaws.{reads_then_piece, says_as}
 use Rattle.rio_close.specs.declared.fault.ReportFault.{ReportFault}
 use Rattle.rio_scan.specs.Scan.{numbered_rows, refused_lines, scanned_count, tree_lines}
-use Rattle.rio_report.proofs.Gather.{says_held}
-use Rattle.rio_report.proofs.Trees.{lines_gathered}
+use Rattle.rio_report.proofs.{Gather.{says_held}, Trees.{lines_gathered}}
 use Rattle.rio_report.proofs.scan.say_tree.Goals as goal
 
 pub returns-in_err-gather_rows-clause-says : goal.returns-in_err-gather_rows-clause-says

@@ -1,7 +1,6 @@
 use Rattle.std.proofs.Common.{◌++◌, List, ℕ}
 use Rattle.rio_scan.specs.Scan.{row_line}
-use Rattle.rio_report.proofs.Gather.{gathered_reads, gathers_held}
-use Rattle.rio_report.proofs.Left.{on_ok}
+use Rattle.rio_report.proofs.{Gather.{gathered_reads, gathers_held}, Left.{on_ok}}
 use Rattle.rio_report.proofs.scan_rows.gather_row.Goals as goal
 
 pub returns-clause-kept : goal.returns-clause-kept

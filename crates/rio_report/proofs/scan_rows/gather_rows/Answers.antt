@@ -1,16 +1,10 @@
 use Rattle.std.proofs.Common.{rules, ◌≡◌, ◌<◌, ◌≤◌, ◌+◌, List, ℕ, length, drop, get_or, refl, sym, ap, subst, ◌∙◌, arith}
+use Rattle.std.proofs.{lemmas.List.{append-nil, FromFn.{get_or-range_with_len, length-range_with_len}}, lemmas.Result.{err_from_is_err_and}}
 use Rattle.std.specs.List.{range_with_len}
-use Rattle.std.proofs.lemmas.List.{append-nil}
-use Rattle.std.proofs.lemmas.List.FromFn.{get_or-range_with_len, length-range_with_len}
-use Rattle.std.proofs.lemmas.Result.{err_from_is_err_and}
 use Rattle.rio_host.proofs.ReadsLaws.{reads_none}
 use Rattle.rio_scan.specs.Scan.{row_line}
-use Rattle.rio_report.specs.declared.lane.Lane.{Lane}
-use Rattle.rio_report.specs.Lanes.{AreLanes}
-use Rattle.rio_report.proofs.Gather.{gathered_reads}
-use Rattle.rio_report.proofs.LineByLine.{all_gathered, first_lines, line_cut, line_gathered}
-use Rattle.rio_report.proofs.Left.{only_new}
-use Rattle.rio_report.proofs.Walks.{lanes_later}
+use Rattle.rio_report.specs.{declared.lane.Lane.{Lane}, Lanes.{AreLanes}}
+use Rattle.rio_report.proofs.{Gather.{gathered_reads}, LineByLine.{all_gathered, first_lines, line_cut, line_gathered}, Left.{only_new}, Walks.{lanes_later}}
 use Rattle.rio_report.proofs.scan_rows.gather_rows.Goals as goal
 
 pub loop-entry-init : goal.loop-entry-init

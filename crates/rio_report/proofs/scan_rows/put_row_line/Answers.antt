@@ -2,15 +2,10 @@ use Rattle.std.proofs.Common.{◌++◌, true≢false, List, Option, sym, ap, ◌
 use Rattle.rio_num.specs.Room.{Room}
 use Rattle.rio_tree_head.specs.declared.refusal.BranchRefusal.{BranchRefusal}
 use Rattle.rio_value.specs.declared.value.Value.{Value}
-use Rattle.rio_scan.specs.declared.row.Row.{Row}
-use Rattle.rio_scan.specs.Refusals.{refusals_of}
-use Rattle.rio_scan.specs.Rows.{read_values, values_at_entry}
-use Rattle.rio_scan.specs.Scan.{numbered_row}
-use Rattle.rio_scan.specs.Sweeps.{sweep}
+use Rattle.rio_scan.specs.{declared.row.Row.{Row}, Refusals.{refusals_of}, Rows.{read_values, values_at_entry}, Scan.{numbered_row}, Sweeps.{sweep}}
 use Rattle.rio_scan.proofs.SweepLaws.{last_row}
-use Rattle.rio_report.proofs.CheckedRows.{all_is_made}
+use Rattle.rio_report.proofs.{CheckedRows.{all_is_made}, scan_rows.put_row_line.Goals.{then-are_kept+in_ok-put_row, else-are_kept+in_ok-put_row_fault}}
 use Rattle.rio_report.proofs.scan_rows.put_row_line.Goals as goal
-use Rattle.rio_report.proofs.scan_rows.put_row_line.Goals.{then-are_kept+in_ok-put_row, else-are_kept+in_ok-put_row_fault}
 
 pub read_row-requires-clause-counters : goal.read_row-requires-clause-counters
 read_row-requires-clause-counters g c = λ k b is. all_is_made b.counted_by

@@ -1,5 +1,4 @@
-use Rattle.std.proofs.Common.{◌≡◌, ◌∙◌, ◌+◌, ◌≤◌, length, length-take, arith}
-use Rattle.std.proofs.lemmas.List.{take_at}
+use Rattle.std.proofs.{Common.{◌≡◌, ◌∙◌, ◌+◌, ◌≤◌, length, length-take, arith}, lemmas.List.{take_at}}
 use Rattle.rio_host.proofs.RangeLaws.{has_range, take_within}
 use Rattle.rio_session.proofs.open_front.first_bytes.Goals as goal
 

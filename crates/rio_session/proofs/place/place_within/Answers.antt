@@ -1,6 +1,5 @@
-use Rattle.std.proofs.Common.{◌≡◌, arith, Option, List, [], ◌∷◌, ◌++◌, ◌≤◌, ap, subst, ℕ, ◌∙◌}
+use Rattle.std.proofs.{Common.{◌≡◌, arith, Option, List, [], ◌∷◌, ◌++◌, ◌≤◌, ap, subst, ℕ, ◌∙◌}, lemmas.Result.{err_from_is_err_and}}
 use Rattle.std.specs.Prelude.{slice_get, unwrap_or}
-use Rattle.std.proofs.lemmas.Result.{err_from_is_err_and}
 use Rattle.rio_chain.specs.Placing.{end_after, place_of, places_of, space_of}
 use Rattle.rio_session.proofs.Places.{full_told, has_room, place_low, placed_end}
 use Rattle.rio_session.proofs.place.place_within.Goals as goal

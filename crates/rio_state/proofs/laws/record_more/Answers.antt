@@ -1,6 +1,4 @@
-use Rattle.rio_state.proofs.KeysFollow.{keys_follow}
-use Rattle.rio_state.proofs.MoreRecords.{count_grows, first_stays, record_more}
-use Rattle.rio_state.proofs.Stays.{info_stays}
+use Rattle.rio_state.proofs.{KeysFollow.{keys_follow}, MoreRecords.{count_grows, first_stays, record_more}, Stays.{info_stays}}
 use Rattle.rio_state.proofs.laws.record_more.Goals as goal
 
 pub returns-clause-more : goal.returns-clause-more

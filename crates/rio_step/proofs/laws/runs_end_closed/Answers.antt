@@ -1,5 +1,4 @@
-use Rattle.rio_step.proofs.ClosedLaws.{closed_has_none_pending, saved_keeps_the_rest}
-use Rattle.rio_step.proofs.RunLaws.{run_end}
+use Rattle.rio_step.proofs.{ClosedLaws.{closed_has_none_pending, saved_keeps_the_rest}, RunLaws.{run_end}}
 use Rattle.rio_step.proofs.laws.runs_end_closed.Goals as goal
 
 pub returns-clause-last : goal.returns-clause-last

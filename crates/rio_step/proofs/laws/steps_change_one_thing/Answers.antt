@@ -1,5 +1,4 @@
-use Rattle.rio_step.proofs.DeleteLaws.{deletes_take_one}
-use Rattle.rio_step.proofs.StepLaws.{puts_add_one, refused_changes_nothing}
+use Rattle.rio_step.proofs.{DeleteLaws.{deletes_take_one}, StepLaws.{puts_add_one, refused_changes_nothing}}
 use Rattle.rio_step.proofs.laws.steps_change_one_thing.Goals as goal
 
 pub returns-clause-refused : goal.returns-clause-refused

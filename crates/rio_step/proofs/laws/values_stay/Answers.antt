@@ -1,5 +1,4 @@
-use Rattle.rio_step.proofs.FitStays.{fits_stay}
-use Rattle.rio_step.proofs.WritingLaws.{written_stays}
+use Rattle.rio_step.proofs.{FitStays.{fits_stay}, WritingLaws.{written_stays}}
 use Rattle.rio_step.proofs.laws.values_stay.Goals as goal
 
 pub returns-clause-fits : goal.returns-clause-fits

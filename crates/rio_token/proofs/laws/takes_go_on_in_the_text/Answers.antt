@@ -1,5 +1,4 @@
-use Rattle.rio_token.proofs.FurtherLaws.{further_goes_on, further_is_in_text, takes_end_further}
-use Rattle.rio_token.proofs.PassLaws.{passed_takes_some}
+use Rattle.rio_token.proofs.{FurtherLaws.{further_goes_on, further_is_in_text, takes_end_further}, PassLaws.{passed_takes_some}}
 use Rattle.rio_token.proofs.laws.takes_go_on_in_the_text.Goals as goal
 
 pub returns-clause-takes : goal.returns-clause-takes

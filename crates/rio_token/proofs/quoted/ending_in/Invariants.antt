@@ -1,6 +1,5 @@
 use Rattle.std.proofs.Common.{◌≡◌, drop}
-use Rattle.rio_token.specs.Quoted.{later, quoted}
-use Rattle.rio_token.specs.declared.quoted.Within.TheVariants.{Between}
+use Rattle.rio_token.specs.{Quoted.{later, quoted}, declared.quoted.Within.TheVariants.{Between}}
 use Rattle.rio_token.proofs.quoted.ending_in.Given as goal
 
 abbrev pub invariant-loop-i : goal.invariant-loop-i

@@ -1,6 +1,5 @@
 use Rattle.std.proofs.Common.{◌≡◌, ◌++◌, drop}
-use Rattle.rio_token.specs.Quoted.{quoted}
-use Rattle.rio_token.specs.declared.quoted.Within.TheVariants.{Between}
+use Rattle.rio_token.specs.{Quoted.{quoted}, declared.quoted.Within.TheVariants.{Between}}
 use Rattle.rio_token.proofs.quoted.spelled.Given as goal
 
 abbrev pub invariant-loop-byte : goal.invariant-loop-byte

@@ -1,5 +1,4 @@
-use Rattle.std.proofs.Common.{◌≡◌, arith, of_z, to_z, w32}
-use Rattle.std.proofs.lemmas.Int.{to_z-of_z}
+use Rattle.std.proofs.{Common.{◌≡◌, arith, of_z, to_z, w32}, lemmas.Int.{to_z-of_z}}
 use Rattle.rio_tree.proofs.written.object_branch.Goals as goal
 
 pub returns : goal.returns

@@ -1,7 +1,6 @@
 use Rattle.std.proofs.Common.{◌≡◌, drop}
 use Rattle.std.specs.List.{flat_map}
-use Rattle.rio_tree_head.specs.Labels.{labelled_in, or_labelled}
-use Rattle.rio_tree_head.specs.Tables.{labels_of}
+use Rattle.rio_tree_head.specs.{Labels.{labelled_in, or_labelled}, Tables.{labels_of}}
 use Rattle.rio_tree_head.proofs.labels.+labels.Given as goal
 
 abbrev pub invariant-note_items-loop-item : goal.invariant-note_items-loop-item

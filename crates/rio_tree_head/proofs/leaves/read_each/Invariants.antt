@@ -1,7 +1,5 @@
 use Rattle.std.proofs.Common.{◌≡◌, drop, length}
-use Rattle.rio_tree_head.specs.HeaderLeaves.{leaves_met}
-use Rattle.rio_tree_head.specs.Refusals.{leaves_from, no_leaves}
-use Rattle.rio_tree_head.specs.Tables.{labels_of, leaves_of_branch, met_of}
+use Rattle.rio_tree_head.specs.{HeaderLeaves.{leaves_met}, Refusals.{leaves_from, no_leaves}, Tables.{labels_of, leaves_of_branch, met_of}}
 use Rattle.rio_tree_head.proofs.leaves.read_each.Given as goal
 
 abbrev pub invariant-loop-k : goal.invariant-loop-k

@@ -1,7 +1,5 @@
 use Rattle.std.proofs.Common.{◌≡◌, [], drop}
-use Rattle.rio_tree_head.specs.Header.{branches_from}
-use Rattle.rio_tree_head.specs.HeaderLeaves.{no_leaves_met}
-use Rattle.rio_tree_head.specs.Tables.{labels_of, met_of}
+use Rattle.rio_tree_head.specs.{Header.{branches_from}, HeaderLeaves.{no_leaves_met}, Tables.{labels_of, met_of}}
 use Rattle.rio_tree_head.proofs.read.read_branches.Given as goal
 
 abbrev pub invariant-loop-item : goal.invariant-loop-item

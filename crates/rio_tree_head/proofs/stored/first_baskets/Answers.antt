@@ -1,8 +1,6 @@
 use Rattle.std.proofs.Common.{◌+◌, ◌-◌, ◌∙◌, ◌++◌, List, ap}
 use Rattle.std.specs.Option.{option_map}
-use Rattle.rio_tree_head.specs.declared.basket_at.BasketAt.{BasketAt}
-use Rattle.rio_tree_head.specs.Refusals.{baskets_from}
-use Rattle.rio_tree_head.specs.Tables.{branch_of}
+use Rattle.rio_tree_head.specs.{declared.basket_at.BasketAt.{BasketAt}, Refusals.{baskets_from}, Tables.{branch_of}}
 use Rattle.rio_tree_head.proofs.StoredLaws.{one_basket_more}
 use Rattle.rio_tree_head.proofs.stored.first_baskets.Goals as goal
 

@@ -1,7 +1,6 @@
 use Rattle.std.proofs.Common.{◌≡◌, ◌-◌, ◌++◌}
 use Rattle.std.specs.Option.{option_map}
-use Rattle.rio_tree_head.specs.Refusals.{baskets_from}
-use Rattle.rio_tree_head.specs.Tables.{branch_of}
+use Rattle.rio_tree_head.specs.{Refusals.{baskets_from}, Tables.{branch_of}}
 use Rattle.rio_tree_head.proofs.stored.first_baskets.Given as goal
 
 abbrev pub invariant-loop-k : goal.invariant-loop-k

@@ -1,9 +1,6 @@
-use Rattle.std.proofs.Common.{ℕ, List, [], ◌∷◌, set, subst, sym, ◌∙◌, arith}
-use Rattle.std.proofs.lemmas.List.{length-append}
-use Rattle.rio_types.specs.Index.{NewestLead}
-use Rattle.rio_types.specs.Places.{is_named}
-use Rattle.rio_types.proofs.ForgetLaws.{back_alone, back_beside}
-use Rattle.rio_types.proofs.NewestLaws.{place_below}
+use Rattle.std.proofs.{Common.{ℕ, List, [], ◌∷◌, set, subst, sym, ◌∙◌, arith}, lemmas.List.{length-append}}
+use Rattle.rio_types.specs.{Index.{NewestLead}, Places.{is_named}}
+use Rattle.rio_types.proofs.{ForgetLaws.{back_alone, back_beside}, NewestLaws.{place_below}}
 use Rattle.rio_types.proofs.forget.forget_newest.Goals as goal
 
 pub index_mut-requires : goal.index_mut-requires

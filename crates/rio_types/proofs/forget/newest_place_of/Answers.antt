@@ -1,9 +1,7 @@
-use Rattle.std.proofs.Common.{◌≡◌, ◌<◌, ℕ, List, get_or, Option, Some, None, length, refl, subst, sym, arith}
+use Rattle.std.proofs.{Common.{◌≡◌, ◌<◌, ℕ, List, get_or, Option, Some, None, length, refl, subst, sym, arith}, lemmas.Option.{slice_get_read}}
 use Rattle.std.specs.List.{slice_get}
-use Rattle.std.proofs.lemmas.Option.{slice_get_read}
 use Rattle.rio_types.specs.declared.class.ClassDef.{ClassDef}
-use Rattle.rio_types.proofs.ChainLaws.{IsWalked, end_of, walk_begins, walk_ends_sooner, walk_steps, walked_all}
-use Rattle.rio_types.proofs.ForgetLaws.{none_newest}
+use Rattle.rio_types.proofs.{ChainLaws.{IsWalked, end_of, walk_begins, walk_ends_sooner, walk_steps, walked_all}, ForgetLaws.{none_newest}}
 use Rattle.rio_types.proofs.forget.newest_place_of.Goals as goal
 
 here : (cs : List ClassDef) (name : List ℕ) (k : ℕ) (best : Option ℕ) (x : ClassDef) → IsWalked cs name (Some k) best → x ≡ get_or cs k x → slice_get cs k ≡ Some x

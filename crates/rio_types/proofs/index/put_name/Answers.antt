@@ -1,9 +1,5 @@
-use Rattle.std.proofs.Common.{ℕ, Bool, cond, Option, Some, ap, ◌∙◌, nat_cmp}
-use Rattle.std.specs.Map.{lookup}
-use Rattle.std.specs.Ordering.{is_eq}
-use Rattle.std.specs.Cmp.Lexicographic.{slice_cmp}
-use Rattle.std.specs.Str.{bytes_eq}
-use Rattle.std.proofs.lemmas.Map.Text.{is_eq-slice_cmp}
+use Rattle.std.proofs.{Common.{ℕ, Bool, cond, Option, Some, ap, ◌∙◌, nat_cmp}, lemmas.Map.Text.{is_eq-slice_cmp}}
+use Rattle.std.specs.{Map.{lookup}, Ordering.{is_eq}, Cmp.Lexicographic.{slice_cmp}, Str.{bytes_eq}}
 use Rattle.rio_types.specs.Index.{name_place}
 use Rattle.rio_types.proofs.MapLaws.{bytes-insert}
 use Rattle.rio_types.proofs.index.put_name.Goals as goal

@@ -1,8 +1,6 @@
-use Rattle.std.proofs.Common.{◌≡◌, ◌<◌, ℕ, List, [], ◌∷◌, ◌++◌, length, get_or, set, subst, sym, ap, ◌∙◌, arith}
-use Rattle.std.proofs.lemmas.List.{length-append}
+use Rattle.std.proofs.{Common.{◌≡◌, ◌<◌, ℕ, List, [], ◌∷◌, ◌++◌, length, get_or, set, subst, sym, ap, ◌∙◌, arith}, lemmas.List.{length-append}}
 use Rattle.std.proofs.lemmas.Option.{get_or_from_slice_get, slice_get-get_or}
-use Rattle.rio_types.specs.Index.{newest_place, NewestLead}
-use Rattle.rio_types.specs.Places.{is_named}
+use Rattle.rio_types.specs.{Index.{newest_place, NewestLead}, Places.{is_named}}
 use Rattle.rio_types.proofs.NewestLaws.{newest_leads, place_below}
 use Rattle.rio_types.proofs.index.put_newest.Goals as goal
 

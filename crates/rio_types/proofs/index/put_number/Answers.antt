@@ -1,6 +1,5 @@
-use Rattle.std.proofs.Common.{arith, ◌≡◌, ℕ, ℤ, Bool, cond, Option, Some, ap, ◌∙◌, nat_cmp, int_cmp, is_eq, w64, to_z, of_z}
+use Rattle.std.proofs.{Common.{arith, ◌≡◌, ℕ, ℤ, Bool, cond, Option, Some, ap, ◌∙◌, nat_cmp, int_cmp, is_eq, w64, to_z, of_z}, lemmas.Int.{to_z-of_z}}
 use Rattle.std.specs.Ordering.{ordering_then}
-use Rattle.std.proofs.lemmas.Int.{to_z-of_z}
 use Rattle.rio_types.specs.Index.{number_place}
 use Rattle.rio_types.proofs.MapLaws.{pair_is_at}
 use Rattle.rio_types.proofs.index.put_number.Goals as goal

@@ -1,6 +1,5 @@
 use Rattle.std.proofs.Common.{ℕ, List, ap, ◌∙◌}
-use Rattle.std.specs.List.{list_any}
-use Rattle.std.specs.Str.{bytes_eq}
+use Rattle.std.specs.{List.{list_any}, Str.{bytes_eq}}
 use Rattle.rio_types.proofs.members.can_read.Goals as goal
 
 pub returns-in-Counted : goal.returns-in-Counted

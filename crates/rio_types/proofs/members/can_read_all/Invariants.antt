@@ -1,6 +1,5 @@
 use Rattle.std.proofs.Common.{◌≡◌, ℕ, List, [], drop}
-use Rattle.rio_types.specs.CounterSet.{HasNames}
-use Rattle.rio_types.specs.Members.{can_read_all}
+use Rattle.rio_types.specs.{CounterSet.{HasNames}, Members.{can_read_all}}
 use Rattle.rio_types.proofs.members.can_read_all.Given as goal
 
 abbrev pub invariant-loop-member : goal.invariant-loop-member

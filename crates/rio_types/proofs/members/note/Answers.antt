@@ -1,6 +1,5 @@
 use Rattle.std.proofs.Common.{◌≡◌, ℕ, List, Bool, true, ◌||◌, sym, ap, ◌∙◌, Bor}
-use Rattle.std.specs.List.{list_any}
-use Rattle.std.specs.Str.{bytes_eq}
+use Rattle.std.specs.{List.{list_any}, Str.{bytes_eq}}
 use Rattle.rio_types.specs.Members.{is_counter}
 use Rattle.rio_types.proofs.NameLaws.{is_new_or}
 use Rattle.rio_types.proofs.members.note.Goals as goal

@@ -1,7 +1,6 @@
 use Rattle.std.proofs.Common.{◌≡◌, ◌++◌, codes, drop, map}
 use Rattle.std.specs.List.{flat_map}
-use Rattle.rio_model.specs.Lists.{separated}
-use Rattle.rio_model.specs.ValueText.{between_braces, part_texts, printed_part, text_of_value}
+use Rattle.rio_model.specs.{Lists.{separated}, ValueText.{between_braces, part_texts, printed_part, text_of_value}}
 use Rattle.rio_valtext.proofs.print.+put.Given as goal
 
 abbrev pub invariant-put_items-loop-item : goal.invariant-put_items-loop-item

@@ -1,5 +1,4 @@
-use Rattle.std.proofs.Common.{rules, w32, SFits}
-use Rattle.std.proofs.lemmas.Int.{to_z-of_z}
+use Rattle.std.proofs.{Common.{rules, w32, SFits}, lemmas.Int.{to_z-of_z}}
 use Rattle.rio_valtext.proofs.ResolveLaws.{resolving-Object}
 use Rattle.rio_valtext.proofs.resolving.+resolve.Goals as goal
 

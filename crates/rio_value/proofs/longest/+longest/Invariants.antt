@@ -1,6 +1,5 @@
 use Rattle.std.proofs.Common.{◌≡◌, max, map, drop, length}
-use Rattle.rio_value.specs.Depth.{greatest}
-use Rattle.rio_value.specs.LongestList.{longest_list_of}
+use Rattle.rio_value.specs.{Depth.{greatest}, LongestList.{longest_list_of}}
 use Rattle.rio_value.proofs.longest.+longest.Given as goal
 
 abbrev pub invariant-longest_of_items-loop-item : goal.invariant-longest_of_items-loop-item

@@ -1,9 +1,6 @@
 use Rattle.std.proofs.Common.{◌+◌, ◌∙◌, Option, ap, drop, refl, sym, rules}
-use Rattle.std.specs.List.{flat_map}
-use Rattle.std.specs.Option.{option_or}
-use Rattle.rio_value.specs.Accessors.{part_of}
-use Rattle.rio_value.specs.declared.value.Value.{Value}
-use Rattle.rio_value.specs.PartsWithBases.{member_in, parts_of_base}
+use Rattle.std.specs.{List.{flat_map}, Option.{option_or}}
+use Rattle.rio_value.specs.{Accessors.{part_of}, declared.value.Value.{Value}, PartsWithBases.{member_in, parts_of_base}}
 use Rattle.rio_value.proofs.MemberLaws.{bases-drop, member-Object, member_by_layer}
 use Rattle.rio_value.proofs.member.+member.Goals as goal
 

@@ -1,7 +1,6 @@
 use Rattle.std.proofs.Common.{map, drop}
 use Rattle.rio_format.specs.Written.{all, fields_bytes, writing_of}
-use Rattle.rio_write.specs.Sinks.{RoomFor}
-use Rattle.rio_write.specs.Writing.{part_writing}
+use Rattle.rio_write.specs.{Sinks.{RoomFor}, Writing.{part_writing}}
 use Rattle.rio_write.proofs.SinkLaws.{Leads}
 use Rattle.rio_write.proofs.walk.+write.Given as goal
 

@@ -1,5 +1,4 @@
-use Rattle.std.proofs.Common.{◌++◌, drop, length, length-append, length-take, subst, sym, ◌∙◌, arith}
-use Rattle.std.proofs.lemmas.Result.{err_from_is_err_and}
+use Rattle.std.proofs.{Common.{◌++◌, drop, length, length-append, length-take, subst, sym, ◌∙◌, arith}, lemmas.Result.{err_from_is_err_and}}
 use Rattle.rio_num.specs.Room.{Room}
 use Rattle.rio_host.specs.Host.{Becomes}
 use Rattle.rootio.specs.Input.{TakenAll}

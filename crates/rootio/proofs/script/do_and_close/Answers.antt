@@ -1,18 +1,10 @@
-use Rattle.std.proofs.Common.{◌++◌, ◌∙◌, List, ℕ, Some, ap, subst, sym}
-use Rattle.std.proofs.lemmas.Result.{IfOk-from_err, err_from_is_err_and}
-use Rattle.rio_host.proofs.Moments.{elapses_join}
+use Rattle.std.proofs.{Common.{◌++◌, ◌∙◌, List, ℕ, Some, ap, subst, sym}, lemmas.Result.{IfOk-from_err, err_from_is_err_and}}
+use Rattle.rio_host.proofs.{Moments.{elapses_join}, PiecesLaws.{grown_join}}
 use Rattle.rio_step.specs.Runs.{state_after}
-use Rattle.rio_session.specs.Closes.{ClosesFile, IsWellClosed}
-use Rattle.rio_session.specs.Session.{ClosesAs}
-use Rattle.rio_session.proofs.CloseStates.{holds_closed_file}
-use Rattle.rio_session.proofs.Spoken.{grows_none}
-use Rattle.rootio.specs.Headline.{all_replies}
-use Rattle.rootio.specs.Script.{session_run}
-use Rattle.rootio.proofs.Doing.{cause_of_close, on_ok_all}
-use Rattle.rootio.proofs.RunStops.{stop_closing}
-use Rattle.rootio.proofs.SaidFronts.{grows_join}
-use Rattle.rootio.proofs.Unclosed.{close_open, stays_open}
-use Rattle.rootio.proofs.Untouched.{any_join}
+use Rattle.rio_session.specs.{Closes.{ClosesFile, IsWellClosed}, Session.{ClosesAs}}
+use Rattle.rio_session.proofs.{CloseStates.{holds_closed_file}, Spoken.{grows_none}}
+use Rattle.rootio.specs.{Headline.{all_replies}, Script.{session_run}}
+use Rattle.rootio.proofs.{Doing.{cause_of_close, on_ok_all}, RunStops.{stop_closing}, Unclosed.{close_open, stays_open}, Untouched.{any_join}}
 use Rattle.rootio.proofs.script.do_and_close.Goals as goal
 
 pub returns-in_err-do_commands : goal.returns-in_err-do_commands
@@ -47,7 +39,7 @@ returns g c =
           let end = state_after m c.args.commands.now r.marks in
           let done = all.done m text stands in
           record {
-            said = c.close.ensures.said ∙ done.stands.said;
+            said = c.close.ensures.writes.said ∙ done.stands.said;
             left = λ image told leaves. closed end (text ++ all_replies r) done.stands image told leaves;
             written = λ image told leaves.
                 let closes : ClosesFile (g.H.Host.view c.do_commands.new.host) (g.H.Host.view c.close.new.host) c.do_commands.new.session = written end (text ++ all_replies r) done.stands in
@@ -60,9 +52,9 @@ returns g c =
           let r = session_run c.args.session m c.args.commands.now in
           close_open (g.H.Host.view c.do_commands.new.host) (g.H.Host.view c.close.new.host) c.do_commands.new.session (state_after m c.args.commands.now r.marks)
           (text ++ all_replies r) all.ready (all.done m text stands).stands (g.met.H.Host.lawful c.close.new.host) r text c.close.result
-          (c.close.ensures.said ∙ (all.done m text stands).stands.said) c.close.ensures.no_memory c.close.ensures.cause;
-      told = any_join (g.H.Host.view c.args.host.now).holds (g.H.Host.view c.do_commands.new.host).holds (g.H.Host.view c.close.new.host).holds all.told c.close.ensures.told;
-      said = grows_join (g.H.Host.view c.args.host.now).said (g.H.Host.view c.do_commands.new.host).said (g.H.Host.view c.close.new.host).said all.said
-          (grows_none (g.H.Host.view c.do_commands.new.host).said (g.H.Host.view c.close.new.host).said c.close.ensures.said);
+          (c.close.ensures.writes.said ∙ (all.done m text stands).stands.said) c.close.ensures.no_memory c.close.ensures.cause;
+      told = any_join (g.H.Host.view c.args.host.now).holds (g.H.Host.view c.do_commands.new.host).holds (g.H.Host.view c.close.new.host).holds all.told c.close.ensures.writes.told;
+      said = grown_join (g.H.Host.view c.args.host.now).said (g.H.Host.view c.do_commands.new.host).said (g.H.Host.view c.close.new.host).said all.said
+          (grows_none (g.H.Host.view c.do_commands.new.host).said (g.H.Host.view c.close.new.host).said c.close.ensures.writes.said);
       cause = cause_of_close (g.H.Host.view c.args.host.now) (g.H.Host.view c.do_commands.new.host) (g.H.Host.view c.close.new.host) c.close.result all.cause c.close.ensures.cause;
     }

@@ -1,9 +1,8 @@
 use Rattle.std.proofs.lemmas.Result.{IfOk-from_err, err_from_is_err_and}
+use Rattle.rio_host.proofs.PiecesLaws.{grown_join}
 use Rattle.rio_machine.specs.declared.command.Outcome.{Outcome}
 use Rattle.rootio.proofs.Built.{built_at, statable_at}
-use Rattle.rootio.proofs.Doing.{all_done, cause_behind, does_next, leaves_open, nothing_yet, room_there, stops_there, unsaid_there}
-use Rattle.rootio.proofs.SaidFronts.{grows_join}
-use Rattle.rootio.proofs.Untouched.{any_join}
+use Rattle.rootio.proofs.{Doing.{all_done, cause_behind, does_next, leaves_open, nothing_yet, room_there, stops_there, unsaid_there}, Untouched.{any_join}}
 use Rattle.rootio.proofs.script.do_commands.Goals as goal
 
 pub loop-command-init : goal.loop-command-init
@@ -47,7 +46,7 @@ returns-in_err-apply g c =
       ready = IfOk-from_err c.from_residual.result _ c.from_residual.ensures.0;
       fresh = IfOk-from_err c.from_residual.result _ c.from_residual.ensures.0;
       told = any_join (g.H.Host.view c.args.host.now).holds (g.H.Host.view c.loop-command.host).holds (g.H.Host.view c.apply.new.host).holds c.loop-command.invariant.told c.in_err-apply.ensures.told;
-      said = grows_join (g.H.Host.view c.args.host.now).said (g.H.Host.view c.loop-command.host).said (g.H.Host.view c.apply.new.host).said c.loop-command.invariant.said c.in_err-apply.ensures.said;
+      said = grown_join (g.H.Host.view c.args.host.now).said (g.H.Host.view c.loop-command.host).said (g.H.Host.view c.apply.new.host).said c.loop-command.invariant.said c.in_err-apply.ensures.said;
       cause = rw (p.1, p.2)
           (cause_behind Outcome (Unit {0}) (g.H.Host.view c.args.host.now) (g.H.Host.view c.loop-command.host) (g.H.Host.view c.apply.new.host) c.in_err-apply.field-0.0 c.loop-command.invariant.none
           c.in_err-apply.ensures.cause);

@@ -1,6 +1,5 @@
 use Rattle.std.proofs.Common.{Err, Some, refl}
-use Rattle.rio_host.proofs.PiecesLaws.{reads_part}
-use Rattle.rio_host.proofs.ReadsLaws.{reads_none}
+use Rattle.rio_host.proofs.{PiecesLaws.{reads_part}, ReadsLaws.{reads_none}}
 use Rattle.rio_dir.specs.Listing.{said_listing}
 use Rattle.rio_meaning.specs.Dump.{dumped_file}
 use Rattle.rio_close.specs.declared.fault.ReportFault.TheVariants.{NoMemory}

@@ -1,9 +1,6 @@
 use Rattle.std.proofs.Common.{◌≡◌, Some}
-use Rattle.rootio.specs.declared.words.Form.TheVariants.{Reads, Writes}
-use Rattle.rootio.specs.Words.{form_of_words}
-use Rattle.rootio.proofs.Completes.{completes, formed}
-use Rattle.rootio.proofs.Endings.{ends_complete, ends_refused, ends_tells}
-use Rattle.rootio.proofs.Named.{writes_named}
+use Rattle.rootio.specs.{declared.words.Form.TheVariants.{Reads, Writes}, Words.{form_of_words}}
+use Rattle.rootio.proofs.{Completes.{completes, formed}, Endings.{ends_complete, ends_refused, ends_tells}, Named.{writes_named}}
 use Rattle.rootio.proofs.top.run.Goals as goal
 
 pub returns-in-Some-Reads-clause-bad_file : goal.returns-in-Some-Reads-clause-bad_file

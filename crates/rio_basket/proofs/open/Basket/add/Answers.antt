@@ -1,9 +1,7 @@
-use Rattle.std.proofs.Common.{rules, ◌≡◌, ◌+◌, ℕ, List, [], ◌∷◌, ◌++◌, length, true, ap, ◌∙◌}
-use Rattle.std.proofs.lemmas.List.{length-append}
+use Rattle.std.proofs.{Common.{rules, ◌≡◌, ◌+◌, ℕ, List, [], ◌∷◌, ◌++◌, length, true, ap, ◌∙◌}, lemmas.List.{length-append}}
 use Rattle.rio_num.specs.Room.{Room}
 use Rattle.rio_basket.specs.Open.{OpenBasket, cut_from, fits_entry, is_cut, with_entry}
-use Rattle.rio_basket.proofs.CutLaws.{even_more}
-use Rattle.rio_basket.proofs.OpenLaws.{cut_more, is_cut_more}
+use Rattle.rio_basket.proofs.{CutLaws.{even_more}, OpenLaws.{cut_more, is_cut_more}}
 use Rattle.rio_basket.proofs.open.Basket.add.Goals as goal
 
 pub invariant_of-self-2 : goal.invariant_of-self-2

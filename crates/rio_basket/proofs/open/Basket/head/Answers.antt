@@ -1,12 +1,9 @@
-use Rattle.std.proofs.Common.{◌≡◌, ℕ, ◌+◌, ◌<◌, ◌^◌, length, ℤ, pos, ◌+ℤ◌, sym, ap, ◌∙◌, arith}
+use Rattle.std.proofs.{Common.{◌≡◌, ℕ, ◌+◌, ◌<◌, ◌^◌, length, ℤ, pos, ◌+ℤ◌, sym, ap, ◌∙◌, arith}, lemmas.Int.{ints, to_z-of_z}}
 use Rattle.std.specs.Int.{w32, cast_signed, cast_unsigned}
-use Rattle.std.proofs.lemmas.Int.{ints, to_z-of_z}
 use Rattle.rio_key.proofs.Signed.{signed_is}
-use Rattle.rio_basket.specs.Open.{OpenBasket, entries_length}
-use Rattle.rio_basket.specs.Record.{entry_size}
-use Rattle.rio_basket.proofs.HeldLaws.{held_length, size_small, size_with, size_without}
+use Rattle.rio_basket.specs.{Open.{OpenBasket, entries_length}, Record.{entry_size}}
+use Rattle.rio_basket.proofs.{HeldLaws.{held_length, size_small, size_with, size_without}, open.Basket.head.Goals.{then-self, else-self}}
 use Rattle.rio_basket.proofs.open.Basket.head.Goals as goal
-use Rattle.rio_basket.proofs.open.Basket.head.Goals.{then-self, else-self}
 
 sum_signed : (k d : ℕ) (z : ℤ) → z ≡ pos k → k + d < 2 ^ 31 → cast_signed w32 (cast_unsigned w32 (cast_signed w32 (cast_unsigned w32 z) +ℤ cast_signed w32 d)) ≡ pos (k + d)
 sum_signed k d z e small =

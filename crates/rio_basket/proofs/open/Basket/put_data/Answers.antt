@@ -1,10 +1,8 @@
 use Rattle.std.proofs.Common.{◌≡◌, true, false, sym, ap, ◌∙◌}
 use Rattle.std.specs.List.{concat}
 use Rattle.rio_num.specs.Room.{Room, with_more}
-use Rattle.rio_basket.specs.Open.{OpenBasket}
-use Rattle.rio_basket.specs.Record.{offset_table}
-use Rattle.rio_basket.proofs.HeldLaws.{data_alone, data_parts, held_bytes}
-use Rattle.rio_basket.proofs.PutLaws.{with_more-with_more}
+use Rattle.rio_basket.specs.{Open.{OpenBasket}, Record.{offset_table}}
+use Rattle.rio_basket.proofs.{HeldLaws.{data_alone, data_parts, held_bytes}, PutLaws.{with_more-with_more}}
 use Rattle.rio_basket.proofs.open.Basket.put_data.Goals as goal
 
 pub returns-in_ok-put_table : goal.returns-in_ok-put_table

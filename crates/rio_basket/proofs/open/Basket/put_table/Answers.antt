@@ -1,13 +1,9 @@
-use Rattle.std.proofs.Common.{◌≡◌, ℕ, ◌+◌, ◌<◌, List, ◌++◌, length, get_or, append_assoc, sym, ap, ◌∙◌, arith}
+use Rattle.std.proofs.{Common.{◌≡◌, ℕ, ◌+◌, ◌<◌, List, ◌++◌, length, get_or, append_assoc, sym, ap, ◌∙◌, arith}, lemmas.Result.{on_ok_weaker}}
 use Rattle.std.specs.List.{flat_map}
-use Rattle.std.proofs.lemmas.Result.{on_ok_weaker}
 use Rattle.byteorder.specs.Endian.{big_bytes}
 use Rattle.rio_num.specs.Room.{Room, with_more}
-use Rattle.rio_basket.specs.Open.{OpenBasket, entries_length}
-use Rattle.rio_basket.specs.Record.{offset_table}
-use Rattle.rio_basket.proofs.HeldLaws.{held_length, held_table}
-use Rattle.rio_basket.proofs.OpenLaws.{cut_bounds, length-cut}
-use Rattle.rio_basket.proofs.PutLaws.{with_more-with_more}
+use Rattle.rio_basket.specs.{Open.{OpenBasket, entries_length}, Record.{offset_table}}
+use Rattle.rio_basket.proofs.{HeldLaws.{held_length, held_table}, OpenLaws.{cut_bounds, length-cut}, PutLaws.{with_more-with_more}}
 use Rattle.rio_basket.proofs.open.Basket.put_table.Goals as goal
 
 pub put_ends-requires : goal.put_ends-requires

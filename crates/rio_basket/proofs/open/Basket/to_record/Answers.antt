@@ -1,10 +1,6 @@
 use Rattle.std.proofs.Common.{ℕ, ◌+◌, List, ◌++◌, ◌||◌, sym, ap, ◌∙◌, arith}
-use Rattle.rio_basket.specs.Entries.{entries_in}
-use Rattle.rio_basket.specs.Open.{OpenBasket, have_one_length}
-use Rattle.rio_basket.specs.Record.{basket_key, basket_key_length}
-use Rattle.rio_basket.proofs.HeldLaws.{data_same}
-use Rattle.rio_basket.proofs.RecordMade.{four_spare, made_is}
-use Rattle.rio_basket.proofs.WrittenBaskets.{is_basket_record}
+use Rattle.rio_basket.specs.{Entries.{entries_in}, Open.{OpenBasket, have_one_length}, Record.{basket_key, basket_key_length}}
+use Rattle.rio_basket.proofs.{HeldLaws.{data_same}, RecordMade.{four_spare, made_is}, WrittenBaskets.{is_basket_record}}
 use Rattle.rio_basket.proofs.open.Basket.to_record.Goals as goal
 
 pub data_length-requires : goal.data_length-requires

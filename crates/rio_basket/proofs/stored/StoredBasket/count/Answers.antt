@@ -1,5 +1,4 @@
-use Rattle.std.proofs.Common.{length, sym, ap, ◌∙◌}
-use Rattle.std.proofs.lemmas.List.FromFn.{length-map-range_with_len}
+use Rattle.std.proofs.{Common.{length, sym, ap, ◌∙◌}, lemmas.List.FromFn.{length-map-range_with_len}}
 use Rattle.rio_basket.specs.Entries.{laid_entry}
 use Rattle.rio_basket.proofs.stored.StoredBasket.count.Goals as goal
 

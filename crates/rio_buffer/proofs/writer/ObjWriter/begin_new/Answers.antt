@@ -1,7 +1,5 @@
-use Rattle.std.proofs.Common.{rules, ◌≡◌, ℕ, ◌<◌, ◌≤◌, ◌^◌, ◌+◌, ◌-◌, length, nat_eq, arith}
-use Rattle.std.proofs.lemmas.List.{length-append}
-use Rattle.indexmap.specs.IndexMap.{insert_entry}
-use Rattle.indexmap.specs.IndexSet.{insert_key}
+use Rattle.std.proofs.{Common.{rules, ◌≡◌, ℕ, ◌<◌, ◌≤◌, ◌^◌, ◌+◌, ◌-◌, length, nat_eq, arith}, lemmas.List.{length-append}}
+use Rattle.indexmap.specs.{IndexMap.{insert_entry}, IndexSet.{insert_key}}
 use Rattle.rio_buffer.specs.Writer.{spelled}
 use Rattle.rio_buffer.proofs.Kept.{key_kept, entry_kept, opened_kept}
 use Rattle.rio_buffer.proofs.writer.ObjWriter.begin_new.Goals as goal

@@ -1,7 +1,5 @@
 use Rattle.std.proofs.Common.{◌≡◌, ℕ, ◌+◌, ◌^◌, ◌<◌, ap, ◌∙◌}
-use Rattle.std.specs.List.{find}
-use Rattle.std.specs.Option.{option_map}
-use Rattle.std.specs.Str.{bytes_eq}
+use Rattle.std.specs.{List.{find}, Option.{option_map}, Str.{bytes_eq}}
 use Rattle.rio_buffer.specs.Writer.{WriterState, spelled}
 use Rattle.rio_buffer.proofs.Spelled.{place_found, place_holds}
 use Rattle.rio_buffer.proofs.writer.ObjWriter.place_of.Goals as goal

@@ -1,10 +1,8 @@
 use Rattle.std.proofs.Common.{◌≡◌, ◌∙◌, ◌+◌, ◌<◌, ◌≤◌, ap, arith}
 use Rattle.std.specs.Vec.{vec_len, vec_capacity}
-use Rattle.rio_free.proofs.Given.{one_more}
-use Rattle.rio_chain.specs.Chains.{ChainState}
-use Rattle.rio_chain.specs.Placing.{file_end}
-use Rattle.rio_chain.proofs.Indices.{count_low, kept_if_ok}
-use Rattle.rio_chain.proofs.Placed.{keeps_end}
+use Rattle.rio_num.proofs.Cases.{one_more}
+use Rattle.rio_chain.specs.{Chains.{ChainState}, Placing.{file_end}}
+use Rattle.rio_chain.proofs.{Indices.{count_low, kept_if_ok}, Placed.{keeps_end}}
 use Rattle.rio_chain.proofs.kept.Chain.note_end.Goals as goal
 
 pub overflow_add-self-2 : goal.overflow_add-self-2

@@ -1,9 +1,7 @@
 use Rattle.std.proofs.Common.{◌≡◌, ap, sym, subst, arith}
 use Rattle.rio_free.specs.Gaps.{FreeGaps, HasGapFor}
-use Rattle.rio_chain.specs.Chains.{ChainState}
-use Rattle.rio_chain.specs.Placing.{gaps_in}
-use Rattle.rio_chain.proofs.Indices.{count_low}
-use Rattle.rio_chain.proofs.Placed.{gap_low, keeps_gap}
+use Rattle.rio_chain.specs.{Chains.{ChainState}, Placing.{gaps_in}}
+use Rattle.rio_chain.proofs.{Indices.{count_low}, Placed.{gap_low, keeps_gap}}
 use Rattle.rio_chain.proofs.kept.Chain.note_gap.Goals as goal
 
 pub fill_gap-requires-clause-fits : goal.fill_gap-requires-clause-fits

@@ -1,7 +1,5 @@
 use Rattle.std.proofs.Common.{◌≡◌, ◌∙◌, ◌-◌, ⊎_elim, ap, sym, subst, arith}
-use Rattle.rio_chain.specs.Chains.{ChainState}
-use Rattle.rio_chain.specs.Placing.{file_end}
-use Rattle.rio_chain.specs.Adjoining.{AreSegments}
+use Rattle.rio_chain.specs.{Chains.{ChainState}, Placing.{file_end}, Adjoining.{AreSegments}}
 use Rattle.rio_chain.proofs.Placed.{place_free, end_grows, end_segments}
 use Rattle.rio_chain.proofs.kept.Chain.note_put.Goals as goal
 

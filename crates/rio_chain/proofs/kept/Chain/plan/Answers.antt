@@ -1,7 +1,6 @@
 use Rattle.std.proofs.Common.{◌∙◌, ap, arith}
 use Rattle.std.specs.Prelude.{sum}
-use Rattle.rio_chain.specs.Chains.{ChainState}
-use Rattle.rio_chain.specs.Placing.{file_end, space_of}
+use Rattle.rio_chain.specs.{Chains.{ChainState}, Placing.{file_end, space_of}}
 use Rattle.rio_chain.proofs.Laying.{end_grows}
 use Rattle.rio_chain.proofs.kept.Chain.plan.Goals as goal
 

@@ -1,10 +1,7 @@
 use Rattle.std.proofs.Common.{◌≡◌, ◌∙◌, ◌-◌, arith, length, length-append, take, drop, ap, sym, subst}
 use Rattle.std.specs.Prelude.{MatchOption}
-use Rattle.rio_chain.specs.Changes.{with_record}
-use Rattle.rio_chain.specs.Placing.{HasRest, file_end, with_segment, word_behind}
-use Rattle.rio_chain.specs.Chains.{ChainState, HasChain}
-use Rattle.rio_chain.proofs.Words.{whole_long, whole_small}
-use Rattle.rio_chain.proofs.PutChain.{behind_word, putting, put_time, put_holds}
+use Rattle.rio_chain.specs.{Changes.{with_record}, Placing.{HasRest, file_end, with_segment, word_behind}, Chains.{ChainState, HasChain}}
+use Rattle.rio_chain.proofs.{Words.{whole_long, whole_small}, PutChain.{behind_word, putting, put_time, put_holds}}
 use Rattle.rio_chain.proofs.kept.Chain.put_record.Goals as goal
 
 pub slice_bounds-put_behind-count : goal.slice_bounds-put_behind-count

@@ -1,9 +1,7 @@
-use Rattle.std.proofs.Common.{◌≡◌, ◌∙◌, ap, sym, subst, arith, List, ℕ}
+use Rattle.std.proofs.{Common.{◌≡◌, ◌∙◌, ap, sym, subst, arith, List, ℕ}, lemmas.List.{take_at}}
 use Rattle.std.specs.Prelude.{Contains}
-use Rattle.std.proofs.lemmas.List.{take_at}
 use Rattle.rio_num.specs.Room.{Room}
-use Rattle.rio_chain.specs.Chains.{ChainState}
-use Rattle.rio_chain.specs.Segments.{RecordAt}
+use Rattle.rio_chain.specs.{Chains.{ChainState}, Segments.{RecordAt}}
 use Rattle.rio_chain.proofs.Held.{found_at, record_read, record_within}
 use Rattle.rio_chain.proofs.kept.Chain.read_record.Goals as goal
 

@@ -1,8 +1,6 @@
 use Rattle.std.proofs.Common.{◌∙◌, ◌-◌, ⊎_elim, sym, subst, ℕ, arith}
 use Rattle.rio_free.specs.Gaps.{HasGapFor}
-use Rattle.rio_chain.specs.Adjoining.{segment_length}
-use Rattle.rio_chain.specs.Chains.{ChainState}
-use Rattle.rio_chain.specs.Placing.{gaps_in, HasRest}
+use Rattle.rio_chain.specs.{Adjoining.{segment_length}, Chains.{ChainState}, Placing.{gaps_in, HasRest}}
 use Rattle.rio_chain.proofs.Placed.{IsFree, filling, place_free, aligned_place, low_place, low_rest}
 use Rattle.rio_chain.proofs.kept.Chain.rest_behind.Goals as goal
 

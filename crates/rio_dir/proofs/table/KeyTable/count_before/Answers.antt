@@ -1,6 +1,5 @@
-use Rattle.std.proofs.Common.{◌≡◌, ◌∙◌, ap, subst, sym, rules}
+use Rattle.std.proofs.{Common.{◌≡◌, ◌∙◌, ap, subst, sym, rules}, lemmas.List.Sorted.{IsPartitionPoint-from_clause}}
 use Rattle.std.specs.List.{prefix_len}
-use Rattle.std.proofs.lemmas.List.Sorted.{IsPartitionPoint-from_clause}
 use Rattle.rio_dir.specs.Table.{AreOrdered, TableRoom, is_at_cycle, is_before}
 use Rattle.rio_dir.proofs.TableLists.{by_cycle, partitioned, point_is}
 use Rattle.rio_dir.proofs.table.KeyTable.count_before.Goals as goal

@@ -1,9 +1,10 @@
 use Rattle.std.proofs.Common.{◌≡◌, ◌∙◌, ◌+◌, ◌-◌, ◌<◌, ◌≤◌, List, ℕ, length, vec_len, vec_capacity, ap, subst, sym, arith}
-use Rattle.std.specs.List.{insert, prefix_len}
 use Rattle.std.proofs.lemmas.List.Sums.{prefix_len-le-length}
+use Rattle.std.specs.List.{insert, prefix_len}
+use Rattle.rio_num.proofs.Cases.{one_more}
 use Rattle.rio_dir.specs.Table.{AreOrdered, TableRoom, is_before, with_head}
 use Rattle.rio_key.specs.declared.head.KeyHead.{KeyHead}
-use Rattle.rio_dir.proofs.TableLists.{found_room, inserted_is, one_more, ordered_with}
+use Rattle.rio_dir.proofs.TableLists.{found_room, inserted_is, ordered_with}
 use Rattle.rio_dir.proofs.table.KeyTable.insert.Goals as goal
 
 pub insert-requires : goal.insert-requires

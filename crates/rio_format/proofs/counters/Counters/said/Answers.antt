@@ -1,8 +1,5 @@
-use Rattle.std.proofs.Common.{rules, ◌≡◌, ℤ, Some, None, SFits, w32, to_z, of_z, sym, ap, ◌∙◌, take}
-use Rattle.std.specs.Map.{lookup}
-use Rattle.std.specs.Str.{bytes_eq}
-use Rattle.std.proofs.lemmas.Int.{to_z-of_z}
-use Rattle.std.proofs.lemmas.List.{take_min}
+use Rattle.std.proofs.{Common.{rules, ◌≡◌, ℤ, Some, None, SFits, w32, to_z, of_z, sym, ap, ◌∙◌, take}, lemmas.Int.{to_z-of_z}, lemmas.List.{take_min}}
+use Rattle.std.specs.{Map.{lookup}, Str.{bytes_eq}}
 use Rattle.rio_format.specs.Counts.{last_first, number_by_name}
 use Rattle.rio_format.proofs.CounterLaws.{said_behind, said_before}
 use Rattle.rio_format.proofs.counters.Counters.said.Goals as goal

@@ -1,6 +1,5 @@
-use Rattle.std.proofs.Common.{◌≡◌, ◌∙◌, ltb, ap, subst, sym, rules}
+use Rattle.std.proofs.{Common.{◌≡◌, ◌∙◌, ltb, ap, subst, sym, rules}, lemmas.List.Sorted.{IsPartitionedBy-ltb, IsPartitionPoint-from_clause}}
 use Rattle.std.specs.List.{prefix_len}
-use Rattle.std.proofs.lemmas.List.Sorted.{IsPartitionedBy-ltb, IsPartitionPoint-from_clause}
 use Rattle.rio_free.specs.Gaps.{AreGaps, FreeGaps}
 use Rattle.rio_free.proofs.Order.{places_rise, point_is, start_of}
 use Rattle.rio_free.proofs.list.FreeList.count_before.Goals as goal

@@ -1,7 +1,6 @@
 use Rattle.std.proofs.Common.{◌-◌, ◌<◌, length, ap, arith}
 use Rattle.rio_free.specs.Gaps.{FreeGaps}
-use Rattle.rio_free.proofs.Order.{ends_fit}
-use Rattle.rio_free.proofs.Given.{ends_at}
+use Rattle.rio_free.proofs.{Order.{ends_fit}, Given.{ends_at}}
 use Rattle.rio_free.proofs.list.FreeList.ends_before.Goals as goal
 
 pub end-requires : goal.end-requires

@@ -1,9 +1,8 @@
 use Rattle.std.proofs.Common.{◌≡◌, ◌∙◌, ◌-◌, ◌+◌, ◌<◌, ◌≤◌, List, ltb, length, vec_len, vec_capacity, ap, sym, subst, arith}
 use Rattle.std.proofs.lemmas.List.Sums.{prefix_len-le-length}
-use Rattle.rio_free.specs.Gaps.{AreGaps, FreeGaps, gap_of, is_free}
-use Rattle.rio_free.specs.declared.gap.Gap.{Gap}
-use Rattle.rio_free.proofs.Order.{ends_fit}
-use Rattle.rio_free.proofs.Given.{gives, inserted, one_more}
+use Rattle.rio_num.proofs.Cases.{one_more}
+use Rattle.rio_free.specs.{Gaps.{AreGaps, FreeGaps, gap_of, is_free}, declared.gap.Gap.{Gap}}
+use Rattle.rio_free.proofs.{Order.{ends_fit}, Given.{gives, inserted}}
 use Rattle.rio_free.proofs.list.FreeList.give.Goals as goal
 
 pub ends_before-touches-requires : goal.ends_before-touches-requires

@@ -1,6 +1,5 @@
 use Rattle.std.proofs.Common.{◌∙◌, List, ap, sym, subst, arith}
-use Rattle.rio_free.specs.Gaps.{AreGaps, FreeGaps, is_free}
-use Rattle.rio_free.specs.declared.gap.Gap.{Gap}
+use Rattle.rio_free.specs.{Gaps.{AreGaps, FreeGaps, is_free}, declared.gap.Gap.{Gap}}
 use Rattle.rio_free.proofs.Taken.{taking}
 use Rattle.rio_free.proofs.list.FreeList.take.Goals as goal
 

@@ -1,10 +1,7 @@
 use Rattle.std.proofs.Common.{ℕ, List, length, Result, Ok, Err}
 use Rattle.std.specs.Prelude.{min, IfOk}
 use Rattle.rio_num.specs.declared.no_memory.NoMemory.{NoMemory}
-use Rattle.rio_host.specs.declared.change.Left.{Left}
-use Rattle.rio_host.specs.declared.change.Remains.{Remains}
-use Rattle.rio_host.specs.Replay.{Memory, disk_after, LeftSince}
-use Rattle.rio_host.specs.Stops.{IsLeft}
+use Rattle.rio_host.specs.{declared.change.Left.{Left}, declared.change.Remains.{Remains}, Replay.{Memory, disk_after, LeftSince}, Stops.{IsLeft}}
 use Rattle.rio_host.proofs.StopLaws.{left_allowed}
 use Rattle.rio_host.proofs.memory.MemHost.left.Goals as goal
 

@@ -1,7 +1,5 @@
 use Rattle.std.proofs.Common.{ℕ, List, Option, Some, inl, refl, sym, ap, subst, rules}
-use Rattle.rio_host.specs.declared.call.Call.TheVariants.{Write, FailedWrite}
-use Rattle.rio_host.specs.Host.{Becomes}
-use Rattle.rio_host.specs.Replay.{ChangeDone, disk_of, put_by}
+use Rattle.rio_host.specs.{declared.call.Call.TheVariants.{Write, FailedWrite}, Host.{Becomes}, Replay.{ChangeDone, disk_of, put_by}}
 use Rattle.rio_host.specs.ReplayLaws.{makes_same, put_by_makes, put_by_puts}
 use Rattle.rio_host.proofs.Calls.{change_still, change_holds, change_disk, change_flies, change_none}
 use Rattle.rio_host.proofs.memory.MemHost.put.Goals as goal

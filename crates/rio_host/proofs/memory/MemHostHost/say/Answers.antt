@@ -1,8 +1,6 @@
 use Rattle.std.proofs.Common.{ℕ, List, Option, Some, ◌/◌, length, take, inl, refl, ap, rules}
-use Rattle.rio_host.specs.Host.{Speaking}
-use Rattle.rio_host.specs.MemHost.{view_of}
-use Rattle.rio_host.proofs.Moments.{elapses_as}
-use Rattle.rio_host.proofs.Calls.{say_still, say_holds, say_text, say_time, says_in_parts, speaking_front}
+use Rattle.rio_host.specs.{Host.{Speaking}, MemHost.{view_of}}
+use Rattle.rio_host.proofs.{Moments.{elapses_as}, Calls.{say_still, say_holds, say_text, say_time, says_in_parts, speaking_front}}
 use Rattle.rio_host.proofs.memory.MemHostHost.say.Goals as goal
 
 abbrev some : List ℕ → Option (List ℕ)

@@ -1,6 +1,5 @@
 use Rattle.std.proofs.Common.{◌≡◌, length, Some, None, ap, arith}
-use Rattle.rio_index.specs.Scan.{RowScan}
-use Rattle.rio_index.specs.declared.lane.Lane.{Lane}
+use Rattle.rio_index.specs.{Scan.{RowScan}, declared.lane.Lane.{Lane}}
 use Rattle.rio_index.proofs.ScanLaws.{goes_on, same_length}
 use Rattle.rio_index.proofs.scanner.Scanner.refuse.Goals as goal
 

@@ -1,6 +1,5 @@
 use Rattle.std.proofs.Common.{◌+◌, ◌∙◌, ap, subst}
-use Rattle.rio_judge.specs.Judging.{IsWorkOf}
-use Rattle.rio_judge.specs.declared.work.Work.{Work}
+use Rattle.rio_judge.specs.{Judging.{IsWorkOf}, declared.work.Work.{Work}}
 use Rattle.rio_judge.proofs.CostLaws.{get_cost, list_cost, put_cost}
 use Rattle.rio_judge.proofs.work.Work.cost.Goals as goal
 

@@ -1,7 +1,6 @@
 use Rattle.std.proofs.Common.{◌≡◌, ◌++◌, ℕ, List, subst, rules}
 use Rattle.byteorder.specs.Endian.{big_bytes}
-use Rattle.rio_num.specs.Room.{Appends}
-use Rattle.rio_num.specs.Printed.{hex_text}
+use Rattle.rio_num.specs.{Room.{Appends}, Printed.{hex_text}}
 use Rattle.rio_num.proofs.bytes.Bytes.put_hex16.Goals as goal
 
 pub returns : goal.returns

@@ -1,6 +1,5 @@
 use Rattle.std.proofs.Common.{ℕ, List, ◌||◌, Bool, ap, sym, ◌∙◌, Bor}
-use Rattle.std.specs.List.{list_any}
-use Rattle.std.specs.Str.{bytes_eq}
+use Rattle.std.specs.{List.{list_any}, Str.{bytes_eq}}
 use Rattle.rio_num.proofs.NameSets.{any_map, cond_or}
 use Rattle.rio_num.proofs.names.Names.note.Goals as goal
 

@@ -1,6 +1,5 @@
 use Rattle.std.proofs.Common.{◌∙◌, Bool, ◌&&◌, refl, sym, ap}
-use Rattle.std.specs.List.{find}
-use Rattle.std.specs.Option.{is_some}
+use Rattle.std.specs.{List.{find}, Option.{is_some}}
 use Rattle.rio_dir.specs.Table.{is_of_name}
 use Rattle.rio_recover.proofs.NameTables.{mixed_by}
 use Rattle.rio_recover.proofs.names.NameIndex.is_mixed.Goals as goal

@@ -1,6 +1,6 @@
 use Rattle.std.proofs.Common.{ℕ, List, sym, ap, ◌∙◌}
 use Rattle.std.specs.Str.{bytes_eq}
-use Rattle.rio_registry.specs.Reaching.{is_among}
+use Rattle.rio_num.specs.Word.{is_among}
 use Rattle.rio_registry.proofs.Growth.{any_text}
 use Rattle.rio_registry.proofs.reached.ReachedNames.contains.Goals as goal
 

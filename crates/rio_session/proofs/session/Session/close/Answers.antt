@@ -1,14 +1,9 @@
-use Rattle.std.proofs.Common.{◌≡◌, ◌∙◌, refl, ap, subst}
+use Rattle.std.proofs.{Common.{◌≡◌, ◌∙◌, refl, ap, subst}, lemmas.Result.{err_from_is_err_and}}
 use Rattle.std.specs.Option.{option_copied}
-use Rattle.std.proofs.lemmas.Result.{err_from_is_err_and}
 use Rattle.rio_chain.specs.Chains.{ChainState}
-use Rattle.rio_close.specs.Leaving.{IsReadyToClose}
-use Rattle.rio_close.specs.Written.{OpenFile}
-use Rattle.rio_session.specs.Closes.{open_file}
-use Rattle.rio_session.specs.Kept.{IsSoundState}
-use Rattle.rio_session.specs.Session.{SessionState}
-use Rattle.rio_session.proofs.CloseRoom.{fits_all, need_low}
-use Rattle.rio_session.proofs.CloseStates.{closes_file, closing_time, holds_open, leaves_closed, open_named, same_file}
+use Rattle.rio_close.specs.{Leaving.{IsReadyToClose}, Written.{OpenFile}}
+use Rattle.rio_session.specs.{Closes.{open_file}, Kept.{IsSoundState}, Session.{SessionState}}
+use Rattle.rio_session.proofs.{CloseRoom.{fits_all, need_low}, CloseStates.{closes_file, closing_time, holds_open, leaves_closed, open_named, same_file}}
 use Rattle.rio_session.proofs.session.Session.close.Goals as goal
 
 pub close_records-requires-clause-heads : goal.close_records-requires-clause-heads
@@ -40,7 +35,7 @@ returns-in_err-write_close-clause-any_moment g c m text stands =
 pub returns-in_err-write_close-clause-cause : goal.returns-in_err-write_close-clause-cause
 returns-in_err-write_close-clause-cause g c =
     let p = err_from_is_err_and c.from_residual-in_err-write_close.result c.from_residual-in_err-write_close.ensures.1 in
-    rw (p.1, p.2) (c.in_err-write_close.ensures.cause refl, c.write_close.ensures.say_faults)
+    rw (p.1, p.2) (c.in_err-write_close.ensures.cause.rose refl, c.write_close.ensures.writes.say_faults)
 
 pub returns-clause-any_moment : goal.returns-clause-any_moment
 returns-clause-any_moment g c m text stands =

@@ -1,11 +1,7 @@
-use Rattle.std.proofs.Common.{◌∙◌, Some, ap, sym, subst}
-use Rattle.std.proofs.lemmas.Result.{err_from_is_err_and}
+use Rattle.std.proofs.{Common.{◌∙◌, Some, ap, sym, subst}, lemmas.Result.{err_from_is_err_and}}
 use Rattle.rio_dir.specs.Table.{head_of}
-use Rattle.rio_session.specs.Gets.{TellsRecord}
-use Rattle.rio_session.specs.Session.{SessionState}
-use Rattle.rio_session.proofs.OtherSteps.{found_key}
-use Rattle.rio_session.proofs.PutMoments.{says_fault}
-use Rattle.rio_session.proofs.Replies.{reads_not_said, reads_then_said}
+use Rattle.rio_session.specs.{Gets.{TellsRecord}, Session.{SessionState}}
+use Rattle.rio_session.proofs.{OtherSteps.{found_key}, PutMoments.{says_fault}, Replies.{reads_not_said, reads_then_said}}
 use Rattle.rio_session.proofs.session.Session.get.Goals as goal
 
 pub told-requires-clause-among : goal.told-requires-clause-among

@@ -1,12 +1,9 @@
-use Rattle.std.proofs.Common.{◌∙◌, List, ap, subst}
-use Rattle.std.proofs.lemmas.Result.{err_from_is_err_and}
+use Rattle.std.proofs.{Common.{◌∙◌, List, ap, subst}, lemmas.Result.{err_from_is_err_and}}
 use Rattle.rio_types.specs.declared.class.ClassDef.{ClassDef}
 use Rattle.rio_key.specs.declared.head.KeyHead.{KeyHead}
-use Rattle.rio_judge.specs.Judging.{IsJudgementOfStates}
-use Rattle.rio_judge.specs.declared.work.Judged.{Judged}
+use Rattle.rio_judge.specs.{Judging.{IsJudgementOfStates}, declared.work.Judged.{Judged}}
 use Rattle.rio_session.specs.Session.{SessionState}
-use Rattle.rio_session.proofs.CommandDoes.{refused_does}
-use Rattle.rio_session.proofs.Replies.{does_nothing}
+use Rattle.rio_session.proofs.{CommandDoes.{refused_does}, Replies.{does_nothing}}
 use Rattle.rio_session.proofs.session.Session.judge_and_do.Goals as goal
 
 pub returns-in-Refused-clause-does : goal.returns-in-Refused-clause-does

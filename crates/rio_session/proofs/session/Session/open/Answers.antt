@@ -43,7 +43,7 @@ returns-clause-stands g c file text m holds said reads =
       opened = refl;
       costs = refl;
     })
-    (c.create.ensures.said ∙ c.sync.ensures.disk.said ∙ c.check_unborn.ensures.calls.said ∙ said)
+    (c.create.ensures.writes.said ∙ c.sync.ensures.disk.said ∙ c.check_unborn.ensures.calls.said ∙ said)
     (c.in_ok-chain.ensures.made file (c.sync.ensures.holds ∙ c.check_unborn.ensures.calls.holds ∙ holds))
 
 pub returns-in_err-check_unborn-clause-unclosed : goal.returns-in_err-check_unborn-clause-unclosed

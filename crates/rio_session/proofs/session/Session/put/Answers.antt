@@ -1,16 +1,10 @@
-use Rattle.std.proofs.Common.{◌≡◌, ◌∙◌, ◌+◌, ◌≤◌, ℕ, List, [], ◌∷◌, false, sym, ap, subst, arith}
-use Rattle.std.proofs.lemmas.Result.{err_from_is_err_and}
-use Rattle.rio_chain.specs.Placing.{file_end, place_of, with_segment}
+use Rattle.std.proofs.{Common.{◌≡◌, ◌∙◌, ◌+◌, ◌≤◌, ℕ, List, [], ◌∷◌, false, sym, ap, subst, arith}, lemmas.Result.{err_from_is_err_and}}
+use Rattle.rio_chain.specs.{Placing.{file_end, place_of, with_segment}, declared.fault.PlanFault.TheVariants.{Full}}
 use Rattle.rio_machine.specs.Limits.{head_length}
 use Rattle.rio_state.specs.Closing.{end_limit, is_full, padded_length}
-use Rattle.rio_step.specs.Step.{object_put}
-use Rattle.rio_step.specs.ReplyText.{text_of}
-use Rattle.rio_session.specs.Kept.{IsSoundState}
-use Rattle.rio_chain.specs.declared.fault.PlanFault.TheVariants.{Full}
-use Rattle.rio_session.specs.Puts.{IsFullFor, IsStoredRecord}
-use Rattle.rio_session.specs.Session.{SessionState}
-use Rattle.rio_session.proofs.PutCalls.{class_short, full_is_said, object_stored, put_is_done, record_can_be_put}
-use Rattle.rio_session.proofs.Replies.{does_nothing}
+use Rattle.rio_step.specs.{Step.{object_put}, ReplyText.{text_of}}
+use Rattle.rio_session.specs.{Kept.{IsSoundState}, Puts.{IsFullFor, IsStoredRecord}, Session.{SessionState}}
+use Rattle.rio_session.proofs.{PutCalls.{class_short, full_is_said, object_stored, put_is_done, record_can_be_put}, Replies.{does_nothing}}
 use Rattle.rio_session.proofs.session.Session.put.Goals as goal
 
 pub key_length-requires-clause-class : goal.key_length-requires-clause-class

@@ -1,14 +1,8 @@
-use Rattle.std.proofs.Common.{◌∙◌, List, length, ap, sym, subst, refl, arith}
-use Rattle.std.proofs.lemmas.Result.{err_from_is_err_and}
+use Rattle.std.proofs.{Common.{◌∙◌, List, length, ap, sym, subst, refl, arith}, lemmas.Result.{err_from_is_err_and}}
 use Rattle.rio_dir.specs.Table.{TableRoom, heads_size, with_head}
-use Rattle.rio_chain.specs.Chains.{ChainState, HasChain}
-use Rattle.rio_chain.specs.Placing.{with_segment}
-use Rattle.rio_chain.specs.declared.segment.Segment.{Segment}
-use Rattle.rio_session.specs.Puts.{putting}
-use Rattle.rio_session.specs.Session.{SessionState}
-use Rattle.rio_session.proofs.CloseRoom.{directory_stays}
-use Rattle.rio_session.proofs.Keeps.{kept_put, size_with}
-use Rattle.rio_session.proofs.Needs.{key_bytes}
+use Rattle.rio_chain.specs.{Chains.{ChainState, HasChain}, Placing.{with_segment}, declared.segment.Segment.{Segment}}
+use Rattle.rio_session.specs.{Puts.{putting}, Session.{SessionState}}
+use Rattle.rio_session.proofs.{CloseRoom.{directory_stays}, Keeps.{kept_put, size_with}, Needs.{key_bytes}}
 use Rattle.rio_session.proofs.PutMoments.{put_and_said, put_in_time, put_not_said, says_fault, stored_is}
 use Rattle.rio_session.proofs.session.Session.put_and_say.Goals.{in-Heap-9, in-Inline-9}
 use Rattle.rio_session.proofs.session.Session.put_and_say.Goals as goal
@@ -45,9 +39,9 @@ returns-in-Err-clause-puts g c =
     record {
       time = put_in_time (putting c.args.made c.args.text.now c.args.cost) (g.H.Host.view c.args.host.now) (g.H.Host.view c.put_record.new.host) c.args.self.now
           (λ file links holds chain. c.put_record.ensures.any_moment file links holds (subst (λ (s : List Segment). HasChain links s file) same chain));
-      told = c.put_record.ensures.told;
-      said = c.put_record.ensures.said;
-      faults = (c.in-Err.ensures.cause refl, c.put_record.ensures.say_faults);
+      told = c.put_record.ensures.writes.told;
+      said = c.put_record.ensures.writes.said;
+      faults = (c.in-Err.ensures.cause.rose refl, c.put_record.ensures.writes.say_faults);
       failed = elim c.match-head-3.branch [
         | in-Heap-9 w ↦ ap (λ (s : SessionState). s.failed) w.self-is
         | in-Inline-9 w ↦ ap (λ (s : SessionState). s.failed) w.self-is
@@ -61,9 +55,9 @@ returns-in_err-answer-in-Ok-clause-puts g c =
     let not_said = says_fault (Unit {0}) c.args.text.now c.args.cost _ _ _ _ c.in_err-answer-in-Ok.field-0.0 c.in_err-answer-in-Ok.ensures.fault c.in_err-answer-in-Ok.ensures.says in
     rw (p.1, p.2, c.in_err-answer-in-Ok.ensures.fault) (put_not_said (putting c.args.made c.args.text.now c.args.cost) (g.H.Host.view c.args.host.now) (g.H.Host.view c.put_record.new.host) c.args.self.now
     (λ file links holds chain. c.put_record.ensures.any_moment file links holds (subst (λ (s : List Segment). HasChain links s file) same chain))
-    (record c.args.self.now { segments = c.put_record.new.self.segments }) (g.met.H.Host.lawful c.put_record.new.host) c.in-Ok.ensures.quiet c.put_record.ensures.said
+    (record c.args.self.now { segments = c.put_record.new.self.segments }) (g.met.H.Host.lawful c.put_record.new.host) c.in-Ok.ensures.quiet c.put_record.ensures.writes.said
     (λ file links holds chain. c.in-Ok.ensures.holds file links holds (subst (λ (s : List Segment). HasChain links s file) same chain))
-    (g.H.Host.view c.answer.new.host) c.answer.new.self (g.met.H.Host.lawful c.answer.new.host) not_said c.put_record.ensures.told (c.in-Ok.ensures.counted refl, c.put_record.ensures.say_faults))
+    (g.H.Host.view c.answer.new.host) c.answer.new.self (g.met.H.Host.lawful c.answer.new.host) not_said c.put_record.ensures.writes.told (c.in-Ok.ensures.cause.counted refl, c.put_record.ensures.writes.say_faults))
 
 pub returns-in_ok-answer-in-Ok-clause-puts : goal.returns-in_ok-answer-in-Ok-clause-puts
 returns-in_ok-answer-in-Ok-clause-puts g c =
@@ -71,9 +65,9 @@ returns-in_ok-answer-in-Ok-clause-puts g c =
     let same = ap (λ (s : SessionState). s.segments) (sym c.self.view_is) ∙ sym (ap (λ (s : ChainState). s.segments) c.in_ok-reserve.ensures.ok) in
     put_and_said (putting c.args.made c.args.text.now c.args.cost) (g.H.Host.view c.args.host.now) (g.H.Host.view c.put_record.new.host) c.args.self.now
     (λ file links holds chain. c.put_record.ensures.any_moment file links holds (subst (λ (s : List Segment). HasChain links s file) same chain))
-    _ (g.met.H.Host.lawful c.put_record.new.host) c.in-Ok.ensures.quiet c.put_record.ensures.said
+    _ (g.met.H.Host.lawful c.put_record.new.host) c.in-Ok.ensures.quiet c.put_record.ensures.writes.said
     (λ file links holds chain. c.in-Ok.ensures.holds file links holds (subst (λ (s : List Segment). HasChain links s file) same chain))
-    (g.H.Host.view c.answer.new.host) c.answer.new.self (g.met.H.Host.lawful c.answer.new.host) c.in_ok-answer-in-Ok.ensures.says c.put_record.ensures.told (c.in-Ok.ensures.counted refl, c.put_record.ensures.say_faults)
+    (g.H.Host.view c.answer.new.host) c.answer.new.self (g.met.H.Host.lawful c.answer.new.host) c.in_ok-answer-in-Ok.ensures.says c.put_record.ensures.writes.told (c.in-Ok.ensures.cause.counted refl, c.put_record.ensures.writes.say_faults)
     (stored_is c.args.self.now _ c.put_record.new.self.segments c.insert.new.self.heads n.head.seek (length n.bytes.bytes) n.head c.self.view_is
     (ap (λ (s : ChainState). s.segments) c.in-Ok.ensures.chain ∙ ap (λ (s : ChainState). with_segment n.head.seek (length n.bytes.bytes) s.segments) c.in_ok-reserve.ensures.ok)
     (ap (λ (t : TableRoom). t.heads) c.insert.ensures ∙ ap (λ (t : TableRoom). with_head n.head t.heads) c.in_ok-reserve_one.ensures.ok))

@@ -1,7 +1,5 @@
 use Rattle.std.proofs.Common.{List, ℕ, subst}
-use Rattle.rio_judge.specs.Judging.{IsJudgementOfStates, WorkCanBeDone}
-use Rattle.rio_judge.specs.declared.work.Judged.TheVariants.{Accepted as Judgement}
-use Rattle.rio_judge.specs.declared.work.Work.{Work}
+use Rattle.rio_judge.specs.{Judging.{IsJudgementOfStates, WorkCanBeDone}, declared.work.Judged.TheVariants.{Accepted as Judgement}, declared.work.Work.{Work}}
 use Rattle.rio_session.specs.Gets.{TellsObject}
 use Rattle.rio_session.proofs.CommandDoes.{get_is_done, ls_is_done}
 use Rattle.rio_session.proofs.session.Session.work.Goals as goal

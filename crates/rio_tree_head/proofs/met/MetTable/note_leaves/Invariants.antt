@@ -1,6 +1,5 @@
 use Rattle.std.proofs.Common.{◌≡◌, drop}
-use Rattle.rio_tree_head.specs.HeaderLeaves.{leaves_met}
-use Rattle.rio_tree_head.specs.Tables.{labels_of, met_of}
+use Rattle.rio_tree_head.specs.{HeaderLeaves.{leaves_met}, Tables.{labels_of, met_of}}
 use Rattle.rio_tree_head.proofs.met.MetTable.note_leaves.Given as goal
 
 abbrev pub invariant-loop-item : goal.invariant-loop-item

@@ -1,6 +1,5 @@
 use Rattle.std.proofs.Common.{Bor, ℕ, List}
-use Rattle.std.specs.Map.{lookup}
-use Rattle.std.specs.Str.{bytes_eq}
+use Rattle.std.specs.{Map.{lookup}, Str.{bytes_eq}}
 use Rattle.rio_tree_head.specs.Tables.{met_of}
 use Rattle.rio_tree_head.proofs.MetLaws.{found_more}
 use Rattle.rio_tree_head.proofs.met.MetTable.note_name.Goals as goal

@@ -1,9 +1,7 @@
 use Rattle.std.proofs.Common.{◌≡◌, ℕ, List, [], ◌∷◌, length, set, take, Option, subst, sym, ap, ◌∙◌, arith}
 use Rattle.std.proofs.lemmas.List.{length-append, length-set, length-take-le}
-use Rattle.rio_types.specs.Chain.{BeforeLead, LastLead, last_before}
-use Rattle.rio_types.specs.Places.{is_named}
-use Rattle.rio_types.proofs.ChainLaws.{back_befores, back_last_alone, back_last_beside, kept_before}
-use Rattle.rio_types.proofs.NewestLaws.{place_below}
+use Rattle.rio_types.specs.{Chain.{BeforeLead, LastLead, last_before}, Places.{is_named}}
+use Rattle.rio_types.proofs.{ChainLaws.{back_befores, back_last_alone, back_last_beside, kept_before}, NewestLaws.{place_below}}
 use Rattle.rio_types.proofs.chain.Chain.forget.Goals as goal
 
 pub index_mut-requires : goal.index_mut-requires

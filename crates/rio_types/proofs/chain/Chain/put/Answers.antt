@@ -1,11 +1,8 @@
 use Rattle.std.proofs.Common.{◌≡◌, ℕ, List, [], ◌∷◌, ◌++◌, length, set, Option, Some, None, subst, sym, ap, ◌∙◌, arith}
-use Rattle.std.specs.List.{slice_get}
-use Rattle.std.specs.Option.{option_and_then}
 use Rattle.std.proofs.lemmas.List.{length-append, length-set}
-use Rattle.rio_types.specs.Chain.{BeforeLead, LastLead, last_before}
-use Rattle.rio_types.specs.Places.{is_named}
-use Rattle.rio_types.proofs.ChainLaws.{put_before, put_befores, put_last}
-use Rattle.rio_types.proofs.NewestLaws.{place_below}
+use Rattle.std.specs.{List.{slice_get}, Option.{option_and_then}}
+use Rattle.rio_types.specs.{Chain.{BeforeLead, LastLead, last_before}, Places.{is_named}}
+use Rattle.rio_types.proofs.{ChainLaws.{put_before, put_befores, put_last}, NewestLaws.{place_below}}
 use Rattle.rio_types.proofs.chain.Chain.put.Goals as goal
 
 pub index_mut-requires : goal.index_mut-requires

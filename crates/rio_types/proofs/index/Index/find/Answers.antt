@@ -1,10 +1,7 @@
-use Rattle.std.proofs.Common.{◌≡◌, w32, w64, to_z, of_z, arith, ℤ, sym, ap, ◌∙◌}
-use Rattle.std.specs.List.{slice_get}
-use Rattle.std.specs.Option.{option_and_then}
-use Rattle.std.proofs.lemmas.Int.{to_z-of_z}
+use Rattle.std.proofs.{Common.{◌≡◌, w32, to_z, of_z, arith, ℤ, sym, ap, ◌∙◌}, lemmas.Int.{to_z-of_z}}
+use Rattle.std.specs.{List.{slice_get}, Option.{option_and_then}}
 use Rattle.rio_types.specs.Index.{has_number, number_place, passing, version_of}
-use Rattle.rio_types.proofs.LeadLaws.{no_name_no_number, number_is_found}
-use Rattle.rio_types.proofs.PlaceLaws.{place-find}
+use Rattle.rio_types.proofs.{LeadLaws.{no_name_no_number, number_is_found}, PlaceLaws.{place-find}}
 use Rattle.rio_types.proofs.index.Index.find.Goals as goal
 
 pub returns-in_err-first : goal.returns-in_err-first
@@ -15,12 +12,9 @@ returns-in_err-first c =
 
 pub returns : goal.returns
 returns c =
-    let first = c.in_ok-first.field-0 in
-    let key : to_z w64 (of_z w64 c.from.result) ≡ c.args.version = grind (arith, to_z-of_z) in
+    let first = c.in_ok-first.first in
     let same : to_z w32 (of_z w32 c.args.version) ≡ c.args.version = grind (arith, to_z-of_z) in
-    ap (option_and_then (slice_get c.args.classes.now)) (c.version_passing.ensures
-    ∙ ap (λ (z : ℤ). passing (has_number version_of c.args.name.now z) c.args.classes.now c.copied.result) same
-    ∙ ap (passing (has_number version_of c.args.name.now c.args.version) c.args.classes.now)
-    (c.copied.ensures ∙ c.get.ensures.value ∙ ap (λ (z : ℤ). number_place c.args.self.now.versions first z) key)
+    ap (option_and_then (slice_get c.args.classes.now)) (c.version_at.ensures
+    ∙ ap (λ (z : ℤ). passing (has_number version_of c.args.name.now z) c.args.classes.now (number_place c.args.self.now.versions first z)) same
     ∙ number_is_found version_of c.args.classes.now (number_place c.args.self.now.versions) c.args.name.now c.args.version first c.requires.versions_lead (sym c.first.ensures ∙ c.in_ok-first.was))
     ∙ place-find (has_number version_of c.args.name.now c.args.version) c.args.classes.now

@@ -1,11 +1,7 @@
-use Rattle.std.proofs.Common.{◌≡◌, w64, to_z, of_z, arith, ℤ, pos, sym, ap, ◌∙◌}
-use Rattle.std.specs.List.{slice_get}
-use Rattle.std.specs.Option.{option_and_then}
-use Rattle.std.proofs.lemmas.Int.{to_z-of_z}
-use Rattle.rio_types.specs.Index.{has_number, number_place, passing, sum_of}
-use Rattle.rio_types.proofs.LeadLaws.{no_name_no_number, number_is_found}
-use Rattle.rio_types.proofs.PlaceLaws.{place-find}
-use Rattle.rio_types.proofs.LeadLaws.{find_sum_same}
+use Rattle.std.proofs.Common.{pos, sym, ap, ◌∙◌}
+use Rattle.std.specs.{List.{slice_get}, Option.{option_and_then}}
+use Rattle.rio_types.specs.Index.{has_number, number_place, sum_of}
+use Rattle.rio_types.proofs.{LeadLaws.{no_name_no_number, number_is_found, find_sum_same}, PlaceLaws.{place-find}}
 use Rattle.rio_types.proofs.index.Index.find_sum.Goals as goal
 
 pub returns-in_err-first : goal.returns-in_err-first
@@ -17,11 +13,8 @@ returns-in_err-first c =
 
 pub returns : goal.returns
 returns c =
-    let first = c.in_ok-first.field-0 in
-    let key : to_z w64 (of_z w64 c.from.result) ≡ pos c.args.sum = grind (arith, to_z-of_z) in
-    ap (option_and_then (slice_get c.args.classes.now)) (c.sum_passing.ensures
-    ∙ ap (passing (has_number sum_of c.args.name.now (pos c.args.sum)) c.args.classes.now)
-    (c.copied.ensures ∙ c.get.ensures.value ∙ ap (λ (z : ℤ). number_place c.args.self.now.sums first z) key)
+    let first = c.in_ok-first.first in
+    ap (option_and_then (slice_get c.args.classes.now)) (c.sum_at.ensures
     ∙ number_is_found sum_of c.args.classes.now (number_place c.args.self.now.sums) c.args.name.now (pos c.args.sum) first c.requires.sums_lead (sym c.first.ensures ∙ c.in_ok-first.was))
     ∙ place-find (has_number sum_of c.args.name.now (pos c.args.sum)) c.args.classes.now
     ∙ find_sum_same c.args.classes.now c.args.name.now c.args.sum

@@ -1,25 +1,17 @@
-use Rattle.std.proofs.Common.{ap, ◌∙◌}
-use Rattle.rio_types.specs.Index.{name_place, number_place, passing, sum_of, version_of}
-use Rattle.rio_types.specs.Places.{is_named}
-use Rattle.rio_types.proofs.ForgetLaws.{names_back, numbers_back}
-use Rattle.rio_types.proofs.LeadLaws.{name_is_found}
+use Rattle.std.proofs.Common.{◌∙◌}
+use Rattle.rio_types.specs.Index.{name_place, number_place, sum_of, version_of}
+use Rattle.rio_types.proofs.{ForgetLaws.{names_back, numbers_back}, LeadLaws.{name_is_found}}
 use Rattle.rio_types.proofs.index.Index.forget.Goals as goal
 
 pub forget-requires-clause-first : goal.forget-requires-clause-first
 forget-requires-clause-first c =
     let lead = names_back c.args.classes.now c.args.class.now (name_place c.args.self.now.names) c.requires.names_lead in
-    rw (← c.as_slice-name.ensures)
-    (c.first_passing-first.ensures
-    ∙ ap (passing (is_named c.as_slice-name.result.now) c.args.classes.now) (c.copied.ensures ∙ c.get.ensures.value)
-    ∙ name_is_found c.args.classes.now (name_place c.args.self.now.names) c.as_slice-name.result.now lead)
+    rw (← c.as_slice.ensures) (c.first_at-first.ensures ∙ name_is_found c.args.classes.now (name_place c.args.self.now.names) c.as_slice.result.now lead)
 
 pub forget_newest-requires-clause-first : goal.forget_newest-requires-clause-first
 forget_newest-requires-clause-first c =
     let lead = names_back c.args.classes.now c.args.class.now (name_place c.args.self.now.names) c.requires.names_lead in
-    rw (← c.as_slice-name.ensures)
-    (c.first_passing-first.ensures
-    ∙ ap (passing (is_named c.as_slice-name.result.now) c.args.classes.now) (c.copied.ensures ∙ c.get.ensures.value)
-    ∙ name_is_found c.args.classes.now (name_place c.args.self.now.names) c.as_slice-name.result.now lead)
+    rw (← c.as_slice.ensures) (c.first_at-first.ensures ∙ name_is_found c.args.classes.now (name_place c.args.self.now.names) c.as_slice.result.now lead)
 
 pub returns : goal.returns
 returns c = record {

@@ -1,7 +1,6 @@
 use Rattle.std.proofs.Common.{length, sym, ◌∙◌}
 use Rattle.rio_types.specs.Places.{is_named}
-use Rattle.rio_types.proofs.ChainLaws.{last_none}
-use Rattle.rio_types.proofs.PlaceLaws.{no_place_fails}
+use Rattle.rio_types.proofs.{ChainLaws.{last_none}, PlaceLaws.{no_place_fails}}
 use Rattle.rio_types.proofs.index.Index.last.Goals as goal
 
 pub returns-in_err-first : goal.returns-in_err-first

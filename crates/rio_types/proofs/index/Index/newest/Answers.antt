@@ -1,6 +1,5 @@
 use Rattle.std.proofs.Common.{ℕ, List, sym, ap, ◌∙◌}
-use Rattle.std.specs.List.{slice_get}
-use Rattle.std.specs.Option.{option_and_then}
+use Rattle.std.specs.{List.{slice_get}, Option.{option_and_then}}
 use Rattle.rio_types.proofs.NewestLaws.{no_place_no_newest}
 use Rattle.rio_types.proofs.index.Index.newest.Goals as goal
 

@@ -1,6 +1,5 @@
 use Rattle.std.proofs.lemmas.Bool.Decides.{same_from_decides}
-use Rattle.rio_value.specs.CodeLaws.{coded_decides}
-use Rattle.rio_value.specs.Codes.{is_coded_same}
+use Rattle.rio_value.specs.{CodeLaws.{coded_decides}, Codes.{is_coded_same}}
 use Rattle.rio_value.specs.contracts.value.Value as values
 use Rattle.rio_value.proofs.equal.ValuePartialEq.eq.Goals as goal
 

@@ -1,9 +1,7 @@
 use Rattle.std.proofs.Common.{rules, ◌≡◌, ◌+◌, ℕ, List, ◌||◌, length, min, ap}
-use Rattle.std.specs.List.{list_any}
-use Rattle.std.specs.Str.{bytes_eq}
+use Rattle.std.specs.{List.{list_any}, Str.{bytes_eq}}
 use Rattle.rio_write.specs.Measuring.{too_long}
-use Rattle.rio_write.proofs.Counting.{measured}
-use Rattle.rio_write.proofs.MeasureLaws.{known_grows, new_grows}
+use Rattle.rio_write.proofs.{Counting.{measured}, MeasureLaws.{known_grows, new_grows}}
 use Rattle.rio_write.proofs.measure.Total.add_class.Goals as goal
 
 pub returns-then-has : goal.returns-then-has

@@ -1,7 +1,6 @@
 use Rattle.std.proofs.Common.{ℕ, ◌+◌, min, ap, ◌∙◌}
 use Rattle.rio_num.specs.Text.{text_bytes}
-use Rattle.rio_write.specs.Measuring.{too_long}
-use Rattle.rio_write.specs.Sinks.{Accepted}
+use Rattle.rio_write.specs.{Measuring.{too_long}, Sinks.{Accepted}}
 use Rattle.rio_write.proofs.Counting.{bytes_counted}
 use Rattle.rio_write.proofs.measure.TotalSink.take_text.Goals as goal
 

@@ -3,9 +3,9 @@ ghost use Rattle.std.specs.Prelude.{◌≡◌, IfOk};
 ghost use Rattle.rio_index.specs.Scan.{CanHold, CanScan};
 ghost use Rattle.rio_tree_head.specs.Index.{IsIndex};
 
-use crate::{Scanner, basket_from, basket_of, entry_count};
 use rio_basket::StoredBasket;
 use rio_entry::EntryFault;
+use rio_index::{Scanner, basket_from, basket_of, entry_count};
 use rio_leaf::{BranchDef, LeafFault, Leaves, Shape, read_leaves};
 use rio_num::{Name, NoMemory};
 use rio_tree_head::{BasketAt, Baskets, Branch, BranchNumbers, BranchRefusal, Branches, TreeHead};

@@ -1,4 +1,4 @@
-//! What an entry's values say is read, and no value is made.
+//! The number that each value of an entry says is read, and no list, text or object is made.
 ghost use Rattle.std.specs.Prelude.{◌≡◌, ◌<◌, ◌^◌, List, length, map, Err, IfOk};
 ghost use Rattle.rio_num.specs.Answers.{GivesUnless};
 ghost use Rattle.rio_num.specs.At.{GoesOn};
@@ -23,7 +23,7 @@ use rio_value::{Value, Values};
 use std::alloc::Global;
 
 // The one object of a branch of a class, which says no number.
-fn count_one(
+fn object_numbers(
     alloc: Global,
     classes: &Classes,
     reader: &mut ObjReader,
@@ -40,7 +40,7 @@ fn count_one(
     Ok(numbers)
 }
 
-fn count_shape(
+fn shape_numbers(
     alloc: Global,
     classes: &Classes,
     reader: &mut ObjReader,
@@ -54,11 +54,11 @@ fn count_shape(
 {
     match shape {
         Shape::Leaves(leaves) => pass_counting(alloc, reader, leaves.as_slice(), counts),
-        Shape::Class(class) => count_one(alloc, classes, reader, class.as_slice()),
+        Shape::Class(class) => object_numbers(alloc, classes, reader, class.as_slice()),
     }
 }
 
-fn shape_numbers(
+fn numbers_in_bytes(
     alloc: Global,
     classes: &Classes,
     shape: &Shape,
@@ -71,7 +71,7 @@ fn shape_numbers(
         (standing 0 bytes.now no_words))) }
 {
     let mut reader = ObjReader::new(alloc, bytes, 0);
-    let numbers = count_shape(alloc, classes, &mut reader, shape, counts)?;
+    let numbers = shape_numbers(alloc, classes, &mut reader, shape, counts)?;
     check_end(&reader)?;
     Ok(numbers)
 }
@@ -101,5 +101,5 @@ pub fn entry_numbers(
     ensures exact { GivesUnless OutOfMemory (λ numbers. numbers) result
         (numbers_of_entry classes.now branch.now.shape counts.now bytes.now) }
 {
-    shape_numbers(alloc, classes, &branch.shape, counts.as_slice(), bytes)
+    numbers_in_bytes(alloc, classes, &branch.shape, counts.as_slice(), bytes)
 }

@@ -1,5 +1,5 @@
-//! The header and the directory of an empty file.
-use crate::{
+//! The header and the directory of a file, read and written.
+use rio_head::{
     DirRecord, FileFault, FileHead, HeadFault, Reason, file_uuid, read_dir, read_head, write_dir,
     write_head,
 };

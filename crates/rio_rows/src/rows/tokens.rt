@@ -1,7 +1,7 @@
 //! Tokens of lines, with the places of those that can't stand, and words that are numbers.
 ghost use Rattle.std.specs.Prelude.{◌<◌, ◌^◌, length};
 
-use crate::{
+use rio_token::{
     Bits, TextFault, Token, Tokens, parse_bits, parse_num, parse_num_between, parse_number,
 };
 use std::test::Fail;

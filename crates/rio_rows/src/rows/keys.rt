@@ -1,5 +1,8 @@
-//! Keys and lists of heads of an empty file.
-use crate::{Heads, KeyFault, KeyHead, read_heads, read_key, write_key};
+//! Keys and lists of heads, and the heads of baskets.
+use rio_key::{
+    BasketFront, BasketHead, Heads, KeyFault, KeyHead, read_basket_front, read_basket_head,
+    read_heads, read_key, write_basket_head, write_key,
+};
 use rio_num::{Bytes, Name};
 use std::alloc::Global;
 use std::test::Fail;
@@ -10,6 +13,11 @@ const FIRST: &[u8] =
 
 const FREE: &[u8] =
     b"\0\0\0\x34\0\x04\0\0\0\x0c\0\0\0\x01\0\x28\0\x01\0\0\0\xfc\0\0\0\x64\x05TFile\x06a.root\0";
+
+// The key of a basket, the last 19 of whose 59 bytes are the basket's head.
+const BASKET: &[u8] =
+    b"\0\0\0\x47\0\x04\0\0\0\x0c\0\0\0\x01\0\x3b\0\x01\0\0\0\xfc\0\0\0\x64\x05TFile\x06a.root\0\
+    \0\x03\0\0\x7d\0\0\0\0\x04\0\0\0\x03\0\0\0\x47\0";
 
 #[test]
 fn reads_the_key_of_a_record(rt: HostRuntime) -> Result<(), Fail> {
@@ -23,7 +31,7 @@ fn reads_the_key_of_a_record(rt: HostRuntime) -> Result<(), Fail> {
     assert_eq!(rt; key.name.as_slice(), b"a.root".as_slice());
     assert!(rt; key.title.is_empty());
     assert!(rt; !key.is_compressed());
-    assert_eq!(rt; key.copy()?.name.as_slice(), b"a.root".as_slice());
+    assert_eq!(rt; key.copy()?, key);
     Ok(())
 }
 
@@ -59,7 +67,7 @@ fn tells_where_a_key_lacks_bytes(rt: HostRuntime) -> Result<(), Fail> {
 }
 
 #[test]
-fn writes_a_key(rt: HostRuntime) -> Result<(), Fail> {
+fn writes_a_key_and_reads_it(rt: HostRuntime) -> Result<(), Fail> {
     let head = KeyHead {
         nbytes: 52,
         version: 4,
@@ -76,5 +84,58 @@ fn writes_a_key(rt: HostRuntime) -> Result<(), Fail> {
     let mut bytes = Bytes::new(rt.alloc());
     write_key(&head, &mut bytes)?;
     assert!(rt; bytes.as_slice() == FREE);
+    assert_eq!(rt; read_key(rt.alloc(), FREE, 252, 252)?, head);
+    assert!(rt; read_key(rt.alloc(), FIRST, 100, 100)? != head);
+    Ok(())
+}
+
+#[test]
+fn reads_the_head_of_a_basket_behind_its_key(rt: HostRuntime) -> Result<(), Fail> {
+    let key = KeyHead {
+        nbytes: 71,
+        version: 4,
+        objlen: 12,
+        datime: 1,
+        keylen: 59,
+        cycle: 1,
+        seek: 252,
+        pdir: 100,
+        class: Name::from_slice(rt.alloc(), b"TFile")?,
+        name: Name::from_slice(rt.alloc(), b"a.root")?,
+        title: Name::new(rt.alloc()),
+    };
+    let head = BasketHead {
+        version: 3,
+        buffer_size: 32000,
+        nev_size: 4,
+        nev: 3,
+        last: 71,
+        flag: 0,
+    };
+    let place = 292;
+    assert_eq!(rt;
+        read_basket_front(rt.alloc(), BASKET, 252)?,
+        BasketFront { key, head, place }
+    );
+    Ok(())
+}
+
+// The head of a basket of three entries of 4 bytes each, behind a key of 57 bytes.
+const HEAD: &[u8] = b"\0\x03\0\0\x7d\0\0\0\0\x04\0\0\0\x03\0\0\0\x45\0";
+
+#[test]
+fn reads_and_writes_the_head_of_a_basket(rt: HostRuntime) -> Result<(), Fail> {
+    let head = BasketHead {
+        version: 3,
+        buffer_size: 32000,
+        nev_size: 4,
+        nev: 3,
+        last: 69,
+        flag: 0,
+    };
+    assert_eq!(rt; read_basket_head(HEAD, 38)?, head);
+    let mut bytes = Bytes::new(rt.alloc());
+    write_basket_head(&head, &mut bytes)?;
+    assert!(rt; bytes.as_slice() == HEAD);
     Ok(())
 }

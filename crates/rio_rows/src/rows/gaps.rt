@@ -1,5 +1,5 @@
-//! The gaps that a deleted record leaves, and free records, written and read.
-use crate::{FreeFault, FreeList, Gap, read_free, write_free};
+//! The gaps that deleted records leave, and free records, written and read.
+use rio_free::{FreeFault, FreeList, Gap, read_free, write_free};
 use rio_num::{Bytes, NoMemory};
 use std::alloc::Global;
 use std::test::Fail;

@@ -1,5 +1,5 @@
-//! A key list is read.
-use crate::{KeyTable, read_key_list, write_key_list};
+//! Key lists that are read and written, and the table of keys.
+use rio_dir::{KeyTable, read_key_list, write_key_list};
 use rio_key::KeyHead;
 use rio_num::{Bytes, Name, NoMemory};
 use std::alloc::Global;

@@ -1,9 +1,8 @@
-use Rattle.std.proofs.Common.{◌≡◌, ◌∙◌, List, [], ◌∷◌, ◌++◌, ap}
+use Rattle.std.proofs.{Common.{◌≡◌, ◌∙◌, List, [], ◌∷◌, ◌++◌, ap}, lemmas.Result.{err_from_is_err_and}}
 use Rattle.std.specs.Prelude.{pos}
-use Rattle.std.proofs.lemmas.Result.{err_from_is_err_and}
 use Rattle.rio_value.specs.declared.value.Value.{Value, Int}
 use Rattle.rio_entry.proofs.KeptEntries.{one_breaks, one_says}
-use Rattle.rio_entry.proofs.count.count_one.Goals as goal
+use Rattle.rio_entry.proofs.said_numbers.object_numbers.Goals as goal
 
 pub returns-in_err-pass_next-clause-exact : goal.returns-in_err-pass_next-clause-exact
 returns-in_err-pass_next-clause-exact c = λ counts.
