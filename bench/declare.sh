@@ -12,7 +12,7 @@ trap 'rm -rf "$folder"' EXIT
 mkdir "$folder/crates"
 (cd "$top" && tar cf - --exclude=out crates crates.txt) | (cd "$folder" && tar xf -)
 [ ! -e "$top/HANDLES" ] || cp "$top/HANDLES" "$folder/"
-sed -n 's/^rio_info: \(.*\)$/chain_of_classes: \1 anyhow rio_info rio_registry/p' "$folder/crates.txt" >> "$folder/crates.txt"
+echo 'chain_of_classes: rio_num rio_types rio_info rio_registry anyhow' >> "$folder/crates.txt"
 
 crate=$folder/crates/chain_of_classes
 mkdir -p "$crate/src"

@@ -1,8 +1,8 @@
--- The records of two baskets, byte for byte.
-use Rattle.std.proofs.Common.{◌≡◌, ℕ, List, [], ◌∷◌, ◌++◌, Bool, true, false, refl}
+-- The records of two baskets, byte for byte, and when a basket takes an entry.
+use Rattle.std.proofs.{Common.{◌≡◌, ℕ, List, [], ◌∷◌, ◌++◌, Bool, true, false, refl}, Math.ListN.{replicate}}
 use Rattle.std.specs.Prelude.{codes}
 use Rattle.rio_key.specs.BasketHead.{integer_bytes, sizes_bytes}
-use Rattle.rio_basket.specs.{Open.{OpenBasket}, Record.{basket_record}}
+use Rattle.rio_basket.specs.{Open.{OpenBasket, takes_entry}, Record.{basket_record}}
 
 abbrev example_basket : Bool → List (List ℕ) → OpenBasket
 example_basket offsets entries = record { offsets = offsets; entries = entries; rooms = 0; spare = 0 }
@@ -40,3 +40,14 @@ body_of_v = 63 ∷ 128 ∷ 0 ∷ 0 ∷ 64 ∷ 0 ∷ 0 ∷ 0 ∷ 64 ∷ 64 ∷ 0 
 counted_written : basket_record 208 (codes "V") (codes "v") 1 (example_basket true counted) ≡ key_of_v ++ (head_of_v ++ body_of_v)
 unfolding basket_record integer_bytes sizes_bytes
 counted_written = refl
+
+-- ---- 8,192 entries
+
+abbrev entries_without_bytes : ℕ → List (List ℕ)
+entries_without_bytes n = replicate n []
+
+takes_the_last : takes_entry (entries_without_bytes 8191) 0 ≡ true
+takes_the_last = refl
+
+takes_no_more : takes_entry (entries_without_bytes 8192) 0 ≡ false
+takes_no_more = refl

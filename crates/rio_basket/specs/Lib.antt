@@ -4,3 +4,4 @@ pub mod Laws
 pub mod Open
 pub mod Record
 pub mod Stored
+pub mod Texts

@@ -2,8 +2,8 @@
 -- some, and zero bytes up to a length that is a multiple of four.
 use Rattle.std.specs.{Prelude.{ℕ, ◌+◌, ◌^◌, ◌<◌, pos, List, [], ◌∷◌, ◌++◌, length, codes, if◌then◌else◌}, List.{concat, flat_map}}
 use Rattle.byteorder.specs.Endian.{big_bytes}
-use Rattle.rio_num.specs.{Room.{padding}, Text.{text_bytes}}
-use Rattle.rio_key.specs.{BasketHead.{basket_head_bytes}, Written.{padded_size, written_key}, declared.basket_head.BasketHead.{BasketHead}, declared.head.KeyHead.{KeyHead}}
+use Rattle.rio_num.specs.Room.{padding}
+use Rattle.rio_key.specs.{BasketHead.{basket_head_bytes}, Written.{key_length_of, padded_size, written_key}, declared.basket_head.BasketHead.{BasketHead}, declared.head.KeyHead.{KeyHead}}
 use Rattle.rio_basket.specs.Open.{OpenBasket, entries_length}
 
 -- ---- data
@@ -23,10 +23,9 @@ basket_data keylen basket = concat basket.entries ++ (if basket.offsets then off
 
 -- ---- key and head
 
--- how long the key is: 26 bytes of numbers, the class, the branch as its name and the tree as its title, and the 19 bytes of
--- the basket's head
+-- how long the key is: its name is the branch and its title the tree, and it has the 19 bytes of the basket's head behind them
 abbrev pub basket_key_length : List ℕ → List ℕ → ℕ
-basket_key_length tree branch = 26 + length (text_bytes (codes "TBasket")) + length (text_bytes branch) + length (text_bytes tree) + 19
+basket_key_length tree branch = key_length_of (codes "TBasket") branch tree + 19
 
 -- the key of a record at this place, with n bytes of data and the time of its writing
 abbrev pub basket_key : ℕ → List ℕ → List ℕ → ℕ → ℕ → KeyHead

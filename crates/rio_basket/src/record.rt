@@ -7,7 +7,7 @@ ghost use Rattle.rio_key.specs.Written.{padded_size};
 ghost use Rattle.rio_basket.specs.Record.{basket_key, basket_key_length};
 
 use rio_key::{KeyHead, key_length};
-use rio_num::{Bytes, Name, NoMemory};
+use rio_num::{Bytes, Name, NoMemory, padded};
 use std::alloc::Global;
 
 /// The place of the directory that all records are in.
@@ -44,7 +44,7 @@ pub(crate) fn key_of(
         title: Name::from_slice(alloc, tree)?,
     };
     let keylen = key_length(&key) + HEAD_LENGTH;
-    let objlen = n + (4 - (keylen + n) % 4) % 4;
+    let objlen = padded(keylen + n) - keylen;
     key.nbytes = (keylen + objlen) as i32;
     key.objlen = objlen as u32;
     key.keylen = keylen as u16;

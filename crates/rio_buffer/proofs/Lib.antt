@@ -1,3 +1,4 @@
+mod Examples
 mod Found
 pub mod Kept
 mod PlainNames

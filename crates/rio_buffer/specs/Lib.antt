@@ -1,4 +1,5 @@
 pub mod Frames
 pub mod Reader
 pub mod ReaderState
+pub mod Texts
 pub mod Writer

@@ -3,7 +3,8 @@ use Rattle.std.proofs.Common.{◌≡◌, ◌↔◌, ℕ, ◌%◌, Bool, true, fa
 use Rattle.std.proofs.{lemmas.Bool.{cases_from_iff}, lemmas.Option.{none-some, same_Some}}
 use Rattle.std.specs.Prelude.{IsTrue, MatchBool}
 use Rattle.rio_key.specs.declared.head.KeyHead.{KeyHead}
-use Rattle.rio_chain.specs.{Segments.{IsRecord, IsFirst, HasWord}, Found.{FindsKey, FindsKeyAt, FindsRecord, FindsWord, IsKeyOf, IsFirstBy}}
+use Rattle.rio_host.specs.Reading.{FindsWord, HasWord}
+use Rattle.rio_chain.specs.{Segments.{IsRecord, IsFirst}, Found.{FindsKey, FindsKeyAt, FindsRecord, IsKeyOf, IsFirstBy}}
 use Rattle.rio_chain.proofs.Words.{word_one, word_within}
 
 -- ---- a whole record

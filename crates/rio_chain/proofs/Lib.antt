@@ -1,4 +1,5 @@
 pub mod Always
+pub mod Assembled
 pub mod BehindSteps
 pub mod Chains
 pub mod Finding
@@ -12,6 +13,7 @@ pub mod OneChain
 pub mod Placed
 pub mod PutChain
 pub mod Puts
+pub mod Records
 pub mod ShortKeys
 pub mod SoFar
 pub mod Words

@@ -6,7 +6,8 @@ use Rattle.rio_host.specs.Image.{Has}
 use Rattle.rio_host.proofs.Images.{has_length}
 use Rattle.rio_chain.specs.{declared.segment.Segment.{Segment, TheVariants.{Record, Gap}}, Adjoining.{BeginsAt, segment_length, segment_place}}
 use Rattle.rio_chain.specs.Segments.{Link, RecordAt, GapAt, link_length, HasWord, HoldsLink, HoldsRecord, IsFirst, IsPositive}
-use Rattle.rio_chain.specs.Found.{MayPrecede, FindsLink, FindsRecord, FindsSegment, FindsWhole, FindsWord, IsKindOf, IsNoGap, segment_length_of}
+use Rattle.rio_host.specs.Reading.{FindsWord}
+use Rattle.rio_chain.specs.Found.{MayPrecede, FindsLink, FindsRecord, FindsSegment, FindsWhole, IsKindOf, IsNoGap, segment_length_of}
 use Rattle.rio_chain.proofs.Words.{held_long, held_positive, held_word, has_own, word_one, word_within}
 
 -- ---- what the word of a segment says

@@ -6,7 +6,8 @@ use Rattle.rio_host.specs.{Host.{View}, OnlyReads.{OnlyReads}}
 use Rattle.rio_chain.specs.declared.segment.Segment.{Segment, TheVariants.{Record, Gap}}
 use Rattle.rio_chain.specs.Adjoining.{AreAdjacent, AreGapsApart, AreSegments, BeginsAt, BeginsWithRecord, segment_length, segments_end}
 use Rattle.rio_chain.specs.Segments.{Link, RecordAt, GapAt, BreaksAt, HasSegments, HasWord, HoldsEnd, HoldsLink, HoldsLinks, chain_end, end_from, link_length, segment_of}
-use Rattle.rio_chain.specs.{Found.{MayPrecede, FindsLink, FindsWord, IsKindOf, IsNoGap, TellsNoLink}, Walks.{Told, TellsFirstBreak}}
+use Rattle.rio_host.specs.Reading.{FindsWord, Told}
+use Rattle.rio_chain.specs.{Found.{MayPrecede, FindsLink, IsKindOf, IsNoGap, TellsNoLink}, Walks.{TellsFirstBreak}}
 use Rattle.rio_chain.specs.declared.fault.WalkFault.{WalkFault, TheVariants.{NoChain, NoMemory, HostFault}}
 use Rattle.rio_chain.proofs.{Chains.{end-append}, Words.{held_word, word_one, word_within}, PutChain.{segment_of-length}}
 

@@ -2,17 +2,11 @@
 use Rattle.std.specs.Prelude.{◌≡◌, ℕ, ◌+◌, ◌-◌, ◌^◌, ◌<◌, ◌≤◌, nat_lt, if◌then◌else◌, pos, codes, Bool, MatchBool, List, length, Option, Some, None, IfSome, Result, Ok, Err}
 use Rattle.byteorder.specs.Endian.{big_number}
 use Rattle.rio_num.specs.{At.{At}, Plain.{IsSpelledIn}}
-use Rattle.rio_host.specs.{Image.{Has}, Host.{View}}
+use Rattle.rio_host.specs.{Image.{Has}, Host.{View}, Reading.{FindsWord, HasWord, Told}}
 use Rattle.rio_key.specs.{Key.{SpellsKey}, Written.{FitsKey, written_key}, declared.head.KeyHead.{KeyHead}}
 use Rattle.rio_chain.specs.declared.segment.Segment.{Segment, TheVariants.{Record, Gap}}
 use Rattle.rio_chain.specs.declared.fault.WalkFault.{WalkFault, TheVariants.{NoChain, NoMemory, HostFault}}
-use Rattle.rio_chain.specs.Segments.{Link, link_length, segment_of, texts_end_at, HasWord, HoldsRecord, HoldsGap, HoldsLink, IsFirst, IsPositive, IsRecord}
-use Rattle.rio_chain.specs.Walks.{Told}
-
--- the word at a place, or none where the file ends before
-abbrev pub FindsWord : ℕ → Option ℕ → List ℕ → Type 0
-FindsWord place (Some word) file = HasWord file place word
-FindsWord place None file = length file < place + 4
+use Rattle.rio_chain.specs.Segments.{Link, link_length, segment_of, texts_end_at, HoldsRecord, HoldsGap, HoldsLink, IsFirst, IsPositive, IsRecord}
 
 -- the key that begins some bytes
 pub record FindsKey (bytes : List ℕ) (found : Option KeyHead) : Type 0 where

@@ -3,8 +3,10 @@ pub mod Chains
 pub mod Changes
 pub mod Found
 pub mod Laws
+pub mod NewRecords
 pub mod Placing
 pub mod Plans
+pub mod Record
 pub mod Segments
 pub mod Stops
 pub mod Walks

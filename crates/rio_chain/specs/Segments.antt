@@ -3,6 +3,7 @@ use Rattle.std.specs.Prelude.{◌≡◌, ℕ, ◌+◌, ◌-◌, ◌%◌, ◌^◌
 use Rattle.byteorder.specs.Endian.{big_number}
 use Rattle.rio_num.specs.{At.{At, standing_at}, Reading.{◌>>=◌, text_at}, declared.cursor.Short.{Short}, Plain.{IsSpelledIn}}
 use Rattle.rio_host.specs.Image.{Has}
+pub use Rattle.rio_host.specs.Reading.{HasWord}
 use Rattle.rio_key.specs.{Key.{SpellsKey}, declared.head.KeyHead.{KeyHead}}
 use Rattle.rio_chain.specs.declared.segment.Segment.{Segment, TheVariants.{Record, Gap}}
 
@@ -32,13 +33,6 @@ abbrev pub chain_end : List Link → ℕ
 chain_end links = end_from 100 links
 
 -- ---- words
-
--- the four bytes at this place give this number
-pub record HasWord (file : List ℕ) (place word : ℕ) : Type 0 where
-  pub bytes : List ℕ
-  pub four : length bytes ≡ 4
-  pub there : Has file place bytes
-  pub number : big_number 4 bytes ≡ word
 
 -- a word that is a record's length, and neither a gap's nor END's
 abbrev pub IsPositive : ℕ → Type 0

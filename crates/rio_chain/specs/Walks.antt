@@ -1,12 +1,15 @@
 -- What a walk answers, of the file that its host tells, and why it fails.
 use Rattle.std.specs.Prelude.{◌≡◌, ◌*◌, ◌≤◌, ℕ, List, length, Some, Result, Ok, Err}
 use Rattle.rio_host.specs.Host.{View, Rose}
+pub use Rattle.rio_host.specs.Reading.{Told}
+use Rattle.rio_host.specs.declared.reading.ReadFault.{ReadFault, TheVariants.{NoMemory as NoRoom, HostFault as DiskFault}}
 use Rattle.rio_chain.specs.{declared.segment.Segment.{Segment}, declared.fault.WalkFault.{WalkFault, TheVariants.{NoChain, NoMemory, HostFault}}}
-use Rattle.rio_chain.specs.{declared.fault.ReadFault.{ReadFault, TheVariants.{NoMemory as NoRoom, HostFault as DiskFault}}, Segments.{BreaksAt}}
+use Rattle.rio_chain.specs.Segments.{BreaksAt}
 
--- it holds of the file, where the host tells it
-abbrev pub Told : View → (List ℕ → Type 0) → Type 0
-Told v P = (file : List ℕ) → v.holds ≡ Some file → P file
+-- why bytes could not be read, as a fault of a walk
+abbrev pub fault_of_read : ReadFault → WalkFault
+fault_of_read NoRoom = NoMemory
+fault_of_read DiskFault = HostFault
 
 -- a chain that breaks does so there
 abbrev pub TellsFirstBreak : View → WalkFault → Type 0
@@ -31,9 +34,3 @@ IsReadCause old new (Err HostFault) = Rose old.disk_faults new.disk_faults
 -- at most a quarter of the file's length
 abbrev pub AreFew : List ℕ → List Segment → Type 0
 AreFew file segments = 4 * length segments ≤ length file
-
--- the same of a call that reads a record
-abbrev pub IsRecordCause : {X : Type 0} → View → View → Result X ReadFault → Type 0
-IsRecordCause old new (Ok x) = new.disk_faults ≡ old.disk_faults
-IsRecordCause old new (Err NoRoom) = new.disk_faults ≡ old.disk_faults
-IsRecordCause old new (Err DiskFault) = Rose old.disk_faults new.disk_faults

@@ -1,5 +1,5 @@
 //! Why a file's segments could not be told.
-use rio_host::Failed;
+use rio_host::{Failed, ReadFault};
 use rio_num::NoMemory;
 use std::alloc::AllocError;
 use thiserror::Error;
@@ -25,6 +25,20 @@ impl From<Failed> for WalkFault {
 
     fn from(_e: Failed) -> WalkFault {
         WalkFault::HostFault
+    }
+}
+
+impl From<ReadFault> for WalkFault {
+    ghost use Rattle.std.specs.Prelude.{◌≡◌};
+    ghost use Rattle.rio_chain.specs.Walks.{fault_of_read};
+
+    ghost from_gives = { λ f e. e ≡ fault_of_read f };
+
+    fn from(fault: ReadFault) -> WalkFault {
+        match fault {
+            ReadFault::NoMemory => WalkFault::NoMemory,
+            ReadFault::HostFault => WalkFault::HostFault,
+        }
     }
 }
 
@@ -68,48 +82,5 @@ impl From<NoMemory> for PlanFault {
 
     fn from(_e: NoMemory) -> PlanFault {
         PlanFault::NoMemory
-    }
-}
-
-/// Why a record could not be read.
-#[derive(Clone, Copy, Debug, PartialEq, Eq, Error)]
-pub enum ReadFault {
-    #[error("no memory")]
-    NoMemory,
-    /// A call on the file failed.
-    #[error("disk fault")]
-    HostFault,
-}
-
-impl From<Failed> for ReadFault {
-    ghost use Rattle.std.specs.Prelude.{◌≡◌};
-    ghost use Rattle.rio_chain.specs.declared.fault.ReadFault.TheVariants.{HostFault};
-
-    ghost from_gives = { λ _ e. e ≡ HostFault };
-
-    fn from(_e: Failed) -> ReadFault {
-        ReadFault::HostFault
-    }
-}
-
-impl From<AllocError> for ReadFault {
-    ghost use Rattle.std.specs.Prelude.{◌≡◌};
-    ghost use Rattle.rio_chain.specs.declared.fault.ReadFault.TheVariants.{NoMemory as OutOfMemory};
-
-    ghost from_gives = { λ _ e. e ≡ OutOfMemory };
-
-    fn from(_e: AllocError) -> ReadFault {
-        ReadFault::NoMemory
-    }
-}
-
-impl From<NoMemory> for ReadFault {
-    ghost use Rattle.std.specs.Prelude.{◌≡◌};
-    ghost use Rattle.rio_chain.specs.declared.fault.ReadFault.TheVariants.{NoMemory as OutOfMemory};
-
-    ghost from_gives = { λ _ e. e ≡ OutOfMemory };
-
-    fn from(_e: NoMemory) -> ReadFault {
-        ReadFault::NoMemory
     }
 }

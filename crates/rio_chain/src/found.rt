@@ -8,10 +8,10 @@ ghost use Rattle.rio_chain.specs.Found.{MayPrecede, FindsFirst, FindsLink, Finds
 ghost use Rattle.rio_chain.specs.Segments.{HasWord, texts_end_at};
 ghost use Rattle.rio_chain.specs.Walks.{IsReadCause, IsWalkCause, Told};
 
-use crate::reads::{bytes_at, key_at, key_in, word_at};
+use crate::reads::{key_at, key_in};
 use crate::{Segment, WalkFault};
 use byteorder::{BigEndian, ByteOrder};
-use rio_host::Host;
+use rio_host::{Host, bytes_at, word_at};
 use rio_key::KeyHead;
 use rio_num::{Cursor, Short};
 use std::alloc::Global;

@@ -49,9 +49,31 @@ fn places_within(
 }
 
 impl Chain {
-    ghost use Rattle.std.specs.Prelude.{◌≡◌, ◌≤◌, ◌<◌, ◌^◌, sum, IfOk, IfErr, OnOk};
-    ghost use Rattle.rio_chain.specs.Placing.{end_after, places_of, space_of};
+    ghost use Rattle.std.specs.Prelude.{◌≡◌, ◌≤◌, ◌<◌, ◌^◌, ◌∷◌, [], sum, MatchOption, IfOk, IfErr, IfSome, OnOk};
+    ghost use Rattle.rio_chain.specs.Adjoining.{AreSegments};
+    ghost use Rattle.rio_chain.specs.Placing.{end_after, place_of, places_of, space_of};
     ghost use Rattle.rio_chain.specs.Plans.{IsFull};
+
+    /// Where a record of `n` bytes goes: into the first gap as long, else into the first that is longer by
+    /// more than three, else to the end. None comes exactly where the end would pass the limit. It takes
+    /// no memory.
+    pub fn place_for(&self, n: u64, limit: u64) -> Option<u64>
+        ensures shape { AreSegments self.now.segments }
+        ensures place { IfSome result (λ place. place ≡ place_of self.now.segments n) }
+        ensures low { IfSome result (λ place. place ≤ 1999999996) }
+        ensures exact { MatchOption result
+            (limit < end_after (n ∷ []) (space_of self.now.segments))
+            (λ _. end_after (n ∷ []) (space_of self.now.segments) ≤ limit) }
+    {
+        if self.end > limit {
+            return None;
+        }
+        match self.gaps.best(n) {
+            Some(place) => Some(place),
+            None if limit - self.end < n => None,
+            None => Some(self.end),
+        }
+    }
 
     /// Where records of these lengths go, one after the other: each into the first gap as long, else into
     /// the first that is longer by more than three, else to the end. Full comes only where the end would

@@ -1,15 +1,15 @@
 //! A record of the chain is read.
 use crate::kept::count_before;
 use crate::{Chain, ReadFault};
-use rio_host::Host;
+use rio_host::{Host, bytes_at};
 use rio_num::Bytes;
 
 impl Chain {
     ghost use Rattle.std.specs.Prelude.{◌≡◌, ℕ, List, Some, Contains, false, IfOk};
     ghost use Rattle.rio_host.specs.OnlyReads.{OnlyReads};
+    ghost use Rattle.rio_host.specs.Reading.{IsReadCause};
     ghost use Rattle.rio_chain.specs.Chains.{HasChain, HasRecordSegment, HoldsChain};
     ghost use Rattle.rio_chain.specs.Segments.{Link, RecordAt};
-    ghost use Rattle.rio_chain.specs.Walks.{IsRecordCause};
 
     /// The bytes of the record at `place`.
     pub fn read_record<H: Host>(&self, host: &mut H, place: u64) -> Result<Bytes, ReadFault>
@@ -20,13 +20,12 @@ impl Chain {
             → (H.view host.old).holds ≡ Some file → HasChain links self.now.segments file
             → Contains links (RecordAt place bytes.bytes)) }
         ensures calls { OnlyReads (H.view host.old) (H.view host.new) }
-        ensures cause { IsRecordCause (H.view host.old) (H.view host.new) result }
+        ensures cause { IsReadCause (H.view host.old) (H.view host.new) result }
     {
         let alloc = *self.segments.allocator();
         let at = count_before(&self.segments, place);
         let n = self.segments[at].length();
-        let mut bytes = vec![in alloc; 0u8; n as usize]?;
-        host.read(place, &mut bytes)?;
+        let bytes = bytes_at(alloc, host, place, n as usize)?;
         Ok(Bytes::from(bytes))
     }
 }

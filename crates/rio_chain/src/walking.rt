@@ -7,9 +7,8 @@ ghost use Rattle.rio_chain.specs.Segments.{HasSegments};
 ghost use Rattle.rio_chain.specs.Walks.{AreFew, IsWalkCause, Told, TellsFirstBreak};
 
 use crate::found::link_at;
-use crate::reads::word_at;
 use crate::{Segments, WalkFault};
-use rio_host::Host;
+use rio_host::{Host, word_at};
 use std::alloc::Global;
 
 /// The records and gaps of the file, from place 100 to END. NoChain is the first place where they

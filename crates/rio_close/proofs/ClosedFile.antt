@@ -22,7 +22,7 @@ use Rattle.rio_chain.specs.declared.segment.Segment.{Segment, TheVariants.{Recor
 use Rattle.rio_chain.proofs.{Words.{record_long, record_word}, Chains.{end-le}, Laying.{laid_put}, Placed.{end_grows as grows_at_end}}
 use Rattle.rio_chain.proofs.PutChain.{map_end, map_with}
 use Rattle.rio_machine.specs.State.{State}
-use Rattle.rio_record.specs.Record.{new_key}
+use Rattle.rio_chain.specs.Record.{new_key}
 use Rattle.rio_state.specs.{Closing.{item_heads}, DirectoryKeys.{AreKeysOf}}
 use Rattle.rio_state.specs.KeyedRecords.{KeyedRecord, info_key, is_info_key, is_internal, later_info, keyed_records, top_keys, is_top_key, is_tree_key, is_tree_record}
 use Rattle.rio_state.specs.{Left.{info_head}, Reads.{AreRecordsOf, IsFreeRecordAt, ReadsAsState, ReadsClosed, info_place}, OneMore.{keyed_bytes}}

@@ -13,10 +13,11 @@ use Rattle.rio_chain.specs.Placing.{FreeSpace, file_end, gaps_in, laid_at, place
 use Rattle.rio_chain.specs.declared.segment.Segment.{Segment, TheVariants.{Record, Gap}}
 use Rattle.rio_chain.proofs.{Laying.{laid_put}, Placed.{end-le, end_segments, gaps_end, low_place, place_free}}
 use Rattle.rio_machine.specs.Limits.{head_length}
-use Rattle.rio_record.specs.{Record.{FitsWords, key_size, record_bytes}, declared.words.KeyWords.{KeyWords}, declared.record.NewRecord.{NewRecord}}
-use Rattle.rio_record.proofs.Records.{are_new_records}
+use Rattle.rio_chain.specs.{Record.{FitsWords, key_size, record_bytes}, declared.key_words.KeyWords.{KeyWords}, declared.record.NewRecord.{NewRecord}}
+use Rattle.rio_chain.proofs.Records.{are_new_records}
 use Rattle.rio_state.specs.Closing.{list_length, padded_length}
-use Rattle.rio_close.specs.{Sizes.{close_size, headless}, Written.{IsOwnRecord, own_words, record_size}}
+use Rattle.rio_state.specs.Sizes.{close_size, headless}
+use Rattle.rio_close.specs.{Written.{IsOwnRecord, own_words, record_size}}
 
 -- ---- lengths
 

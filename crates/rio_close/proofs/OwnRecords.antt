@@ -7,8 +7,8 @@ use Rattle.rio_key.specs.{Key.{SpellsKey}, declared.head.KeyHead.{KeyHead}}
 use Rattle.rio_key.proofs.KeyRecord.{unsigned_is}
 use Rattle.rio_chain.specs.{Changes.{with_record}, Segments.{IsRecord, Link, RecordAt}}
 use Rattle.rio_machine.specs.State.{State}
-use Rattle.rio_record.specs.{Laws.{IsNewRecord}, Record.{FitsWords, key_size, new_key, record_bytes}, declared.words.KeyWords.{KeyWords}}
-use Rattle.rio_record.proofs.Records.{are_new_records}
+use Rattle.rio_chain.specs.{NewRecords.{IsNewRecord}, Record.{FitsWords, key_size, new_key, record_bytes}, declared.key_words.KeyWords.{KeyWords}}
+use Rattle.rio_chain.proofs.Records.{are_new_records}
 use Rattle.rio_state.specs.{DirectoryKeys.{AreKeysOf}, KeyedRecords.{KeyedRecord, info_key, is_internal, keyed_records, record_in_link}}
 use Rattle.rio_state.specs.{Reads.{AreRecordsOf}, OneMore.{KeyIsRead, keyed_bytes, HasOneMoreIn}}
 use Rattle.rio_state.proofs.{MoreRecords.{keyed_link, record_more}, Stays.{info_same, internal_stays, keys_stay, not_info}}

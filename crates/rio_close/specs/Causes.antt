@@ -1,8 +1,13 @@
 -- Why a call over a host fails. A count of faults rises where a call of the host failed, and only there.
 use Rattle.std.specs.Prelude.{◌≡◌, Result, Ok, Err}
 use Rattle.rio_head.specs.declared.fault.FileFault.{FileFault, TheVariants.{NotRoot, Short, BadBegin, BadUnits, NotClosed, BadDir, BadKeyList, Compressed, BadInfo}}
-use Rattle.rio_host.specs.Host.{View, Rose}
+use Rattle.rio_host.specs.{Host.{View, Rose}, declared.reading.ReadFault.{ReadFault, TheVariants.{NoMemory as NoRoom, HostFault as DiskFault}}}
 use Rattle.rio_close.specs.declared.fault.ReportFault.{ReportFault, TheVariants.{BadFile, NoMemory, HostFault, SayFault}}
+
+-- why bytes could not be read, as a fault of a report
+abbrev pub fault_of_read : ReadFault → ReportFault
+fault_of_read NoRoom = NoMemory
+fault_of_read DiskFault = HostFault
 
 -- no call on the file failed
 abbrev pub NoDiskFault : View → View → Type 0

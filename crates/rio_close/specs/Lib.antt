@@ -2,5 +2,4 @@ pub mod Causes
 pub mod Fields
 pub mod Leaving
 pub mod Opens
-pub mod Sizes
 pub mod Written

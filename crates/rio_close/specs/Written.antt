@@ -5,7 +5,7 @@ use Rattle.rio_key.specs.declared.head.KeyHead.{KeyHead}
 use Rattle.rio_free.specs.Record.{free_bytes}
 use Rattle.rio_dir.specs.Table.{key_list_bytes}
 use Rattle.rio_chain.specs.{Adjoining.{AreSegments}, Placing.{file_end, gaps_in, place_of, with_segment}, declared.segment.Segment.{Segment}}
-use Rattle.rio_record.specs.{Record.{FitsWords, new_key, record_bytes}, declared.record.NewRecord.{NewRecord}, declared.words.KeyWords.{KeyWords}}
+use Rattle.rio_chain.specs.{Record.{FitsWords, new_key, record_bytes}, declared.record.NewRecord.{NewRecord}, declared.key_words.KeyWords.{KeyWords}}
 use Rattle.rio_state.specs.{Closing.{end_limit}, KeyedRecords.{first_place}}
 use Rattle.rio_close.specs.declared.parts.CloseRecords.{CloseRecords}
 

@@ -1,6 +1,6 @@
 //! Why a file's contents could not be told.
 use rio_head::{FileFault, HeadFault};
-use rio_host::Failed;
+use rio_host::{Failed, ReadFault};
 use rio_num::NoMemory;
 use std::alloc::AllocError;
 use thiserror::Error;
@@ -29,6 +29,20 @@ impl From<AllocError> for ReportFault {
 
     fn from(_e: AllocError) -> ReportFault {
         ReportFault::NoMemory
+    }
+}
+
+impl From<ReadFault> for ReportFault {
+    ghost use Rattle.std.specs.Prelude.{◌≡◌};
+    ghost use Rattle.rio_close.specs.Causes.{fault_of_read};
+
+    ghost from_gives = { λ f e. e ≡ fault_of_read f };
+
+    fn from(fault: ReadFault) -> ReportFault {
+        match fault {
+            ReadFault::NoMemory => ReportFault::NoMemory,
+            ReadFault::HostFault => ReportFault::HostFault,
+        }
     }
 }
 

@@ -7,9 +7,8 @@ ghost use Rattle.rio_close.specs.Causes.{IsHostCause};
 ghost use Rattle.rio_close.specs.Opens.{OpensTold};
 
 use crate::ReportFault;
-use crate::range::read_front;
 use rio_head::{DirRecord, FileFault, FileHead, read_dir, read_head};
-use rio_host::Host;
+use rio_host::{Host, prefix_at};
 
 // The header, whose END is within the file.
 #[tactic(auto, unfolding(rio_dir::specs::Closed::closed_head))]
@@ -20,7 +19,7 @@ pub(crate) fn open_head<H: Host>(host: &mut H, file_length: u64) -> Result<FileH
     ensures cause { IsHostCause (H.view host.old) (H.view host.new) result }
 {
     let mut front = [0u8; 100];
-    let n = read_front(host, file_length, 0, &mut front)?;
+    let n = prefix_at(host, file_length, 0, &mut front)?;
     let head = read_head(&front[..n])?;
     if file_length < head.end {
         return Err(ReportFault::BadFile {
@@ -44,7 +43,7 @@ pub(crate) fn open_dir<H: Host>(
     ensures cause { IsHostCause (H.view host.old) (H.view host.new) result }
 {
     let mut front = [0u8; 60];
-    let n = read_front(host, file_length, place, &mut front)?;
+    let n = prefix_at(host, file_length, place, &mut front)?;
     match read_dir(&front[..n], place) {
         Ok(dir) => Ok(dir),
         Err(_) => Err(ReportFault::BadFile {

@@ -5,28 +5,26 @@
 //! any moment leaves a file that reads as before, and that is marked as open or closed whole.
 //!
 //! The definitions stand in `specs/`: `Opens` and `Causes` (what a call that reads answers, and why
-//! it fails), `Sizes`, `Written` (what a close writes), `Fields` (its last writes) and `Leaving`
-//! (what a stop leaves). Its tests stand in `rio_file_rows`.
+//! it fails), `Written` (what a close writes), `Fields` (its last writes) and `Leaving` (what a stop
+//! leaves). What a close needs is defined in `rio_state`. Its tests stand in `rio_file_rows`.
 #![tactic(auto)]
 
 mod fault;
 mod front;
 mod keys;
 mod laws;
-mod length;
 mod making;
 mod open;
 mod parts;
-mod range;
 mod record;
 mod writing;
 
 pub use fault::ReportFault;
-pub use laws::{close_length_is_need, directory_in_front};
-pub use length::close_length;
+pub use laws::directory_in_front;
 pub use making::close_records;
 pub use open::{open_closed, read_closed};
 pub use parts::CloseRecords;
 pub use record::{read_record, read_up_to};
 pub use rio_dir::Closed;
+pub use rio_state::{close_length, close_length_is_need};
 pub use writing::write_close;

@@ -8,20 +8,19 @@ ghost use Rattle.rio_dir.specs.Table.{heads_size, key_list_bytes};
 ghost use Rattle.rio_free.specs.Record.{free_bytes};
 ghost use Rattle.rio_key.specs.Written.{FitsKey};
 ghost use Rattle.rio_machine.specs.Limits.{head_length};
-ghost use Rattle.rio_record.specs.Record.{FitsWords};
-ghost use Rattle.rio_state.specs.Closing.{padded_length};
-ghost use Rattle.rio_close.specs.Sizes.{close_size};
+ghost use Rattle.rio_chain.specs.Record.{FitsWords};
+ghost use Rattle.rio_num.specs.Padding.{padded_length};
+ghost use Rattle.rio_state.specs.Sizes.{close_size};
 ghost use Rattle.rio_close.specs.Written.{AreCloseRecords, IsOwnRecord, own_words, record_size};
 
 use crate::CloseRecords;
-use crate::length::{own_key_length, padded};
 use crate::parts::{dir_fields, free_fields, info_fields};
-use rio_chain::Chain;
+use rio_chain::{Chain, KeyWords, NewRecord, new_record};
 use rio_dir::{KeyTable, write_key_list};
 use rio_free::write_free;
 use rio_key::KeyHead;
-use rio_num::{Bytes, Name, NoMemory};
-use rio_record::{KeyWords, NewRecord, new_record};
+use rio_num::{Bytes, Name, NoMemory, padded};
+use rio_state::own_key_length;
 use std::alloc::Global;
 
 // The record of key list or free record.

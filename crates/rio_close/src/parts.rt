@@ -3,9 +3,9 @@ ghost use Rattle.std.specs.Prelude.{◌≡◌, ◌+◌, ◌<◌, ◌^◌, IfOk, 
 ghost use Rattle.std.specs.Option.{option_copied};
 ghost use Rattle.rio_close.specs.Written.{dir_field_bytes, free_field_bytes, info_field_bytes};
 
+use rio_chain::NewRecord;
 use rio_key::KeyHead;
 use rio_num::{Bytes, NoMemory};
-use rio_record::NewRecord;
 use std::alloc::Global;
 
 /// What a close writes.

@@ -7,8 +7,7 @@ ghost use Rattle.rio_close.specs.Causes.{IsCallCause};
 ghost use Rattle.rio_close.specs.Opens.{IsRecordAt};
 
 use crate::ReportFault;
-use crate::range::{read_front, read_range};
-use rio_host::Host;
+use rio_host::{Host, bytes_at, prefix_at};
 use rio_num::Cursor;
 use std::alloc::Global;
 
@@ -33,7 +32,7 @@ pub fn read_up_to<H: Host>(
     if n == 0 {
         return Ok(Vec::new(alloc));
     }
-    read_range(alloc, host, place, n as usize)
+    Ok(bytes_at(alloc, host, place, n as usize)?)
 }
 
 // How long the record is that begins with these bytes: None where its first word isn't whole or is
@@ -69,7 +68,7 @@ pub fn read_record<H: Host>(
     ensures cause { IsCallCause (H.view host.old) (H.view host.new) result }
 {
     let mut word = [0u8; 4];
-    let n = read_front(host, file_length, place, &mut word)?;
+    let n = prefix_at(host, file_length, place, &mut word)?;
     match record_length(&word[..n]) {
         None => Ok(None),
         Some(nbytes) => Ok(Some(read_up_to(alloc, host, file_length, place, nbytes)?)),

@@ -58,7 +58,7 @@ fn commands_of(alloc: Global, script: &[u8]) -> Result<Bytes, NoMemory> {
 fn reads_scripts(rt: HostRuntime) -> Result<(), Fail> {
     let stored = b"put s TObjString{TObject{fUniqueID: 0, fBits: 0}, fString: \"hi\"}";
     let printed = b"put s TObjString#0{TObject#0{fUniqueID: 0, fBits: 0}, fString: \"hi\"}\n";
-    let table: [(&[u8], &[u8]); 10] = [
+    let table: [(&[u8], &[u8]); 12] = [
         (b"put s TObjString{\n\nfrob x\n", b"bad 1 17\nbad 3 0\n"),
         (stored, printed),
         (b"get s\nget s;2\nls", b"get s\nget s;2\nls\n"),
@@ -72,6 +72,8 @@ fn reads_scripts(rt: HostRuntime) -> Result<(), Fail> {
         (b"get s \"x\nput s \"x\nget", b"bad 1 6\nbad 2 8\nbad 3 3\n"),
         (b"", b""),
         (b"\n\n\n #\nlsx\n", b"bad 4 1\nbad 5 0\n"),
+        (b" \t\nls\n", b"bad 1 2\nls\n"),
+        (b"get s;0\nget s;-1\n", b"get s;0\nbad 2 6\n"),
     ];
     for (script, expected) in table {
         let text = commands_of(rt.alloc(), script)?;

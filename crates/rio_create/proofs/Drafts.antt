@@ -5,7 +5,7 @@ use Rattle.byteorder.specs.Endian.{big_bytes}
 use Rattle.rio_num.specs.Room.{Room, room_of, with_more}
 use Rattle.rio_head.specs.{Uuid.{uuid_of_file}, Written.{FitsHead, written_dir, written_head}, declared.dir.DirRecord.{DirRecord}}
 use Rattle.rio_head.specs.declared.head.FileHead.{FileHead}
-use Rattle.rio_record.specs.{Record.{record_bytes}, declared.words.KeyWords.{KeyWords}}
+use Rattle.rio_chain.specs.{Record.{record_bytes}, declared.key_words.KeyWords.{KeyWords}}
 use Rattle.rio_create.specs.NewFile.{file_texts, first_length, first_record, first_words, nbytes_name_of, new_directory, new_file, new_head}
 use Rattle.rio_create.proofs.{Lengths.{first_low, head_long}, NewFiles.{first_size}, Uuids.{length-uuid}}
 

@@ -13,7 +13,7 @@ use Rattle.rio_head.proofs.HeadAgain.{head_only}
 use Rattle.rio_chain.specs.{Chains.{HasChain}, Segments.{HasWord, HoldsRecord, IsChain, IsFirst, texts_end_at}}
 use Rattle.rio_chain.specs.declared.segment.Segment.{Segment, TheVariants.{Record}}
 use Rattle.rio_chain.proofs.Words.{word_of_bytes, word_one}
-use Rattle.rio_record.specs.{Laws.{IsNewRecord}, Record.{key_size}}
+use Rattle.rio_chain.specs.{NewRecords.{IsNewRecord}, Record.{key_size}}
 use Rattle.rio_machine.specs.State.{empty_state}
 use Rattle.rio_state.specs.{Left.{HasOpenHead, IsLeftAs, open_end}, Reads.{ReadsAsMade}}
 use Rattle.rio_create.specs.NewFile.{file_bytes, file_texts, first_data, first_record, first_segments, first_words, nbytes_name_of, new_directory, new_head}

@@ -5,7 +5,7 @@ use Rattle.rio_key.specs.Written.{padded_size}
 use Rattle.rio_head.proofs.Lengths.{dir_parts, head_parts, length-dir, length-head}
 use Rattle.rio_head.specs.{Written.{written_dir, written_head}, declared.dir.DirRecord.{DirRecord}, declared.head.FileHead.{FileHead}}
 use Rattle.rio_machine.specs.Limits.{head_length}
-use Rattle.rio_record.specs.Record.{FitsWords, key_size}
+use Rattle.rio_chain.specs.Record.{FitsWords, key_size}
 use Rattle.rio_create.specs.NewFile.{file_texts, first_data, first_length, first_words, nbytes_name_of, new_directory}
 
 -- a text of fewer than 255 bytes has one byte of length

@@ -3,8 +3,8 @@ use Rattle.std.proofs.Common.{◌≡◌, ℕ, ◌+◌, ◌^◌, ◌<◌, ◌≤�
 use Rattle.std.specs.List.{cons_option, sum_by}
 use Rattle.rio_key.specs.{declared.head.KeyHead.{KeyHead}, declared.fault.KeyFault.{KeyFault}}
 use Rattle.rio_chain.specs.Segments.{Link, RecordAt}
-use Rattle.rio_record.specs.{Laws.{IsNewRecord}, Record.{new_key}}
-use Rattle.rio_record.proofs.Records.{are_new_records}
+use Rattle.rio_chain.specs.{NewRecords.{IsNewRecord}, Record.{new_key}}
+use Rattle.rio_chain.proofs.Records.{are_new_records}
 use Rattle.rio_machine.specs.State.{empty_state}
 use Rattle.rio_state.specs.Closing.{KeptRecords, closing_lengths, free_length, held_of, item_heads, kept_count, kept_in, list_length, name_in}
 use Rattle.rio_state.specs.{DirectoryKeys.{AreKeysOf}, KeyedRecords.{KeyedRecord, info_key, keyed_records, record_with_head, top_keys}, Reads.{AreRecordsOf}}

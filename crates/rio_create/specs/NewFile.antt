@@ -5,7 +5,7 @@ use Rattle.rio_num.specs.Text.{text_bytes}
 use Rattle.rio_host.specs.Image.{Has}
 use Rattle.rio_head.specs.{Uuid.{uuid_of_file}, Written.{written_dir, written_head}, declared.dir.DirRecord.{DirRecord}, declared.head.FileHead.{FileHead}}
 use Rattle.rio_chain.specs.{Chains.{HasChain}, Segments.{Link}, declared.segment.Segment.{Segment, TheVariants.{Record}}}
-use Rattle.rio_record.specs.{Record.{record_bytes}, declared.words.KeyWords.{KeyWords}}
+use Rattle.rio_chain.specs.{Record.{record_bytes}, declared.key_words.KeyWords.{KeyWords}}
 use Rattle.rio_machine.specs.{Limits.{head_length}, State.{empty_state}}
 use Rattle.rio_state.specs.{Closing.{held_of, kept_in, padded_length}, DirectoryKeys.{AreKeysOf}, KeyedRecords.{first_place, info_key, keyed_records}}
 use Rattle.rio_state.specs.{Left.{HasOpenHead, IsLeftAs, IsMarkedOpen, open_end}, Reads.{AreRecordsOf}}

@@ -2,9 +2,9 @@
 ghost use Rattle.std.specs.Prelude.{◌≡◌, ◌≤◌, ◌<◌, ◌+◌, ◌%◌, ◌^◌, length, IfOk};
 ghost use Rattle.rio_create.specs.NewFile.{file_texts, first_data, first_length, first_record, first_words, nbytes_name_of, new_directory};
 
+use rio_chain::{KeyWords, new_record};
 use rio_head::{DirRecord, write_dir};
 use rio_num::{Bytes, Name, NoMemory};
-use rio_record::{KeyWords, new_record};
 use std::alloc::Global;
 
 // The first record of a file, and how long its key and the two texts behind it are.

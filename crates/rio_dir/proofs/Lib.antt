@@ -5,3 +5,4 @@ pub mod TableOrder
 pub mod TableWritten
 pub mod TableLaws
 pub mod MapLaws
+pub mod UnbornPrefix

@@ -10,7 +10,7 @@ use Rattle.rio_value.specs.declared.value.Value.TheOpen as layer
 use Rattle.rio_buffer.specs.ReaderState.{no_words}
 use Rattle.rio_format.specs.{Bodies.{member, part}, Slots.{kinded}, Written.{Writing, writing_of, writing_step}}
 use Rattle.rio_format.proofs.{ValueCases.{fold_Int, fold_Null, fold_Pointed}, WrittenValues.{write_object}}
-use Rattle.rio_record.specs.{Record.{record_bytes}, declared.words.KeyWords.{KeyWords}}
+use Rattle.rio_chain.specs.{Record.{record_bytes}, declared.key_words.KeyWords.{KeyWords}}
 use Rattle.rio_step.specs.Refusing.{object_class}
 use Rattle.rio_effect.specs.ObjectRecord.{object_data, object_record, object_words, words_of_value}
 

@@ -8,8 +8,8 @@ use Rattle.rio_chain.proofs.{Laying.{laid_put}, Placed.{end_grows}, PutChain.{ma
 use Rattle.rio_free.specs.Gaps.{best_place}
 use Rattle.rio_format.specs.Written.{written_form}
 use Rattle.rio_machine.specs.{declared.command.Command.TheVariants.{Put}, declared.refusal.Refusal.{Refusal}}
-use Rattle.rio_record.proofs.Records.{key_long}
-use Rattle.rio_record.specs.Record.{key_size}
+use Rattle.rio_chain.proofs.Records.{key_long}
+use Rattle.rio_chain.specs.Record.{key_size}
 use Rattle.rio_state.specs.Closing.{free_length, held_of, kept_in, list_length}
 use Rattle.rio_step.specs.{Costs.{accepted_cost, cost_of}, Refusing.{put_value}}
 use Rattle.rio_effect.specs.{Laws.{HeldGrows}, ObjectRecord.{data_of_put, object_record, words_of_put}}

@@ -12,7 +12,7 @@ use Rattle.rio_machine.specs.State.{State, next_cycle}
 use Rattle.rio_state.specs.Contents.{HasStateClasses, object_in, state_classes}
 use Rattle.rio_state.specs.KeyedRecords.{KeyedRecord, first_place, has_info_name, info_key, is_elsewhere, is_in_directory, is_internal, is_top_key, keyed_records, top_keys}
 use Rattle.rio_state.specs.{Reads.{AreRecordsOf, StandsForState}, Closing.{padded_length}, OneMore.{HasOneMoreIn}}
-use Rattle.rio_record.specs.Record.{key_size}
+use Rattle.rio_chain.specs.Record.{key_size}
 use Rattle.rio_step.specs.{Costs.{value_size}, Refusing.{put_value}, Runs.{saved_of}}
 use Rattle.rio_effect.proofs.{WrittenLengths.{written_length}, FreeItems.{no_item, no_tree_named}, PutClasses.{IsObjectClass}}
 use Rattle.rio_effect.proofs.{PutObject.{IsAccepted, accepted, object_read, own_class, new_record, put_record, words_fit}, SavedPuts.{puts_ignore_pending}}

@@ -14,8 +14,8 @@ use Rattle.rio_model.specs.StateClasses.{StateClasses}
 use Rattle.rio_machine.specs.{Limits.{cycle_limit, data_length, has_long_list, is_too_deep, is_too_long}, State.{State, names_tree, next_cycle}}
 use Rattle.rio_machine.specs.declared.command.Command.TheVariants.{Put}
 use Rattle.rio_machine.specs.declared.refusal.Refusal.TheVariants.{BadName, NameIsTree, NoSuchClass, CycleLimit, TooLarge, TooDeep, TooMany}
-use Rattle.rio_record.specs.{Record.{FitsWords, key_size, new_key, record_bytes}, Laws.{IsNewRecord}, declared.words.KeyWords.{KeyWords}}
-use Rattle.rio_record.proofs.Records.{are_new_records}
+use Rattle.rio_chain.specs.{Record.{FitsWords, key_size, new_key, record_bytes}, NewRecords.{IsNewRecord}, declared.key_words.KeyWords.{KeyWords}}
+use Rattle.rio_chain.proofs.Records.{are_new_records}
 use Rattle.rio_state.specs.{Contents.{can_be_stored, object_in, stored_in}, KeyedRecords.{KeyedRecord, record_data}}
 use Rattle.rio_step.proofs.{ApartLaws.{none_at, not_refused}, FitStays.{unrefused_fit}}
 use Rattle.rio_step.specs.Refusing.{FullMark, goes_too_deep, has_too_many, is_at_last_cycle, is_list_name, is_too_large, is_tree_name, lacks_class, object_class, object_class_name, put_value, refusal_of, refusals}

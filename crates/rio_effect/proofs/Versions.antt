@@ -6,7 +6,7 @@ use Rattle.rio_num.proofs.Cases.{if_some, some_of}
 use Rattle.rio_types.specs.{Classes.{find_in}, declared.class.ClassDef.{ClassDef}}
 use Rattle.rio_types.specs.declared.kind.Kind.TheVariants.{Plain, Counter, Fixed, Counted, Text as Texted, Inline, Pointer, Other}
 use Rattle.rio_value.specs.{declared.value.Value.{Value, List as Items, Object, Pointed}, declared.value.Part.{Part}}
-use Rattle.rio_format.specs.declared.shape.Shape.{Shape as Form, TheVariants.{Bare as bare, Numbers as numbers, Headed as headed}}
+use Rattle.rio_format.specs.declared.form.Form.{Form, TheVariants.{Bare as bare, Numbers as numbers, Headed as headed}}
 use Rattle.rio_format.specs.Bodies.{Body, Counters, described, form_of, headed_classes}
 use Rattle.rio_format.specs.Fits.{Fitting, Labels, all_fit, counted_slot, counted_so_far, fields_fit, fits, fitting_of, fitting_step, link_fits, list_fits, may_point, object_may_stand, parts_fit, pointed_fits}
 use Rattle.rio_format.specs.Laws.{has_versions, versions_step}

@@ -10,7 +10,7 @@ use Rattle.rio_model.specs.StateClasses.{StateClasses}
 use Rattle.rio_machine.specs.{Limits.{head_length}, State.{NameAndCycle, State, names_tree, next_cycle}, declared.command.Command.TheVariants.{Put}}
 use Rattle.rio_dir.specs.Table.{greatest_cycle, is_at_cycle, with_head}
 use Rattle.rio_chain.specs.{Changes.{with_record}, Placing.{IsPlaceFor}, Segments.{IsChain, IsRecord, Link, RecordAt, segment_of}, Stops.{KeepsFront}}
-use Rattle.rio_record.specs.Record.{FitsWords}
+use Rattle.rio_chain.specs.Record.{FitsWords}
 use Rattle.rio_state.specs.{Closing.{KeptRecords, closing_lengths, held_of, kept_count, kept_in, name_in, padded_length}, DirectoryKeys.{AreKeysOf}}
 use Rattle.rio_state.specs.KeyedRecords.{KeyedRecord, info_key, is_elsewhere, is_info_key, is_top_key, is_tree_key, keyed_records}
 use Rattle.rio_state.specs.{Reads.{AreRecordsOf, ReadsAsMade, ReadsAsState}, OneMore.{KeyIsRead}}

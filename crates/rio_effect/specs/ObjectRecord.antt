@@ -4,7 +4,7 @@ use Rattle.rio_types.specs.declared.class.ClassDef.{ClassDef}
 use Rattle.rio_value.specs.declared.value.Value.{Value}
 use Rattle.rio_format.specs.Written.{written_form}
 use Rattle.rio_key.specs.declared.head.KeyHead.{KeyHead}
-use Rattle.rio_record.specs.{Record.{key_size, new_key, record_bytes}, declared.words.KeyWords.{KeyWords}}
+use Rattle.rio_chain.specs.{Record.{key_size, new_key, record_bytes}, declared.key_words.KeyWords.{KeyWords}}
 use Rattle.rio_machine.specs.State.{State, next_cycle}
 use Rattle.rio_state.specs.KeyedRecords.{first_place}
 use Rattle.rio_step.specs.Refusing.{object_class, put_value}

@@ -6,7 +6,7 @@ use Rattle.rio_num.proofs.ReadLaws.{bind_ok, ok_is}
 use Rattle.rio_buffer.specs.{Frames.{ObjLayout}, ReaderState.{ReaderState}, declared.words.Header.{Header}, declared.fault.ObjFault.{ObjFault}}
 use Rattle.rio_format.specs.Bodies.{Body, described, listed, arrayed, opaque, form_of}
 use Rattle.rio_format.specs.Objects.{Objects, number_array, bare_layout, body, closed, depth_limit, formed, headed, object_of, unread, whole_object}
-use Rattle.rio_format.specs.declared.shape.Shape.{Shape, TheVariants.{Bare, Numbers, Headed}}
+use Rattle.rio_format.specs.declared.form.Form.{Form, TheVariants.{Bare, Numbers, Headed}}
 use Rattle.rio_types.specs.{declared.class.ClassDef.{ClassDef}, declared.kind.Primitive.{Primitive}}
 use Rattle.rio_value.specs.{Accessors.{number_in}, declared.value.Part.{Part}}
 use Rattle.rio_value.specs.declared.value.Value.{Value, Object, Opaque, out-Value, out-roll-Value, TheVariants.{rolls-Object, rolls-Opaque}}
@@ -59,7 +59,7 @@ body_says object class h listed = whole_says class _ h _
 body_says object class h arrayed = whole_says class _ h _
 body_says object class h opaque = unread_says class h
 
-formed_says : (object : Objects) (classes : List ClassDef) (class : List ℕ) (form : Shape) → SaysNone (formed object classes class form)
+formed_says : (object : Objects) (classes : List ClassDef) (class : List ℕ) (form : Form) → SaysNone (formed object classes class form)
 unfolding formed headed
 formed_says object classes class Bare = bare_says
 formed_says object classes class (Numbers of) = array_says class of

@@ -2,5 +2,6 @@
 mod chains;
 mod closes;
 mod parts;
+mod records;
 mod recovery;
 mod sessions;

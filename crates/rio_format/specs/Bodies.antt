@@ -1,6 +1,6 @@
 -- What stands in an object of a class: the classes with a body of their own, and the parts of a class that is described.
-pub use Rattle.rio_format.specs.declared.shape.Shape.{Shape as Form}
-pub use Rattle.rio_format.specs.declared.shape.Shape.TheVariants.{Bare as bare, Numbers as numbers, Headed as headed}
+pub use Rattle.rio_format.specs.declared.form.Form.{Form}
+pub use Rattle.rio_format.specs.declared.form.Form.TheVariants.{Bare as bare, Numbers as numbers, Headed as headed}
 pub use Rattle.rio_format.specs.declared.built_in.BuiltIn.{BuiltIn}
 pub use Rattle.rio_format.specs.declared.built_in.BuiltIn.TheVariants.{Object, Named, ObjString, Listed, Arrayed, Chars, Shorts, Ints, Longs, Floats, Doubles}
 use Rattle.std.specs.{Prelude.{ℕ, ℤ, pos, List, [], ◌∷◌, ◌++◌, map, codes, Option, Some, None, unwrap_or, if◌then◌else◌}, Str.{bytes_eq}, Map.{lookup}}

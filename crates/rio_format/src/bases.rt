@@ -9,8 +9,8 @@ ghost use Rattle.rio_format.specs.Visits.{base_of};
 
 use crate::base_set::BaseSet;
 use crate::body::{Body, BodyKind, listed_body};
+use crate::form::{Form, form_of};
 use crate::lists::ClassLists;
-use crate::shape::{Shape, shape_of};
 use rio_num::NoMemory;
 use rio_types::Base;
 use std::alloc::Global;
@@ -19,7 +19,7 @@ use std::alloc::Global;
 pub fn is_headed(class: &[u8]) -> bool
     ensures { result ≡ is_headed (form_of class.now) }
 {
-    matches!(shape_of(class), Shape::Headed)
+    matches!(form_of(class), Form::Headed)
 }
 
 // The body of a class's objects that begin with a header.

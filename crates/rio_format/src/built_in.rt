@@ -3,7 +3,7 @@ ghost use Rattle.std.specs.Prelude.{◌≡◌, Some, None};
 ghost use Rattle.std.specs.Str.{bytes_eq};
 ghost use Rattle.rio_format.specs.Bodies.{headed_class, headless_class, row_of};
 
-use crate::shape::Shape;
+use crate::form::Form;
 use rio_types::Prim;
 
 /// A class that is built in.
@@ -112,18 +112,18 @@ impl BuiltIn {
     }
 
     /// How its objects begin.
-    pub fn shape(self) -> Shape
+    pub fn form(self) -> Form
         ensures { result ≡ (row_of self).form }
     {
         match self {
-            BuiltIn::Object => Shape::Bare,
-            BuiltIn::Chars => Shape::Numbers(Prim::I8),
-            BuiltIn::Shorts => Shape::Numbers(Prim::I16),
-            BuiltIn::Ints => Shape::Numbers(Prim::I32),
-            BuiltIn::Longs => Shape::Numbers(Prim::I64),
-            BuiltIn::Floats => Shape::Numbers(Prim::F32),
-            BuiltIn::Doubles => Shape::Numbers(Prim::F64),
-            _ => Shape::Headed,
+            BuiltIn::Object => Form::Bare,
+            BuiltIn::Chars => Form::Numbers(Prim::I8),
+            BuiltIn::Shorts => Form::Numbers(Prim::I16),
+            BuiltIn::Ints => Form::Numbers(Prim::I32),
+            BuiltIn::Longs => Form::Numbers(Prim::I64),
+            BuiltIn::Floats => Form::Numbers(Prim::F32),
+            BuiltIn::Doubles => Form::Numbers(Prim::F64),
+            _ => Form::Headed,
         }
     }
 }

@@ -1,5 +1,5 @@
 //! What bytes of a file mean: definitions that contracts cite, laws about them, and the types that they speak of.
-//! Beside them stands what objects of a class consist of: their shapes, bodies and parts, and which classes are
+//! Beside them stands what objects of a class consist of: their forms, bodies and parts, and which classes are
 //! among their bases. A [`PartList`] makes the parts of an object, and
 //! [`titled_object`], [`array_object`] and [`list_object`] make objects of built-in classes with it. Its tests stand in
 //! `rio_rows`.
@@ -10,10 +10,10 @@ mod bases;
 mod body;
 mod built_in;
 mod counters;
+mod form;
 mod laws;
 mod lists;
 mod part_list;
-mod shape;
 mod slot;
 mod width;
 
@@ -22,6 +22,7 @@ pub use bases::{derives_from, is_headed};
 pub use body::{Body, BodyKind, body_of, declared_body, headed_version};
 pub use built_in::BuiltIn;
 pub use counters::Counters;
+pub use form::{Form, form_of};
 pub use laws::{
     broken_is_fault, fault_is_broken, fault_is_not_spelled, is_spelled_once, no_base_is_deeper,
     one_answer, read_is_spelled, spelled_is_read, written_is_spelled,
@@ -29,6 +30,5 @@ pub use laws::{
 pub use lists::ClassLists;
 pub use part_list::{PartList, array_object, list_object, part_with, titled_object};
 pub use rio_buffer::{Header, ObjFault, PointerWord};
-pub use shape::{Shape, shape_of};
 pub use slot::{Field, Fields, FieldsKind, Slot, SlotKind, body_fields, fields_of};
 pub use width::width_of;

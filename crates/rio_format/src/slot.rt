@@ -5,7 +5,7 @@ ghost use Rattle.rio_format.specs.Slots.{arrayed_fields, bare_fields, base_field
 ghost use Rattle.rio_format.specs.Bodies.{form_of};
 
 use crate::body::{Body, BodyKind, declared_body};
-use crate::shape::{Shape, shape_of};
+use crate::form::{Form, form_of};
 use rio_types::{Base, ClassDef, Classes, Kind, Member, Prim};
 use std::marker::Model;
 
@@ -280,10 +280,10 @@ pub fn body_fields<'a>(body: &Body<'a>) -> Option<Fields<'a>>
 pub fn fields_of<'a>(classes: &'a Classes, class: &[u8], version: i32) -> Option<Fields<'a>>
     ensures { result ≡ fields_of classes.now class.now version }
 {
-    match shape_of(class) {
-        Shape::Bare if version == 1 => Some(Fields(FieldsKind::Bare)),
-        Shape::Numbers(of) if version == 1 => Some(Fields(FieldsKind::Numbers(of))),
-        Shape::Headed => match declared_body(classes, class, version) {
+    match form_of(class) {
+        Form::Bare if version == 1 => Some(Fields(FieldsKind::Bare)),
+        Form::Numbers(of) if version == 1 => Some(Fields(FieldsKind::Numbers(of))),
+        Form::Headed => match declared_body(classes, class, version) {
             Some(body) => body_fields(&body),
             None => None,
         },

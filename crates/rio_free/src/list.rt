@@ -30,27 +30,20 @@ impl Model for FreeList {
     } };
 }
 
-// The first gap of `n` bytes.
-fn first_exact(gaps: &[Gap], n: u64) -> Option<&Gap>
-    ensures { option_copied result ≡ find (λ g. g.length == n) gaps.now }
+// The first gap of `n` bytes, else the first that is longer by more than three.
+fn best_gap(gaps: &[Gap], n: u64) -> Option<Gap>
+    ensures { result ≡ best_gap n gaps.now }
 {
-    gaps.iter().find(|gap| gap.length == n)
-}
-
-// The first gap that is longer than `n` by more than three.
-fn first_longer(gaps: &[Gap], n: u64) -> Option<&Gap>
-    ensures { option_copied result ≡ find (λ g. nat_lt (n + 3) g.length) gaps.now }
-{
-    gaps.iter().find(|gap| gap.length > n.saturating_add(3))
-}
-
-fn best_gap(gaps: &[Gap], n: u64) -> Option<&Gap>
-    ensures { option_copied result ≡ best_gap n gaps.now }
-{
-    match first_exact(gaps, n) {
-        Some(gap) => Some(gap),
-        None => first_longer(gaps, n),
+    let mut longer: Option<Gap> = None;
+    for gap in gaps {
+        if gap.length == n {
+            return Some(*gap);
+        }
+        if longer.is_none() && gap.length > n.saturating_add(3) {
+            longer = Some(*gap);
+        }
     }
+    longer
 }
 
 // The length of the gap at `at`, where it begins at the place.

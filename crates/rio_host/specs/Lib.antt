@@ -7,6 +7,7 @@ pub mod Left
 pub mod MemHost
 pub mod Memory
 pub mod OnlyReads
+pub mod Reading
 pub mod Replay
 pub mod ReplayLaws
 pub mod Silent

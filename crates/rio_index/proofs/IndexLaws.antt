@@ -2,7 +2,7 @@
 use Rattle.std.proofs.Common.{◌≡◌, ℕ, zero, suc, ◌+◌, ◌-◌, ◌<◌, ◌≤◌, List, [], ◌∷◌, length, Bool, true, false, cond, leb, ltb, Option, Some, None, refl, sym, ap, ◌∙◌, slice_index_or, arith}
 use Rattle.std.proofs.lemmas.Bool.{le-ltb, lt-ltb, le-leb, leb-true, leb-false}
 use Rattle.std.specs.{Option.{option_map}, List.Sorted.{IsNonDecreasingBy}}
-use Rattle.rio_tree_head.specs.{declared.basket_at.BasketAt.{BasketAt}, Index.{IsIndex, RisesFrom, counts_from}}
+use Rattle.rio_tree.specs.{declared.basket_at.BasketAt.{BasketAt}, Index.{IsIndex, RisesFrom, counts_from}}
 use Rattle.rio_index.specs.Index.{basket_holding, holder}
 
 -- how many baskets in front begin at the entry or before it

@@ -2,7 +2,7 @@
 use Rattle.std.proofs.Common.{◌≡◌, ℕ, zero, suc, ◌+◌, ◌-◌, ◌<◌, ◌≤◌, List, [], ◌∷◌, length, take, drop, Bool, true, false, cond, leb, nat_le, Option, Some, refl, sym, ap, subst, ◌∙◌, arith}
 use Rattle.std.proofs.{lemmas.Bool.{le-leb}, lemmas.List.{drop-drop, length-drop, take_all}}
 use Rattle.std.specs.List.{prefix_len}
-use Rattle.rio_tree_head.specs.{Index.{IsIndex, basket_number}, declared.basket_at.BasketAt.{BasketAt}}
+use Rattle.rio_tree.specs.{Index.{IsIndex, basket_number}, declared.basket_at.BasketAt.{BasketAt}}
 use Rattle.rio_index.specs.Index.{basket_holding}
 use Rattle.rio_index.proofs.IndexLaws.{holds, passed}
 

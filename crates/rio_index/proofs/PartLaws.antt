@@ -3,7 +3,7 @@ use Rattle.std.proofs.Common.{◌≡◌, ℕ, zero, suc, ◌+◌, ◌-◌, ◌<�
 use Rattle.std.proofs.lemmas.List.{append-nil, drop_all, drop_more}
 use Rattle.std.specs.Prelude.{is_none, slice_get}
 use Rattle.rio_leaf.specs.declared.branch.BranchDef.{BranchDef}
-use Rattle.rio_tree_head.specs.declared.head.Branch.{Branch}
+use Rattle.rio_tree.specs.declared.head.Branch.{Branch}
 use Rattle.rio_index.specs.{Scan.{held_entry, read_branches, read_entries, read_numbers}, declared.lane.Lane.{Lane}}
 
 module _ (lanes : List Lane) (k : ℕ) (lane : Lane) (low : k < length lanes) (f : lane ≡ slice_index_or lanes k lane) where

@@ -2,7 +2,7 @@
 use Rattle.std.proofs.Common.{◌≡◌, ℕ, zero, suc, ◌+◌, ◌<◌, ◌≤◌, List, [], ◌∷◌, length, map, drop, Option, Some, None, refl, sym, ap, subst, ◌∙◌, slice_index_or, arith}
 use Rattle.std.proofs.lemmas.List.{drop_all, drop_more}
 use Rattle.std.specs.Prelude.{slice_set}
-use Rattle.rio_tree_head.specs.{Index.{IsIndex}, declared.head.Branch.{Branch}, declared.refusal.BranchRefusal.{BranchRefusal}}
+use Rattle.rio_tree.specs.{Index.{IsIndex}, declared.head.Branch.{Branch}, declared.refusal.BranchRefusal.{BranchRefusal}}
 use Rattle.rio_index.specs.{Scan.{CanGoOn, CanHold, CanScan, empty_lane, first_wanted, wanted_by, wanted_from}, declared.lane.Lane.{Lane}}
 
 -- ---- where a scan can go on

@@ -1,6 +1,6 @@
 -- The basket that holds an entry.
 use Rattle.std.specs.{Prelude.{ℕ, ◌+◌, ◌-◌, List, [], ◌∷◌, Option, Some, None, nat_lt, if◌then◌else◌}, Option.{option_map}}
-use Rattle.rio_tree_head.specs.{Index.{basket_counts}, declared.basket_at.BasketAt.{BasketAt}}
+use Rattle.rio_tree.specs.{Index.{basket_counts}, declared.basket_at.BasketAt.{BasketAt}}
 
 -- the number of the basket that holds the entry, where baskets have so many entries, which are counted over all of them
 abbrev pub holder : List ℕ → ℕ → Option ℕ

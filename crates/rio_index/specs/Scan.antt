@@ -5,8 +5,8 @@ use Rattle.rio_leaf.specs.declared.branch.BranchDef.{BranchDef}
 use Rattle.rio_types.specs.declared.class.ClassDef.{ClassDef}
 use Rattle.rio_value.specs.declared.value.Value.{Value}
 use Rattle.rio_entry.specs.{Rows.{broken_branch, row_in}, declared.fault.EntryFault.{EntryFault}}
-use Rattle.rio_tree_head.specs.{Index.{IsIndex, basket_counts}, declared.basket_at.BasketAt.{BasketAt}, declared.head.Branch.{Branch}}
-use Rattle.rio_tree_head.specs.{declared.head.TreeHead.{TreeHead}, declared.refusal.BranchRefusal.{BranchRefusal}}
+use Rattle.rio_tree.specs.{Index.{IsIndex, basket_counts}, declared.basket_at.BasketAt.{BasketAt}, declared.head.Branch.{Branch}}
+use Rattle.rio_tree.specs.{declared.head.TreeHead.{TreeHead}, declared.refusal.BranchRefusal.{BranchRefusal}}
 use Rattle.rio_index.specs.{Index.{basket_holding}, declared.lane.Held.{Held}, declared.lane.Lane.{Lane}}
 
 -- A scan: the header of the tree, what the scan has of each of its branches, and the number of the next row.

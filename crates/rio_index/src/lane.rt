@@ -1,6 +1,6 @@
 //! What a scan has of one branch.
 use rio_basket::StoredBasket;
-use rio_tree_head::BranchRefusal;
+use rio_tree::BranchRefusal;
 
 /// A basket that is held: the number of its first entry, counted over the branch from 0, and its entries.
 #[derive(Drop)]

@@ -8,7 +8,7 @@ ghost use Rattle.rio_index.specs.Scan.{broken_at, entry_among, held_entry, read_
 use crate::lane::{Held, Lane};
 use rio_entry::{EntryFault, RowPart, broken_branch, read_row};
 use rio_num::NoMemory;
-use rio_tree_head::Branch;
+use rio_tree::Branch;
 use rio_types::Classes;
 use rio_value::Values;
 use std::alloc::Global;

@@ -8,7 +8,7 @@ use crate::search::{entry_count, first_entry, first_wanted};
 use rio_basket::StoredBasket;
 use rio_entry::EntryFault;
 use rio_num::NoMemory;
-use rio_tree_head::{Branch, BranchRefusal, TreeHead};
+use rio_tree::{Branch, BranchRefusal, TreeHead};
 use rio_types::Classes;
 use rio_value::Values;
 use std::alloc::Global;

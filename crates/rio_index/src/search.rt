@@ -1,12 +1,12 @@
 //! The basket of an entry.
 ghost use Rattle.std.specs.Prelude.{◌≡◌, ◌+◌, ◌<◌, ◌≤◌, ◌↔◌, ℕ, None, Some, length, nat_le};
 ghost use Rattle.std.specs.List.{prefix_len};
-ghost use Rattle.rio_tree_head.specs.Index.{IsIndex, basket_number};
+ghost use Rattle.rio_tree.specs.Index.{IsIndex, basket_number};
 ghost use Rattle.rio_index.specs.Index.{basket_holding};
 ghost use Rattle.rio_index.specs.Scan.{CanGoOn, baskets_at, first_behind, entry_count, first_entry, has_entry, holds_entry, wanted_by, wanted_from};
 
 use crate::lane::{Held, Lane};
-use rio_tree_head::{BasketAt, Branch, TreeHead};
+use rio_tree::{BasketAt, Branch, TreeHead};
 
 fn basket_among(baskets: &[BasketAt], entries: u64, entry: u64) -> Option<usize>
     requires { IsIndex baskets.now entries }

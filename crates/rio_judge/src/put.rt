@@ -17,12 +17,13 @@ use crate::Work;
 use crate::stop::Stop;
 use rio_dir::KeyTable;
 use rio_fit::{can_be_put, fits};
+use rio_key::key_length_of;
 use rio_machine::Refusal;
-use rio_num::Name;
+use rio_num::{Name, padded};
 use rio_types::Classes;
 use rio_valtext::resolved;
 use rio_value::{Value, depth, longest_list};
-use rio_write::{text_length, written_length};
+use rio_write::written_length;
 use std::alloc::Global;
 
 /// The greatest cycle.
@@ -106,8 +107,8 @@ fn zeros_behind(class: &[u8], name: &[u8], length: u64) -> u64
     requires { length ≤ 16777217 }
     ensures { result ≡ zeros_behind (head_length class.now name.now + length) }
 {
-    let beyond = (text_length(class) % 4 + text_length(name) % 4 + 27 + length) % 4;
-    (4 - beyond) % 4
+    let beyond = (key_length_of(class, name, b"") % 4) as u64 + length;
+    padded(beyond) - beyond
 }
 
 // How many bytes are written of an object.

@@ -1,7 +1,7 @@
 -- The one way in which a key is written.
-use Rattle.std.specs.{Prelude.{◌≡◌, ℕ, ◌^◌, ◌<◌, ◌≤◌, pos, List, ◌++◌, length, ◌+◌, ◌-◌, ◌%◌}, Int.{w32, cast_unsigned}}
+use Rattle.std.specs.{Prelude.{◌≡◌, ℕ, ◌^◌, ◌<◌, ◌≤◌, pos, List, ◌++◌, length, ◌+◌}, Int.{w32, cast_unsigned}}
 use Rattle.byteorder.specs.Endian.{big_bytes}
-use Rattle.rio_num.specs.{Text.{text_bytes}, At.{place_len_of}}
+use Rattle.rio_num.specs.{Text.{text_bytes}, At.{place_len_of}, Padding.{zeros_behind}}
 use Rattle.rio_key.specs.{Key.{SpellsKey}, declared.head.KeyHead.{KeyHead}}
 
 -- the numbers of a key, of a record with this length, each in its field
@@ -46,4 +46,8 @@ WrittenKeyIsSpelled = (h : KeyHead) → FitsKey h → HoldsItself h → SpellsKe
 
 -- how long data behind a key are with the zero bytes that make the record's length a multiple of four
 abbrev pub padded_size : ℕ → ℕ → ℕ
-padded_size keylen n = n + (4 - (keylen + n) % 4) % 4
+padded_size keylen n = n + zeros_behind (keylen + n)
+
+-- how long a key of the small form is that has this class, name and title: 26 bytes of numbers, and its texts
+abbrev pub key_length_of : List ℕ → List ℕ → List ℕ → ℕ
+key_length_of class name title = 26 + length (text_bytes class) + length (text_bytes name) + length (text_bytes title)

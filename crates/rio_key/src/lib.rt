@@ -21,4 +21,4 @@ pub use head::KeyHead;
 pub use laws::{key_in_front, meanings_agree, one_key, one_key_list, written_key_is_spelled};
 pub use list::{Heads, read_heads};
 pub use read::read_key;
-pub use write::{key_length, write_key};
+pub use write::{key_length, key_length_of, write_key};

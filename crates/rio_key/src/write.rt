@@ -5,7 +5,7 @@ ghost use Rattle.byteorder.specs.Endian.{big_bytes};
 ghost use Rattle.rio_num.specs.Room.{Appends};
 ghost use Rattle.rio_num.specs.Text.{text_bytes};
 ghost use Rattle.rio_num.specs.At.{place_len_of};
-ghost use Rattle.rio_key.specs.Written.{FitsKey, number_bytes, written_key};
+ghost use Rattle.rio_key.specs.Written.{FitsKey, key_length_of, number_bytes, written_key};
 
 use crate::KeyHead;
 use rio_num::{Bytes, NoMemory};
@@ -24,11 +24,19 @@ fn put_place(version: u16, place: u64, into: &mut Bytes) -> Result<(), NoMemory>
 
 // How many bytes a text takes with its length.
 fn text_length(text: &[u8]) -> u64
-    requires { length (text_bytes text.now) < 2 ^ 64 }
     ensures { result ≡ length (text_bytes text.now) }
 {
     let own = text.len() as u64;
     if own < 255 { own + 1 } else { own + 5 }
+}
+
+/// How long a key of the small form is that has this class, name and title, up to its title's end.
+pub fn key_length_of(class: &[u8], name: &[u8], title: &[u8]) -> u128
+    ensures { result ≡ key_length_of class.now name.now title.now }
+{
+    26 + u128::from(text_length(class))
+        + u128::from(text_length(name))
+        + u128::from(text_length(title))
 }
 
 /// How many bytes a key takes that is written, up to its title's end: a number that fits 64 bits.
@@ -36,12 +44,17 @@ pub fn key_length(head: &KeyHead) -> u64
     requires { length (written_key head.now) < 2 ^ 64 }
     ensures { result ≡ length (written_key head.now) }
 {
-    let places = if head.version > 1000 { 16 } else { 8 };
-    let numbers = 18 + places;
-    numbers
-        + text_length(head.class.as_slice())
-        + text_length(head.name.as_slice())
-        + text_length(head.title.as_slice())
+    let small = key_length_of(
+        head.class.as_slice(),
+        head.name.as_slice(),
+        head.title.as_slice(),
+    );
+    // Each of two places takes four bytes more in the large form.
+    if head.version > 1000 {
+        small as u64 + 8
+    } else {
+        small as u64
+    }
 }
 
 // The numbers of a key, where there is room for them.

@@ -1,6 +1,7 @@
 -- What is too large, too deep or too many.
-use Rattle.std.specs.{Prelude.{ℕ, ◌+◌, ◌-◌, ◌%◌, List, [], length, Bool, false, ◌||◌, nat_lt, nat_le}, List.{list_any}}
-use Rattle.rio_num.specs.Text.{text_bytes}
+use Rattle.std.specs.{Prelude.{ℕ, ◌+◌, List, [], length, Bool, false, ◌||◌, nat_lt, nat_le}, List.{list_any}}
+use Rattle.rio_key.specs.Written.{key_length_of}
+pub use Rattle.rio_num.specs.Padding.{zeros_behind}
 use Rattle.rio_leaf.specs.{declared.branch.BranchDef.{BranchDef}, declared.branch.Shape.{Shape, TheVariants.{Leaves, Class}}}
 use Rattle.rio_format.specs.{Objects.{depth_limit}, Written.{written_form}, WrittenBytes.{length_limit}}
 use Rattle.rio_types.specs.declared.class.ClassDef.{ClassDef}
@@ -29,13 +30,9 @@ leaf_limit = 64
 
 -- ---- lengths
 
--- how long a record's key is: its numbers have 26 bytes, and the title of an object is empty
+-- how long the key of an object's record is: its title is empty
 abbrev pub head_length : List ℕ → List ℕ → ℕ
-head_length class name = 26 + length (text_bytes class) + length (text_bytes name) + length (text_bytes [])
-
--- how many zero bytes bring a length to a multiple of four
-abbrev pub zeros_behind : ℕ → ℕ
-zeros_behind n = (4 - n % 4) % 4
+head_length class name = key_length_of class name []
 
 -- how long an object's data are, with the zero bytes that bring its record's length to a multiple of four
 abbrev pub data_length : List ClassDef → List ℕ → List ℕ → Value → ℕ

@@ -1,6 +1,6 @@
 -- Refusals as they are said.
 use Rattle.std.specs.{Prelude.{ℕ, List, [], ◌++◌, codes}, Fmt.{decimal}}
-use Rattle.rio_num.specs.Printed.{name_text}
+use Rattle.rio_num.specs.Printed.{name_text, numbered}
 use Rattle.rio_machine.specs.declared.refusal.Refusal.{Refusal, TheVariants.{BadLine, BadName, NoSuchName, NoSuchCycle, NameIsTree, NotATree, NameInUse, NoSuchClass, SameVersion, HoldsItself, DoesNotFit, BadRow, KindChanged, NoVersion, CycleLimit, TooLarge, TooDeep, TooMany, Full}}
 
 -- the number by which it is told: of several that hold the lowest
@@ -45,10 +45,6 @@ refusal_name TooLarge = codes "TooLarge"
 refusal_name TooDeep = codes "TooDeep"
 refusal_name TooMany = codes "TooMany"
 refusal_name (Full end wanted) = codes "Full"
-
--- a blank and a number
-abbrev pub numbered : ℕ → List ℕ
-numbered n = codes " " ++ decimal n
 
 -- what is told behind the name: where the line is bad, which member it is, where the records end and how much was wanted
 abbrev pub refusal_details : Refusal → List ℕ

@@ -1,27 +1,18 @@
 //! Refusals as they are said.
 ghost use Rattle.std.specs.Prelude.{◌≡◌, ◌++◌, OnOk, OnErr, codes};
-ghost use Rattle.std.specs.Fmt.{decimal};
-ghost use Rattle.rio_num.specs.Printed.{name_text};
+ghost use Rattle.rio_num.specs.Printed.{name_text, numbered};
 ghost use Rattle.rio_num.specs.Room.{with_more};
-ghost use Rattle.rio_machine.specs.RefusalText.{refusal_details, refusal_text, numbered};
+ghost use Rattle.rio_machine.specs.RefusalText.{refusal_details, refusal_text};
 
 use crate::Refusal;
 use rio_num::{Bytes, NoMemory};
-
-// A blank and a number.
-fn put_number(text: &mut Bytes, n: u64) -> Result<(), NoMemory>
-    ensures { OnOk result (text.new.bytes ≡ text.old.bytes ++ numbered n) }
-{
-    text.put(b" ")?;
-    text.put_decimal(n)
-}
 
 fn put_numbers(text: &mut Bytes, n: u64, other: u64) -> Result<(), NoMemory>
     ensures { OnOk result (text.new.bytes ≡
         text.old.bytes ++ (numbered n ++ numbered other)) }
 {
-    put_number(text, n)?;
-    put_number(text, other)
+    text.put_numbered(n)?;
+    text.put_numbered(other)
 }
 
 // A blank and a name.

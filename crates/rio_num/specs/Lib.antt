@@ -12,3 +12,4 @@ pub mod Laws
 pub mod Layout
 pub mod Meanings
 pub mod Plain
+pub mod Padding

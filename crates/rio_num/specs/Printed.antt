@@ -35,6 +35,10 @@ is_bare_name name = not (length name == 0) && list_all is_bare name
 unfoldable pub name_text : List ℕ → List ℕ
 name_text name = if is_bare_name name then name else string_text name
 
+-- a blank and a number
+abbrev pub numbered : ℕ → List ℕ
+numbered n = codes " " ++ decimal n
+
 -- NAME;CYCLE
 abbrev pub item_text : List ℕ → ℕ → List ℕ
 item_text name cycle = name_text name ++ codes ";" ++ decimal cycle

@@ -1,6 +1,6 @@
 -- Bytes, and how many more are promised to fit without memory.
-use Rattle.std.specs.{Prelude.{◌≡◌, ℕ, ◌-◌, ◌%◌, ◌<◌, List, ◌++◌, Bool, length, nat_lt, replicate, Result, Ok, Err, ◌&&◌, ◌==◌}, List.{list_all}}
-use Rattle.rio_num.specs.declared.no_memory.NoMemory.{NoMemory}
+use Rattle.std.specs.{Prelude.{◌≡◌, ℕ, ◌-◌, ◌<◌, List, ◌++◌, Bool, length, nat_lt, replicate, Result, Ok, Err, ◌&&◌, ◌==◌}, List.{list_all}}
+use Rattle.rio_num.specs.{Padding.{zeros_behind}, declared.no_memory.NoMemory.{NoMemory}}
 
 pub record Room : Type 0 where
   pub bytes : List ℕ
@@ -21,7 +21,7 @@ Appends old new more (Err e) = (new ≡ old) × (old.spare < length more)
 
 -- zero bytes up to a length that is a multiple of four
 abbrev pub padding : List ℕ → List ℕ
-padding bytes = replicate ((4 - length bytes % 4) % 4) 0
+padding bytes = replicate (zeros_behind (length bytes)) 0
 
 -- at most three zero bytes: what may stand behind data, up to such a length
 abbrev pub is_padding : List ℕ → Bool

@@ -2,8 +2,8 @@
 ghost use Rattle.std.specs.Prelude.{◌≡◌, ◌+◌, ◌≤◌, ◌++◌, length, take, drop};
 ghost use Rattle.byteorder.specs.Endian.{big_bytes};
 
-use crate::NoMemory;
 use crate::printed::hex_of;
+use crate::{NoMemory, padded};
 use itoa::Buffer;
 use std::alloc::Global;
 use std::marker::Model;
@@ -47,7 +47,7 @@ impl Bytes {
     ghost use Rattle.std.specs.Fmt.{decimal, signed_decimal};
     ghost use Rattle.byteorder.specs.Endian.{big_bytes};
     ghost use Rattle.rio_num.specs.Room.{Appends, room_of, padding};
-    ghost use Rattle.rio_num.specs.Printed.{hex_text};
+    ghost use Rattle.rio_num.specs.Printed.{hex_text, numbered};
     ghost use Rattle.rio_num.specs.Text.{text_bytes};
 
     /// No bytes.
@@ -93,6 +93,14 @@ impl Bytes {
         ensures { result.now ≡ self.now.bytes }
     {
         self.items.as_slice()
+    }
+
+    /// Takes all bytes away. Their memory is kept.
+    pub fn clear(&mut self)
+        ensures { self.new ≡ room_of [] }
+    {
+        self.items.clear();
+        self.spare = 0;
     }
 
     /// Where the bytes take their memory from.
@@ -217,6 +225,14 @@ impl Bytes {
         self.put(Buffer::new().format(v).as_bytes())
     }
 
+    /// Puts a blank and a number at the end.
+    pub fn put_numbered(&mut self, v: u64) -> Result<(), NoMemory>
+        ensures { OnOk result (self.new.bytes ≡ self.old.bytes ++ numbered v) }
+    {
+        self.put(b" ")?;
+        self.put_decimal(v)
+    }
+
     /// Puts an integer at the end in decimal digits, behind a `-` where it is negative.
     pub fn put_integer(&mut self, v: i128) -> Result<(), NoMemory>
         ensures { Appends self.old self.new (signed_decimal v) result }
@@ -243,8 +259,9 @@ impl Bytes {
     pub fn pad4(&mut self) -> Result<(), NoMemory>
         ensures { Appends self.old self.new (padding self.old.bytes) result }
     {
-        let n = (4 - self.items.len() % 4) % 4;
-        self.put(&[0; 3][..n])
+        let len = self.items.len() as u64;
+        let zeros = padded(len) - len;
+        self.put(&[0; 3][..zeros as usize])
     }
 
     /// Writes a number over the four bytes at `place`.

@@ -8,7 +8,7 @@
 //! `specs/Layout.antt` says how a format is described: as data, of which reading, spelling and the first fault are three
 //! meanings (`Meanings.antt`) that agree (`Laws.antt`, told by `meanings_agree`). The other files of `specs/` have the
 //! words of contracts: where reading stands (`At`), what it gives (`Reading`), what a call answers, unless memory ran out
-//! (`Answers`), room (`Room`), texts, and what is printed. Its tests stand in `rio_rows`.
+//! (`Answers`), room (`Room`), lengths with their zero bytes (`Padding`), texts, and what is printed. Its tests stand in `rio_rows`.
 #![tactic(auto)]
 
 mod boxed;
@@ -19,6 +19,7 @@ mod laws;
 mod name;
 mod names;
 mod no_memory;
+mod padding;
 mod printed;
 mod word;
 
@@ -30,6 +31,7 @@ pub use laws::meanings_agree;
 pub use name::Name;
 pub use names::Names;
 pub use no_memory::NoMemory;
+pub use padding::padded;
 pub use word::{blanks, is_item, is_name, is_word_byte, word_length};
 
 /// A list of names, as the words of a command line.

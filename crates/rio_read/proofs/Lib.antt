@@ -1,5 +1,6 @@
 pub mod Counts
 pub mod Each
+pub mod FaultLaws
 pub mod PassedParts
 pub mod Passing
 pub mod ReadLaws

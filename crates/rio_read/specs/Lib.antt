@@ -1,3 +1,4 @@
+pub mod FirstFault
 pub mod Lists
 pub mod Members
 pub mod Passing

@@ -1,6 +1,6 @@
 //! Objects are read, or passed over, by the classes that a file describes.
 //!
-//! `read_object` reads the object that begins some data, or answers their first fault with its place. `read_next` does
+//! `read_object` reads the object that begins some data, or returns their first fault with its place. `read_next` does
 //! the same where an `ObjReader` stands, which then stands behind the object, and `read_builtin` reads a TObject, TNamed,
 //! TObjString or TArray. An object may be 256 deep. `read_number`, `read_times` and `read_text` read a number, so many of
 //! them, and a text.
@@ -11,9 +11,8 @@
 //! same for numbers, many of them in one step.
 //!
 //! The rules of objects stand once, as descriptions, in `Objects` and `Bodies` of `rio_format`; the files of `specs/` say
-//! what the readers of this crate answer by them, and what it is to keep nothing (`Passing.antt`). `rio_stream` has
-//! `read_object` and `read_builtin` with what breaks beside what is read, and their tests; those of passing over stand in
-//! `rio_rows`.
+//! what the readers of this crate return by them (`Reading.antt`), which fault is the first (`FirstFault.antt`), and what
+//! it is to keep nothing (`Passing.antt`). The tests are in `rio_rows`.
 #![tactic(auto)]
 
 mod bare;

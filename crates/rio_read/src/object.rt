@@ -16,7 +16,7 @@ use crate::member::{link, read_counter};
 use crate::numbers::{read_count, read_counted, read_name, read_number, read_numbers, read_text};
 use crate::whole::{read_opaque, whole, whole_described};
 use rio_buffer::{Header, ObjFault, ObjReader, PointerWord};
-use rio_format::{BodyKind, Counters, Shape, body_of, part_with, shape_of};
+use rio_format::{BodyKind, Counters, Form, body_of, form_of, part_with};
 use rio_num::Boxed;
 use rio_types::{Base, ClassDef, Classes, Kind, Member, Prim};
 use rio_value::{Part, Parts, Value, Values};
@@ -57,10 +57,10 @@ fn read_formed(
         (read (formed (object_of levels classes.now) classes.now class.now (form_of class.now)) reader.old) reader.new }
     ensures goes { GoesOn reader.old.at reader.new.at }
 {
-    match shape_of(class) {
-        Shape::Bare => read_bare(alloc, reader),
-        Shape::Numbers(of) => read_array(alloc, reader, class, of),
-        Shape::Headed => read_headed(alloc, classes, reader, class, levels),
+    match form_of(class) {
+        Form::Bare => read_bare(alloc, reader),
+        Form::Numbers(of) => read_array(alloc, reader, class, of),
+        Form::Headed => read_headed(alloc, classes, reader, class, levels),
     }
 }
 

@@ -1,8 +1,11 @@
 //! The calls that read objects.
 ghost use Rattle.std.specs.Prelude.{◌+◌, ◌<◌, ◌^◌, length, IfOk, IsTrue};
+ghost use Rattle.rio_num.specs.Answers.{TellsUnless};
 ghost use Rattle.rio_num.specs.At.{AreBytes, GoesOn};
-ghost use Rattle.rio_format.specs.Objects.{value_at};
+ghost use Rattle.rio_buffer.specs.declared.fault.ObjFault.TheVariants.{NoMemory as OutOfMemory};
+ghost use Rattle.rio_format.specs.Objects.{BreaksObject, value_at};
 ghost use Rattle.rio_format.specs.BuiltIn.{is_small_builtin};
+ghost use Rattle.rio_read.specs.FirstFault.{BreaksNext, RefusesBreak};
 ghost use Rattle.rio_read.specs.Reading.{Answers, AnswersFront, HasFront, IsRead, IsSpelled, ReadsNext};
 
 use crate::object;
@@ -30,6 +33,11 @@ pub fn read_object(
     ensures found { IfOk result (λ v. HasFront classes.now start class.now v bytes.now) }
     // What the front of the data spells is read, unless memory runs out.
     ensures only { AnswersFront classes.now start class.now bytes.now result }
+    // A fault is the first one of the data: what stands before its place is spelled, and there a rule is broken.
+    ensures broken { TellsUnless OutOfMemory
+        (BreaksObject classes.now start class.now bytes.now) result }
+    // The first fault of the data is returned, unless memory runs out.
+    ensures refused { RefusesBreak (BreaksObject classes.now start class.now bytes.now) result }
     // Which value it is, or which fault, as reading from left to right gives it.
     ensures exact { Answers result (value_at classes.now class.now start bytes.now) }
 {
@@ -64,6 +72,11 @@ pub fn read_builtin(
     ensures found { IfOk result (λ v. IsSpelled classes.now class.now v reader.old reader.new) }
     // What the front of the bytes spells is read, unless memory runs out.
     ensures only { IsRead classes.now class.now result reader.old reader.new }
+    // A fault is the first one of the bytes.
+    ensures broken { TellsUnless OutOfMemory
+        (BreaksNext classes.now class.now reader.old) result }
+    // The first fault of the bytes is returned, unless memory runs out.
+    ensures refused { RefusesBreak (BreaksNext classes.now class.now reader.old) result }
     // Which value it is, or which fault, as reading from left to right gives it.
     ensures exact { ReadsNext classes.now class.now result reader.old reader.new }
     ensures bytes { AreBytes reader.old.at.rest }

@@ -1,14 +1,14 @@
 -- Too many items, and no room for a close.
-use Rattle.std.proofs.Common.{◌≡◌, ◌∙◌, ℕ, ◌+◌, ◌*◌, ◌<◌, ◌≤◌, List, [], ◌∷◌, ◌++◌, length, codes, Bool, ltb, Some, ap, slice_get, arith}
+use Rattle.std.proofs.Common.{◌≡◌, ◌∙◌, sym, ℕ, ◌+◌, ◌*◌, ◌<◌, ◌≤◌, List, [], ◌∷◌, ◌++◌, length, Bool, ltb, Some, ap, slice_get, arith}
 use Rattle.std.proofs.{lemmas.Bool.{le-ltb, lt-ltb, ltb-false}, lemmas.List.Elements.{All-head, All-tail}, lemmas.List.Sums.{sum_by-cons}}
 use Rattle.std.specs.List.{All}
 use Rattle.rio_key.specs.{Written.{written_key}, declared.head.KeyHead.{KeyHead}}
 use Rattle.rio_head.specs.declared.reason.Reason.TheVariants.{NoRoom, TooMany}
 use Rattle.rio_chain.specs.Found.{IsShortKey}
 use Rattle.rio_dir.specs.Table.{heads_size}
-use Rattle.rio_machine.specs.Limits.{head_length, item_limit}
-use Rattle.rio_state.proofs.{Unreasoned.{if_none, nil_two}, NoReason.{none_if}}
-use Rattle.rio_state.specs.{Closing.{KeptRecords, close_need, end_limit, padded_length}, Reasons.{ReasonAt, reason_at, reason_if}}
+use Rattle.rio_machine.specs.Limits.{item_limit}
+use Rattle.rio_state.proofs.{CloseSizes.{close_size_is_need}, Unreasoned.{if_none, nil_two}, NoReason.{none_if}}
+use Rattle.rio_state.specs.{Closing.{KeptRecords, close_need, end_limit}, Reasons.{ReasonAt, reason_at, reason_if}, Sizes.{close_size}}
 
 -- short keys take few bytes together
 pub sizes_short : (heads : List KeyHead) → All IsShortKey heads → heads_size heads ≤ 65535 * length heads
@@ -25,21 +25,11 @@ kept_with name heads others = record { name = name; heads = heads; count = other
 abbrev pub room_of : ℕ → ℕ → KeptRecords → List ReasonAt
 room_of items end kept = reason_if (ltb item_limit items) 0 TooMany ++ reason_if (ltb end_limit (end + close_need kept)) 0 NoRoom
 
-pub need_is : (name : List ℕ) (heads : List KeyHead) (others : ℕ)
-    → padded_length (head_length (codes "TFile") name + 4 + heads_size heads) + padded_length (head_length (codes "TFile") name + 10 * (others + length heads + 2)) ≡ close_need (kept_with name heads others)
-unfolding close_need
-need_is name heads others = last (padded_length (head_length (codes "TFile") name + 4 + heads_size heads)) (padded_length (head_length (codes "TFile") name + 10 * (others + length heads + 2)))
-  where
-    last : (m n : ℕ) → m + n ≡ (0 + m) + n
-    last m n = omega arith
-
--- the same by numbers that are known
+-- by numbers that are known
 pub need_by : (name : List ℕ) (heads : List KeyHead) (others size count n : ℕ) → size ≡ heads_size heads → count ≡ others + length heads
-    → n ≡ padded_length (head_length (codes "TFile") name + 4 + size) + padded_length (head_length (codes "TFile") name + 10 * (count + 2)) → n ≡ close_need (kept_with name heads others)
+    → n ≡ close_size name size count → n ≡ close_need (kept_with name heads others)
 need_by name heads others size count n sized counted is =
-    is
-    ∙ (λ i. padded_length (head_length (codes "TFile") name + 4 + sized i) + padded_length (head_length (codes "TFile") name + 10 * (counted i + 2)))
-    ∙ need_is name heads others
+    is ∙ (λ i. close_size name (sized i) (counted i)) ∙ sym (close_size_is_need (kept_with name heads others))
 
 few_items : (items : ℕ) → items ≤ item_limit → reason_if (ltb item_limit items) 0 TooMany ≡ []
 few_items items le = none_if (ltb item_limit items) 0 TooMany (le-ltb item_limit items le)

@@ -1,7 +1,7 @@
 -- Why a call of this crate fails, and what it tells of a file.
 use Rattle.std.specs.Prelude.{◌≡◌, List, [], Some, Result, Ok, Err, slice_get}
 use Rattle.rio_head.specs.declared.reason.Reason.TheVariants.{NoChain}
-use Rattle.rio_host.specs.Host.{View, Rose}
+use Rattle.rio_host.specs.{Host.{View, Rose}, declared.reading.ReadFault.{ReadFault, TheVariants.{NoMemory as NoRoom, HostFault as DiskFault}}}
 use Rattle.rio_chain.specs.declared.fault.WalkFault.{WalkFault, TheVariants.{NoChain as Broken, NoMemory as WalkMemory, HostFault as WalkDisk}}
 use Rattle.rio_state.specs.Reasons.{ReasonAt, reason_at}
 use Rattle.rio_recover.specs.declared.fault.RecoverFault.{RecoverFault, TheVariants.{BadFile, ReadOnly, NoMemory, HostFault}}
@@ -11,6 +11,11 @@ abbrev pub fault_of_walk : WalkFault → RecoverFault
 fault_of_walk (Broken place) = ReadOnly place NoChain
 fault_of_walk WalkMemory = NoMemory
 fault_of_walk WalkDisk = HostFault
+
+-- why bytes could not be read, as a fault of a recovery
+abbrev pub fault_of_read : ReadFault → RecoverFault
+fault_of_read NoRoom = NoMemory
+fault_of_read DiskFault = HostFault
 
 -- ---- causes
 

@@ -1,7 +1,7 @@
 //! Why a file is not recovered.
 use rio_chain::WalkFault;
 use rio_head::{FileFault, HeadFault, Reason};
-use rio_host::Failed;
+use rio_host::{Failed, ReadFault};
 use rio_num::NoMemory;
 use thiserror::Error;
 
@@ -49,6 +49,20 @@ impl From<WalkFault> for RecoverFault {
             },
             WalkFault::NoMemory => RecoverFault::NoMemory,
             WalkFault::HostFault => RecoverFault::HostFault,
+        }
+    }
+}
+
+impl From<ReadFault> for RecoverFault {
+    ghost use Rattle.std.specs.Prelude.{◌≡◌};
+    ghost use Rattle.rio_recover.specs.Causes.{fault_of_read};
+
+    ghost from_gives = { λ f e. e ≡ fault_of_read f };
+
+    fn from(fault: ReadFault) -> RecoverFault {
+        match fault {
+            ReadFault::NoMemory => RecoverFault::NoMemory,
+            ReadFault::HostFault => RecoverFault::HostFault,
         }
     }
 }

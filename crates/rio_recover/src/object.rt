@@ -15,9 +15,8 @@ ghost use Rattle.rio_recover.specs.Keys.{StandsIn, keyed, record_end};
 
 use crate::RecoverFault;
 use rio_buffer::{ObjFault, ObjReader};
-use rio_chain::bytes_at;
 use rio_fit::{can_be_put, fits};
-use rio_host::Host;
+use rio_host::{Host, bytes_at};
 use rio_key::KeyHead;
 use rio_num::NoMemory;
 use rio_read::read_next;

@@ -15,9 +15,9 @@ ghost use Rattle.rio_recover.specs.Keys.{AreWithin, record_heads};
 ghost use Rattle.rio_recover.specs.Walked.{JudgesHead, JudgesWalk};
 
 use crate::RecoverFault;
-use rio_chain::{Segment, Segments, bytes_at, key_at, walk};
+use rio_chain::{Segment, Segments, key_at, walk};
 use rio_head::{FileHead, Reason, read_head};
-use rio_host::Host;
+use rio_host::{Host, bytes_at};
 use rio_key::{Heads, KeyHead};
 use std::alloc::Global;
 

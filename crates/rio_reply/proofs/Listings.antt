@@ -4,8 +4,8 @@ use Rattle.std.proofs.lemmas.List.{append-nil, length-map, nil_from_length}
 use Rattle.std.specs.List.{flat_map}
 use Rattle.std.specs.FinMap.{FinMap, empty, entries, entries-from_sorted, entries_sorted, from_entries, from_sorted, get-from_entries, get-from_sorted, is_sorted, len-empty, len-entries, same_map, Entries.{below_all}}
 use Rattle.std.specs.Ordering.{is_lt}
-use Rattle.rio_machine.specs.{RefusalText.{numbered}, State.{NameAndCycle, State, Tree, item_order}}
-use Rattle.rio_num.specs.{Room.{Room}, Word.{name_order}}
+use Rattle.rio_machine.specs.State.{NameAndCycle, State, Tree, item_order}
+use Rattle.rio_num.specs.{Printed.{numbered}, Room.{Room}, Word.{name_order}}
 use Rattle.rio_value.specs.declared.value.Value.{Value}
 use Rattle.rio_buffer.specs.declared.fault.ObjFault.{ObjFault}
 use Rattle.rio_key.specs.declared.head.KeyHead.{KeyHead}

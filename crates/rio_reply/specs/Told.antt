@@ -1,11 +1,10 @@
 -- What is told by a key: a line of a listing, and what its record holds.
-use Rattle.std.specs.{Prelude.{ℕ, List, ◌++◌, codes, length, Result}, List.{flat_map}}
+use Rattle.std.specs.{Prelude.{ℕ, List, ◌++◌, codes, length, Result, Ok, Err}, List.{flat_map}}
 use Rattle.rio_value.specs.declared.value.Value.{Value}
-use Rattle.rio_buffer.specs.declared.fault.ObjFault.{ObjFault}
+use Rattle.rio_buffer.specs.{Texts.{object_fault_text}, declared.fault.ObjFault.{ObjFault}}
 use Rattle.rio_key.specs.declared.head.KeyHead.{KeyHead}
-use Rattle.rio_num.specs.Printed.{item_text}
-use Rattle.rio_machine.specs.RefusalText.{numbered}
-use Rattle.rio_meaning.specs.Dump.{value_or_fault}
+use Rattle.rio_num.specs.Printed.{item_text, numbered}
+use Rattle.rio_model.specs.ValueText.{text_of_value}
 use Rattle.rio_step.specs.{ItemKeys.{told_by_key}, ReplyText.{listed_text}}
 
 -- NAME;CYCLE CLASS
@@ -15,6 +14,15 @@ listed_line head = item_text head.name head.cycle ++ codes " " ++ listed_text (t
 -- how many keys there are, and the line of each
 unfoldable pub listing_of : List KeyHead → List ℕ
 listing_of heads = codes "ok ls" ++ numbered (length heads) ++ codes "\n" ++ flat_map listed_line heads
+
+-- fault, the fault's kind and its numbers
+abbrev pub fault_text : ObjFault → List ℕ
+fault_text e = codes "fault " ++ object_fault_text e
+
+-- the value that was read, or why there is none
+abbrev pub value_or_fault : Result Value ObjFault → List ℕ
+value_or_fault (Ok v) = text_of_value v
+value_or_fault (Err e) = fault_text e
 
 -- what a get says of a record: the object that was read, or that it has no reading
 abbrev pub told_of : KeyHead → Result Value ObjFault → List ℕ

@@ -1,11 +1,10 @@
 //! What is told of a record.
 ghost use Rattle.std.specs.Prelude.{◌≡◌, ◌++◌, ◌<◌, ◌^◌, drop, length, OnOk};
 ghost use Rattle.rio_format.specs.Objects.{value_at};
-ghost use Rattle.rio_meaning.specs.Dump.{value_or_fault};
+ghost use Rattle.rio_reply.specs.Told.{value_or_fault};
 
 use rio_buffer::ObjFault;
 use rio_key::KeyHead;
-use rio_meaning::put_object_fault;
 use rio_num::{Bytes, NoMemory};
 use rio_read::read_object;
 use rio_types::Classes;
@@ -35,7 +34,7 @@ pub fn put_stored(
         Err(ObjFault::NoMemory) => Err(NoMemory),
         Err(fault) => {
             text.put(b"fault ")?;
-            put_object_fault(text, &fault)
+            fault.put_text(text)
         }
     }
 }

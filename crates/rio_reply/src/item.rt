@@ -1,20 +1,11 @@
-//! Parts of replies: numbers, and names with their cycles.
+//! Parts of replies: names with their cycles.
 ghost use Rattle.std.specs.Prelude.{◌≡◌, ◌++◌, codes, OnOk};
-ghost use Rattle.rio_machine.specs.RefusalText.{numbered};
 ghost use Rattle.rio_num.specs.Printed.{item_text};
 ghost use Rattle.rio_step.specs.ReplyText.{item_lines};
 ghost use Rattle.rio_reply.specs.Told.{listed_line};
 
 use rio_key::KeyHead;
 use rio_num::{Bytes, NoMemory};
-
-// A blank and a number.
-pub(crate) fn put_number(text: &mut Bytes, n: u64) -> Result<(), NoMemory>
-    ensures { OnOk result (text.new.bytes ≡ text.old.bytes ++ numbered n) }
-{
-    text.put(b" ")?;
-    text.put_decimal(n)
-}
 
 /// Puts `NAME;CYCLE` at the end.
 pub fn put_item(text: &mut Bytes, name: &[u8], cycle: u16) -> Result<(), NoMemory>

@@ -9,7 +9,7 @@ ghost use Rattle.rio_value.specs.declared.value.Value.{Value};
 ghost use Rattle.rio_reply.specs.Told.{listing_of, told_of};
 
 use crate::fault::put_stored;
-use crate::item::{put_item, put_listed, put_number};
+use crate::item::{put_item, put_listed};
 use rio_key::KeyHead;
 use rio_machine::{Refusal, print_refusal};
 use rio_num::{Bytes, NoMemory};
@@ -38,7 +38,7 @@ pub fn put_reply(alloc: Global, name: &[u8], cycle: u16) -> Result<Bytes, NoMemo
     Ok(text)
 }
 
-// The same as `get_reply`, as one text.
+// The text of `get_reply`, whether or not the data have a reading, for the prover.
 fn told_reply(
     alloc: Global,
     classes: &Classes,
@@ -83,7 +83,7 @@ fn listed_reply(alloc: Global, heads: &[KeyHead]) -> Result<Bytes, NoMemory>
 {
     let mut text = Bytes::new(alloc);
     text.put(b"ok ls")?;
-    put_number(&mut text, heads.len() as u64)?;
+    text.put_numbered(heads.len() as u64)?;
     text.put(b"\n")?;
     for head in heads {
         put_listed(&mut text, head)?;

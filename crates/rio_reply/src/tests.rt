@@ -42,7 +42,7 @@ fn lists_keys(rt: HostRuntime) -> Result<(), Fail> {
     Ok(())
 }
 
-// The record of a text, and the same with a byte count that is one too high.
+// The record of a text, as it is and with a byte count that is one too high.
 #[test]
 fn tells_a_record(rt: HostRuntime) -> Result<(), Fail> {
     let classes = Classes::new(rt.alloc());

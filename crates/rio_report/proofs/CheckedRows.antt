@@ -4,14 +4,14 @@ use Rattle.std.proofs.Common.{◌≡◌, true≢false, ℕ, zero, suc, List, [],
 use Rattle.std.specs.{Prelude.{if◌then◌else◌}, List.{flat_map, list_any}, Option.{option_or}, Str.{bytes_eq}}
 use Rattle.rio_types.specs.declared.class.ClassDef.{ClassDef}
 use Rattle.rio_leaf.specs.{declared.leaf.Dim.{Dim, TheVariants.{One, Fixed, Counted}}, declared.leaf.Leaf.{Leaf}}
-use Rattle.rio_tree_head.specs.{declared.head.Branch.{Branch}, declared.refusal.BranchRefusal.{BranchRefusal, TheVariants.{BadEntry}}, Header.{branch_leaves}}
+use Rattle.rio_tree.specs.{declared.head.Branch.{Branch}, declared.refusal.BranchRefusal.{BranchRefusal, TheVariants.{BadEntry}}, Header.{branch_leaves}}
 use Rattle.rio_value.specs.declared.value.Value.{Value}
 use Rattle.rio_entry.specs.Leaves.{last_number, number_alone, said_by}
 use Rattle.rio_entry.proofs.LeafNumbers.{integer_says}
-use Rattle.rio_scan.specs.{declared.row.Row.{Row}, Counters.{counts_if_any, leaf_count, number_in_branch, number_said, values_or_none}}
-use Rattle.rio_scan.specs.{Refusals.{refused_unless}, Rows.{values_if_read, values_of_branch}, StoredEntries.{branch_entry}}
-use Rattle.rio_scan.specs.Sweeps.{empty_row, refusal_before, refusal_behind, sweep_one, values_kept, with_branch}
-use Rattle.rio_scan.proofs.SweepLaws.{or_left, or_right}
+use Rattle.rio_report.specs.{declared.row.Row.{Row}, Counters.{counts_if_any, leaf_count, number_in_branch, number_said, values_or_none}}
+use Rattle.rio_report.specs.{Refusals.{refused_unless}, Rows.{values_if_read, values_of_branch}, StoredEntries.{branch_entry}}
+use Rattle.rio_report.specs.Sweeps.{empty_row, refusal_before, refusal_behind, sweep_one, values_kept, with_branch}
+use Rattle.rio_report.proofs.SweepLaws.{or_left, or_right}
 use Rattle.rio_report.specs.Checked.{CountersMade, counters_alone, is_nothing, made_of, made_one, made_there, made_values, row_made, values_made, with_numbers}
 use Rattle.rio_report.specs.declared.checked.Made.{Made, TheVariants.{Whole, Numbers, Nothing}}
 

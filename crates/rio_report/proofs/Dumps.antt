@@ -5,7 +5,7 @@ use Rattle.rio_head.specs.{declared.fault.FileFault.{FileFault}, declared.fault.
 use Rattle.rio_host.specs.{Host.{View}, OnlyReads.{OnlySaysPieces, Says}}
 use Rattle.rio_host.proofs.PiecesLaws.{pieces_as, pieces_part}
 use Rattle.rio_dir.specs.Listing.{said_listing}
-use Rattle.rio_meaning.specs.{declared.described.Described.{Described}, declared.item.Item.{Item}, Described.{described_file}, Dump.{dump_text, dumped_file}}
+use Rattle.rio_report.specs.{declared.described.Described.{Described}, declared.item.Item.{Item}, Described.{described_file}, Dump.{dump_text, dumped_file}}
 use Rattle.rio_close.specs.{Causes.{IsHostCauseOf, IsSayCauseOf, NoKind}, Opens.{Opens}}
 use Rattle.rio_close.specs.declared.fault.ReportFault.{ReportFault, TheVariants.{BadFile, NoMemory, HostFault, SayFault}}
 use Rattle.rio_report.specs.Lists.{AnswersOf, IsDone, ListingAnswer, ListingOf}

@@ -3,9 +3,9 @@ use Rattle.std.proofs.Common.{◌≡◌, true≢false, true, false, is_some, ℕ
 use Rattle.std.specs.Option.{option_or}
 use Rattle.rio_num.proofs.Cases.{or_none}
 use Rattle.rio_types.specs.declared.class.ClassDef.{ClassDef}
-use Rattle.rio_tree_head.specs.{declared.head.Branch.{Branch}, declared.refusal.BranchRefusal.{BranchRefusal, TheVariants.{NoCounter}}}
-use Rattle.rio_scan.specs.{Counters.{counters_are_read}, Refusals.{branch_refusal, file_refusal, refused_first, refused_unless}}
-use Rattle.rio_scan.specs.{StoredEntries.{baskets_refusal}, Sweeps.{refusal_before}}
+use Rattle.rio_tree.specs.{declared.head.Branch.{Branch}, declared.refusal.BranchRefusal.{BranchRefusal, TheVariants.{NoCounter}}}
+use Rattle.rio_report.specs.{Counters.{counters_are_read}, Refusals.{branch_refusal, file_refusal, refused_first, refused_unless}}
+use Rattle.rio_report.specs.{StoredEntries.{baskets_refusal}, Sweeps.{refusal_before}}
 
 or_again : (a u r x : Option BranchRefusal) → option_or a (option_or u (option_or r x)) ≡ option_or (option_or a (option_or u r)) x
 or_again (Some y) u r x = refl

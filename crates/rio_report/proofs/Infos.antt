@@ -6,7 +6,7 @@ use Rattle.rio_key.specs.{declared.head.KeyHead.{KeyHead}, Key.{is_compressed, k
 use Rattle.rio_head.specs.{declared.fault.FileFault.TheVariants.{BadInfo, Compressed}, Head.{fault_at}}
 use Rattle.rio_format.specs.ClassList.{class_list_at}
 use Rattle.rio_dir.specs.Closed.{or_fault}
-use Rattle.rio_meaning.specs.Described.{classes_in}
+use Rattle.rio_report.specs.Described.{classes_in}
 use Rattle.rio_close.proofs.Records.{Keyed}
 use Rattle.rio_report.specs.Described.{info_in}
 

@@ -1,5 +1,7 @@
 pub mod CheckedRows
 pub mod Dumps
+mod Examples
+mod FaultExamples
 pub mod FirstRefusals
 pub mod Gather
 pub mod Infos
@@ -8,6 +10,8 @@ pub mod LineByLine
 pub mod Lines
 pub mod Numbers
 pub mod Scans
+pub mod SweepLaws
+pub mod SweepSteps
 pub mod Trees
 pub mod ValueTexts
 pub mod Walks

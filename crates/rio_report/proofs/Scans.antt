@@ -2,8 +2,8 @@
 use Rattle.std.proofs.Common.{◌≡◌, ℕ, List, Result, Ok, Err, ap}
 use Rattle.rio_num.specs.Reading.{◌>>=◌}
 use Rattle.rio_head.specs.declared.fault.HeadFault.{HeadFault}
-use Rattle.rio_meaning.specs.{declared.described.Described.{Described}, Described.{described_file}}
-use Rattle.rio_scan.specs.Scan.{scan_text, scanned_file}
+use Rattle.rio_report.specs.{declared.described.Described.{Described}, Described.{described_file}}
+use Rattle.rio_report.specs.Scan.{scan_text, scanned_file}
 
 module _ (name file : List ℕ) where
   abbrev scanned_by : Result Described HeadFault → Result (List ℕ) HeadFault

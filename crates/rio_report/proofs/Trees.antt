@@ -2,9 +2,9 @@
 use Rattle.std.proofs.Common.{◌≡◌, ◌++◌, ℕ, List, codes, true, false, Ok, Err, Option, refl, ap, ◌∙◌}
 use Rattle.rio_types.specs.declared.class.ClassDef.{ClassDef}
 use Rattle.rio_key.specs.{declared.head.KeyHead.{KeyHead}, Key.{is_compressed}}
-use Rattle.rio_tree_head.specs.{declared.head.TreeHead.{TreeHead}, declared.head.Branch.{Branch}, declared.refusal.BranchRefusal.{BranchRefusal}}
-use Rattle.rio_meaning.specs.Dump.{stored_tree}
-use Rattle.rio_scan.specs.{Refusals.{refusals_of}, Scan.{key_scan, lines_refusing, numbered_rows, refused_lines, scanned_count, tree_lines, unread_line}}
+use Rattle.rio_tree.specs.{declared.head.TreeHead.{TreeHead}, declared.head.Branch.{Branch}, declared.refusal.BranchRefusal.{BranchRefusal}}
+use Rattle.rio_report.specs.Dump.{stored_tree}
+use Rattle.rio_report.specs.{Refusals.{refusals_of}, Scan.{key_scan, lines_refusing, numbered_rows, refused_lines, scanned_count, tree_lines, unread_line}}
 
 module _ (file : List ℕ) (classes : List ClassDef) (key : KeyHead) where
   pub key_compressed : is_compressed key ≡ true → key_scan file classes key ≡ unread_line key (codes "compressed")

@@ -3,9 +3,9 @@ use Rattle.std.proofs.Common.{◌≡◌, ◌++◌, ◌+◌, ◌<◌, ◌≤◌, 
 use Rattle.std.proofs.lemmas.List.{drop_all}
 use Rattle.std.specs.List.{flat_map}
 use Rattle.rio_model.specs.{Lists.{separated}, ValueText.{text_of_value}}
-use Rattle.rio_tree_head.specs.{declared.head.Branch.{Branch}, declared.refusal.BranchRefusal.{BranchRefusal}}
+use Rattle.rio_tree.specs.{declared.head.Branch.{Branch}, declared.refusal.BranchRefusal.{BranchRefusal}}
 use Rattle.rio_value.specs.declared.value.Value.{Value}
-use Rattle.rio_scan.specs.{Rows.{read_values}, Scan.{refused_line, refused_lines}}
+use Rattle.rio_report.specs.{Rows.{read_values}, Scan.{refused_line, refused_lines}}
 use Rattle.rio_report.specs.Lanes.{first_after, values_behind, values_unrefused}
 use Rattle.rio_report.proofs.Left.{any_default, left}
 

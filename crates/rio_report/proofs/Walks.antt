@@ -3,12 +3,12 @@ use Rattle.std.proofs.Common.{◌≡◌, ℕ, zero, suc, ◌+◌, ◌<◌, ◌�
 use Rattle.std.proofs.{lemmas.Bool.{le-leb, leb-true}, lemmas.List.{drop_all}}
 use Rattle.std.specs.List.{prefix_len}
 use Rattle.rio_types.specs.declared.class.ClassDef.{ClassDef}
-use Rattle.rio_tree_head.specs.{Index.{basket_number}, declared.basket_at.BasketAt.{BasketAt}, declared.head.Branch.{Branch}}
-use Rattle.rio_tree_head.specs.declared.refusal.BranchRefusal.{BranchRefusal, TheVariants.{Compressed}}
+use Rattle.rio_tree.specs.{Index.{basket_number}, declared.basket_at.BasketAt.{BasketAt}, declared.head.Branch.{Branch}}
+use Rattle.rio_tree.specs.declared.refusal.BranchRefusal.{BranchRefusal, TheVariants.{Compressed}}
 use Rattle.rio_index.proofs.NumberLaws.{begins_by}
-use Rattle.rio_scan.specs.{declared.row.Row.{Row}, Refusals.{branch_refusal, refusals_behind}}
-use Rattle.rio_scan.specs.StoredEntries.{StoredEntries, are_filled, entry_behind, has_compressed, is_compressed_basket, is_filled, refusal_by, stored_basket}
-use Rattle.rio_scan.specs.Sweeps.{sweep_behind, sweep_one}
+use Rattle.rio_report.specs.{declared.row.Row.{Row}, Refusals.{branch_refusal, refusals_behind}}
+use Rattle.rio_report.specs.StoredEntries.{StoredEntries, are_filled, entry_behind, has_compressed, is_compressed_basket, is_filled, refusal_by, stored_basket}
+use Rattle.rio_report.specs.Sweeps.{sweep_behind, sweep_one}
 use Rattle.rio_report.specs.{declared.lane.Lane.{Lane}, Lanes.{AreLanes, IsHeld, IsLane}}
 use Rattle.rio_report.proofs.Left.{left, passed_one}
 

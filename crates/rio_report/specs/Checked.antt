@@ -3,9 +3,9 @@ use Rattle.std.specs.Prelude.{◌≡◌, ℕ, List, [], ◌∷◌, length, map, 
 use Rattle.std.specs.List.{flat_map, list_any}
 use Rattle.rio_types.specs.declared.class.ClassDef.{ClassDef}
 use Rattle.rio_entry.specs.Leaves.{number_alone}
-use Rattle.rio_tree_head.specs.{declared.head.Branch.{Branch}, declared.refusal.BranchRefusal.{BranchRefusal}}
+use Rattle.rio_tree.specs.{declared.head.Branch.{Branch}, declared.refusal.BranchRefusal.{BranchRefusal}}
 use Rattle.rio_value.specs.declared.value.Value.{Value}
-use Rattle.rio_scan.specs.{declared.row.Row.{Row}, Rows.{values_of_branch}, Sweeps.{refusal_before, with_branch}}
+use Rattle.rio_report.specs.{declared.row.Row.{Row}, Rows.{values_of_branch}, Sweeps.{refusal_before, with_branch}}
 use Rattle.rio_report.specs.declared.checked.Made.{Made, TheVariants.{Whole, Numbers, Nothing}}
 
 -- ---- which branches
@@ -19,7 +19,7 @@ abbrev pub is_nothing : Made → Bool
 is_nothing Nothing = true
 is_nothing other = false
 
--- the same, but that numbers are made of the branches of these numbers
+-- what is made of each branch, where numbers are made of the branches of these numbers
 abbrev pub with_numbers : List Made → List ℕ → List Made
 with_numbers made [] = made
 with_numbers made (k ∷ ks) = with_numbers (slice_set made k Numbers) ks
@@ -41,7 +41,7 @@ made_values Whole vs = vs
 made_values Numbers vs = map number_alone vs
 made_values Nothing vs = []
 
--- the same of an entry, if it is read
+-- what is made of the values of an entry, if it is read
 abbrev pub made_of : Made → Option (List Value) → Option (List Value)
 made_of made None = None
 made_of made (Some vs) = Some (made_values made vs)

@@ -1,7 +1,7 @@
 -- Looking for the key with the greatest cycle, from the first on.
 use Rattle.std.specs.Prelude.{Option, Some, None}
 use Rattle.rio_key.specs.declared.head.KeyHead.{KeyHead}
-use Rattle.rio_meaning.specs.Item.{greater_cycle_of}
+use Rattle.rio_report.specs.Item.{greater_cycle_of}
 
 -- the one with the greater cycle, the first of equal ones
 abbrev pub greatest_cycle_of : Option KeyHead → Option KeyHead → Option KeyHead

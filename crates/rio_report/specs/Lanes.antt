@@ -2,17 +2,17 @@
 use Rattle.std.specs.{Prelude.{◌≡◌, ◌≤◌, ℕ, ℤ, List, [], ◌∷◌, ◌++◌, codes, slice_get, Option, Some, None, Bool, false, if◌then◌else◌}, Str.{bytes_eq}}
 use Rattle.rio_leaf.specs.declared.leaf.Leaf.{Leaf}
 use Rattle.rio_value.specs.{Accessors.{number_in}, declared.value.Value.{Value, out-Value}}
-use Rattle.rio_tree_head.specs.{Index.{basket_number}, declared.basket_at.BasketAt.{BasketAt}, declared.head.Branch.{Branch}}
-use Rattle.rio_tree_head.specs.declared.refusal.BranchRefusal.{BranchRefusal}
+use Rattle.rio_tree.specs.{Index.{basket_number}, declared.basket_at.BasketAt.{BasketAt}, declared.head.Branch.{Branch}}
+use Rattle.rio_tree.specs.declared.refusal.BranchRefusal.{BranchRefusal}
 use Rattle.rio_model.specs.ValueText.{text_of_value}
-use Rattle.rio_scan.specs.StoredEntries.{StoredEntries, stored_basket}
+use Rattle.rio_report.specs.StoredEntries.{StoredEntries, stored_basket}
 use Rattle.rio_report.specs.declared.lane.Lane.{Lane}
 
 -- the number of a leaf of the name, or else what was found before
 abbrev pub number_if_named : List ℕ → Leaf → Value → Option ℤ → Option ℤ
 number_if_named name leaf v found = if bytes_eq name leaf.name then Some (number_in (out-Value v)) else found
 
--- the same for the first of these values, if there is one
+-- the number that the first of these values says for a leaf of the name, or else what was found before
 abbrev pub number_with : List ℕ → Leaf → List Value → Option ℤ → Option ℤ
 number_with name leaf [] found = found
 number_with name leaf (v ∷ vs) found = number_if_named name leaf v found

@@ -1,8 +1,17 @@
 pub mod Checked
+pub mod Counters
 pub mod Described
+pub mod Dump
+pub mod FirstFault
 pub mod Gathered
 pub mod GreatestCycle
+pub mod Item
 pub mod Lanes
 pub mod Lists
+pub mod Refusals
 pub mod RowFaults
+pub mod Rows
+pub mod Scan
+pub mod StoredEntries
+pub mod Sweeps
 pub mod TreeTexts

@@ -1,9 +1,9 @@
 -- What is said of a row that the first pass found to be read and the second doesn't: its number and the first fault.
 use Rattle.std.specs.{Prelude.{ℕ, List, [], ◌∷◌, ◌++◌, codes, Option, Some, None, Ok, Err, unwrap_or}, Fmt.{decimal}}
-use Rattle.rio_basket.specs.declared.fault.BasketFault.{BasketFault, TheVariants.{BadLast, BadOffsets, Compressed, NoMemory}}
+use Rattle.rio_basket.specs.{Texts.{basket_fault_text}, declared.fault.BasketFault.{TheVariants.{BadLast}}}
 use Rattle.rio_entry.specs.declared.fault.EntryFault.{EntryFault, TheVariants.{BadEntry}}
-use Rattle.rio_meaning.specs.Dump.{with_number}
-use Rattle.rio_scan.specs.StoredEntries.{StoredEntries}
+use Rattle.rio_buffer.specs.Texts.{with_number}
+use Rattle.rio_report.specs.StoredEntries.{StoredEntries}
 use Rattle.rio_report.specs.{declared.lane.Lane.{Lane}, declared.lane.RowFault.{RowFault, TheVariants.{Basket, Entry}}}
 
 -- ---- which fault
@@ -29,13 +29,6 @@ fault_of_lanes [] = no_entry_fault
 fault_of_lanes (lane ∷ lanes) = unwrap_or lane.fault (fault_of_lanes lanes)
 
 -- ---- its line
-
--- the kind of a fault, and its place, if it has one
-abbrev pub basket_fault_text : BasketFault → List ℕ
-basket_fault_text (BadLast place) = with_number (codes "BadLast") place
-basket_fault_text (BadOffsets place) = with_number (codes "BadOffsets") place
-basket_fault_text Compressed = codes "Compressed"
-basket_fault_text NoMemory = codes "NoMemory"
 
 abbrev pub row_fault_text : RowFault → List ℕ
 row_fault_text (Basket fault) = basket_fault_text fault

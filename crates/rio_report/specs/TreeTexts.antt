@@ -1,7 +1,7 @@
 -- The tree that was found of a key, or the text in its place.
 use Rattle.std.specs.Prelude.{◌≡◌, ℕ, List, Result, Ok, Err}
 use Rattle.rio_num.specs.Room.{Room}
-use Rattle.rio_tree_head.specs.declared.head.TreeHead.{TreeHead}
+use Rattle.rio_tree.specs.declared.head.TreeHead.{TreeHead}
 
 abbrev pub TreeOrText : Type 0
 TreeOrText = Result TreeHead (List ℕ)

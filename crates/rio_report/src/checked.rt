@@ -4,7 +4,7 @@ ghost use Rattle.rio_report.specs.Checked.{counters_alone, made_there, with_numb
 ghost use Rattle.rio_report.specs.declared.checked.Made.TheVariants.{Nothing as NoValue};
 
 use rio_num::NoMemory;
-use rio_tree_head::Branch;
+use rio_tree::Branch;
 use std::alloc::Global;
 
 /// What is made of an entry's values: all of them, the number that each says, or nothing, where it is only checked.

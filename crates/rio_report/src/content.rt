@@ -2,7 +2,7 @@
 ghost use Rattle.std.specs.Prelude.{◌≡◌, ◌++◌, ℕ, List, Some, OnOk};
 ghost use Rattle.rio_host.specs.Host.{IsLength};
 ghost use Rattle.rio_host.specs.OnlyReads.{OnlyReads};
-ghost use Rattle.rio_meaning.specs.Dump.{content_text, is_tree, stored_line};
+ghost use Rattle.rio_report.specs.Dump.{content_text, is_tree, stored_line};
 ghost use Rattle.rio_close.specs.Causes.{IsCallCause};
 
 use crate::tree_line::{put_tree, read_stored_tree};

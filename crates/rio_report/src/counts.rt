@@ -2,14 +2,14 @@
 ghost use Rattle.std.specs.Prelude.{◌≡◌, ℕ, None, Some, IfOk, drop, map, slice_get};
 ghost use Rattle.std.specs.List.{list_any};
 ghost use Rattle.rio_entry.specs.Leaves.{last_number as last_said};
-ghost use Rattle.rio_tree_head.specs.Header.{branch_leaves};
-ghost use Rattle.rio_scan.specs.Counters.{counters_are_read, entry_counts, is_refused, leaf_count, number_in_branch, number_said, values_or_none};
+ghost use Rattle.rio_tree.specs.Header.{branch_leaves};
+ghost use Rattle.rio_report.specs.Counters.{counters_are_read, entry_counts, is_refused, leaf_count, number_in_branch, number_said, values_or_none};
 ghost use Rattle.rio_report.specs.Lanes.{number_with, number_if_named};
 
+use crate::row::{BranchRows, Refusals};
 use rio_leaf::{Dim, Leaf, Shape};
 use rio_num::NoMemory;
-use rio_scan::{BranchRows, Refusals};
-use rio_tree_head::{Branch, BranchRefusal};
+use rio_tree::{Branch, BranchRefusal};
 use rio_value::{Value, Values};
 use std::alloc::Global;
 
@@ -47,7 +47,7 @@ fn number_if_named(name: &[u8], leaf: &Leaf, value: &Value, found: Option<i128>)
     }
 }
 
-// The same for the value at `k`, if there is one.
+// The number that the value at `k` says, if there is one and the leaf has the name, or else what was found before.
 fn number_with(
     name: &[u8],
     leaf: &Leaf,
@@ -138,7 +138,7 @@ fn leaf_count(branches: &[Branch], row: &BranchRows, counters: &[usize], leaf: &
     }
 }
 
-// The same for each leaf.
+// What is counted for each leaf.
 fn count_leaves(
     alloc: Global,
     branches: &[Branch],

@@ -2,20 +2,27 @@
 ghost use Rattle.std.specs.Prelude.{◌≡◌, ◌+◌, ◌<◌, ◌^◌, length};
 ghost use Rattle.rio_host.specs.Host.{IsLength};
 ghost use Rattle.rio_host.specs.OnlyReads.{OnlyReads};
-ghost use Rattle.rio_meaning.specs.Described.{described_at, described_file, info_at};
+ghost use Rattle.rio_report.specs.Described.{described_at, described_file, info_at};
 ghost use Rattle.rio_close.specs.Causes.{AnyKind, IsHostCauseOf, IsOwnCauseOf};
 ghost use Rattle.rio_close.specs.Opens.{Opens, OpensTold};
 ghost use Rattle.rio_report.specs.Described.{info_in};
 
 use rio_buffer::ObjFault;
 use rio_close::{ReportFault, read_closed, read_record};
+use rio_dir::Closed;
 use rio_head::FileFault;
 use rio_host::Host;
 use rio_info::read_info;
 use rio_key::{KeyFault, read_key};
-use rio_meaning::Described;
 use rio_types::Classes;
 use std::alloc::Global;
+
+/// A file as the verbs see it that read values: with the classes that it describes, in its order.
+#[derive(Debug, Drop)]
+pub struct Described {
+    pub closed: Closed,
+    pub classes: Classes,
+}
 
 fn bad_info(place: u64) -> ReportFault
     ensures { result ≡ ReportFault.BadFile place FileFault.BadInfo }
@@ -90,7 +97,7 @@ fn open_classes<H: Host>(
 
 /// The file and the classes that it describes, with nothing else of it read. BadFile is the first rule
 /// that these break, with its place. `file_length` is the host's answer to `length`.
-#[tactic(auto, unfolding(rio_meaning::specs::Described::described_file))]
+#[tactic(auto, unfolding(crate::specs::Described::described_file))]
 pub(crate) fn open_described<H: Host>(
     alloc: Global,
     host: &mut H,

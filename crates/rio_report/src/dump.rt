@@ -4,23 +4,22 @@ ghost use Rattle.std.specs.Option.{option_copied};
 ghost use Rattle.rio_close.specs.Causes.{AnyKind, IsSayCauseOf, NoKind};
 ghost use Rattle.rio_host.specs.Host.{IsLength};
 ghost use Rattle.rio_host.specs.OnlyReads.{OnlySaysPieces, Says};
-ghost use Rattle.rio_meaning.specs.Dump.{dump_lines, dump_text, dumped_file, item_line};
-ghost use Rattle.rio_meaning.specs.Item.{found_item};
+ghost use Rattle.rio_report.specs.Dump.{dump_lines, dump_text, dumped_file, item_line};
+ghost use Rattle.rio_report.specs.Item.{found_item};
 ghost use Rattle.rio_report.specs.Lists.{InPieces, IsDone, Lists, Refuses, SaysFront, StaysSilent};
 
-use crate::described::open_described;
-use crate::item::found_item;
-use crate::pieces::{gather_classes, gather_keys, say_held, say_key, say_missing};
+use crate::described::{Described, open_described};
+use crate::item::{Item, found_item};
+use crate::pieces::{gather_classes, gather_keys, say_held, say_key, say_refusal};
 use rio_close::ReportFault;
 use rio_host::Host;
 use rio_key::KeyHead;
-use rio_meaning::{Described, Item};
 use rio_num::Bytes;
 use rio_types::Classes;
 use std::alloc::Global;
 
 // Says all classes and then all keys.
-#[tactic(auto, unfolding(rio_meaning::specs::Dump::dump_lines))]
+#[tactic(auto, unfolding(crate::specs::Dump::dump_lines))]
 fn say_all<H: Host>(
     alloc: Global,
     host: &mut H,
@@ -39,7 +38,7 @@ fn say_all<H: Host>(
     say_held(host, &held)
 }
 
-// Says the line of the item's key, or what is missing.
+// Says the line of the item's key, or why there is none.
 fn say_item<H: Host>(
     alloc: Global,
     host: &mut H,
@@ -55,7 +54,7 @@ fn say_item<H: Host>(
 {
     match found_item(keys, item) {
         Ok(key) => say_key(alloc, host, file_length, classes, key),
-        Err(missing) => say_missing(host, missing),
+        Err(refusal) => say_refusal(alloc, host, &refusal),
     }
 }
 
@@ -79,7 +78,7 @@ fn say_described<H: Host>(
     }
 }
 
-// The same as `say_dump`, clause by clause.
+// What `say_dump` does, with the clauses of its record apart, for the prover.
 fn say_all_or_item<H: Host>(
     alloc: Global,
     host: &mut H,

@@ -1,13 +1,21 @@
-//! Looking a key up by name and cycle.
+//! A key by its name and cycle.
 ghost use Rattle.std.specs.Prelude.{◌≡◌, Some, Ok, Err, MatchResult};
 ghost use Rattle.std.specs.List.{list_any};
 ghost use Rattle.std.specs.Option.{option_copied};
 ghost use Rattle.rio_dir.specs.Table.{is_of_name};
-ghost use Rattle.rio_meaning.specs.Item.{found_item, key_of_item, with_greatest_cycle, with_cycle};
+ghost use Rattle.rio_report.specs.Item.{found_item, key_of_item, with_greatest_cycle, with_cycle};
 ghost use Rattle.rio_report.specs.GreatestCycle.{greatest_cycle_of};
 
 use rio_key::KeyHead;
-use rio_meaning::{Item, Missing};
+use rio_machine::Refusal;
+use rio_num::Name;
+
+/// A key by its name, and by its cycle where one is said; else the greatest cycle of the name is meant.
+#[derive(Debug, Drop)]
+pub struct Item {
+    pub name: Name,
+    pub cycle: Option<u32>,
+}
 
 /// Whether the key has the name.
 pub(crate) fn is_of_name(key: &KeyHead, name: &[u8]) -> bool
@@ -62,14 +70,14 @@ fn key_of<'a>(keys: &'a [KeyHead], item: &Item) -> Option<&'a KeyHead>
     }
 }
 
-/// The key of an item, or what is missing. Where the item has no cycle, it is the greatest of the name.
-pub(crate) fn found_item<'a>(keys: &'a [KeyHead], item: &Item) -> Result<&'a KeyHead, Missing>
+/// The key of an item, or why there is none. Where the item has no cycle, it is the greatest of the name.
+pub(crate) fn found_item<'a>(keys: &'a [KeyHead], item: &Item) -> Result<&'a KeyHead, Refusal>
     ensures { MatchResult result (λ key. found_item item.now keys.now ≡ Ok key.now)
-        (λ missing. found_item item.now keys.now ≡ Err missing) }
+        (λ refusal. found_item item.now keys.now ≡ Err refusal) }
 {
     match key_of(keys, item) {
         Some(key) => Ok(key),
-        None if has_any(keys, item.name.as_slice()) => Err(Missing::NoSuchCycle),
-        None => Err(Missing::NoSuchName),
+        None if has_any(keys, item.name.as_slice()) => Err(Refusal::NoSuchCycle),
+        None => Err(Refusal::NoSuchName),
     }
 }

@@ -1,11 +1,11 @@
 //! What is held of a branch while its rows are read: one basket.
-ghost use Rattle.std.specs.Prelude.{◌≡◌, ◌≤◌, ℕ, List, Some, IsTrue, is_some, OnOk};
+ghost use Rattle.std.specs.Prelude.{◌≡◌, ◌<◌, ◌≤◌, ◌^◌, ℕ, List, Some, IfSome, IsTrue, is_some, length, OnOk};
 ghost use Rattle.std.specs.Option.{option_copied};
 ghost use Rattle.rio_host.specs.Host.{IsLength};
 ghost use Rattle.rio_host.specs.OnlyReads.{OnlyReads};
 ghost use Rattle.rio_close.specs.Causes.{IsCallCause};
-ghost use Rattle.rio_tree_head.specs.Index.{basket_number};
-ghost use Rattle.rio_scan.specs.StoredEntries.{branch_entry};
+ghost use Rattle.rio_tree.specs.Index.{basket_number};
+ghost use Rattle.rio_report.specs.StoredEntries.{branch_entry};
 ghost use Rattle.rio_report.specs.Lanes.{IsHeld};
 
 use crate::stored::{FoundBasket, read_stored_basket};
@@ -13,7 +13,7 @@ use rio_basket::BasketFault;
 use rio_close::ReportFault;
 use rio_host::Host;
 use rio_index::basket_from;
-use rio_tree_head::Branch;
+use rio_tree::Branch;
 use std::alloc::Global;
 
 /// Why an entry of a branch isn't read: its basket, or the first part of it that breaks.
@@ -85,10 +85,11 @@ pub(crate) fn hold<H: Host>(
 
 /// The entry in the basket that is held, if it is there.
 pub(crate) fn entry_there<'a>(branch: &Branch, lane: &'a Lane, entry: u64) -> Option<&'a [u8]>
-    ensures { (file : List ℕ) → lane.now.number ≡ basket_number entry branch.now.baskets
+    ensures there { (file : List ℕ) → lane.now.number ≡ basket_number entry branch.now.baskets
         → IsTrue (is_some lane.now.basket)
         → IsHeld file branch.now lane.now.number lane.now.basket
         → option_copied result ≡ branch_entry file branch.now entry }
+    ensures short { IfSome result (λ bytes. length bytes.now < 2 ^ 32) }
 {
     match (branch.baskets.get(lane.number), &lane.basket) {
         (Some(at), Some(Ok(basket))) => basket.entry(entry.saturating_sub(at.first) as usize),

@@ -4,6 +4,11 @@
 //! count leaves of others, which it keeps up to the end of the row, and of a branch with counted leaves while its entry is
 //! checked; and over the entries again to say the rows. Beside the key list and the classes one record is held, or the tree's
 //! head, one basket of each branch and the values of one row.
+//!
+//! What they say is defined in `specs/`: `Described` (the classes that a file describes), `FirstFault` (the first rule that a file
+//! breaks of those that a verb tests), `Dump`, `Item` (a key by its name and cycle), and of a tree `StoredEntries` (the entries of
+//! baskets), `Counters` (what earlier branches count), `Rows`, `Refusals` (which branches aren't read, and why), `Scan`, and `Sweeps`
+//! (how a walk over the rows finds the branches that aren't read).
 #![tactic(auto)]
 
 mod checked;
@@ -16,7 +21,8 @@ mod lane;
 mod ls;
 mod pieces;
 mod refusals;
-mod rows;
+mod row;
+mod row_reader;
 mod scan;
 mod scan_rows;
 mod scan_text;
@@ -24,7 +30,7 @@ mod stored;
 mod tree_line;
 
 pub use dump::say_dump;
+pub use item::Item;
 pub use ls::say_ls;
 pub use rio_close::ReportFault;
-pub use rio_meaning::{Item, Missing};
 pub use scan::say_scan;

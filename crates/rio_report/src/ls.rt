@@ -45,7 +45,7 @@ fn listing(alloc: Global, keys: &[KeyHead]) -> Result<Bytes, NoMemory>
     Ok(text)
 }
 
-// The same as `say_ls`, clause by clause.
+// What `say_ls` does, with the clauses of its record apart, for the prover.
 fn say_listing<H: Host>(alloc: Global, host: &mut H) -> Result<(), ReportFault>
     ensures done { IsDone listed_file (H.view host.old) (H.view host.new) result }
     ensures refused { Refuses listed_file (H.view host.old) result }

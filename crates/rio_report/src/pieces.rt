@@ -3,7 +3,8 @@ ghost use Rattle.std.specs.Prelude.{◌≡◌, ◌++◌, [], codes, OnOk};
 ghost use Rattle.std.specs.List.{flat_map};
 ghost use Rattle.rio_host.specs.Host.{IsLength};
 ghost use Rattle.rio_host.specs.OnlyReads.{Says};
-ghost use Rattle.rio_meaning.specs.Dump.{class_line, missing_line, stored_line};
+ghost use Rattle.rio_report.specs.Dump.{class_line, stored_line};
+ghost use Rattle.rio_machine.specs.RefusalText.{refusal_text};
 ghost use Rattle.rio_close.specs.Causes.{IsSayCauseOf, NoKind};
 ghost use Rattle.rio_report.specs.Gathered.{Gathers};
 
@@ -12,7 +13,7 @@ use rio_close::ReportFault;
 use rio_decl::print_class;
 use rio_host::Host;
 use rio_key::KeyHead;
-use rio_meaning::Missing;
+use rio_machine::{Refusal, print_refusal};
 use rio_num::{Bytes, NoMemory};
 use rio_types::{ClassDef, Classes};
 use std::alloc::Global;
@@ -150,20 +151,17 @@ pub(crate) fn say_key<H: Host>(
     say_held(host, &line)
 }
 
-// What is said of a missing key.
-fn missing_text(missing: Missing) -> &'static [u8]
-    ensures { result.now ≡ missing_line missing }
-{
-    match missing {
-        Missing::NoSuchName => b"no 3 NoSuchName\n",
-        Missing::NoSuchCycle => b"no 4 NoSuchCycle\n",
-    }
-}
-
-/// Says what is missing.
-pub(crate) fn say_missing<H: Host>(host: &mut H, missing: Missing) -> Result<(), ReportFault>
-    ensures says { Says (λ file. missing_line missing) (H.view host.old) (H.view host.new) result }
+/// Says why there is no such key.
+pub(crate) fn say_refusal<H: Host>(
+    alloc: Global,
+    host: &mut H,
+    refusal: &Refusal,
+) -> Result<(), ReportFault>
+    ensures says { Says (λ file. refusal_text refusal.now)
+        (H.view host.old) (H.view host.new) result }
     ensures cause { IsSayCauseOf NoKind (H.view host.old) (H.view host.new) result }
 {
-    say_piece(host, missing_text(missing))
+    let mut text = Bytes::new(alloc);
+    print_refusal(refusal, &mut text)?;
+    say_held(host, &text)
 }

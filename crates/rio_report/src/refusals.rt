@@ -4,20 +4,20 @@ ghost use Rattle.std.specs.List.{list_any};
 ghost use Rattle.rio_host.specs.Host.{IsLength};
 ghost use Rattle.rio_host.specs.OnlyReads.{OnlyReads};
 ghost use Rattle.rio_close.specs.Causes.{IsCallCause};
-ghost use Rattle.rio_scan.specs.Refusals.{branch_refusal, refusals_of};
-ghost use Rattle.rio_tree_head.specs.declared.head.Branch.{Branch as Branched};
+ghost use Rattle.rio_report.specs.Refusals.{branch_refusal, refusals_of};
+ghost use Rattle.rio_tree.specs.declared.head.Branch.{Branch as Branched};
 ghost use Rattle.rio_report.specs.Lanes.{AreLanes};
 ghost use Rattle.rio_report.specs.Checked.{CountersMade};
 
 use crate::checked::{Made, counters_alone};
 use crate::lane::Lane;
-use crate::rows::{Tree, read_row, refusal_before};
+use crate::row::Refusals;
+use crate::row_reader::{Tree, read_row, refusal_before};
 use crate::stored::refusal_of_baskets;
 use rio_close::ReportFault;
 use rio_host::Host;
 use rio_num::NoMemory;
-use rio_scan::Refusals;
-use rio_tree_head::BranchRefusal;
+use rio_tree::BranchRefusal;
 use std::alloc::Global;
 
 // Why the branch at `k` isn't read, behind those that are refused so, before any entry is looked at.

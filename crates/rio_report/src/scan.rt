@@ -6,26 +6,25 @@ ghost use Rattle.rio_close.specs.Causes.{AnyKind, IsSayCauseOf, NoKind};
 ghost use Rattle.rio_host.specs.Host.{IsLength};
 ghost use Rattle.rio_host.specs.OnlyReads.{Says};
 ghost use Rattle.rio_dir.specs.Table.{is_of_name};
-ghost use Rattle.rio_scan.specs.Scan.{found_tree, key_scan, no_tree_line, scan_lines, scan_text, scanned_file, tree_key, tree_lines, unread_line};
+ghost use Rattle.rio_report.specs.Scan.{found_tree, key_scan, scan_lines, scan_text, scanned_file, tree_key, tree_lines, unread_line};
 ghost use Rattle.rio_report.specs.Lists.{InPieces, IsDone, Lists, Refuses, SaysFront, StaysSilent};
 
 use crate::content::is_tree;
-use crate::described::open_described;
+use crate::described::{Described, open_described};
 use crate::item::{greater_cycle, has_any, is_of_name};
-use crate::pieces::{say_held, say_piece};
+use crate::pieces::{say_held, say_refusal};
 use crate::refusals::find_refusals;
-use crate::rows::Tree;
+use crate::row_reader::Tree;
 use crate::scan_rows::gather_rows;
 use crate::scan_text::{put_count, put_refused_lines};
 use crate::tree_line::read_stored_tree;
 use rio_close::ReportFault;
 use rio_host::Host;
 use rio_key::KeyHead;
-use rio_meaning::Described;
+use rio_machine::Refusal;
 use rio_num::{Bytes, NoMemory};
 use rio_reply::put_item;
-use rio_scan::NoTree;
-use rio_tree_head::TreeHead;
+use rio_tree::TreeHead;
 use rio_types::Classes;
 use std::alloc::Global;
 
@@ -42,24 +41,15 @@ fn tree_key<'a>(keys: &'a [KeyHead], name: &[u8]) -> Option<&'a KeyHead>
     best
 }
 
-// The key of a tree, or what is missing.
-fn found_tree<'a>(keys: &'a [KeyHead], name: &[u8]) -> Result<&'a KeyHead, NoTree>
+// The key of a tree, or why there is none.
+fn found_tree<'a>(keys: &'a [KeyHead], name: &[u8]) -> Result<&'a KeyHead, Refusal>
     ensures { MatchResult result (λ key. found_tree name.now keys.now ≡ Ok key.now)
-        (λ missing. found_tree name.now keys.now ≡ Err missing) }
+        (λ refusal. found_tree name.now keys.now ≡ Err refusal) }
 {
     match tree_key(keys, name) {
         Some(key) => Ok(key),
-        None if has_any(keys, name) => Err(NoTree::NotATree),
-        None => Err(NoTree::NoSuchName),
-    }
-}
-
-fn no_tree_text(missing: NoTree) -> &'static [u8]
-    ensures { result.now ≡ no_tree_line missing }
-{
-    match missing {
-        NoTree::NoSuchName => b"no 3 NoSuchName\n",
-        NoTree::NotATree => b"no 6 NotATree\n",
+        None if has_any(keys, name) => Err(Refusal::NotATree),
+        None => Err(Refusal::NoSuchName),
     }
 }
 
@@ -162,11 +152,11 @@ fn say_described_tree<H: Host>(
 {
     match found_tree(described.closed.keys.as_slice(), name) {
         Ok(key) => say_tree_key(alloc, host, file_length, &described.classes, key),
-        Err(missing) => say_piece(host, no_tree_text(missing)),
+        Err(refusal) => say_refusal(alloc, host, &refusal),
     }
 }
 
-// The same as `say_scan`, clause by clause.
+// What `say_scan` does, with the clauses of its record apart, for the prover.
 fn say_file_tree<H: Host>(alloc: Global, host: &mut H, tree: &[u8]) -> Result<(), ReportFault>
     ensures done { IsDone (scanned_file tree.now) (H.view host.old) (H.view host.new) result }
     ensures refused { Refuses (scanned_file tree.now) (H.view host.old) result }

@@ -3,20 +3,20 @@ ghost use Rattle.std.specs.Prelude.{◌≡◌, ◌++◌, ◌<◌, ℕ, List, Som
 ghost use Rattle.rio_host.specs.Host.{IsLength};
 ghost use Rattle.rio_host.specs.OnlyReads.{OnlyReads};
 ghost use Rattle.rio_close.specs.Causes.{IsCallCause, IsSayCauseOf, NoKind};
-ghost use Rattle.rio_scan.specs.Refusals.{refusals_of};
-ghost use Rattle.rio_scan.specs.Scan.{numbered_rows, row_line};
+ghost use Rattle.rio_report.specs.Refusals.{refusals_of};
+ghost use Rattle.rio_report.specs.Scan.{numbered_rows, row_line};
 ghost use Rattle.rio_report.specs.Gathered.{Gathers};
 ghost use Rattle.rio_report.specs.Lanes.{AreLanes};
 
 use crate::lane::Lane;
 use crate::pieces::say_long;
 use crate::refusals::empty_lanes;
-use crate::rows::{Tree, read_row};
+use crate::row::Refusals;
+use crate::row_reader::{Tree, read_row};
 use crate::scan_text::{put_row, put_row_fault};
 use rio_close::ReportFault;
 use rio_host::Host;
 use rio_num::Bytes;
-use rio_scan::Refusals;
 use std::alloc::Global;
 
 // No branch is refused that wasn't before.

@@ -1,37 +1,20 @@
 //! The lines that are said of a tree.
 ghost use Rattle.std.specs.Prelude.{◌≡◌, ◌++◌, codes, length, IfOk, OnOk};
-ghost use Rattle.rio_scan.specs.Rows.{read_values};
-ghost use Rattle.rio_scan.specs.Scan.{branch_refusal_name, numbered_row, refused_line, refused_lines, scanned_count};
+ghost use Rattle.rio_report.specs.Rows.{read_values};
+ghost use Rattle.rio_report.specs.Scan.{numbered_row, refused_line, refused_lines, scanned_count};
 ghost use Rattle.rio_model.specs.Lists.{separated};
 ghost use Rattle.rio_model.specs.ValueText.{text_of_value};
-ghost use Rattle.rio_meaning.specs.Dump.{with_number};
+ghost use Rattle.rio_buffer.specs.Texts.{with_number};
 ghost use Rattle.rio_report.specs.Lanes.{first_after, values_behind, values_unrefused};
-ghost use Rattle.rio_report.specs.RowFaults.{basket_fault_text, fault_of_lanes, row_fault_line, row_fault_text};
+ghost use Rattle.rio_report.specs.RowFaults.{fault_of_lanes, row_fault_line, row_fault_text};
 ghost use Rattle.rio_value.specs.declared.value.Value.{List as Listed};
 
 use crate::lane::{Lane, RowFault};
 use rio_basket::BasketFault;
 use rio_num::{Bytes, NoMemory};
-use rio_tree_head::{Branch, BranchRefusal};
+use rio_tree::{Branch, BranchRefusal};
 use rio_valtext::print_value;
 use rio_value::{Value, Values};
-
-fn refusal_name(refusal: BranchRefusal) -> &'static [u8]
-    ensures { result.now ≡ branch_refusal_name refusal }
-{
-    match refusal {
-        BranchRefusal::BranchClass => b"BranchClass",
-        BranchRefusal::SubBranches => b"SubBranches",
-        BranchRefusal::EmbeddedBasket => b"EmbeddedBasket",
-        BranchRefusal::LeafClass => b"LeafClass",
-        BranchRefusal::NoCounter => b"NoCounter",
-        BranchRefusal::EntryCount => b"EntryCount",
-        BranchRefusal::BadBasketList => b"BadBasketList",
-        BranchRefusal::Compressed => b"Compressed",
-        BranchRefusal::BadBasket => b"BadBasket",
-        BranchRefusal::BadEntry => b"BadEntry",
-    }
-}
 
 // Puts the line of a branch at the end, if it isn't read.
 fn put_refused_line(
@@ -45,7 +28,7 @@ fn put_refused_line(
         text.put(b"branch ")?;
         text.put_name(branch.def.name.as_slice())?;
         text.put(b" refused ")?;
-        text.put(refusal_name(refusal))?;
+        text.put(refusal.name())?;
         text.put(b"\n")?;
     }
     Ok(())
@@ -183,22 +166,11 @@ fn put_placed(text: &mut Bytes, kind: &[u8], place: u64) -> Result<(), NoMemory>
     text.put_decimal(place)
 }
 
-fn put_basket_fault(text: &mut Bytes, fault: BasketFault) -> Result<(), NoMemory>
-    ensures { OnOk result (text.new.bytes ≡ text.old.bytes ++ basket_fault_text fault) }
-{
-    match fault {
-        BasketFault::BadLast { place } => put_placed(text, b"BadLast", place),
-        BasketFault::BadOffsets { place } => put_placed(text, b"BadOffsets", place),
-        BasketFault::Compressed => text.put(b"Compressed"),
-        BasketFault::NoMemory => text.put(b"NoMemory"),
-    }
-}
-
 fn put_fault(text: &mut Bytes, fault: RowFault) -> Result<(), NoMemory>
     ensures { OnOk result (text.new.bytes ≡ text.old.bytes ++ row_fault_text fault) }
 {
     match fault {
-        RowFault::Basket(fault) => put_basket_fault(text, fault),
+        RowFault::Basket(fault) => fault.put_text(text),
         RowFault::Entry { place } => put_placed(text, b"BadEntry", place),
     }
 }

@@ -3,12 +3,12 @@ ghost use Rattle.std.specs.Prelude.{◌≡◌, ◌+◌, ◌<◌, ℕ, List, Some
 ghost use Rattle.rio_host.specs.Host.{IsLength};
 ghost use Rattle.rio_host.specs.OnlyReads.{OnlyReads};
 ghost use Rattle.rio_close.specs.Causes.{IsCallCause};
-ghost use Rattle.rio_scan.specs.StoredEntries.{entry_behind, is_compressed_basket, is_filled, refusal_of_baskets, stored_basket};
+ghost use Rattle.rio_report.specs.StoredEntries.{entry_behind, is_compressed_basket, is_filled, refusal_of_baskets, stored_basket};
 
 use rio_basket::{BasketFault, StoredBasket};
 use rio_close::{ReportFault, read_up_to};
 use rio_host::Host;
-use rio_tree_head::{BasketAt, BranchRefusal};
+use rio_tree::{BasketAt, BranchRefusal};
 use std::alloc::Global;
 
 /// What a basket is, or why it isn't read.

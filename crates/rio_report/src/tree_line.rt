@@ -3,20 +3,20 @@ ghost use Rattle.std.specs.Prelude.{◌≡◌, ◌++◌, ◌<◌, ◌^◌, ℕ, 
 ghost use Rattle.rio_format.specs.Objects.{value_at};
 ghost use Rattle.rio_host.specs.Host.{IsLength};
 ghost use Rattle.rio_host.specs.OnlyReads.{OnlyReads};
-ghost use Rattle.rio_meaning.specs.Dump.{fault_text, header_of_value, header_or_text, stored_tree, tree_fault_text, tree_text};
+ghost use Rattle.rio_reply.specs.Told.{fault_text};
+ghost use Rattle.rio_report.specs.Dump.{header_of_value, header_or_text, stored_tree, tree_fault_text, tree_text};
 ghost use Rattle.rio_close.specs.Causes.{IsCallCause};
-ghost use Rattle.rio_tree_head.specs.declared.fault.TreeFault.TheVariants.{MissingMember};
-ghost use Rattle.rio_tree_head.specs.Header.{tree_head_in};
+ghost use Rattle.rio_tree.specs.declared.fault.TreeFault.TheVariants.{MissingMember};
+ghost use Rattle.rio_tree.specs.Header.{tree_head_in};
 ghost use Rattle.rio_report.specs.TreeTexts.{IsFoundTree, TreeOrText};
 
 use rio_buffer::ObjFault;
 use rio_close::{ReportFault, read_up_to};
 use rio_host::Host;
 use rio_key::KeyHead;
-use rio_meaning::put_object_fault;
 use rio_num::{Bytes, NoMemory};
 use rio_read::read_object;
-use rio_tree_head::{TreeFault, TreeHead, read_tree};
+use rio_tree::{TreeFault, TreeHead, read_tree};
 use rio_types::Classes;
 use rio_value::Value;
 use std::alloc::Global;
@@ -30,7 +30,7 @@ fn object_fault_text(alloc: Global, fault: &ObjFault) -> Result<Bytes, NoMemory>
 {
     let mut text = Bytes::new(alloc);
     text.put(b"fault ")?;
-    put_object_fault(&mut text, fault)?;
+    fault.put_text(&mut text)?;
     Ok(text)
 }
 

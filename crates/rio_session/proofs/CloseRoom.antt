@@ -7,9 +7,9 @@ use Rattle.rio_key.specs.{Written.{FitsKey}, declared.head.KeyHead.{KeyHead}}
 use Rattle.rio_dir.specs.Table.{heads_size}
 use Rattle.rio_chain.specs.{Adjoining.{segments_end}, Placing.{file_end, record_count, rest_of_gap, with_segment}}
 use Rattle.rio_chain.specs.declared.segment.Segment.{Segment, TheVariants.{Record, Gap}}
-use Rattle.rio_close.specs.Sizes.{close_size}
+use Rattle.rio_state.specs.Sizes.{close_size}
 use Rattle.rio_session.specs.Kept.{IsClosable, is_fit_key, kept_with}
-use Rattle.rio_session.proofs.Needs.{close_size_is_need}
+use Rattle.rio_state.proofs.CloseSizes.{close_size_is_need}
 
 -- ---- keys
 

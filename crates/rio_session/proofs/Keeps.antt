@@ -6,7 +6,7 @@ use Rattle.rio_key.specs.{declared.head.KeyHead.{KeyHead}, Written.{written_key}
 use Rattle.rio_dir.specs.Table.{heads_size, is_before, with_head}
 use Rattle.rio_chain.specs.{Placing.{file_end, record_count, rest_of_gap, with_segment}, declared.segment.Segment.{Segment, TheVariants.{Record, Gap}}}
 use Rattle.rio_state.specs.Closing.{close_need, end_limit}
-use Rattle.rio_record.specs.declared.record.NewRecord.{NewRecord}
+use Rattle.rio_chain.specs.declared.record.NewRecord.{NewRecord}
 use Rattle.rio_close.proofs.Fitting.{count_with}
 use Rattle.rio_session.specs.{Kept.{IsClosable, begins_at, is_fit_key, is_owned, is_placed, is_sized, kept_with}, Puts.{CanBePut}, Session.{SessionState}}
 

@@ -5,7 +5,7 @@ use Rattle.rio_types.specs.declared.class.ClassDef.{ClassDef}
 use Rattle.rio_value.specs.declared.value.Value.{Value}
 use Rattle.rio_format.specs.Written.{written_form}
 use Rattle.rio_machine.specs.Limits.{head_length}
-use Rattle.rio_record.specs.{Record.{key_size, new_key, record_bytes}, declared.record.NewRecord.{NewRecord}, declared.words.KeyWords.{KeyWords}}
+use Rattle.rio_chain.specs.{Record.{key_size, new_key, record_bytes}, declared.record.NewRecord.{NewRecord}, declared.key_words.KeyWords.{KeyWords}}
 use Rattle.rio_effect.specs.ObjectRecord.{object_data}
 
 pub made_head : {E : Type 0} (r : Result NewRecord E) (words : KeyWords) (contents contents' : List ℕ) → contents ≡ contents'

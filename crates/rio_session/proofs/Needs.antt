@@ -6,10 +6,11 @@ use Rattle.rio_key.specs.{Written.{written_key}, declared.head.KeyHead.{KeyHead}
 use Rattle.rio_value.specs.declared.value.Value.{Value}
 use Rattle.rio_dir.specs.Table.{heads_size, with_head}
 use Rattle.rio_chain.specs.{Placing.{record_count}, declared.segment.Segment.{Segment}}
-use Rattle.rio_close.specs.Sizes.{close_size, headless}
+use Rattle.rio_state.proofs.CloseSizes.{close_size_is_need}
+use Rattle.rio_state.specs.Sizes.{close_size}
 use Rattle.rio_machine.specs.{Limits.{head_length}, State.{NameAndCycle, State}}
-use Rattle.rio_record.proofs.Records.{key_long}
-use Rattle.rio_record.specs.declared.record.NewRecord.{NewRecord}
+use Rattle.rio_chain.proofs.Records.{key_long}
+use Rattle.rio_chain.specs.declared.record.NewRecord.{NewRecord}
 use Rattle.rio_step.specs.{ItemKeys.{AreKeysOfState, told_by_key}, Step.{Listed, listed_object, object_listed, tree_listed}, Refusing.{object_class_name}}
 use Rattle.rio_state.specs.Closing.{KeptRecords, close_need, end_limit, free_length, list_length, padded_length}
 use Rattle.rio_session.specs.{Kept.{IsClosable, is_sized, kept_with}, Puts.{CanBePut}, Session.{SessionState}}
@@ -66,13 +67,6 @@ need_by_keys name heads m keys sized none =
     need_same (kept_of name m) (kept_with name heads (1 + length heads)) list (ap (λ (n : ℕ). head_length (codes "TFile") name + 10 * (n + 2)) count)
 
 -- ---- by lengths
-
-pub close_size_is_need : (kept : KeptRecords) → close_need kept ≡ close_size kept.name (heads_size kept.heads) kept.count
-unfolding close_need close_size
-close_size_is_need kept =
-    let list : list_length kept ≡ list_length (headless kept.name kept.count) + heads_size kept.heads = omega arith in
-    ap (λ n. sum_by padded_length (n ∷ free_length kept ∷ [])) list
-    ∙ omega (arith, sum_by-cons padded_length (list_length (headless kept.name kept.count) + heads_size kept.heads) (free_length kept ∷ []), sum_by-cons padded_length (free_length kept) [])
 
 size_bounds : (name : List ℕ) (heads live limit : ℕ) → close_size name heads live ≤ limit → (heads ≤ limit) × (live ≤ limit)
 unfolding close_size

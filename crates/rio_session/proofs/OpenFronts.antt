@@ -1,23 +1,12 @@
 -- What is told of a file's first 100 bytes is told of the file.
-use Rattle.std.proofs.Common.{◌≡◌, ◌<◌, ◌≤◌, Bool, true, false, ltb, List, ℕ, length, length-take, take, Result, Ok, Err, refl, sym, subst, ◌∙◌, arith}
-use Rattle.std.proofs.lemmas.Bool.{ltb-true, ltb-false, lt-ltb, le-ltb}
-use Rattle.byteorder.specs.{Endian.{big_number}, Numbers.{big_from-take}}
+use Rattle.std.proofs.Common.{◌≡◌, List, ℕ, take, Result, Ok, Err, refl, sym, subst, ◌∙◌, arith}
 use Rattle.rio_head.proofs.HeadCut.{head_in_front}
 use Rattle.rio_dir.specs.Unborn.{header_fault, is_unborn}
+use Rattle.rio_dir.proofs.UnbornPrefix.{unborn_prefix}
 use Rattle.rio_session.specs.{Causes.{TellsWhyNot}, declared.fault.OpenFault.{OpenFault, TheVariants.{BadFile, ReadOnly, NoMemory, HostFault}}}
 
-few_same : (file : List ℕ) → ltb (length (take 100 file)) 4 ≡ ltb (length file) 4
-few_same file = by (ltb (length file) 4) refl
-  where
-    by : (b : Bool) → ltb (length file) 4 ≡ b → ltb (length (take 100 file)) 4 ≡ b
-    by true t = let few : length file < 4 = ltb-true _ _ t in lt-ltb _ _ (omega (arith, length-take 100 file))
-    by false t = let enough : 4 ≤ length file = ltb-false _ _ t in le-ltb _ _ (omega (arith, length-take 100 file))
-
-word_same : (file : List ℕ) → big_number 4 (take 100 file) ≡ big_number 4 file
-word_same file = big_from-take 0 4 100 file (omega arith)
-
 pub unborn_same : (file : List ℕ) → is_unborn (take 100 file) ≡ is_unborn file
-unborn_same file = rw (few_same file, word_same file) refl
+unborn_same file = unborn_prefix 100 file (omega arith)
 
 fault_same : (file : List ℕ) → header_fault (take 100 file) ≡ header_fault file
 fault_same file = rw (unborn_same file, head_in_front file) refl

@@ -8,7 +8,7 @@ use Rattle.rio_dir.specs.Table.{with_head}
 use Rattle.rio_chain.specs.Placing.{file_end, place_of, record_count, with_segment}
 use Rattle.rio_machine.specs.{Limits.{head_length}, declared.command.Command.{Command, TheVariants.{Put}}}
 use Rattle.rio_machine.specs.{declared.command.Outcome.{Outcome, TheVariants.{Accepted, Refused}}, declared.refusal.Refusal.TheVariants.{Full}}
-use Rattle.rio_record.specs.declared.record.NewRecord.{NewRecord}
+use Rattle.rio_chain.specs.declared.record.NewRecord.{NewRecord}
 use Rattle.rio_state.specs.Closing.{close_need, end_limit, is_full, padded_length}
 use Rattle.rio_step.specs.{ReplyText.{text_of}, Statable.{IsStatable}, Step.{object_put, refused}}
 use Rattle.rio_effect.proofs.PutClasses.{short_item}

@@ -10,8 +10,8 @@ use Rattle.rio_format.specs.Written.{written_form}
 use Rattle.rio_dir.specs.Table.{head_of, is_at_cycle, with_head}
 use Rattle.rio_chain.specs.{Placing.{file_end, place_of, record_count, with_segment}, Segments.{IsRecord}}
 use Rattle.rio_machine.specs.{Limits.{head_length}, State.{State}, declared.command.Command.TheVariants.{Put}}
-use Rattle.rio_record.specs.{Record.{new_key, record_bytes}, declared.record.NewRecord.{NewRecord}, declared.words.KeyWords.{KeyWords}}
-use Rattle.rio_record.proofs.Records.{key_long}
+use Rattle.rio_chain.specs.{Record.{new_key, record_bytes}, declared.record.NewRecord.{NewRecord}, declared.key_words.KeyWords.{KeyWords}}
+use Rattle.rio_chain.proofs.Records.{key_long}
 use Rattle.rio_state.specs.Closing.{close_need, end_limit, padded_length}
 use Rattle.rio_step.specs.{Refusing.{object_class, put_value, refusal_of}, ReplyText.{text_of}, Step.{object_put}}
 use Rattle.rio_effect.specs.ObjectRecord.{key_of_put, object_data, object_key, object_record, object_words, record_of_put}

@@ -11,9 +11,9 @@ use Rattle.rio_key.specs.{declared.head.KeyHead.{KeyHead}, Written.{padded_size}
 use Rattle.rio_chain.specs.Segments.{IsRecord}
 use Rattle.rio_model.specs.StateClasses.{StateClasses}
 use Rattle.rio_machine.specs.Limits.{data_length, head_length}
-use Rattle.rio_record.specs.{Laws.{IsNewRecord}, Record.{FitsWords, key_size, new_key, record_bytes}, declared.record.NewRecord.{NewRecord}}
-use Rattle.rio_record.specs.declared.words.KeyWords.{KeyWords}
-use Rattle.rio_record.proofs.Records.{are_new_records}
+use Rattle.rio_chain.specs.{NewRecords.{IsNewRecord}, Record.{FitsWords, key_size, new_key, record_bytes}, declared.record.NewRecord.{NewRecord}}
+use Rattle.rio_chain.specs.declared.key_words.KeyWords.{KeyWords}
+use Rattle.rio_chain.proofs.Records.{are_new_records}
 use Rattle.rio_state.specs.Closing.{padded_length}
 use Rattle.rio_step.specs.Refusing.{object_class}
 use Rattle.rio_effect.specs.ObjectRecord.{object_data, object_words}

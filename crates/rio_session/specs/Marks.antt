@@ -5,7 +5,7 @@ use Rattle.rio_key.specs.declared.head.KeyHead.{KeyHead}
 use Rattle.rio_value.specs.declared.value.Value.{Value}
 use Rattle.rio_chain.specs.{declared.segment.Segment.{Segment}, Placing.{file_end, place_of, with_segment}}
 use Rattle.rio_machine.specs.{Limits.{head_length}, State.{NameAndCycle, State}, declared.command.Command.{Command, TheVariants.{Put}}}
-use Rattle.rio_record.specs.Record.{new_key}
+use Rattle.rio_chain.specs.Record.{new_key}
 use Rattle.rio_step.specs.{Costs.{value_size}, Refusing.{FullMark, object_class_name, put_value, refusal_of}, Runs.{Marks}, Step.{state_behind, step}}
 use Rattle.rio_state.specs.Closing.{KeptRecords, close_need, is_full, padded_length}
 

@@ -10,7 +10,7 @@ use Rattle.rio_types.specs.declared.class.ClassDef.{ClassDef}
 use Rattle.rio_value.specs.declared.value.Value.{Value}
 use Rattle.rio_format.specs.Written.{written_form}
 use Rattle.rio_machine.specs.Limits.{head_length}
-use Rattle.rio_record.specs.{Record.{new_key, record_bytes}, declared.record.NewRecord.{NewRecord}}
+use Rattle.rio_chain.specs.{Record.{new_key, record_bytes}, declared.record.NewRecord.{NewRecord}}
 use Rattle.rio_state.specs.Closing.{close_need, end_limit, is_full, padded_length}
 use Rattle.rio_step.specs.Refusing.{object_class}
 use Rattle.rio_effect.specs.ObjectRecord.{object_data, object_words}
@@ -20,7 +20,7 @@ use Rattle.rio_session.specs.declared.fault.SessionFault.{SessionFault, TheVaria
 -- there is no room for a record of n bytes with what a close needs behind it: where the file ends, and the length
 abbrev pub IsFullFor : List Segment → ℕ → ℕ → PlanFault → Type 0
 IsFullFor segments n need (Full end wanted) = (is_full segments (n ∷ []) need ≡ true) × (end ≡ file_end segments) × (wanted ≡ n)
-IsFullFor segments n need NoRoomFor = Unit {0}
+IsFullFor segments n need NoRoomFor = ⊥
 
 -- a record that is put, its key, and what is said of it
 pub record Putting : Type 0 where

@@ -3,7 +3,6 @@ use rio_create::CreateFault;
 use rio_head::{FileFault, Reason};
 use rio_host::{Failed, HostFault};
 use rio_num::NoMemory;
-use std::alloc::AllocError;
 use thiserror::Error;
 
 /// Why a file could not be opened.

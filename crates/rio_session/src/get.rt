@@ -4,7 +4,7 @@ use rio_chain::ReadFault;
 use rio_host::Host;
 use rio_key::KeyHead;
 use rio_machine::Outcome;
-use rio_num::Bytes;
+use rio_num::{Bytes, NoMemory};
 use rio_reply::get_reply;
 
 /// More bytes than a record has.
@@ -14,7 +14,7 @@ impl Session {
     ghost use Rattle.std.specs.Prelude.{◌≡◌, Some, IsSome, false, IfOk, Contains};
     ghost use Rattle.rio_host.specs.OnlyReads.{OnlyReads};
     ghost use Rattle.rio_chain.specs.Chains.{HoldsChain};
-    ghost use Rattle.rio_chain.specs.Walks.{IsRecordCause};
+    ghost use Rattle.rio_host.specs.Reading.{IsReadCause};
     ghost use Rattle.rio_dir.specs.Table.{head_of};
     ghost use Rattle.rio_machine.specs.declared.command.Outcome.{Outcome as BecameOf};
     ghost use Rattle.rio_session.specs.Gets.{TellsObject, TellsRecord};
@@ -28,13 +28,16 @@ impl Session {
         ensures text { IfOk result (λ text. TellsRecord (H.view host.old) self.now.segments
             self.now.classes head.now text.bytes) }
         ensures calls { OnlyReads (H.view host.old) (H.view host.new) }
-        ensures cause { IsRecordCause (H.view host.old) (H.view host.new) result }
+        ensures cause { IsReadCause (H.view host.old) (H.view host.new) result }
     {
         let bytes = self.chain.read_record(host, head.seek)?;
         if bytes.len() >= TOO_LONG {
             return Err(ReadFault::NoMemory);
         }
-        Ok(get_reply(self.alloc, self.registry.classes(), head, bytes.as_slice())?)
+        match get_reply(self.alloc, self.registry.classes(), head, bytes.as_slice()) {
+            Ok(text) => Ok(text),
+            Err(NoMemory) => Err(ReadFault::NoMemory),
+        }
     }
 
     // Says what is told of the object of a name and cycle, which is there.

@@ -4,31 +4,21 @@ ghost use Rattle.rio_chain.specs.Placing.{file_end, place_of, with_segment};
 ghost use Rattle.rio_chain.specs.Segments.{IsRecord};
 ghost use Rattle.rio_effect.specs.ObjectRecord.{object_data, object_words};
 ghost use Rattle.rio_machine.specs.Limits.{head_length};
-ghost use Rattle.rio_record.specs.Record.{FitsWords, new_key, record_bytes};
-ghost use Rattle.rio_state.specs.Closing.{is_full, padded_length};
+ghost use Rattle.rio_chain.specs.Record.{FitsWords, new_key, record_bytes};
+ghost use Rattle.rio_state.specs.Closing.{is_full};
 ghost use Rattle.rio_session.specs.Puts.{IsFullFor};
 
-use rio_chain::{Chain, PlanFault};
-use rio_num::{Lengths, Name, NoMemory};
-use rio_record::{KeyWords, NewRecord, new_record};
+use rio_chain::{Chain, KeyWords, NewRecord, PlanFault, new_record};
+use rio_key::key_length_of;
+use rio_num::{Name, NoMemory};
+use rio_state::END_LIMIT;
 use rio_types::Classes;
 use rio_value::Value;
-use rio_write::{text_length, write_object};
+use rio_write::write_object;
 use std::alloc::Global;
-
-/// How far END may be, with what a close writes behind it.
-const END_LIMIT: u64 = 1_999_999_996;
 
 /// The place of the directory that objects are in.
 const DIRECTORY: u64 = 100;
-
-// A record's length with its zero bytes.
-pub(crate) fn padded(n: u64) -> u64
-    requires { n < 2 ^ 63 }
-    ensures { result ≡ padded_length n }
-{
-    n + (4 - n % 4) % 4
-}
 
 // How long the key of an object's record is.
 pub(crate) fn key_length(class: &[u8], name: &[u8]) -> u64
@@ -37,16 +27,11 @@ pub(crate) fn key_length(class: &[u8], name: &[u8]) -> u64
     ensures exact { result ≡ head_length class.now name.now }
     ensures short { result < 2 ^ 39 }
 {
-    27 + text_length(class) + text_length(name)
+    key_length_of(class, name, b"") as u64
 }
 
 // The place of a record of `n` bytes by the rule, where there is room for it with what a close needs behind it.
-pub(crate) fn place_within(
-    alloc: Global,
-    chain: &Chain,
-    n: u64,
-    need: u64,
-) -> Result<u64, PlanFault>
+pub(crate) fn place_within(chain: &Chain, n: u64, need: u64) -> Result<u64, PlanFault>
     requires aligned { n % 4 ≡ 0 }
     requires some { 4 ≤ n }
     ensures place { IfOk result (λ place. place ≡ place_of chain.now.segments n) }
@@ -56,13 +41,12 @@ pub(crate) fn place_within(
         chain.now.segments) + need ≤ 1999999996) }
     ensures full { IfErr result (IsFullFor chain.now.segments n need) }
 {
-    let end = chain.end();
-    let mut lengths = Lengths::new(alloc);
-    lengths.push(n)?;
-    let places = chain.plan(&lengths, END_LIMIT.saturating_sub(need))?;
-    match places.get(0) {
-        Some(place) => Ok(*place),
-        None => Ok(end),
+    match chain.place_for(n, END_LIMIT.saturating_sub(need)) {
+        Some(place) => Ok(place),
+        None => Err(PlanFault::Full {
+            end: chain.end(),
+            wanted: n,
+        }),
     }
 }
 

@@ -1,9 +1,9 @@
 //! A record is put, and what is put is said.
 use crate::{Session, SessionFault};
+use rio_chain::NewRecord;
 use rio_host::Host;
 use rio_key::key_length;
 use rio_machine::Outcome;
-use rio_record::NewRecord;
 
 impl Session {
     ghost use Rattle.std.specs.Prelude.{◌≡◌, false, IfOk};

@@ -1,13 +1,12 @@
 //! An object is stored.
-use crate::place::{key_length, padded, place_within, record_of, words_of};
+use crate::place::{key_length, place_within, record_of, words_of};
 use crate::{Session, SessionFault};
-use rio_chain::PlanFault;
-use rio_close::close_length;
+use rio_chain::{NewRecord, PlanFault};
 use rio_host::Host;
 use rio_machine::{Command, Outcome, Refusal};
-use rio_num::NoMemory;
-use rio_record::NewRecord;
+use rio_num::{NoMemory, padded};
 use rio_reply::put_reply;
+use rio_state::close_length;
 use rio_value::Value;
 
 impl Session {
@@ -85,7 +84,7 @@ impl Session {
         let name = name.as_slice();
         let cost = 500 + u64::from(length);
         let n = padded(key_length(class, name) + u64::from(length));
-        match place_within(alloc, &self.chain, n, self.need_with(class, name)) {
+        match place_within(&self.chain, n, self.need_with(class, name)) {
             Ok(place) => {
                 let made = self.make(place, name, class, cycle, value, length)?;
                 let text = put_reply(alloc, name, cycle)?;

@@ -1,3 +1,4 @@
+pub mod CloseSizes
 pub mod Collected
 pub mod EmptyState
 mod Examples

@@ -2,7 +2,8 @@
 use Rattle.std.specs.{Prelude.{ℕ, ◌+◌, ◌*◌, List, [], ◌∷◌, ◌++◌, length, map, codes, Bool, nat_lt, Option}, List.{sum_by}, Option.{option_map_or}}
 use Rattle.rio_key.specs.{Written.{written_key}, declared.head.KeyHead.{KeyHead}}
 use Rattle.rio_chain.specs.{Placing.{end_after, space_of}, Segments.{Link, chain_end}, declared.segment.Segment.{Segment}}
-use Rattle.rio_machine.specs.Limits.{head_length, zeros_behind}
+pub use Rattle.rio_num.specs.Padding.{padded_length}
+use Rattle.rio_machine.specs.Limits.{head_length}
 use Rattle.rio_state.specs.KeyedRecords.{KeyedRecord, info_key, keyed_records, object_records, top_keys, tree_records}
 
 -- how far END may be, with what a close writes behind it
@@ -31,10 +32,6 @@ free_length kept = head_length (codes "TFile") kept.name + 10 * (kept.count + 2)
 -- basket and no header among them
 abbrev pub closing_lengths : KeptRecords → List ℕ
 closing_lengths kept = list_length kept ∷ free_length kept ∷ []
-
--- a record as it is written
-abbrev pub padded_length : ℕ → ℕ
-padded_length n = n + zeros_behind n
 
 -- how long the records of a close are together
 unfoldable pub close_need : KeptRecords → ℕ

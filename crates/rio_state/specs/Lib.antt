@@ -7,3 +7,4 @@ pub mod Left
 pub mod OneMore
 pub mod Reads
 pub mod Reasons
+pub mod Sizes

@@ -1,5 +1,6 @@
 //! Laws of what files read as.
 ghost use Rattle.rio_state.specs.OneMore.{CountGrows, EmptyIsRead, FirstStays, InfoStays, InternalStays, KeysFollow, KeysStay, NeedStays, RecordMore};
+ghost use Rattle.rio_state.specs.Sizes.{CloseSizeIsNeed};
 ghost use Rattle.rio_state.specs.Laws.{HasOneReason, NoReasonIsRead, ReadsAsOneState, ReadsMeetsNoReason};
 
 /// A file reads as at most one state.
@@ -46,4 +47,10 @@ pub fn internal_stays()
     ensures state { InternalStays }
     ensures keys { KeysStay }
     ensures need { NeedStays }
+{}
+
+/// What `close_length` returns is what a close needs, where a file keeps records of this name,
+/// heads of so many bytes, and so many records.
+pub fn close_length_is_need()
+    ensures { CloseSizeIsNeed }
 {}

@@ -11,7 +11,7 @@ use Rattle.rio_value.specs.declared.value.Value.{Value, Int, Bits32, Bits64, Boo
 use Rattle.rio_format.proofs.ValueCases.{Each, by_cases, fold_Int, fold_Bits32, fold_Bits64, fold_Bool, fold_Text, fold_List, fold_Pointed, fold_Null, fold_Back, fold_Opaque}
 use Rattle.rio_format.proofs.{WrittenValues.{fit_object, write_object}, WrittenPointers.{inline_class}}
 use Rattle.rio_buffer.specs.{ReaderState.{no_words}, Writer.{class_bytes}}
-use Rattle.rio_format.specs.declared.shape.Shape.{Shape as Form, TheVariants.{Bare as bare, Numbers as numbers, Headed as headed}}
+use Rattle.rio_format.specs.declared.form.Form.{Form, TheVariants.{Bare as bare, Numbers as numbers, Headed as headed}}
 use Rattle.rio_format.specs.Bodies.{Body, Counters, described, listed, arrayed, opaque, form_of, t_object_base}
 use Rattle.rio_format.specs.Fits.{Fitting, Labels, all_fit, back_fits, fits, may_point, pointed_fits, counted_slot, counted_so_far, fields_fit, fitting_of, fitting_step, fixed_by, int_fits, link_fits, list_fits, object_may_stand, parts_fit, pass}
 use Rattle.rio_format.specs.Slots.{Field, base_field, body_fields, declared_body, field, form_fields, member_field, Slot, kinded, based, flags, any_pointer, link, many}

@@ -1,7 +1,11 @@
 mod Examples
-mod WrittenLeaves
-mod WrittenFits
-mod WrittenMembers
-mod WrittenSaid
 mod WrittenCounters
+mod WrittenFits
+mod WrittenLeaves
+mod WrittenMembers
 mod WrittenReads
+mod WrittenSaid
+pub mod LabelLaws
+pub mod MetLaws
+pub mod NumberLaws
+pub mod StoredLaws

@@ -8,8 +8,8 @@ use Rattle.rio_num.specs.Word.{is_name_text}
 use Rattle.rio_leaf.specs.Leaves.{can_count, has_counting_leaf, has_leaf, is_dim, is_leaf_count, is_letter_of, is_one}
 use Rattle.rio_leaf.specs.{Marks.{is_leaf_letter, letter_of_texts}, Stated.{is_stated_leaf}, declared.leaf.Dim.{Dim, TheVariants.{One, Fixed, Counted}}}
 use Rattle.rio_leaf.specs.declared.leaf.Leaf.{Leaf}
-use Rattle.rio_tree_head.specs.{declared.head.Branch.{Branch}, declared.refusal.BranchRefusal.{BranchRefusal}}
-use Rattle.rio_tree_head.specs.HeaderLeaves.{LeafMet, LeavesMet, counter_met, counter_of_label, is_plain_number, leaf_by, says_values, uncounted_dim, with_counter, with_leaf_met}
+use Rattle.rio_tree.specs.{declared.head.Branch.{Branch}, declared.refusal.BranchRefusal.{BranchRefusal}}
+use Rattle.rio_tree.specs.HeaderLeaves.{LeafMet, LeavesMet, counter_met, counter_of_label, is_plain_number, leaf_by, says_values, uncounted_dim, with_counter, with_leaf_met}
 use Rattle.rio_tree.specs.{WrittenLaws.{branch_of_leaf, stated_defs, with_counting_branch}, WrittenTree.{LeafLabels}}
 use Rattle.rio_tree.proofs.{WrittenLeaves.{either_way}, WrittenSaid.{said_of_leaf}}
 

@@ -13,7 +13,7 @@ use Rattle.rio_format.specs.{Bodies.{part}, Fits.{Labels, Fitting, all_fit, fits
 use Rattle.rio_format.specs.{Slots.{Slot, kinded, based, any_pointer}, TreeClasses.{tree_classes, tree_members, branch_members, object_branch_members}}
 use Rattle.rio_format.proofs.ValueCases.{Each, fold_Int, fold_List}
 use Rattle.rio_format.proofs.{WrittenParts.{FitsIn, array_fits, int_fits, pointer_to, text_fits, titled_fits}, WrittenValues.{fit_object}}
-use Rattle.rio_tree_head.specs.{declared.basket_at.BasketAt.{BasketAt}, declared.head.Branch.{Branch}, declared.head.TreeHead.{TreeHead}, Header.{branch_leaves}}
+use Rattle.rio_tree.specs.{declared.basket_at.BasketAt.{BasketAt}, declared.head.Branch.{Branch}, declared.head.TreeHead.{TreeHead}, Header.{branch_leaves}}
 use Rattle.rio_tree.specs.WrittenLaws.{WrittenTreeFits, basket_fits_header, branch_fits_header, stated_defs}
 use Rattle.rio_tree.specs.WrittenTree.{LeafLabels, backs_from, basket_numbers, branch_label_count, branch_object, branch_pointers, labels_behind, leaf_backs, leaf_pointers, plain_branch_object, shaped_object, title_of_branch, tree_value_of, written_count}
 use Rattle.rio_tree.proofs.WrittenLeaves.{IsLeafAt, KnowsLeaves, count_fits, get_behind, leaf_back_fits, leaf_label, leaves_fit, knows_longer}

@@ -1,12 +1,14 @@
 -- What the objects of a header that is written say, member by member.
-use Rattle.std.proofs.Common.{◌≡◌, ◌∙◌, ℕ, ◌+◌, ℤ, pos, List, [], ◌∷◌, ◌++◌, map, codes, Some, refl, ap, sym, append-nil}
-use Rattle.std.specs.List.{flat_map}
+use Rattle.std.proofs.Common.{◌≡◌, ◌∙◌, ℕ, ◌+◌, ℤ, pos, true, List, [], ◌∷◌, ◌++◌, map, codes, Some, refl, ap, sym, append-nil}
+use Rattle.std.specs.List.{flat_map, list_all}
+use Rattle.rio_leaf.specs.declared.leaf.Leaf.{Leaf}
 use Rattle.rio_value.specs.declared.value.Part.{Part, out-Part, roll-out-Part}
-use Rattle.rio_value.specs.declared.value.Value.{Value, Text, Object, TheVariants.{rolls-Object, outs-List, outs-Object}, TheFolds.{para-Part, para-roll-Part, para-roll-Value}}
+use Rattle.rio_value.specs.declared.value.Value.{Value, Text, Object, TheVariants.{rolls-Object, outs-List, outs-Object, outs-Pointed}, TheFolds.{para-Part, para-roll-Part, para-roll-Value}}
 use Rattle.rio_value.specs.PartsWithBases.{kept_parts, parts_of_base, parts_step, parts_with_bases}
 use Rattle.rio_value.specs.declared.value.Value.TheOpen as layer
 use Rattle.rio_format.specs.{Bodies.{part}, WrittenList.{array_object, plain_object, titled_object}}
-use Rattle.rio_tree_head.specs.Members.{pointers_in}
+use Rattle.rio_tree.specs.{declared.head.Branch.{Branch}, Header.{branch_leaves}, Members.{is_pointer, pointers_in}}
+use Rattle.rio_tree.specs.WrittenTree.{LeafLabels, branch_label_count, branch_object, branch_pointers, labels_behind, leaf_object, leaf_pointers}
 
 -- ---- parts, and those of bases
 
@@ -40,6 +42,18 @@ titled_parts name title = rw (object_parts (codes "TNamed") (pos 1) _, append-ni
 
 -- ---- arrays of pointers
 
-pub pointers_written : (items : List Value) → pointers_in (array_object items) ≡ Some items
+pub pointers_written : (items : List Value) → list_all is_pointer items ≡ true → pointers_in (array_object items) ≡ Some items
 unfolding array_object
-pointers_written items = rw (outs-Object (codes "TObjArray") (pos 3) _, outs-List items) refl
+pointers_written items all = rw (outs-Object (codes "TObjArray") (pos 3) _, outs-List items, all) refl
+
+pub leaves_are_pointers : (known : LeafLabels) (label : ℕ) (leaves : List Leaf) → list_all is_pointer (leaf_pointers known label leaves) ≡ true
+unfolding leaf_pointers
+leaves_are_pointers known label [] = refl
+leaves_are_pointers known label (leaf ∷ leaves) =
+    rw (outs-Pointed label (leaf_object known leaf)) (leaves_are_pointers ((leaf.name, label) ∷ known) (label + 1) leaves)
+
+pub branches_are_pointers : (known : LeafLabels) (label : ℕ) (bs : List Branch) → list_all is_pointer (branch_pointers known label bs) ≡ true
+unfolding branch_pointers
+branches_are_pointers known label [] = refl
+branches_are_pointers known label (b ∷ bs) =
+    rw (outs-Pointed label (branch_object known (label + 1) b)) (branches_are_pointers (labels_behind known (label + 1) (branch_leaves b)) (label + branch_label_count b) bs)

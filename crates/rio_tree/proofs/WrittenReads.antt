@@ -10,16 +10,16 @@ use Rattle.rio_leaf.specs.{declared.branch.BranchDef.{BranchDef}, declared.branc
 use Rattle.rio_value.specs.{declared.value.Value.{Int, Pointed, TheVariants.{outs-Int, outs-Pointed}}, PartsWithBases.{parts_with_bases}}
 use Rattle.rio_format.specs.{Fits.{fits_signed}, Bodies.{part}, WrittenList.{array_object, number_part, titled_object}}
 use Rattle.rio_format.proofs.ValueCases.{Each}
-use Rattle.rio_tree_head.specs.{declared.basket_at.BasketAt.{BasketAt}, declared.head.Branch.{Branch}, declared.head.TreeHead.{TreeHead}}
-use Rattle.rio_tree_head.specs.declared.refusal.BranchRefusal.{BranchRefusal}
-use Rattle.rio_tree_head.specs.Header.{branch_in, branch_leaves, branches_from, entries_member, has_offsets, known_branch, met_behind, shape_said, tree_head_in}
-use Rattle.rio_tree_head.specs.{Labels.{ObjectLabels, labels_in}, Members.{pointers_member}}
-use Rattle.rio_tree_head.specs.HeaderLeaves.{LeafMet, LeavesMet, LeavesSaid, is_leafy, is_plain_number, leaf_by, leaf_met, leaves_met, no_leaves_met, says_values, with_counter, with_leaf_met}
-use Rattle.rio_tree_head.specs.Refusals.{are_in_order, basket_numbered, basket_said, baskets_from, has_leaf_class, leaf_behind, leaves_from, listed_baskets, natural_in, no_leaves, readable_branch}
+use Rattle.rio_tree.specs.{declared.basket_at.BasketAt.{BasketAt}, declared.head.Branch.{Branch}, declared.head.TreeHead.{TreeHead}}
+use Rattle.rio_tree.specs.declared.refusal.BranchRefusal.{BranchRefusal}
+use Rattle.rio_tree.specs.Header.{branch_in, branch_leaves, branches_from, entries_member, has_offsets, known_branch, met_behind, shape_said, tree_head_in}
+use Rattle.rio_tree.specs.{Labels.{ObjectLabels, labels_in}, Members.{pointers_member}}
+use Rattle.rio_tree.specs.HeaderLeaves.{LeafMet, LeavesMet, LeavesSaid, is_leafy, is_plain_number, leaf_by, leaf_met, leaves_met, no_leaves_met, says_values, with_counter, with_leaf_met}
+use Rattle.rio_tree.specs.Refusals.{are_in_order, basket_numbered, basket_said, baskets_from, has_leaf_class, leaf_behind, leaves_from, listed_baskets, natural_in, no_leaves, readable_branch}
 use Rattle.rio_tree.specs.WrittenLaws.{AreReadableBranches, IsReadableBranch, WrittenTreeIsRead, branch_fits_header, branch_of_leaf, counting_branches_behind, stated_defs}
 use Rattle.rio_tree.specs.WrittenTree.{LeafLabels, branch_label_count, branch_object, branch_pointers, labels_behind, leaf_backs, leaf_object, leaf_pointers, tree_value_of, written_count}
 use Rattle.rio_tree.proofs.WrittenCounters.{AllLead, Leads, OwnPlace, EarlierPlace, all_lead_more, leaf_reads, stated_leaf, written_met}
-use Rattle.rio_tree.proofs.{WrittenFits.{dim_count_fits, numbers_of}, WrittenLeaves.{get_behind, get_front}, WrittenMembers.{object_parts, pointers_written}}
+use Rattle.rio_tree.proofs.{WrittenFits.{dim_count_fits, numbers_of}, WrittenLeaves.{get_behind, get_front}, WrittenMembers.{branches_are_pointers, object_parts, pointers_written}}
 use Rattle.rio_tree.proofs.WrittenSaid.{HasNumbers, branch_again, branch_name, class_of_shape, leaves_again, leaf_again, leaf_name, numbers_list, said_of_branch, said_of_leaf, version_again}
 
 -- ---- baskets
@@ -334,7 +334,7 @@ entries_again : (name : List ℕ) (head : TreeHead) → nat_lt head.entries (2 ^
 entries_again name head e = rw (tree_parts name head, outs-Int (pos head.entries), e) refl
 
 items_again : (name : List ℕ) (head : TreeHead) → pointers_member (codes "fBranches") (tree_value_of name head) ≡ Some (branch_pointers [] 0 head.branches)
-items_again name head = rw (tree_parts name head, pointers_written (branch_pointers [] 0 head.branches)) refl
+items_again name head = rw (tree_parts name head, pointers_written (branch_pointers [] 0 head.branches) (branches_are_pointers [] 0 head.branches)) refl
 
 numbers_of_branch : (b : Branch) → branch_fits_header b ≡ true → HasAllNumbers b
 numbers_of_branch b e =

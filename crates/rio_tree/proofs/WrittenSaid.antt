@@ -1,5 +1,5 @@
 -- What leaves and branches of a header that is written say.
-use Rattle.std.proofs.Common.{◌≡◌, ◌∙◌, ◌||◌, ◌^◌, ℕ, ◌+◌, pos, Bool, true, false, cond, List, [], ◌∷◌, ◌++◌, length, map, codes, Option, Some, None, refl, ap, sym, subst, append-nil, nat_lt}
+use Rattle.std.proofs.Common.{◌≡◌, ◌∙◌, ◌||◌, ◌^◌, ℕ, zero, suc, ◌+◌, pos, Bool, true, false, cond, List, [], ◌∷◌, ◌++◌, length, map, take, codes, Option, Some, None, refl, ap, sym, subst, append-nil, nat_lt}
 use Rattle.std.proofs.lemmas.Bool.{and_parts, eqb-true}
 use Rattle.std.specs.{List.{list_all}, Map.{lookup}, Prelude.{◌==◌, unwrap_or}, Str.{bytes_eq}}
 use Rattle.rio_leaf.specs.{Marks.{is_leaf_letter}, Spelling.{text_of_dim}, declared.branch.Shape.{Shape, TheVariants.{Leaves, Class}}}
@@ -8,13 +8,13 @@ use Rattle.rio_value.specs.declared.value.Part.{Part}
 use Rattle.rio_value.specs.declared.value.Value.{Value, Int, Bool as Truth, Text, TheVariants.{outs-Back, outs-Bool, outs-Int, outs-List, outs-Null, outs-Object, outs-Text}}
 use Rattle.rio_value.specs.{Accessors.{class_of_object}, PartsWithBases.{member_in, parts_with_bases}}
 use Rattle.rio_format.specs.{Bodies.{part}, Fits.{fits_signed}, WrittenList.{array_object, number_part, plain_object, titled_object}}
-use Rattle.rio_tree_head.specs.{declared.basket_at.BasketAt.{BasketAt}, declared.head.Branch.{Branch}, Header.{branch_leaves}}
-use Rattle.rio_tree_head.specs.BranchMembers.{BranchSaid, branch_said, entry_class, leaf_items}
-use Rattle.rio_tree_head.specs.HeaderLeaves.{LeafSaid, counter_in, leaf_said, letter_of_class}
-use Rattle.rio_tree_head.specs.Members.{integer_member, integers_in, integers_member, is_integer, name_member, pointers_member, truth_member}
+use Rattle.rio_tree.specs.{declared.basket_at.BasketAt.{BasketAt}, declared.head.Branch.{Branch}, Header.{branch_leaves}}
+use Rattle.rio_tree.specs.BranchMembers.{BranchSaid, branch_said, entry_class, leaf_items}
+use Rattle.rio_tree.specs.HeaderLeaves.{LeafSaid, counter_in, leaf_said, letter_of_class}
+use Rattle.rio_tree.specs.Members.{integer_member, integers_in, integers_member, is_integer, is_pointer, name_member, pointers_member, truth_member}
 use Rattle.rio_tree.specs.WrittenLaws.{IsVersionFor}
 use Rattle.rio_tree.specs.WrittenTree.{LeafLabels, back_or_null, basket_numbers, branch_object, class_of_letter, counter_pointer, is_unsigned_letter, leaf_object, leaf_pointers, plain_branch_object, plain_leaf_object, shaped_object, title_of_branch, width_of_letter, written_count}
-use Rattle.rio_tree.proofs.WrittenMembers.{object_parts, pointers_written, titled_parts}
+use Rattle.rio_tree.proofs.WrittenMembers.{leaves_are_pointers, object_parts, pointers_written, titled_parts}
 
 -- ---- letters
 
@@ -135,9 +135,16 @@ each_integer bits number (b ∷ bs) last all e =
     let h = and_parts (fits_signed bits (pos (number b))) (list_all (λ b. fits_signed bits (pos (number b))) bs) all in
     rw (integer_fits bits (number b) h.0) (each_integer bits number bs last h.1 e)
 
-numbers_again : (bits : ℕ) (number : BasketAt → ℕ) (baskets : List BasketAt) (last : ℕ) → list_all (λ b. fits_signed bits (pos (number b))) baskets ≡ true → fits_signed bits (pos last) ≡ true → integers_in bits (basket_numbers number baskets last) ≡ Some (numbers_list number baskets last)
+first_of_all : {X : Type 0} (p : X → Bool) (n : ℕ) (xs : List X) → list_all p xs ≡ true → list_all p (take n xs) ≡ true
+first_of_all p zero xs e = refl
+first_of_all p (suc n) [] e = refl
+first_of_all p (suc n) (x ∷ xs) e = let h = and_parts (p x) (list_all p xs) e in rw h.0 (first_of_all p n xs h.1)
+
+numbers_again : (bits used : ℕ) (number : BasketAt → ℕ) (baskets : List BasketAt) (last : ℕ) → list_all (λ b. fits_signed bits (pos (number b))) baskets ≡ true → fits_signed bits (pos last) ≡ true → integers_in bits used (basket_numbers number baskets last) ≡ Some (numbers_list number baskets last)
 unfolding basket_numbers
-numbers_again bits number baskets last all e = rw (outs-List (numbers_list number baskets last), each_integer bits number baskets last all e) refl
+numbers_again bits used number baskets last all e =
+    let items = numbers_list number baskets last in
+    rw (outs-List items, first_of_all (is_integer bits) used items (each_integer bits number baskets last all e)) refl
 
 -- ---- one branch
 
@@ -230,15 +237,15 @@ module _ (known : LeafLabels) (label : ℕ) (b : Branch) where
   number_again : (bits : ℕ) (name : List ℕ) (n : ℕ) → IsOfPlain name → member_in name plain ≡ Some (Int (pos n)) → fits_signed bits (pos n) ≡ true → integer_member bits name whole ≡ Some (pos n)
   number_again bits name n h e fits = rw (plain_member name (Int (pos n)) h e, outs-Int (pos n), fits) refl
 
-  array_again : (name : List ℕ) (items : List Value) → IsOfPlain name → member_in name plain ≡ Some (array_object items) → pointers_member name whole ≡ Some items
-  array_again name items h e = rw (plain_member name (array_object items) h e, pointers_written items) refl
+  array_again : (name : List ℕ) (items : List Value) → IsOfPlain name → list_all is_pointer items ≡ true → member_in name plain ≡ Some (array_object items) → pointers_member name whole ≡ Some items
+  array_again name items h all e = rw (plain_member name (array_object items) h e, pointers_written items all) refl
 
-  list_again : (bits : ℕ) (name : List ℕ) (number : BasketAt → ℕ) (last : ℕ) → IsOfPlain name → member_in name plain ≡ Some (basket_numbers number b.baskets last)
-      → list_all (λ basket. fits_signed bits (pos (number basket))) b.baskets ≡ true → fits_signed bits (pos last) ≡ true → integers_member bits name whole ≡ Some (numbers_list number b.baskets last)
-  list_again bits name number last h e all fits = rw (plain_member name (basket_numbers number b.baskets last) h e, numbers_again bits number b.baskets last all fits) refl
+  list_again : (bits used : ℕ) (name : List ℕ) (number : BasketAt → ℕ) (last : ℕ) → IsOfPlain name → member_in name plain ≡ Some (basket_numbers number b.baskets last)
+      → list_all (λ basket. fits_signed bits (pos (number basket))) b.baskets ≡ true → fits_signed bits (pos last) ≡ true → integers_member bits name used whole ≡ Some (numbers_list number b.baskets last)
+  list_again bits used name number last h e all fits = rw (plain_member name (basket_numbers number b.baskets last) h e, numbers_again bits used number b.baskets last all fits) refl
 
   pub leaves_again : leaf_items (Some whole) ≡ leaf_pointers known label (branch_leaves b)
-  leaves_again = rw (array_again (codes "fLeaves") (leaf_pointers known label (branch_leaves b)) (record { base = refl; class = refl; version = refl }) (rw (plain_parts known label b) refl)) refl
+  leaves_again = rw (array_again (codes "fLeaves") (leaf_pointers known label (branch_leaves b)) (record { base = refl; class = refl; version = refl }) (leaves_are_pointers known label (branch_leaves b)) (rw (plain_parts known label b) refl)) refl
 
   class_again : entry_class whole ≡ Some (class_of_shape b.def.shape)
   unfolding branch_object
@@ -252,12 +259,12 @@ module _ (known : LeafLabels) (label : ℕ) (b : Branch) where
         branch_name,
         number_again 32 (codes "fWriteBasket") (length b.baskets) (record { base = refl; class = refl; version = refl }) (rw (plain_parts known label b) refl) h.count,
         number_again 64 (codes "fEntries") b.entries (record { base = refl; class = refl; version = refl }) (rw (plain_parts known label b) refl) h.entries,
-        array_again (codes "fBranches") [] (record { base = refl; class = refl; version = refl }) (rw (plain_parts known label b) refl),
-        array_again (codes "fLeaves") (leaf_pointers known label (branch_leaves b)) (record { base = refl; class = refl; version = refl }) (rw (plain_parts known label b) refl),
-        array_again (codes "fBaskets") [] (record { base = refl; class = refl; version = refl }) (rw (plain_parts known label b) refl),
-        list_again 32 (codes "fBasketBytes") (λ basket. basket.bytes) 0 (record { base = refl; class = refl; version = refl }) (rw (plain_parts known label b) refl) h.bytes refl,
-        list_again 64 (codes "fBasketEntry") (λ basket. basket.first) b.entries (record { base = refl; class = refl; version = refl }) (rw (plain_parts known label b) refl) h.firsts h.entries,
-        list_again 64 (codes "fBasketSeek") (λ basket. basket.seek) 0 (record { base = refl; class = refl; version = refl }) (rw (plain_parts known label b) refl) h.seeks refl,
+        array_again (codes "fBranches") [] (record { base = refl; class = refl; version = refl }) refl (rw (plain_parts known label b) refl),
+        array_again (codes "fLeaves") (leaf_pointers known label (branch_leaves b)) (record { base = refl; class = refl; version = refl }) (leaves_are_pointers known label (branch_leaves b)) (rw (plain_parts known label b) refl),
+        array_again (codes "fBaskets") [] (record { base = refl; class = refl; version = refl }) refl (rw (plain_parts known label b) refl),
+        list_again 32 (length b.baskets) (codes "fBasketBytes") (λ basket. basket.bytes) 0 (record { base = refl; class = refl; version = refl }) (rw (plain_parts known label b) refl) h.bytes refl,
+        list_again 64 (length b.baskets) (codes "fBasketEntry") (λ basket. basket.first) b.entries (record { base = refl; class = refl; version = refl }) (rw (plain_parts known label b) refl) h.firsts h.entries,
+        list_again 64 (length b.baskets) (codes "fBasketSeek") (λ basket. basket.seek) 0 (record { base = refl; class = refl; version = refl }) (rw (plain_parts known label b) refl) h.seeks refl,
       ) refl
 
   -- the version of its class, 0 where it isn't of objects

@@ -5,8 +5,8 @@ use Rattle.rio_leaf.specs.{Leaves.{has_leaf}, Stated.{are_stated_branches, leave
 use Rattle.rio_leaf.specs.{declared.branch.Shape.{Shape, TheVariants.{Leaves, Class}}, declared.leaf.Dim.{Dim, TheVariants.{Counted}}}
 use Rattle.rio_leaf.specs.declared.leaf.Leaf.{Leaf}
 use Rattle.rio_format.specs.{Fits.{Fits, fits_signed}, TreeClasses.{tree_classes}}
-use Rattle.rio_tree_head.specs.{declared.basket_at.BasketAt.{BasketAt}, declared.head.Branch.{Branch}, declared.head.TreeHead.{TreeHead}}
-use Rattle.rio_tree_head.specs.{Header.{branch_leaves, has_offsets, tree_head_in}, HeaderLeaves.{with_branch_number}, Refusals.{are_in_order}}
+use Rattle.rio_tree.specs.{declared.basket_at.BasketAt.{BasketAt}, declared.head.Branch.{Branch}, declared.head.TreeHead.{TreeHead}}
+use Rattle.rio_tree.specs.{Header.{branch_leaves, has_offsets, tree_head_in}, HeaderLeaves.{with_branch_number}, Refusals.{are_in_order}}
 use Rattle.rio_tree.specs.WrittenTree.{tree_value_of}
 
 -- ---- each number is one of those that its member may be

@@ -5,7 +5,7 @@ use Rattle.rio_leaf.specs.{Spelling.{text_of_dim, text_of_leaves}, declared.bran
 use Rattle.rio_leaf.specs.{declared.leaf.Dim.{Dim, TheVariants.{Fixed, Counted}}, declared.leaf.Leaf.{Leaf}}
 use Rattle.rio_value.specs.{declared.value.Part.{Part}, declared.value.Value.{Value, Int, Bool as Truth, Text, List as Items, Object, Pointed, Null, Back}}
 use Rattle.rio_format.specs.{Bodies.{part}, WrittenList.{array_object, number_part, titled_object}}
-use Rattle.rio_tree_head.specs.{declared.basket_at.BasketAt.{BasketAt}, declared.head.Branch.{Branch}, declared.head.TreeHead.{TreeHead}, Header.{branch_leaves}}
+use Rattle.rio_tree.specs.{declared.basket_at.BasketAt.{BasketAt}, declared.head.Branch.{Branch}, declared.head.TreeHead.{TreeHead}, Header.{branch_leaves}}
 
 -- ---- what the letter of a leaf says
 

@@ -2,16 +2,16 @@
 ghost use Rattle.std.specs.Prelude.{◌≡◌, ◌++◌, [], IfOk, OnOk};
 ghost use Rattle.rio_leaf.specs.Stated.{leaves_of};
 ghost use Rattle.rio_leaf.specs.declared.branch.Shape.TheVariants.{Class};
-ghost use Rattle.rio_tree_head.specs.Header.{branch_leaves};
+ghost use Rattle.rio_tree.specs.Header.{branch_leaves};
 ghost use Rattle.rio_tree.specs.WrittenTree.{backs_from, basket_arrays, branch_numbers, branch_object, branch_pointers, labels_behind, leaf_backs, leaf_pointers, plain_branch_object, shaped_object, title_of_branch, tree_value_of};
 
 use crate::written_baskets::{BasketNumber, basket_numbers};
 use crate::written_labels::{LeafLabels, label_behind};
 use crate::written_leaf::leaf_pointers;
+use crate::{Branch, TreeHead};
 use rio_format::{PartList, array_object, titled_object};
 use rio_leaf::{Leaf, Shape, print_leaves};
 use rio_num::{Boxed, Bytes, Name, NoMemory};
-use rio_tree_head::{Branch, TreeHead};
 use rio_value::{Value, Values};
 use std::alloc::Global;
 

@@ -3,8 +3,8 @@ ghost use Rattle.std.specs.Prelude.{◌≡◌, IfOk};
 ghost use Rattle.rio_tree.specs.WrittenBaskets.{number_of_basket};
 ghost use Rattle.rio_tree.specs.WrittenTree.{basket_numbers};
 
+use crate::BasketAt;
 use rio_num::NoMemory;
-use rio_tree_head::BasketAt;
 use rio_value::{Value, Values};
 use std::alloc::Global;
 

@@ -6,7 +6,7 @@ use Rattle.byteorder.specs.Endian.{big_bytes}
 use Rattle.rio_types.specs.{declared.class.ClassDef.{ClassDef}, declared.kind.Kind.TheVariants.{Plain}, declared.kind.Primitive.{Primitive}}
 use Rattle.rio_value.specs.{declared.value.Part.{Part}, declared.value.Value.{Value}}
 use Rattle.rio_format.specs.Bodies.{Body, built_in, form_of}
-use Rattle.rio_format.specs.{declared.shape.Shape.{Shape as Form, TheVariants.{Bare as bare, Headed as headed, Numbers as numbered}}, Fits.{Labels, part_fitting, parts_fit}}
+use Rattle.rio_format.specs.{declared.form.Form.{Form, TheVariants.{Bare as bare, Headed as headed, Numbers as numbered}}, Fits.{Labels, part_fitting, parts_fit}}
 use Rattle.rio_format.specs.Slots.{body_fields, declared_body, form_fields, kinded, many}
 use Rattle.rio_format.specs.Written.{Writing, number_array_bytes, body_bytes, counted, form_bytes, headed_bytes, just, writing_of, writing_step}
 use Rattle.rio_format.specs.BuiltIn.{is_small_builtin}

@@ -10,7 +10,7 @@ ghost use Rattle.rio_write.specs.Writing.{part_writing};
 use crate::numbers::{bits_16, write_bool, write_count, write_int};
 use crate::sink::Sink;
 use rio_format::{
-    Body, BodyKind, Fields, Shape, Slot, SlotKind, body_fields, declared_body, shape_of,
+    Body, BodyKind, Fields, Form, Slot, SlotKind, body_fields, declared_body, form_of,
 };
 use rio_num::{Names, NoMemory};
 use rio_types::{Classes, Prim};
@@ -400,10 +400,10 @@ fn write_parts<'a, S: Sink>(
     ensures { Accepts S.stands (form_bytes classes.now class.now version (form_of class.now) (map
         (part_writing classes.now) parts.now)) result (sink.old, names.old) (sink.new, names.new) }
 {
-    match shape_of(class) {
-        Shape::Bare => write_bare(alloc, classes, sink, names, parts),
-        Shape::Numbers(of) => write_array(alloc, classes, sink, names, of, parts),
-        Shape::Headed => write_headed(alloc, classes, sink, names, class, version, parts),
+    match form_of(class) {
+        Form::Bare => write_bare(alloc, classes, sink, names, parts),
+        Form::Numbers(of) => write_array(alloc, classes, sink, names, of, parts),
+        Form::Headed => write_headed(alloc, classes, sink, names, class, version, parts),
     }
 }
 

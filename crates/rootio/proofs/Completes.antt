@@ -3,7 +3,7 @@ use Rattle.std.proofs.Common.{◌≡◌, ℕ, List, true, Some, None, subst, ref
 use Rattle.rio_head.specs.{declared.fault.HeadFault.{HeadFault}, Head.{fault_at}}
 use Rattle.rio_host.specs.{Host.{View}, Source.{Input}}
 use Rattle.rio_dir.specs.Unborn.{header_fault, is_unborn}
-use Rattle.rio_meaning.specs.FirstFault.{first_fault}
+use Rattle.rio_report.specs.FirstFault.{first_fault}
 use Rattle.rio_state.specs.Reasons.{ReasonAt, reason_at}
 use Rattle.rootio.specs.{Causes.{IsCause}, Complete.{CanBeDone, IsComplete}, Input.{TellsTooLong}, Reading.{TellsFirstFault, reads_input, rules_of, writes_of}}
 use Rattle.rootio.specs.Writing.{TellsFirstReason, made_reason, reason_against}

@@ -4,8 +4,8 @@ use Rattle.rio_num.specs.Reading.{◌>>=◌}
 use Rattle.rio_head.specs.{declared.fault.FileFault.{FileFault}, declared.fault.HeadFault.{HeadFault}, Head.{fault_at}}
 use Rattle.rio_host.specs.{Host.{View}, Source.{Input}}
 use Rattle.rio_dir.specs.{Closed.{closed_file, fault_of}, Listing.{key_lines, listed_file}}
-use Rattle.rio_meaning.specs.{declared.item.Item.{Item}, Described.{described_file}, Dump.{dump_text, dumped_file}}
-use Rattle.rio_scan.specs.Scan.{scan_text, scanned_file}
+use Rattle.rio_report.specs.{declared.item.Item.{Item}, Described.{described_file}, Dump.{dump_text, dumped_file}}
+use Rattle.rio_report.specs.Scan.{scan_text, scanned_file}
 use Rattle.rio_close.specs.Causes.{AnyKind, IsSayCauseOf, IsTested}
 use Rattle.rio_close.specs.declared.fault.ReportFault.TheVariants.{BadFile as FileBad, NoMemory as OutOfMemory, HostFault, SayFault as NotSaid}
 use Rattle.rio_report.specs.Lists.{AnswersOf, ListingAnswer}

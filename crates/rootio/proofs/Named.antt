@@ -1,7 +1,7 @@
 -- A verb that writes has a file's name of at most 200 bytes.
 use Rattle.std.proofs.Common.{if◌then◌else◌, ◌≡◌, ◌⊎◌, inl, inr, ⊎_elim, ℕ, ◌≤◌, ◌&&◌, Bool, true, false, List, [], ◌∷◌, length, Option, Some, None, option_map, sym, refl, ap, subst, rules}
 use Rattle.std.proofs.lemmas.Bool.{and_parts}
-use Rattle.rio_meaning.specs.declared.item.Item.{Item}
+use Rattle.rio_report.specs.declared.item.Item.{Item}
 use Rattle.rio_token.specs.Words.{num_of}
 use Rattle.rio_num.specs.Word.{is_item_text}
 use Rattle.std.specs.{Prelude.{codes}, List.{list_all}, Str.{bytes_eq}}

@@ -8,7 +8,7 @@ use Rattle.rio_host.proofs.{Moments.{elapses_as, elapses_join}, ReadsLaws.{reads
 use Rattle.rio_dir.specs.Unborn.{header_fault, is_unborn}
 use Rattle.rio_chain.specs.Walks.{Told}
 use Rattle.rio_machine.specs.{State.{State}, declared.command.Command.{Command}}
-use Rattle.rio_meaning.specs.FirstFault.{HeaderAlone}
+use Rattle.rio_report.specs.FirstFault.{HeaderAlone}
 use Rattle.rio_cmd.specs.Built.{built_script}
 use Rattle.rio_step.specs.Costs.{HasFileRoom}
 use Rattle.rio_state.specs.{Reads.{ReadsAsState}, Reasons.{reason_at}}

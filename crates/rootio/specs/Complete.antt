@@ -2,7 +2,7 @@
 use Rattle.std.specs.Prelude.{◌≡◌, ◌≤◌, ℕ, List, length, true, Some, None}
 use Rattle.rio_host.specs.{Host.{Rose, View}, Source.{Input}}
 use Rattle.rio_dir.specs.Unborn.{is_unborn}
-use Rattle.rio_meaning.specs.FirstFault.{first_fault}
+use Rattle.rio_report.specs.FirstFault.{first_fault}
 use Rattle.rootio.specs.{Input.{input_limit}, Reading.{rules_of}}
 use Rattle.rootio.specs.declared.status.Status.{Status, TheVariants.{Done, Usage, BadFile, DiskFault, InputFault, NoMemory, InputTooLong, ReadOnly, SayFault}}
 use Rattle.rootio.specs.declared.words.Form.{Form, TheVariants.{Reads, Writes}}

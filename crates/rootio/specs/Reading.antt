@@ -3,8 +3,8 @@ use Rattle.std.specs.Prelude.{◌≡◌, ℕ, List, Bool, true, false, Option, S
 use Rattle.rio_head.specs.{declared.fault.FileFault.{FileFault}, declared.fault.HeadFault.{HeadFault}, Head.{IsHeaderKind, fault_at}}
 use Rattle.rio_host.specs.Host.{View}
 use Rattle.rio_dir.specs.Listing.{listed_file}
-use Rattle.rio_meaning.specs.{Dump.{dumped_file}, FirstFault.{HeaderAlone, Tests, ToClassList, ToKeyList, first_fault}}
-use Rattle.rio_scan.specs.Scan.{scanned_file}
+use Rattle.rio_report.specs.{Dump.{dumped_file}, FirstFault.{HeaderAlone, Tests, ToClassList, ToKeyList, first_fault}}
+use Rattle.rio_report.specs.Scan.{scanned_file}
 use Rattle.rio_close.specs.Causes.{AnyKind, IsTested, NoKind}
 use Rattle.rio_report.specs.Lists.{AtOnce, InPieces, ListingAnswer, Lists}
 use Rattle.rootio.specs.Status.{status_of}

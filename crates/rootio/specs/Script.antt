@@ -2,7 +2,7 @@
 use Rattle.std.specs.Prelude.{◌≡◌, ◌⊎◌, ℕ, List, ◌++◌, Some, Result, Ok, Err}
 use Rattle.rio_head.specs.{Head.{IsHeaderKind}, declared.reason.Reason.TheVariants.{NotYet}}
 use Rattle.rio_host.specs.{Host.{Any, Becomes, Elapses, Leaves, Rose, View}, Source.{Input}}
-use Rattle.rio_meaning.specs.FirstFault.{HeaderAlone}
+use Rattle.rio_report.specs.FirstFault.{HeaderAlone}
 use Rattle.rio_close.specs.Causes.{NoDiskFault, NoSayFault}
 use Rattle.rio_machine.specs.{State.{State}, declared.command.Command.{Command}}
 use Rattle.rio_step.specs.{Costs.{HasFileRoom}, Runs.{state_after}}

@@ -3,7 +3,7 @@ use Rattle.std.specs.Prelude.{ℕ, ◌+◌, List, [], ◌∷◌, length, take, d
 use Rattle.std.specs.{List.{list_all}, Str.{bytes_eq}}
 use Rattle.rio_num.specs.Word.{is_item_text}
 use Rattle.rio_token.specs.Words.{num_of}
-use Rattle.rio_meaning.specs.declared.item.Item.{Item}
+use Rattle.rio_report.specs.declared.item.Item.{Item}
 use Rattle.rootio.specs.{declared.words.Form.{Form, TheVariants.{Reads, Writes}}, declared.words.Listing.TheVariants.{Ls, Dump, Scan}}
 use Rattle.rootio.specs.declared.words.Work.TheVariants.{Run}
 

@@ -12,7 +12,7 @@ pub struct ItemWord<'a> {
 }
 
 impl<'a> Model for ItemWord<'a> {
-    ghost use Rattle.rio_meaning.specs.declared.item.Item.{Item};
+    ghost use Rattle.rio_report.specs.declared.item.Item.{Item};
 
     ghost Value = { Item };
 

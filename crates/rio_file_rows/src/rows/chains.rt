@@ -128,6 +128,21 @@ fn plans(alloc: Global) -> bool {
     }
 }
 
+fn places_one(alloc: Global) -> bool {
+    match nearly_full(alloc) {
+        Ok(chain) => {
+            chain.place_for(996, 1_999_999_996) == Some(1_999_999_000)
+                && chain.place_for(1000, 1_999_999_996) == None
+        }
+        Err(_) => false,
+    }
+}
+
+#[test]
+fn places_one_record_up_to_the_limit(rt: HostRuntime) {
+    assert!(rt; places_one(rt.alloc()));
+}
+
 #[test]
 fn plans_up_to_the_limit(rt: HostRuntime) {
     assert!(rt; plans(rt.alloc()));

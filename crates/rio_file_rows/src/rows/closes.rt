@@ -12,7 +12,7 @@ const FREE_FIELDS: &[u8] = b"\0\0\0\xfc\0\0\0\x34\0\0\0\x01";
 // From the time of the change to the place of the key list.
 const DIR_FIELDS: &[u8] = b"\0\0\0\x01\0\0\0\x2c\0\0\0\x30\0\0\0\x64\0\0\0\0\0\0\0\xd0";
 
-#[tactic(auto, unfolding(rio_close::specs::Sizes::close_size))]
+#[tactic(auto, unfolding(rio_state::specs::Sizes::close_size))]
 fn of_an_empty_file(alloc: Global) -> Result<CloseRecords, NoMemory> {
     let mut segments = Segments::new(alloc);
     segments.push(Segment::Record {

@@ -16,7 +16,7 @@ use super::plain::{
 };
 use crate::numbers::read_count;
 use rio_buffer::{Header, ObjFault, ObjReader, PointerWord};
-use rio_format::{BodyKind, Counters, Shape, body_of, shape_of};
+use rio_format::{BodyKind, Counters, Form, body_of, form_of};
 use rio_types::{Base, ClassDef, Classes, Kind, Member, Prim};
 use std::alloc::Global;
 
@@ -56,10 +56,10 @@ fn pass_formed(
         (form_of class.now))) reader.old) reader.new }
     ensures goes { GoesOn reader.old.at reader.new.at }
 {
-    match shape_of(class) {
-        Shape::Bare => pass_bare(reader),
-        Shape::Numbers(of) => pass_array(reader, class, of),
-        Shape::Headed => pass_headed(alloc, classes, reader, class, levels),
+    match form_of(class) {
+        Form::Bare => pass_bare(reader),
+        Form::Numbers(of) => pass_array(reader, class, of),
+        Form::Headed => pass_headed(alloc, classes, reader, class, levels),
     }
 }
 

@@ -1,4 +1,6 @@
 //! Baskets of a file, good and bad, and baskets that are filled.
+mod fields;
+
 use rio_basket::{Basket, BasketFault, Entries, StoredBasket, read_basket};
 use rio_num::{Bytes, NoMemory};
 use std::alloc::Global;
@@ -94,6 +96,26 @@ fn fault_of(alloc: Global, bytes: &[u8]) -> Option<BasketFault> {
 #[test]
 fn refuses_a_length_that_does_not_divide(rt: HostRuntime) {
     assert!(rt; fault_of(rt.alloc(), X_ONE_BEHIND) == Some(BasketFault::BadLast { place: 52 }));
+}
+
+// Each fault, and the text that is printed of it.
+static TEXTS: [(BasketFault, &str); 4] = [
+    (BasketFault::BadLast { place: 52 }, "BadLast 52"),
+    (BasketFault::BadOffsets { place: 0 }, "BadOffsets 0"),
+    (BasketFault::Compressed, "Compressed"),
+    (BasketFault::NoMemory, "NoMemory"),
+];
+
+fn is_printed(alloc: Global, fault: BasketFault, wanted: &str) -> bool {
+    let mut text = Bytes::new(alloc);
+    fault.put_text(&mut text).is_ok() && text.as_slice() == wanted.as_bytes()
+}
+
+#[test]
+fn prints_faults(rt: HostRuntime) {
+    for (fault, text) in &TEXTS {
+        assert!(rt; is_printed(rt.alloc(), *fault, text), "{}", text);
+    }
 }
 
 fn copied(alloc: Global, bytes: &[u8]) -> Result<Vec<u8>, NoMemory> {

@@ -1,7 +1,11 @@
 //! Rows of class lists in bytes, with the classes or the fault that they stand for.
 
+mod foreign;
+mod kinds;
+mod pieces;
 mod written;
 
+use crate::rows::hex::hex_bytes;
 use crate::rows::printed::printed_classes;
 use rio_buffer::ObjFault;
 use rio_info::read_info;
@@ -144,38 +148,6 @@ static FAULTY: &str = "40000149 0005 0001 00000000 00000000 00 00000001 40000133
      FFFFFFFF 5453747265616D65724F626A656374416E79506F696E74657200 40000048 0001 40000042 0004 \
      40000012 0001 0001 00000000 00000000 04 6E657874 00 00000045 00000000 00000000 00000000 \
      00000000 00000000 00000000 00000000 00000000 05 4E6F64652A 00";
-
-fn digit_of(c: u8) -> u8 {
-    match c {
-        b'0'..=b'9' => c - b'0',
-        b'A'..=b'F' => c - b'A' + 10,
-        _ => 0,
-    }
-}
-
-// Puts the bytes that a text gives in hexadecimal digits, with blanks between them.
-fn put_hex(bytes: &mut Bytes, text: &str) -> Result<(), NoMemory> {
-    let mut high: Option<u8> = None;
-    for c in text.as_bytes() {
-        if *c == b' ' {
-            continue;
-        }
-        match high {
-            Some(first) => {
-                bytes.push(first.wrapping_mul(16).wrapping_add(digit_of(*c)))?;
-                high = None;
-            }
-            None => high = Some(digit_of(*c)),
-        }
-    }
-    Ok(())
-}
-
-fn hex_bytes(alloc: Global, text: &str) -> Result<Bytes, NoMemory> {
-    let mut bytes = Bytes::new(alloc);
-    put_hex(&mut bytes, text)?;
-    Ok(bytes)
-}
 
 // The classes that are read of the bytes, as text.
 fn classes_in(alloc: Global, bytes: &[u8]) -> Result<Bytes, ObjFault> {

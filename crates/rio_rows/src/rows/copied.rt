@@ -1,39 +1,33 @@
 //! A copy of a value.
-use rio_num::{Boxed, Name, NoMemory};
-use rio_value::{Part, Parts, Value, Values, copy, depth, longest_list};
+use crate::rows::objects::values::{Tree, value_of};
+use rio_value::{Value, copy, depth, longest_list};
 use std::alloc::Global;
-use std::test::Fail;
 
-fn nested(alloc: Global) -> Result<Value, NoMemory> {
-    let mut parts = Parts::new(alloc);
-    parts.push(Part {
-        name: Name::from_slice(alloc, b"text")?,
-        value: Value::Text(Name::from_slice(alloc, b"hi")?),
-    })?;
-    let object = Value::Object {
-        class: Name::from_slice(alloc, b"Node")?,
-        version: 1,
-        parts,
-    };
-    let mut items = Values::new(alloc);
-    items.push(Value::Pointed {
-        label: 0,
-        object: Boxed::new(alloc, object)?,
-    })?;
-    items.push(Value::Opaque {
-        class: Name::from_slice(alloc, b"Odd")?,
-        length: 12,
-    })?;
-    Ok(Value::List(items))
+// A list of a pointer and of an object that wasn't read.
+const NESTED: Tree = Tree::List(&[
+    Tree::At(0, &Tree::Object("Node", 1, &[("text", Tree::Text("hi"))])),
+    Tree::Opaque("Odd", 12),
+]);
+
+fn is_same(copied: &Value, value: &Value) -> bool {
+    copied == value && *copied != Value::Null && depth(copied) == 1 && longest_list(copied) == 2
+}
+
+fn is_copied(alloc: Global, value: &Value) -> bool {
+    match copy(alloc, value) {
+        Ok(copied) => is_same(&copied, value),
+        Err(_) => false,
+    }
+}
+
+fn nested_is_copied(alloc: Global) -> bool {
+    match value_of(alloc, &NESTED) {
+        Ok(value) => is_copied(alloc, &value),
+        Err(_) => false,
+    }
 }
 
 #[test]
-fn copies_a_value(rt: HostRuntime) -> Result<(), Fail> {
-    let value = nested(rt.alloc()).ok().ok_or("a value")?;
-    let again = copy(rt.alloc(), &value).ok().ok_or("a copy")?;
-    assert!(rt; again == value);
-    assert!(rt; again != Value::Null);
-    assert_eq!(rt; depth(&again), 1);
-    assert_eq!(rt; longest_list(&again), 2);
-    Ok(())
+fn copies_a_value(rt: HostRuntime) {
+    assert!(rt; nested_is_copied(rt.alloc()));
 }

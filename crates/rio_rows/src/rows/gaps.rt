@@ -109,6 +109,50 @@ fn reads_entries_of_the_large_form(rt: HostRuntime) -> Result<(), Fail> {
     Ok(())
 }
 
+// The byte 268; the bytes 270 to 327, in the greatest version of the small form; and the byte between.
+const BYTE: &[u8] = b"\0\x01\0\0\x01\x0c\0\0\x01\x0c";
+
+const BETWEEN: &[u8] = b"\0\x01\0\0\x01\x0d\0\0\x01\x0d";
+
+const BEHIND: &[u8] = b"\x03\xe8\0\0\x01\x0e\0\0\x01\x47";
+
+static APART: [Gap; 2] = [
+    Gap {
+        place: 268,
+        length: 1,
+    },
+    Gap {
+        place: 270,
+        length: 58,
+    },
+];
+
+static WHOLE: [Gap; 1] = [Gap {
+    place: 268,
+    length: 60,
+}];
+
+fn are_read(alloc: Global, bytes: &[u8], gaps: &[Gap]) -> bool {
+    match read_free(alloc, bytes) {
+        Ok(list) => list.as_slice() == gaps,
+        Err(_) => false,
+    }
+}
+
+// Whether these are the gaps that the entries give.
+fn give_gaps(alloc: Global, parts: &[&[u8]], gaps: &[Gap]) -> bool {
+    match joined(alloc, parts) {
+        Ok(bytes) => are_read(alloc, bytes.as_slice(), gaps),
+        Err(_) => false,
+    }
+}
+
+#[test]
+fn reads_entries_of_one_byte(rt: HostRuntime) {
+    assert!(rt; give_gaps(rt.alloc(), &[BYTE, BEHIND, END], &APART));
+    assert!(rt; give_gaps(rt.alloc(), &[BYTE, BETWEEN, BEHIND, END], &WHOLE));
+}
+
 fn fault_in(alloc: Global, parts: &[&[u8]]) -> Result<Option<FreeFault>, NoMemory> {
     Ok(read_free(alloc, joined(alloc, parts)?.as_slice()).err())
 }

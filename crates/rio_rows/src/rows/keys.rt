@@ -1,9 +1,12 @@
 //! Keys and lists of heads, and the heads of baskets.
+
+mod read;
+
 use rio_key::{
-    BasketFront, BasketHead, Heads, KeyFault, KeyHead, read_basket_front, read_basket_head,
-    read_heads, read_key, write_basket_head, write_key,
+    BasketFront, BasketHead, KeyFault, KeyHead, read_basket_front, read_basket_head, read_heads,
+    read_key, write_basket_head, write_key,
 };
-use rio_num::{Bytes, Name};
+use rio_num::{Bytes, Name, NoMemory};
 use std::alloc::Global;
 use std::test::Fail;
 
@@ -19,40 +22,108 @@ const BASKET: &[u8] =
     b"\0\0\0\x47\0\x04\0\0\0\x0c\0\0\0\x01\0\x3b\0\x01\0\0\0\xfc\0\0\0\x64\x05TFile\x06a.root\0\
     \0\x03\0\0\x7d\0\0\0\0\x04\0\0\0\x03\0\0\0\x47\0";
 
-#[test]
-fn reads_the_key_of_a_record(rt: HostRuntime) -> Result<(), Fail> {
-    let key = read_key(rt.alloc(), FREE, 252, 252)?;
-    assert_eq!(rt; key.nbytes, 52);
-    assert_eq!(rt; key.objlen, 12);
-    assert_eq!(rt; key.keylen, 40);
-    assert_eq!(rt; key.seek, 252);
-    assert_eq!(rt; key.pdir, 100);
-    assert_eq!(rt; key.class.as_slice(), b"TFile".as_slice());
-    assert_eq!(rt; key.name.as_slice(), b"a.root".as_slice());
-    assert!(rt; key.title.is_empty());
-    assert!(rt; !key.is_compressed());
-    assert_eq!(rt; key.copy()?, key);
-    Ok(())
+// The key of a record of the file, at 252.
+fn key_of(alloc: Global, nbytes: i32, keylen: u16) -> Result<KeyHead, NoMemory> {
+    let class = Name::from_slice(alloc, b"TFile")?;
+    let name = Name::from_slice(alloc, b"a.root")?;
+    Ok(KeyHead {
+        nbytes,
+        version: 4,
+        objlen: 12,
+        datime: 1,
+        keylen,
+        cycle: 1,
+        seek: 252,
+        pdir: 100,
+        class,
+        name,
+        title: Name::new(alloc),
+    })
 }
 
-fn heads_of(alloc: Global, parts: &[&[u8]]) -> Result<Heads, Fail> {
-    let mut bytes = Vec::new(alloc);
-    for part in parts {
-        bytes.extend_from_slice(part)?;
-    }
+fn is_read_as(alloc: Global, bytes: &[u8], key: &KeyHead) -> bool {
     if bytes.len() > 1000 {
-        return Ok(Heads::new(alloc));
+        return false;
     }
-    Ok(read_heads(alloc, &bytes, 0)?)
+    match read_key(alloc, bytes, 252, 252) {
+        Ok(read) => read == *key && !read.is_compressed(),
+        Err(_) => false,
+    }
+}
+
+// Whether another key than this one is read.
+fn is_another(alloc: Global, bytes: &[u8], key: &KeyHead) -> bool {
+    if bytes.len() > 1000 {
+        return false;
+    }
+    match read_key(alloc, bytes, 100, 100) {
+        Ok(read) => read != *key,
+        Err(_) => false,
+    }
+}
+
+fn is_written_as(alloc: Global, key: &KeyHead, bytes: &[u8]) -> bool {
+    let mut written = Bytes::new(alloc);
+    write_key(key, &mut written).is_ok() && written.as_slice() == bytes
+}
+
+fn is_copied(key: &KeyHead) -> bool {
+    match key.copy() {
+        Ok(copy) => copy == *key,
+        Err(_) => false,
+    }
+}
+
+// Whether the key of the free record is read, written and copied, and the first record has another.
+fn are_read_and_written(alloc: Global) -> bool {
+    match key_of(alloc, 52, 40) {
+        Ok(key) => {
+            is_read_as(alloc, FREE, &key)
+                && is_written_as(alloc, &key, FREE)
+                && is_copied(&key)
+                && is_another(alloc, FIRST, &key)
+        }
+        Err(_) => false,
+    }
 }
 
 #[test]
-fn reads_a_list_of_heads(rt: HostRuntime) -> Result<(), Fail> {
-    let heads = heads_of(rt.alloc(), &[b"\0\0\0\x02", FIRST, FREE, b"more"])?;
-    assert_eq!(rt; heads.len(), 2);
-    let seeks = [heads.as_slice()[0].seek, heads.as_slice()[1].seek];
-    assert_eq!(rt; seeks, [100, 252]);
-    Ok(())
+fn reads_and_writes_keys(rt: HostRuntime) {
+    assert!(rt; are_read_and_written(rt.alloc()));
+}
+
+fn joined(alloc: Global, parts: &[&[u8]]) -> Result<Bytes, NoMemory> {
+    let mut bytes = Bytes::new(alloc);
+    for part in parts {
+        bytes.put(part)?;
+    }
+    Ok(bytes)
+}
+
+fn are_heads(alloc: Global, bytes: &[u8], places: [u64; 2]) -> bool {
+    if bytes.len() > 1000 {
+        return false;
+    }
+    match read_heads(alloc, bytes, 0) {
+        Ok(heads) => match heads.as_slice() {
+            [first, second] => first.seek == places[0] && second.seek == places[1],
+            _ => false,
+        },
+        Err(_) => false,
+    }
+}
+
+// Two heads, and bytes behind them.
+fn are_listed(alloc: Global) -> bool {
+    match joined(alloc, &[b"\0\0\0\x02", FIRST, FREE, b"more"]) {
+        Ok(bytes) => are_heads(alloc, bytes.as_slice(), [100, 252]),
+        Err(_) => false,
+    }
+}
+
+#[test]
+fn reads_a_list_of_heads(rt: HostRuntime) {
+    assert!(rt; are_listed(rt.alloc()));
 }
 
 #[test]
@@ -66,65 +137,42 @@ fn tells_where_a_key_lacks_bytes(rt: HostRuntime) -> Result<(), Fail> {
     Ok(())
 }
 
-#[test]
-fn writes_a_key_and_reads_it(rt: HostRuntime) -> Result<(), Fail> {
-    let head = KeyHead {
-        nbytes: 52,
-        version: 4,
-        objlen: 12,
-        datime: 1,
-        keylen: 40,
-        cycle: 1,
-        seek: 252,
-        pdir: 100,
-        class: Name::from_slice(rt.alloc(), b"TFile")?,
-        name: Name::from_slice(rt.alloc(), b"a.root")?,
-        title: Name::new(rt.alloc()),
-    };
-    let mut bytes = Bytes::new(rt.alloc());
-    write_key(&head, &mut bytes)?;
-    assert!(rt; bytes.as_slice() == FREE);
-    assert_eq!(rt; read_key(rt.alloc(), FREE, 252, 252)?, head);
-    assert!(rt; read_key(rt.alloc(), FIRST, 100, 100)? != head);
-    Ok(())
+const BASKET_HEAD: BasketHead = BasketHead {
+    version: 3,
+    buffer_size: 32000,
+    nev_size: 4,
+    nev: 3,
+    last: 71,
+    flag: 0,
+};
+
+fn is_front(alloc: Global, front: &BasketFront) -> bool {
+    match read_basket_front(alloc, BASKET, 252) {
+        Ok(read) => read == *front,
+        Err(_) => false,
+    }
+}
+
+fn is_front_read(alloc: Global) -> bool {
+    match key_of(alloc, 71, 59) {
+        Ok(key) => {
+            let head = BASKET_HEAD;
+            let place = 292;
+            is_front(alloc, &BasketFront { key, head, place })
+        }
+        Err(_) => false,
+    }
 }
 
 #[test]
-fn reads_the_head_of_a_basket_behind_its_key(rt: HostRuntime) -> Result<(), Fail> {
-    let key = KeyHead {
-        nbytes: 71,
-        version: 4,
-        objlen: 12,
-        datime: 1,
-        keylen: 59,
-        cycle: 1,
-        seek: 252,
-        pdir: 100,
-        class: Name::from_slice(rt.alloc(), b"TFile")?,
-        name: Name::from_slice(rt.alloc(), b"a.root")?,
-        title: Name::new(rt.alloc()),
-    };
-    let head = BasketHead {
-        version: 3,
-        buffer_size: 32000,
-        nev_size: 4,
-        nev: 3,
-        last: 71,
-        flag: 0,
-    };
-    let place = 292;
-    assert_eq!(rt;
-        read_basket_front(rt.alloc(), BASKET, 252)?,
-        BasketFront { key, head, place }
-    );
-    Ok(())
+fn reads_the_head_of_a_basket_behind_its_key(rt: HostRuntime) {
+    assert!(rt; is_front_read(rt.alloc()));
 }
 
 // The head of a basket of three entries of 4 bytes each, behind a key of 57 bytes.
 const HEAD: &[u8] = b"\0\x03\0\0\x7d\0\0\0\0\x04\0\0\0\x03\0\0\0\x45\0";
 
-#[test]
-fn reads_and_writes_the_head_of_a_basket(rt: HostRuntime) -> Result<(), Fail> {
+fn is_head_read_and_written(alloc: Global) -> bool {
     let head = BasketHead {
         version: 3,
         buffer_size: 32000,
@@ -133,9 +181,13 @@ fn reads_and_writes_the_head_of_a_basket(rt: HostRuntime) -> Result<(), Fail> {
         last: 69,
         flag: 0,
     };
-    assert_eq!(rt; read_basket_head(HEAD, 38)?, head);
-    let mut bytes = Bytes::new(rt.alloc());
-    write_basket_head(&head, &mut bytes)?;
-    assert!(rt; bytes.as_slice() == HEAD);
-    Ok(())
+    let mut bytes = Bytes::new(alloc);
+    read_basket_head(HEAD, 38) == Ok(head)
+        && write_basket_head(&head, &mut bytes).is_ok()
+        && bytes.as_slice() == HEAD
+}
+
+#[test]
+fn reads_and_writes_the_head_of_a_basket(rt: HostRuntime) {
+    assert!(rt; is_head_read_and_written(rt.alloc()));
 }

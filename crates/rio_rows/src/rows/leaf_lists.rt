@@ -6,7 +6,7 @@ use rio_num::{Bytes, Name};
 use std::alloc::Global;
 
 // The place of the first token that can't stand.
-static BAD: [(&str, u32); 21] = [
+static BAD: [(&str, u32); 22] = [
     ("", 0),
     ("x", 1),
     ("x/", 2),
@@ -24,6 +24,7 @@ static BAD: [(&str, u32); 21] = [
     ("x[2]/C", 5),
     ("x[n/F", 3),
     ("n/F:x[n]/F", 6),
+    ("n/i:x[n]/F", 6),
     ("n[2]/I:x[n]/F", 9),
     ("x[x]/F", 2),
     ("x[n]/F:n/I", 7),

@@ -1,30 +1,10 @@
 //! Objects that are made of their parts.
+use crate::rows::classes::{is_text, name_of};
 use rio_format::{PartList, array_object, list_object, part_with, titled_object};
-use rio_num::{Name, NoMemory};
-use rio_value::{Value, Values};
+use rio_num::{Bytes, NoMemory};
+use rio_valtext::print_value;
+use rio_value::{Part, Value, Values};
 use std::alloc::Global;
-use std::test::Fail;
-
-fn number_in(value: &Value, name: &[u8]) -> i128 {
-    match value.member(name) {
-        Some(number) => number.number(),
-        None => -1,
-    }
-}
-
-fn text_in<'a>(value: &'a Value, name: &[u8]) -> &'a [u8] {
-    match value.member(name) {
-        Some(text) => text.as_text().unwrap_or(b"no text"),
-        None => b"no member",
-    }
-}
-
-fn items_in(value: &Value) -> usize {
-    match value.member(b"items") {
-        Some(items) => items.as_list().map_or(0, |list| list.len()),
-        None => 0,
-    }
-}
 
 fn event(alloc: Global) -> Result<Value, NoMemory> {
     PartList::new(alloc)
@@ -35,6 +15,10 @@ fn event(alloc: Global) -> Result<Value, NoMemory> {
         .object(b"Event", 7)
 }
 
+fn titled(alloc: Global) -> Result<Value, NoMemory> {
+    titled_object(alloc, b"px", name_of(alloc, "momentum")?)
+}
+
 fn two_pointers(alloc: Global) -> Result<Values, NoMemory> {
     let mut items = Values::new(alloc);
     items.push(Value::Null)?;
@@ -42,66 +26,131 @@ fn two_pointers(alloc: Global) -> Result<Values, NoMemory> {
     Ok(items)
 }
 
-#[test]
-fn parts_stand_in_order(rt: HostRuntime) -> Result<(), Fail> {
-    let value = event(rt.alloc()).ok().ok_or("an event")?;
-    assert_eq!(rt; value.class(), b"Event".as_slice());
-    assert_eq!(rt; value.version(), 7);
-    assert_eq!(rt; value.parts().len(), 4);
-    assert_eq!(rt;
-        value.part(b"good").and_then(|part| part.as_bool()),
-        Some(true)
-    );
-    assert_eq!(rt; number_in(&value, b"run"), 18446744073709551615);
-    assert_eq!(rt; number_in(&value, b"charge"), -2147483648);
-    assert_eq!(rt; text_in(&value, b"run type"), b"cosmic".as_slice());
-    Ok(())
+fn array(alloc: Global) -> Result<Value, NoMemory> {
+    array_object(alloc, two_pointers(alloc)?)
+}
+
+fn list(alloc: Global) -> Result<Value, NoMemory> {
+    list_object(alloc, two_pointers(alloc)?)
+}
+
+fn text_of(alloc: Global, value: &Value) -> Result<Bytes, NoMemory> {
+    let mut text = Bytes::new(alloc);
+    print_value(value, &mut text)?;
+    Ok(text)
+}
+
+fn is_made(alloc: Global, made: Result<Value, NoMemory>, text: &str) -> bool {
+    match made {
+        Ok(value) => is_text(text_of(alloc, &value), text),
+        Err(_) => false,
+    }
 }
 
 #[test]
-fn a_part_has_its_name(rt: HostRuntime) -> Result<(), Fail> {
-    let part = part_with(rt.alloc(), b"px", Value::Int(5))
-        .ok()
-        .ok_or("a part")?;
-    assert_eq!(rt; part.name.as_slice(), b"px".as_slice());
-    assert_eq!(rt; part.value.number(), 5);
-    Ok(())
+fn parts_stand_in_order(rt: HostRuntime) {
+    let text = "Event#7{good: true, run: 18446744073709551615, charge: -2147483648, \
+                \"run type\": \"cosmic\"}";
+    assert!(rt; is_made(rt.alloc(), event(rt.alloc()), text));
 }
 
 #[test]
-fn a_titled_object_has_a_name_and_a_title(rt: HostRuntime) -> Result<(), Fail> {
-    let title = Name::from_slice(rt.alloc(), b"momentum")
-        .ok()
-        .ok_or("a title")?;
-    let value = titled_object(rt.alloc(), b"px", title)
-        .ok()
-        .ok_or("an object")?;
-    assert_eq!(rt; value.class(), b"TNamed".as_slice());
-    assert_eq!(rt; value.version(), 1);
-    assert_eq!(rt; value.parts().len(), 3);
-    assert_eq!(rt; text_in(&value, b"fName"), b"px".as_slice());
-    assert_eq!(rt; text_in(&value, b"fTitle"), b"momentum".as_slice());
-    assert_eq!(rt; number_in(&value, b"fUniqueID"), 0);
-    assert_eq!(rt; number_in(&value, b"fBits"), 0);
-    Ok(())
+fn a_titled_object_has_a_name_and_a_title(rt: HostRuntime) {
+    let text = "TNamed#1{TObject#1{fUniqueID: 0, fBits: 0}, fName: \"px\", fTitle: \"momentum\"}";
+    assert!(rt; is_made(rt.alloc(), titled(rt.alloc()), text));
 }
 
 #[test]
-fn lists_have_their_items(rt: HostRuntime) -> Result<(), Fail> {
-    let items = two_pointers(rt.alloc()).ok().ok_or("items")?;
-    let array = array_object(rt.alloc(), items).ok().ok_or("an array")?;
-    assert_eq!(rt; array.class(), b"TObjArray".as_slice());
-    assert_eq!(rt; array.version(), 3);
-    assert_eq!(rt; array.parts().len(), 4);
-    assert_eq!(rt; text_in(&array, b"fName"), b"".as_slice());
-    assert_eq!(rt; number_in(&array, b"fLowerBound"), 0);
-    assert_eq!(rt; items_in(&array), 2);
-    let items = two_pointers(rt.alloc()).ok().ok_or("items")?;
-    let list = list_object(rt.alloc(), items).ok().ok_or("a list")?;
-    assert_eq!(rt; list.class(), b"TList".as_slice());
-    assert_eq!(rt; list.version(), 5);
-    assert_eq!(rt; list.parts().len(), 3);
-    assert_eq!(rt; text_in(&list, b"fName"), b"".as_slice());
-    assert_eq!(rt; items_in(&list), 2);
-    Ok(())
+fn lists_have_their_items(rt: HostRuntime) {
+    let text = "TObjArray#3{TObject#1{fUniqueID: 0, fBits: 0}, fName: \"\", fLowerBound: 0, \
+                items: [null, @0]}";
+    assert!(rt; is_made(rt.alloc(), array(rt.alloc()), text));
+    let text = "TList#5{TObject#1{fUniqueID: 0, fBits: 0}, fName: \"\", items: [null, @0]}";
+    assert!(rt; is_made(rt.alloc(), list(rt.alloc()), text));
+}
+
+fn is_px(part: &Part) -> bool {
+    part.name.as_slice() == b"px".as_slice() && part.value.number() == 5
+}
+
+fn px_is_made(alloc: Global) -> bool {
+    match part_with(alloc, b"px", Value::Int(5)) {
+        Ok(part) => is_px(&part),
+        Err(_) => false,
+    }
+}
+
+#[test]
+fn a_part_has_its_name(rt: HostRuntime) {
+    assert!(rt; px_is_made(rt.alloc()));
+}
+
+// ---- parts by their names
+
+fn number_in(value: &Value, name: &[u8]) -> Option<i128> {
+    value.member(name).map(|number| number.number())
+}
+
+fn text_in<'a>(value: &'a Value, name: &[u8]) -> Option<&'a [u8]> {
+    match value.member(name) {
+        Some(text) => text.as_text(),
+        None => None,
+    }
+}
+
+fn truth_in(value: &Value, name: &[u8]) -> Option<bool> {
+    match value.part(name) {
+        Some(part) => part.as_bool(),
+        None => None,
+    }
+}
+
+fn length_of(value: &Value, name: &[u8]) -> Option<usize> {
+    match value.member(name) {
+        Some(items) => items.as_list().map(|list| list.len()),
+        None => None,
+    }
+}
+
+fn is_event(value: &Value) -> bool {
+    value.class() == b"Event".as_slice()
+        && value.version() == 7
+        && value.parts().len() == 4
+        && truth_in(value, b"good") == Some(true)
+        && number_in(value, b"run") == Some(18446744073709551615)
+        && text_in(value, b"run type") == Some(b"cosmic".as_slice())
+        && number_in(value, b"run time").is_none()
+}
+
+fn has_titles(value: &Value) -> bool {
+    text_in(value, b"fName") == Some(b"px".as_slice()) && number_in(value, b"fBits") == Some(0)
+}
+
+fn event_has_its_parts(alloc: Global) -> bool {
+    match event(alloc) {
+        Ok(value) => is_event(&value),
+        Err(_) => false,
+    }
+}
+
+// A member is looked up in bases too.
+fn titled_has_its_parts(alloc: Global) -> bool {
+    match titled(alloc) {
+        Ok(value) => has_titles(&value),
+        Err(_) => false,
+    }
+}
+
+fn array_has_its_items(alloc: Global) -> bool {
+    match array(alloc) {
+        Ok(value) => length_of(&value, b"items") == Some(2),
+        Err(_) => false,
+    }
+}
+
+#[test]
+fn parts_are_found_by_their_names(rt: HostRuntime) {
+    assert!(rt; event_has_its_parts(rt.alloc()));
+    assert!(rt; titled_has_its_parts(rt.alloc()));
+    assert!(rt; array_has_its_items(rt.alloc()));
 }

@@ -1,14 +1,14 @@
 //! Baskets of entries, and scans of a small tree.
 ghost use Rattle.std.specs.Prelude.{◌≡◌, IfOk};
 ghost use Rattle.rio_index.specs.Scan.{CanHold, CanScan};
-ghost use Rattle.rio_tree_head.specs.Index.{IsIndex};
+ghost use Rattle.rio_tree.specs.Index.{IsIndex};
 
 use rio_basket::StoredBasket;
 use rio_entry::EntryFault;
 use rio_index::{Scanner, basket_from, basket_of, entry_count};
 use rio_leaf::{BranchDef, LeafFault, Leaves, Shape, read_leaves};
 use rio_num::{Name, NoMemory};
-use rio_tree_head::{BasketAt, Baskets, Branch, BranchNumbers, BranchRefusal, Branches, TreeHead};
+use rio_tree::{BasketAt, Baskets, Branch, BranchNumbers, BranchRefusal, Branches, TreeHead};
 use rio_types::Classes;
 use rio_value::{Value, Values};
 use std::alloc::Global;
@@ -131,6 +131,34 @@ fn last_is_alone(alloc: Global) -> bool {
 #[test]
 fn last_entry_in_a_basket_of_its_own(rt: HostRuntime) {
     assert!(rt; last_is_alone(rt.alloc()));
+}
+
+// All entries are in the first basket, and the last one has none.
+fn basket_without_entries(alloc: Global) -> Result<Baskets, NoMemory>
+    ensures { IfOk result (λ baskets. IsIndex baskets 9) }
+{
+    Baskets::from_slice(alloc, &[at(0), at(9)])
+}
+
+fn is_last_empty(branch: &Branch) -> bool
+    requires { IsIndex branch.now.baskets branch.now.entries }
+{
+    is_in(branch, 8, Some(0))
+        && is_in(branch, 9, None)
+        && entry_count(branch, 0) == Some(9)
+        && entry_count(branch, 1) == Some(0)
+}
+
+fn last_is_empty(alloc: Global) -> bool {
+    match basket_without_entries(alloc) {
+        Ok(baskets) => is_last_empty(&branch(alloc, Leaves::new(alloc), 9, baskets)),
+        Err(_) => false,
+    }
+}
+
+#[test]
+fn last_basket_without_entries(rt: HostRuntime) {
+    assert!(rt; last_is_empty(rt.alloc()));
 }
 
 // ---- scans

@@ -218,7 +218,7 @@ static ROWS: [Row; 32] = [
     Row {
         name: "no key list",
         file: File::One,
-        length: WHOLE,
+        length: 404,
         words: &[(174, 0x00000000)],
         status: Status::Done,
         said: "",

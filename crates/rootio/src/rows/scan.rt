@@ -7,8 +7,8 @@ use super::entries::{
 };
 use super::far::FarHost;
 use super::forest::{Forest, Form};
-use super::header::{BARE_TREE, EMPTY_TREE, ENDLESS_TREE, Tree};
-use super::parts::{FILE, SIX, TREE};
+use super::header::{BARE_TREE, Basket, Branch, EMPTY_TREE, ENDLESS_TREE, Leaf, Tree};
+use super::parts::{FILE, FIVE, GOOD, INTEGER, SIX, TREE};
 use super::refused::{REFUSED_BY_FILE, REFUSED_BY_HEADER, REFUSED_COUNTERS, REFUSED_IN_ORDER};
 use super::runs::{changed, cut_otherwise, host_of, ran, says};
 use crate::status::Status;
@@ -79,6 +79,54 @@ fn entries_of_another_maker(rt: HostRuntime) {
 #[test]
 fn entries_counted_by_two(rt: HostRuntime) {
     assert_eq!(rt; said_otherwise(rt.alloc(), &ENTRIES_COUNTED_BY_TWO), None);
+}
+
+// A tree with one entry of 70,000 bytes: 17,500 integers of four bytes, all of them 0x07070707.
+static LONG_ENTRY: Forest = Forest {
+    trees: &[Tree {
+        branches: &[Branch {
+            leaves: &[Leaf {
+                length: 17_500,
+                ..INTEGER
+            }],
+            baskets: &[Basket {
+                size: 70_000,
+                data: &[7; 70_000],
+                used: 70_000,
+                ..FIVE
+            }],
+            ..GOOD
+        }],
+        ..TREE
+    }],
+    ..FILE
+};
+
+// What is said of it.
+fn long_text(alloc: Global) -> Result<Bytes, NoMemory> {
+    let mut text = Bytes::new(alloc);
+    text.put(b"ok scan T 1\n0 [[117901063")?;
+    for _k in 1..17_500 {
+        text.put(b", 117901063")?;
+    }
+    text.put(b"]]\n")?;
+    Ok(text)
+}
+
+fn is_long_said(alloc: Global) -> Result<bool, NoMemory> {
+    let text = long_text(alloc)?;
+    let image = LONG_ENTRY.image(alloc)?;
+    Ok(says(
+        alloc,
+        &["scan", "a.root", "T"],
+        image,
+        (Status::Done, text.as_slice()),
+    ))
+}
+
+#[test]
+fn a_long_entry(rt: HostRuntime) {
+    assert_eq!(rt; is_long_said(rt.alloc()), Ok(true));
 }
 
 // A file with some words written over, and what `scan` and `dump` say of an item of it.

@@ -1,5 +1,5 @@
 use Rattle.std.proofs.{Common.{◌∙◌, sym, refl, subst}, lemmas.Bool.{false≢true}}
-use Rattle.rio_chain.specs.Found.{FindsWord}
+use Rattle.rio_host.specs.Reading.{FindsWord}
 use Rattle.rio_chain.proofs.Links.{link_found, not_alone}
 use Rattle.rio_chain.proofs.found.link_at.Goals as goal
 

@@ -1,5 +1,6 @@
 use Rattle.std.proofs.{Common.{◌≡◌, ◌≢◌, ◌⊎◌, ◌+◌, ◌≤◌, ◌∙◌, ℕ, Option, Some, inl, inr, sym, ap, subst}, lemmas.Result.{err_from_is_err_and}}
-use Rattle.rio_chain.specs.{Adjoining.{segment_length}, Walks.{Told}, Found.{FindsWord}}
+use Rattle.rio_host.specs.Reading.{FindsWord, Told}
+use Rattle.rio_chain.specs.Adjoining.{segment_length}
 use Rattle.rio_host.proofs.ReadsLaws.{reads_join}
 use Rattle.rio_chain.proofs.SoFar.{breaks_short, tells_break, walked, shape_whole, shape_more, up_to_more, Going, Shape, UpTo}
 use Rattle.rio_chain.proofs.walking.walk.Goals.{else-found-eq0-via-then-found-eq0+else-place-gt100, else-found-eq0-via-else-found-eq0}

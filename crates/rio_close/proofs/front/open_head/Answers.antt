@@ -1,4 +1,4 @@
-use Rattle.std.proofs.{Common.{◌≡◌, length, arith}, lemmas.Result.{err_from_is_err_and}}
+use Rattle.std.proofs.{Common.{◌≡◌, refl, length, arith}, lemmas.Result.{err_from_is_err_and}}
 use Rattle.rio_close.proofs.{Answering.{header_tested}, Fronts.{head_fails, head_late, head_whole}}
 use Rattle.rio_close.proofs.front.open_head.Goals as goal
 
@@ -20,4 +20,4 @@ returns-clause-exact g c file told =
 pub returns-in_err-head-clause-cause : goal.returns-in_err-head-clause-cause
 returns-in_err-head-clause-cause g c =
     let p = err_from_is_err_and c.from_residual-in_err-head.result c.from_residual-in_err-head.ensures.1 in
-    rw (p.1, p.2) (header_tested c.in_err-head.field-0.0.kind c.in_err-head.ensures.kinds, c.in_ok-n.ensures.cause)
+    rw (p.1, p.2) (header_tested c.in_err-head.field-0.0.kind c.in_err-head.ensures.kinds, c.in_ok-n.ensures.cause.counted refl)

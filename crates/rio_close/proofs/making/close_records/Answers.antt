@@ -3,7 +3,8 @@ use Rattle.rio_dir.specs.Table.{heads_size}
 use Rattle.rio_chain.specs.{Chains.{ChainState}, Placing.{file_end, gaps_in, record_count}, declared.segment.Segment.{Segment}}
 use Rattle.rio_machine.specs.Limits.{head_length}
 use Rattle.rio_state.specs.Closing.{padded_length}
-use Rattle.rio_close.specs.{Sizes.{close_size}, Written.{record_size}}
+use Rattle.rio_state.specs.Sizes.{close_size}
+use Rattle.rio_close.specs.Written.{record_size}
 use Rattle.rio_close.proofs.Fitting.{free_fits, list_fits}
 use Rattle.rio_close.proofs.making.close_records.Goals as goal
 

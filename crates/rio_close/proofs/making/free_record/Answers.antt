@@ -38,7 +38,7 @@ own_record-requires c =
     let long : head_length (codes "TFile") c.args.name.now + length c.as_slice-2.result.now ≡ head_length (codes "TFile") c.args.name.now + 10 * (length (gaps_in segments) + 1) =
     omega (arith, ap length contents, length-free (gaps_in c.note_put.new.self.segments) (file_end c.note_put.new.self.segments), ap length same) in
     words_fit c.end-place.result c.args.datime c.args.name.now (length c.as_slice-2.result.now) c.end-place.ensures.low (omega (arith, c.ranges.datime.fits))
-    (omega (arith, key_is, c.own_key_length.ensures.short)) (omega (arith, c.requires.low, ap padded_length long))
+    (omega (arith, key_is, c.own_key_length.ensures.short, c.requires.name)) (omega (arith, c.requires.low, ap padded_length long))
 
 pub returns-clause-count : goal.returns-clause-count
 returns-clause-count c =

@@ -18,7 +18,7 @@ own_record-requires c =
     c.as_slice.ensures ∙ ap (λ (r : Room). r.bytes) c.in_ok-write_key_list.ensures.ok ∙ ap (λ (r : Room). r.bytes ++ key_list_bytes heads) c.new-contents.ensures in
     let long : head_length (codes "TFile") c.args.name.now + length c.as_slice.result.now ≡ head_length (codes "TFile") c.args.name.now + 4 + heads_size heads = omega (arith, ap length contents, list_length_is heads) in
     words_fit c.place_for-place.result c.args.datime c.args.name.now (length c.as_slice.result.now) (omega (arith, c.place_for-place.ensures.low, c.place_for-place.ensures.end_low)) (omega (arith, c.ranges.datime.fits))
-    (omega (arith, c.own_key_length.ensures.exact, c.own_key_length.ensures.short)) (omega (arith, c.requires.low, ap padded_length long))
+    (omega (arith, c.own_key_length.ensures.exact, c.own_key_length.ensures.short, c.requires.name)) (omega (arith, c.requires.low, ap padded_length long))
 
 pub note_put-requires-clause-low : goal.note_put-requires-clause-low
 note_put-requires-clause-low c =

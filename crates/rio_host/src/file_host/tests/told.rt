@@ -13,6 +13,8 @@ pub enum There {
     Nothing,
     File,
     Pipe,
+    /// A file whose syncs fail.
+    NoDisk,
 }
 
 /// What a system is asked for.
@@ -35,7 +37,8 @@ pub enum What {
     Other,
 }
 
-/// A call: what is asked for, a place or how many bytes, and a path or the bytes themselves.
+/// A call: what is asked for, a place or how many bytes, and a path or the bytes themselves. Of a
+/// read they are those that the system gives.
 pub type Call = (What, u64, &'static [u8]);
 
 // The calls that will come, in order, and how many of them came.
@@ -61,6 +64,14 @@ impl<'a> Told<'a> {
             usize::MAX
         });
     }
+
+    // The bytes that the next call gives.
+    fn given(&self) -> &'static [u8] {
+        match self.calls.get(self.came.get()) {
+            Some((_, _, given)) => *given,
+            None => b"",
+        }
+    }
 }
 
 /// A system with one file, of which each folder is there.
@@ -68,7 +79,6 @@ impl<'a> Told<'a> {
 pub struct ToldSystem<'a> {
     told: Told<'a>,
     there: There,
-    fails_syncs: bool,
 }
 
 #[derive(Clone, Copy)]
@@ -95,24 +105,15 @@ impl<'a> ToldSystem<'a> {
         ToldSystem {
             told: Told { calls, came },
             there,
-            fails_syncs: false,
-        }
-    }
-
-    /// A system with a file whose syncs fail.
-    pub fn with_failing_syncs(calls: &'static [Call], came: &'a Cell<usize>) -> ToldSystem<'a> {
-        ToldSystem {
-            told: Told { calls, came },
-            there: There::File,
-            fails_syncs: true,
         }
     }
 }
 
 impl<'a> Read for ToldFile<'a> {
     fn read(&mut self, into: &mut [u8]) -> io::Result<usize> {
-        self.told.comes(What::Read, into.len() as u64, b"");
-        Ok(into.len())
+        let mut given = self.told.given();
+        self.told.comes(What::Read, into.len() as u64, given);
+        given.read(into)
     }
 }
 
@@ -208,7 +209,7 @@ impl<'a> Files for ToldSystem<'a> {
         Ok(ToldFile {
             told: self.told,
             is_folder,
-            fails_syncs: self.fails_syncs,
+            fails_syncs: matches!(self.there, There::NoDisk),
         })
     }
 
@@ -222,7 +223,7 @@ impl<'a> Files for ToldSystem<'a> {
         self.told.comes(What::Look, 0, path.as_bytes());
         match self.there {
             There::Nothing => Err(io::Error::from(ErrorKind::NotFound)),
-            There::File => Ok(Metadata::of_file(8)),
+            There::File | There::NoDisk => Ok(Metadata::of_file(8)),
             There::Pipe => Ok(Metadata::of_symlink(0)),
         }
     }

@@ -1,7 +1,7 @@
 use Rattle.std.proofs.Common.{◌≡◌, ◌∙◌, ℕ, ◌+◌, ◌-◌, ◌<◌, ◌≤◌, List, length, Option, Some, slice_get, slice_index_or, sym, ap, arith}
 use Rattle.std.proofs.{lemmas.Bool.{ltb-false, ltb-true}, lemmas.Option.{slice_get-get_or, slice_get_past}}
 use Rattle.std.specs.Option.{option_map}
-use Rattle.rio_tree_head.specs.declared.basket_at.BasketAt.{BasketAt}
+use Rattle.rio_tree.specs.declared.basket_at.BasketAt.{BasketAt}
 use Rattle.rio_index.specs.Scan.{first_behind}
 use Rattle.rio_index.proofs.GivenLaws.{count_is}
 use Rattle.rio_index.proofs.search.entry_count.Goals as goal

@@ -1,5 +1,5 @@
 use Rattle.std.proofs.Common.{◌≡◌, ◌∙◌, length, List, slice_index_or, ap, arith}
-use Rattle.rio_tree_head.specs.declared.head.Branch.{Branch}
+use Rattle.rio_tree.specs.declared.head.Branch.{Branch}
 use Rattle.rio_index.proofs.ScanLaws.{index_at, same_length, wanted_behind, wanted_here}
 use Rattle.rio_index.proofs.search.first_wanted.Goals as goal
 

@@ -1,6 +1,6 @@
 use Rattle.std.proofs.Common.{ℕ, List, ◌+◌, drop, sym, ap, ◌∙◌, arith}
 use Rattle.std.specs.List.{flat_map}
-use Rattle.rio_tree_head.specs.declared.head.Branch.{Branch}
+use Rattle.rio_tree.specs.declared.head.Branch.{Branch}
 use Rattle.rio_report.specs.{Checked.{with_numbers}, declared.checked.Made.{Made}}
 use Rattle.rio_report.proofs.{Left.{left}, CheckedRows.{numbers_behind_numbers}}
 use Rattle.rio_report.proofs.checked.counters_alone.Goals as goal

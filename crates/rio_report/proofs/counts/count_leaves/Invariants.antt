@@ -1,5 +1,5 @@
 use Rattle.std.proofs.Common.{◌≡◌, map, take}
-use Rattle.rio_scan.specs.Counters.{leaf_count}
+use Rattle.rio_report.specs.Counters.{leaf_count}
 use Rattle.rio_report.proofs.counts.count_leaves.Given as goal
 
 abbrev pub invariant-loop-leaf : goal.invariant-loop-leaf

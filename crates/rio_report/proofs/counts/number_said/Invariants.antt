@@ -1,5 +1,5 @@
 use Rattle.std.proofs.Common.{◌≡◌, None, drop}
-use Rattle.rio_scan.specs.Counters.{number_said}
+use Rattle.rio_report.specs.Counters.{number_said}
 use Rattle.rio_report.proofs.counts.number_said.Given as goal
 
 abbrev pub invariant-loop-k : goal.invariant-loop-k

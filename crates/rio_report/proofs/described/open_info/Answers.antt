@@ -1,5 +1,5 @@
 use Rattle.rio_head.specs.{declared.fault.FileFault.TheVariants.{BadInfo}, Head.{fault_at}}
-use Rattle.rio_meaning.specs.Described.{classes_in, info_at}
+use Rattle.rio_report.specs.Described.{classes_in, info_at}
 use Rattle.rio_close.proofs.Records.{record_none, record_found}
 use Rattle.rio_report.specs.Described.{info_in}
 use Rattle.rio_report.proofs.described.open_info.Goals as goal

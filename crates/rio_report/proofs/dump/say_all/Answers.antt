@@ -1,7 +1,7 @@
 use Rattle.std.proofs.{Common.{◌++◌, List, ℕ, Ok, Err, refl}, lemmas.Result.{err_from_is_err_and}}
 use Rattle.std.specs.List.{flat_map}
 use Rattle.rio_host.proofs.PiecesLaws.{part_front, pieces_as, says_as}
-use Rattle.rio_meaning.specs.Dump.{class_line, dump_lines, stored_line}
+use Rattle.rio_report.specs.Dump.{class_line, dump_lines, stored_line}
 use Rattle.rio_close.specs.declared.fault.ReportFault.{ReportFault}
 use Rattle.rio_report.specs.Gathered.{Gathered}
 use Rattle.rio_report.proofs.Gather.{gathers_behind, says_held}

@@ -2,7 +2,7 @@ use Rattle.std.proofs.{Common.{◌∙◌, List, ℕ}, lemmas.Result.{err_from_is
 use Rattle.std.specs.Option.{option_copied}
 use Rattle.rio_host.specs.OnlyReads.{OnlyReads}
 use Rattle.rio_host.proofs.{ReadsLaws.{reads_join, reads_one}, PiecesLaws.{reads_then_piece}}
-use Rattle.rio_meaning.specs.{declared.described.Described.{Described}, Described.{described_file}, Dump.{dump_text, dumped_file}}
+use Rattle.rio_report.specs.{declared.described.Described.{Described}, Described.{described_file}, Dump.{dump_text, dumped_file}}
 use Rattle.rio_close.specs.Causes.{AnyKind}
 use Rattle.rio_report.proofs.Dumps.{dumped_bad, dumped_is, read_answers, read_refuses, told_calls, told_done}
 use Rattle.rio_report.proofs.dump.say_all_or_item.Goals as goal

@@ -1,6 +1,6 @@
 use Rattle.std.proofs.Common.{sym, ap}
 use Rattle.rio_host.proofs.PiecesLaws.{says_as}
-use Rattle.rio_meaning.specs.{Dump.{item_line, stored_line}, Item.{found_item}}
+use Rattle.rio_report.specs.{Dump.{item_line, stored_line}, Item.{found_item}}
 use Rattle.rio_report.proofs.dump.say_item.Goals as goal
 
 pub returns-in-Ok-clause-says : goal.returns-in-Ok-clause-says

@@ -1,6 +1,6 @@
 use Rattle.std.proofs.Common.{◌≡◌, drop}
 use Rattle.std.specs.Option.{option_copied}
-use Rattle.rio_meaning.specs.Item.{with_greatest_cycle}
+use Rattle.rio_report.specs.Item.{with_greatest_cycle}
 use Rattle.rio_report.specs.GreatestCycle.{greatest_cycle_of}
 use Rattle.rio_report.proofs.item.with_greatest_cycle.Given as goal
 

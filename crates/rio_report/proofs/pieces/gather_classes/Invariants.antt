@@ -1,6 +1,6 @@
 use Rattle.std.proofs.Common.{◌≡◌, ◌++◌, take}
 use Rattle.std.specs.List.{flat_map}
-use Rattle.rio_meaning.specs.Dump.{class_line}
+use Rattle.rio_report.specs.Dump.{class_line}
 use Rattle.rio_close.specs.Causes.{NoDiskFault, NoSayFault}
 use Rattle.rio_report.specs.Gathered.{Gathered}
 use Rattle.rio_report.proofs.pieces.gather_classes.Given as goal

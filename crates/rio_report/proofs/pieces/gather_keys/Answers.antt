@@ -1,7 +1,7 @@
 use Rattle.std.proofs.{Common.{rules, List, ℕ, refl, sym}, lemmas.List.{append-nil}, lemmas.Result.{err_from_is_err_and}}
 use Rattle.rio_host.proofs.ReadsLaws.{reads_none}
 use Rattle.rio_report.proofs.{Gather.{gathered_reads}, LineByLine.{all_gathered, first_lines, line_cut, line_gathered}}
-use Rattle.rio_meaning.specs.Dump.{stored_line}
+use Rattle.rio_report.specs.Dump.{stored_line}
 use Rattle.rio_report.proofs.pieces.gather_keys.Goals as goal
 
 pub returns-in_err-gather_key-clause-says : goal.returns-in_err-gather_key-clause-says

@@ -1,5 +1,5 @@
 use Rattle.std.proofs.Common.{List, ℕ}
-use Rattle.rio_meaning.specs.Dump.{stored_line}
+use Rattle.rio_report.specs.Dump.{stored_line}
 use Rattle.rio_report.proofs.Gather.{gathered_reads, says_held}
 use Rattle.rio_report.proofs.pieces.say_key.Goals as goal
 

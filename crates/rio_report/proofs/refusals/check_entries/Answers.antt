@@ -1,9 +1,9 @@
 use Rattle.std.proofs.Common.{ℕ, List, ◌+◌, length, drop, is_none, Option, refl, sym, ap, subst, ◌∙◌, arith}
 use Rattle.std.specs.List.{list_any}
 use Rattle.rio_host.proofs.ReadsLaws.{reads_join, reads_none}
-use Rattle.rio_tree_head.specs.declared.refusal.BranchRefusal.{BranchRefusal}
-use Rattle.rio_scan.specs.{declared.row.Row.{Row}, Sweeps.{sweep}}
-use Rattle.rio_scan.proofs.SweepLaws.{all_refused, next_refusals}
+use Rattle.rio_tree.specs.declared.refusal.BranchRefusal.{BranchRefusal}
+use Rattle.rio_report.specs.{declared.row.Row.{Row}, Sweeps.{sweep}}
+use Rattle.rio_report.proofs.SweepLaws.{all_refused, next_refusals}
 use Rattle.rio_report.specs.{declared.lane.Lane.{Lane}, Lanes.{AreLanes}}
 use Rattle.rio_report.proofs.{Left.{only_new}, Walks.{lanes_later}}
 use Rattle.rio_report.proofs.refusals.check_entries.Goals as goal

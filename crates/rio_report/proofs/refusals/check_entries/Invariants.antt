@@ -1,7 +1,7 @@
 use Rattle.std.proofs.Common.{◌≡◌, ℕ, List, Some, length}
 use Rattle.rio_host.specs.OnlyReads.{OnlyReads}
 use Rattle.rio_close.specs.Causes.{NoDiskFault}
-use Rattle.rio_scan.specs.Refusals.{refusals_of}
+use Rattle.rio_report.specs.Refusals.{refusals_of}
 use Rattle.rio_report.specs.Lanes.{AreLanes}
 use Rattle.rio_report.proofs.refusals.check_entries.Given as goal
 

@@ -1,7 +1,7 @@
 use Rattle.std.proofs.{Common.{List, get_or, take, sym, ap, ◌∙◌}, lemmas.Option.{get_or_from_slice_get}}
 use Rattle.rio_num.proofs.Cases.{none_from}
-use Rattle.rio_tree_head.specs.{declared.basket_at.BasketAt.{BasketAt}, declared.head.Branch.{Branch}}
-use Rattle.rio_scan.specs.{StoredEntries.{baskets_refusal, refusal_of_baskets}, Sweeps.{refusal_before}}
+use Rattle.rio_tree.specs.{declared.basket_at.BasketAt.{BasketAt}, declared.head.Branch.{Branch}}
+use Rattle.rio_report.specs.{StoredEntries.{baskets_refusal, refusal_of_baskets}, Sweeps.{refusal_before}}
 use Rattle.rio_report.proofs.{FirstRefusals.{refusal_by_baskets, refusal_told_by}, Left.{if_ok_more}}
 use Rattle.rio_report.proofs.refusals.first_refusal.Goals as goal
 

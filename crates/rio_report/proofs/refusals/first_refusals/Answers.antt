@@ -1,7 +1,7 @@
 use Rattle.std.proofs.{Common.{List, [], ◌∷◌, ◌++◌, ◌+◌, length, take, drop, Option, refl, sym, ap, ◌∙◌, arith}, lemmas.List.{length-append}}
 use Rattle.rio_host.proofs.ReadsLaws.{reads_join, reads_none}
-use Rattle.rio_tree_head.specs.declared.refusal.BranchRefusal.{BranchRefusal}
-use Rattle.rio_scan.specs.Refusals.{refusals_behind, refusals_of}
+use Rattle.rio_tree.specs.declared.refusal.BranchRefusal.{BranchRefusal}
+use Rattle.rio_report.specs.Refusals.{refusals_behind, refusals_of}
 use Rattle.rio_report.proofs.{Left.{at_place}, Walks.{refusal_more}}
 use Rattle.rio_report.proofs.refusals.first_refusals.Goals as goal
 

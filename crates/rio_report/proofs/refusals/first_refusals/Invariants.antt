@@ -1,7 +1,7 @@
 use Rattle.std.proofs.Common.{◌≡◌, ℕ, List, Some, drop, length, take}
 use Rattle.rio_host.specs.OnlyReads.{OnlyReads}
 use Rattle.rio_close.specs.Causes.{NoDiskFault}
-use Rattle.rio_scan.specs.Refusals.{refusals_behind, refusals_of}
+use Rattle.rio_report.specs.Refusals.{refusals_behind, refusals_of}
 use Rattle.rio_report.proofs.refusals.first_refusals.Given as goal
 
 abbrev pub invariant-loop-k : goal.invariant-loop-k

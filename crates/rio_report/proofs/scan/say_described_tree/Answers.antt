@@ -1,7 +1,8 @@
 use Rattle.std.proofs.Common.{List, sym, ap, ◌∙◌}
 use Rattle.rio_key.specs.declared.head.KeyHead.{KeyHead}
 use Rattle.rio_host.proofs.PiecesLaws.{says_as}
-use Rattle.rio_scan.specs.Scan.{found_tree, key_scan, scan_lines, scan_text}
+use Rattle.rio_machine.specs.RefusalText.{refusal_text}
+use Rattle.rio_report.specs.Scan.{found_tree, key_scan, scan_lines, scan_text}
 use Rattle.rio_report.proofs.scan.say_described_tree.Goals as goal
 
 pub returns-in-Ok-clause-says : goal.returns-in-Ok-clause-says
@@ -13,5 +14,5 @@ returns-in-Ok-clause-says g c =
 pub returns-in-Err-clause-says : goal.returns-in-Err-clause-says
 returns-in-Err-clause-says g c =
     let classes = c.args.described.now.classes in
-    says_as (g.H.Host.view c.args.host.now) (g.H.Host.view c.say_piece.new.host) (λ file. c.no_tree_text.result.now) (λ file. scan_text file c.args.name.now c.args.described.now)
-    (λ file told. c.no_tree_text.ensures ∙ sym (ap (λ (keys : List KeyHead). scan_lines file classes (found_tree c.args.name.now keys)) (sym c.as_slice.ensures) ∙ ap (scan_lines file classes) c.in-Err.ensures)) c.say_piece.result c.say_piece.ensures.says
+    says_as (g.H.Host.view c.args.host.now) (g.H.Host.view c.say_refusal.new.host) (λ file. refusal_text c.in-Err.refusal) (λ file. scan_text file c.args.name.now c.args.described.now)
+    (λ file told. sym (ap (λ (keys : List KeyHead). scan_lines file classes (found_tree c.args.name.now keys)) (sym c.as_slice.ensures) ∙ ap (scan_lines file classes) c.in-Err.ensures)) c.say_refusal.result c.say_refusal.ensures.says

@@ -1,8 +1,8 @@
 use Rattle.std.proofs.{Common.{◌∙◌, List, ℕ}, lemmas.Result.{err_from_is_err_and}}
 use Rattle.rio_host.specs.OnlyReads.{OnlyReads}
 use Rattle.rio_host.proofs.{ReadsLaws.{reads_join, reads_one}, PiecesLaws.{reads_then_piece}}
-use Rattle.rio_meaning.specs.{declared.described.Described.{Described}, Described.{described_file}}
-use Rattle.rio_scan.specs.Scan.{scan_text, scanned_file}
+use Rattle.rio_report.specs.{declared.described.Described.{Described}, Described.{described_file}}
+use Rattle.rio_report.specs.Scan.{scan_text, scanned_file}
 use Rattle.rio_close.specs.Causes.{AnyKind}
 use Rattle.rio_report.proofs.{Scans.{scanned_bad, scanned_is}, Dumps.{read_answers, read_refuses, told_calls, told_done}}
 use Rattle.rio_report.proofs.scan.say_file_tree.Goals as goal

@@ -1,7 +1,7 @@
 use Rattle.std.proofs.{Common.{◌≡◌, ◌++◌, List, ℕ, Result, Err, ap, ◌∙◌}, lemmas.Result.{err_from_is_err_and}}
 use Rattle.rio_host.proofs.PiecesLaws.{reads_then_piece, says_as}
 use Rattle.rio_close.specs.declared.fault.ReportFault.{ReportFault}
-use Rattle.rio_scan.specs.Scan.{numbered_rows, refused_lines, scanned_count, tree_lines}
+use Rattle.rio_report.specs.Scan.{numbered_rows, refused_lines, scanned_count, tree_lines}
 use Rattle.rio_report.proofs.{Gather.{says_held}, Trees.{lines_gathered}}
 use Rattle.rio_report.proofs.scan.say_tree.Goals as goal
 

@@ -1,6 +1,6 @@
 use Rattle.std.proofs.Common.{List, ℕ, codes, sym, ap, ◌∙◌}
 use Rattle.rio_host.proofs.PiecesLaws.{reads_then_piece, says_as}
-use Rattle.rio_scan.specs.Scan.{key_scan, tree_lines, unread_line}
+use Rattle.rio_report.specs.Scan.{key_scan, tree_lines, unread_line}
 use Rattle.rio_report.proofs.Trees.{key_compressed, key_read, key_unread}
 use Rattle.rio_report.proofs.scan.say_tree_key.Goals as goal
 

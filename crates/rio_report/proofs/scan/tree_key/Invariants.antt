@@ -1,6 +1,6 @@
 use Rattle.std.proofs.Common.{◌≡◌, drop}
 use Rattle.std.specs.Option.{option_copied}
-use Rattle.rio_scan.specs.Scan.{tree_key}
+use Rattle.rio_report.specs.Scan.{tree_key}
 use Rattle.rio_report.specs.GreatestCycle.{greatest_cycle_of}
 use Rattle.rio_report.proofs.scan.tree_key.Given as goal
 

@@ -1,5 +1,5 @@
 use Rattle.std.proofs.Common.{◌++◌, List, ℕ}
-use Rattle.rio_scan.specs.Scan.{row_line}
+use Rattle.rio_report.specs.Scan.{row_line}
 use Rattle.rio_report.proofs.{Gather.{gathered_reads, gathers_held}, Left.{on_ok}}
 use Rattle.rio_report.proofs.scan_rows.gather_row.Goals as goal
 

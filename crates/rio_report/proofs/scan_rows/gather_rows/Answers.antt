@@ -2,7 +2,7 @@ use Rattle.std.proofs.Common.{rules, ◌≡◌, ◌<◌, ◌≤◌, ◌+◌, Lis
 use Rattle.std.proofs.{lemmas.List.{append-nil, FromFn.{get_or-range_with_len, length-range_with_len}}, lemmas.Result.{err_from_is_err_and}}
 use Rattle.std.specs.List.{range_with_len}
 use Rattle.rio_host.proofs.ReadsLaws.{reads_none}
-use Rattle.rio_scan.specs.Scan.{row_line}
+use Rattle.rio_report.specs.Scan.{row_line}
 use Rattle.rio_report.specs.{declared.lane.Lane.{Lane}, Lanes.{AreLanes}}
 use Rattle.rio_report.proofs.{Gather.{gathered_reads}, LineByLine.{all_gathered, first_lines, line_cut, line_gathered}, Left.{only_new}, Walks.{lanes_later}}
 use Rattle.rio_report.proofs.scan_rows.gather_rows.Goals as goal

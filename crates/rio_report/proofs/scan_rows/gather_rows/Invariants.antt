@@ -1,7 +1,7 @@
 use Rattle.std.proofs.Common.{◌≡◌, ◌++◌, ℕ, List, Some, length, take}
 use Rattle.std.specs.List.{flat_map, range_with_len}
 use Rattle.rio_close.specs.Causes.{NoDiskFault, NoSayFault}
-use Rattle.rio_scan.specs.Scan.{row_line}
+use Rattle.rio_report.specs.Scan.{row_line}
 use Rattle.rio_report.specs.{Gathered.{Gathered}, Lanes.{AreLanes}}
 use Rattle.rio_report.proofs.scan_rows.gather_rows.Given as goal
 

@@ -1,9 +1,9 @@
 use Rattle.std.proofs.Common.{◌++◌, true≢false, List, Option, sym, ap, ◌∙◌}
 use Rattle.rio_num.specs.Room.{Room}
-use Rattle.rio_tree_head.specs.declared.refusal.BranchRefusal.{BranchRefusal}
+use Rattle.rio_tree.specs.declared.refusal.BranchRefusal.{BranchRefusal}
 use Rattle.rio_value.specs.declared.value.Value.{Value}
-use Rattle.rio_scan.specs.{declared.row.Row.{Row}, Refusals.{refusals_of}, Rows.{read_values, values_at_entry}, Scan.{numbered_row}, Sweeps.{sweep}}
-use Rattle.rio_scan.proofs.SweepLaws.{last_row}
+use Rattle.rio_report.specs.{declared.row.Row.{Row}, Refusals.{refusals_of}, Rows.{read_values, values_at_entry}, Scan.{numbered_row}, Sweeps.{sweep}}
+use Rattle.rio_report.proofs.SweepLaws.{last_row}
 use Rattle.rio_report.proofs.{CheckedRows.{all_is_made}, scan_rows.put_row_line.Goals.{then-are_kept+in_ok-put_row, else-are_kept+in_ok-put_row_fault}}
 use Rattle.rio_report.proofs.scan_rows.put_row_line.Goals as goal
 

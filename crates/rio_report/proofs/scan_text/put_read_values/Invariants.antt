@@ -1,5 +1,5 @@
 use Rattle.std.proofs.Common.{◌≡◌, ◌++◌, true, drop}
-use Rattle.rio_scan.specs.Rows.{read_values}
+use Rattle.rio_report.specs.Rows.{read_values}
 use Rattle.rio_report.specs.Lanes.{values_behind}
 use Rattle.rio_report.proofs.scan_text.put_read_values.Given as goal
 

@@ -1,5 +1,5 @@
 use Rattle.std.proofs.Common.{◌≡◌, ◌++◌, drop}
-use Rattle.rio_scan.specs.Scan.{refused_lines}
+use Rattle.rio_report.specs.Scan.{refused_lines}
 use Rattle.rio_report.proofs.scan_text.put_refused_lines.Given as goal
 
 abbrev pub invariant-loop-k : goal.invariant-loop-k

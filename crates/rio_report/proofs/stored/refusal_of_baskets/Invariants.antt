@@ -1,7 +1,7 @@
 use Rattle.std.proofs.Common.{◌≡◌, ℕ, List, Some}
 use Rattle.rio_host.specs.OnlyReads.{OnlyReads}
 use Rattle.rio_close.specs.Causes.{NoDiskFault}
-use Rattle.rio_scan.specs.StoredEntries.{refusal_of_baskets}
+use Rattle.rio_report.specs.StoredEntries.{refusal_of_baskets}
 use Rattle.rio_report.proofs.Walks.{told_by}
 use Rattle.rio_report.proofs.stored.refusal_of_baskets.Given as goal
 

@@ -1,7 +1,8 @@
 //! Class lists as they are written, and as they are read again.
 
-use crate::rows::class_lists::{classes_in, hex_bytes, put_hex};
+use crate::rows::class_lists::classes_in;
 use crate::rows::classes::{ClassRow, Holds, classes_of};
+use crate::rows::hex::{hex_bytes, put_hex};
 use rio_info::{info_length, info_length_with, write_info};
 use rio_num::{Bytes, NoMemory};
 use rio_types::{Classes, Prim};

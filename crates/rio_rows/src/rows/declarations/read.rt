@@ -23,11 +23,13 @@ static STAY: [&str; 9] = [
 ];
 
 // The place of the first token that can't stand.
-static BAD: [(&str, u32); 29] = [
+static BAD: [(&str, u32); 32] = [
     // A counter is an `i32` before the member that it counts.
     ("class D 1 { w: u8[n] }", 18),
     ("class D 1 { w: u8[w] }", 18),
     ("class D 1 { n: u32, w: u8[n] }", 26),
+    ("class D 1 { n: i16, w: u8[n] }", 26),
+    ("class D 1 { n: i64, w: u8[n] }", 26),
     ("class D 1 { w: u8[n], n: i32 }", 18),
     // Names that stand twice.
     ("class D 1 { a: i8, a: i8 }", 19),
@@ -51,6 +53,7 @@ static BAD: [(&str, u32); 29] = [
     ("class D 1 { a: i8, }", 19),
     ("class D 1 { a i8 }", 14),
     ("class D 1 : { }", 12),
+    ("class D 1 : A, { }", 15),
     ("class D 1 { }\r", 13),
     // No string may stand in a declaration, so one that isn't ended is bad at its opening quote.
     ("\"", 0),
@@ -122,16 +125,28 @@ fn members_are(alloc: Global, text: &str, wanted: &str) -> bool {
     }
 }
 
-// An `i32` is a counter where a member behind it has its name for a length.
+// Declarations, and the members that they give.
+static MEMBERS: [(&str, &str); 3] = [
+    // An `i32` is a counter where a member after it has its name for a length.
+    (
+        "class C 1 { n: i32, w: u8[n], m: i32 }",
+        " { n: counter, w: u8[n], m: i32 }",
+    ),
+    (
+        "class C 1 { a: i8, b: i16, c: i32, d: i64, e: u8, f: u16, g: u32, h: u64 }",
+        " { a: i8, b: i16, c: i32, d: i64, e: u8, f: u16, g: u32, h: u64 }",
+    ),
+    (
+        "class C 1 { a: bool, b: f32, c: f64, d: text, e: D, f: D*, g: text* }",
+        " { a: bool, b: f32, c: f64, d: text, e: object D, f: pointer D, g: pointer text }",
+    ),
+];
+
 #[test]
-fn tells_counters(rt: HostRuntime) {
-    assert!(rt;
-        members_are(
-            rt.alloc(),
-            "class C 1 { n: i32, w: u8[n], m: i32 }",
-            " { n: counter, w: u8[n], m: i32 }"
-        )
-    );
+fn gives_members(rt: HostRuntime) {
+    for (text, members) in &MEMBERS {
+        assert!(rt; members_are(rt.alloc(), text, members), "{}", text);
+    }
 }
 
 // Whether a class of one member is taken, and the tokens stand at this place then.

@@ -31,7 +31,7 @@ static READ: [(&str, u32); 16] = [
 ];
 
 // The place of the first token that can't stand.
-static BAD: [(&str, u32); 33] = [
+static BAD: [(&str, u32); 35] = [
     ("18446744073709551616", 0),
     (" -9223372036854775809", 1),
     ("-0", 0),
@@ -59,6 +59,9 @@ static BAD: [(&str, u32); 33] = [
     ("A#32768{}", 2),
     ("A#0{}", 2),
     ("A-B{}", 0),
+    ("A.B{}", 0),
+    // A byte that is in no word is a token by itself.
+    ("A$B{}", 1),
     ("A{a 1}", 4),
     ("A{a: 1,}", 7),
     ("A{1}", 2),

@@ -1,7 +1,7 @@
 use Rattle.std.proofs.Common.{Err, Some, refl}
 use Rattle.rio_host.proofs.{PiecesLaws.{reads_part}, ReadsLaws.{reads_none}}
 use Rattle.rio_dir.specs.Listing.{said_listing}
-use Rattle.rio_meaning.specs.Dump.{dumped_file}
+use Rattle.rio_report.specs.Dump.{dumped_file}
 use Rattle.rio_close.specs.declared.fault.ReportFault.TheVariants.{NoMemory}
 use Rattle.rootio.proofs.top.dump_item.Goals as goal
 

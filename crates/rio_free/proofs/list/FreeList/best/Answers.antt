@@ -5,5 +5,5 @@ use Rattle.rio_free.proofs.list.FreeList.best.Goals as goal
 
 pub returns-in-Some-clause-found : goal.returns-in-Some-clause-found
 returns-in-Some-clause-found c =
-    best_is_gap c.args.n c.args.self.now.gaps c.in-Some.gap.now
+    best_is_gap c.args.n c.args.self.now.gaps c.in-Some.gap
     (sym (c.in-Some.ensures ∙ ap (best_gap c.args.n) (c.deref.ensures.value ∙ ap (λ (l : FreeGaps). l.gaps) c.self.view_is)))

@@ -1,6 +1,6 @@
 use Rattle.std.proofs.Common.{◌≡◌, ◌<◌, ◌∙◌, ◌++◌, ℕ, List, length, drop, take, Some, slice_set, subst, sym, ap, arith}
 use Rattle.std.proofs.lemmas.List.{append-nil, drop_all, take_all}
-use Rattle.rio_tree_head.specs.declared.head.Branch.{Branch}
+use Rattle.rio_tree.specs.declared.head.Branch.{Branch}
 use Rattle.rio_index.specs.{Scan.{CanGoOn, IsWanted, RowScan, baskets_at, first_entry, holding, lane_at, wanting}, declared.lane.Lane.{Lane}}
 use Rattle.rio_index.proofs.GivenLaws.{given_fewer, given_goes_on, given_within}
 use Rattle.rio_index.proofs.scanner.Scanner.give.Goals as goal

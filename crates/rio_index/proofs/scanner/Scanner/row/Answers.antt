@@ -1,5 +1,5 @@
 use Rattle.std.proofs.Common.{List, length, ap, arith}
-use Rattle.rio_tree_head.specs.declared.head.Branch.{Branch}
+use Rattle.rio_tree.specs.declared.head.Branch.{Branch}
 use Rattle.rio_index.specs.declared.lane.Lane.{Lane}
 use Rattle.rio_index.proofs.ScanLaws.{same_length}
 use Rattle.rio_index.proofs.scanner.Scanner.row.Goals as goal

@@ -1,6 +1,6 @@
 use Rattle.std.proofs.Common.{◌∙◌, ◌≤◌, ℕ, List, length, ap, sym, subst, arith}
 use Rattle.rio_types.specs.declared.class.ClassDef.{ClassDef}
-use Rattle.rio_record.specs.{Record.{FitsWords}, declared.words.KeyWords.{KeyWords}}
+use Rattle.rio_chain.specs.{Record.{FitsWords}, declared.key_words.KeyWords.{KeyWords}}
 use Rattle.rio_effect.specs.ObjectRecord.{object_data, object_words}
 use Rattle.rio_session.specs.Session.{SessionState}
 use Rattle.rio_session.proofs.StoredRecords.{data_size, made_is, words_fit}

@@ -1,7 +1,7 @@
 use Rattle.std.proofs.Common.{◌∙◌, ◌+◌, ℕ, ap, sym, arith}
 use Rattle.rio_dir.specs.Table.{heads_size}
 use Rattle.rio_chain.specs.Placing.{record_count}
-use Rattle.rio_close.specs.Sizes.{close_size}
+use Rattle.rio_state.specs.Sizes.{close_size}
 use Rattle.rio_session.specs.Session.{SessionState}
 use Rattle.rio_session.proofs.Needs.{kept_bounds, need_with_key}
 use Rattle.rio_session.proofs.session.Session.need_with.Goals as goal

@@ -1,4 +1,0 @@
-pub mod Described
-pub mod Dump
-pub mod FirstFault
-pub mod Item

@@ -1,2 +1,0 @@
-pub mod Assembled
-pub mod Records

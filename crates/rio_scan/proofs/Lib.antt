@@ -1,3 +1,0 @@
-mod Examples
-pub mod SweepLaws
-pub mod SweepSteps

@@ -1,4 +1,0 @@
-pub mod LabelLaws
-pub mod MetLaws
-pub mod NumberLaws
-pub mod StoredLaws

@@ -1,6 +1,0 @@
-use Rattle.std.proofs.Common.{◌≡◌, drop}
-use Rattle.rio_tree_head.specs.Refusals.{rise_behind}
-use Rattle.rio_tree_head.proofs.stored.rise_behind.Given as goal
-
-abbrev pub invariant-loop-basket : goal.invariant-loop-basket
-invariant-loop-basket l = rise_behind l.last (drop l.basket-index l.baskets) ≡ rise_behind l.first l.baskets

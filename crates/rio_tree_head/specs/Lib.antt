@@ -1,9 +1,0 @@
-pub mod BranchMembers
-pub mod Header
-pub mod HeaderLeaves
-pub mod Index
-pub mod Labels
-pub mod Members
-pub mod Refusals
-pub mod Stops
-pub mod Tables
