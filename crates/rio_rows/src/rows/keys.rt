@@ -62,9 +62,24 @@ fn is_another(alloc: Global, bytes: &[u8], key: &KeyHead) -> bool {
     }
 }
 
-fn is_written_as(alloc: Global, key: &KeyHead, bytes: &[u8]) -> bool {
+// Whether the key of the free record is written so.
+fn is_written(alloc: Global) -> Result<bool, NoMemory> {
+    let key = KeyHead {
+        nbytes: 52,
+        version: 4,
+        objlen: 12,
+        datime: 1,
+        keylen: 40,
+        cycle: 1,
+        seek: 252,
+        pdir: 100,
+        class: Name::from_slice(alloc, b"TFile")?,
+        name: Name::from_slice(alloc, b"a.root")?,
+        title: Name::new(alloc),
+    };
     let mut written = Bytes::new(alloc);
-    write_key(key, &mut written).is_ok() && written.as_slice() == bytes
+    write_key(&key, &mut written)?;
+    Ok(written.as_slice() == FREE)
 }
 
 fn is_copied(key: &KeyHead) -> bool {
@@ -79,7 +94,7 @@ fn are_read_and_written(alloc: Global) -> bool {
     match key_of(alloc, 52, 40) {
         Ok(key) => {
             is_read_as(alloc, FREE, &key)
-                && is_written_as(alloc, &key, FREE)
+                && matches!(is_written(alloc), Ok(true))
                 && is_copied(&key)
                 && is_another(alloc, FIRST, &key)
         }

@@ -30,10 +30,19 @@ fn put_count(bytes: &mut Bytes, count: usize) -> Result<(), NoMemory> {
     bytes.put_u32(0x4000_0000 | u32::try_from(count).unwrap_or(0))
 }
 
+// A text of at most 1,000 bytes; the rows have no longer one.
+fn put_short(bytes: &mut Bytes, text: &str) -> Result<(), NoMemory> {
+    let text = text.as_bytes();
+    if text.len() > 1000 {
+        return Err(NoMemory);
+    }
+    bytes.put_text(text)
+}
+
 fn put_named(bytes: &mut Bytes, name: &str) -> Result<(), NoMemory> {
     put_count(bytes, name.len().wrapping_add(14))?;
     put_hex(bytes, "0001 0001 00000000 00000000")?;
-    bytes.put_text(name.as_bytes())?;
+    put_short(bytes, name)?;
     bytes.push(0)
 }
 
@@ -60,7 +69,7 @@ fn element_of(
     put_hex(&mut bytes, version)?;
     put_named(&mut bytes, name)?;
     put_numbers(&mut bytes, numbers.0, numbers.1)?;
-    bytes.put_text(type_name.as_bytes())?;
+    put_short(&mut bytes, type_name)?;
     Ok(bytes)
 }
 
@@ -81,7 +90,8 @@ fn put_object(
     bytes.put_u32(0xFFFF_FFFF)?;
     bytes.put(class.as_bytes())?;
     bytes.push(0)?;
-    put_piece(bytes, &Piece::Counted(pieces), code)
+    let alloc = bytes.allocator();
+    put_counted(bytes, bytes_of(alloc, pieces, code)?.as_slice())
 }
 
 #[cycle(piece)]
@@ -116,7 +126,7 @@ fn put_piece(bytes: &mut Bytes, piece: &Piece, code: i32) -> Result<(), NoMemory
     match piece {
         Piece::Hex(digits) => put_hex(bytes, digits),
         Piece::Int(number) => put_integer(bytes, *number),
-        Piece::Text(text) => bytes.put_text(text.as_bytes()),
+        Piece::Text(text) => put_short(bytes, text),
         Piece::Named(name) => put_named(bytes, name),
         Piece::Element(version, name, own, length, type_name) => {
             let numbers = (own.unwrap_or(code), *length);
