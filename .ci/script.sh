@@ -102,6 +102,17 @@ done >script
 "$program" dump e.root n999 </dev/null >said 2>told
 check "the last of a thousand" $? 0 'n999;1 TObjString#1{TObject#1{fUniqueID: 0, fBits: 0}, fString: "999"}' ""
 
+# An object of 3 MiB is stored, printed by the run that stores it, and listed with its value.
+letters() { head -c 3145728 /dev/zero | tr '\0' a; }
+{ printf 'put big %s "' "$value"; letters; printf '"}\nget big\n'; } >script
+"$program" run g.root <script >said 2>told || fail "an object of 3 MiB: told '$(cat told)'"
+object='TObjString#1{TObject#1{fUniqueID: 0, fBits: 0}, fString: "'
+{ printf 'ok put big;1\nok get big;1 %s' "$object"; letters; printf '"}\n'; } >wanted
+cmp -s said wanted || fail "an object of 3 MiB: it isn't printed as it was stored"
+"$program" dump g.root big </dev/null >said 2>told || fail "dump of 3 MiB: told '$(cat told)'"
+{ printf 'big;1 %s' "$object"; letters; printf '"}\n'; } >wanted
+cmp -s said wanted || fail "dump of 3 MiB: it isn't printed as it was stored"
+
 # Trees in files that another writer made, one of them of the large form with baskets past 2 GB (a sparse file).
 long=$(printf '%300s' '' | tr ' ' z)
 rows="branch nested refused SubBranches

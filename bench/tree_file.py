@@ -6,6 +6,8 @@ tree_file.py FILE wide ENTRIES BRANCHES   a tree `G` with branches `b00`, `b01` 
 tree_file.py FILE counted ENTRIES LINES   a tree `G` with a counter `n`, a branch of a counter and the array that it
                                           counts, and 8 branches of arrays that `n` counts; and into the file LINES what
                                           a scan of it is to say
+tree_file.py FILE pairs COUNT BRANCHES    a tree `G` of one entry with COUNT counters and as many arrays, each counted by its
+                                          own, in 1 branch or in 2, of which the first has the counters
 tree_file.py FILE small                   a tree `T` with leaves of several kinds, a branch of objects, and a branch
                                           that has a branch of its own; and an object `s`
 tree_file.py FILE large                   the tree `T` in a file of the large form whose baskets stand past 2 GB (sparse)
@@ -379,6 +381,22 @@ def counted_file(path, entries, lines):
     file.close(tree_classes())
 
 
+def pairs_file(path, count, branches):
+    file = File(path, 'pairs.root')
+    counters = [(f'n{i}', 'I', None) for i in range(count)]
+    arrays = [(f'v{i}', 'I', f'n{i}') for i in range(count)]
+    ones, numbers = i32(1) * count, b''.join(map(i32, range(count)))
+    if branches == 1:
+        both = [(Branch('all', counters + arrays), ones + numbers)]
+    else:
+        both = [(Branch('n', counters), ones), (Branch('v', arrays), numbers)]
+    for branch, entry in both:
+        file.basket('G', branch, [entry], 0)
+        branch.entries = 1
+    file.key('TTree', 'G', '', lambda n: tree_header(n, 'G', 1, [branch for branch, _ in both]), listed=True)
+    file.close(tree_classes())
+
+
 def hit(number, bits):
     """An object of the class Hit, as an entry."""
     body = u16(1) + i32(number) + u32(bits)
@@ -420,6 +438,8 @@ if __name__ == '__main__':
         wide_file(words[0], int(words[2]), int(words[3]))
     elif len(words) == 4 and words[1] == 'counted':
         counted_file(words[0], int(words[2]), words[3])
+    elif len(words) == 4 and words[1] == 'pairs':
+        pairs_file(words[0], int(words[2]), int(words[3]))
     elif len(words) == 2 and words[1] in ('small', 'large'):
         small_file(words[0], words[1] == 'large')
     else:

@@ -1,7 +1,7 @@
 //! The entries of a basket that is read.
 ghost use Rattle.std.specs.Prelude.{◌≡◌, ◌+◌, ◌<◌, ◌≤◌, ◌^◌, length, true, false, slice_range};
 ghost use Rattle.rio_num.specs.Answers.{GivesUnless};
-ghost use Rattle.rio_basket.specs.Entries.{entry_length, laid_entry, entries_in, laid_entries, offset_at, offset_behind, offset_place};
+ghost use Rattle.rio_basket.specs.Entries.{laid_entry, entries_in, offset_at, offset_behind, offset_place};
 ghost use Rattle.rio_basket.specs.Laid.{AreOffsets, IsLaid, IsLayoutWithin};
 ghost use Rattle.rio_basket.specs.declared.fault.BasketFault.TheVariants.{NoMemory as OutOfMemory};
 

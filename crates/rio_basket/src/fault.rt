@@ -1,6 +1,6 @@
 //! Why bytes are no basket.
 ghost use Rattle.std.specs.Prelude.{◌≡◌, ◌++◌, OnOk};
-ghost use Rattle.rio_basket.specs.Texts.{basket_fault_text, placed_text};
+ghost use Rattle.rio_basket.specs.Texts.{basket_fault_text};
 
 use rio_num::{Bytes, NoMemory};
 use thiserror::Error;
@@ -21,23 +21,14 @@ pub enum BasketFault {
     NoMemory,
 }
 
-// Puts the kind of a fault at the end, a blank and a place.
-fn put_placed(into: &mut Bytes, kind: &[u8], place: u64) -> Result<(), NoMemory>
-    ensures { OnOk result (into.new.bytes ≡ into.old.bytes ++ placed_text kind.now place) }
-{
-    into.put(kind)?;
-    into.put(b" ")?;
-    into.put_decimal(place)
-}
-
 impl BasketFault {
     /// Puts its kind at the end, and its place if it has one.
     pub fn put_text(self, into: &mut Bytes) -> Result<(), NoMemory>
         ensures { OnOk result (into.new.bytes ≡ into.old.bytes ++ basket_fault_text self) }
     {
         match self {
-            BasketFault::BadLast { place } => put_placed(into, b"BadLast", place),
-            BasketFault::BadOffsets { place } => put_placed(into, b"BadOffsets", place),
+            BasketFault::BadLast { place } => into.put_with_number(b"BadLast", place),
+            BasketFault::BadOffsets { place } => into.put_with_number(b"BadOffsets", place),
             BasketFault::Compressed => into.put(b"Compressed"),
             BasketFault::NoMemory => into.put(b"NoMemory"),
         }

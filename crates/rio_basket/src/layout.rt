@@ -1,5 +1,5 @@
 //! How the entries of a basket are laid out in its bytes.
-ghost use Rattle.std.specs.Prelude.{◌≡◌, ◌≢◌, ◌+◌, ◌<◌, ◌≤◌, ◌^◌, length, Ok, IfOk};
+ghost use Rattle.std.specs.Prelude.{◌≡◌, ◌+◌, ◌<◌, ◌^◌, length, Ok, IfOk};
 ghost use Rattle.rio_num.specs.Answers.{GivesUnless};
 ghost use Rattle.rio_basket.specs.Laid.{IsLayoutWithin};
 ghost use Rattle.rio_basket.specs.Stored.{ends_within, has_negative, has_one_length, is_multiple, is_sound, layout_by, layout_in, layout_of};

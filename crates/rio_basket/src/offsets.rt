@@ -1,7 +1,7 @@
 //! The offsets of a basket's entries, and the entries.
-ghost use Rattle.std.specs.Prelude.{◌≡◌, ◌+◌, ◌<◌, ◌≤◌, ◌^◌, ◌==◌, ◌||◌, drop, length, nat_lt, not, IfOk};
+ghost use Rattle.std.specs.Prelude.{◌≡◌, ◌+◌, ◌<◌, ◌≤◌, ◌^◌, ◌==◌, ◌||◌, length, nat_lt, not, IfOk};
 ghost use Rattle.rio_num.specs.Answers.{GivesUnless};
-ghost use Rattle.rio_basket.specs.Entries.{has_count, is_whole_at, laid_entry, number_there, offset_at, offset_before, offset_place, offsets_from, offsets_in, sound_layout_in, sound_offset, spare_offset};
+ghost use Rattle.rio_basket.specs.Entries.{has_count, is_whole_at, number_there, offset_before, offset_place, offsets_from, offsets_in, sound_layout_in, sound_offset, spare_offset};
 ghost use Rattle.rio_basket.specs.Laid.{IsLaid};
 ghost use Rattle.rio_basket.specs.declared.fault.BasketFault.TheVariants.{NoMemory as OutOfMemory};
 

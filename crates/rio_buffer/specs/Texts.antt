@@ -1,11 +1,7 @@
 -- The text of a fault: its kind, and its numbers in the order of its fields.
-use Rattle.std.specs.Prelude.{ℕ, ◌++◌, List, codes}
-use Rattle.rio_num.specs.Printed.{numbered}
+use Rattle.std.specs.Prelude.{ℕ, List, codes}
+use Rattle.rio_num.specs.Printed.{with_number}
 use Rattle.rio_buffer.specs.declared.fault.ObjFault.{ObjFault, TheVariants.{Short, BadCount, UnknownClassWord, UnknownRef, NoCount, BadFlag, CountMismatch, TooDeep, NoMemory}}
-
--- a word and a number after it
-abbrev pub with_number : List ℕ → ℕ → List ℕ
-with_number text n = text ++ numbered n
 
 -- the kind of a fault, and its numbers in the order of its fields
 abbrev pub object_fault_text : ObjFault → List ℕ

@@ -1,23 +1,16 @@
 //! Faults as they are printed.
 ghost use Rattle.std.specs.Prelude.{◌≡◌, ◌++◌, OnOk};
-ghost use Rattle.rio_buffer.specs.Texts.{object_fault_text, with_number};
+ghost use Rattle.rio_buffer.specs.Texts.{object_fault_text};
+ghost use Rattle.rio_num.specs.Printed.{with_number};
 
 use crate::ObjFault;
 use rio_num::{Bytes, NoMemory};
-
-// Puts a word and a number at the end.
-fn put_word(text: &mut Bytes, word: &[u8], n: u64) -> Result<(), NoMemory>
-    ensures { OnOk result (text.new.bytes ≡ text.old.bytes ++ with_number word.now n) }
-{
-    text.put(word)?;
-    text.put_numbered(n)
-}
 
 fn put_two(text: &mut Bytes, word: &[u8], n: u64, m: u64) -> Result<(), NoMemory>
     ensures { OnOk result (text.new.bytes ≡
         text.old.bytes ++ with_number (with_number word.now n) m) }
 {
-    put_word(text, word, n)?;
+    text.put_with_number(word, n)?;
     text.put_numbered(m)
 }
 
@@ -43,17 +36,17 @@ impl ObjFault {
     {
         match self {
             ObjFault::Short { place, wanted } => put_two(into, b"Short", *place, *wanted),
-            ObjFault::BadCount { place } => put_word(into, b"BadCount", *place),
+            ObjFault::BadCount { place } => into.put_with_number(b"BadCount", *place),
             ObjFault::UnknownClassWord { place, word } => {
                 put_unknown(into, b"UnknownClassWord", *place, *word)
             }
             ObjFault::UnknownRef { place, word } => put_unknown(into, b"UnknownRef", *place, *word),
-            ObjFault::NoCount { place } => put_word(into, b"NoCount", *place),
-            ObjFault::BadFlag { place } => put_word(into, b"BadFlag", *place),
+            ObjFault::NoCount { place } => into.put_with_number(b"NoCount", *place),
+            ObjFault::BadFlag { place } => into.put_with_number(b"BadFlag", *place),
             ObjFault::CountMismatch { place, said, used } => {
                 put_mismatch(into, *place, *said, *used)
             }
-            ObjFault::TooDeep { place } => put_word(into, b"TooDeep", *place),
+            ObjFault::TooDeep { place } => into.put_with_number(b"TooDeep", *place),
             ObjFault::NoMemory => into.put(b"NoMemory"),
         }
     }

@@ -8,16 +8,21 @@ use Rattle.rio_chain.specs.Placing.{file_end, gaps_in}
 use Rattle.rio_chain.proofs.Placed.{adjacent_cut, end-append, end-le, gaps_append}
 
 -- all gaps begin behind a place
-abbrev Behind : ℕ → List FreeGap → Type 0
+abbrev pub Behind : ℕ → List FreeGap → Type 0
 Behind low [] = Unit {0}
 Behind low (g ∷ gaps) = low < g.place
 
-behind : (p : ℕ) (front : List Segment) (place n low : ℕ) → AreAdjacent p front → low < p → low < place → Behind low (gaps_in front ++ gap_of place n ∷ [])
-behind p [] place n low are lt last = last
-behind p (Record q l ∷ front) place n low are lt last = behind (p + l) front place n low are.1 (omega (arith, lt)) last
-behind p (Gap q l ∷ front) place n low are lt last = omega (arith, are.0.there, lt)
+pub behind : (p : ℕ) (front : List Segment) (place n low : ℕ) (rest : List FreeGap) → AreAdjacent p front → low < p → low < place → Behind low (gaps_in front ++ gap_of place n ∷ rest)
+behind p [] place n low rest are lt last = last
+behind p (Record q l ∷ front) place n low rest are lt last = behind (p + l) front place n low rest are.1 (omega (arith, lt)) last
+behind p (Gap q l ∷ front) place n low rest are lt last = omega (arith, are.0.there, lt)
 
-joined_far : (g : FreeGap) (gaps : List FreeGap) → Behind (gap_end g) gaps → joined g gaps ≡ g ∷ gaps
+pub behind_all : (p low : ℕ) (segments : List Segment) → AreAdjacent p segments → low < p → Behind low (gaps_in segments)
+behind_all p low [] are lt = tt
+behind_all p low (Record q m ∷ segments) are lt = behind_all (p + m) low segments are.1 (omega (arith, lt))
+behind_all p low (Gap q m ∷ segments) are lt = omega (arith, lt, are.0.there)
+
+pub joined_far : (g : FreeGap) (gaps : List FreeGap) → Behind (gap_end g) gaps → joined g gaps ≡ g ∷ gaps
 joined_far g [] far = refl
 joined_far g (h ∷ gaps) far = let other : eqb (gap_end g) h.place ≡ false = ne_eqb _ _ (omega (arith, far)) in rw other refl
 
@@ -32,7 +37,7 @@ given_last p (Gap q l ∷ Record r m ∷ front) place n back are apart is =
     let some : 4 ≤ m = are.1.0.some in
     let yes : ltb q place ≡ true = grind (arith, nat_tests, le, is, are.0.there, some) in
     let rest = given_last (p + l) (Record r m ∷ front) place n back are.1 apart.1 is in
-    let far : Behind (q + l) (gaps_in front ++ gap_of place n ∷ []) = behind (p + l + m) front place n (q + l) are.1.1 (omega (arith, are.0.there, some)) (omega (arith, le, is, are.0.there, some)) in
+    let far : Behind (q + l) (gaps_in front ++ gap_of place n ∷ []) = behind (p + l + m) front place n (q + l) [] are.1.1 (omega (arith, are.0.there, some)) (omega (arith, le, is, are.0.there, some)) in
     rw (yes, rest) (joined_far (gap_of q l) (gaps_in front ++ gap_of place n ∷ []) far)
 
 -- and has no byte in common with them

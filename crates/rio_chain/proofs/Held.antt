@@ -1,26 +1,11 @@
 -- A record among the segments is one of the file.
-use Rattle.std.proofs.Common.{◌≡◌, ℕ, ◌+◌, ◌-◌, ◌<◌, ◌≤◌, true, false, ltb, List, [], ◌∷◌, ◌++◌, length, length-append, map, get_or, refl, sym, ap, subst, ◌∙◌, arith}
-use Rattle.std.proofs.lemmas.Bool.Decides.{nat_tests}
-use Rattle.std.specs.List.{prefix_len, Contains}
+use Rattle.std.proofs.Common.{◌≡◌, ℕ, ◌+◌, ◌-◌, ◌≤◌, List, [], ◌∷◌, ◌++◌, length, length-append, map, get_or, refl, sym, ap, subst, ◌∙◌, arith}
+use Rattle.std.specs.List.{Contains}
 use Rattle.rio_host.specs.Image.{Has}
 use Rattle.rio_host.proofs.Images.{has_length}
-use Rattle.rio_chain.specs.{declared.segment.Segment.{Segment, TheVariants.{Record}}, Adjoining.{AreAdjacent, segment_length, segment_place}}
+use Rattle.rio_chain.specs.{declared.segment.Segment.{Segment, TheVariants.{Record}}, Adjoining.{segment_length, segments_end}, Placing.{file_end}}
 use Rattle.rio_chain.specs.{Segments.{Link, RecordAt, GapAt, segment_of, HoldsRecord, IsChain}, Chains.{HasChain}}
-use Rattle.rio_chain.proofs.{Words.{has_same, held_long}, Chains.{parts_of, plain_cut}, Indices.{get_at}, Placed.{starts_before}}
-
--- what stands behind begins later
-later : (p : ℕ) (front : List Segment) (s : Segment) (back : List Segment) → AreAdjacent p (front ++ s ∷ back) → p ≤ segment_place s
-later p [] s back are = omega (arith, are.0.there)
-later p (t ∷ front) s back are = omega (arith, later (p + segment_length t) front s back are.1)
-
--- its index is the number of segments before it
-pub index_of : (p : ℕ) (front : List Segment) (s : Segment) (back : List Segment) → AreAdjacent p (front ++ s ∷ back) → prefix_len (starts_before (segment_place s)) (front ++ s ∷ back) ≡ length front
-index_of p [] s back are = let no : ltb (segment_place s) (segment_place s) ≡ false = grind (arith, nat_tests) in rw no refl
-index_of p (t ∷ front) s back are =
-    let le = later (p + segment_length t) front s back are.1 in
-    let before : segment_place t < segment_place s = omega (arith, le, are.0.there, are.0.some) in
-    let yes : ltb (segment_place t) (segment_place s) ≡ true = grind (arith, nat_tests) in
-    rw yes (omega (arith, index_of (p + segment_length t) front s back are.1))
+use Rattle.rio_chain.proofs.{Words.{has_same, held_long}, Chains.{parts_of, plain_cut}, Indices.{get_at}}
 
 -- a record among the segments is one among the links
 pub record RecordCut (links : List Link) (place n : ℕ) : Type 0 where
@@ -65,16 +50,14 @@ module _ (file : List ℕ) (links : List Link) (segments : List Segment) (place 
         ap (λ (l : List Link). get_or l (length c.before) (RecordAt place bytes)) whole ∙ get_at c.before (RecordAt place bytes) c.behind (length c.before) (RecordAt place bytes) refl,
       )
 
--- what the code finds at the index where its search ends
-pub record Found (items : List Segment) (at n : ℕ) : Type 0 where
-  pub inside : at < length items
-  pub long : (x : Segment) → x ≡ get_or items at x → segment_length x ≡ n
+-- a record is no longer than the segments reach
+end_at_least : (p : ℕ) (segments : List Segment) → p ≤ segments_end p segments
+end_at_least p [] = omega arith
+end_at_least p (s ∷ segments) = omega (arith, end_at_least (p + segment_length s) segments)
 
-pub found_at : (segments items slice : List Segment) (place n at : ℕ) (front back : List Segment) → segments ≡ front ++ Record place n ∷ back → items ≡ segments → AreAdjacent 100 items → slice ≡ items → at ≡ prefix_len (starts_before place) slice → Found items at n
-found_at segments items slice place n at front back is same are sliced index =
-    let whole : items ≡ front ++ Record place n ∷ back = same ∙ is in
-    let at_is : at ≡ length front = index ∙ ap (prefix_len (starts_before place)) (sliced ∙ whole) ∙ index_of 100 front (Record place n) back (subst (AreAdjacent 100) whole are) in
-    record {
-      inside = omega (arith, at_is, ap length whole, length-append front (Record place n ∷ back));
-      long = λ x read. ap segment_length (read ∙ ap (λ (l : List Segment). get_or l at x) whole ∙ get_at front (Record place n) back at x at_is);
-    }
+length_before_end : (p : ℕ) (front back : List Segment) (place n : ℕ) → n ≤ segments_end p (front ++ Record place n ∷ back)
+length_before_end p [] back place n = omega (arith, end_at_least (p + n) back)
+length_before_end p (s ∷ front) back place n = length_before_end (p + segment_length s) front back place n
+
+pub record_before_end : (segments front back : List Segment) (place n : ℕ) → segments ≡ front ++ Record place n ∷ back → n ≤ file_end segments
+record_before_end segments front back place n is = omega (arith, length_before_end 100 front back place n, ap file_end is)

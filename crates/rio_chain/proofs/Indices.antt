@@ -1,9 +1,7 @@
 -- A segment among others by its index.
-use Rattle.std.proofs.Common.{◌≡◌, inl, inr, ℕ, zero, suc, ◌+◌, ◌*◌, ◌<◌, ◌≤◌, Bool, true, false, cond, Result, Ok, Err, IsOk, is_ok, rules, List, [], ◌∷◌, ◌++◌, length, get_or, set, refl, ap, arith}
+use Rattle.std.proofs.Common.{◌≡◌, inl, inr, ℕ, zero, suc, ◌≤◌, Bool, true, false, cond, Result, Ok, Err, IsOk, is_ok, rules, List, [], ◌∷◌, ◌++◌, length, get_or, refl, ap, arith}
 use Rattle.std.proofs.{lemmas.Bool.{cases_lt}, lemmas.List.Sums.{prefix_len-le-length, prefix_len_passes, prefix_len_stops}}
-use Rattle.std.specs.List.{prefix_len, insert, Sorted.{IsNonDecreasingBy, IsPartitionPoint}}
-use Rattle.rio_chain.specs.{declared.segment.Segment.{Segment, TheVariants.{Record, Gap}}, Adjoining.{AreAdjacent, segment_length, segment_place, segments_end}}
-use Rattle.rio_chain.specs.Placing.{record_count}
+use Rattle.std.specs.List.{prefix_len, insert, remove, Sorted.{IsPartitionPoint}}
 
 module _ {X : Type 0} where
   pub get_at : (front : List X) (x : X) (back : List X) (k : ℕ) (d : X) → k ≡ length front → get_or (front ++ x ∷ back) k d ≡ x
@@ -12,17 +10,17 @@ module _ {X : Type 0} where
   get_at (y ∷ front) x back zero d is = absurd (omega (arith, is))
   get_at (y ∷ front) x back (suc k) d is = get_at front x back k d (omega (arith, is))
 
-  pub set_at : (front : List X) (x : X) (back : List X) (k : ℕ) (y : X) → k ≡ length front → set (front ++ x ∷ back) k y ≡ front ++ y ∷ back
-  set_at [] x back zero y is = refl
-  set_at [] x back (suc k) y is = absurd (omega (arith, is))
-  set_at (z ∷ front) x back zero y is = absurd (omega (arith, is))
-  set_at (z ∷ front) x back (suc k) y is = ap (λ (l : List X). z ∷ l) (set_at front x back k y (omega (arith, is)))
-
   pub insert_at : (front back : List X) (k : ℕ) (y : X) → k ≡ length front → insert (front ++ back) k y ≡ front ++ y ∷ back
   insert_at [] back zero y is = refl
   insert_at [] back (suc k) y is = absurd (omega (arith, is))
   insert_at (z ∷ front) back zero y is = absurd (omega (arith, is))
   insert_at (z ∷ front) back (suc k) y is = ap (λ (l : List X). z ∷ l) (insert_at front back k y (omega (arith, is)))
+
+  pub remove_at : (front : List X) (x : X) (back : List X) (k : ℕ) → k ≡ length front → remove (front ++ x ∷ back) k ≡ front ++ back
+  remove_at [] x back zero is = refl
+  remove_at [] x back (suc k) is = absurd (omega (arith, is))
+  remove_at (y ∷ front) x back zero is = absurd (omega (arith, is))
+  remove_at (y ∷ front) x back (suc k) is = ap (λ (l : List X). y ∷ l) (remove_at front x back k (omega (arith, is)))
 
   -- where the elements that pass a test end
   pub point_at : (p : X → Bool) (xs : List X) (d : X) (i : ℕ) → i ≤ length xs → IsPartitionPoint (λ x. p x ≡ true) (λ x. p x ≡ false) xs i → i ≡ prefix_len p xs
@@ -34,26 +32,6 @@ module _ {X : Type 0} where
           | inr same ↦ omega arith
         ]
       ]
-
--- no segment begins before the first
-begins_behind : (p : ℕ) (segments : List Segment) → AreAdjacent p segments → (k : ℕ) (d : Segment) → k < length segments → p ≤ segment_place (get_or segments k d)
-begins_behind p [] are k d lt = absurd (omega (arith, lt))
-begins_behind p (s ∷ segments) are zero d lt = omega (arith, are.0.there)
-begins_behind p (s ∷ segments) are (suc k) d lt = omega (arith, begins_behind (p + segment_length s) segments are.1 k d (omega arith))
-
--- the places rise
-pub places_rise : (p : ℕ) (segments : List Segment) → AreAdjacent p segments → IsNonDecreasingBy segment_place segments
-places_rise p [] are i j d le lt = absurd (omega (arith, lt))
-places_rise p (s ∷ segments) are zero zero d le lt = omega arith
-places_rise p (s ∷ segments) are zero (suc j) d le lt = omega (arith, begins_behind (p + segment_length s) segments are.1 j d (omega arith), are.0.there)
-places_rise p (s ∷ segments) are (suc i) zero d le lt = absurd (omega (arith, le))
-places_rise p (s ∷ segments) are (suc i) (suc j) d le lt = places_rise (p + segment_length s) segments are.1 i j d (omega arith) (omega arith)
-
--- a record takes four bytes and more
-pub count_low : (p : ℕ) (segments : List Segment) → AreAdjacent p segments → p + 4 * record_count segments ≤ segments_end p segments
-count_low p [] are = omega arith
-count_low p (Record q n ∷ segments) are = omega (arith, are.0.some, count_low (p + n) segments are.1)
-count_low p (Gap q n ∷ segments) are = omega (arith, count_low (p + n) segments are.1)
 
 -- what a call left that found room
 pub kept_if_ok : {A E X : Type 0} (r : Result A E) (new one other : X) → IsOk r → new ≡ cond (is_ok r) one other → new ≡ one

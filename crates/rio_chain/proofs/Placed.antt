@@ -1,13 +1,12 @@
 -- A record among segments: where it stands in their list, and what stays of their form.
-use Rattle.std.proofs.Common.{◌≡◌, ◌⊎◌, inl, inr, ⊎_elim, ℕ, zero, suc, ◌+◌, ◌-◌, ◌%◌, ◌<◌, ◌≤◌, Bool, true, false, cond, ltb, eqb, List, [], ◌∷◌, ◌++◌, append_assoc, length, length-append, get_or, set, Option, Some, None, refl, sym, ap, subst, ◌∙◌, arith}
-use Rattle.std.proofs.{lemmas.Bool.{eq-eqb, ne_eqb, eqb-true, eqb-false, Decides.{nat_tests}}, lemmas.List.{append-nil}}
-use Rattle.std.specs.{List.{prefix_len, insert}, Option.{option_map, unwrap_or}}
+use Rattle.std.proofs.Common.{◌≡◌, ◌⊎◌, inl, inr, ⊎_elim, ℕ, zero, suc, ◌+◌, ◌-◌, ◌%◌, ◌<◌, ◌≤◌, Bool, true, false, cond, eqb, List, [], ◌∷◌, ◌++◌, Option, Some, None, refl, sym, ap, subst, ◌∙◌, arith}
+use Rattle.std.proofs.{lemmas.Bool.{eq-eqb, ne_eqb, eqb-true, eqb-false}, lemmas.List.{append-nil}}
+use Rattle.std.specs.{Option.{option_map, unwrap_or}}
 use Rattle.rio_free.specs.{Gaps.{HasGapFor, best_gap, gap_of, left_from, taken}, declared.gap.Gap.{Gap as FreeGap}}
 use Rattle.rio_free.proofs.Best.{best_is_gap}
 use Rattle.rio_chain.specs.declared.segment.Segment.{Segment, TheVariants.{Record, Gap}}
-use Rattle.rio_chain.specs.Adjoining.{AreAdjacent, AreGapsApart, AreSegments, BeginsAt, BeginsWithRecord, segment_length, segment_place, segments_end}
+use Rattle.rio_chain.specs.Adjoining.{AreAdjacent, AreGapsApart, AreSegments, BeginsAt, BeginsWithRecord, segment_length, segments_end}
 use Rattle.rio_chain.specs.Placing.{HasRest, IsPlaceFor, file_end, gaps_in, record_count, rest_of_gap, with_segment}
-use Rattle.rio_chain.proofs.Indices.{get_at, insert_at, set_at}
 
 -- ---- a place that can be taken
 
@@ -24,9 +23,6 @@ place_free segments n place is = ⊎_elim (λ rule. by (best_gap n (gaps_in segm
 
 -- ---- where a gap stands
 
-abbrev pub starts_before : ℕ → Segment → Bool
-starts_before place s = ltb (segment_place s) place
-
 -- the gap at a place, in the list
 pub record Split (segments : List Segment) (place n : ℕ) : Type 0 where
   pub front : List Segment
@@ -35,17 +31,15 @@ pub record Split (segments : List Segment) (place n : ℕ) : Type 0 where
   pub is : segments ≡ front ++ Gap place m ∷ back
   pub fit : (m ≡ n) ⊎ (n + 3 < m)
   pub with_is : with_segment place n segments ≡ front ++ Record place n ∷ rest_of_gap (place + n) (m - n) back
-  pub index : prefix_len (starts_before place) segments ≡ length front
 
-split_more : (s : Segment) (segments : List Segment) (place n : ℕ) → segment_place s < place → (with_segment place n (s ∷ segments) ≡ s ∷ with_segment place n segments) → Split segments place n → Split (s ∷ segments) place n
-split_more s segments place n before more c = record {
+split_more : (s : Segment) (segments : List Segment) (place n : ℕ) → (with_segment place n (s ∷ segments) ≡ s ∷ with_segment place n segments) → Split segments place n → Split (s ∷ segments) place n
+split_more s segments place n more c = record {
   front = s ∷ c.front;
   back = c.back;
   m = c.m;
   is = ap (λ (l : List Segment). s ∷ l) c.is;
   fit = c.fit;
   with_is = more ∙ ap (λ (l : List Segment). s ∷ l) c.with_is;
-  index = (let yes : ltb (segment_place s) place ≡ true = grind (arith, nat_tests) in rw yes (omega (arith, c.index)));
 }
 
 -- no gap stands before the first of them
@@ -59,8 +53,7 @@ gap_behind p (Gap q l ∷ segments) place n adjacent (suc k, x, lt, is, fits) =
 pub split : (p : ℕ) (segments : List Segment) (place n : ℕ) → AreAdjacent p segments → HasGapFor (gaps_in segments) place n → Split segments place n
 split p [] place n adjacent (k, x, lt, is, fits) = absurd (omega (arith, lt))
 split p (Record q l ∷ segments) place n adjacent has =
-    let le = gap_behind (p + l) segments place n adjacent.1 has in
-    split_more (Record q l) segments place n (omega (arith, le, adjacent.0.there, adjacent.0.some)) refl (split (p + l) segments place n adjacent.1 has)
+    split_more (Record q l) segments place n refl (split (p + l) segments place n adjacent.1 has)
 split p (Gap q l ∷ segments) place n adjacent (zero, x, lt, is, fits) =
     let there : q ≡ place = ap (λ (g : FreeGap). g.place) is ∙ fits.0 in
     let long : x.length ≡ l = ap (λ (g : FreeGap). g.length) (sym is) in
@@ -71,14 +64,13 @@ split p (Gap q l ∷ segments) place n adjacent (zero, x, lt, is, fits) =
       is = ap (λ (k : ℕ). Gap k l ∷ segments) there;
       fit = subst (λ (k : ℕ). (k ≡ n) ⊎ (n + 3 < k)) long fits.1;
       with_is = (let same : eqb q place ≡ true = eq-eqb _ _ there in rw same refl);
-      index = (let no : ltb q place ≡ false = grind (arith, nat_tests, there) in rw no refl);
     }
 split p (Gap q l ∷ segments) place n adjacent (suc k, x, lt, is, fits) =
     let more : HasGapFor (gaps_in segments) place n = (k, x, omega (arith, lt), is, fits) in
     let le = gap_behind (p + l) segments place n adjacent.1 more in
     let before : q < place = omega (arith, le, adjacent.0.there, adjacent.0.some) in
     let other : eqb q place ≡ false = ne_eqb _ _ (omega (arith, before)) in
-    split_more (Gap q l) segments place n before (rw other refl) (split (p + l) segments place n adjacent.1 more)
+    split_more (Gap q l) segments place n (rw other refl) (split (p + l) segments place n adjacent.1 more)
 
 -- at END it stands behind them all
 pub at_end : (p : ℕ) (segments : List Segment) (place n : ℕ) → AreAdjacent p segments → place ≡ segments_end p segments → with_segment place n segments ≡ segments ++ Record place n ∷ []
@@ -224,41 +216,9 @@ module _ (segments : List Segment) (place n : ℕ) (c : Split segments place n) 
     count-append c.front (Gap place c.m ∷ c.back),
   )
 
--- ---- by its index
-
-module _ (segments : List Segment) (place n : ℕ) (c : Split segments place n) (at : ℕ) (is : at ≡ prefix_len (starts_before place) segments) where
-  at_is : at ≡ length c.front
-  at_is = is ∙ c.index
-
-  pub at_within : at < length segments
-  at_within = omega (arith, at_is, ap length c.is, length-append c.front (Gap place c.m ∷ c.back))
-
-  pub found_there : (x : Segment) → x ≡ get_or segments at x → x ≡ Gap place c.m
-  found_there x read = read ∙ ap (λ (l : List Segment). get_or l at x) c.is ∙ get_at c.front (Gap place c.m) c.back at x at_is
-
-  pub fits_there : n ≤ c.m
-  fits_there = omega (arith, c.fit)
-
-  set_is : set segments at (Record place n) ≡ c.front ++ Record place n ∷ c.back
-  set_is = ap (λ (l : List Segment). set l at (Record place n)) c.is ∙ set_at c.front (Gap place c.m) c.back at (Record place n) at_is
-
-  -- nothing is left of the gap
-  pub filled : c.m - n ≡ 0 → set segments at (Record place n) ≡ with_segment place n segments
-  filled none = let same : eqb (c.m - n) 0 ≡ true = eq-eqb _ _ none in set_is ∙ sym (c.with_is ∙ rw same refl)
-
-  -- something is left
-  pub filled_in_part : 0 < c.m - n → insert (set segments at (Record place n)) (at + 1) (Gap (place + n) (c.m - n)) ≡ with_segment place n segments
-  filled_in_part some =
-      let other : eqb (c.m - n) 0 ≡ false = ne_eqb _ _ (omega (arith, some)) in
-      let more : c.front ++ Record place n ∷ c.back ≡ (c.front ++ Record place n ∷ []) ++ c.back = sym (append_assoc c.front (Record place n ∷ []) c.back) in
-      let g = Gap (place + n) (c.m - n) in
-      ap (λ (l : List Segment). insert l (at + 1) g) (set_is ∙ more)
-      ∙ insert_at (c.front ++ Record place n ∷ []) c.back (at + 1) g (omega (arith, at_is, length-append c.front (Record place n ∷ [])))
-      ∙ append_assoc c.front (Record place n ∷ []) (g ∷ c.back) ∙ sym (c.with_is ∙ rw other refl)
-
-  -- where it is told what is left
-  pub has_rest : HasRest segments place n (c.m - n)
-  has_rest = (c.front, c.back, c.is ∙ ap (λ (k : ℕ). c.front ++ Gap place k ∷ c.back) (let e : c.m ≡ n + (c.m - n) = omega (arith, c.fit) in e), ⊎_elim (λ same. inl (omega (arith, same))) (λ more. inr (omega (arith, more))) c.fit)
+-- where it is told what is left
+pub has_rest : (segments : List Segment) (place n : ℕ) (c : Split segments place n) → HasRest segments place n (c.m - n)
+has_rest segments place n c = (c.front, c.back, c.is ∙ ap (λ (k : ℕ). c.front ++ Gap place k ∷ c.back) (let e : c.m ≡ n + (c.m - n) = omega (arith, c.fit) in e), ⊎_elim (λ same. inl (omega (arith, same))) (λ more. inr (omega (arith, more))) c.fit)
 
 -- the gap ends at END or before
 pub split_low : (segments : List Segment) (place n : ℕ) → Split segments place n → AreSegments segments → place + n ≤ file_end segments
@@ -266,58 +226,10 @@ split_low segments place n c shape =
     let cut = adjacent_cut 100 c.front (Gap place c.m ∷ c.back) (subst (AreAdjacent 100) c.is shape.adjacent) in
     omega (arith, c.fit, cut.1.0.there, end-le (segments_end 100 c.front + c.m) c.back, ap file_end c.is, end-append 100 c.front (Gap place c.m ∷ c.back))
 
--- What the code does at the index where its search ends.
-pub record Filling (segments : List Segment) (place n at : ℕ) : Type 0 where
-  pub inside : at < length segments
-  pub short : (x : Segment) → x ≡ get_or segments at x → n ≤ segment_length x
-  pub all : (x : Segment) → x ≡ get_or segments at x → segment_length x - n ≡ 0 → set segments at (Record place n) ≡ with_segment place n segments
-  pub part : (x : Segment) → x ≡ get_or segments at x → 0 < segment_length x - n → insert (set segments at (Record place n)) (at + 1) (Gap (place + n) (segment_length x - n)) ≡ with_segment place n segments
-  pub rest : (x : Segment) → x ≡ get_or segments at x → HasRest segments place n (segment_length x - n)
-
-pub filling : (segments items : List Segment) (place n at : ℕ) → items ≡ segments → AreAdjacent 100 segments → HasGapFor (gaps_in segments) place n → at ≡ prefix_len (starts_before place) items → Filling segments place n at
-filling segments items place n at same adjacent fit is =
-    let c = split 100 segments place n adjacent fit in
-    let index = is ∙ ap (prefix_len (starts_before place)) same in
-    let long : (x : Segment) → x ≡ get_or segments at x → segment_length x ≡ c.m = λ x read. ap segment_length (found_there segments place n c at index x read) in
-    record {
-      inside = at_within segments place n c at index;
-      short = λ x read. omega (arith, long x read, fits_there segments place n c at index);
-      all = λ x read none. filled segments place n c at index (omega (arith, long x read, none));
-      part = λ x read some. ap (λ (k : ℕ). insert (set segments at (Record place n)) (at + 1) (Gap (place + n) (k - n))) (long x read) ∙ filled_in_part segments place n c at index (omega (arith, long x read, some));
-      rest = λ x read. subst (λ (k : ℕ). HasRest segments place n (k - n)) (sym (long x read)) (has_rest segments place n c at index);
-    }
-
--- What a record more makes of the facts that a chain keeps.
-pub record Keeps (segments new : List Segment) (gaps : List FreeGap) (end count : ℕ) : Type 0 where
-  pub shape : AreSegments new
-  pub gaps_are : gaps ≡ gaps_in new
-  pub end_is : end ≡ file_end new
-  pub live_is : count ≡ record_count new
-
 pub gaps_end : (segments : List Segment) (place n : ℕ) → gaps_in (segments ++ Record place n ∷ []) ≡ gaps_in segments
 gaps_end [] place n = refl
 gaps_end (Record p m ∷ segments) place n = gaps_end segments place n
 gaps_end (Gap p m ∷ segments) place n = ap (λ (l : List FreeGap). gap_of p m ∷ l) (gaps_end segments place n)
-
-pub keeps_end : (segments new : List Segment) (gaps : List FreeGap) (end count n : ℕ) → AreSegments segments → gaps ≡ gaps_in segments → end ≡ file_end segments → count ≡ record_count segments → 4 ≤ n → n % 4 ≡ 0
-    → new ≡ segments ++ Record end n ∷ [] → Keeps segments new gaps (end + n) (count + 1)
-keeps_end segments new gaps end count n shape gaps_are end_is live_is some aligned is =
-    let same = is ∙ ap (λ (e : ℕ). segments ++ Record e n ∷ []) end_is in record {
-      shape = subst AreSegments (sym same) (end_shape segments n shape some aligned);
-      gaps_are = gaps_are ∙ sym (ap gaps_in same ∙ gaps_end segments (file_end segments) n);
-      end_is = ap (λ (e : ℕ). e + n) end_is ∙ sym (ap file_end same ∙ end-append 100 segments (Record (file_end segments) n ∷ []));
-      live_is = omega (arith, live_is, ap record_count same, count-append segments (Record (file_end segments) n ∷ []));
-    }
-
-pub keeps_gap : (segments new : List Segment) (gaps after : List FreeGap) (end count place n : ℕ) → AreSegments segments → gaps ≡ gaps_in segments → end ≡ file_end segments → count ≡ record_count segments → 4 ≤ n → n % 4 ≡ 0
-    → HasGapFor (gaps_in segments) place n → new ≡ with_segment place n segments → after ≡ taken place n gaps → Keeps segments new after end (count + 1)
-keeps_gap segments new gaps after end count place n shape gaps_are end_is live_is some aligned fit is after_is =
-    let c = split 100 segments place n shape.adjacent fit in record {
-      shape = subst AreSegments (sym is) (gap_shape segments place n c shape some aligned);
-      gaps_are = after_is ∙ ap (taken place n) gaps_are ∙ sym (ap gaps_in is ∙ gaps_with place n segments);
-      end_is = end_is ∙ sym (ap file_end is ∙ gap_end_same segments place n c shape some aligned);
-      live_is = omega (arith, live_is, ap record_count is, gap_count segments place n c shape some aligned);
-    }
 
 -- the place of a gap, and not END
 pub gap_low : (segments : List Segment) (place n : ℕ) → AreSegments segments → HasGapFor (gaps_in segments) place n → place + n ≤ file_end segments

@@ -1,12 +1,16 @@
 pub mod Adjoining
+pub mod Becoming
 pub mod Chains
 pub mod Changes
+pub mod FewerRecords
 pub mod Found
 pub mod Laws
+pub mod Merging
 pub mod NewRecords
 pub mod Placing
 pub mod Plans
 pub mod Record
+pub mod Releasing
 pub mod Segments
 pub mod Stops
 pub mod Walks

@@ -1,5 +1,5 @@
 -- What a walk answers, of the file that its host tells, and why it fails.
-use Rattle.std.specs.Prelude.{◌≡◌, ◌*◌, ◌≤◌, ℕ, List, length, Some, Result, Ok, Err}
+use Rattle.std.specs.Prelude.{◌≡◌, ◌*◌, ◌≤◌, ℕ, List, length, Result, Ok, Err}
 use Rattle.rio_host.specs.Host.{View, Rose}
 pub use Rattle.rio_host.specs.Reading.{Told}
 use Rattle.rio_host.specs.declared.reading.ReadFault.{ReadFault, TheVariants.{NoMemory as NoRoom, HostFault as DiskFault}}

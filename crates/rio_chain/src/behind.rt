@@ -1,8 +1,9 @@
 //! A word that makes what stands behind it count.
-ghost use Rattle.std.specs.Prelude.{◌≡◌, ◌≤◌, ◌<◌, ◌^◌, ◌+◌, ◌%◌, ℕ, List, Some, length, OnOk};
+ghost use Rattle.std.specs.Prelude.{◌≡◌, ◌<◌, ◌^◌, ◌+◌, ◌%◌, ℕ, List, Some, length, OnOk};
 ghost use Rattle.byteorder.specs.Endian.{big_bytes};
 ghost use Rattle.rio_host.specs.Image.{Put};
 ghost use Rattle.rio_host.specs.Host.{Elapses, IsDiskCause, IsQuiet, IsWithin, OnlyWrites};
+ghost use Rattle.rio_chain.specs.Becoming.{FileBecomes};
 ghost use Rattle.rio_chain.specs.Stops.{BodyThenWord, IsBodyBehind, IsWordOrNot};
 
 use rio_host::{Failed, Host};
@@ -17,9 +18,8 @@ pub fn put_behind<H: Host>(host: &mut H, place: u64, tail: &[u8], word: u32) -> 
     ensures any_moment { (file : List ℕ) → (H.view host.old).holds ≡ Some file
         → Elapses (H.view host.old) (H.view host.new)
         (IsBodyBehind (H.view host.old) file place tail.now (big_bytes 4 word)) }
-    ensures holds { OnOk result ((file : List ℕ) → (H.view host.old).holds ≡ Some file
-        → (new : List ℕ) × ((H.view host.new).holds ≡ Some new)
-        × BodyThenWord file place tail.now (big_bytes 4 word) new) }
+    ensures holds { OnOk result (FileBecomes (H.view host.old) (H.view host.new)
+        (λ file. BodyThenWord file place tail.now (big_bytes 4 word))) }
     ensures quiet { OnOk result (IsQuiet (H.view host.new)) }
     ensures writes { OnlyWrites (H.view host.old) (H.view host.new) }
     ensures cause { IsDiskCause (H.view host.old) (H.view host.new) result }
@@ -39,9 +39,8 @@ pub fn put_word<H: Host>(host: &mut H, place: u64, word: u32) -> Result<(), Fail
     ensures any_moment { (file : List ℕ) → (H.view host.old).holds ≡ Some file
         → Elapses (H.view host.old) (H.view host.new)
         (IsWordOrNot (H.view host.old) file place (big_bytes 4 word)) }
-    ensures holds { OnOk result ((file : List ℕ) → (H.view host.old).holds ≡ Some file
-        → (new : List ℕ) × ((H.view host.new).holds ≡ Some new)
-        × Put place (big_bytes 4 word) file new) }
+    ensures holds { OnOk result (FileBecomes (H.view host.old) (H.view host.new)
+        (Put place (big_bytes 4 word))) }
     ensures quiet { OnOk result (IsQuiet (H.view host.new)) }
     ensures writes { OnlyWrites (H.view host.old) (H.view host.new) }
     ensures cause { IsDiskCause (H.view host.old) (H.view host.new) result }

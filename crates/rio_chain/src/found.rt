@@ -1,5 +1,5 @@
 //! What stands at a place of a file: a record, the first record, or a gap.
-ghost use Rattle.std.specs.Prelude.{◌≡◌, ◌+◌, ◌<◌, ◌≤◌, ◌^◌, ◌%◌, ◌↔◌, codes, length, IsTrue, IfOk, IfErr, IfSome};
+ghost use Rattle.std.specs.Prelude.{◌≡◌, ◌+◌, ◌<◌, ◌≤◌, ◌^◌, ◌%◌, ◌↔◌, length, IsTrue, IfOk, IfErr, IfSome};
 ghost use Rattle.byteorder.specs.Endian.{big_number};
 ghost use Rattle.rio_host.specs.Host.{IsLength, IsWithin};
 ghost use Rattle.rio_host.specs.OnlyReads.{OnlyReads};

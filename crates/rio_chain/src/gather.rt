@@ -1,8 +1,10 @@
 //! A chain is made of the segments of a file.
 ghost use Rattle.std.specs.Prelude.{◌≡◌, ◌<◌, ◌≤◌, ◌^◌, IfOk};
 ghost use Rattle.rio_chain.specs.Adjoining.{AreSegments};
-ghost use Rattle.rio_chain.specs.Placing.{file_end, gaps_in, record_count};
+ghost use Rattle.rio_chain.specs.Merging.{spans_in};
+ghost use Rattle.rio_chain.specs.Placing.{file_end, gaps_in};
 
+use crate::segment::Span;
 use crate::{Chain, Segment, Segments};
 use rio_free::FreeList;
 use rio_num::NoMemory;
@@ -27,18 +29,21 @@ fn gaps_of(alloc: Global, segments: &[Segment]) -> Result<FreeList, NoMemory>
     Ok(gaps)
 }
 
-// How many of them are records.
-fn count_records(segments: &[Segment]) -> u64
-    ensures { result ≡ record_count segments.now }
+// The records among the segments.
+fn spans_of(alloc: Global, segments: &[Segment]) -> Result<Vec<Span>, NoMemory>
+    ensures { IfOk result (λ spans. spans.items ≡ spans_in segments.now) }
 {
-    let mut count: u64 = 0;
+    let mut spans = Vec::new(alloc);
     for segment in segments {
         match segment {
-            Segment::Record { .. } => count += 1,
+            Segment::Record { place, length } => spans.push(Span {
+                place: *place,
+                length: *length,
+            })?,
             Segment::Gap { .. } => {}
         }
     }
-    count
+    Ok(spans)
 }
 
 /// END: the place behind the last of the segments, the first of which begins at place 100.
@@ -66,12 +71,10 @@ impl Chain {
             (λ chain. chain ≡ record { segments = segments; spare = 0; spent = false }) }
     {
         let alloc = segments.allocator();
-        let gaps = gaps_of(alloc, segments.as_slice())?;
         Ok(Chain {
-            segments: Vec::from_slice(alloc, segments.as_slice())?,
-            gaps,
+            records: spans_of(alloc, segments.as_slice())?,
+            gaps: gaps_of(alloc, segments.as_slice())?,
             end: end_of(segments.as_slice()),
-            live: count_records(segments.as_slice()),
             spare: 0,
             spent: false,
         })

@@ -1,23 +1,17 @@
 //! The chain that is kept beside a file.
-ghost use Rattle.std.specs.Prelude.{◌≡◌, ◌+◌, ◌<◌, ◌≤◌, ◌^◌, nat_lt, vec_len, vec_capacity};
-ghost use Rattle.std.specs.List.{prefix_len};
-ghost use Rattle.rio_free.specs.Gaps.{HasGapFor};
-ghost use Rattle.rio_chain.specs.Adjoining.{AreAdjacent, segment_place};
-ghost use Rattle.rio_chain.specs.Placing.{gaps_in, with_segment};
-
-use crate::{Segment, Segments};
+use crate::segment::Span;
 use rio_free::FreeList;
 use rio_num::NoMemory;
 use std::alloc::Global;
 use std::marker::Model;
 
-/// The chain of a file: its segments, with room for later changes. It changes as the file does.
+/// The chain of a file: its records and its gaps, with room for later changes. It changes as the file
+/// does.
 #[derive(Debug, Drop)]
 pub struct Chain {
-    pub(crate) segments: Vec<Segment>,
+    pub(crate) records: Vec<Span>,
     pub(crate) gaps: FreeList,
     pub(crate) end: u64,
-    pub(crate) live: u64,
     pub(crate) spare: usize,
     pub(crate) spent: bool,
 }
@@ -26,19 +20,24 @@ impl Model for Chain {
     ghost use Rattle.std.specs.Prelude.{◌≡◌, ◌+◌, ◌≤◌, vec_len, vec_capacity};
     ghost use Rattle.rio_chain.specs.Adjoining.{AreSegments};
     ghost use Rattle.rio_chain.specs.Chains.{ChainState};
-    ghost use Rattle.rio_chain.specs.Placing.{file_end, gaps_in, record_count};
+    ghost use Rattle.rio_chain.specs.Merging.{merged, spans_in};
+    ghost use Rattle.rio_chain.specs.Placing.{file_end, gaps_in};
 
     ghost Value = { ChainState };
 
-    ghost view = { λ c. record { segments = c.segments.items; spare = c.spare; spent = c.spent } };
+    ghost view = { λ c. record {
+      segments = merged c.records.items c.gaps.gaps;
+      spare = c.spare;
+      spent = c.spent;
+    } };
 
     ghost invariant = { λ c. record {
-      shape : AreSegments c.segments.items;
-      gaps_are : c.gaps.gaps ≡ gaps_in c.segments.items;
-      end_is : c.end ≡ file_end c.segments.items;
-      live_is : c.live ≡ record_count c.segments.items;
+      shape : AreSegments (merged c.records.items c.gaps.gaps);
+      records_are : c.records.items ≡ spans_in (merged c.records.items c.gaps.gaps);
+      gaps_are : c.gaps.gaps ≡ gaps_in (merged c.records.items c.gaps.gaps);
+      end_is : c.end ≡ file_end (merged c.records.items c.gaps.gaps);
       low : c.end ≤ 1999999996;
-      room : vec_len c.segments + c.spare + c.spare ≤ vec_capacity c.segments;
+      room : vec_len c.records + c.spare ≤ vec_capacity c.records;
       gap_room : c.spare ≤ c.gaps.spare;
     } };
 }
@@ -61,7 +60,7 @@ impl Chain {
     pub fn live(&self) -> u64
         ensures { result ≡ record_count self.now.segments }
     {
-        self.live
+        self.records.len() as u64
     }
 
     /// The gaps, in order of place.
@@ -75,15 +74,13 @@ impl Chain {
     pub fn copy(&self) -> Result<Chain, NoMemory>
         ensures { IfOk result (λ chain. chain ≡ self.now) }
     {
-        let alloc = *self.segments.allocator();
-        let room = self.segments.len() + self.spare + self.spare;
-        let mut segments = Vec::with_capacity(alloc, room)?;
-        segments.extend_from_slice(&self.segments)?;
+        let alloc = *self.records.allocator();
+        let mut records = Vec::with_capacity(alloc, self.records.len() + self.spare)?;
+        records.extend_from_slice(&self.records)?;
         Ok(Chain {
-            segments,
+            records,
             gaps: self.gaps.copy()?,
             end: self.end,
-            live: self.live,
             spare: self.spare,
             spent: self.spent,
         })
@@ -97,51 +94,27 @@ impl Chain {
         if self.spare as u64 >= n {
             return Ok(());
         }
-        if n > 0x3fff_ffff_ffff_ffff {
-            return Err(NoMemory);
-        }
         self.gaps.reserve(n)?;
-        self.segments.reserve(2 * n as usize)?;
+        self.records.reserve(n as usize)?;
         self.spare = n as usize;
         Ok(())
     }
 }
 
-// How many segments begin before the place.
-pub(crate) fn count_before(segments: &[Segment], place: u64) -> usize
-    requires { AreAdjacent 100 segments.now }
-    ensures { result ≡ prefix_len (λ s. nat_lt (segment_place s) place) segments.now }
-{
-    segments.partition_point(|segment| segment.place() < place)
-}
-
-// Puts a record at the front of the gap at `place`, where there is room for one segment more.
-fn fill_gap(segments: &mut Vec<Segment>, place: u64, n: u64)
-    requires adjacent { AreAdjacent 100 segments.old.items }
-    requires fit { HasGapFor (gaps_in segments.old.items) place n }
-    requires room { vec_len segments.old + 1 ≤ vec_capacity segments.old }
-    requires fits { place + n < 2 ^ 64 }
-    ensures items { segments.new.items ≡ with_segment place n segments.old.items }
-    ensures len { vec_len segments.new ≤ vec_len segments.old + 1 }
-    ensures room { vec_capacity segments.old ≤ vec_capacity segments.new }
-{
-    let at = count_before(segments, place);
-    let rest = segments[at].length() - n;
-    segments[at] = Segment::Record { place, length: n };
-    if rest > 0 {
-        let gap = Segment::Gap {
-            place: place + n,
-            length: rest,
-        };
-        let _ = segments.insert(at + 1, gap);
-    }
-}
-
 impl Chain {
-    ghost use Rattle.std.specs.Prelude.{◌≡◌, ◌+◌, ◌-◌, ◌%◌, ◌≤◌, ◌∷◌, ◌++◌, [], MatchOption, IfSome, false};
+    ghost use Rattle.std.specs.Prelude.{◌≡◌, ◌+◌, ◌-◌, ◌%◌, ◌≤◌, ◌∷◌, ◌++◌, [], nat_lt, MatchOption, IfSome, false};
+    ghost use Rattle.std.specs.List.{prefix_len};
     ghost use Rattle.rio_free.specs.Gaps.{HasGapFor};
     ghost use Rattle.rio_chain.specs.declared.segment.Segment.TheVariants.{Record};
+    ghost use Rattle.rio_chain.specs.Merging.{spans_in};
     ghost use Rattle.rio_chain.specs.Placing.{HasRest, IsPlaceFor, file_end, gaps_in, with_segment};
+
+    // How many records begin before the place.
+    pub(crate) fn count_before(&self, place: u64) -> usize
+        ensures { result ≡ prefix_len (λ r. nat_lt r.place place) (spans_in self.now.segments) }
+    {
+        self.records.partition_point(|record| record.place < place)
+    }
 
     // How many bytes are left behind a record of `n` bytes in the gap at `place`: None at END.
     pub(crate) fn rest_behind(&self, place: u64, n: u64) -> Option<u64>
@@ -152,11 +125,10 @@ impl Chain {
         ensures aligned { place % 4 ≡ 0 }
         ensures low { place ≤ 1999999996 }
     {
-        if place == self.end {
-            return None;
+        match self.gaps.gap_over(place) {
+            Some(gap) => Some(gap.length - n),
+            None => None,
         }
-        let at = count_before(&self.segments, place);
-        Some(self.segments[at].length() - n)
     }
 
     // Puts a record of `n` bytes behind the last segment.
@@ -170,13 +142,12 @@ impl Chain {
           spare = self.old.spare - 1;
         } }
     {
-        let record = Segment::Record {
+        let record = Span {
             place: self.end,
             length: n,
         };
-        let _ = self.segments.push(record);
+        let _ = self.records.push(record);
         self.end += n;
-        self.live += 1;
         self.spare -= 1;
     }
 
@@ -191,9 +162,9 @@ impl Chain {
           spare = self.old.spare - 1;
         } }
     {
-        fill_gap(&mut self.segments, place, n);
+        let at = self.count_before(place);
+        let _ = self.records.insert(at, Span { place, length: n });
         self.gaps.take(place, n);
-        self.live += 1;
         self.spare -= 1;
     }
 

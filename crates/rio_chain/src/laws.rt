@@ -1,4 +1,5 @@
 //! Laws of the segments of a file.
+ghost use Rattle.rio_chain.specs.FewerRecords.{IsLeftByReleases, KeepsOtherRecords, KeepsSegments};
 ghost use Rattle.rio_chain.specs.Laws.{HasOneBreak, HasOneChain, IsAlwaysOne, IsLaidByPuts, IsNeverBoth, IsReadOfRecords};
 ghost use Rattle.rio_chain.specs.NewRecords.{AreNewRecords};
 
@@ -29,4 +30,13 @@ pub fn laid_by_puts()
 /// and at most three zero bytes, up to a length that is a multiple of four.
 pub fn new_record_is_whole()
     ensures { AreNewRecords }
+{}
+
+/// Segments of a file without a record, but the first, are segments of a file. There is one record
+/// fewer, its bytes are free, as one gap with the gaps on both sides, or as a part of what is behind
+/// END, and the other records keep their places and their bytes.
+pub fn one_record_less()
+    ensures left { IsLeftByReleases }
+    ensures segments { KeepsSegments }
+    ensures records { KeepsOtherRecords }
 {}

@@ -1,15 +1,18 @@
 //! The chain of a file: records and gaps, one behind the other from place 100 to END. `walk` reads them, or tells the
 //! first place where they break, and reads nothing of a record but its word and its key. `Chain` keeps them beside the
-//! file: `plan` places records by the rule, and `put_record` puts one, at END or in a gap, so that a stop at any moment
-//! leaves the segments of before or of after. `put_behind` and `put_word` are the two ways in which a word takes effect:
-//! with bytes behind it that are on the disk before, and alone. `key_at` reads a key of a file, and `end_of` tells where
-//! segments end. `new_record` makes a record as it is put: its key, its data, and the zero bytes that raise its length to a
-//! multiple of four.
+//! file, the records in one list and the gaps in another: `plan` places records by the rule, `put_record` puts one, at END or
+//! in a gap, and `release` frees the bytes of one: they are one gap with the gaps on both sides, or END is lowered to them.
+//! A stop at any moment of either leaves the segments of before or of after. `put_behind` and `put_word` are the two ways in
+//! which a word takes effect: with bytes behind it that are on the disk before, and alone. `key_at` reads a key of a file,
+//! and `end_of` tells where segments end. `new_record` makes a record as it is put: its key, its data, and the zero bytes
+//! that raise its length to a multiple of four.
 //!
 //! The definitions stand in `specs/`: `Segments` (what stands at each place, END, and where the chain breaks), `Laws`
-//! (a file has one list of segments or one first break), `Adjoining` (segments without what they hold), `Placing` (the
-//! choice of place), `Changes` (what a put makes of the segments), `Stops` (what a stop leaves), `Record` (the written form
-//! of a record) and `NewRecords` (each new record is one of the chain, its key is read again, and its data stand behind it).
+//! (a file has one list of segments or one first break), `Adjoining` (segments without what they hold), `Merging` (segments
+//! as records and gaps, merged by place), `Placing` (the choice of place), `Changes` (what a put and a release make of the
+//! segments), `Releasing` (what a release makes of them without what they hold), `FewerRecords` (what is left then), `Stops`
+//! (what a stop leaves), `Record` (the written form of a record) and `NewRecords` (each new record is one of the chain, its
+//! key is read again, and its data stand behind it).
 //! Its tests stand in `rio_file_rows`.
 #![tactic(auto)]
 
@@ -25,6 +28,7 @@ mod put;
 mod read_back;
 mod reads;
 mod record;
+mod release;
 mod segment;
 mod walking;
 
@@ -33,7 +37,9 @@ pub use fault::{PlanFault, WalkFault};
 pub use gather::end_of;
 pub use kept::Chain;
 pub use key_words::KeyWords;
-pub use laws::{chain_or_break, laid_by_puts, new_record_is_whole, one_chain, record_key};
+pub use laws::{
+    chain_or_break, laid_by_puts, new_record_is_whole, one_chain, one_record_less, record_key,
+};
 pub use reads::key_at;
 pub use record::{NewRecord, new_record};
 pub use rio_host::ReadFault;

@@ -28,11 +28,12 @@ fn append_word(body: &mut Bytes, rest: Option<u64>)
 impl Chain {
     ghost use Rattle.std.specs.Prelude.{◌≡◌, ◌+◌, ◌-◌, ◌≤◌, ℕ, List, Some, length, true, false, OnOk, OnErr};
     ghost use Rattle.rio_host.specs.Host.{Elapses, IsDiskCause, IsQuiet, OnlyWrites};
+    ghost use Rattle.rio_chain.specs.Becoming.{ChainBecomes};
     ghost use Rattle.rio_chain.specs.Chains.{HasChain, HoldsChain};
     ghost use Rattle.rio_chain.specs.Changes.{with_record};
     ghost use Rattle.rio_chain.specs.Placing.{IsPlaceFor, file_end, with_segment};
     ghost use Rattle.rio_chain.specs.Segments.{Link, IsRecord};
-    ghost use Rattle.rio_chain.specs.Stops.{IsEither, KeepsFront};
+    ghost use Rattle.rio_chain.specs.Stops.{IsEither};
 
     /// Puts a record at `place`, which is the rule's for its length, or END. The body is the whole
     /// record for this place, with four bytes spare, which are used. A stop at any moment leaves the
@@ -57,11 +58,8 @@ impl Chain {
             → (H.view host.old).holds ≡ Some file → HasChain links self.old.segments file
             → Elapses (H.view host.old) (H.view host.new)
             (IsEither (H.view host.old) file links (with_record place body.old.bytes links)) }
-        ensures holds { OnOk result ((file : List ℕ) (links : List Link)
-            → (H.view host.old).holds ≡ Some file → HasChain links self.old.segments file
-            → (new : List ℕ) × ((H.view host.new).holds ≡ Some new)
-            × HasChain (with_record place body.old.bytes links) self.new.segments new
-            × KeepsFront file new) }
+        ensures holds { OnOk result (ChainBecomes (H.view host.old) (H.view host.new)
+            self.old.segments self.new.segments (with_record place body.old.bytes)) }
         ensures quiet { OnOk result (IsQuiet (H.view host.new)) }
         ensures chain { OnOk result (self.new ≡ record self.old {
           segments = with_segment place (length body.old.bytes) self.old.segments;

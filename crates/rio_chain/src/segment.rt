@@ -45,3 +45,10 @@ impl Segment {
 
 /// The segments of a file, one behind the other.
 pub type Segments = Items<Segment>;
+
+/// Where a record stands, and how many bytes it has.
+#[derive(Clone, Copy, Debug, PartialEq, Eq)]
+pub(crate) struct Span {
+    pub(crate) place: u64,
+    pub(crate) length: u64,
+}

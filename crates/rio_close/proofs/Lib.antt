@@ -17,3 +17,4 @@ pub mod ListRead
 pub mod ClosedFile
 pub mod Closing
 pub mod Fitting
+pub mod EndWord

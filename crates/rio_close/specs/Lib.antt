@@ -1,4 +1,5 @@
 pub mod Causes
+pub mod EndWord
 pub mod Fields
 pub mod Leaving
 pub mod Opens

@@ -5,8 +5,9 @@
 //! any moment leaves a file that reads as before, and that is marked as open or closed whole.
 //!
 //! The definitions stand in `specs/`: `Opens` and `Causes` (what a call that reads answers, and why
-//! it fails), `Written` (what a close writes), `Fields` (its last writes) and `Leaving` (what a stop
-//! leaves). What a close needs is defined in `rio_state`. Its tests stand in `rio_file_rows`.
+//! it fails), `Written` (what a close writes), `Fields` (its last writes), `Leaving` (what a stop
+//! leaves) and `EndWord` (a file whose header says another END). What a close needs is defined in
+//! `rio_state`. Its tests stand in `rio_file_rows`.
 #![tactic(auto)]
 
 mod fault;
@@ -20,7 +21,7 @@ mod record;
 mod writing;
 
 pub use fault::ReportFault;
-pub use laws::directory_in_front;
+pub use laws::{directory_in_front, end_is_ignored, mark_keeps_state};
 pub use making::close_records;
 pub use open::{open_closed, read_closed};
 pub use parts::CloseRecords;

@@ -1,5 +1,4 @@
 //! A closed file is opened.
-ghost use Rattle.std.specs.Prelude.{◌≡◌};
 ghost use Rattle.rio_host.specs.Host.{IsLength};
 ghost use Rattle.rio_host.specs.OnlyReads.{OnlyReads};
 ghost use Rattle.rio_dir.specs.Closed.{closed_file};

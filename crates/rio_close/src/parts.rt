@@ -1,5 +1,5 @@
 //! What a close writes, and its fields of the header and of the directory record.
-ghost use Rattle.std.specs.Prelude.{◌≡◌, ◌+◌, ◌<◌, ◌^◌, IfOk, IfSome};
+ghost use Rattle.std.specs.Prelude.{◌≡◌, ◌<◌, ◌^◌, IfOk, IfSome};
 ghost use Rattle.std.specs.Option.{option_copied};
 ghost use Rattle.rio_close.specs.Written.{dir_field_bytes, free_field_bytes, info_field_bytes};
 

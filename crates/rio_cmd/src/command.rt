@@ -1,5 +1,4 @@
 //! The command of one line, by its first word.
-ghost use Rattle.std.specs.Prelude.{◌≡◌};
 ghost use Rattle.rio_token.specs.Reading.{Reads};
 ghost use Rattle.rio_step.specs.Script.{cycle_at, ended_at, put_command_at};
 ghost use Rattle.rio_cmd.specs.Built.{built_command_at, built_get_at};

@@ -1,5 +1,5 @@
 -- A file that begins with the bytes of a new one is read as it.
-use Rattle.std.proofs.Common.{ap}
+use Rattle.std.proofs.Common.{refl, ap}
 use Rattle.rio_head.specs.Uuid.{uuid_of_file}
 use Rattle.rio_state.specs.Closing.{KeptRecords}
 use Rattle.rio_create.specs.NewFile.{NewFilesAreRead, new_file}
@@ -14,6 +14,7 @@ new_files name datime file short low has =
     record {
       bytes = has;
       links = links name uuid datime short long low;
+      links_are = refl;
       chain = new_chain name uuid datime short long low file has;
       head = open_head name uuid datime short long low file has;
       marked = end_word name uuid datime short long low file has;

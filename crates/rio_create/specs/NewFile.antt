@@ -4,7 +4,7 @@ use Rattle.byteorder.specs.Endian.{big_bytes}
 use Rattle.rio_num.specs.Text.{text_bytes}
 use Rattle.rio_host.specs.Image.{Has}
 use Rattle.rio_head.specs.{Uuid.{uuid_of_file}, Written.{written_dir, written_head}, declared.dir.DirRecord.{DirRecord}, declared.head.FileHead.{FileHead}}
-use Rattle.rio_chain.specs.{Chains.{HasChain}, Segments.{Link}, declared.segment.Segment.{Segment, TheVariants.{Record}}}
+use Rattle.rio_chain.specs.{Chains.{HasChain}, Segments.{Link, RecordAt}, declared.segment.Segment.{Segment, TheVariants.{Record}}}
 use Rattle.rio_chain.specs.{Record.{record_bytes}, declared.key_words.KeyWords.{KeyWords}}
 use Rattle.rio_machine.specs.{Limits.{head_length}, State.{empty_state}}
 use Rattle.rio_state.specs.{Closing.{held_of, kept_in, padded_length}, DirectoryKeys.{AreKeysOf}, KeyedRecords.{first_place, info_key, keyed_records}}
@@ -77,13 +77,18 @@ first_length name = padded_length (nbytes_name_of name + 60)
 abbrev pub first_segments : List ℕ → List Segment
 first_segments name = Record first_place (first_length name) ∷ []
 
+-- its one record, with its bytes
+abbrev pub first_links : List ℕ → ℕ → List Link
+first_links name datime = RecordAt first_place (first_record name (uuid_of_file name) datime) ∷ []
+
 -- ---- what it stands for
 
--- A file that was made under this name at this time: its bytes are those, whatever stands behind its END. It has one segment and
+-- A file that was made under this name at this time: its bytes are those, whatever stands behind its END. It has one record and
 -- an open header, stands for the empty state, and keeps nothing but its first record.
 pub record IsNewFile (name : List ℕ) (datime : ℕ) (file : List ℕ) : Type 0 where
   pub bytes : Has file 0 (new_file name datime)
   pub links : List Link
+  pub links_are : links ≡ first_links name datime
   pub chain : HasChain links (first_segments name) file
   pub head : HasOpenHead file (nbytes_name_of name)
   pub marked : IsMarkedOpen file

@@ -1,5 +1,5 @@
 //! A new file in memory.
-ghost use Rattle.std.specs.Prelude.{◌≡◌, ◌≤◌, ◌+◌, ◌%◌, [], ◌∷◌, length, false, IfOk};
+ghost use Rattle.std.specs.Prelude.{◌≡◌, ◌≤◌, ◌%◌, [], ◌∷◌, length, false, IfOk};
 ghost use Rattle.rio_chain.specs.declared.segment.Segment.TheVariants.{Record};
 ghost use Rattle.rio_create.specs.NewFile.{first_segments, nbytes_name_of, new_file, new_head};
 

@@ -1,6 +1,6 @@
 //! The first record of a file.
-ghost use Rattle.std.specs.Prelude.{◌≡◌, ◌≤◌, ◌<◌, ◌+◌, ◌%◌, ◌^◌, length, IfOk};
-ghost use Rattle.rio_create.specs.NewFile.{file_texts, first_data, first_length, first_record, first_words, nbytes_name_of, new_directory};
+ghost use Rattle.std.specs.Prelude.{◌≡◌, ◌≤◌, ◌<◌, ◌+◌, length, IfOk};
+ghost use Rattle.rio_create.specs.NewFile.{file_texts, first_length, first_record, first_words, nbytes_name_of, new_directory};
 
 use rio_chain::{KeyWords, new_record};
 use rio_head::{DirRecord, write_dir};

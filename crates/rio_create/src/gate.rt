@@ -1,5 +1,5 @@
 //! The gate: a file is made by the word at its beginning.
-ghost use Rattle.std.specs.Prelude.{◌≡◌, ◌≤◌, ◌<◌, ◌^◌, ◌+◌, ◌++◌, ℕ, List, Some, codes, length, true, OnOk};
+ghost use Rattle.std.specs.Prelude.{◌≡◌, ◌<◌, ◌^◌, ◌+◌, ◌++◌, ℕ, List, Some, codes, length, true, OnOk};
 ghost use Rattle.rio_host.specs.Host.{Elapses, IsDiskCause, IsQuiet, OnlyWrites};
 ghost use Rattle.rio_host.specs.Image.{Has};
 ghost use Rattle.rio_dir.specs.Unborn.{is_unborn};

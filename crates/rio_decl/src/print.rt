@@ -2,7 +2,6 @@
 ghost use Rattle.std.specs.Prelude.{◌≡◌, ◌++◌, codes, OnOk, OnErr};
 ghost use Rattle.std.specs.List.{flat_map};
 ghost use Rattle.rio_num.specs.Room.{with_more};
-ghost use Rattle.rio_model.specs.Lists.{separated};
 ghost use Rattle.rio_model.specs.ClassText.{base_text, bases_text, kind_text, member_text, members_text, primitive_text, text_of_class};
 
 use rio_num::{Bytes, NoMemory};

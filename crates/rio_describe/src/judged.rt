@@ -1,5 +1,5 @@
 //! Class lists of which it is known which classes have a TObject among their bases.
-ghost use Rattle.std.specs.Prelude.{◌≡◌, ◌∷◌, [], ◌++◌, is_some, length, map, codes, pos, IfOk, OnOk};
+ghost use Rattle.std.specs.Prelude.{◌≡◌, ◌∷◌, [], ◌++◌, is_some, map, IfOk, OnOk};
 ghost use Rattle.rio_format.specs.Bases.{visit_bases};
 ghost use Rattle.rio_format.specs.Bodies.{built_in};
 ghost use Rattle.rio_format.specs.Lists.{listed};

@@ -2,7 +2,7 @@
 use Rattle.std.proofs.Common.{◌≡◌, ℕ, ◌<◌, ◌&&◌, Bool, true, false, ltb, eqb, List, refl, ap, sym, subst, ◌∙◌, arith}
 use Rattle.std.proofs.{lemmas.Bool.{ltb-true, ltb-false, lt-ltb, le-ltb, eqb-true, eqb-false, Decides.{nat_tests}}, lemmas.Cmp.{nat_list_cmp_total}}
 use Rattle.std.proofs.{lemmas.Map.Text.{is_eq-slice_cmp}, lemmas.Slice.Eq.{bytes_eq-Decides}}
-use Rattle.std.specs.{Str.{bytes_eq}, Ordering.{ordering_reverse, is_eq}, Cmp.Lexicographic.{slice_cmp}}
+use Rattle.std.specs.{Str.{bytes_eq}, Ordering.{ordering_reverse, is_eq}}
 use Rattle.std.specs.declared.cmp.Ordering.{Ordering, TheVariants.{Less, Equal, Greater}}
 use Rattle.rio_num.specs.Word.{name_order}
 use Rattle.rio_dir.specs.Table.{comes_before, first_by, is_at_cycle, is_before, is_name_before, is_of_name}

@@ -1,7 +1,5 @@
 //! The keys of a file, in the order of the key list.
 ghost use Rattle.std.specs.Prelude.{◌≡◌, ◌+◌, ◌<◌, ◌^◌, false, slice_get};
-ghost use Rattle.std.specs.List.{All};
-ghost use Rattle.rio_key.specs.Written.{FitsKey};
 ghost use Rattle.std.specs.Option.{option_copied, option_map_or};
 ghost use Rattle.rio_dir.specs.Table.{heads_size, if_matching, is_at_cycle, is_before, is_name_before, is_of_name};
 

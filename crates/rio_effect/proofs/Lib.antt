@@ -1,4 +1,10 @@
+pub mod DeleteEffect
+pub mod DeleteKeys
+pub mod DeleteNeeds
+pub mod DeleteObject
 mod Examples
+pub mod FileChanges
+pub mod FileRunLaws
 pub mod FreeItems
 pub mod Fronts
 pub mod Held
@@ -12,6 +18,7 @@ pub mod PutEffect
 pub mod PutKeys
 pub mod PutObject
 pub mod ReadClasses
+pub mod SavedDeletes
 pub mod SavedPuts
 pub mod StateNeeds
 pub mod Versions

@@ -36,7 +36,7 @@ sums_more : (x y p q r s : ℕ) → x ≤ p + r → y ≤ q + s → 0 + x + y �
 sums_more x y p q r s one two = omega (arith, one, two)
 
 -- not one of the class list
-not_info : (head : KeyHead) → is_top_key head ≡ true → is_info_key head ≡ false
+pub not_info : (head : KeyHead) → is_top_key head ≡ true → is_info_key head ≡ false
 not_info head top = by (has_info_name head) (and_parts (is_in_directory head) (not (has_info_name head)) top)
   where
     by : (b : Bool) → (is_in_directory head ≡ true) × (not b ≡ true) → (is_in_directory head && b) ≡ false
@@ -67,7 +67,7 @@ module _ (old new : KeptRecords) (head : KeyHead) (name : new.name ≡ old.name)
   pub keeps_one_more : KeepsOneMore old new head
   keeps_one_more = record { name = name; heads = heads; count = count; list = list_more; free = free_more; need = need_more }
 
-counted_more : (info : Option KeyedRecord) (a b : List KeyHead) → length b ≡ length a + 1 → kept_count info b ≡ kept_count info a + 1
+pub counted_more : (info : Option KeyedRecord) (a b : List KeyHead) → length b ≡ length a + 1 → kept_count info b ≡ kept_count info a + 1
 counted_more None a b e = omega (arith, e)
 counted_more (Some r) a b e = omega (arith, e)
 

@@ -69,7 +69,7 @@ module _ {A : Type 0} where
 
 -- ---- keys
 
-behind_not_in : (h : KeyHead) (heads : List KeyHead) → AreBehind h.name h.cycle heads → In h heads → ⊥
+pub behind_not_in : (h : KeyHead) (heads : List KeyHead) → AreBehind h.name h.cycle heads → In h heads → ⊥
 behind_not_in h [] are i = i
 behind_not_in h (k ∷ ks) are (inl same) =
     let e : comes_before h.name h.cycle h.name h.cycle ≡ true = ap (λ (x : KeyHead). comes_before h.name h.cycle x.name x.cycle) (sym same) ∙ are.0 in

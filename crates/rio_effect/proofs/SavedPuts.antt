@@ -50,14 +50,14 @@ same_trees : (o : Option Tree) → is_some (option_map saved_tree o) ≡ is_some
 same_trees None = refl
 same_trees (Some t) = refl
 
-trees_named : (m : State) (name : List ℕ) → names_tree (saved_of m) name ≡ names_tree m name
+pub trees_named : (m : State) (name : List ℕ) → names_tree (saved_of m) name ≡ names_tree m name
 trees_named m name = ap is_some (saved_keeps_the_rest m name) ∙ same_trees (get m.trees name)
 
 same_classes : (m : State) → (saved_of m).classes ≡ m.classes
 unfolding saved_of
 same_classes m = refl
 
-same_objects : (m : State) → (saved_of m).objects ≡ m.objects
+pub same_objects : (m : State) → (saved_of m).objects ≡ m.objects
 unfolding saved_of
 same_objects m = refl
 

@@ -1,3 +1,5 @@
+pub mod Deletes
+pub mod FileRuns
 pub mod Laws
 pub mod More
 pub mod ObjectRecord

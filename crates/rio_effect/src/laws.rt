@@ -1,4 +1,7 @@
-//! Laws of a record more in the chain of a file.
+//! Laws of a record more, or less, in the chain of a file.
+ghost use Rattle.rio_step.specs.Runs.{saved_of};
+ghost use Rattle.rio_effect.specs.Deletes.{DeleteKeepsLess, DeleteKeyFollows, DeleteLeavesOthers, DeleteNeedsNoMore, DeleteTakesEffect, DeletesCostNothing, DeletesHaveRecords, DeletesIgnorePending};
+ghost use Rattle.rio_effect.specs.FileRuns.{RunsAreTold, RunsHaveParts, SegmentsFollow};
 ghost use Rattle.rio_effect.specs.Laws.{FrontTells, HeldGrows, KeysHaveRecords, KeysNameObjects, KeysStandForState, KeysTellNextCycle, NeedByKeys, NeedGrows, NeedOfState, PutKeyFollows, PutTakesEffect, PutsHaveRecords, PutsIgnorePending, SavedPutKeyFollows, SavedPutTakesEffect};
 
 /// A put that isn't refused has a whole record, whose key is that of an object. With it a file
@@ -45,4 +48,37 @@ pub fn need_grows()
 /// of its segments stand for.
 pub fn front_tells()
     ensures { FrontTells }
+{}
+
+/// A run of puts and of commands that only print has marks and records, which are those of its first
+/// command and of the others; a record more makes of the segments what its length does.
+pub fn runs_are_told()
+    ensures told { RunsAreTold }
+    ensures parts { RunsHaveParts }
+    ensures segments { SegmentsFollow }
+{}
+
+/// The object of a delete that isn't refused has a record, which is found by its key. With it
+/// released the file reads as the state behind the delete, with all pending rows or without them,
+/// at which a delete doesn't look.
+pub fn delete_takes_effect()
+    ensures records { DeletesHaveRecords }
+    ensures all { DeleteTakesEffect (λ m. m) }
+    ensures saved { DeleteTakesEffect saved_of }
+    ensures pending { DeletesIgnorePending }
+{}
+
+/// Of the keys that are kept beside a file that of a deleted object is taken out, and all other
+/// objects stay. The next cycle of its name follows the greatest that is left.
+pub fn delete_leaves_others()
+    ensures keys { DeleteKeyFollows }
+    ensures objects { DeleteLeavesOthers }
+{}
+
+/// Without the record of an object a file keeps one key less. A close needs no more, and the file
+/// holds no more; a delete costs nothing.
+pub fn delete_needs_no_more()
+    ensures kept { DeleteKeepsLess }
+    ensures need { DeleteNeedsNoMore }
+    ensures cost { DeletesCostNothing }
 {}

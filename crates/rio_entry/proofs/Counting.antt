@@ -1,18 +1,13 @@
 -- The numbers of leaves, by which later leaves are counted.
-use Rattle.std.proofs.Common.{◌≡◌, ℕ, ◌+◌, ◌<◌, ◌≤◌, List, [], ◌∷◌, ◌++◌, length, take, drop, true, Option, Some, refl, sym, ap, ◌∙◌, slice_index_or, arith}
-use Rattle.std.proofs.{lemmas.List.{drop_all, drop_more, take_more}, lemmas.Slice.Eq.{bytes_eq-Decides}}
-use Rattle.std.specs.{Prelude.{ℤ, if◌then◌else◌}, Map.{lookup}, Str.{bytes_eq}}
-use Rattle.rio_leaf.specs.declared.leaf.Leaf.{Leaf}
+use Rattle.std.proofs.Common.{◌≡◌, ℕ, zero, suc, ◌+◌, ◌<◌, List, [], ◌∷◌, ◌++◌, length, take, drop, Bool, true, false, cond, Option, Some, refl, sym, ap, ◌∙◌, slice_index_or, arith}
+use Rattle.std.proofs.{lemmas.List.{append_assoc, drop-drop, drop_more, take_more}, lemmas.Slice.Eq.{bytes_eq-Decides}}
+use Rattle.std.specs.{Prelude.{ℤ, unwrap_or}, Map.{lookup}, Option.{option_map}, Str.{bytes_eq}}
+use Rattle.rio_leaf.specs.declared.{leaf.Dim.{Dim, TheVariants.{One, Fixed, Counted}}, leaf.Leaf.{Leaf}}
 use Rattle.rio_format.specs.Bodies.{Counters}
 use Rattle.rio_value.specs.{Accessors.{number_in}, declared.value.Value.{Value, out-Value}}
-use Rattle.rio_entry.specs.Leaves.{last_number, numbers_after, numbers_with}
-
--- ---- looking a number up
-
-pub last_is : (name : List ℕ) (ls : List Leaf) (vs : List Value) (own : Counters) → lookup (bytes_eq name) (numbers_after ls vs own) ≡ last_number name ls vs (lookup (bytes_eq name) own)
-last_is name [] vs own = refl
-last_is name (l ∷ ls) [] own = refl
-last_is name (l ∷ ls) (v ∷ vs) own = last_is name ls vs (numbers_with l v own)
+use Rattle.rio_entry.specs.Counting.{Places, counter_among, counter_at, counters_from, places_after}
+use Rattle.rio_entry.specs.Entries.{given_count, said_count}
+use Rattle.rio_entry.specs.Leaves.{numbers_after, numbers_with}
 
 pub same_name : (name : List ℕ) → bytes_eq name name ≡ true
 same_name name = (bytes_eq-Decides name name).1 refl
@@ -21,22 +16,52 @@ same_name name = (bytes_eq-Decides name name).1 refl
 pub left_begins : {X : Type 0} (xs : List X) (k : ℕ) (x : X) → k < length xs → x ≡ slice_index_or xs k x → drop k xs ≡ x ∷ drop (k + 1) xs
 left_begins xs k x lt e = drop_more xs k x lt ∙ ap (λ y. y ∷ drop (k + 1) xs) (sym e)
 
--- a loop over leaves with their values
-module _ (name : List ℕ) (ls : List Leaf) (vs : List Value) (k : ℕ) (found total : Option ℤ) where
-  pub last_goes_on : (l : Leaf) (v : Value) → k < length ls → k < length vs → l ≡ slice_index_or ls k l → v ≡ slice_index_or vs k v → last_number name (drop k ls) (drop k vs) found ≡ total
-      → last_number name (drop (k + 1) ls) (drop (k + 1) vs) (if bytes_eq name l.name then Some (number_in (out-Value v)) else found) ≡ total
-  last_goes_on l v lt low e f so_far =
-      let leaf : drop k ls ≡ l ∷ drop (k + 1) ls = left_begins ls k l lt e in
-      let value : drop k vs ≡ v ∷ drop (k + 1) vs = left_begins vs k v low f in
-      let one : last_number name (drop k ls) (drop k vs) found ≡ last_number name (drop (k + 1) ls) (drop (k + 1) vs) (if bytes_eq name l.name then Some (number_in (out-Value v)) else found) =
-      rw (leaf, value) refl in
-      sym one ∙ so_far
+-- ---- which leaf counts another
 
-  pub last_done : length ls ≤ k → last_number name (drop k ls) (drop k vs) found ≡ total → found ≡ total
-  last_done le so_far =
-      let none : drop k ls ≡ [] = drop_all k ls le in
-      let one : last_number name (drop k ls) (drop k vs) found ≡ found = rw none refl in
-      sym one ∙ so_far
+-- the next leaf's counter is found
+module _ (ls : List Leaf) (k : ℕ) (before : Places) (front : List (Option ℕ)) (total : List (Option ℕ)) (l : Leaf) (lt : k < length ls) (e : l ≡ slice_index_or ls k l) where
+  pub counters_go_on : front ++ counters_from (drop k ls) k before ≡ total → (front ++ counter_among l.dim before ∷ []) ++ counters_from (drop (k + 1) ls) (k + 1) ((l.name, k) ∷ before) ≡ total
+  counters_go_on so_far =
+      let leaf : drop k ls ≡ l ∷ drop (k + 1) ls = left_begins ls k l lt e in
+      let one : counters_from (drop k ls) k before ≡ counter_among l.dim before ∷ counters_from (drop (k + 1) ls) (k + 1) ((l.name, k) ∷ before) = rw leaf refl in
+      append_assoc front (counter_among l.dim before ∷ []) (counters_from (drop (k + 1) ls) (k + 1) ((l.name, k) ∷ before))
+      ∙ ap (λ (cs : List (Option ℕ)). front ++ cs) (sym one)
+      ∙ so_far
+
+-- the counter of each leaf is that of its name among the leaves before
+counter_there_from : (ls : List Leaf) (k j : ℕ) (before : Places) (l : Leaf) → k < length ls → l ≡ slice_index_or ls k l → counter_at (counters_from ls j before) k ≡ counter_among l.dim (places_after (take k ls) j before)
+counter_there_from [] k j before l lt e = absurd (omega (arith, lt))
+counter_there_from (x ∷ ls) zero j before l lt e = ap (λ (z : Leaf). counter_among z.dim before) (sym e)
+counter_there_from (x ∷ ls) (suc k) j before l lt e = counter_there_from ls k (j + 1) ((x.name, j) ∷ before) l (omega (arith, lt)) e
+
+pub counter_there : (ls : List Leaf) (k : ℕ) (l : Leaf) → k < length ls → l ≡ slice_index_or ls k l → counter_at (counters_from ls 0 []) k ≡ counter_among l.dim (places_after (take k ls) 0 [])
+counter_there ls k l lt e = counter_there_from ls k 0 [] l lt e
+
+-- ---- what it says
+
+module _ (all : List Value) where
+  abbrev pub number_there : ℕ → ℤ
+  number_there i = given_count (drop i all)
+
+  picked : (b : Bool) (n : ℤ) (j : ℕ) (o : Option ℤ) (p : Option ℕ) → n ≡ number_there j → o ≡ option_map number_there p → cond b (Some n) o ≡ option_map number_there (cond b (Some j) p)
+  picked true n j o p e f = ap (λ (m : ℤ). let r : Option ℤ = Some m in r) e
+  picked false n j o p e f = f
+
+  numbered : (name : List ℕ) (ls : List Leaf) (vs : List Value) (j : ℕ) (own : Counters) (before : Places) → length ls ≡ length vs → vs ≡ drop j all → lookup (bytes_eq name) own ≡ option_map number_there (lookup (bytes_eq name) before)
+      → lookup (bytes_eq name) (numbers_after ls vs own) ≡ option_map number_there (lookup (bytes_eq name) (places_after ls j before))
+  numbered name [] vs j own before len e so_far = so_far
+  numbered name (l ∷ ls) [] j own before len e so_far = absurd (omega (arith, len))
+  numbered name (l ∷ ls) (v ∷ vs) j own before len e so_far =
+      let n = number_in (out-Value v) in
+      let rest : vs ≡ drop (j + 1) all = ap (λ (ws : List Value). drop 1 ws) e ∙ drop-drop 1 j all in
+      let one = picked (bytes_eq name l.name) n j (lookup (bytes_eq name) own) (lookup (bytes_eq name) before) (ap given_count e) so_far in
+      numbered name ls vs (j + 1) (numbers_with l v own) ((l.name, j) ∷ before) (omega (arith, len)) rest one
+
+  -- the number of the leaf that counts, or the given count
+  pub counted_is : (dim : Dim) (ls : List Leaf) (given : ℤ) → length ls ≡ length all → unwrap_or (option_map number_there (counter_among dim (places_after ls 0 []))) given ≡ said_count dim given (numbers_after ls all [])
+  counted_is (Counted counter times) ls given len = ap (λ (o : Option ℤ). unwrap_or o given) (sym (numbered counter ls all 0 [] [] len refl refl))
+  counted_is One ls given len = refl
+  counted_is (Fixed n) ls given len = refl
 
 -- ---- one leaf more
 

@@ -1,6 +1,6 @@
 -- Entries of leaves: what fits, and the bytes, by the leaves alone; and the loops that go over them.
 use Rattle.std.proofs.{Common.{◌≡◌, ◌&&◌, ℕ, zero, suc, ◌+◌, ◌<◌, ◌≤◌, List, [], ◌∷◌, ◌++◌, length, map, take, drop, Bool, true, false, refl, sym, ap, ◌∙◌, slice_index_or, arith}, lemmas.Bool.{and_parts}}
-use Rattle.std.proofs.lemmas.List.{drop-drop, drop_all, drop_more, length-append, length-take, take_more}
+use Rattle.std.proofs.lemmas.List.{drop-drop, drop_all, length-append, length-take, take_more}
 use Rattle.rio_leaf.specs.declared.leaf.Leaf.{Leaf}
 use Rattle.rio_buffer.specs.ReaderState.{WordsMet, no_words}
 use Rattle.rio_format.specs.{Bodies.{Counters}, Slots.{kinded}, Written.{writing_of}}

@@ -1,4 +1,5 @@
 pub mod Bounds
+pub mod Counting
 pub mod Entries
 pub mod Faults
 pub mod Laws

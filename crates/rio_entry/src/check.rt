@@ -1,5 +1,5 @@
 //! Entries are checked, and no value is made.
-ghost use Rattle.std.specs.Prelude.{◌<◌, ◌^◌, List, length, Err, IfOk};
+ghost use Rattle.std.specs.Prelude.{◌≡◌, ◌<◌, ◌^◌, List, length, Err, IfOk};
 ghost use Rattle.rio_num.specs.Answers.{GivesUnless};
 ghost use Rattle.rio_num.specs.At.{GoesOn};
 ghost use Rattle.rio_num.specs.Meanings.{read};
@@ -10,10 +10,12 @@ ghost use Rattle.rio_read.specs.Passing.{pass_of};
 ghost use Rattle.rio_value.specs.declared.value.Value.{Value as Given};
 ghost use Rattle.rio_entry.specs.declared.fault.EntryFault.TheVariants.{NoMemory as OutOfMemory};
 ghost use Rattle.rio_entry.specs.declared.fault.EntryFault.{EntryFault as Fault};
+ghost use Rattle.rio_entry.specs.Counting.{counters_within};
 ghost use Rattle.rio_entry.specs.Reading.{BreaksEntry, SpellsEntry, entry_checked, entry_values, only_values};
 
 use crate::EntryFault;
 use crate::check_leaves::check_leaves;
+use crate::counter::LeafCounters;
 use crate::read::check_end;
 use rio_buffer::{ObjFault, ObjReader};
 use rio_leaf::{BranchDef, Shape};
@@ -42,14 +44,16 @@ fn pass_shape(
     classes: &Classes,
     reader: &mut ObjReader,
     shape: &Shape,
+    counters: &LeafCounters,
     counts: &[Value],
 ) -> Result<(), ObjFault>
+    requires { counters.now ≡ counters_within shape.now }
     ensures exact { ReadsAs (λ x. x) result
         (read (pass_of (entry_values classes.now shape.now counts.now)) reader.old) reader.new }
     ensures goes { GoesOn reader.old.at reader.new.at }
 {
     match shape {
-        Shape::Leaves(leaves) => check_leaves(alloc, reader, leaves.as_slice(), counts),
+        Shape::Leaves(leaves) => check_leaves(alloc, reader, leaves.as_slice(), counters, counts),
         Shape::Class(class) => pass_one(alloc, classes, reader, class.as_slice()),
     }
 }
@@ -58,17 +62,43 @@ fn check_shape(
     alloc: Global,
     classes: &Classes,
     shape: &Shape,
+    counters: &LeafCounters,
     counts: &[Value],
     bytes: &[u8],
 ) -> Result<(), EntryFault>
-    requires { length bytes.now < 2 ^ 32 }
+    requires counters { counters.now ≡ counters_within shape.now }
+    requires short { length bytes.now < 2 ^ 32 }
     ensures { GivesUnless OutOfMemory (λ done. done) result
         (only_values (read (pass_of (entry_values classes.now shape.now counts.now))
         (standing 0 bytes.now no_words))) }
 {
     let mut reader = ObjReader::new(alloc, bytes, 0);
-    pass_shape(alloc, classes, &mut reader, shape, counts)?;
+    pass_shape(alloc, classes, &mut reader, shape, counters, counts)?;
     check_end(&reader)
+}
+
+/// As [`check_entry`], for one that checks many entries of the branch and has its counters.
+pub fn check_entry_with(
+    alloc: Global,
+    classes: &Classes,
+    branch: &BranchDef,
+    counters: &LeafCounters,
+    counts: &Values,
+    bytes: &[u8],
+) -> Result<(), EntryFault>
+    requires counters { counters.now ≡ counters_within branch.now.shape }
+    requires short { length bytes.now < 2 ^ 32 }
+    ensures { GivesUnless OutOfMemory (λ done. done) result
+        (entry_checked classes.now branch.now.shape counts.now bytes.now) }
+{
+    check_shape(
+        alloc,
+        classes,
+        &branch.shape,
+        counters,
+        counts.as_slice(),
+        bytes,
+    )
 }
 
 /// Whether the bytes are an entry of the branch: the fault that [`crate::read_entry`] would tell, or that there is none.
@@ -94,5 +124,13 @@ pub fn check_entry(
     ensures exact { GivesUnless OutOfMemory (λ done. done) result
         (entry_checked classes.now branch.now.shape counts.now bytes.now) }
 {
-    check_shape(alloc, classes, &branch.shape, counts.as_slice(), bytes)
+    let counters = LeafCounters::new(alloc, &branch.shape)?;
+    check_shape(
+        alloc,
+        classes,
+        &branch.shape,
+        &counters,
+        counts.as_slice(),
+        bytes,
+    )
 }

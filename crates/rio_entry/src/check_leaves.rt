@@ -1,5 +1,5 @@
 //! Leaves are checked: of their values no more is kept than what they count.
-ghost use Rattle.std.specs.Prelude.{◌≡◌, ℕ, List, Some, min, false};
+ghost use Rattle.std.specs.Prelude.{◌≡◌, ℕ, List, [], Some, min, false};
 ghost use Rattle.rio_num.specs.At.{GoesOn};
 ghost use Rattle.rio_num.specs.Meanings.{read};
 ghost use Rattle.rio_buffer.specs.Frames.{ReadsAs};
@@ -10,10 +10,12 @@ ghost use Rattle.rio_read.specs.Passing.{pass_of};
 ghost use Rattle.rio_types.specs.declared.class.ClassDef.{ClassDef as Class};
 ghost use Rattle.rio_value.specs.declared.value.Value.{Value as Given};
 ghost use Rattle.rio_entry.specs.Bounds.{most_values};
+ghost use Rattle.rio_entry.specs.Counting.{counters_from};
 ghost use Rattle.rio_entry.specs.Entries.{counter_saying};
 ghost use Rattle.rio_entry.specs.Leaves.{is_any_counted, kind_layout, said_by, number_of_value, numbers_of_values, without_number};
 ghost use Rattle.rio_entry.specs.Reading.{entry_values};
 
+use crate::counter::LeafCounters;
 use crate::leaf::{given_count, letter_kind, said_count};
 use rio_buffer::{ObjFault, ObjReader};
 use rio_leaf::{Dim, Leaf, is_counted_dim};
@@ -131,8 +133,10 @@ pub(crate) fn pass_counting(
     alloc: Global,
     reader: &mut ObjReader,
     leaves: &[Leaf],
+    counters: &LeafCounters,
     counts: &[Value],
 ) -> Result<Values, ObjFault>
+    requires { counters.now ≡ counters_from leaves.now 0 [] }
     ensures exact { (classes : List Class) → ReadsAs (λ x. x) result
         (read (numbers_of_values (entry_values classes (Leafy leaves.now) counts.now)) reader.old)
         reader.new }
@@ -141,7 +145,7 @@ pub(crate) fn pass_counting(
     let mut kept = Values::new(alloc);
     for (k, leaf) in leaves.iter().enumerate() {
         let given = given_count(counts, k);
-        let count = said_count(&leaf.dim, given, &leaves[..k], kept.as_slice());
+        let count = said_count(counters.get(k), given, kept.as_slice());
         let value = pass_leaf(reader, leaf, count)?;
         kept.push(Value::Int(value.number()))?;
     }
@@ -153,15 +157,17 @@ pub(crate) fn check_leaves(
     alloc: Global,
     reader: &mut ObjReader,
     leaves: &[Leaf],
+    counters: &LeafCounters,
     counts: &[Value],
 ) -> Result<(), ObjFault>
+    requires { counters.now ≡ counters_from leaves.now 0 [] }
     ensures exact { (classes : List Class) → ReadsAs (λ x. x) result
         (read (pass_of (entry_values classes (Leafy leaves.now) counts.now)) reader.old)
         reader.new }
     ensures goes { GoesOn reader.old.at reader.new.at }
 {
     if is_any_counted(leaves) {
-        pass_counting(alloc, reader, leaves, counts)?;
+        pass_counting(alloc, reader, leaves, counters, counts)?;
         Ok(())
     } else {
         pass_leaves(reader, leaves)

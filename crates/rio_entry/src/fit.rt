@@ -6,9 +6,11 @@ ghost use Rattle.rio_format.specs.Slots.{kinded};
 ghost use Rattle.rio_machine.specs.Rows.{counted_leaf_kind, leaf_kind, sized_kind};
 ghost use Rattle.rio_types.specs.declared.kind.Kind.TheVariants.{Fixed, Plain};
 ghost use Rattle.rio_entry.specs.Bounds.{most_values};
+ghost use Rattle.rio_entry.specs.Counting.{counters_from};
 ghost use Rattle.rio_entry.specs.Entries.{counter_saying};
 ghost use Rattle.rio_entry.specs.Leaves.{kind_fits, leaves_fit, single_fits};
 
+use crate::counter::LeafCounters;
 use crate::leaf::{given_count, letter_kind, said_count};
 use rio_leaf::{Dim, Leaf};
 use rio_types::Prim;
@@ -104,14 +106,20 @@ fn leaf_fits(leaf: &Leaf, count: i128, value: &Value) -> bool
 }
 
 /// Whether the values fit the leaves, one for each, where these counts are given.
-pub(crate) fn leaves_fit(leaves: &[Leaf], counts: &[Value], row: &[Value]) -> bool
+pub(crate) fn leaves_fit(
+    leaves: &[Leaf],
+    counters: &LeafCounters,
+    counts: &[Value],
+    row: &[Value],
+) -> bool
+    requires { counters.now ≡ counters_from leaves.now 0 [] }
     ensures { result ≡ leaves_fit leaves.now counts.now row.now [] }
 {
     if leaves.len() != row.len() {
         return false;
     }
     for (k, leaf) in leaves.iter().enumerate() {
-        let count = said_count(&leaf.dim, given_count(counts, k), &leaves[..k], &row[..k]);
+        let count = said_count(counters.get(k), given_count(counts, k), &row[..k]);
         if !leaf_fits(leaf, count, &row[k]) {
             return false;
         }

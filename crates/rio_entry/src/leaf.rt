@@ -1,12 +1,12 @@
 //! What a leaf's letter and its counter say.
-ghost use Rattle.std.specs.Prelude.{◌≡◌, [], Some, drop, length, if◌then◌else◌};
-ghost use Rattle.std.specs.Map.{lookup};
-ghost use Rattle.std.specs.Str.{bytes_eq};
+ghost use Rattle.std.specs.Prelude.{◌≡◌, List, [], drop, length};
+ghost use Rattle.rio_leaf.specs.declared.leaf.Dim.{Dim as Dimension};
+ghost use Rattle.rio_leaf.specs.declared.leaf.Leaf.{Leaf as Leafed};
 ghost use Rattle.rio_machine.specs.Rows.{letter_kind};
+ghost use Rattle.rio_entry.specs.Counting.{counter_among, places_after};
 ghost use Rattle.rio_entry.specs.Entries.{given_count, said_count};
 ghost use Rattle.rio_entry.specs.Leaves.{numbers_after};
 
-use rio_leaf::{Dim, Leaf};
 use rio_types::Prim;
 use rio_value::Value;
 
@@ -40,39 +40,15 @@ pub(crate) fn given_count(counts: &[Value], k: usize) -> i128
     }
 }
 
-// The number, if the leaf has the name, or else what was found before.
-fn number_if_named(name: &[u8], leaf: &Leaf, number: i128, found: Option<i128>) -> Option<i128>
-    ensures { result ≡ (if bytes_eq name.now leaf.now.name then Some number else found) }
+/// What a leaf is counted by, behind earlier leaves of its branch that have these values: what the leaf says that counts it,
+/// and where none of them does, the given count.
+pub(crate) fn said_count(counter: Option<usize>, given: i128, values: &[Value]) -> i128
+    ensures { (dim : Dimension) (leaves : List Leafed) → length leaves ≡ length values.now
+        → counter ≡ counter_among dim (places_after leaves 0 [])
+        → result ≡ said_count dim given (numbers_after leaves values.now []) }
 {
-    if name == leaf.name.as_slice() {
-        Some(number)
-    } else {
-        found
-    }
-}
-
-// The number of the nearest of the leaves that has the name.
-fn last_number(name: &[u8], leaves: &[Leaf], values: &[Value]) -> Option<i128>
-    requires { length leaves.now ≡ length values.now }
-    ensures { result ≡ lookup (bytes_eq name.now) (numbers_after leaves.now values.now []) }
-{
-    let mut found = None;
-    for (k, leaf) in leaves.iter().enumerate() {
-        found = number_if_named(name, leaf, values[k].number(), found);
-    }
-    found
-}
-
-/// What the leaf is counted by, behind these leaves of its branch and their values: what an earlier one says, or the
-/// given count.
-pub(crate) fn said_count(dim: &Dim, given: i128, leaves: &[Leaf], values: &[Value]) -> i128
-    requires { length leaves.now ≡ length values.now }
-    ensures { result ≡ said_count dim.now given (numbers_after leaves.now values.now []) }
-{
-    match dim {
-        Dim::Counted { counter, .. } => {
-            last_number(counter.as_slice(), leaves, values).unwrap_or(given)
-        }
-        _ => given,
+    match counter {
+        Some(i) => given_count(values, i),
+        None => given,
     }
 }

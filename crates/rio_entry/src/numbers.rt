@@ -14,7 +14,7 @@ use std::alloc::Global;
 use std::collections::BTreeMap;
 
 /// What the nearest leaf of each name says. The names are those of the leaves.
-pub(crate) type Numbers<'a> = BTreeMap<&'a [u8], i128>;
+pub type Numbers<'a> = BTreeMap<&'a [u8], i128>;
 
 // The name leads to the number from now on.
 fn put_number<'a>(numbers: &mut Numbers<'a>, name: &'a [u8], said: i128) -> Result<(), NoMemory>
@@ -27,7 +27,8 @@ fn put_number<'a>(numbers: &mut Numbers<'a>, name: &'a [u8], said: i128) -> Resu
     Ok(())
 }
 
-fn note_leaves<'a>(
+/// The leaves with these values stand behind those before.
+pub fn note_leaves<'a>(
     leaves: &'a [Leaf],
     values: &[Value],
     numbers: &mut Numbers<'a>,
@@ -76,7 +77,8 @@ fn count_of(numbers: &Numbers, dim: &Dim) -> i128
     }
 }
 
-fn leaf_counts(alloc: Global, leaves: &[Leaf], numbers: &Numbers) -> Result<Values, NoMemory>
+/// What is counted for each of these leaves, behind leaves that say these numbers: 0 where none of them counts it.
+pub fn leaf_counts(alloc: Global, leaves: &[Leaf], numbers: &Numbers) -> Result<Values, NoMemory>
     ensures { (before : Counters) → SaysAsFirst numbers.now before
         → IfOk result (λ counts. counts ≡ counts_before (map leaf_column leaves.now) before) }
 {

@@ -8,9 +8,11 @@ ghost use Rattle.rio_value.specs.declared.value.Value.{Value as Given};
 ghost use Rattle.rio_num.specs.Answers.{GivesUnless};
 ghost use Rattle.rio_entry.specs.declared.fault.EntryFault.TheVariants.{NoMemory as OutOfMemory};
 ghost use Rattle.rio_entry.specs.declared.fault.EntryFault.{EntryFault as Fault};
+ghost use Rattle.rio_entry.specs.Counting.{counters_within};
 ghost use Rattle.rio_entry.specs.Reading.{BreaksEntry, SpellsEntry, entry_in, entry_values, only_values};
 
 use crate::EntryFault;
+use crate::counter::LeafCounters;
 use crate::read_leaves::read_leaves;
 use rio_buffer::{ObjFault, ObjReader};
 use rio_leaf::{BranchDef, Shape};
@@ -55,14 +57,16 @@ fn shape_values(
     classes: &Classes,
     reader: &mut ObjReader,
     shape: &Shape,
+    counters: &LeafCounters,
     counts: &[Value],
 ) -> Result<Values, ObjFault>
+    requires { counters.now ≡ counters_within shape.now }
     ensures exact { ReadsAs (λ x. x) result
         (read (entry_values classes.now shape.now counts.now) reader.old) reader.new }
     ensures goes { GoesOn reader.old.at reader.new.at }
 {
     match shape {
-        Shape::Leaves(leaves) => read_leaves(alloc, reader, leaves.as_slice(), counts),
+        Shape::Leaves(leaves) => read_leaves(alloc, reader, leaves.as_slice(), counters, counts),
         Shape::Class(class) => read_one(alloc, classes, reader, class.as_slice()),
     }
 }
@@ -71,17 +75,43 @@ fn read_shape(
     alloc: Global,
     classes: &Classes,
     shape: &Shape,
+    counters: &LeafCounters,
     counts: &[Value],
     bytes: &[u8],
 ) -> Result<Values, EntryFault>
-    requires { length bytes.now < 2 ^ 32 }
+    requires counters { counters.now ≡ counters_within shape.now }
+    requires short { length bytes.now < 2 ^ 32 }
     ensures { GivesUnless OutOfMemory (λ row. row) result
         (entry_in classes.now shape.now counts.now bytes.now) }
 {
     let mut reader = ObjReader::new(alloc, bytes, 0);
-    let values = shape_values(alloc, classes, &mut reader, shape, counts)?;
+    let values = shape_values(alloc, classes, &mut reader, shape, counters, counts)?;
     check_end(&reader)?;
     Ok(values)
+}
+
+/// As [`read_entry`], for one that reads many entries of the branch and has its counters.
+pub fn read_entry_with(
+    alloc: Global,
+    classes: &Classes,
+    branch: &BranchDef,
+    counters: &LeafCounters,
+    counts: &Values,
+    bytes: &[u8],
+) -> Result<Values, EntryFault>
+    requires counters { counters.now ≡ counters_within branch.now.shape }
+    requires short { length bytes.now < 2 ^ 32 }
+    ensures { GivesUnless OutOfMemory (λ row. row) result
+        (entry_in classes.now branch.now.shape counts.now bytes.now) }
+{
+    read_shape(
+        alloc,
+        classes,
+        &branch.shape,
+        counters,
+        counts.as_slice(),
+        bytes,
+    )
 }
 
 /// The values of an entry of the branch: one for each leaf, or the one object of a branch of a class. `counts` is as
@@ -112,5 +142,13 @@ pub fn read_entry(
     ensures exact { GivesUnless OutOfMemory (λ row. row) result
         (entry_in classes.now branch.now.shape counts.now bytes.now) }
 {
-    read_shape(alloc, classes, &branch.shape, counts.as_slice(), bytes)
+    let counters = LeafCounters::new(alloc, &branch.shape)?;
+    read_shape(
+        alloc,
+        classes,
+        &branch.shape,
+        &counters,
+        counts.as_slice(),
+        bytes,
+    )
 }

@@ -8,10 +8,12 @@ ghost use Rattle.rio_leaf.specs.declared.branch.Shape.TheVariants.{Leaves as Lea
 ghost use Rattle.rio_machine.specs.Rows.{counted_leaf_kind, leaf_kind, sized_kind};
 ghost use Rattle.rio_types.specs.declared.class.ClassDef.{ClassDef as Class};
 ghost use Rattle.rio_entry.specs.Bounds.{most_values};
+ghost use Rattle.rio_entry.specs.Counting.{counters_from};
 ghost use Rattle.rio_entry.specs.Entries.{counter_saying};
 ghost use Rattle.rio_entry.specs.Leaves.{kind_layout, without_number};
 ghost use Rattle.rio_entry.specs.Reading.{entry_values};
 
+use crate::counter::LeafCounters;
 use crate::leaf::{given_count, letter_kind, said_count};
 use rio_buffer::{ObjFault, ObjReader};
 use rio_leaf::{Dim, Leaf};
@@ -108,8 +110,10 @@ pub(crate) fn read_leaves(
     alloc: Global,
     reader: &mut ObjReader,
     leaves: &[Leaf],
+    counters: &LeafCounters,
     counts: &[Value],
 ) -> Result<Values, ObjFault>
+    requires { counters.now ≡ counters_from leaves.now 0 [] }
     ensures exact { (classes : List Class) → ReadsAs (λ x. x) result
         (read (entry_values classes (Leafy leaves.now) counts.now) reader.old) reader.new }
     ensures goes { GoesOn reader.old.at reader.new.at }
@@ -117,7 +121,7 @@ pub(crate) fn read_leaves(
     let mut values = Values::new(alloc);
     for (k, leaf) in leaves.iter().enumerate() {
         let given = given_count(counts, k);
-        let count = said_count(&leaf.dim, given, &leaves[..k], values.as_slice());
+        let count = said_count(counters.get(k), given, values.as_slice());
         values.push(read_leaf(alloc, reader, leaf, count)?)?;
     }
     Ok(values)

@@ -9,7 +9,7 @@ ghost use Rattle.rio_entry.specs.Rows.{branch_values, broken_branch, row_in};
 use crate::EntryFault;
 use crate::numbers::{Numbers, counts_beside, note_values};
 use crate::part::RowPart;
-use crate::read::read_entry;
+use crate::read::read_entry_with;
 use rio_num::NoMemory;
 use rio_types::Classes;
 use rio_value::{Value, Values, copy};
@@ -27,7 +27,14 @@ fn read_part(
         (branch_values classes.now part.now.branch.now part.now.entry.now before) }
 {
     let counts = counts_beside(alloc, &part.branch.shape, numbers)?;
-    read_entry(alloc, classes, part.branch, &counts, part.entry)
+    read_entry_with(
+        alloc,
+        classes,
+        part.branch,
+        part.counters,
+        &counts,
+        part.entry,
+    )
 }
 
 fn append(alloc: Global, row: &mut Values, values: &[Value]) -> Result<(), NoMemory>

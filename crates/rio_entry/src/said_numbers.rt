@@ -9,11 +9,13 @@ ghost use Rattle.rio_leaf.specs.declared.branch.Shape.TheVariants.{Class as Clas
 ghost use Rattle.rio_value.specs.declared.value.Value.{Value as Given};
 ghost use Rattle.rio_entry.specs.declared.fault.EntryFault.TheVariants.{NoMemory as OutOfMemory};
 ghost use Rattle.rio_entry.specs.declared.fault.EntryFault.{EntryFault as Fault};
+ghost use Rattle.rio_entry.specs.Counting.{counters_within};
 ghost use Rattle.rio_entry.specs.Leaves.{number_alone, numbers_of_values};
 ghost use Rattle.rio_entry.specs.Reading.{BreaksEntry, SpellsEntry, entry_values, numbers_of_entry, only_values};
 
 use crate::EntryFault;
 use crate::check_leaves::pass_counting;
+use crate::counter::LeafCounters;
 use crate::read::check_end;
 use rio_buffer::{ObjFault, ObjReader};
 use rio_leaf::{BranchDef, Shape};
@@ -45,15 +47,17 @@ fn shape_numbers(
     classes: &Classes,
     reader: &mut ObjReader,
     shape: &Shape,
+    counters: &LeafCounters,
     counts: &[Value],
 ) -> Result<Values, ObjFault>
+    requires { counters.now ≡ counters_within shape.now }
     ensures exact { ReadsAs (λ x. x) result
         (read (numbers_of_values (entry_values classes.now shape.now counts.now)) reader.old)
         reader.new }
     ensures goes { GoesOn reader.old.at reader.new.at }
 {
     match shape {
-        Shape::Leaves(leaves) => pass_counting(alloc, reader, leaves.as_slice(), counts),
+        Shape::Leaves(leaves) => pass_counting(alloc, reader, leaves.as_slice(), counters, counts),
         Shape::Class(class) => object_numbers(alloc, classes, reader, class.as_slice()),
     }
 }
@@ -62,18 +66,44 @@ fn numbers_in_bytes(
     alloc: Global,
     classes: &Classes,
     shape: &Shape,
+    counters: &LeafCounters,
     counts: &[Value],
     bytes: &[u8],
 ) -> Result<Values, EntryFault>
-    requires { length bytes.now < 2 ^ 32 }
+    requires counters { counters.now ≡ counters_within shape.now }
+    requires short { length bytes.now < 2 ^ 32 }
     ensures { GivesUnless OutOfMemory (λ numbers. numbers) result
         (only_values (read (numbers_of_values (entry_values classes.now shape.now counts.now))
         (standing 0 bytes.now no_words))) }
 {
     let mut reader = ObjReader::new(alloc, bytes, 0);
-    let numbers = shape_numbers(alloc, classes, &mut reader, shape, counts)?;
+    let numbers = shape_numbers(alloc, classes, &mut reader, shape, counters, counts)?;
     check_end(&reader)?;
     Ok(numbers)
+}
+
+/// As [`entry_numbers`], for one that reads many entries of the branch and has its counters.
+pub fn entry_numbers_with(
+    alloc: Global,
+    classes: &Classes,
+    branch: &BranchDef,
+    counters: &LeafCounters,
+    counts: &Values,
+    bytes: &[u8],
+) -> Result<Values, EntryFault>
+    requires counters { counters.now ≡ counters_within branch.now.shape }
+    requires short { length bytes.now < 2 ^ 32 }
+    ensures { GivesUnless OutOfMemory (λ numbers. numbers) result
+        (numbers_of_entry classes.now branch.now.shape counts.now bytes.now) }
+{
+    numbers_in_bytes(
+        alloc,
+        classes,
+        &branch.shape,
+        counters,
+        counts.as_slice(),
+        bytes,
+    )
 }
 
 /// What the values of an entry of the branch say: a number for each leaf, which is 0 where its value is no single integer, and
@@ -101,5 +131,13 @@ pub fn entry_numbers(
     ensures exact { GivesUnless OutOfMemory (λ numbers. numbers) result
         (numbers_of_entry classes.now branch.now.shape counts.now bytes.now) }
 {
-    numbers_in_bytes(alloc, classes, &branch.shape, counts.as_slice(), bytes)
+    let counters = LeafCounters::new(alloc, &branch.shape)?;
+    numbers_in_bytes(
+        alloc,
+        classes,
+        &branch.shape,
+        &counters,
+        counts.as_slice(),
+        bytes,
+    )
 }

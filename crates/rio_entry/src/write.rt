@@ -8,6 +8,7 @@ ghost use Rattle.rio_types.specs.declared.class.ClassDef.{ClassDef as Class};
 ghost use Rattle.rio_value.specs.declared.value.Value.{Value as Given};
 
 use crate::EntryFault;
+use crate::counter::LeafCounters;
 use crate::fit::leaves_fit;
 use crate::put::{leaves_length, leaves_written};
 use rio_fit::fits;
@@ -31,7 +32,8 @@ fn write_leaves(
         → GivesUnless OutOfMemory (λ room. room.bytes) result
         (entry_written classes (Leafy leaves.now) counts.now row.now) }
 {
-    if !leaves_fit(leaves, counts, row) {
+    let counters = LeafCounters::of(alloc, leaves)?;
+    if !leaves_fit(leaves, &counters, counts, row) {
         return Err(EntryFault::BadRow);
     }
     if leaves_length(leaves, row)? > LIMIT {

@@ -1,9 +1,8 @@
 //! Which values fit where.
 ghost use Rattle.rio_types.specs.declared.class.ClassDef.{ClassDef as Class};
-ghost use Rattle.std.specs.Prelude.{◌≡◌, ℕ, List, ◌∷◌, [], map, Some, None, IfOk};
-ghost use Rattle.std.specs.Option.{option_map};
-ghost use Rattle.rio_format.specs.Fits.{Labels, all_fit, back_fits, counted_slot, counted_so_far, fields_fit, fits, fitting_of, link_fits, list_fits, object_may_stand, part_fitting, parts_fit, pointed_fits};
-ghost use Rattle.rio_format.specs.Slots.{fields_of, kinded};
+ghost use Rattle.std.specs.Prelude.{◌≡◌, List, [], map, Some, None, IfOk};
+ghost use Rattle.rio_format.specs.Fits.{Labels, all_fit, back_fits, counted_slot, fields_fit, fits, fitting_of, link_fits, list_fits, object_may_stand, part_fitting, parts_fit, pointed_fits};
+ghost use Rattle.rio_format.specs.Slots.{fields_of};
 ghost use Rattle.rio_types.specs.declared.kind.Kind.TheVariants.{Inline};
 ghost use Rattle.rio_value.specs.declared.value.Value.{Value as Given};
 ghost use Rattle.std.specs.Prelude.{slice_get};

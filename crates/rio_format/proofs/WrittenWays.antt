@@ -1,5 +1,5 @@
 -- Where a value is written, and what is then spelled.
-use Rattle.std.proofs.Common.{◌≡◌, ◌==◌, ◌&&◌, inl, inr, ℕ, ◌+◌, ◌-◌, ◌^◌, ◌<◌, ◌≤◌, ℤ, pos, Bool, true, false, cond, ltb, leb, List, [], length, slice_get, slice_index, Option, Some, None, refl, ap, subst, arith}
+use Rattle.std.proofs.Common.{◌≡◌, ◌==◌, ◌&&◌, inl, inr, ℕ, ◌+◌, ◌-◌, ◌^◌, ◌<◌, ◌≤◌, ℤ, pos, Bool, true, false, ltb, leb, List, [], length, slice_get, slice_index, Option, Some, None, refl, ap, subst, arith}
 use Rattle.std.proofs.{lemmas.Bool.{and_parts, ltb-true, lt-leb}, lemmas.Option.{slice_get_within}}
 use Rattle.std.specs.Prelude.{bit_and, not}
 use Rattle.byteorder.specs.Endian.{big_bytes}

@@ -1,7 +1,6 @@
 //! Which classes have which among their bases.
 ghost use Rattle.std.specs.Prelude.{◌≡◌, ◌≤◌, ◌∷◌, [], true, false, length, IfOk};
-ghost use Rattle.std.specs.Option.{option_map};
-ghost use Rattle.rio_format.specs.Bodies.{form_of, t_object_base};
+ghost use Rattle.rio_format.specs.Bodies.{form_of};
 ghost use Rattle.rio_format.specs.Slots.{body_bases, derives_from, has_base, headed_body, is_headed};
 ghost use Rattle.rio_format.specs.Lists.{listed};
 ghost use Rattle.rio_format.specs.Bases.{Expanded, HaveVisitedBases, Pushed, any_direct, are_targets};

@@ -1,7 +1,7 @@
 //! The parts of objects, and what may stand there.
 ghost use Rattle.std.specs.Prelude.{◌≡◌, Some, slice_get};
 ghost use Rattle.rio_format.specs.Bodies.{t_named, t_obj_string, t_object_base};
-ghost use Rattle.rio_format.specs.Slots.{arrayed_fields, bare_fields, base_field, body_fields, declared_body, described_fields, field, fields_of, form_fields, kinded, listed_fields, member_field, number_fields};
+ghost use Rattle.rio_format.specs.Slots.{arrayed_fields, bare_fields, base_field, body_fields, declared_body, described_fields, field, fields_of, kinded, listed_fields, member_field, number_fields};
 ghost use Rattle.rio_format.specs.Bodies.{form_of};
 
 use crate::body::{Body, BodyKind, declared_body};

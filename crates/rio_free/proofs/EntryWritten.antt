@@ -1,5 +1,5 @@
 -- What is written of gaps and an end is read as they are.
-use Rattle.std.proofs.Common.{◌≡◌, ℕ, zero, suc, ◌+◌, ◌-◌, ◌<◌, ◌≤◌, true, false, eqb, List, [], ◌∷◌, ◌++◌, length, map, replicate, Option, None, Some, refl, ap, ◌∙◌, append_assoc, arith}
+use Rattle.std.proofs.Common.{◌≡◌, ℕ, suc, ◌+◌, ◌-◌, ◌<◌, ◌≤◌, true, false, eqb, List, [], ◌∷◌, ◌++◌, length, map, replicate, Option, None, Some, refl, ap, ◌∙◌, append_assoc, arith}
 use Rattle.std.proofs.{lemmas.Bool.{lt-ltb, ne_eqb}, lemmas.List.{length-append, take_at}}
 use Rattle.std.specs.List.{All}
 use Rattle.rio_num.proofs.Puts.{zeros_pad}

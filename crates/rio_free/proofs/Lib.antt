@@ -6,6 +6,7 @@ pub mod EntrySpells
 pub mod EntryWritten
 pub mod Given
 pub mod Order
+pub mod Over
 pub mod Puts
 pub mod Taken
 pub mod Written

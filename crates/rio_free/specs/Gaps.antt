@@ -37,6 +37,10 @@ lies_in byte g = nat_le g.place byte && nat_lt byte (gap_end g)
 abbrev pub is_free : List Gap → ℕ → Bool
 is_free gaps byte = list_any (lies_in byte) gaps
 
+-- the gap that a byte lies in
+abbrev pub gap_over : ℕ → List Gap → Option Gap
+gap_over byte gaps = find (lies_in byte) gaps
+
 -- the choice for n bytes: the first gap as long, else the first that is longer by more than three
 abbrev pub best_gap : ℕ → List Gap → Option Gap
 best_gap n gaps = option_or (find (λ g. g.length == n) gaps) (find (λ g. nat_lt (n + 3) g.length) gaps)

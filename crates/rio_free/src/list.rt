@@ -1,7 +1,6 @@
 //! The gaps of a file: chosen, taken and given.
 ghost use Rattle.std.specs.Prelude.{◌≡◌, ◌==◌, ◌+◌, ◌<◌, ◌≤◌, ◌^◌, ◌∷◌, nat_lt, take, drop, length, slice_get, vec_len, vec_capacity};
-ghost use Rattle.std.specs.List.{All, find};
-ghost use Rattle.std.specs.Option.{option_copied};
+ghost use Rattle.std.specs.List.{All};
 ghost use Rattle.rio_free.specs.Gaps.{best_gap, ends_before, gap_end, joined, length_at};
 
 use crate::Gap;
@@ -82,7 +81,7 @@ fn join_next(gaps: &mut Vec<Gap>, at: usize, gap: Gap) -> Gap
 impl FreeList {
     ghost use Rattle.std.specs.Prelude.{◌≡◌, ◌+◌, ◌-◌, ◌<◌, ◌≤◌, ◌^◌, ◌&&◌, ◌||◌, ℕ, [], length, max, not, nat_lt, OnOk, OnErr, IfOk, IfSome};
     ghost use Rattle.std.specs.List.{prefix_len};
-    ghost use Rattle.rio_free.specs.Gaps.{AreGaps, HasGapFor, IsApart, best_place, ends_before, gap_of, given, is_free, lies_in, taken};
+    ghost use Rattle.rio_free.specs.Gaps.{AreGaps, HasGapFor, IsApart, best_place, ends_before, gap_of, gap_over, given, is_free, lies_in, taken};
 
     /// No gaps.
     pub fn new(alloc: Global) -> FreeList
@@ -153,6 +152,18 @@ impl FreeList {
         ensures { result ≡ ends_before self.now.gaps at place }
     {
         at > 0 && self.gaps[at - 1].end() == place
+    }
+
+    /// The gap that the byte at `place` lies in.
+    pub fn gap_over(&self, place: u64) -> Option<Gap>
+        ensures { result ≡ gap_over place self.now.gaps }
+    {
+        let behind = self.gaps.partition_point(|gap| gap.place <= place);
+        if behind == 0 {
+            return None;
+        }
+        let gap = self.gaps[behind - 1];
+        if place < gap.end() { Some(gap) } else { None }
     }
 
     /// Takes `n` bytes at the front of the gap at `place`.

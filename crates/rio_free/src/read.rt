@@ -1,5 +1,5 @@
 //! The free record is read.
-ghost use Rattle.std.specs.Prelude.{◌≡◌, ◌+◌, ◌-◌, ◌<◌, ◌≤◌, ◌^◌, [], None, true, length, take, IfOk};
+ghost use Rattle.std.specs.Prelude.{◌≡◌, ◌+◌, ◌-◌, ◌<◌, ◌≤◌, ◌^◌, None, true, length, IfOk};
 ghost use Rattle.std.specs.List.{All};
 ghost use Rattle.rio_num.specs.Answers.{GivesUnless};
 ghost use Rattle.rio_num.specs.At.{GoesOn, place_len_of};

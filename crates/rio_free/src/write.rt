@@ -1,7 +1,7 @@
 //! The free record is written.
-ghost use Rattle.std.specs.Prelude.{◌≡◌, ◌+◌, ◌*◌, ◌<◌, ◌≤◌, ◌^◌, length, IsOk};
+ghost use Rattle.std.specs.Prelude.{◌+◌, ◌*◌, ◌<◌, ◌≤◌, ◌^◌, length};
 ghost use Rattle.std.specs.List.{All};
-ghost use Rattle.rio_num.specs.Room.{Appends, with_more};
+ghost use Rattle.rio_num.specs.Room.{Appends};
 ghost use Rattle.rio_free.specs.Gaps.{gap_end};
 ghost use Rattle.rio_free.specs.Record.{entry_bytes, free_bytes, gaps_bytes};
 

@@ -1,5 +1,4 @@
 //! Fields that both forms have: places and the UUID.
-ghost use Rattle.std.specs.Prelude.{◌≡◌};
 ghost use Rattle.rio_num.specs.Reading.{Takes, bytes_at, number_at};
 ghost use Rattle.rio_head.specs.Form.{place_len};
 

@@ -1,8 +1,8 @@
 //! The header and the directory record are written.
-ghost use Rattle.std.specs.Prelude.{◌≡◌, ◌^◌, ◌<◌, ◌≤◌, ◌++◌, length, replicate, if◌then◌else◌};
+ghost use Rattle.std.specs.Prelude.{◌^◌, ◌<◌, ◌≤◌, replicate, if◌then◌else◌};
 ghost use Rattle.byteorder.specs.Endian.{big_bytes};
 ghost use Rattle.rio_num.specs.Room.{Appends};
-ghost use Rattle.rio_head.specs.Form.{place_len, is_large_head, is_large_dir};
+ghost use Rattle.rio_head.specs.Form.{place_len};
 ghost use Rattle.rio_head.specs.Written.{FitsDir, FitsHead, back_bytes, front_bytes, written_dir, written_head};
 
 use crate::{DirRecord, FileHead};

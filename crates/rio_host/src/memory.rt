@@ -1,5 +1,5 @@
 //! The host in memory.
-ghost use Rattle.std.specs.Prelude.{◌≡◌, ◌≤◌, ◌<◌, ◌+◌, ◌%◌, ◌^◌, ◌↔◌, ℕ, List, [], Some, length, IfOk, OnOk, OnErr, IsErr, IsOk, IsTrue, Contains};
+ghost use Rattle.std.specs.Prelude.{◌≡◌, ◌≤◌, ◌<◌, ◌+◌, ◌%◌, ◌^◌, ℕ, List, [], Some, length, IfOk, OnOk, OnErr, IsErr, IsOk};
 ghost use Rattle.byteorder.specs.Endian.{big_bytes};
 ghost use Rattle.rio_host.specs.Failing.{next_count, FailsByNumber, FailsOrRunsShort};
 ghost use Rattle.rio_host.specs.Flight.{Flies, SaysInParts};
@@ -35,7 +35,6 @@ pub struct MemHost {
 
 impl MemHost {
     ghost use Rattle.std.specs.Prelude.{◌≡◌, [], Some, IfOk, min};
-    ghost use Rattle.rio_host.specs.Failing.{Tally};
     ghost use Rattle.rio_host.specs.declared.change.Change.{Change};
     ghost use Rattle.rio_host.specs.Host.{IsQuiet};
     ghost use Rattle.rio_host.specs.MemHost.{memory_of, view_of, tally_of, write_numbers_of, NotesWrite};

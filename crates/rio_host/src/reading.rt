@@ -101,7 +101,7 @@ pub fn prefix_at<H: Host>(
     ensures calls { OnlyReads (H.view host.old) (H.view host.new) }
     ensures cause { IsDiskCause (H.view host.old) (H.view host.new) result }
 {
-    if file_length < place {
+    if file_length <= place {
         return Ok(0);
     }
     let n = into.len().min((file_length - place) as usize);

@@ -1,5 +1,5 @@
 //! Inputs in memory.
-ghost use Rattle.std.specs.Prelude.{◌≡◌, ◌≤◌, ◌<◌, min, Some, length, IfOk, IsOk, OnErr, IsErr};
+ghost use Rattle.std.specs.Prelude.{◌≡◌, ◌≤◌, ◌<◌, Some, length, IfOk, IsOk, OnErr, IsErr};
 ghost use Rattle.rio_host.specs.Failing.{FailsByNumber};
 ghost use Rattle.rio_host.specs.Host.{Becomes, Rose};
 ghost use Rattle.rio_host.specs.Source.{Fills};

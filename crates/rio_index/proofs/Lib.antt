@@ -1,3 +1,4 @@
+pub mod CounterLaws
 pub mod GivenLaws
 pub mod IndexLaws
 pub mod NumberLaws

@@ -1,3 +1,4 @@
+pub mod Counters
 pub mod Given
 pub mod Index
 pub mod Scan

@@ -3,8 +3,10 @@ ghost use Rattle.std.specs.Prelude.{◌≡◌, ◌<◌, ◌^◌, IfOk, IsTrue, l
 ghost use Rattle.rio_num.specs.Answers.{GivesUnless};
 ghost use Rattle.rio_entry.specs.declared.fault.EntryFault.TheVariants.{NoMemory as OutOfMemory};
 ghost use Rattle.rio_entry.specs.Rows.{row_in};
+ghost use Rattle.rio_index.specs.Counters.{tree_counters};
 ghost use Rattle.rio_index.specs.Scan.{broken_at, entry_among, held_entry, read_branches, read_entries, read_numbers};
 
+use crate::counter::TreeCounters;
 use crate::lane::{Held, Lane};
 use rio_entry::{EntryFault, RowPart, broken_branch, read_row};
 use rio_num::NoMemory;
@@ -42,9 +44,11 @@ fn row_parts<'a>(
     alloc: Global,
     entry: u64,
     branches: &'a [Branch],
+    counters: &'a TreeCounters,
     lanes: &'a [Lane],
 ) -> Result<Vec<RowPart<'a>>, NoMemory>
-    requires { length branches.now ≡ length lanes.now }
+    requires counted { counters.now ≡ tree_counters branches.now }
+    requires lanes { length branches.now ≡ length lanes.now }
     ensures branches { IfOk result
         (λ parts. map (λ part. part.branch.now) parts.items ≡ read_branches branches.now lanes.now) }
     ensures entries { IfOk result
@@ -56,10 +60,12 @@ fn row_parts<'a>(
         if lane.refused.is_some() {
             continue;
         }
-        parts.push(RowPart {
+        let part = RowPart {
             branch: &branch.def,
+            counters: counters.at(k),
             entry: held_entry(entry, &lane.held),
-        })?;
+        };
+        parts.push(part)?;
     }
     Ok(parts)
 }
@@ -70,13 +76,15 @@ pub(crate) fn read_next(
     classes: &Classes,
     entry: u64,
     branches: &[Branch],
+    counters: &TreeCounters,
     lanes: &[Lane],
 ) -> Result<Values, EntryFault>
-    requires { length branches.now ≡ length lanes.now }
+    requires counted { counters.now ≡ tree_counters branches.now }
+    requires lanes { length branches.now ≡ length lanes.now }
     ensures { GivesUnless OutOfMemory (λ row. row) result
         (row_in classes.now (read_branches branches.now lanes.now) (read_entries entry lanes.now)) }
 {
-    let parts = row_parts(alloc, entry, branches, lanes)?;
+    let parts = row_parts(alloc, entry, branches, counters, lanes)?;
     read_row(alloc, classes, parts.as_slice())
 }
 
@@ -103,12 +111,14 @@ pub(crate) fn check_next(
     classes: &Classes,
     entry: u64,
     branches: &[Branch],
+    counters: &TreeCounters,
     lanes: &[Lane],
 ) -> Result<Option<usize>, NoMemory>
-    requires { length branches.now ≡ length lanes.now }
+    requires counted { counters.now ≡ tree_counters branches.now }
+    requires lanes { length branches.now ≡ length lanes.now }
     ensures { IfOk result (λ found. found ≡ broken_at classes.now entry branches.now lanes.now) }
 {
-    let parts = row_parts(alloc, entry, branches, lanes)?;
+    let parts = row_parts(alloc, entry, branches, counters, lanes)?;
     match broken_branch(alloc, classes, parts.as_slice())? {
         Some(i) => Ok(read_number(lanes, i)),
         None => Ok(None),

@@ -2,6 +2,7 @@
 ghost use Rattle.std.specs.Prelude.{◌≡◌, ◌<◌, length, map, slice_set, IfOk, Some};
 ghost use Rattle.rio_index.specs.Scan.{empty_lane, lane_at};
 
+use crate::counter::TreeCounters;
 use crate::lane::{Held, Lane};
 use crate::next::{check_next, is_memory, read_next};
 use crate::search::{entry_count, first_entry, first_wanted};
@@ -44,23 +45,28 @@ fn hold(lanes: &mut [Lane], branch: usize, held: Held)
 pub struct Scanner {
     alloc: Global,
     head: TreeHead,
+    counters: TreeCounters,
     lanes: Vec<Lane>,
     next: u64,
 }
 
 impl Model for Scanner {
+    ghost use Rattle.std.specs.Prelude.{◌≡◌};
+    ghost use Rattle.rio_index.specs.Counters.{tree_counters};
     ghost use Rattle.rio_index.specs.Scan.{CanGoOn, RowScan};
 
     ghost Value = { RowScan };
 
     ghost view = { λ s. record { head = s.head; lanes = s.lanes.items; next = s.next } };
 
-    ghost invariant = { λ s. CanGoOn s.head.entries s.head.branches s.lanes.items };
+    ghost invariant = { λ s. record {
+      going : CanGoOn s.head.entries s.head.branches s.lanes.items;
+      counted : s.counters ≡ tree_counters s.head.branches;
+    } };
 }
 
 impl Scanner {
-    ghost use Rattle.std.specs.Prelude.{◌≡◌, ◌<◌, length, map, None, IfOk, slice_get};
-    ghost use Rattle.std.specs.Option.{option_copied};
+    ghost use Rattle.std.specs.Prelude.{◌≡◌, ◌<◌, length, map, None, IfOk};
     ghost use Rattle.rio_index.specs.Given.{GivesRow};
     ghost use Rattle.rio_index.specs.Scan.{CanGoOn, CanScan, HasNext, IsWanted, behind_next, count_in_basket, from_start, holding, next_broken, refusing, scan_begun, wanted, wanting};
 
@@ -69,10 +75,12 @@ impl Scanner {
         requires { CanScan head.entries head.branches }
         ensures { IfOk result (λ s. s ≡ scan_begun head) }
     {
+        let counters = TreeCounters::new(alloc, head.branches.as_slice())?;
         let lanes = empty_lanes(alloc, head.branches.as_slice())?;
         Ok(Scanner {
             alloc,
             head,
+            counters,
             lanes,
             next: 0,
         })
@@ -139,6 +147,7 @@ impl Scanner {
             classes,
             self.next,
             self.head.branches.as_slice(),
+            &self.counters,
             self.lanes.as_slice(),
         );
         if !is_memory(&row) {
@@ -157,6 +166,7 @@ impl Scanner {
             classes,
             self.next,
             self.head.branches.as_slice(),
+            &self.counters,
             self.lanes.as_slice(),
         )
     }

@@ -1,6 +1,6 @@
 //! The kinds of members.
 ghost use Rattle.std.specs.Prelude.{◌≡◌, IfOk};
-ghost use Rattle.rio_format.specs.Elements.{counted_kind, counted_of, fixed_kind, fixed_of, kind_of, own_kind, primitive_by_code, without_star};
+ghost use Rattle.rio_format.specs.Elements.{counted_kind, fixed_kind, kind_of, own_kind, primitive_by_code, without_star};
 ghost use Rattle.rio_types.specs.declared.kind.Kind.TheVariants.{Inline as InlineKind, Pointer as PointerKind};
 
 use crate::element::Element;

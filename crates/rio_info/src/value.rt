@@ -1,5 +1,5 @@
 //! The class list that is written, as a value.
-ghost use Rattle.std.specs.Prelude.{◌≡◌, ◌+◌, ◌++◌, ◌∷◌, [], length, map, slice_get, IfOk, OnOk};
+ghost use Rattle.std.specs.Prelude.{◌≡◌, ◌+◌, ◌++◌, ◌∷◌, [], map, slice_get, IfOk, OnOk};
 ghost use Rattle.std.specs.Option.{option_copied};
 ghost use Rattle.rio_value.specs.declared.value.Value.{Pointed};
 ghost use Rattle.rio_format.specs.Lists.{listed};

@@ -8,7 +8,7 @@ use Rattle.rio_machine.specs.{State.{State, Tree, names_object}, declared.comman
 use Rattle.rio_machine.specs.declared.refusal.Refusal.{Refusal, TheVariants.{BadLine, NoSuchName, NoSuchCycle, NameIsTree, NoVersion}}
 use Rattle.rio_step.specs.{ItemKeys.{AreKeysOfState}, Refusing.{meant_object, refusal_of, refused_if}}
 use Rattle.rio_judge.specs.{Stops.{GoesByState}, declared.work.Work.TheVariants.{Get as Telling}}
-use Rattle.rio_judge.proofs.KeysOfState.{contains_is, first_is_greatest, first_is_there, names_are, no_tree}
+use Rattle.rio_judge.proofs.KeysOfState.{contains_is, first_is_found, first_is_greatest, found_key, names_are, no_tree}
 
 -- what the tests tell, where an object or a tree may have the name, a cycle may be there, and an object is meant
 abbrev whole : Bool → Option Tree → (ℕ → Bool) → Option Value → Option ℕ → Option Refusal
@@ -83,17 +83,20 @@ module _ (heads : List KeyHead) (m : State) (name : List ℕ) (are : AreKeysOfSt
       (option_or (refused_if (option_map_or (λ v. false) (meant_object m name None) false) NoVersion) None))))
       ∙ last_none (meant_object m name None)
 
-  -- the object is told that the command names
+  -- the key of the object that the command names
   pub tells_cycle : (h k : KeyHead) (cycle : ℕ) → head_of name None heads ≡ Some h → head_of name (Some cycle) heads ≡ Some k
-      → GoesByState m (Get name (Some cycle) None) (Ok (Telling cycle))
-  tells_cycle h k cycle e f = (in_cycle h k cycle e f, (refl, has_is cycle (Some k) f))
+      → GoesByState m (Get name (Some cycle) None) (Ok (Telling k))
+  tells_cycle h k cycle e f =
+      let its = found_key name cycle heads k f in
+      (in_cycle h k cycle e f, (its.0, its.1, has_is cycle (Some k) f))
 
-  -- or the one of the greatest cycle
-  pub tells_newest : (h : KeyHead) → head_of name None heads ≡ Some h → GoesByState m (Get name None None) (Ok (Telling h.cycle))
+  -- or of the one of the greatest cycle
+  pub tells_newest : (h : KeyHead) → head_of name None heads ≡ Some h → GoesByState m (Get name None None) (Ok (Telling h))
   tells_newest h e =
       let most = first_is_greatest heads m name h are e in
-      let has = contains_is heads m name h.cycle are ∙ first_is_there name heads h e in
-      (in_newest h e, (sym most, ap (λ c. contains_key m.objects (name, c)) most ∙ has))
+      let newest = first_is_found name heads h e in
+      let has = contains_is heads m name h.cycle are ∙ ap is_some newest in
+      (in_newest h e, ((found_key name h.cycle heads h newest).0, sym most, ap (λ c. contains_key m.objects (name, c)) most ∙ has))
 
 -- ---- the others
 

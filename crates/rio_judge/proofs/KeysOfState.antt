@@ -181,14 +181,26 @@ none_above_first heads m name h cycle are found above =
     above_none name cycle heads (omega (arith, first, above))
 
 -- the first key of a name is found by its cycle
-pub first_is_there : (name : List ℕ) (heads : List KeyHead) (h : KeyHead) → head_of name None heads ≡ Some h → is_some (head_of name (Some h.cycle) heads) ≡ true
-first_is_there name [] h found = absurd cc
-first_is_there name (k ∷ ks) h found = by (bytes_eq k.name name) found (first_is_there name ks h)
+pub first_is_found : (name : List ℕ) (heads : List KeyHead) (h : KeyHead) → head_of name None heads ≡ Some h → head_of name (Some h.cycle) heads ≡ Some h
+first_is_found name [] h found = absurd cc
+first_is_found name (k ∷ ks) h found = by (bytes_eq k.name name) found (first_is_found name ks h)
   where
     by : (b : Bool) → cond b (Some k) (find (is_of_name name) ks) ≡ Some h
-        → (find (is_of_name name) ks ≡ Some h → is_some (find (is_at_cycle name h.cycle) ks) ≡ true)
-        → is_some (cond (b && eqb k.cycle h.cycle) (Some k) (find (is_at_cycle name h.cycle) ks)) ≡ true
+        → (find (is_of_name name) ks ≡ Some h → find (is_at_cycle name h.cycle) ks ≡ Some h)
+        → cond (b && eqb k.cycle h.cycle) (Some k) (find (is_at_cycle name h.cycle) ks) ≡ Some h
     by true found ih =
         let same : k ≡ h = cc in
-        ap (λ b. is_some (cond b (Some k) (find (is_at_cycle name h.cycle) ks))) (eq-eqb k.cycle h.cycle (ap (λ (x : KeyHead). x.cycle) same))
+        ap (λ b. cond b (Some k) (find (is_at_cycle name h.cycle) ks)) (eq-eqb k.cycle h.cycle (ap (λ (x : KeyHead). x.cycle) same)) ∙ found
     by false found ih = ih found
+
+-- a key that is found has the name and the cycle
+pub found_key : (name : List ℕ) (cycle : ℕ) (heads : List KeyHead) (h : KeyHead) → head_of name (Some cycle) heads ≡ Some h → (h.name ≡ name) × (h.cycle ≡ cycle)
+found_key name cycle [] h found = absurd cc
+found_key name cycle (k ∷ ks) h found = by (is_at_cycle name cycle k) refl found (found_key name cycle ks h)
+  where
+    by : (b : Bool) → is_at_cycle name cycle k ≡ b → cond b (Some k) (find (is_at_cycle name cycle) ks) ≡ Some h
+        → (find (is_at_cycle name cycle) ks ≡ Some h → (h.name ≡ name) × (h.cycle ≡ cycle)) → (h.name ≡ name) × (h.cycle ≡ cycle)
+    by true is found ih =
+        let same : k ≡ h = cc in
+        subst (λ (x : KeyHead). (x.name ≡ name) × (x.cycle ≡ cycle)) same (at_is name cycle k is)
+    by false is found ih = ih found

@@ -1,5 +1,5 @@
 -- A put that passes all tests can be done, and does what the state's step does.
-use Rattle.std.proofs.Common.{◌≡◌, ℕ, ◌+◌, ◌∙◌, List, [], ◌∷◌, length, false, ◌||◌, ltb, leb, not, Some, None, Ok, sym, ap, subst, arith}
+use Rattle.std.proofs.Common.{◌≡◌, ℕ, ◌+◌, ◌∙◌, List, [], ◌∷◌, length, false, ◌||◌, ltb, leb, not, Some, None, Ok, refl, sym, ap, subst, arith}
 use Rattle.std.proofs.lemmas.Bool.{le-ltb, leb-false, lt-leb, ltb-false, not-false, or_from, or_parts}
 use Rattle.std.specs.{Prelude.{is_some, unwrap_or}, Option.{option_or}}
 use Rattle.rio_key.specs.declared.head.KeyHead.{KeyHead}
@@ -12,55 +12,55 @@ use Rattle.rio_machine.specs.{Limits.{cycle_limit, data_length, has_long_list, i
 use Rattle.rio_machine.specs.declared.command.Command.TheVariants.{Put}
 use Rattle.rio_machine.specs.declared.refusal.Refusal.TheVariants.{BadName, NoSuchClass, DoesNotFit, CycleLimit, TooLarge, TooDeep, TooMany}
 use Rattle.rio_step.specs.{ItemKeys.{AreKeysOfState}, Refusing.{first_of, is_fit, is_kept_out, is_list_name, object_class, put_value, refused_if}}
-use Rattle.rio_judge.specs.{Judging.{CanBeStored, IsStep}, Stops.{GoesByState}, declared.work.Work.TheVariants.{Put as Storing}}
+use Rattle.rio_judge.specs.{Judging.{CanBeStored, IsStep}, Stops.{GoesByState}, declared.work.{StoredObject.{StoredObject}, Work.TheVariants.{Put as Storing}}}
 use Rattle.rio_judge.proofs.KeysOfState.{cycles_are, next_is_new}
 use Rattle.rio_judge.proofs.PutTests.{count_tests, cycle_tests, fit_tests, name_tests, passes_one, passes_two, put_refusal, put_tests}
 
-module _ (classes : List ClassDef) (heads : List KeyHead) (name : List ℕ) (v stored : Value) (own : List ℕ) (number size : ℕ) where
+module _ (classes : List ClassDef) (heads : List KeyHead) (v : Value) (o : StoredObject) where
   -- what was found on the way, and that no test stopped
   pub record Passed : Type 0 where
-    pub value : resolved classes v ≡ Some stored
-    pub class : object_class stored ≡ Some own
-    pub cycle : number ≡ greatest_cycle name heads + 1
-    pub written : (start : ℕ) → size ≡ length (written_form classes start stored)
-    pub by_name : first_of (name_tests name) ≡ None
-    pub by_fit : first_of (fit_tests classes stored) ≡ None
-    pub by_cycle : first_of (cycle_tests heads name) ≡ None
-    pub by_length : first_of (refused_if (is_too_long (data_length classes own name stored)) TooLarge ∷ []) ≡ None
-    pub by_counts : first_of (count_tests heads stored) ≡ None
+    pub value : resolved classes v ≡ Some o.value
+    pub class : object_class o.value ≡ Some o.class
+    pub cycle : o.cycle ≡ greatest_cycle o.name heads + 1
+    pub written : (start : ℕ) → o.length ≡ length (written_form classes start o.value)
+    pub by_name : first_of (name_tests o.name) ≡ None
+    pub by_fit : first_of (fit_tests classes o.value) ≡ None
+    pub by_cycle : first_of (cycle_tests heads o.name) ≡ None
+    pub by_length : first_of (refused_if (is_too_long (data_length classes o.class o.name o.value)) TooLarge ∷ []) ≡ None
+    pub by_counts : first_of (count_tests heads o.value) ≡ None
 
-  pub can_be_stored : Passed → CanBeStored classes heads name v stored own number size
+  pub can_be_stored : Passed → CanBeStored classes heads v o
   can_be_stored p =
-      let fit = passes_two (is_kept_out classes stored) (not (is_fit classes stored)) NoSuchClass DoesNotFit p.by_fit in
+      let fit = passes_two (is_kept_out classes o.value) (not (is_fit classes o.value)) NoSuchClass DoesNotFit p.by_fit in
       let below = ltb-false _ _ (passes_one _ CycleLimit p.by_cycle) in
-      let counts = passes_two (is_too_deep stored) (has_long_list stored || leb item_limit (length heads)) TooDeep TooMany p.by_counts in
-      let many = or_parts (has_long_list stored) (leb item_limit (length heads)) counts.1 in
-      let short = passes_one (is_too_long (data_length classes own name stored)) TooLarge p.by_length in
+      let counts = passes_two (is_too_deep o.value) (has_long_list o.value || leb item_limit (length heads)) TooDeep TooMany p.by_counts in
+      let many = or_parts (has_long_list o.value) (leb item_limit (length heads)) counts.1 in
+      let short = passes_one (is_too_long (data_length classes o.class o.name o.value)) TooLarge p.by_length in
       record {
         value = p.value;
         class = p.class;
         object = record {
           taken = fit.0;
           fit = not-false _ fit.1;
-          short = ap (λ c. is_too_long (data_length classes (unwrap_or c []) name stored)) p.class ∙ short;
+          short = ap (λ c. is_too_long (data_length classes (unwrap_or c []) o.name o.value)) p.class ∙ short;
           shallow = counts.0;
           few = many.0;
         };
         written = p.written;
-        free = passes_one (is_list_name name) BadName p.by_name;
+        free = passes_one (is_list_name o.name) BadName p.by_name;
         cycle = p.cycle;
         last = omega (arith, below, p.cycle);
-        new = ap (λ n. head_of name (Some n) heads) p.cycle ∙ next_is_new name heads;
+        new = ap (λ n. head_of o.name (Some n) heads) p.cycle ∙ next_is_new o.name heads;
         room = leb-false _ _ many.1;
       }
 
-  module _ (s : CanBeStored classes heads name v stored own number size) where
-    none_tells : first_of (put_tests classes heads name v stored) ≡ None
+  module _ (s : CanBeStored classes heads v o) where
+    none_tells : first_of (put_tests classes heads o.name v o.value) ≡ None
     none_tells =
-        let known : not (is_some (resolved classes v)) ≡ false = ap (λ o. not (is_some o)) s.value in
-        let unfit : not (is_fit classes stored) ≡ false = ap not s.object.fit in
-        let cycle : ltb cycle_limit (greatest_cycle name heads + 1) ≡ false = le-ltb _ _ (omega (arith, s.last, s.cycle)) in
-        let many : (has_long_list stored || leb item_limit (length heads)) ≡ false = or_from _ _ s.object.few (lt-leb _ _ s.room) in
+        let known : not (is_some (resolved classes v)) ≡ false = ap (λ x. not (is_some x)) s.value in
+        let unfit : not (is_fit classes o.value) ≡ false = ap not s.object.fit in
+        let cycle : ltb cycle_limit (greatest_cycle o.name heads + 1) ≡ false = le-ltb _ _ (omega (arith, s.last, s.cycle)) in
+        let many : (has_long_list o.value || leb item_limit (length heads)) ≡ false = or_from _ _ s.object.few (lt-leb _ _ s.room) in
         λ i. option_or (refused_if (s.free i) BadName)
         (option_or (refused_if (known i) NoSuchClass)
         (option_or (refused_if (s.object.taken i) NoSuchClass)
@@ -71,22 +71,21 @@ module _ (classes : List ClassDef) (heads : List KeyHead) (name : List ℕ) (v s
         (option_or (refused_if (many i) TooMany) None)))))))
 
 -- it does what the step does
-pub stores_as_step : (heads : List KeyHead) (m : State) (name : List ℕ) (v stored : Value) (own : List ℕ) (number size : ℕ)
-    → AreKeysOfState heads m → CanBeStored m.classes heads name v stored own number size → GoesByState m (Put name v) (Ok (Storing stored own number size))
-stores_as_step heads m name v stored own number size are s =
-    let value : put_value m v ≡ stored = ap (λ o. unwrap_or o v) s.value in
-    let none = put_refusal heads m name v are ∙ ap (λ w. first_of (put_tests m.classes heads name v w)) value ∙ none_tells m.classes heads name v stored own number size s in
-    let step : IsStep m name v stored own number size = record {
+pub stores_as_step : (heads : List KeyHead) (m : State) (v : Value) (o : StoredObject) → AreKeysOfState heads m → CanBeStored m.classes heads v o → GoesByState m (Put o.name v) (Ok (Storing o))
+stores_as_step heads m v o are s =
+    let value : put_value m v ≡ o.value = ap (λ x. unwrap_or x v) s.value in
+    let none = put_refusal heads m o.name v are ∙ ap (λ w. first_of (put_tests m.classes heads o.name v w)) value ∙ none_tells m.classes heads v o s in
+    let step : IsStep m v o = record {
       value = sym value;
       class = s.class;
-      cycle = s.cycle ∙ ap (λ n. n + 1) (sym (cycles_are heads m name are));
+      cycle = s.cycle ∙ ap (λ n. n + 1) (sym (cycles_are heads m o.name are));
       written = s.written 0;
     } in
-    (none, step)
+    (none, (refl, step))
 
 -- for each state that has the classes and for whose objects the keys stand
-pub put_answers : (classes : List ClassDef) (heads : List KeyHead) (name : List ℕ) (v stored : Value) (own : List ℕ) (number size : ℕ)
-    → CanBeStored classes heads name v stored own number size
-    → (m : State) → m.classes ≡ classes → AreKeysOfState heads m → GoesByState m (Put name v) (Ok (Storing stored own number size))
-put_answers classes heads name v stored own number size s m same are =
-    stores_as_step heads m name v stored own number size are (subst (λ (cs : List ClassDef). CanBeStored cs heads name v stored own number size) (sym same) s)
+pub put_answers : (classes : List ClassDef) (heads : List KeyHead) (name : List ℕ) (v : Value) (o : StoredObject) → o.name ≡ name → CanBeStored classes heads v o
+    → (m : State) → m.classes ≡ classes → AreKeysOfState heads m → GoesByState m (Put name v) (Ok (Storing o))
+put_answers classes heads name v o named s m same are =
+    subst (λ (n : List ℕ). GoesByState m (Put n v) (Ok (Storing o))) named
+    (stores_as_step heads m v o are (subst (λ (cs : List ClassDef). CanBeStored cs heads v o) (sym same) s))

@@ -10,6 +10,7 @@ use Rattle.rio_machine.specs.{Limits.{cycle_limit, item_limit}, State.{State, ne
 use Rattle.rio_step.specs.{ItemKeys.{AreKeysOfState}, Refusing.{is_list_name, meant_cycle, meant_object, object_class, put_value, refusal_of}}
 use Rattle.rio_step.specs.Storable.{IsStoredObject}
 use Rattle.rio_judge.specs.declared.work.Judged.{Judged, TheVariants.{Accepted, Refused}}
+use Rattle.rio_judge.specs.declared.work.StoredObject.{StoredObject}
 use Rattle.rio_judge.specs.declared.work.Work.{Work, TheVariants.{Put as Storing, Get as Telling, Ls as Listing}}
 
 -- The commands that are judged as of now. It goes out when the others are built.
@@ -22,17 +23,17 @@ is_judged other = false
 
 -- ---- by a state
 
--- what a put stores: the object with its versions, of this class, in the next cycle of its name, and how many bytes are written of it
-pub record IsStep (m : State) (name : List ℕ) (v stored : Value) (own : List ℕ) (number size : ℕ) : Type 0 where
-  pub value : stored ≡ put_value m v
-  pub class : object_class stored ≡ Some own
-  pub cycle : number ≡ next_cycle m name
-  pub written : size ≡ length (written_form m.classes 0 stored)
+-- what a put stores: the value with its versions, its class, the next cycle of its name, and how many bytes are written of it
+pub record IsStep (m : State) (v : Value) (o : StoredObject) : Type 0 where
+  pub value : o.value ≡ put_value m v
+  pub class : object_class o.value ≡ Some o.class
+  pub cycle : o.cycle ≡ next_cycle m o.name
+  pub written : o.length ≡ length (written_form m.classes 0 o.value)
 
--- what a command is to do to a state: what its step does, and the object that a get tells is there
+-- what a command is to do to a state: what its step does, and the object that a get prints is there
 abbrev pub IsWorkOf : State → Command → Work → Type 0
-IsWorkOf m (Put name v) (Storing stored own number size) = IsStep m name v stored own number size
-IsWorkOf m (Get name cycle version) (Telling told) = (told ≡ meant_cycle m name cycle) × IsSome (meant_object m name cycle)
+IsWorkOf m (Put name v) (Storing o) = (o.name ≡ name) × IsStep m v o
+IsWorkOf m (Get name cycle version) (Telling h) = (h.name ≡ name) × (h.cycle ≡ meant_cycle m name cycle) × IsSome (meant_object m name cycle)
 IsWorkOf m Ls Listing = Unit {0}
 IsWorkOf m other work = ⊥
 
@@ -48,21 +49,21 @@ IsJudgementOfStates classes heads c judged = (m : State) → m.classes ≡ class
 -- ---- by classes and keys alone
 
 -- What a put stores passes no limit, whatever the keys stand for: a record of it can be made, and a key put into the table.
-pub record CanBeStored (classes : List ClassDef) (heads : List KeyHead) (name : List ℕ) (v stored : Value) (own : List ℕ) (number size : ℕ) : Type 0 where
-  pub value : resolved classes v ≡ Some stored
-  pub class : object_class stored ≡ Some own
-  pub object : IsStoredObject classes name stored
-  pub written : (start : ℕ) → size ≡ length (written_form classes start stored)
-  pub free : is_list_name name ≡ false
-  pub cycle : number ≡ greatest_cycle name heads + 1
-  pub last : number ≤ cycle_limit
-  pub new : head_of name (Some number) heads ≡ None
+pub record CanBeStored (classes : List ClassDef) (heads : List KeyHead) (v : Value) (o : StoredObject) : Type 0 where
+  pub value : resolved classes v ≡ Some o.value
+  pub class : object_class o.value ≡ Some o.class
+  pub object : IsStoredObject classes o.name o.value
+  pub written : (start : ℕ) → o.length ≡ length (written_form classes start o.value)
+  pub free : is_list_name o.name ≡ false
+  pub cycle : o.cycle ≡ greatest_cycle o.name heads + 1
+  pub last : o.cycle ≤ cycle_limit
+  pub new : head_of o.name (Some o.cycle) heads ≡ None
   pub room : length heads < item_limit
 
--- what a command is to do can be done: the object can be stored, or its key is there
+-- what a command is to do can be done: the object can be stored, or its key is the table's
 abbrev pub WorkCanBeDone : List ClassDef → List KeyHead → Command → Work → Type 0
-WorkCanBeDone classes heads (Put name v) (Storing stored own number size) = CanBeStored classes heads name v stored own number size
-WorkCanBeDone classes heads (Get name cycle version) (Telling told) = IsSome (head_of name (Some told) heads)
+WorkCanBeDone classes heads (Put name v) (Storing o) = (o.name ≡ name) × CanBeStored classes heads v o
+WorkCanBeDone classes heads (Get name cycle version) (Telling h) = head_of name (Some h.cycle) heads ≡ Some h
 WorkCanBeDone classes heads Ls Listing = Unit {0}
 WorkCanBeDone classes heads other work = ⊥
 

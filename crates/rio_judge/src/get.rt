@@ -12,7 +12,8 @@ use crate::stop::Stop;
 use rio_dir::KeyTable;
 use rio_machine::Refusal;
 
-/// Which cycle a get of the name tells, the greatest if none is named, or the first refusal.
+/// The key of the object that a get of the name prints, the one of the greatest cycle if none is
+/// named, or the first refusal.
 pub(crate) fn get_work(table: &KeyTable, name: &[u8], cycle: Option<u32>) -> Result<Work, Stop>
     ensures answers { (m : State) → AreKeysOfState table.now.heads m
         → GoesByState m (Command.Get name.now cycle None) result }
@@ -23,16 +24,14 @@ pub(crate) fn get_work(table: &KeyTable, name: &[u8], cycle: Option<u32>) -> Res
         return Err(Stop::Refused(Refusal::NoSuchName));
     };
     let Some(cycle) = cycle else {
-        return Ok(Work::Get {
-            cycle: newest.cycle,
-        });
+        return Ok(Work::Get(newest.copy()?));
     };
     if cycle > u32::from(newest.cycle) {
         return Err(Stop::Refused(Refusal::NoSuchCycle));
     }
     let cycle = cycle as u16;
     match table.find(name, Some(cycle)) {
-        Some(_) => Ok(Work::Get { cycle }),
+        Some(head) => Ok(Work::Get(head.copy()?)),
         None => Err(Stop::Refused(Refusal::NoSuchCycle)),
     }
 }

@@ -3,7 +3,7 @@
 //! objects; no file is at hand.
 //!
 //! [`judge`] tells the first refusal, or the [`Work`] of a command, with what is found on the way:
-//! an object with its versions, its class, its cycle and how many bytes are written of it.
+//! of a put the [`StoredObject`], of a get the key of the object.
 //! [`Work::cost`] tells what it may cost of a file's room. `specs/Judging.antt` says what a right
 //! judgement is: for each state that the keys stand for it is the state's, and whatever they stand
 //! for, what is accepted can be done.
@@ -18,7 +18,7 @@ mod work;
 
 pub use judging::judge;
 pub use laws::keys_have_states;
-pub use work::{Judged, Work};
+pub use work::{Judged, StoredObject, Work};
 
 #[cfg(test)]
 mod tests;

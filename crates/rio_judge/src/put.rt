@@ -13,8 +13,8 @@ ghost use Rattle.rio_step.specs.Refusing.{is_fit, is_kept_out, is_list_name, obj
 ghost use Rattle.rio_judge.specs.Judging.{WorkCanBeDone};
 ghost use Rattle.rio_judge.specs.Stops.{GoesByState, GoesByTests};
 
-use crate::Work;
 use crate::stop::Stop;
+use crate::{StoredObject, Work};
 use rio_dir::KeyTable;
 use rio_fit::{can_be_put, fits};
 use rio_key::key_length_of;
@@ -167,10 +167,12 @@ pub(crate) fn put_work(
     let cycle = next_cycle(table, name)?;
     let length = short_length(alloc, classes, class.as_slice(), name, &value)?;
     check_counts(table, &value)?;
-    Ok(Work::Put {
-        value,
+    let name = Name::from_slice(alloc, name)?;
+    Ok(Work::Put(StoredObject {
+        name,
         class,
         cycle,
         length,
-    })
+        value,
+    }))
 }

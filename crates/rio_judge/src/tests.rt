@@ -53,8 +53,8 @@ enum Found {
 
 fn cycle_of(work: &Work) -> u16 {
     match work {
-        Work::Put { cycle, .. } => *cycle,
-        Work::Get { cycle } => *cycle,
+        Work::Put(object) => object.cycle,
+        Work::Get(head) => head.cycle,
         Work::Ls => 0,
     }
 }
@@ -250,7 +250,7 @@ fn put_long(letters: usize, into: &mut Bytes) -> Result<(), NoMemory> {
 // How many bytes the record of such an object has: its key has 40, and zero bytes follow.
 fn record_length(judged: &Judged) -> u64 {
     match judged {
-        Judged::Accepted(Work::Put { length, .. }) => (40 + u64::from(*length) + 3) / 4 * 4,
+        Judged::Accepted(Work::Put(object)) => (40 + u64::from(object.length) + 3) / 4 * 4,
         _ => 0,
     }
 }

@@ -1,27 +1,32 @@
 //! What commands are to do.
+use rio_key::KeyHead;
 use rio_machine::Refusal;
 use rio_num::Name;
 use rio_value::Value;
+
+/// An object that is to be stored.
+#[derive(Drop)]
+pub struct StoredObject {
+    /// The name that it is stored under.
+    pub name: Name,
+    /// The class of the object.
+    pub class: Name,
+    /// The cycle that it gets: the next one of its name.
+    pub cycle: u16,
+    /// How many bytes are written of it, without the zero bytes after them.
+    pub length: u32,
+    /// The object, with a version in each object of it.
+    pub value: Value,
+}
 
 /// What a command that isn't refused is to do.
 #[derive(Drop)]
 pub enum Work {
     /// Stores an object.
-    Put {
-        /// The object, with a version in each object of it.
-        value: Value,
-        /// The class of the object.
-        class: Name,
-        /// The cycle that it gets: the next one of its name.
-        cycle: u16,
-        /// How many bytes are written of it, without the zero bytes behind them.
-        length: u32,
-    },
-    /// Tells the object of the command's name in this cycle, which is there.
-    Get {
-        cycle: u16,
-    },
-    /// Tells the names of all objects and trees.
+    Put(StoredObject),
+    /// Prints the object of this key, which is there.
+    Get(KeyHead),
+    /// Prints the names of all objects and trees.
     Ls,
 }
 
@@ -49,8 +54,8 @@ impl Work {
             → result ≡ cost_of m c }
     {
         match self {
-            Work::Put { length, .. } => 500 + u64::from(*length),
-            Work::Get { .. } => 0,
+            Work::Put(object) => 500 + u64::from(object.length),
+            Work::Get(_) => 0,
             Work::Ls => 0,
         }
     }

@@ -1,14 +1,13 @@
 //! A key is written.
-ghost use Rattle.std.specs.Prelude.{◌≡◌, ◌^◌, ◌<◌, ◌≤◌, ◌++◌, length};
+ghost use Rattle.std.specs.Prelude.{◌≡◌, ◌^◌, ◌<◌, ◌≤◌, length};
 ghost use Rattle.std.specs.Int.{w32, cast_unsigned};
 ghost use Rattle.byteorder.specs.Endian.{big_bytes};
 ghost use Rattle.rio_num.specs.Room.{Appends};
-ghost use Rattle.rio_num.specs.Text.{text_bytes};
 ghost use Rattle.rio_num.specs.At.{place_len_of};
 ghost use Rattle.rio_key.specs.Written.{FitsKey, key_length_of, number_bytes, written_key};
 
 use crate::KeyHead;
-use rio_num::{Bytes, NoMemory};
+use rio_num::{Bytes, NoMemory, text_length};
 
 // A place in the file, as long as keys of this version have it.
 fn put_place(version: u16, place: u64, into: &mut Bytes) -> Result<(), NoMemory>
@@ -20,14 +19,6 @@ fn put_place(version: u16, place: u64, into: &mut Bytes) -> Result<(), NoMemory>
     } else {
         into.put_u32(place as u32)
     }
-}
-
-// How many bytes a text takes with its length.
-fn text_length(text: &[u8]) -> u64
-    ensures { result ≡ length (text_bytes text.now) }
-{
-    let own = text.len() as u64;
-    if own < 255 { own + 1 } else { own + 5 }
 }
 
 /// How long a key of the small form is that has this class, name and title, up to its title's end.

@@ -1,7 +1,7 @@
 //! Which branches a tree may be declared with.
 ghost use Rattle.std.specs.Prelude.{◌≡◌, ◌++◌};
 ghost use Rattle.rio_leaf.specs.Leaves.{has_counting_leaf, has_leaf, is_dim};
-ghost use Rattle.rio_leaf.specs.Stated.{all_leaves, are_branches_behind, are_stated_branches, are_stated_leaves, has_branch, is_stated_branch, is_stated_leaf, is_stated_shape, leaves_of};
+ghost use Rattle.rio_leaf.specs.Stated.{all_leaves, are_stated_branches, are_stated_leaves, has_branch, is_stated_branch, is_stated_leaf, is_stated_shape, leaves_of};
 
 use crate::rules::{has_counting_leaf, has_leaf, is_leaf_count, is_letter_of};
 use crate::{BranchDef, BranchDefs, Dim, Leaf, Shape};

@@ -42,3 +42,7 @@ numbered n = codes " " ++ decimal n
 -- NAME;CYCLE
 abbrev pub item_text : List ℕ → ℕ → List ℕ
 item_text name cycle = name_text name ++ codes ";" ++ decimal cycle
+
+-- a word and a number after it
+abbrev pub with_number : List ℕ → ℕ → List ℕ
+with_number text n = text ++ numbered n

@@ -47,7 +47,7 @@ impl Bytes {
     ghost use Rattle.std.specs.Fmt.{decimal, signed_decimal};
     ghost use Rattle.byteorder.specs.Endian.{big_bytes};
     ghost use Rattle.rio_num.specs.Room.{Appends, room_of, padding};
-    ghost use Rattle.rio_num.specs.Printed.{hex_text, numbered};
+    ghost use Rattle.rio_num.specs.Printed.{hex_text, numbered, with_number};
     ghost use Rattle.rio_num.specs.Text.{text_bytes};
 
     /// No bytes.
@@ -231,6 +231,14 @@ impl Bytes {
     {
         self.put(b" ")?;
         self.put_decimal(v)
+    }
+
+    /// Puts a word at the end, a blank and a number.
+    pub fn put_with_number(&mut self, word: &[u8], v: u64) -> Result<(), NoMemory>
+        ensures { OnOk result (self.new.bytes ≡ self.old.bytes ++ with_number word.now v) }
+    {
+        self.put(word)?;
+        self.put_numbered(v)
     }
 
     /// Puts an integer at the end in decimal digits, behind a `-` where it is negative.

@@ -1,6 +1,7 @@
 //! Numbers and texts read from the front of some bytes.
-ghost use Rattle.std.specs.Prelude.{◌≡◌, ◌≤◌, ◌<◌, ◌^◌, drop};
+ghost use Rattle.std.specs.Prelude.{◌≡◌, ◌≤◌, ◌<◌, ◌^◌, drop, length};
 ghost use Rattle.rio_num.specs.Reading.{text_head};
+ghost use Rattle.rio_num.specs.Text.{text_bytes};
 
 use byteorder::{BigEndian, ByteOrder};
 use std::marker::Model;
@@ -161,6 +162,14 @@ pub fn bytes_from(bytes: &[u8], n: usize) -> &[u8]
     ensures { result.now ≡ drop n bytes.now }
 {
     if n < bytes.len() { &bytes[n..] } else { &[] }
+}
+
+/// How many bytes a text has in a file: those of its length, and its own.
+pub fn text_length(text: &[u8]) -> u64
+    ensures { result ≡ length (text_bytes text.now) }
+{
+    let own = text.len() as u64;
+    if own < 255 { own + 1 } else { own + 5 }
 }
 
 // How many bytes stand before a text's own, and how many its own are.

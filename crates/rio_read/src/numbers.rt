@@ -1,5 +1,5 @@
 //! Numbers, and lists of them.
-ghost use Rattle.std.specs.Prelude.{◌≡◌, ◌<◌, ◌^◌, IfOk};
+ghost use Rattle.std.specs.Prelude.{◌<◌};
 ghost use Rattle.rio_num.specs.At.{GoesOn};
 ghost use Rattle.rio_buffer.specs.Frames.{ReadsAs};
 ghost use Rattle.rio_format.specs.Objects.{count_of, counted_values, filled, number_value, numbers, text_value};

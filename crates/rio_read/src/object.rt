@@ -1,14 +1,16 @@
 //! Objects of the classes that a file describes. A call reads an object with at most `levels` levels of
 //! objects inside.
-ghost use Rattle.std.specs.Prelude.{◌≡◌, [], ◌∷◌, IfOk};
+ghost use Rattle.std.specs.Prelude.{◌≡◌, [], IfErr, IfOk};
 ghost use Rattle.rio_num.specs.At.{AreBytes, GoesOn};
-ghost use Rattle.rio_format.specs.Bodies.{form_of, body_of, counters_with, t_named, t_obj_string};
+ghost use Rattle.rio_format.specs.Bodies.{form_of, body_of, counters_with};
 ghost use Rattle.rio_buffer.specs.Frames.{ReadsAs};
 ghost use Rattle.rio_format.specs.Objects.{array_parts, base_part, body, formed, headed, kind_value, link, list_parts, member_part, member_parts, object_of, parts, pointer};
 ghost use Rattle.rio_num.specs.Layout.{each, times};
 ghost use Rattle.rio_num.specs.Meanings.{read};
 ghost use Rattle.rio_buffer.specs.Reader.{IsCounted};
 ghost use Rattle.rio_read.specs.Lists.{with_front};
+ghost use Rattle.rio_read.specs.Members.{link_behind};
+ghost use Rattle.rio_value.specs.declared.value.Value.{Pointed};
 
 use crate::bare::{read_array, read_bare, read_base};
 use crate::builtin::{array_parts, list_parts, read_named_parts, read_obj_string_parts};
@@ -258,6 +260,18 @@ fn read_kind(
     }
 }
 
+// A pointer to the object of this label, which begins here. It is made in a call of its own, so that those which go as deep as
+// an object keep little.
+fn pointed(alloc: Global, label: u32, object: Value) -> Result<Value, ObjFault>
+    ensures ok { IfOk result (λ v. v ≡ Pointed label object) }
+    ensures err { IfErr result (λ e. e ≡ ObjFault.NoMemory) }
+{
+    Ok(Value::Pointed {
+        label,
+        object: Boxed::new(alloc, object)?,
+    })
+}
+
 #[cycle(object)]
 #[tactic(auto, unfolding(rio_format::specs::Objects::pointer, rio_format::specs::Objects::pointed))]
 fn read_pointer(
@@ -281,10 +295,7 @@ fn read_pointer(
         } => {
             let object = read_object(alloc, classes, reader, class.as_slice(), levels)?;
             reader.finish(place, end)?;
-            Ok(Value::Pointed {
-                label,
-                object: Boxed::new(alloc, object)?,
-            })
+            pointed(alloc, label, object)
         }
     }
 }
@@ -328,6 +339,15 @@ fn read_links(
     Ok(links)
 }
 
+// An item of a TList, behind its pointer.
+fn read_option(alloc: Global, reader: &mut ObjReader, pointer: Value) -> Result<Value, ObjFault>
+    ensures exact { ReadsAs (λ x. x) result (read (link_behind pointer) reader.old) reader.new }
+    ensures goes { GoesOn reader.old.at reader.new.at }
+{
+    let option = read_name(alloc, reader)?;
+    Ok(link(alloc, pointer, option)?)
+}
+
 // An item of a TList.
 #[cycle(object)]
 #[tactic(auto, unfolding(rio_format::specs::Objects::link))]
@@ -342,8 +362,7 @@ fn read_link(
     ensures goes { GoesOn reader.old.at reader.new.at }
 {
     let pointer = read_pointer(alloc, classes, reader, levels)?;
-    let option = read_name(alloc, reader)?;
-    Ok(link(alloc, pointer, option)?)
+    read_option(alloc, reader, pointer)
 }
 
 // The parts of a TObjArray.

@@ -1,5 +1,4 @@
 //! Objects are passed over: the first fault is told, and no value is made.
-ghost use Rattle.std.specs.Prelude.{◌≡◌};
 ghost use Rattle.rio_num.specs.At.{GoesOn};
 ghost use Rattle.rio_buffer.specs.Frames.{ReadsAs};
 ghost use Rattle.rio_format.specs.Objects.{depth_limit, object_of};

@@ -1,5 +1,4 @@
 //! The ends of objects with a header.
-ghost use Rattle.std.specs.Prelude.{◌≡◌, IfOk};
 ghost use Rattle.rio_num.specs.At.{GoesOn};
 ghost use Rattle.rio_buffer.specs.Frames.{ReadsAs};
 ghost use Rattle.rio_format.specs.Objects.{closed, unread};

@@ -1,13 +1,11 @@
 //! Whether a record stands for an object.
-ghost use Rattle.std.specs.Prelude.{◌≡◌, ◌≢◌, ◌==◌, ◌&&◌, ◌+◌, ◌<◌, ◌^◌, not, is_some, length, ℕ, List, Some, IfOk, IfErr, Ok};
-ghost use Rattle.std.specs.Int.{w32, cast_unsigned};
+ghost use Rattle.std.specs.Prelude.{◌≡◌, ◌&&◌, ◌<◌, ◌^◌, is_some, length, ℕ, List, Some, IfOk, Ok};
+ghost use Rattle.std.specs.Int.{cast_unsigned};
 ghost use Rattle.rio_num.specs.Room.{is_padding};
 ghost use Rattle.rio_format.specs.Objects.{first_at};
 ghost use Rattle.rio_host.specs.Host.{IsWithin};
 ghost use Rattle.rio_host.specs.OnlyReads.{OnlyReads};
 ghost use Rattle.rio_value.specs.declared.value.Value.{Value as Read};
-ghost use Rattle.rio_buffer.specs.Frames.{Step};
-ghost use Rattle.rio_machine.specs.Limits.{has_long_list, is_too_deep, is_too_long};
 ghost use Rattle.rio_state.specs.Contents.{can_be_stored, object_in, stored_in};
 ghost use Rattle.rio_state.specs.KeyedRecords.{KeyedRecord};
 ghost use Rattle.rio_recover.specs.Causes.{IsRecoverCause, Obtains};

@@ -1,5 +1,5 @@
 //! A file is walked: its header, its segments and the keys of its records.
-ghost use Rattle.std.specs.Prelude.{◌≡◌, ◌+◌, ◌<◌, ◌≤◌, ◌^◌, length, ℕ, List, Some, IfOk};
+ghost use Rattle.std.specs.Prelude.{◌≡◌, ◌+◌, ◌<◌, ◌^◌, length, ℕ, List, Some, IfOk};
 ghost use Rattle.std.specs.List.{All};
 ghost use Rattle.rio_host.specs.Host.{IsWithin};
 ghost use Rattle.rio_host.specs.OnlyReads.{OnlyReads};

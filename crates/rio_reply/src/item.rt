@@ -1,7 +1,6 @@
 //! Parts of replies: names with their cycles.
-ghost use Rattle.std.specs.Prelude.{◌≡◌, ◌++◌, codes, OnOk};
+ghost use Rattle.std.specs.Prelude.{◌≡◌, ◌++◌, OnOk};
 ghost use Rattle.rio_num.specs.Printed.{item_text};
-ghost use Rattle.rio_step.specs.ReplyText.{item_lines};
 ghost use Rattle.rio_reply.specs.Told.{listed_line};
 
 use rio_key::KeyHead;

@@ -1,5 +1,5 @@
 //! Replies to commands, as they are said.
-ghost use Rattle.std.specs.Prelude.{◌≡◌, ◌++◌, ◌<◌, ◌^◌, codes, drop, length, Ok, IfOk};
+ghost use Rattle.std.specs.Prelude.{◌≡◌, ◌<◌, ◌^◌, drop, length, Ok, IfOk};
 ghost use Rattle.rio_format.specs.Objects.{value_at};
 ghost use Rattle.rio_machine.specs.State.{State};
 ghost use Rattle.rio_step.specs.ItemKeys.{AreKeysOfState};

@@ -1,11 +1,11 @@
 -- A line for each of a list, gathered one after the other.
-use Rattle.std.proofs.Common.{◌≡◌, ◌++◌, ◌+◌, ◌<◌, ◌≤◌, ℕ, List, [], ◌∷◌, length, take, drop, get_or, Some, sym, ap, ◌∙◌, append_assoc}
+use Rattle.std.proofs.Common.{◌≡◌, ◌++◌, ◌+◌, ◌<◌, ◌≤◌, ℕ, List, [], ◌∷◌, length, take, drop, get_or, true, Some, refl, sym, ap, ◌∙◌, append_assoc}
 use Rattle.std.proofs.lemmas.List.{append-nil, take_all, take_more, take-append-drop, Concat.{flat_map-append}}
 use Rattle.std.specs.List.{flat_map}
 use Rattle.rio_host.specs.{Host.{View, IsLawful}, OnlyReads.{OnlySaysPieces}}
 use Rattle.rio_host.proofs.PiecesLaws.{part_front, pieces_as}
-use Rattle.rio_report.specs.Gathered.{Gathered}
-use Rattle.rio_report.proofs.Gather.{cut_on, gathered_on}
+use Rattle.rio_report.specs.Gathered.{CutShort, Gathered, ends_line}
+use Rattle.rio_report.proofs.{Gather.{cut_on, gathered_on, lines_on}, WholeLines.{each_ends}}
 
 module _ {X : Type 0} (line : List ℕ → X → List ℕ) (xs : List X) where
   abbrev pub lines : ℕ → List ℕ → List ℕ
@@ -48,10 +48,16 @@ module _ {X : Type 0} (line : List ℕ → X → List ℕ) (xs : List X) where
       pub line_gathered : (more : List ℕ) → Gathered (λ file. held ++ line file x) more b c → Gathered (first_lines (i + 1)) more a c
       line_gathered more two = gathered_on a b c lawful_a lawful_b (first_lines i) held so_far (λ file. held ++ line file x) (first_lines (i + 1)) (next_line i x lt is held so_far) more two
 
-      -- and where one of them was said in part
-      pub line_cut : OnlySaysPieces (λ file. held ++ line file x) b c → OnlySaysPieces (λ file. first ++ flat_map (line file) xs) a c
-      line_cut two =
+      part_cut : OnlySaysPieces (λ file. held ++ line file x) b c → OnlySaysPieces (λ file. first ++ flat_map (line file) xs) a c
+      part_cut two =
           let cut = cut_on a b c lawful_a lawful_b (first_lines i) held so_far (λ file. held ++ line file x) (first_lines (i + 1)) (next_line i x lt is held so_far) two in
           let more = part_front (first_lines (i + 1)) (λ file. flat_map (line file) (drop (i + 1) xs)) cut in
           pieces_as (λ file. first_lines (i + 1) file ++ flat_map (line file) (drop (i + 1) xs)) (λ file. first ++ flat_map (line file) xs)
           (λ file told. append_assoc first (lines (i + 1) file) (flat_map (line file) (drop (i + 1) xs)) ∙ ap (λ (l : List ℕ). first ++ l) (in_front (i + 1) file)) more
+
+      -- and where a call fails that goes on with one of them
+      pub line_cut : ((file : List ℕ) (y : X) → ends_line (line file y) ≡ true) → CutShort held (λ file. line file x) b c → CutShort first (λ file. flat_map (line file) xs) a c
+      line_cut ends two = record {
+        part = part_cut two.part;
+        lines = lines_on a b c lawful_a lawful_b (first_lines i) held so_far first (lines i) (λ file. refl) (λ file. each_ends (line file) (ends file) (take i xs)) two.lines;
+      }

@@ -1,4 +1,5 @@
 pub mod Checked
+pub mod Counted
 pub mod Counters
 pub mod Described
 pub mod Dump
@@ -8,6 +9,7 @@ pub mod GreatestCycle
 pub mod Item
 pub mod Lanes
 pub mod Lists
+pub mod PiecesCause
 pub mod Refusals
 pub mod RowFaults
 pub mod Rows

@@ -1,8 +1,9 @@
 -- A call that says what there is to say of a file: what it answers, says and leaves.
-use Rattle.std.specs.Prelude.{◌≡◌, ℕ, List, Some, Result, Ok, Err, IsOk, IsOkAnd}
+use Rattle.std.specs.Prelude.{◌≡◌, ℕ, List, [], Some, Result, Ok, Err, IsOk, IsOkAnd}
 use Rattle.rio_head.specs.{declared.fault.FileFault.{FileFault}, declared.fault.HeadFault.{HeadFault}, Head.{fault_at}}
 use Rattle.rio_host.specs.{Host.{View, Becomes, Longer}, OnlyReads.{OnlySays, OnlySaysPieces}}
 use Rattle.rio_dir.specs.Listing.{said_listing}
+use Rattle.rio_report.specs.{Gathered.{SaysLines}, PiecesCause.{IsPiecesCauseOf}}
 use Rattle.rio_close.specs.{Causes.{IsSayCauseOf}, declared.fault.ReportFault.{ReportFault, TheVariants.{BadFile, NoMemory, HostFault, SayFault}}}
 
 -- what is said of a file, or the first rule that it breaks
@@ -61,6 +62,18 @@ IsSilent InPieces (Err SayFault) = ⊥
 abbrev pub StaysSilent : Manner → View → View → ListingAnswer → Type 0
 StaysSilent manner old new told = IsSilent manner told → new.said ≡ old.said
 
+-- Where a call fails that says a listing in pieces, whole lines were said: those that were complete when it failed. A call on the
+-- text that fails can leave a part of a line.
+abbrev pub SaysWholeLines : Manner → View → View → ListingAnswer → Type 0
+SaysWholeLines manner old new (Ok x) = Unit {0}
+SaysWholeLines AtOnce old new (Err e) = Unit {0}
+SaysWholeLines InPieces old new (Err e) = SaysLines [] old new
+
+-- why it ends so
+abbrev pub IsListingCause : Manner → (FileFault → Type 0) → View → View → ListingAnswer → Type 0
+IsListingCause AtOnce tested old new told = IsSayCauseOf tested old new told
+IsListingCause InPieces tested old new told = IsPiecesCauseOf tested old new told
+
 -- What a call answers, says and leaves that says a listing and tests these kinds of fault.
 pub record Lists (manner : Manner) (tested : FileFault → Type 0) (listing : ListingOf) (old new : View) (told : ListingAnswer)
     : Type 0 where
@@ -68,4 +81,5 @@ pub record Lists (manner : Manner) (tested : FileFault → Type 0) (listing : Li
   pub refused : Refuses listing old told
   pub calls : SaysFront manner listing old new
   pub silent : StaysSilent manner old new told
-  pub cause : IsSayCauseOf tested old new told
+  pub lines : SaysWholeLines manner old new told
+  pub cause : IsListingCause manner tested old new told

@@ -2,7 +2,7 @@
 use Rattle.std.specs.{Prelude.{ℕ, List, [], ◌∷◌, ◌++◌, codes, Option, Some, None, Ok, Err, unwrap_or}, Fmt.{decimal}}
 use Rattle.rio_basket.specs.{Texts.{basket_fault_text}, declared.fault.BasketFault.{TheVariants.{BadLast}}}
 use Rattle.rio_entry.specs.declared.fault.EntryFault.{EntryFault, TheVariants.{BadEntry}}
-use Rattle.rio_buffer.specs.Texts.{with_number}
+use Rattle.rio_num.specs.Printed.{with_number}
 use Rattle.rio_report.specs.StoredEntries.{StoredEntries}
 use Rattle.rio_report.specs.{declared.lane.Lane.{Lane}, declared.lane.RowFault.{RowFault, TheVariants.{Basket, Entry}}}
 

@@ -1,12 +1,16 @@
 //! What earlier branches count for the leaves of a branch.
-ghost use Rattle.std.specs.Prelude.{◌≡◌, ℕ, None, Some, IfOk, drop, map, slice_get};
+ghost use Rattle.std.specs.Prelude.{◌≡◌, None, Some, IfOk, OnOk, drop, map, slice_get};
 ghost use Rattle.std.specs.List.{list_any};
 ghost use Rattle.rio_entry.specs.Leaves.{last_number as last_said};
+ghost use Rattle.rio_format.specs.Bodies.{Counters};
+ghost use Rattle.rio_format.specs.Counts.{SaysAsFirst};
 ghost use Rattle.rio_tree.specs.Header.{branch_leaves};
+ghost use Rattle.rio_report.specs.Counted.{noted_branch, noted_branches};
 ghost use Rattle.rio_report.specs.Counters.{counters_are_read, entry_counts, is_refused, leaf_count, number_in_branch, number_said, values_or_none};
 ghost use Rattle.rio_report.specs.Lanes.{number_with, number_if_named};
 
-use crate::row::{BranchRows, Refusals};
+use crate::row::{BranchRefusals, BranchRows};
+use rio_entry::{Numbers, leaf_counts, note_leaves};
 use rio_leaf::{Dim, Leaf, Shape};
 use rio_num::NoMemory;
 use rio_tree::{Branch, BranchRefusal};
@@ -30,7 +34,7 @@ fn is_any_refused(refusals: &[Option<BranchRefusal>], numbers: &[usize]) -> bool
 }
 
 /// None of the branches by whose leaves the branch is counted is refused.
-pub(crate) fn counters_are_read(refusals: &Refusals, branch: &Branch) -> bool
+pub(crate) fn counters_are_read(refusals: &BranchRefusals, branch: &Branch) -> bool
     ensures { result ≡ counters_are_read refusals.now branch.now }
 {
     !is_any_refused(refusals.as_slice(), branch.counted_by.as_slice())
@@ -138,6 +142,57 @@ fn leaf_count(branches: &[Branch], row: &BranchRows, counters: &[usize], leaf: &
     }
 }
 
+// The leaves of the branch at `k` stand behind those before.
+fn note_branch<'a>(
+    branches: &'a [Branch],
+    row: &BranchRows,
+    k: usize,
+    numbers: &mut Numbers<'a>,
+) -> Result<(), NoMemory>
+    ensures { (before : Counters) → SaysAsFirst numbers.old before
+        → OnOk result (SaysAsFirst numbers.new (noted_branch (slice_get branches.now k)
+        (values_or_none (slice_get row.now k)) before)) }
+{
+    match branches.get(k) {
+        Some(branch) => note_leaves(branch_leaves(branch), values_there(row, k), numbers),
+        None => Ok(()),
+    }
+}
+
+// So do the leaves of the branches of these numbers.
+fn note_branches<'a>(
+    branches: &'a [Branch],
+    row: &BranchRows,
+    counters: &[usize],
+    numbers: &mut Numbers<'a>,
+) -> Result<(), NoMemory>
+    ensures { (before : Counters) → SaysAsFirst numbers.old before
+        → OnOk result
+        (SaysAsFirst numbers.new (noted_branches branches.now row.now counters.now before)) }
+{
+    for k in counters {
+        note_branch(branches, row, *k, numbers)?;
+    }
+    Ok(())
+}
+
+// What is counted for each leaf. The numbers of the leaves that count are looked up by their names, so that many leaves that
+// are counted by many cost a time linear in both, but for the search in a map.
+fn count_by_name(
+    alloc: Global,
+    branches: &[Branch],
+    row: &BranchRows,
+    counters: &[usize],
+    leaves: &[Leaf],
+) -> Result<Values, NoMemory>
+    ensures { IfOk result
+        (λ counts. counts ≡ map (leaf_count branches.now row.now counters.now) leaves.now) }
+{
+    let mut numbers = Numbers::new(alloc);
+    note_branches(branches, row, counters, &mut numbers)?;
+    leaf_counts(alloc, leaves, &numbers)
+}
+
 // What is counted for each leaf.
 fn count_leaves(
     alloc: Global,
@@ -156,6 +211,24 @@ fn count_leaves(
     Ok(counts)
 }
 
+// What is counted for each leaf. One leaf, which most branches have, needs no map.
+fn count_any(
+    alloc: Global,
+    branches: &[Branch],
+    row: &BranchRows,
+    counters: &[usize],
+    leaves: &[Leaf],
+) -> Result<Values, NoMemory>
+    ensures { IfOk result
+        (λ counts. counts ≡ map (leaf_count branches.now row.now counters.now) leaves.now) }
+{
+    if leaves.len() < 2 {
+        count_leaves(alloc, branches, row, counters, leaves)
+    } else {
+        count_by_name(alloc, branches, row, counters, leaves)
+    }
+}
+
 /// What is counted for each leaf of a branch by leaves of the branches before it, which have these values. Nothing is
 /// given where none of them counts any.
 pub(crate) fn entry_counts(
@@ -169,6 +242,6 @@ pub(crate) fn entry_counts(
     let counters = branch.counted_by.as_slice();
     match counters {
         [] => Ok(Values::new(alloc)),
-        _ => count_leaves(alloc, branches, row, counters, branch_leaves(branch)),
+        _ => count_any(alloc, branches, row, counters, branch_leaves(branch)),
     }
 }

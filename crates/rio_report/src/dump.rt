@@ -1,12 +1,13 @@
 //! What `dump` says of a file.
-ghost use Rattle.std.specs.Prelude.{◌≡◌, Some};
+ghost use Rattle.std.specs.Prelude.{Some};
 ghost use Rattle.std.specs.Option.{option_copied};
-ghost use Rattle.rio_close.specs.Causes.{AnyKind, IsSayCauseOf, NoKind};
+ghost use Rattle.rio_close.specs.Causes.{AnyKind, NoKind};
 ghost use Rattle.rio_host.specs.Host.{IsLength};
-ghost use Rattle.rio_host.specs.OnlyReads.{OnlySaysPieces, Says};
 ghost use Rattle.rio_report.specs.Dump.{dump_lines, dump_text, dumped_file, item_line};
 ghost use Rattle.rio_report.specs.Item.{found_item};
-ghost use Rattle.rio_report.specs.Lists.{InPieces, IsDone, Lists, Refuses, SaysFront, StaysSilent};
+ghost use Rattle.rio_report.specs.Gathered.{SaysByLine};
+ghost use Rattle.rio_report.specs.Lists.{InPieces, IsDone, Lists, Refuses, SaysFront, SaysWholeLines, StaysSilent};
+ghost use Rattle.rio_report.specs.PiecesCause.{IsPiecesCauseOf};
 
 use crate::described::{Described, open_described};
 use crate::item::{Item, found_item};
@@ -28,9 +29,9 @@ fn say_all<H: Host>(
     keys: &[KeyHead],
 ) -> Result<(), ReportFault>
     requires { IsLength (H.view host.old) file_length }
-    ensures says { Says (λ file. dump_lines file classes.now keys.now)
+    ensures says { SaysByLine (λ file. dump_lines file classes.now keys.now)
         (H.view host.old) (H.view host.new) result }
-    ensures cause { IsSayCauseOf NoKind (H.view host.old) (H.view host.new) result }
+    ensures cause { IsPiecesCauseOf NoKind (H.view host.old) (H.view host.new) result }
 {
     let mut held = Bytes::new(alloc);
     gather_classes(alloc, host, classes.as_slice(), &mut held)?;
@@ -48,9 +49,9 @@ fn say_item<H: Host>(
     item: &Item,
 ) -> Result<(), ReportFault>
     requires { IsLength (H.view host.old) file_length }
-    ensures says { Says (λ file. item_line file classes.now (found_item item.now keys.now))
+    ensures says { SaysByLine (λ file. item_line file classes.now (found_item item.now keys.now))
         (H.view host.old) (H.view host.new) result }
-    ensures cause { IsSayCauseOf NoKind (H.view host.old) (H.view host.new) result }
+    ensures cause { IsPiecesCauseOf NoKind (H.view host.old) (H.view host.new) result }
 {
     match found_item(keys, item) {
         Ok(key) => say_key(alloc, host, file_length, classes, key),
@@ -67,9 +68,9 @@ fn say_described<H: Host>(
     item: Option<&Item>,
 ) -> Result<(), ReportFault>
     requires { IsLength (H.view host.old) file_length }
-    ensures says { Says (λ file. dump_text file (option_copied item.entry) described.now)
+    ensures says { SaysByLine (λ file. dump_text file (option_copied item.entry) described.now)
         (H.view host.old) (H.view host.new) result }
-    ensures cause { IsSayCauseOf NoKind (H.view host.old) (H.view host.new) result }
+    ensures cause { IsPiecesCauseOf NoKind (H.view host.old) (H.view host.new) result }
 {
     let keys = described.closed.keys.as_slice();
     match item {
@@ -90,7 +91,8 @@ fn say_all_or_item<H: Host>(
     ensures calls { SaysFront InPieces (dumped_file (option_copied item.entry))
         (H.view host.old) (H.view host.new) }
     ensures silent { StaysSilent InPieces (H.view host.old) (H.view host.new) result }
-    ensures cause { IsSayCauseOf AnyKind (H.view host.old) (H.view host.new) result }
+    ensures lines { SaysWholeLines InPieces (H.view host.old) (H.view host.new) result }
+    ensures cause { IsPiecesCauseOf AnyKind (H.view host.old) (H.view host.new) result }
 {
     let file_length = host.length()?;
     let described = open_described(alloc, host, file_length)?;
@@ -104,8 +106,9 @@ fn say_all_or_item<H: Host>(
 /// the file goes, one at a time, and only where its value is said.
 ///
 /// BadFile is the first rule that the header, the directory record, the key list or the class list breaks:
-/// they are read first, and then nothing was said. The lines are gathered and said some 64 KiB at a time;
-/// a fault of the host, or want of memory, can leave a front of the text said.
+/// they are read first, and then nothing was said. The lines are gathered and said some 64 KiB at a time.
+/// Where memory or a call on the file fails, the lines that are complete are said before that fault is
+/// returned; only where saying them fails is the last one cut.
 pub fn say_dump<H: Host>(
     alloc: Global,
     host: &mut H,

@@ -1,7 +1,6 @@
 //! What `ls` says of a file.
 ghost use Rattle.std.specs.Prelude.{◌≡◌, ◌++◌, IfOk, OnOk};
 ghost use Rattle.rio_close.specs.Causes.{IsSayCause, IsTested};
-ghost use Rattle.rio_host.specs.OnlyReads.{OnlySays};
 ghost use Rattle.rio_dir.specs.Listing.{key_line, key_lines, listed_file, mark_of};
 ghost use Rattle.rio_report.specs.Lists.{AtOnce, IsDone, Lists, Refuses, SaysFront, StaysSilent};
 

@@ -11,7 +11,7 @@ ghost use Rattle.rio_report.specs.Checked.{CountersMade};
 
 use crate::checked::{Made, counters_alone};
 use crate::lane::Lane;
-use crate::row::Refusals;
+use crate::row::BranchRefusals;
 use crate::row_reader::{Tree, read_row, refusal_before};
 use crate::stored::refusal_of_baskets;
 use rio_close::ReportFault;
@@ -26,7 +26,7 @@ fn first_refusal<H: Host>(
     host: &mut H,
     tree: &Tree,
     k: usize,
-    refusals: &Refusals,
+    refusals: &BranchRefusals,
 ) -> Result<Option<BranchRefusal>, ReportFault>
     requires length { IsLength (H.view host.old) tree.now.file_length }
     requires within { k < length tree.now.branches.now }
@@ -59,7 +59,7 @@ fn first_refusals<H: Host>(
     alloc: Global,
     host: &mut H,
     tree: &Tree,
-) -> Result<Refusals, ReportFault>
+) -> Result<BranchRefusals, ReportFault>
     requires { IsLength (H.view host.old) tree.now.file_length }
     ensures refusals { IfOk result (λ refusals. (file : List ℕ)
         → (H.view host.old).holds ≡ Some file
@@ -68,7 +68,7 @@ fn first_refusals<H: Host>(
     ensures calls { OnlyReads (H.view host.old) (H.view host.new) }
     ensures cause { IsCallCause (H.view host.old) (H.view host.new) result }
 {
-    let mut refusals = Refusals::new(alloc);
+    let mut refusals = BranchRefusals::new(alloc);
     for k in 0..tree.branches.len() {
         let refusal = first_refusal(alloc, host, tree, k, &refusals)?;
         refusals.push(refusal)?;
@@ -89,7 +89,7 @@ pub(crate) fn empty_lanes(alloc: Global, n: usize) -> Result<Vec<Lane>, NoMemory
     Ok(lanes)
 }
 
-fn is_any_read(refusals: &Refusals) -> bool
+fn is_any_read(refusals: &BranchRefusals) -> bool
     ensures { result ≡ list_any is_none refusals.now }
 {
     let refusals = refusals.as_slice();
@@ -104,8 +104,8 @@ fn check_entries<H: Host>(
     tree: &Tree,
     entries: u64,
     made: &[Made],
-    first: Refusals,
-) -> Result<Refusals, ReportFault>
+    first: BranchRefusals,
+) -> Result<BranchRefusals, ReportFault>
     requires length { IsLength (H.view host.old) tree.now.file_length }
     requires counters { CountersMade made.now tree.now.branches.now }
     requires count { length first ≡ length tree.now.branches.now }
@@ -143,7 +143,7 @@ pub(crate) fn find_refusals<H: Host>(
     host: &mut H,
     tree: &Tree,
     entries: u64,
-) -> Result<Refusals, ReportFault>
+) -> Result<BranchRefusals, ReportFault>
     requires { IsLength (H.view host.old) tree.now.file_length }
     ensures refusals { IfOk result (λ refusals. (file : List ℕ)
         → (H.view host.old).holds ≡ Some file

@@ -8,12 +8,12 @@ use std::alloc::Global;
 pub type BranchRows = Items<Values>;
 
 /// Why each branch isn't read.
-pub type Refusals = Items<Option<BranchRefusal>>;
+pub type BranchRefusals = Items<Option<BranchRefusal>>;
 
 /// A row: why each branch isn't read, and the values of those that are.
 #[derive(Drop)]
 pub struct Row {
-    pub refusals: Refusals,
+    pub refusals: BranchRefusals,
     pub values: BranchRows,
 }
 
@@ -26,7 +26,7 @@ impl Row {
         ensures { result ≡ empty_row }
     {
         Row {
-            refusals: Refusals::new(alloc),
+            refusals: BranchRefusals::new(alloc),
             values: BranchRows::new(alloc),
         }
     }

@@ -6,7 +6,9 @@ ghost use Rattle.rio_host.specs.Host.{IsLength};
 ghost use Rattle.rio_host.specs.OnlyReads.{OnlyReads};
 ghost use Rattle.rio_close.specs.Causes.{IsCallCause};
 ghost use Rattle.rio_entry.specs.declared.fault.EntryFault.TheVariants.{NoMemory as OutOfMemory};
+ghost use Rattle.rio_entry.specs.Counting.{counters_within};
 ghost use Rattle.rio_entry.specs.Reading.{entry_in};
+ghost use Rattle.rio_index.specs.Counters.{tree_counters};
 ghost use Rattle.rio_tree.specs.Index.{basket_number};
 ghost use Rattle.rio_report.specs.Refusals.{refused_first};
 ghost use Rattle.rio_report.specs.Rows.{values_if_read, values_of_branch};
@@ -18,23 +20,26 @@ ghost use Rattle.rio_report.specs.RowFaults.{fault_held, fault_of_entry};
 use crate::checked::{Made, made_there};
 use crate::counts::{counters_are_read, entry_counts};
 use crate::lane::{Lane, RowFault, entry_there, hold};
-use crate::row::{Refusals, Row};
+use crate::row::{BranchRefusals, Row};
 use rio_basket::BasketFault;
 use rio_close::ReportFault;
-use rio_entry::{EntryFault, check_entry, entry_numbers, read_entry};
+use rio_entry::{EntryFault, LeafCounters, check_entry_with, entry_numbers_with, read_entry_with};
 use rio_host::Host;
+use rio_index::TreeCounters;
 use rio_num::NoMemory;
 use rio_tree::{Branch, BranchRefusal};
 use rio_types::Classes;
 use rio_value::Values;
 use std::alloc::Global;
 
-/// A tree in a file: the file's length and classes, and the tree's branches.
+/// A tree in a file: the file's length and classes, and the tree's branches with their counters.
 #[derive(Drop)]
 pub(crate) struct Tree<'a> {
     pub(crate) file_length: u64,
     pub(crate) classes: &'a Classes,
     pub(crate) branches: &'a [Branch],
+    pub(crate) counters: &'a TreeCounters,
+    pub(crate) ghost counted: { counters.now ≡ tree_counters branches.now },
 }
 
 /// An entry of a branch, which stands behind others, and what is made of its values.
@@ -42,8 +47,10 @@ pub(crate) struct Tree<'a> {
 pub(crate) struct Place<'a> {
     pub(crate) before: &'a [Branch],
     pub(crate) branch: &'a Branch,
+    pub(crate) counters: &'a LeafCounters,
     pub(crate) entry: u64,
     pub(crate) made: Made,
+    pub(crate) ghost counted: { counters.now ≡ counters_within branch.now.def.shape },
 }
 
 /// What is made of the values of an entry, or why it isn't read.
@@ -65,7 +72,7 @@ fn refused_first(refusal: Option<BranchRefusal>) -> Option<BranchRefusal>
 
 /// The refusal with which a branch comes behind others that are refused so.
 pub(crate) fn refusal_before(
-    refusals: &Refusals,
+    refusals: &BranchRefusals,
     branch: &Branch,
     refusal: Option<BranchRefusal>,
 ) -> Option<BranchRefusal>
@@ -115,16 +122,17 @@ fn values_of_bytes(
         (result_err (entry_in classes.now place.now.branch.now.def.shape counts.now bytes.now))) }
 {
     let branch = &place.branch.def;
+    let counters = place.counters;
     match place.made {
-        Made::Whole => match read_entry(alloc, classes, branch, counts, bytes) {
+        Made::Whole => match read_entry_with(alloc, classes, branch, counters, counts, bytes) {
             Ok(values) => Ok(Ok(values)),
             Err(fault) => fault_by(fault),
         },
-        Made::Numbers => match entry_numbers(alloc, classes, branch, counts, bytes) {
+        Made::Numbers => match entry_numbers_with(alloc, classes, branch, counters, counts, bytes) {
             Ok(numbers) => Ok(Ok(numbers)),
             Err(fault) => fault_by(fault),
         },
-        Made::Nothing => match check_entry(alloc, classes, branch, counts, bytes) {
+        Made::Nothing => match check_entry_with(alloc, classes, branch, counters, counts, bytes) {
             Ok(()) => Ok(Ok(Values::new(alloc))),
             Err(fault) => fault_by(fault),
         },
@@ -269,6 +277,7 @@ pub(crate) fn read_row<H: Host>(
         let place = Place {
             before: &tree.branches[..k],
             branch: &tree.branches[k],
+            counters: tree.counters.at(k),
             entry,
             made: made_there(made, k),
         };

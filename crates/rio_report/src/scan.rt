@@ -1,25 +1,26 @@
 //! What `scan` says of a file.
-ghost use Rattle.std.specs.Prelude.{◌≡◌, ◌++◌, ℕ, List, Ok, Err, Some, IfOk, MatchResult};
-ghost use Rattle.std.specs.List.{list_any, filter};
+ghost use Rattle.std.specs.Prelude.{◌≡◌, Ok, Err, Some, IfOk, MatchResult};
 ghost use Rattle.std.specs.Option.{option_copied};
-ghost use Rattle.rio_close.specs.Causes.{AnyKind, IsSayCauseOf, NoKind};
+ghost use Rattle.rio_close.specs.Causes.{AnyKind, NoKind};
 ghost use Rattle.rio_host.specs.Host.{IsLength};
-ghost use Rattle.rio_host.specs.OnlyReads.{Says};
 ghost use Rattle.rio_dir.specs.Table.{is_of_name};
-ghost use Rattle.rio_report.specs.Scan.{found_tree, key_scan, scan_lines, scan_text, scanned_file, tree_key, tree_lines, unread_line};
-ghost use Rattle.rio_report.specs.Lists.{InPieces, IsDone, Lists, Refuses, SaysFront, StaysSilent};
+ghost use Rattle.rio_report.specs.Scan.{found_tree, key_scan, scan_text, scanned_file, tree_key, tree_lines, unread_line};
+ghost use Rattle.rio_report.specs.Gathered.{SaysByLine};
+ghost use Rattle.rio_report.specs.Lists.{InPieces, IsDone, Lists, Refuses, SaysFront, SaysWholeLines, StaysSilent};
+ghost use Rattle.rio_report.specs.PiecesCause.{IsPiecesCauseOf};
 
 use crate::content::is_tree;
 use crate::described::{Described, open_described};
 use crate::item::{greater_cycle, has_any, is_of_name};
 use crate::pieces::{say_held, say_refusal};
-use crate::refusals::find_refusals;
+use crate::refusals::{empty_lanes, find_refusals};
 use crate::row_reader::Tree;
 use crate::scan_rows::gather_rows;
 use crate::scan_text::{put_count, put_refused_lines};
 use crate::tree_line::read_stored_tree;
 use rio_close::ReportFault;
 use rio_host::Host;
+use rio_index::TreeCounters;
 use rio_key::KeyHead;
 use rio_machine::Refusal;
 use rio_num::{Bytes, NoMemory};
@@ -72,9 +73,9 @@ fn say_unread<H: Host>(
     key: &KeyHead,
     instead: &[u8],
 ) -> Result<(), ReportFault>
-    ensures says { Says (λ file. unread_line key.now instead.now)
+    ensures says { SaysByLine (λ file. unread_line key.now instead.now)
         (H.view host.old) (H.view host.new) result }
-    ensures cause { IsSayCauseOf NoKind (H.view host.old) (H.view host.new) result }
+    ensures cause { IsPiecesCauseOf NoKind (H.view host.old) (H.view host.new) result }
 {
     let text = unread_text(alloc, key, instead)?;
     say_held(host, &text)
@@ -90,21 +91,32 @@ fn say_tree<H: Host>(
     head: &TreeHead,
 ) -> Result<(), ReportFault>
     requires { IsLength (H.view host.old) file_length }
-    ensures says { Says (λ file. tree_lines file classes.now name.now head.now)
+    ensures says { SaysByLine (λ file. tree_lines file classes.now name.now head.now)
         (H.view host.old) (H.view host.new) result }
-    ensures cause { IsSayCauseOf NoKind (H.view host.old) (H.view host.new) result }
+    ensures cause { IsPiecesCauseOf NoKind (H.view host.old) (H.view host.new) result }
 {
     let branches = head.branches.as_slice();
+    let counters = TreeCounters::new(alloc, branches)?;
     let tree = Tree {
         file_length,
         classes,
         branches,
+        counters: &counters,
     };
     let refusals = find_refusals(alloc, host, &tree, head.entries)?;
+    let lanes = empty_lanes(alloc, branches.len())?;
     let mut held = Bytes::new(alloc);
     put_refused_lines(&mut held, branches, refusals.as_slice())?;
     put_count(&mut held, name, head.entries)?;
-    gather_rows(alloc, host, &tree, head.entries, &refusals, &mut held)?;
+    gather_rows(
+        alloc,
+        host,
+        &tree,
+        head.entries,
+        &refusals,
+        lanes,
+        &mut held,
+    )?;
     say_held(host, &held)
 }
 
@@ -117,9 +129,9 @@ fn say_tree_key<H: Host>(
     key: &KeyHead,
 ) -> Result<(), ReportFault>
     requires { IsLength (H.view host.old) file_length }
-    ensures says { Says (λ file. key_scan file classes.now key.now)
+    ensures says { SaysByLine (λ file. key_scan file classes.now key.now)
         (H.view host.old) (H.view host.new) result }
-    ensures cause { IsSayCauseOf NoKind (H.view host.old) (H.view host.new) result }
+    ensures cause { IsPiecesCauseOf NoKind (H.view host.old) (H.view host.new) result }
 {
     if key.is_compressed() {
         return say_unread(alloc, host, key, b"compressed");
@@ -146,9 +158,9 @@ fn say_described_tree<H: Host>(
     name: &[u8],
 ) -> Result<(), ReportFault>
     requires { IsLength (H.view host.old) file_length }
-    ensures says { Says (λ file. scan_text file name.now described.now)
+    ensures says { SaysByLine (λ file. scan_text file name.now described.now)
         (H.view host.old) (H.view host.new) result }
-    ensures cause { IsSayCauseOf NoKind (H.view host.old) (H.view host.new) result }
+    ensures cause { IsPiecesCauseOf NoKind (H.view host.old) (H.view host.new) result }
 {
     match found_tree(described.closed.keys.as_slice(), name) {
         Ok(key) => say_tree_key(alloc, host, file_length, &described.classes, key),
@@ -163,7 +175,8 @@ fn say_file_tree<H: Host>(alloc: Global, host: &mut H, tree: &[u8]) -> Result<()
     ensures calls { SaysFront InPieces (scanned_file tree.now)
         (H.view host.old) (H.view host.new) }
     ensures silent { StaysSilent InPieces (H.view host.old) (H.view host.new) result }
-    ensures cause { IsSayCauseOf AnyKind (H.view host.old) (H.view host.new) result }
+    ensures lines { SaysWholeLines InPieces (H.view host.old) (H.view host.new) result }
+    ensures cause { IsPiecesCauseOf AnyKind (H.view host.old) (H.view host.new) result }
 {
     let file_length = host.length()?;
     let described = open_described(alloc, host, file_length)?;
@@ -179,8 +192,9 @@ fn say_file_tree<H: Host>(alloc: Global, host: &mut H, tree: &[u8]) -> Result<()
 /// BadFile is the first rule that the header, the directory record, the key list or the class list breaks: they are read
 /// first, and then nothing was said. Each basket is read to see which branches are read, and then the rows are gone
 /// through twice, once to see whether all entries are read, and once to say them; at most one basket of each branch is
-/// held. The lines are gathered and said some 64 KiB at a time; a fault of the host, or want of memory, can leave a front
-/// of the text said. Over a host whose file changes, a row that isn't read any more is said as `NUMBER fault` and why.
+/// held. The lines are gathered and said some 64 KiB at a time. Where memory or a call on the file fails while the rows are
+/// said, the lines that are complete are said before that fault is returned; only where saying them fails is the last one
+/// cut. Over a host whose file changes, a row that isn't read any more is said as `NUMBER fault` and why.
 pub fn say_scan<H: Host>(alloc: Global, host: &mut H, tree: &[u8]) -> Result<(), ReportFault>
     ensures { Lists InPieces AnyKind (scanned_file tree.now)
         (H.view host.old) (H.view host.new) result }

@@ -2,16 +2,17 @@
 ghost use Rattle.std.specs.Prelude.{◌≡◌, ◌++◌, ◌<◌, ℕ, List, Some, OnOk, IsTrue, length};
 ghost use Rattle.rio_host.specs.Host.{IsLength};
 ghost use Rattle.rio_host.specs.OnlyReads.{OnlyReads};
-ghost use Rattle.rio_close.specs.Causes.{IsCallCause, IsSayCauseOf, NoKind};
+ghost use Rattle.rio_close.specs.Causes.{IsCallCause, NoKind};
 ghost use Rattle.rio_report.specs.Refusals.{refusals_of};
 ghost use Rattle.rio_report.specs.Scan.{numbered_rows, row_line};
 ghost use Rattle.rio_report.specs.Gathered.{Gathers};
+ghost use Rattle.rio_report.specs.PiecesCause.{IsPiecesCauseOf};
 ghost use Rattle.rio_report.specs.Lanes.{AreLanes};
+ghost use Rattle.rio_tree.specs.declared.head.Branch.{Branch as Branched};
 
 use crate::lane::Lane;
-use crate::pieces::say_long;
-use crate::refusals::empty_lanes;
-use crate::row::Refusals;
+use crate::pieces::{hold_line, say_before};
+use crate::row::BranchRefusals;
 use crate::row_reader::{Tree, read_row};
 use crate::scan_text::{put_row, put_row_fault};
 use rio_close::ReportFault;
@@ -20,7 +21,7 @@ use rio_num::Bytes;
 use std::alloc::Global;
 
 // No branch is refused that wasn't before.
-fn are_kept(refusals: &Refusals, behind: &Refusals) -> bool
+fn are_kept(refusals: &BranchRefusals, behind: &BranchRefusals) -> bool
     ensures { behind.now ≡ refusals.now → IsTrue result }
 {
     for (k, refusal) in refusals.as_slice().iter().enumerate() {
@@ -37,7 +38,7 @@ fn put_row_line<H: Host>(
     host: &mut H,
     tree: &Tree,
     entry: u64,
-    refusals: &Refusals,
+    refusals: &BranchRefusals,
     lanes: &mut [Lane],
     text: &mut Bytes,
 ) -> Result<(), ReportFault>
@@ -73,8 +74,9 @@ fn gather_row<H: Host>(
     tree: &Tree,
     entries: u64,
     entry: u64,
-    refusals: &Refusals,
+    refusals: &BranchRefusals,
     lanes: &mut [Lane],
+    line: &mut Bytes,
     held: &mut Bytes,
 ) -> Result<(), ReportFault>
     requires length { IsLength (H.view host.old) tree.now.file_length }
@@ -88,38 +90,46 @@ fn gather_row<H: Host>(
     ensures lanes { length lanes.new ≡ length lanes.old }
     ensures kept { OnOk result ((file : List ℕ) → (H.view host.old).holds ≡ Some file
         → AreLanes file entry tree.now.branches.now lanes.new) }
-    ensures says { Gathers (λ file. held.old.bytes
-        ++ row_line file tree.now.classes.now tree.now.branches.now refusals.now entry)
+    ensures says { Gathers held.old.bytes
+        (λ file. row_line file tree.now.classes.now tree.now.branches.now refusals.now entry)
         held.new.bytes (H.view host.old) (H.view host.new) result }
-    ensures cause { IsSayCauseOf NoKind (H.view host.old) (H.view host.new) result }
+    ensures cause { IsPiecesCauseOf NoKind (H.view host.old) (H.view host.new) result }
 {
-    put_row_line(alloc, host, tree, entry, refusals, lanes, held)?;
-    say_long(alloc, host, held)
+    line.clear();
+    match put_row_line(alloc, host, tree, entry, refusals, lanes, line) {
+        Ok(()) => hold_line(alloc, host, line, held),
+        Err(fault) => say_before(host, held, fault),
+    }
 }
 
-/// Gathers a line for each row, where these are why branches aren't read in the file that the host tells. At most one
-/// basket of each branch is held.
+/// Gathers a line for each row, where these are why branches aren't read in the file that the host tells, over lanes that
+/// hold nothing. At most one basket of each branch is held.
 pub(crate) fn gather_rows<H: Host>(
     alloc: Global,
     host: &mut H,
     tree: &Tree,
     entries: u64,
-    refusals: &Refusals,
+    refusals: &BranchRefusals,
+    fresh: Vec<Lane>,
     held: &mut Bytes,
 ) -> Result<(), ReportFault>
     requires length { IsLength (H.view host.old) tree.now.file_length }
     requires count { length refusals.now ≡ length tree.now.branches.now }
     requires refusals { (file : List ℕ) → (H.view host.old).holds ≡ Some file
         → refusals.now ≡ refusals_of file tree.now.classes.now entries tree.now.branches.now }
-    ensures says { Gathers (λ file. held.old.bytes
-        ++ numbered_rows file tree.now.classes.now tree.now.branches.now refusals.now entries)
+    requires width { length fresh.items ≡ length tree.now.branches.now }
+    requires empty { (file : List ℕ) (e : ℕ) (branches : List Branched)
+        → AreLanes file e branches fresh.items }
+    ensures says { Gathers held.old.bytes
+        (λ file. numbered_rows file tree.now.classes.now tree.now.branches.now refusals.now entries)
         held.new.bytes (H.view host.old) (H.view host.new) result }
-    ensures cause { IsSayCauseOf NoKind (H.view host.old) (H.view host.new) result }
+    ensures cause { IsPiecesCauseOf NoKind (H.view host.old) (H.view host.new) result }
 {
-    let mut lanes = empty_lanes(alloc, tree.branches.len())?;
+    let mut lanes = fresh;
+    let mut line = Bytes::new(alloc);
     for entry in 0..entries {
         gather_row(
-            alloc, host, tree, entries, entry, refusals, &mut lanes, held,
+            alloc, host, tree, entries, entry, refusals, &mut lanes, &mut line, held,
         )?;
     }
     Ok(())

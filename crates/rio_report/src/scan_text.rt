@@ -4,7 +4,6 @@ ghost use Rattle.rio_report.specs.Rows.{read_values};
 ghost use Rattle.rio_report.specs.Scan.{numbered_row, refused_line, refused_lines, scanned_count};
 ghost use Rattle.rio_model.specs.Lists.{separated};
 ghost use Rattle.rio_model.specs.ValueText.{text_of_value};
-ghost use Rattle.rio_buffer.specs.Texts.{with_number};
 ghost use Rattle.rio_report.specs.Lanes.{first_after, values_behind, values_unrefused};
 ghost use Rattle.rio_report.specs.RowFaults.{fault_of_lanes, row_fault_line, row_fault_text};
 ghost use Rattle.rio_value.specs.declared.value.Value.{List as Listed};
@@ -157,21 +156,12 @@ pub(crate) fn put_row(
     text.put(b"\n")
 }
 
-// Puts the kind of a fault and its place at the end.
-fn put_placed(text: &mut Bytes, kind: &[u8], place: u64) -> Result<(), NoMemory>
-    ensures { OnOk result (text.new.bytes ≡ text.old.bytes ++ with_number kind.now place) }
-{
-    text.put(kind)?;
-    text.put(b" ")?;
-    text.put_decimal(place)
-}
-
 fn put_fault(text: &mut Bytes, fault: RowFault) -> Result<(), NoMemory>
     ensures { OnOk result (text.new.bytes ≡ text.old.bytes ++ row_fault_text fault) }
 {
     match fault {
         RowFault::Basket(fault) => fault.put_text(text),
-        RowFault::Entry { place } => put_placed(text, b"BadEntry", place),
+        RowFault::Entry { place } => text.put_with_number(b"BadEntry", place),
     }
 }
 

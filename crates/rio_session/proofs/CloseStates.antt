@@ -1,11 +1,11 @@
 -- A session's file is ready to be closed, and what a stop leaves of it.
 use Rattle.std.proofs.{Common.{◌≡◌, ℕ, List, map, Some, refl, sym, ap, subst, ◌∙◌}, lemmas.Option.{same_Some}}
-use Rattle.std.specs.{FinMap.{FinMap, empty, entries}, List.{filter, fold}}
+use Rattle.std.specs.{FinMap.{FinMap, entries}, List.{filter, fold}}
 use Rattle.rio_num.specs.Word.{name_order}
 use Rattle.rio_key.specs.declared.head.KeyHead.{KeyHead}
 use Rattle.rio_host.specs.Host.{Elapses, IsQuiet, Leaves, View}
 use Rattle.rio_host.proofs.Moments.{elapses_as}
-use Rattle.rio_chain.specs.{Chains.{HasChain}, declared.segment.Segment.{Segment}}
+use Rattle.rio_chain.specs.{Chains.{HasChain}, Stops.{KeepsFront}, declared.segment.Segment.{Segment}}
 use Rattle.rio_machine.specs.{State.{State, Tree}, declared.command.Command.TheVariants.{Save}}
 use Rattle.rio_state.specs.{Closing.{kept_in}, DirectoryKeys.{AreKeysOf}, KeyedRecords.{info_key, keyed_records}, Left.{HasOpenHead, IsLeftAs, info_head}}
 use Rattle.rio_state.specs.Reads.{ReadsAsState, ReadsClosed}
@@ -85,15 +85,16 @@ pub same_file : (f g : OpenFile) → f.segments ≡ g.segments → f.heads ≡ g
 same_file f g segments heads info name nbytes_name datime = λ i. record { segments = segments i; heads = heads i; info = info i; name = name i; nbytes_name = nbytes_name i; datime = datime i }
 
 -- the file that is held then
-pub holds_closed_file : (old new : View) (s : SessionState) (file : List ℕ) → ClosesFile old new s → new.holds ≡ Some file → IsWellClosed s.name s.datime file
-holds_closed_file old new s file is told = record {
+pub holds_closed_file : (old new : View) (s : SessionState) (header file : List ℕ) (is : ClosesFile old new s) → KeepsFront header is.file → new.holds ≡ Some file
+    → IsWellClosed s.name s.datime header is.links file
+holds_closed_file old new s header file is front told = record {
   kept = open_file s;
   name_is = refl;
   datime_is = refl;
   records = is.records;
   made = is.made;
   before = is.file;
-  links = is.links;
+  front = front;
   chain = is.chain;
   head = is.head;
   keys = is.keys;

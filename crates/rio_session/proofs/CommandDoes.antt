@@ -1,5 +1,5 @@
 -- What each command does, in all clauses.
-use Rattle.std.proofs.Common.{◌≡◌, ℕ, ◌+◌, ◌^◌, ◌<◌, ◌≤◌, ℤ, List, [], ◌∷◌, length, Option, Some, None, Result, Ok, Err, IfOk, Bool, true, false, refl, sym, ap, subst, ◌∙◌, arith}
+use Rattle.std.proofs.Common.{◌≡◌, ℕ, ◌+◌, ◌^◌, ◌<◌, ◌≤◌, List, [], ◌∷◌, length, Option, Some, None, Result, Ok, Err, IfOk, Bool, true, false, refl, sym, ap, subst, ◌∙◌, arith}
 use Rattle.std.specs.Prelude.{is_some}
 use Rattle.rio_host.specs.Host.{IsLawful, View}
 use Rattle.rio_num.specs.Word.{is_item_text}
@@ -17,10 +17,10 @@ use Rattle.rio_state.specs.Closing.{close_need, is_full, padded_length}
 use Rattle.rio_step.specs.{Costs.{cost_of, value_size}, Refusing.{refusal_of}, ReplyText.{text_of}, Step.{object_put, outcome_of, refused}}
 use Rattle.rio_judge.specs.Judging.{IsJudgementOfStates, IsStep, WorkCanBeDone, is_judged}
 use Rattle.rio_judge.specs.declared.work.Judged.TheVariants.{Accepted as Judgement, Refused as RefusalOf}
-use Rattle.rio_judge.specs.declared.work.Work.TheVariants.{Put as Storing, Get as Telling, Ls as Listing}
+use Rattle.rio_judge.specs.declared.work.{StoredObject.{StoredObject}, Work.TheVariants.{Put as Storing, Get as Telling, Ls as Listing}}
 use Rattle.rio_effect.specs.ObjectRecord.{key_of_put}
 use Rattle.rio_judge.proofs.CostLaws.{cost_accepted}
-use Rattle.rio_session.specs.{Behind.{IsOfKeys}, Does.{Does}, Causes.{IsSaid}, Gets.{TellsObject}, Kept.{IsClosable, IsSoundState, is_sized, kept_with}}
+use Rattle.rio_session.specs.{Behind.{IsOfKeys}, Doable.{IsToDo}, Does.{Does}, Causes.{IsSaid}, Gets.{TellsObject}, Kept.{IsClosable, IsSoundState, is_sized, kept_with}}
 use Rattle.rio_session.specs.{Puts.{IsStoredRecord, PutsRecord, putting}, Says.{SaysReply}}
 use Rattle.rio_session.specs.{Session.{IsReady, LacksRoomIfFull, SessionState, StandsFor, next_of, with_cost}, declared.fault.SessionFault.{SessionFault}}
 use Rattle.rio_session.proofs.OtherSteps.{get_outcome, get_still, get_told, ls_outcome, ls_still, ls_told, refused_lacks, refused_outcome, refused_still, refused_told}
@@ -42,9 +42,30 @@ is_ls classes heads (Get name cycle version) can = absurd can
 is_ls classes heads (Scan name class) can = absurd can
 is_ls classes heads Ls can = refl
 
-unversioned : (name : List ℕ) (asked : Option ℕ) (version : Option ℤ) → is_judged (Get name asked version) ≡ true → version ≡ None
-unversioned name asked None built = refl
-unversioned name asked (Some version) built = absurd cc
+pub is_get : (classes : List ClassDef) (heads : List KeyHead) (c : Command) (h : KeyHead) → WorkCanBeDone classes heads c (Telling h) → is_judged c ≡ true → (name : List ℕ) × (asked : Option ℕ) × (c ≡ Get name asked None)
+is_get classes heads (Bad line place) h can built = absurd can
+is_get classes heads (Class class) h can built = absurd can
+is_get classes heads (Put name v) h can built = absurd can
+is_get classes heads (Delete name cycle) h can built = absurd can
+is_get classes heads (Tree name branches) h can built = absurd can
+is_get classes heads (Fill name row) h can built = absurd can
+is_get classes heads (Save name) h can built = absurd can
+is_get classes heads (Get name asked None) h can built = (name, asked, refl)
+is_get classes heads (Get name asked (Some version)) h can built = absurd cc
+is_get classes heads (Scan name class) h can built = absurd can
+is_get classes heads Ls h can built = absurd can
+
+pub is_put : (classes : List ClassDef) (heads : List KeyHead) (c : Command) (o : StoredObject) → WorkCanBeDone classes heads c (Storing o) → (v : Value) × (c ≡ Put o.name v)
+is_put classes heads (Bad line place) o can = absurd can
+is_put classes heads (Class class) o can = absurd can
+is_put classes heads (Put name v) o can = (v, ap (λ (n : List ℕ). Put n v) (sym can.0))
+is_put classes heads (Delete name cycle) o can = absurd can
+is_put classes heads (Tree name branches) o can = absurd can
+is_put classes heads (Fill name row) o can = absurd can
+is_put classes heads (Save name) o can = absurd can
+is_put classes heads (Get name asked version) o can = absurd can
+is_put classes heads (Scan name class) o can = absurd can
+is_put classes heads Ls o can = absurd can
 
 module _ (old new : View) (s s' : SessionState) (law : IsLawful old) (law' : IsLawful new) (ready : IsReady old s) (fresh : s.failed ≡ false) (answer : Result Outcome SessionFault) where
   -- ---- refused by the state
@@ -97,9 +118,9 @@ module _ (old new : View) (s s' : SessionState) (law : IsLawful old) (law' : IsL
       outcome : (m : State) → IsOfKeys s m → outcome_of (next_of s m Ls).reply ≡ Accepted
       outcome m keys = ls_outcome s m keys sound.none (sound.kept fresh) (judged m keys.classes keys.keys).0
 
-  pub get_does : (name : List ℕ) (asked : Option ℕ) (number : ℕ) → IsSoundState s → IsJudgementOfStates s.classes s.heads (Get name asked None) (Judgement (Telling number)) → TellsObject name number old new s s' answer
-      → IfOk answer (λ outcome. outcome ≡ Accepted) → Does old new s s' (Get name asked None) answer
-  get_does name asked number sound judged t is =
+  pub get_does : (name : List ℕ) (asked : Option ℕ) (h : KeyHead) → IsSoundState s → head_of name (Some h.cycle) s.heads ≡ Some h → IsJudgementOfStates s.classes s.heads (Get name asked None) (Judgement (Telling h))
+      → TellsObject h old new s s' answer → IfOk answer (λ outcome. outcome ≡ Accepted) → Does old new s s' (Get name asked None) answer
+  get_does name asked h sound found judged t is =
       does_says old new s s' t.text 0 law law' ready (Get name asked None) answer fresh t.says
       (λ spoken m keys. get_still s m keys sound.none (sound.kept fresh) name asked (judged m keys.classes keys.keys).0)
       told
@@ -113,92 +134,91 @@ module _ (old new : View) (s s' : SessionState) (law : IsLawful old) (law' : IsL
           let keys = of_keys s m st.file st.state in
           let j = judged m keys.classes keys.keys in
           let r = t.tells spoken st.file st.holds st.state.links st.state.chain in
-          get_told s m st.file st.state sound.none (sound.kept fresh) name asked number t.head r.0 t.text j.0 j.1.0 j.1.1 t.found r.1 r.2
+          get_told s m st.file st.state sound.none (sound.kept fresh) name asked h.cycle h r.0 t.text j.0 j.1.1 j.1.2 found r.1 r.2
 
-  pub ls_is_done : (c : Command) → WorkCanBeDone s.classes s.heads c Listing → IsSoundState s → IsJudgementOfStates s.classes s.heads c (Judgement Listing) → SaysReply (listing_of s.heads) 0 old new s s' answer
-      → IfOk answer (λ outcome. outcome ≡ Accepted) → Does old new s s' c answer
-  ls_is_done c can sound judged says outcome =
-      let is : c ≡ Ls = is_ls s.classes s.heads c can in
-      subst (λ (x : Command). Does old new s s' x answer) (sym is) (ls_does sound (subst (λ (x : Command). IsJudgementOfStates s.classes s.heads x (Judgement Listing)) is judged) says outcome)
+  pub ls_is_done : (c : Command) → IsToDo s c Listing → IsSoundState s → SaysReply (listing_of s.heads) 0 old new s s' answer → IfOk answer (λ outcome. outcome ≡ Accepted) → Does old new s s' c answer
+  ls_is_done c todo sound says outcome =
+      let is : c ≡ Ls = is_ls s.classes s.heads c todo.can in
+      subst (λ (x : Command). Does old new s s' x answer) (sym is) (ls_does sound (subst (λ (x : Command). IsJudgementOfStates s.classes s.heads x (Judgement Listing)) is todo.judged) says outcome)
 
-  pub get_is_done : (c : Command) (name : List ℕ) (asked : Option ℕ) (version : Option ℤ) (number : ℕ) → c ≡ Get name asked version → is_judged c ≡ true → IsSoundState s → IsJudgementOfStates s.classes s.heads c (Judgement (Telling number))
-      → TellsObject name number old new s s' answer → IfOk answer (λ outcome. outcome ≡ Accepted) → Does old new s s' c answer
-  get_is_done c name asked version number is built sound judged t outcome =
-      let same : c ≡ Get name asked None = is ∙ ap (Get name asked) (unversioned name asked version (sym (ap is_judged is) ∙ built)) in
-      subst (λ (x : Command). Does old new s s' x answer) (sym same) (get_does name asked number sound (subst (λ (x : Command). IsJudgementOfStates s.classes s.heads x (Judgement (Telling number))) same judged) t outcome)
+  pub get_is_done : (c : Command) (h : KeyHead) → IsToDo s c (Telling h) → IsSoundState s → TellsObject h old new s s' answer → IfOk answer (λ outcome. outcome ≡ Accepted) → Does old new s s' c answer
+  get_is_done c h todo sound t outcome =
+      let is = is_get s.classes s.heads c h todo.can todo.built in
+      let to : IsToDo s (Get is.0 is.1 None) (Telling h) = subst (λ (x : Command). IsToDo s x (Telling h)) is.2 todo in
+      subst (λ (x : Command). Does old new s s' x answer) (sym is.2) (get_does is.0 is.1 h sound to.can to.judged t outcome)
 
   -- ---- put
 
-  module _ (name : List ℕ) (v stored : Value) (own : List ℕ) (number size n need cost : ℕ) (none : length s.classes ≡ 0) (listless : is_some s.info ≡ false) (kept : IsClosable s.segments s.heads s.name)
-      (named : is_item_text name ≡ true) (soon : s.datime < 2 ^ 32) (judged : IsJudgementOfStates s.classes s.heads (Put name v) (Judgement (Storing stored own number size))) (unused : head_of name (Some number) s.heads ≡ None)
-      (n_is : n ≡ padded_length (head_length own name + size)) (need_is : (h : KeyHead) → is_sized h ≡ true → h.class ≡ own → h.name ≡ name → need ≡ close_need (kept_with s.name (with_head h s.heads) (record_count s.segments + 1)))
-      (cost_is : cost ≡ 500 + size) where
-    its : (m : State) → IsOfKeys s m → (refusal_of m (Put name v) None ≡ None) × IsStep m name v stored own number size
-    its m keys = judged m keys.classes keys.keys
+  module _ (v : Value) (o : StoredObject) (n need cost : ℕ) (none : length s.classes ≡ 0) (listless : is_some s.info ≡ false) (kept : IsClosable s.segments s.heads s.name)
+      (named : is_item_text o.name ≡ true) (soon : s.datime < 2 ^ 32) (judged : IsJudgementOfStates s.classes s.heads (Put o.name v) (Judgement (Storing o))) (unused : head_of o.name (Some o.cycle) s.heads ≡ None)
+      (n_is : n ≡ padded_length (head_length o.class o.name + o.length)) (need_is : (h : KeyHead) → is_sized h ≡ true → h.class ≡ o.class → h.name ≡ o.name → need ≡ close_need (kept_with s.name (with_head h s.heads) (record_count s.segments + 1)))
+      (cost_is : cost ≡ 500 + o.length) where
+    its : (m : State) → IsOfKeys s m → (refusal_of m (Put o.name v) None ≡ None) × IsStep m v o
+    its m keys = let j = judged m keys.classes keys.keys in (j.0, j.1.1)
 
     abbrev room_of : Bool → ℕ → State → Type 0
-    room_of b place m = is_full s.segments (padded_length (head_length own name + size) ∷ []) (close_need (kept_with s.name (with_head (key_of_put m place s.datime name v) s.heads) (record_count s.segments + 1))) ≡ b
+    room_of b place m = is_full s.segments (padded_length (head_length o.class o.name + o.length) ∷ []) (close_need (kept_with s.name (with_head (key_of_put m place s.datime o.name v) s.heads) (record_count s.segments + 1))) ≡ b
 
     room_is : (b : Bool) (place : ℕ) → place < 2 ^ 32 → is_full s.segments (n ∷ []) need ≡ b → (m : State) (keys : IsOfKeys s m) → room_of b place m
     room_is b place low is m keys =
         let j = its m keys in
-        let k = need_is (key_of_put m place s.datime name v)
-        (key_sized s m keys none kept.count kept.sized name v stored own number size place low soon named j.0 j.1 unused)
-        (key_class s m keys none kept.count kept.sized name v stored own number size place low soon named j.0 j.1 unused)
-        (key_name s m keys none kept.count kept.sized name v stored own number size place low soon named j.0 j.1 unused) in
+        let k = need_is (key_of_put m place s.datime o.name v)
+        (key_sized s m keys none kept.count kept.sized v o place low soon named j.0 j.1 unused)
+        (key_class s m keys none kept.count kept.sized v o place low soon named j.0 j.1 unused)
+        (key_name s m keys none kept.count kept.sized v o place low soon named j.0 j.1 unused) in
         subst (λ (x : ℕ × ℕ). is_full s.segments (x.0 ∷ []) x.1 ≡ b) (λ i. (n_is i, k i)) is
 
-    pub put_does : (place : ℕ) (made : NewRecord) (text : List ℕ) → place < 2 ^ 32 → IsStoredRecord s place name stored own number size made → text ≡ text_of (object_put name number)
-        → place ≡ place_of s.segments n → is_full s.segments (n ∷ []) need ≡ false → PutsRecord (putting made text cost) old new s s' answer → IfOk answer (λ outcome. outcome ≡ Accepted) → Does old new s s' (Put name v) answer
-    put_does place made text low r text_is at room puts is = does_put (putting made text cost) old new s s' law ready name v answer fresh law' puts kept_step step is
+    pub put_does : (place : ℕ) (made : NewRecord) (text : List ℕ) → place < 2 ^ 32 → IsStoredRecord s place o made → text ≡ text_of (object_put o.name o.cycle)
+        → place ≡ place_of s.segments n → is_full s.segments (n ∷ []) need ≡ false → PutsRecord (putting made text cost) old new s s' answer → IfOk answer (λ outcome. outcome ≡ Accepted) → Does old new s s' (Put o.name v) answer
+    put_does place made text low r text_is at room puts is = does_put (putting made text cost) old new s s' law ready o.name v answer fresh law' puts kept_step step is
       where
-        kept_step : (m : State) → IsOfKeys s m → IsPutStep (putting made text cost) s m name v
+        kept_step : (m : State) → IsOfKeys s m → IsPutStep (putting made text cost) s m o.name v
         kept_step m keys =
             let j = its m keys in
-            put_is_kept s m keys none kept.count kept.sized name v stored own number size place low soon named j.0 j.1 unused (putting made text cost)
-            (is_put_of s place name stored own number size made r m v (sym keys.classes) j.0 j.1 text cost text_is cost_is)
+            put_is_kept s m keys none kept.count kept.sized v o place low soon named j.0 j.1 unused (putting made text cost)
+            (is_put_of s place o made r m v (sym keys.classes) j.0 j.1 text cost text_is cost_is)
             (room_is false place low room m keys) (at ∙ ap (place_of s.segments) n_is) r.long
 
-        step : (m : State) (said : List ℕ) (st : StandsFor old s m said) → IsPutting (putting made text cost) s m (Put name v) st.state.links
+        step : (m : State) (said : List ℕ) (st : StandsFor old s m said) → IsPutting (putting made text cost) s m (Put o.name v) st.state.links
         step m said st =
             let keys = of_keys s m st.file st.state in
             let j = its m keys in
-            put_is_step s m st.file st.state none kept.count kept.sized name v stored own number size place low soon named j.0 j.1 unused (putting made text cost)
-            (is_put_of s place name stored own number size made r m v (sym keys.classes) j.0 j.1 text cost text_is cost_is)
+            put_is_step s m st.file st.state none kept.count kept.sized v o place low soon named j.0 j.1 unused (putting made text cost)
+            (is_put_of s place o made r m v (sym keys.classes) j.0 j.1 text cost text_is cost_is)
             (room_is false place low room m keys) (at ∙ ap (place_of s.segments) n_is) r.long
 
     same_full : (a : Result Outcome SessionFault) → is_full s.segments (n ∷ []) need ≡ true → IfOk a (λ outcome. outcome ≡ Refused (Full (file_end s.segments) n))
-        → IfOk a (λ outcome. (m : State) → IsOfKeys s m → outcome ≡ outcome_of (next_of s m (Put name v)).reply)
+        → IfOk a (λ outcome. (m : State) → IsOfKeys s m → outcome ≡ outcome_of (next_of s m (Put o.name v)).reply)
     same_full (Err e) room is = tt
     same_full (Ok outcome) room is = λ m keys.
         let j = its m keys in
         is ∙ ap (λ (k : ℕ). Refused (Full (file_end s.segments) k)) n_is
-        ∙ sym (full_outcome s m keys none kept.count kept.sized name v stored own number size 0 (omega arith) soon named j.0 j.1 unused (room_is true 0 (omega arith) room m keys))
+        ∙ sym (full_outcome s m keys none kept.count kept.sized v o 0 (omega arith) soon named j.0 j.1 unused (room_is true 0 (omega arith) room m keys))
 
-    lacks_full : head_length own name ≤ 229 → is_full s.segments (n ∷ []) need ≡ true
-        → (m : State) (said : List ℕ) → StandsFor old s m said → LacksRoomIfFull (with_cost cost s) (outcome_of (next_of s m (Put name v)).reply)
+    lacks_full : head_length o.class o.name ≤ 229 → is_full s.segments (n ∷ []) need ≡ true
+        → (m : State) (said : List ℕ) → StandsFor old s m said → LacksRoomIfFull (with_cost cost s) (outcome_of (next_of s m (Put o.name v)).reply)
     lacks_full short room m said st =
         let keys = of_keys s m st.file st.state in
         let j = its m keys in
         let full = room_is true 0 (omega arith) room m keys in
-        let lacks = full_lacks s m st.file st.state none kept.count kept.sized name v stored own number size 0 (omega arith) soon named j.0 j.1 unused listless full cost cost_is short in
-        subst (λ (o : Outcome). LacksRoomIfFull (with_cost cost s) o) (sym (full_outcome s m keys none kept.count kept.sized name v stored own number size 0 (omega arith) soon named j.0 j.1 unused full)) lacks
+        let lacks = full_lacks s m st.file st.state none kept.count kept.sized v o 0 (omega arith) soon named j.0 j.1 unused listless full cost cost_is short in
+        subst (LacksRoomIfFull (with_cost cost s)) (sym (full_outcome s m keys none kept.count kept.sized v o 0 (omega arith) soon named j.0 j.1 unused full)) lacks
 
-    pub full_does : head_length own name ≤ 229 → is_full s.segments (n ∷ []) need ≡ true → SaysReply (text_of (refused (Full (file_end s.segments) n))) cost old new s s' answer
-        → IfOk answer (λ outcome. outcome ≡ Refused (Full (file_end s.segments) n)) → Does old new s s' (Put name v) answer
+    pub full_does : head_length o.class o.name ≤ 229 → is_full s.segments (n ∷ []) need ≡ true → SaysReply (text_of (refused (Full (file_end s.segments) n))) cost old new s s' answer
+        → IfOk answer (λ outcome. outcome ≡ Refused (Full (file_end s.segments) n)) → Does old new s s' (Put o.name v) answer
     full_does short room says is =
-        does_says old new s s' (text_of (refused (Full (file_end s.segments) n))) cost law law' ready (Put name v) answer fresh says still told
-        (same_full answer room is) (λ spoken. lacks_full short room) (not_accepted answer (Put name v) (Full (file_end s.segments) n) is)
+        does_says old new s s' (text_of (refused (Full (file_end s.segments) n))) cost law law' ready (Put o.name v) answer fresh says still told
+        (same_full answer room is) (λ spoken. lacks_full short room) (not_accepted answer (Put o.name v) (Full (file_end s.segments) n) is)
       where
-        still : IsSaid answer → (m : State) → IsOfKeys s m → IsStill s m (Put name v) cost
+        still : IsSaid answer → (m : State) → IsOfKeys s m → IsStill s m (Put o.name v) cost
         still spoken m keys =
             let j = its m keys in
-            let costs : cost ≡ cost_of m (Put name v) = cost_is ∙ ap (λ (k : ℕ). 500 + k) (j.1.written ∙ ap (λ (w : Value). value_size m.classes w) j.1.value) ∙ sym (cost_accepted m (Put name v) j.0) in
-            full_still s m keys none kept.count kept.sized name v stored own number size 0 (omega arith) soon named j.0 j.1 unused (room_is true 0 (omega arith) room m keys) cost costs
+            let costs : cost ≡ cost_of m (Put o.name v) = cost_is ∙ ap (λ (k : ℕ). 500 + k) (j.1.written ∙ ap (λ (w : Value). value_size m.classes w) j.1.value) ∙ sym (cost_accepted m (Put o.name v) j.0) in
+            full_still s m keys none kept.count kept.sized v o 0 (omega arith) soon named j.0 j.1 unused (room_is true 0 (omega arith) room m keys) cost costs
 
-        told : IsSaid answer → (m : State) (said : List ℕ) → StandsFor old s m said → text_of (refused (Full (file_end s.segments) n)) ≡ text_of (next_of s m (Put name v)).reply
+        told : IsSaid answer → (m : State) (said : List ℕ) → StandsFor old s m said → text_of (refused (Full (file_end s.segments) n)) ≡ text_of (next_of s m (Put o.name v)).reply
         told spoken m said st =
             let keys = of_keys s m st.file st.state in
             let j = its m keys in
             ap (λ (k : ℕ). text_of (refused (Full (file_end s.segments) k))) n_is
-            ∙ full_told s m keys none kept.count kept.sized name v stored own number size 0 (omega arith) soon named j.0 j.1 unused (room_is true 0 (omega arith) room m keys)
+            ∙ full_told s m keys none kept.count kept.sized v o 0 (omega arith) soon named j.0 j.1 unused (room_is true 0 (omega arith) room m keys)

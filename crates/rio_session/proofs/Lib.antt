@@ -1,6 +1,8 @@
 pub mod CloseRoom
 pub mod CloseStates
 pub mod CommandDoes
+pub mod FileMarks
+pub mod FileRecords
 pub mod Keeps
 pub mod KeysBehind
 pub mod MadeRecords

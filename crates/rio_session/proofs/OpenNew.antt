@@ -1,10 +1,10 @@
 -- What a session keeps of a file that is just made, and what it stands for.
-use Rattle.std.proofs.Common.{◌≡◌, ℕ, ◌+◌, ◌≤◌, List, [], length, Option, Some, None, true, refl, sym, ap, subst, ◌∙◌, arith}
+use Rattle.std.proofs.{Common.{◌≡◌, ℕ, ◌+◌, ◌≤◌, List, [], length, Option, Some, None, true, refl, sym, ap, subst, ◌∙◌, arith}, lemmas.Option.{same_Some}}
 use Rattle.std.specs.{FinMap.{FinMap, empty, get, get-empty, same_map}, List.{list_all}, Option.{option_map}}
 use Rattle.rio_num.specs.Word.{name_order}
-use Rattle.rio_host.specs.Host.{View}
+use Rattle.rio_host.specs.Host.{Any, Becomes, View}
 use Rattle.rio_key.specs.declared.head.KeyHead.{KeyHead}
-use Rattle.rio_chain.specs.{Chains.{HasChain}, Placing.{file_end, record_count}, declared.segment.Segment.{Segment}}
+use Rattle.rio_chain.specs.{Chains.{HasChain, HoldsChain}, Placing.{file_end, record_count}, Segments.{Link}, declared.segment.Segment.{Segment}}
 use Rattle.rio_machine.specs.State.{State, Tree, empty_state}
 use Rattle.rio_machine.proofs.OrderLaws.{names_tie, names_total}
 use Rattle.rio_state.specs.{Closing.{close_need}, KeyedRecords.{KeyedRecord, keyed_records}, Left.{HasOpenHead, info_head}, DirectoryKeys.{AreKeysOf}}
@@ -86,3 +86,15 @@ stands_new v s name datime m text none keeps said made = record {
   said = said;
   state = subst (λ (n : State). HoldsState s n made.0) (sym none) (holds_empty s name datime made.0 keeps made.2);
 }
+
+-- the host holds the chain of a file that was made
+pub chain_new : (old new : View) (name : List ℕ) (datime : ℕ) (segments : List Segment) → Becomes Any old.holds new.holds
+    → ((file : List ℕ) → old.holds ≡ Some file → (now : List ℕ) × (new.holds ≡ Some now) × IsNewFile name datime now) → segments ≡ first_segments name → HoldsChain new segments
+chain_new old new name datime segments told made are file holds = by old.holds refl told
+  where
+    by : (o : Option (List ℕ)) → old.holds ≡ o → Becomes Any o new.holds → (links : List Link) × HasChain links segments file
+    by (Some before) is becomes =
+        let now = made before is in
+        let same : now.0 ≡ file = same_Some now.0 file (sym now.1 ∙ holds) in
+        (now.2.links, subst (λ (x : List Segment × List ℕ). HasChain now.2.links x.0 x.1) (λ i. (sym are i, same i)) now.2.chain)
+    by None is becomes = absurd (let never : Some file ≡ None = sym holds ∙ becomes in cc)

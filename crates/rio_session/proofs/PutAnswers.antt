@@ -108,7 +108,7 @@ module _ (p : Putting) (old new : View) (before after : SessionState) (lawful : 
       let f = is.holds s.file s.state.links s.holds s.state.chain in
       let same : image ≡ f.0 = is.quiet image spoken f.0 left f.1 in
       subst (λ (i : List ℕ). IsOpenAs (next_of before m c).state i) (sym same)
-      (open_image s.file f.0 before.nbytes_name s.state.links (with_record p.place p.bytes s.state.links) (next_of before m c).state s.state.head s.state.chain.chain f.3 f.2 putting.records).reads
+      (open_image s.file f.0 before.nbytes_name s.state.links (with_record p.place p.bytes s.state.links) (next_of before m c).state s.state.head s.state.chain.chain f.3 f.2.chain putting.records).reads
 
   put_follows : (m : State) (c : Command) → PutAndSaid p old new before after → segments_behind before.name before.segments m c ≡ with_segment p.place (length p.bytes) before.segments → p.cost ≡ cost_of m c
       → FollowsCommand before after m c
@@ -176,74 +176,98 @@ module _ (p : Putting) (old new : View) (before after : SessionState) (lawful : 
       → ((m : State) → IsOfKeys before m → IsPutStep p before m name v)
       → ((m : State) (said : List ℕ) (s : StandsFor old before m said) → IsPutting p before m (Put name v) s.state.links) → IfOk answer (λ outcome. outcome ≡ Accepted) → Does old new before after (Put name v) answer
   does_put name v (Ok outcome) fresh lawful' is step putting same = record {
-    done = λ m said s. subst (λ (o : Outcome). Went old new before after m (Put name v) said o) (sym same) (put_went m (Put name v) said s is (putting m said s));
-    any_moment = tt;
-    ready = put_ready is;
-    refused = subst (λ (o : Outcome). StaysIfRefused old new o) (sym same) tt;
-    no_memory = λ e. absurd cc;
-    unsaid = λ e. absurd cc;
-    failed = ap (λ (a : SessionState). a.failed) is.kept ∙ fresh;
-    told = is.told;
-    cause = is.faults;
-    goes = λ m keys. put_goes m name v outcome is keys (step m keys) same;
-    puts = λ m own w keys put accepted. put_had m name own v w is (step m keys) put;
-    unwritten = λ m keys none. absurd (never_nothing m name v (step m keys) none);
-    said = grows_whole p.text old.said new.said is.says;
-    silent = λ none. absurd none;
-    part = λ m said s. front_whole old new said p.text (text_of (next_of before m (Put name v)).reply) s.said (putting m said s).text_is is.says;
-    lacks = λ spoken m said s. accepted_lacks m name v (putting m said s).accepted;
+    file = record {
+      any_moment = tt;
+      told = is.told;
+      refused = subst (λ (o : Outcome). StaysIfRefused old new o) (sym same) tt;
+      unwritten = λ m keys none. absurd (never_nothing m name v (step m keys) none);
+      puts = λ m own w keys put accepted. put_had m name own v w is (step m keys) put;
+      unsaid = λ e. absurd cc;
+    };
+    text = record {
+      said = grows_whole p.text old.said new.said is.says;
+      silent = λ none. absurd none;
+      part = λ m said s. front_whole old new said p.text (text_of (next_of before m (Put name v)).reply) s.said (putting m said s).text_is is.says;
+      lacks = λ spoken m said s. accepted_lacks m name v (putting m said s).accepted;
+    };
+    kept = record {
+      done = λ m said s. subst (λ (o : Outcome). Went old new before after m (Put name v) said o) (sym same) (put_went m (Put name v) said s is (putting m said s));
+      goes = λ m keys. put_goes m name v outcome is keys (step m keys) same;
+      ready = put_ready is;
+      failed = ap (λ (a : SessionState). a.failed) is.kept ∙ fresh;
+      no_memory = λ e. absurd cc;
+      cause = is.faults;
+    };
   }
   does_put name v (Err HostFault) fresh lawful' is step putting same = record {
-    done = tt;
-    any_moment = λ m said s. put_steps m (Put name v) said s is.time (putting m said s);
-    ready = tt;
-    refused = tt;
-    no_memory = λ e. absurd cc;
-    unsaid = λ e. absurd cc;
-    failed = is.failed;
-    told = is.told;
-    cause = is.faults;
-    goes = tt;
-    puts = tt;
-    unwritten = λ m keys none. absurd (never_nothing m name v (step m keys) none);
-    said = grows_none old.said new.said is.said;
-    silent = λ none. is.said;
-    part = λ m said s. front_none old new said (text_of (next_of before m (Put name v)).reply) s.said is.said;
-    lacks = λ spoken. absurd spoken;
+    file = record {
+      any_moment = λ m said s. put_steps m (Put name v) said s is.time (putting m said s);
+      told = is.told;
+      refused = tt;
+      unwritten = λ m keys none. absurd (never_nothing m name v (step m keys) none);
+      puts = tt;
+      unsaid = λ e. absurd cc;
+    };
+    text = record {
+      said = grows_none old.said new.said is.said;
+      silent = λ none. is.said;
+      part = λ m said s. front_none old new said (text_of (next_of before m (Put name v)).reply) s.said is.said;
+      lacks = λ spoken. absurd spoken;
+    };
+    kept = record {
+      done = tt;
+      goes = tt;
+      ready = tt;
+      failed = is.failed;
+      no_memory = λ e. absurd cc;
+      cause = is.faults;
+    };
   }
   does_put name v (Err SayFault) fresh lawful' is step putting same = record {
-    done = tt;
-    any_moment = λ m said s. put_steps m (Put name v) said s is.time (putting m said s);
-    ready = tt;
-    refused = tt;
-    no_memory = λ e. absurd cc;
-    unsaid = λ e m said s. put_unsaid m (Put name v) said s is (putting m said s);
-    failed = is.failed;
-    told = is.told;
-    cause = is.faults;
-    goes = tt;
-    puts = tt;
-    unwritten = λ m keys none. absurd (never_nothing m name v (step m keys) none);
-    said = said_grows p.text old.said new.said is.says;
-    silent = λ none. absurd none;
-    part = λ m said s. front_part old new said p.text (text_of (next_of before m (Put name v)).reply) s.said (putting m said s).text_is is.says;
-    lacks = λ spoken m said s. accepted_lacks m name v (putting m said s).accepted;
+    file = record {
+      any_moment = λ m said s. put_steps m (Put name v) said s is.time (putting m said s);
+      told = is.told;
+      refused = tt;
+      unwritten = λ m keys none. absurd (never_nothing m name v (step m keys) none);
+      puts = tt;
+      unsaid = λ e m said s. put_unsaid m (Put name v) said s is (putting m said s);
+    };
+    text = record {
+      said = said_grows p.text old.said new.said is.says;
+      silent = λ none. absurd none;
+      part = λ m said s. front_part old new said p.text (text_of (next_of before m (Put name v)).reply) s.said (putting m said s).text_is is.says;
+      lacks = λ spoken m said s. accepted_lacks m name v (putting m said s).accepted;
+    };
+    kept = record {
+      done = tt;
+      goes = tt;
+      ready = tt;
+      failed = is.failed;
+      no_memory = λ e. absurd cc;
+      cause = is.faults;
+    };
   }
   does_put name v (Err NoMemory) fresh lawful' is step putting same = record {
-    done = tt;
-    any_moment = λ m said s. read_steps old new before after p.text p.cost lawful lawful' ready m (Put name v) said is.calls s;
-    ready = tt;
-    refused = tt;
-    no_memory = λ e. (is.kept, is.calls);
-    unsaid = λ e. absurd cc;
-    failed = ap (λ (a : SessionState). a.failed) is.kept ∙ fresh;
-    told = told_same old.holds new.holds is.calls.holds;
-    cause = is.faults;
-    goes = tt;
-    puts = tt;
-    unwritten = λ m keys none. reads_stay old new is.calls;
-    said = grows_none old.said new.said is.calls.said;
-    silent = λ none. is.calls.said;
-    part = λ m said s. front_none old new said (text_of (next_of before m (Put name v)).reply) s.said is.calls.said;
-    lacks = λ spoken. absurd spoken;
+    file = record {
+      any_moment = λ m said s. read_steps old new before after p.text p.cost lawful lawful' ready m (Put name v) said is.calls s;
+      told = told_same old.holds new.holds is.calls.holds;
+      refused = tt;
+      unwritten = λ m keys none. reads_stay old new is.calls;
+      puts = tt;
+      unsaid = λ e. absurd cc;
+    };
+    text = record {
+      said = grows_none old.said new.said is.calls.said;
+      silent = λ none. is.calls.said;
+      part = λ m said s. front_none old new said (text_of (next_of before m (Put name v)).reply) s.said is.calls.said;
+      lacks = λ spoken. absurd spoken;
+    };
+    kept = record {
+      done = tt;
+      goes = tt;
+      ready = tt;
+      failed = ap (λ (a : SessionState). a.failed) is.kept ∙ fresh;
+      no_memory = λ e. (is.kept, is.calls);
+      cause = is.faults;
+    };
   }

@@ -1,5 +1,5 @@
 -- A record that was made for a put can be put, and is the put's.
-use Rattle.std.proofs.Common.{◌≡◌, ℕ, ◌+◌, ◌^◌, ◌<◌, ◌≤◌, List, [], length, Option, Some, None, true, ltb, refl, sym, ap, subst, ◌∙◌, arith}
+use Rattle.std.proofs.Common.{◌≡◌, ℕ, ◌+◌, ◌^◌, ◌<◌, ◌≤◌, List, [], length, Option, Some, None, true, refl, sym, ap, subst, ◌∙◌, arith}
 use Rattle.std.proofs.lemmas.Bool.{and_from, eq-eqb, le-leb, lt-ltb}
 use Rattle.std.specs.{Prelude.{unwrap_or}, List.{find}}
 use Rattle.rio_num.proofs.TextLengths.{text_within}
@@ -15,39 +15,39 @@ use Rattle.rio_chain.proofs.Records.{key_long}
 use Rattle.rio_state.specs.Closing.{close_need, end_limit, padded_length}
 use Rattle.rio_step.specs.{Refusing.{object_class, put_value, refusal_of}, ReplyText.{text_of}, Step.{object_put}}
 use Rattle.rio_effect.specs.ObjectRecord.{key_of_put, object_data, object_key, object_record, object_words, record_of_put}
-use Rattle.rio_judge.specs.Judging.{IsStep}
+use Rattle.rio_judge.specs.{Judging.{IsStep}, declared.work.StoredObject.{StoredObject}}
 use Rattle.rio_judge.proofs.CostLaws.{cost_accepted}
-use Rattle.rio_session.specs.{Kept.{is_fit_key, is_sized, kept_with}, Puts.{CanBePut, IsStoredRecord, putting}, Session.{SessionState}}
+use Rattle.rio_session.specs.{Kept.{is_fit_key, is_sized, kept_with}, Puts.{CanBePut, IsStoredRecord, putting, stored_words}, Session.{SessionState}}
 use Rattle.rio_session.proofs.PutAnswers.{IsPutOf}
 
-module _ (s : SessionState) (place : ℕ) (name : List ℕ) (v : Value) (own : List ℕ) (number size : ℕ) (made : NewRecord) (r : IsStoredRecord s place name v own number size made) where
+module _ (s : SessionState) (place : ℕ) (o : StoredObject) (made : NewRecord) (r : IsStoredRecord s place o made) where
   abbrev words : KeyWords
-  words = object_words place s.datime name number own
+  words = stored_words place s.datime o
 
   abbrev own_key : KeyHead
-  own_key = new_key words (length (object_data s.classes words v))
+  own_key = new_key words (length (object_data s.classes words o.value))
 
   pub seek_is : made.head.seek ≡ place
   seek_is = ap (λ (h : KeyHead). h.seek) r.head
 
   pub sized_is : is_sized made.head ≡ true
-  sized_is = ap is_sized r.head ∙ eq-eqb (length (written_key own_key)) (head_length own name) (key_long words (length (object_data s.classes words v)))
+  sized_is = ap is_sized r.head ∙ eq-eqb (length (written_key own_key)) (head_length o.class o.name) (key_long words (length (object_data s.classes words o.value)))
 
-  pub class_is : made.head.class ≡ own
+  pub class_is : made.head.class ≡ o.class
   class_is = ap (λ (h : KeyHead). h.class) r.head
 
-  pub name_is : made.head.name ≡ name
+  pub name_is : made.head.name ≡ o.name
   name_is = ap (λ (h : KeyHead). h.name) r.head
 
-  fit_is : place < 2 ^ 32 → head_length own name ≤ 229 → is_fit_key own_key ≡ true
+  fit_is : place < 2 ^ 32 → head_length o.class o.name ≤ 229 → is_fit_key own_key ≡ true
   fit_is low short =
-      let class : length own ≤ 65535 = omega (arith, short, text_within own) in
-      let named : length name ≤ 65535 = omega (arith, short, text_within name) in
-      and_from _ _ (and_from _ _ (and_from _ _ (and_from _ _ (lt-ltb place (2 ^ 32) low) refl) (le-leb (length own) 65535 class)) (le-leb (length name) 65535 named)) refl
+      let class : length o.class ≤ 65535 = omega (arith, short, text_within o.class) in
+      let named : length o.name ≤ 65535 = omega (arith, short, text_within o.name) in
+      and_from _ _ (and_from _ _ (and_from _ _ (and_from _ _ (lt-ltb place (2 ^ 32) low) refl) (le-leb (length o.class) 65535 class)) (le-leb (length o.name) 65535 named)) refl
 
-  pub can_be_put : (need : ℕ) → place < 2 ^ 32 → head_length own name ≤ 229 → place ≡ place_of s.segments (padded_length (head_length own name + size)) → head_of name (Some number) s.heads ≡ None
+  pub can_be_put : (need : ℕ) → place < 2 ^ 32 → head_length o.class o.name ≤ 229 → place ≡ place_of s.segments (padded_length (head_length o.class o.name + o.length)) → head_of o.name (Some o.cycle) s.heads ≡ None
       → need ≡ close_need (kept_with s.name (with_head made.head s.heads) (record_count s.segments + 1))
-      → file_end (with_segment (place_of s.segments (padded_length (head_length own name + size))) (padded_length (head_length own name + size)) s.segments) + need ≤ end_limit → CanBePut s made
+      → file_end (with_segment (place_of s.segments (padded_length (head_length o.class o.name + o.length))) (padded_length (head_length o.class o.name + o.length)) s.segments) + need ≤ end_limit → CanBePut s made
   can_be_put need low short at new is room = record {
     whole = subst (λ (k : ℕ). IsRecord k made.bytes.bytes) (sym seek_is) r.whole;
     place = seek_is ∙ at ∙ ap (place_of s.segments) (sym r.long);
@@ -59,29 +59,29 @@ module _ (s : SessionState) (place : ℕ) (name : List ℕ) (v : Value) (own : L
   }
 
   -- by the state
-  module _ (m : State) (value : Value) (classes : s.classes ≡ m.classes) (free : refusal_of m (Put name value) None ≡ None) (step : IsStep m name value v own number size) where
-    own_is : own ≡ unwrap_or (object_class (put_value m value)) []
-    own_is = sym (ap (λ (w : Value). unwrap_or (object_class w) []) (sym step.value) ∙ ap (λ (o : Option (List ℕ)). unwrap_or o []) step.class)
+  module _ (m : State) (value : Value) (classes : s.classes ≡ m.classes) (free : refusal_of m (Put o.name value) None ≡ None) (step : IsStep m value o) where
+    own_is : o.class ≡ unwrap_or (object_class (put_value m value)) []
+    own_is = sym (ap (λ (w : Value). unwrap_or (object_class w) []) (sym step.value) ∙ ap (λ (x : Option (List ℕ)). unwrap_or x []) step.class)
 
     abbrev key_by : ℕ → List ℕ → Value → List ClassDef → KeyHead
-    key_by k c w cs = let x = object_words place s.datime name k c in new_key x (length (object_data cs x w))
+    key_by k c w cs = let x = object_words place s.datime o.name k c in new_key x (length (object_data cs x w))
 
     abbrev bytes_by : ℕ → List ℕ → Value → List ClassDef → List ℕ
-    bytes_by k c w cs = let x = object_words place s.datime name k c in record_bytes x (object_data cs x w)
+    bytes_by k c w cs = let x = object_words place s.datime o.name k c in record_bytes x (object_data cs x w)
 
-    pub key_is : made.head ≡ key_of_put m place s.datime name value
+    pub key_is : made.head ≡ key_of_put m place s.datime o.name value
     unfolding object_key
     key_is = r.head ∙ (λ i. key_by (step.cycle i) (own_is i) (step.value i) (classes i))
 
-    bytes_are : made.bytes.bytes ≡ record_of_put m place s.datime name value
+    bytes_are : made.bytes.bytes ≡ record_of_put m place s.datime o.name value
     unfolding object_record
     bytes_are = r.bytes ∙ (λ i. bytes_by (step.cycle i) (own_is i) (step.value i) (classes i))
 
-    pub is_put_of : (text : List ℕ) (cost : ℕ) → text ≡ text_of (object_put name number) → cost ≡ 500 + size → IsPutOf m name value place s.datime (putting made text cost)
+    pub is_put_of : (text : List ℕ) (cost : ℕ) → text ≡ text_of (object_put o.name o.cycle) → cost ≡ 500 + o.length → IsPutOf m o.name value place s.datime (putting made text cost)
     is_put_of text cost is costs = record {
       place_is = seek_is;
       bytes = bytes_are;
       head = key_is;
-      text_is = is ∙ ap (λ (k : ℕ). text_of (object_put name k)) step.cycle;
-      cost_is = costs ∙ ap (λ (k : ℕ). 500 + k) (step.written ∙ ap (λ (w : Value). length (written_form m.classes 0 w)) step.value) ∙ sym (cost_accepted m (Put name value) free);
+      text_is = is ∙ ap (λ (k : ℕ). text_of (object_put o.name k)) step.cycle;
+      cost_is = costs ∙ ap (λ (k : ℕ). 500 + k) (step.written ∙ ap (λ (w : Value). length (written_form m.classes 0 w)) step.value) ∙ sym (cost_accepted m (Put o.name value) free);
     }

@@ -5,14 +5,10 @@ use Rattle.rio_host.specs.Host.{Any, Becomes, Elapses, IsLawful, IsQuiet, Longer
 use Rattle.rio_host.proofs.Moments.{elapses_as, elapses_join, says_quiet}
 use Rattle.rio_key.specs.declared.head.KeyHead.{KeyHead}
 use Rattle.rio_dir.specs.Table.{with_head}
-use Rattle.rio_chain.specs.{Chains.{HasChain}, Changes.{with_record}, Placing.{with_segment}, Segments.{IsChain, Link}, Stops.{IsEither, KeepsFront}}
+use Rattle.rio_chain.specs.{Becoming.{ChainBecomes}, Chains.{HasChain}, Changes.{with_record}, Placing.{with_segment}, Segments.{IsChain, Link}, Stops.{IsEither, KeepsFront}}
 use Rattle.rio_chain.specs.declared.segment.Segment.{Segment}
 use Rattle.rio_session.specs.{Causes.{NoCountRose}, Puts.{IsPutOrNot, PutAndSaid, PutNotSaid, Putting, PutsInTime}, Says.{NotSaid, Said, SaysReply}}
 use Rattle.rio_session.specs.{Session.{SessionState}, declared.fault.SessionFault.{SessionFault, TheVariants.{SayFault}}}
-
--- the file that a put leaves
-abbrev pub IsPutFile : Putting → View → SessionState → List ℕ → List Link → Type 0
-IsPutFile p v after file links = (now : List ℕ) × (v.holds ≡ Some now) × HasChain (with_record p.place p.bytes links) after.segments now × KeepsFront file now
 
 module _ (p : Putting) (old mid : View) (before : SessionState)
     (first : (file : List ℕ) (links : List Link) → old.holds ≡ Some file → HasChain links before.segments file → Elapses old mid (IsEither old file links (with_record p.place p.bytes links))) where
@@ -30,7 +26,7 @@ module _ (p : Putting) (old mid : View) (before : SessionState)
   put_in_time file said links holds told chain = elapses_as (IsPutOrNot p file said links) (IsEither old file links (with_record p.place p.bytes links)) (first file links holds chain) (either_put file said links told)
 
   module _ (stored : SessionState) (law : IsLawful mid) (quiet : IsQuiet mid) (same : mid.said ≡ old.said)
-      (put : (file : List ℕ) (links : List Link) → old.holds ≡ Some file → HasChain links before.segments file → IsPutFile p mid stored file links) where
+      (put : ChainBecomes old mid before.segments stored.segments (with_record p.place p.bytes)) where
     spoken_put : (file said : List ℕ) (links : List Link) → old.holds ≡ Some file → old.said ≡ Some said → HasChain links before.segments file
         → (i t : List ℕ) → Speaking p.text mid i t → IsPutOrNot p file said links i t
     spoken_put file said links holds told chain i t speaks =
@@ -65,10 +61,13 @@ module _ (p : Putting) (old mid : View) (before : SessionState)
     }
 
     -- or a front of its text
-    pub put_not_said : (new : View) (after : SessionState) → IsLawful new → NotSaid p.text mid new after → Becomes Any old.holds mid.holds → NoCountRose old mid → PutNotSaid p old new before after
-    put_not_said new after lawful is told faults = record {
+    pub put_not_said : (new : View) (after : SessionState) → IsLawful new → NotSaid p.text mid new after → Becomes Any old.holds mid.holds → NoCountRose old mid
+        → stored.segments ≡ with_segment p.place (length p.bytes) before.segments → PutNotSaid p old new before after
+    put_not_said new after lawful is told faults segments = record {
       time = said_in_time new is.time;
-      holds = λ file links holds chain. let f = put file links holds chain in (f.0, is.holds ∙ f.1, f.2.chain, f.3);
+      holds = λ file links holds chain.
+          let f = put file links holds chain in
+          (f.0, is.holds ∙ f.1, subst (λ (s : List Segment). HasChain (with_record p.place p.bytes links) s f.0) segments f.2, f.3);
       quiet = says_quiet p.text lawful quiet is.time is.holds;
       told = subst (λ (o : Option (List ℕ)). Becomes Any old.holds o) (sym is.holds) told;
       says = subst (λ (o : Option (List ℕ)). Becomes (LongerByPart p.text) o new.said) same is.says;

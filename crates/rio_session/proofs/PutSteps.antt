@@ -24,7 +24,7 @@ use Rattle.rio_effect.proofs.{Held.{held_grows}, Needs.{need_grows}, NeedsByKeys
 use Rattle.rio_effect.proofs.{PutEffect.{puts_have_records, saved_put_takes_effect}, PutKeys.{put_key_follows}}
 use Rattle.rio_state.proofs.{MoreRecords.{record_more}, Stays.{info_stays}}
 use Rattle.rio_close.proofs.Fitting.{count_with}
-use Rattle.rio_judge.specs.Judging.{IsStep}
+use Rattle.rio_judge.specs.{Judging.{IsStep}, declared.work.StoredObject.{StoredObject}}
 use Rattle.rio_session.specs.{Behind.{IsOfKeys}, Kept.{is_sized, kept_with}, Marks.{command_lengths, mark_of_command, segments_behind, state_need, with_placed}}
 use Rattle.rio_session.specs.{Puts.{Putting}, Session.{HoldsState, SessionState, next_of}}
 use Rattle.rio_session.proofs.{Keeps.{all_with, length_with, size_with}, Needs.{need_by_keys}, Places.{end_most, full_is, sum_one}}
@@ -50,92 +50,92 @@ no_info (Some r) e = absurd cc
 -- ---- the put
 
 module _ (s : SessionState) (m : State) (keys : IsOfKeys s m) (none : length s.classes ≡ 0) (count : record_count s.segments ≡ 1 + length s.heads) (sized : list_all is_sized s.heads ≡ true)
-    (name : List ℕ) (v stored : Value) (own : List ℕ) (number size place : ℕ) (low : place < 2 ^ 32) (soon : s.datime < 2 ^ 32) (named : is_item_text name ≡ true)
-    (free : refusal_of m (Put name v) None ≡ None) (step : IsStep m name v stored own number size) (new : head_of name (Some number) s.heads ≡ None) where
+    (v : Value) (o : StoredObject) (place : ℕ) (low : place < 2 ^ 32) (soon : s.datime < 2 ^ 32) (named : is_item_text o.name ≡ true)
+    (free : refusal_of m (Put o.name v) None ≡ None) (step : IsStep m v o) (new : head_of o.name (Some o.cycle) s.heads ≡ None) where
   abbrev n : ℕ
-  n = padded_length (head_length own name + size)
+  n = padded_length (head_length o.class o.name + o.length)
 
   abbrev key : KeyHead
-  key = key_of_put m place s.datime name v
+  key = key_of_put m place s.datime o.name v
 
-  own_is : unwrap_or (object_class (put_value m v)) [] ≡ own
-  own_is = ap (λ (w : Value). unwrap_or (object_class w) []) (sym step.value) ∙ ap (λ (o : Option (List ℕ)). unwrap_or o []) step.class
+  own_is : unwrap_or (object_class (put_value m v)) [] ≡ o.class
+  own_is = ap (λ (w : Value). unwrap_or (object_class w) []) (sym step.value) ∙ ap (λ (x : Option (List ℕ)). unwrap_or x []) step.class
 
-  size_is : value_size m.classes (put_value m v) ≡ size
+  size_is : value_size m.classes (put_value m v) ≡ o.length
   size_is = ap (λ (w : Value). value_size m.classes w) (sym step.value) ∙ sym step.written
 
   pub key_sized : is_sized key ≡ true
   unfolding object_key
-  key_sized = eq-eqb (length (written_key key)) (head_length key.class key.name) (key_long (words_of_put m place s.datime name v) (length (data_of_put m place s.datime name v)))
+  key_sized = eq-eqb (length (written_key key)) (head_length key.class key.name) (key_long (words_of_put m place s.datime o.name v) (length (data_of_put m place s.datime o.name v)))
 
   -- class and name of the key
-  pub key_class : key.class ≡ own
+  pub key_class : key.class ≡ o.class
   unfolding object_key
   key_class = own_is
 
-  pub key_name : key.name ≡ name
+  pub key_name : key.name ≡ o.name
   unfolding object_key
   key_name = refl
 
-  key_told : told_by_key key ≡ listed_object ((name, next_cycle m name), put_value m v)
+  key_told : told_by_key key ≡ listed_object ((o.name, next_cycle m o.name), put_value m v)
   unfolding object_key
   key_told = refl
 
   key_new : find (is_at_cycle key.name key.cycle) s.heads ≡ None
   unfolding object_key
-  key_new = ap (λ (k : ℕ). find (is_at_cycle name k) s.heads) (sym step.cycle) ∙ new
+  key_new = ap (λ (k : ℕ). find (is_at_cycle o.name k) s.heads) (sym step.cycle) ∙ new
 
-  pub stand_after : AreKeysOfState (with_head key s.heads) (state_behind m (Put name v))
-  stand_after = keys_behind s.heads m name v key keys.keys key_told key_new
+  pub stand_after : AreKeysOfState (with_head key s.heads) (state_behind m (Put o.name v))
+  stand_after = keys_behind s.heads m o.name v key keys.keys key_told key_new
 
   abbrev need : ℕ
   need = close_need (kept_with s.name (with_head key s.heads) (record_count s.segments + 1))
 
-  need_is : state_need s.name (state_behind m (Put name v)) ≡ need
+  need_is : state_need s.name (state_behind m (Put o.name v)) ≡ need
   need_is =
       let more : 1 + length (with_head key s.heads) ≡ record_count s.segments + 1 = omega (arith, length_with key s.heads, count) in
-      need_by_keys s.name (with_head key s.heads) (state_behind m (Put name v)) stand_after (all_with is_sized key s.heads key_sized sized) (ap length keys.classes ∙ none)
+      need_by_keys s.name (with_head key s.heads) (state_behind m (Put o.name v)) stand_after (all_with is_sized key s.heads key_sized sized) (ap length keys.classes ∙ none)
       ∙ ap (λ (k : ℕ). close_need (kept_with s.name (with_head key s.heads) k)) more
 
-  pub lengths_are : command_lengths m (Put name v) ≡ n ∷ []
+  pub lengths_are : command_lengths m (Put o.name v) ≡ n ∷ []
   unfolding command_lengths
-  lengths_are = λ i. padded_length (head_length (own_is i) name + size_is i) ∷ []
+  lengths_are = λ i. padded_length (head_length (own_is i) o.name + size_is i) ∷ []
 
   abbrev mark_by : List ℕ → ℕ → Option FullMark
   mark_by lengths k = if is_full s.segments lengths k then Some (record { end = file_end s.segments; wanted = sum lengths }) else None
 
-  mark_is : mark_of_command s.name s.segments m (Put name v) ≡ mark_by (n ∷ []) need
+  mark_is : mark_of_command s.name s.segments m (Put o.name v) ≡ mark_by (n ∷ []) need
   unfolding mark_of_command
   mark_is = λ i. mark_by (lengths_are i) (need_is i)
 
   abbrev told_by : Bool → Option FullMark
   told_by b = if b then Some (record { end = file_end s.segments; wanted = sum (n ∷ []) }) else None
 
-  pub mark_none : is_full s.segments (n ∷ []) need ≡ false → mark_of_command s.name s.segments m (Put name v) ≡ None
+  pub mark_none : is_full s.segments (n ∷ []) need ≡ false → mark_of_command s.name s.segments m (Put o.name v) ≡ None
   mark_none e = mark_is ∙ ap told_by e
 
-  pub mark_full : is_full s.segments (n ∷ []) need ≡ true → mark_of_command s.name s.segments m (Put name v) ≡ Some (record { end = file_end s.segments; wanted = n })
-  mark_full e = mark_is ∙ ap told_by e ∙ ap (λ (k : ℕ). let o : Option FullMark = Some (record { end = file_end s.segments; wanted = k }) in o) (sum_one n)
+  pub mark_full : is_full s.segments (n ∷ []) need ≡ true → mark_of_command s.name s.segments m (Put o.name v) ≡ Some (record { end = file_end s.segments; wanted = n })
+  mark_full e = mark_is ∙ ap told_by e ∙ ap (λ (k : ℕ). let x : Option FullMark = Some (record { end = file_end s.segments; wanted = k }) in x) (sum_one n)
 
   -- ---- where there is room
 
-  module _ (p : Putting) (is : IsPutOf m name v place s.datime p) (room : is_full s.segments (n ∷ []) need ≡ false) (at : place ≡ place_of s.segments n) (long : length p.bytes ≡ n) where
-    unrefused : refusal_of m (Put name v) (mark_of_command s.name s.segments m (Put name v)) ≡ None
-    unrefused = ap (refusal_of m (Put name v)) (mark_none room) ∙ free
+  module _ (p : Putting) (is : IsPutOf m o.name v place s.datime p) (room : is_full s.segments (n ∷ []) need ≡ false) (at : place ≡ place_of s.segments n) (long : length p.bytes ≡ n) where
+    unrefused : refusal_of m (Put o.name v) (mark_of_command s.name s.segments m (Put o.name v)) ≡ None
+    unrefused = ap (refusal_of m (Put o.name v)) (mark_none room) ∙ free
 
-    pub next_is : next_of s m (Put name v) ≡ record { state = state_behind m (Put name v); reply = object_put name (next_cycle m name) }
-    next_is = step_accepted m (Put name v) (mark_of_command s.name s.segments m (Put name v)) unrefused
+    pub next_is : next_of s m (Put o.name v) ≡ record { state = state_behind m (Put o.name v); reply = object_put o.name (next_cycle m o.name) }
+    next_is = step_accepted m (Put o.name v) (mark_of_command s.name s.segments m (Put o.name v)) unrefused
 
-    pub segments_are : segments_behind s.name s.segments m (Put name v) ≡ with_segment p.place (length p.bytes) s.segments
+    pub segments_are : segments_behind s.name s.segments m (Put o.name v) ≡ with_segment p.place (length p.bytes) s.segments
     unfolding segments_behind
     segments_are =
-        ap (λ (o : Option Refusal). if is_some o then s.segments else fold with_placed s.segments (command_lengths m (Put name v))) unrefused
+        ap (λ (x : Option Refusal). if is_some x then s.segments else fold with_placed s.segments (command_lengths m (Put o.name v))) unrefused
         ∙ ap (fold with_placed s.segments) lengths_are
         ∙ ap (λ (x : ℕ × ℕ). with_segment x.0 x.1 s.segments) (λ i. ((sym at ∙ sym is.place_is) i, sym long i))
 
-    pub put_is_kept : IsPutStep p s m name v
+    pub put_is_kept : IsPutStep p s m o.name v
     put_is_kept = record {
-      put = subst (λ (k : ℕ). IsPutOf m name v k s.datime p) (sym is.place_is) is;
+      put = subst (λ (k : ℕ). IsPutOf m o.name v k s.datime p) (sym is.place_is) is;
       at = is.place_is ∙ at ∙ ap (place_of s.segments) (sym long);
       accepted = ap (λ (t : Stepped). outcome_of t.reply) next_is;
       segments = segments_are;
@@ -147,45 +147,45 @@ module _ (s : SessionState) (m : State) (keys : IsOfKeys s m) (none : length s.c
   -- ---- where there is none
 
   module _ (full : is_full s.segments (n ∷ []) need ≡ true) where
-    refused_is : refusal_of m (Put name v) (mark_of_command s.name s.segments m (Put name v)) ≡ Some (Full (file_end s.segments) n)
-    refused_is = ap (refusal_of m (Put name v)) (mark_full full) ∙ refused_full m (Put name v) (record { end = file_end s.segments; wanted = n }) free
+    refused_is : refusal_of m (Put o.name v) (mark_of_command s.name s.segments m (Put o.name v)) ≡ Some (Full (file_end s.segments) n)
+    refused_is = ap (refusal_of m (Put o.name v)) (mark_full full) ∙ refused_full m (Put o.name v) (record { end = file_end s.segments; wanted = n }) free
 
-    full_next : next_of s m (Put name v) ≡ record { state = m; reply = refused (Full (file_end s.segments) n) }
-    full_next = step_refused m (Put name v) (mark_of_command s.name s.segments m (Put name v)) (Full (file_end s.segments) n) refused_is
+    full_next : next_of s m (Put o.name v) ≡ record { state = m; reply = refused (Full (file_end s.segments) n) }
+    full_next = step_refused m (Put o.name v) (mark_of_command s.name s.segments m (Put o.name v)) (Full (file_end s.segments) n) refused_is
 
-    same_segments : segments_behind s.name s.segments m (Put name v) ≡ s.segments
+    same_segments : segments_behind s.name s.segments m (Put o.name v) ≡ s.segments
     unfolding segments_behind
-    same_segments = ap (λ (o : Option Refusal). if is_some o then s.segments else fold with_placed s.segments (command_lengths m (Put name v))) refused_is
+    same_segments = ap (λ (x : Option Refusal). if is_some x then s.segments else fold with_placed s.segments (command_lengths m (Put o.name v))) refused_is
 
-    pub full_still : (cost : ℕ) → cost ≡ cost_of m (Put name v) → IsStill s m (Put name v) cost
+    pub full_still : (cost : ℕ) → cost ≡ cost_of m (Put o.name v) → IsStill s m (Put o.name v) cost
     full_still cost costs = record {
       stays = ap (λ (t : Stepped). t.state) full_next;
       segments = same_segments;
       cost_is = costs;
     }
 
-    pub full_told : text_of (refused (Full (file_end s.segments) n)) ≡ text_of (next_of s m (Put name v)).reply
+    pub full_told : text_of (refused (Full (file_end s.segments) n)) ≡ text_of (next_of s m (Put o.name v)).reply
     full_told = ap (λ (t : Stepped). text_of t.reply) (sym full_next)
 
-    pub full_outcome : outcome_of (next_of s m (Put name v)).reply ≡ Refused (Full (file_end s.segments) n)
+    pub full_outcome : outcome_of (next_of s m (Put o.name v)).reply ≡ Refused (Full (file_end s.segments) n)
     full_outcome = ap (λ (t : Stepped). outcome_of t.reply) full_next
 
 -- ---- on a file
 
 module _ (s : SessionState) (m : State) (file : List ℕ) (h : HoldsState s m file) (none : length s.classes ≡ 0) (count : record_count s.segments ≡ 1 + length s.heads) (sized : list_all is_sized s.heads ≡ true)
-    (name : List ℕ) (v stored : Value) (own : List ℕ) (number size place : ℕ) (low : place < 2 ^ 32) (soon : s.datime < 2 ^ 32) (named : is_item_text name ≡ true)
-    (free : refusal_of m (Put name v) None ≡ None) (step : IsStep m name v stored own number size) (new : head_of name (Some number) s.heads ≡ None) where
+    (v : Value) (o : StoredObject) (place : ℕ) (low : place < 2 ^ 32) (soon : s.datime < 2 ^ 32) (named : is_item_text o.name ≡ true)
+    (free : refusal_of m (Put o.name v) None ≡ None) (step : IsStep m v o) (new : head_of o.name (Some o.cycle) s.heads ≡ None) where
   abbrev its_key : KeyHead
-  its_key = key_of_put m place s.datime name v
+  its_key = key_of_put m place s.datime o.name v
 
   abbrev size_of : ℕ
-  size_of = padded_length (head_length own name + size)
+  size_of = padded_length (head_length o.class o.name + o.length)
 
   abbrev its_need : ℕ
   its_need = close_need (kept_with s.name (with_head its_key s.heads) (record_count s.segments + 1))
 
   abbrev after : List Link
-  after = with_record place (record_of_put m place s.datime name v) h.links
+  after = with_record place (record_of_put m place s.datime o.name v) h.links
 
   abbrev of : IsOfKeys s m
   of = of_keys s m file h
@@ -196,48 +196,48 @@ module _ (s : SessionState) (m : State) (file : List ℕ) (h : HoldsState s m fi
   classes : StateClasses m.classes
   classes = no_classes m.classes (ap length (sym h.classes) ∙ none)
 
-  module _ (p : Putting) (is : IsPutOf m name v place s.datime p) (room : is_full s.segments (size_of ∷ []) its_need ≡ false) (at : place ≡ place_of s.segments size_of) (long : length p.bytes ≡ size_of) where
-    abbrev goes : next_of s m (Put name v) ≡ record { state = state_behind m (Put name v); reply = object_put name (next_cycle m name) }
-    goes = next_is s m of none count sized name v stored own number size place low soon named free step new p is room at long
+  module _ (p : Putting) (is : IsPutOf m o.name v place s.datime p) (room : is_full s.segments (size_of ∷ []) its_need ≡ false) (at : place ≡ place_of s.segments size_of) (long : length p.bytes ≡ size_of) where
+    abbrev goes : next_of s m (Put o.name v) ≡ record { state = state_behind m (Put o.name v); reply = object_put o.name (next_cycle m o.name) }
+    goes = next_is s m of none count sized v o place low soon named free step new p is room at long
 
-    pr : IsPutRecord m place s.datime name v
-    pr = puts_have_records m place s.datime name v None low soon classes named free
+    pr : IsPutRecord m place s.datime o.name v
+    pr = puts_have_records m place s.datime o.name v None low soon classes named free
 
     grows : KeepsOneMore (kept_in h.links) (kept_in after) its_key
-    grows = need_grows file h.links place (record_of_put m place s.datime name v) its_key h.chain.chain pr.read pr.key.top pr.key.object
+    grows = need_grows file h.links place (record_of_put m place s.datime o.name v) its_key h.chain.chain pr.read pr.key.top pr.key.object
 
-    put_long : length (record_of_put m place s.datime name v) ≡ size_of
+    put_long : length (record_of_put m place s.datime o.name v) ≡ size_of
     put_long = ap length (sym is.bytes) ∙ long
 
     its : Putting
-    its = record p { place = place; bytes = record_of_put m place s.datime name v; head = its_key }
+    its = record p { place = place; bytes = record_of_put m place s.datime o.name v; head = its_key }
 
     its_same : its ≡ p
     unfolding its
     its_same = λ i. record p { place = sym is.place_is i; bytes = sym is.bytes i; head = sym is.head i }
 
-    its_putting : IsPutting its s m (Put name v) h.links
+    its_putting : IsPutting its s m (Put o.name v) h.links
     unfolding its
     its_putting = record {
       text_is = is.text_is ∙ ap (λ (t : Stepped). text_of t.reply) (sym goes);
       accepted = ap (λ (t : Stepped). outcome_of t.reply) goes;
-      segments = segments_are s m of none count sized name v stored own number size place low soon named free step new p is room at long ∙ ap (λ (q : Putting). with_segment q.place (length q.bytes) s.segments) (sym its_same);
+      segments = segments_are s m of none count sized v o place low soon named free step new p is room at long ∙ ap (λ (q : Putting). with_segment q.place (length q.bytes) s.segments) (sym its_same);
       cost_is = is.cost_is;
-      records = subst (λ (k : State). AreRecordsOf (keyed_records after) (saved_of k)) (sym (ap (λ (t : Stepped). t.state) goes)) (saved_put_takes_effect h.links m place s.datime name v None low soon h.records named free);
-      keys = put_key_follows h.links m s.heads place s.datime name v None low soon kn.records named free h.keys;
-      info = info_stays (keyed_records h.links) (keyed_records after) (keyed_bytes its_key (record_of_put m place s.datime name v)) (record_more h.links place (record_of_put m place s.datime name v) its_key pr.read) pr.key.other;
+      records = subst (λ (k : State). AreRecordsOf (keyed_records after) (saved_of k)) (sym (ap (λ (t : Stepped). t.state) goes)) (saved_put_takes_effect h.links m place s.datime o.name v None low soon h.records named free);
+      keys = put_key_follows h.links m s.heads place s.datime o.name v None low soon kn.records named free h.keys;
+      info = info_stays (keyed_records h.links) (keyed_records after) (keyed_bytes its_key (record_of_put m place s.datime o.name v)) (record_more h.links place (record_of_put m place s.datime o.name v) its_key pr.read) pr.key.other;
       name = grows.name;
       count = grows.count;
-      more = count_with place (length (record_of_put m place s.datime name v)) s.segments;
+      more = count_with place (length (record_of_put m place s.datime o.name v)) s.segments;
       classes = ap (λ (t : Stepped). t.state.classes) goes;
-      held = omega (arith, held_grows file h.links m place s.datime name v low soon h.chain.chain (inl placed) classes named free, is.cost_is);
+      held = omega (arith, held_grows file h.links m place s.datime o.name v low soon h.chain.chain (inl placed) classes named free, is.cost_is);
     }
       where
-        placed : place ≡ place_of (map segment_of h.links) (length (record_of_put m place s.datime name v))
+        placed : place ≡ place_of (map segment_of h.links) (length (record_of_put m place s.datime o.name v))
         placed = at ∙ ap (λ (x : List Segment × ℕ). place_of x.0 x.1) (λ i. (h.chain.same i, sym put_long i))
 
-    pub put_is_step : IsPutting p s m (Put name v) h.links
-    put_is_step = subst (λ (q : Putting). IsPutting q s m (Put name v) h.links) its_same its_putting
+    pub put_is_step : IsPutting p s m (Put o.name v) h.links
+    put_is_step = subst (λ (q : Putting). IsPutting q s m (Put o.name v) h.links) its_same its_putting
 
   -- what is held where there is no room
   module _ (listless : is_some s.info ≡ false) (full : is_full s.segments (size_of ∷ []) its_need ≡ true) where
@@ -267,12 +267,12 @@ module _ (s : SessionState) (m : State) (file : List ℕ) (h : HoldsState s m fi
         ∙ ap (λ (e : ℕ). e + sum_by (λ k. k + 3) (closing_lengths (kept_with s.name s.heads (record_count s.segments)))) end
         ∙ ap (λ (k : ℕ). file_end s.segments + k) (sum_two (λ k. k + 3) (list_length (kept_with s.name s.heads (record_count s.segments))) (free_length (kept_with s.name s.heads (record_count s.segments))))
 
-    need_most : its_need ≤ list_length (kept_with s.name s.heads (record_count s.segments)) + head_length own name + 3 + (free_length (kept_with s.name s.heads (record_count s.segments)) + 13)
+    need_most : its_need ≤ list_length (kept_with s.name s.heads (record_count s.segments)) + head_length o.class o.name + 3 + (free_length (kept_with s.name s.heads (record_count s.segments)) + 13)
     unfolding close_need
     need_most =
-        let long : length (written_key its_key) ≡ head_length own name = eqb-true (length (written_key its_key)) (head_length its_key.class its_key.name) (key_sized s m of none count sized name v stored own number size place low soon named free step new) ∙ ap (λ (x : List ℕ × List ℕ). head_length x.0 x.1) (λ i. (key_class s m of none count sized name v stored own number size place low soon named free step new i, key_name s m of none count sized name v stored own number size place low soon named free step new i)) in
+        let long : length (written_key its_key) ≡ head_length o.class o.name = eqb-true (length (written_key its_key)) (head_length its_key.class its_key.name) (key_sized s m of none count sized v o place low soon named free step new) ∙ ap (λ (x : List ℕ × List ℕ). head_length x.0 x.1) (λ i. (key_class s m of none count sized v o place low soon named free step new i, key_name s m of none count sized v o place low soon named free step new i)) in
         omega (arith, sum_two padded_length (list_length (kept_with s.name (with_head its_key s.heads) (record_count s.segments + 1))) (free_length (kept_with s.name (with_head its_key s.heads) (record_count s.segments + 1))), size_with its_key s.heads, long)
 
-    pub full_lacks : (cost : ℕ) → cost ≡ 500 + size → head_length own name ≤ 229 → room_limit < 3 * s.opened + min (s.costs + cost) (2 ^ 64 - 1)
+    pub full_lacks : (cost : ℕ) → cost ≡ 500 + o.length → head_length o.class o.name ≤ 229 → room_limit < 3 * s.opened + min (s.costs + cost) (2 ^ 64 - 1)
     full_lacks cost is short = lacking (3 * s.opened) s.costs cost (held_of h.links) h.held
         (omega (arith, held_is, need_most, full_is s.segments size_of its_need full, end_most size_of s.segments, short, is))

@@ -165,78 +165,102 @@ module _ (old new : View) (before after : SessionState) (text : List ℕ) (cost 
       → IfOk answer (λ outcome. (name : List ℕ) (v : Value) → c ≡ Put name v → outcome ≡ Accepted → ⊥)
       → Does old new before after c answer
   does_says c (Ok outcome) fresh is still told same full other = record {
-    done = λ m said s.
-        said_went m c said outcome is (reply c (Ok outcome) still told tt m said s) (same m (of_keys before m s.file s.state))
-        (after_so c (Ok outcome) still told outcome is m (same m (of_keys before m s.file s.state)) (full tt m said s)) s;
-    any_moment = tt;
-    ready = said_ready is;
-    refused = said_stays outcome is;
-    no_memory = λ e. absurd cc;
-    unsaid = λ e. absurd cc;
-    failed = ap (λ (a : SessionState). a.failed) is.kept ∙ fresh;
-    told = told_same old.holds new.holds is.holds;
-    cause = is.faults;
-    goes = λ m keys. said_goes m c outcome is keys (still tt m keys) (same m keys);
-    puts = λ m name v keys put accepted. absurd (other name v put accepted);
-    unwritten = λ m keys none. speaking_stays text old new is.holds is.time;
-    said = grows_whole text old.said new.said is.says;
-    silent = λ none. absurd none;
-    part = λ m said s. front_whole old new said text (text_of (next_of before m c).reply) s.said (told tt m said s) is.says;
-    lacks = λ spoken m said s. costs_so c (Ok outcome) still told tt m said s (full tt m said s);
+    file = record {
+      any_moment = tt;
+      told = told_same old.holds new.holds is.holds;
+      refused = said_stays outcome is;
+      unwritten = λ m keys none. speaking_stays text old new is.holds is.time;
+      puts = λ m name v keys put accepted. absurd (other name v put accepted);
+      unsaid = λ e. absurd cc;
+    };
+    text = record {
+      said = grows_whole text old.said new.said is.says;
+      silent = λ none. absurd none;
+      part = λ m said s. front_whole old new said text (text_of (next_of before m c).reply) s.said (told tt m said s) is.says;
+      lacks = λ spoken m said s. costs_so c (Ok outcome) still told tt m said s (full tt m said s);
+    };
+    kept = record {
+      done = λ m said s.
+          said_went m c said outcome is (reply c (Ok outcome) still told tt m said s) (same m (of_keys before m s.file s.state))
+          (after_so c (Ok outcome) still told outcome is m (same m (of_keys before m s.file s.state)) (full tt m said s)) s;
+      goes = λ m keys. said_goes m c outcome is keys (still tt m keys) (same m keys);
+      ready = said_ready is;
+      failed = ap (λ (a : SessionState). a.failed) is.kept ∙ fresh;
+      no_memory = λ e. absurd cc;
+      cause = is.faults;
+    };
   }
   does_says c (Err HostFault) fresh is still told same full other = record {
-    done = tt;
-    any_moment = λ m said s. read_steps m c said is.calls s;
-    ready = tt;
-    refused = tt;
-    no_memory = λ e. absurd cc;
-    unsaid = λ e. absurd cc;
-    failed = is.failed;
-    told = told_same old.holds new.holds is.calls.holds;
-    cause = is.faults;
-    goes = tt;
-    puts = tt;
-    unwritten = λ m keys none. reads_stay old new is.calls;
-    said = grows_none old.said new.said is.calls.said;
-    silent = λ none. is.calls.said;
-    part = λ m said s. front_none old new said (text_of (next_of before m c).reply) s.said is.calls.said;
-    lacks = λ spoken. absurd spoken;
+    file = record {
+      any_moment = λ m said s. read_steps m c said is.calls s;
+      told = told_same old.holds new.holds is.calls.holds;
+      refused = tt;
+      unwritten = λ m keys none. reads_stay old new is.calls;
+      puts = tt;
+      unsaid = λ e. absurd cc;
+    };
+    text = record {
+      said = grows_none old.said new.said is.calls.said;
+      silent = λ none. is.calls.said;
+      part = λ m said s. front_none old new said (text_of (next_of before m c).reply) s.said is.calls.said;
+      lacks = λ spoken. absurd spoken;
+    };
+    kept = record {
+      done = tt;
+      goes = tt;
+      ready = tt;
+      failed = is.failed;
+      no_memory = λ e. absurd cc;
+      cause = is.faults;
+    };
   }
   does_says c (Err SayFault) fresh is still told same full other = record {
-    done = tt;
-    any_moment = λ m said s. speaks m c said is.time (reply c (Err SayFault) still told tt m said s) s;
-    ready = tt;
-    refused = tt;
-    no_memory = λ e. absurd cc;
-    unsaid = λ e m said s. unsaid_open m c said is (still tt m (of_keys before m s.file s.state)) s;
-    failed = is.failed;
-    told = told_same old.holds new.holds is.holds;
-    cause = is.faults;
-    goes = tt;
-    puts = tt;
-    unwritten = λ m keys none. speaking_stays text old new is.holds is.time;
-    said = said_grows text old.said new.said is.says;
-    silent = λ none. absurd none;
-    part = λ m said s. front_part old new said text (text_of (next_of before m c).reply) s.said (told tt m said s) is.says;
-    lacks = λ spoken m said s. costs_so c (Err SayFault) still told tt m said s (full tt m said s);
+    file = record {
+      any_moment = λ m said s. speaks m c said is.time (reply c (Err SayFault) still told tt m said s) s;
+      told = told_same old.holds new.holds is.holds;
+      refused = tt;
+      unwritten = λ m keys none. speaking_stays text old new is.holds is.time;
+      puts = tt;
+      unsaid = λ e m said s. unsaid_open m c said is (still tt m (of_keys before m s.file s.state)) s;
+    };
+    text = record {
+      said = said_grows text old.said new.said is.says;
+      silent = λ none. absurd none;
+      part = λ m said s. front_part old new said text (text_of (next_of before m c).reply) s.said (told tt m said s) is.says;
+      lacks = λ spoken m said s. costs_so c (Err SayFault) still told tt m said s (full tt m said s);
+    };
+    kept = record {
+      done = tt;
+      goes = tt;
+      ready = tt;
+      failed = is.failed;
+      no_memory = λ e. absurd cc;
+      cause = is.faults;
+    };
   }
   does_says c (Err NoMemory) fresh is still told same full other = record {
-    done = tt;
-    any_moment = λ m said s. read_steps m c said is.calls s;
-    ready = tt;
-    refused = tt;
-    no_memory = λ e. (is.kept, is.calls);
-    unsaid = λ e. absurd cc;
-    failed = ap (λ (a : SessionState). a.failed) is.kept ∙ fresh;
-    told = told_same old.holds new.holds is.calls.holds;
-    cause = is.faults;
-    goes = tt;
-    puts = tt;
-    unwritten = λ m keys none. reads_stay old new is.calls;
-    said = grows_none old.said new.said is.calls.said;
-    silent = λ none. is.calls.said;
-    part = λ m said s. front_none old new said (text_of (next_of before m c).reply) s.said is.calls.said;
-    lacks = λ spoken. absurd spoken;
+    file = record {
+      any_moment = λ m said s. read_steps m c said is.calls s;
+      told = told_same old.holds new.holds is.calls.holds;
+      refused = tt;
+      unwritten = λ m keys none. reads_stay old new is.calls;
+      puts = tt;
+      unsaid = λ e. absurd cc;
+    };
+    text = record {
+      said = grows_none old.said new.said is.calls.said;
+      silent = λ none. is.calls.said;
+      part = λ m said s. front_none old new said (text_of (next_of before m c).reply) s.said is.calls.said;
+      lacks = λ spoken. absurd spoken;
+    };
+    kept = record {
+      done = tt;
+      goes = tt;
+      ready = tt;
+      failed = ap (λ (a : SessionState). a.failed) is.kept ∙ fresh;
+      no_memory = λ e. (is.kept, is.calls);
+      cause = is.faults;
+    };
   }
 
 -- ---- calls that read, and then a reply

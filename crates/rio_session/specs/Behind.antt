@@ -3,7 +3,7 @@ use Rattle.std.specs.Prelude.{◌≡◌, ℕ, List, ◌++◌, length, take, Some
 use Rattle.rio_host.specs.Host.{Unwritten, View}
 use Rattle.rio_value.specs.declared.value.Value.{Value}
 use Rattle.rio_dir.specs.Table.{with_head}
-use Rattle.rio_chain.specs.{Chains.{HasChain}, Changes.{with_record}, Placing.{place_of}, Segments.{Link}, Stops.{KeepsFront}}
+use Rattle.rio_chain.specs.{Becoming.{ChainBecomes}, Changes.{with_record}, Placing.{place_of}}
 use Rattle.rio_machine.specs.{State.{State}, declared.command.Command.{Command, TheVariants.{Put}}, declared.command.Outcome.{Outcome, TheVariants.{Refused}}}
 use Rattle.rio_machine.specs.declared.refusal.Refusal.{Refusal}
 use Rattle.rio_step.specs.{ItemKeys.{AreKeysOfState}, Step.{outcome_of}}
@@ -31,8 +31,7 @@ pub record HasPut (old new : View) (before after : SessionState) (m : State) (na
   pub place : ℕ
   pub place_is : place ≡ place_of before.segments (length (record_of_put m place before.datime name v))
   pub heads : after.heads ≡ with_head (key_of_put m place before.datime name v) before.heads
-  pub file : (file : List ℕ) (links : List Link) → old.holds ≡ Some file → HasChain links before.segments file
-      → (now : List ℕ) × (new.holds ≡ Some now) × HasChain (with_record place (record_of_put m place before.datime name v) links) after.segments now × KeepsFront file now
+  pub file : ChainBecomes old new before.segments after.segments (with_record place (record_of_put m place before.datime name v))
 
 -- the command isn't a put, or is refused
 abbrev pub PutsNothing : SessionState → State → Command → Type 0

@@ -1,7 +1,7 @@
 -- What a close makes of the file of a session.
 use Rattle.std.specs.{Prelude.{◌≡◌, true, List, ℕ, Some}, List.{list_all}}
 use Rattle.rio_host.specs.Host.{View}
-use Rattle.rio_chain.specs.{Chains.{HasChain}, Segments.{Link}}
+use Rattle.rio_chain.specs.{Chains.{HasChain}, Segments.{Link}, Stops.{KeepsFront}}
 use Rattle.rio_state.specs.{Closing.{kept_in}, DirectoryKeys.{AreKeysOf}, KeyedRecords.{info_key, keyed_records}, Left.{HasOpenHead, info_head}}
 use Rattle.rio_close.specs.{Leaving.{HoldsClosedWith, IsClosedWith}, Written.{AreCloseRecords, OpenFile}, declared.parts.CloseRecords.{CloseRecords}}
 use Rattle.rio_session.specs.{Kept.{is_owned}, Session.{SessionState}}
@@ -27,16 +27,17 @@ pub record ClosesFile (old new : View) (s : SessionState) : Type 0 where
   pub owned : list_all (is_owned s.heads) s.segments ≡ true
   pub written : HoldsClosedWith new (open_file s) links records file
 
--- A file of this name that was closed at this time, without garbage: what was kept of it was what it was, and before its close each of
--- its records was the first one or one that the key list names.
-pub record IsWellClosed (name : List ℕ) (datime : ℕ) (file : List ℕ) : Type 0 where
+-- A file of this name that was closed at this time, without garbage. Before its close it had just these records, each of them the first
+-- one or one that the key list names, its header was this one, and what was kept of it was what it was. So name, time, header and records
+-- tell each byte of it.
+pub record IsWellClosed (name : List ℕ) (datime : ℕ) (header : List ℕ) (links : List Link) (file : List ℕ) : Type 0 where
   pub kept : OpenFile
   pub name_is : kept.name ≡ name
   pub datime_is : kept.datime ≡ datime
   pub records : CloseRecords
   pub made : AreCloseRecords kept records
   pub before : List ℕ
-  pub links : List Link
+  pub front : KeepsFront header before
   pub chain : HasChain links kept.segments before
   pub head : HasOpenHead before kept.nbytes_name
   pub keys : AreKeysOf (keyed_records links) kept.heads

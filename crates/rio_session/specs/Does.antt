@@ -1,4 +1,4 @@
--- What a command does, in all clauses together.
+-- What a command does: to the file, to the text, and to what the session keeps.
 use Rattle.std.specs.Prelude.{◌≡◌, ℕ, List, IfOk, OnOk, OnErr, IsErrOf, Result}
 use Rattle.rio_host.specs.{Host.{Any, Becomes, Elapses, View}, OnlyReads.{Grown, OnlyReads}}
 use Rattle.rio_value.specs.declared.value.Value.{Value}
@@ -9,20 +9,33 @@ use Rattle.rio_session.specs.Causes.{IsSaid, IsSessionCause, SaysNothing, StaysI
 use Rattle.rio_session.specs.Session.{IsReady, LacksRoomIfFull, LeavesOpenAs, SessionState, StandsFor, Steps, Went, next_of, with_cost}
 use Rattle.rio_session.specs.declared.fault.SessionFault.{SessionFault, TheVariants.{SayFault, NoMemory}}
 
-pub record Does (old new : View) (before after : SessionState) (c : Command) (answer : Result Outcome SessionFault) : Type 0 where
-  pub done : IfOk answer (λ outcome. (m : State) (text : List ℕ) → StandsFor old before m text → Went old new before after m c text outcome)
+-- What becomes of the file. A command that fails leaves the state of before or of after at any moment; a refused one, and one without
+-- records, writes nothing; a put's record stands where the rule places it; and what was done stands where its reply can't be said.
+pub record FileAfter (old new : View) (before after : SessionState) (c : Command) (answer : Result Outcome SessionFault) : Type 0 where
   pub any_moment : OnErr answer ((m : State) (text : List ℕ) → StandsFor old before m text → Elapses old new (Steps m (next_of before m c) text))
-  pub ready : OnOk answer (IsReady new after)
-  pub refused : IfOk answer (StaysIfRefused old new)
-  pub no_memory : IsErrOf answer NoMemory → (after ≡ before) × OnlyReads old new
-  pub unsaid : IsErrOf answer SayFault → (m : State) (text : List ℕ) → StandsFor old before m text → LeavesOpenAs new (next_of before m c).state
-  pub failed : after.failed ≡ fails_by answer
   pub told : Becomes Any old.holds new.holds
-  pub cause : IsSessionCause old new answer
-  pub goes : IfOk answer (λ outcome. (m : State) → IsOfKeys before m → FollowsStep before after m c outcome)
-  pub puts : IfOk answer (λ outcome. (m : State) (name : List ℕ) (v : Value) → IsOfKeys before m → c ≡ Put name v → outcome ≡ Accepted → HasPut old new before after m name v)
+  pub refused : IfOk answer (StaysIfRefused old new)
   pub unwritten : (m : State) → IsOfKeys before m → PutsNothing before m c → Stays old new
+  pub puts : IfOk answer (λ outcome. (m : State) (name : List ℕ) (v : Value) → IsOfKeys before m → c ≡ Put name v → outcome ≡ Accepted → HasPut old new before after m name v)
+  pub unsaid : IsErrOf answer SayFault → (m : State) (text : List ℕ) → StandsFor old before m text → LeavesOpenAs new (next_of before m c).state
+
+-- What becomes of the text: it grows by the reply, by a front of it, or not at all. Want of room is told only where room is wanting.
+pub record TextAfter (old new : View) (before after : SessionState) (c : Command) (answer : Result Outcome SessionFault) : Type 0 where
   pub said : Becomes Grown old.said new.said
   pub silent : SaysNothing answer → new.said ≡ old.said
   pub part : (m : State) (text : List ℕ) → StandsFor old before m text → SaysPart new text (text_of (next_of before m c).reply)
   pub lacks : IsSaid answer → (m : State) (text : List ℕ) → StandsFor old before m text → LacksRoomIfFull (with_cost (cost_of m c) before) (outcome_of (next_of before m c).reply)
+
+-- What becomes of what is kept, and what is answered: the state's step is done, or why not.
+pub record KeptAfter (old new : View) (before after : SessionState) (c : Command) (answer : Result Outcome SessionFault) : Type 0 where
+  pub done : IfOk answer (λ outcome. (m : State) (text : List ℕ) → StandsFor old before m text → Went old new before after m c text outcome)
+  pub goes : IfOk answer (λ outcome. (m : State) → IsOfKeys before m → FollowsStep before after m c outcome)
+  pub ready : OnOk answer (IsReady new after)
+  pub failed : after.failed ≡ fails_by answer
+  pub no_memory : IsErrOf answer NoMemory → (after ≡ before) × OnlyReads old new
+  pub cause : IsSessionCause old new answer
+
+pub record Does (old new : View) (before after : SessionState) (c : Command) (answer : Result Outcome SessionFault) : Type 0 where
+  pub file : FileAfter old new before after c answer
+  pub text : TextAfter old new before after c answer
+  pub kept : KeptAfter old new before after c answer

@@ -1,8 +1,7 @@
 -- What it is to tell an object.
-use Rattle.std.specs.Prelude.{◌≡◌, ℕ, List, drop, Some, Contains, Result}
+use Rattle.std.specs.Prelude.{◌≡◌, ℕ, List, drop, Contains, Result}
 use Rattle.rio_host.specs.Host.{View}
 use Rattle.rio_key.specs.declared.head.KeyHead.{KeyHead}
-use Rattle.rio_dir.specs.Table.{head_of}
 use Rattle.rio_format.specs.Objects.{value_at}
 use Rattle.rio_types.specs.declared.class.ClassDef.{ClassDef}
 use Rattle.rio_chain.specs.{Chains.{HasChain}, Segments.{Link, RecordAt}, Walks.{Told}, declared.segment.Segment.{Segment}}
@@ -18,10 +17,8 @@ abbrev pub TellsRecord : View → List Segment → List ClassDef → KeyHead →
 TellsRecord v segments classes head text = Told v (λ file. (links : List Link) → HasChain links segments file
     → (bytes : List ℕ) × Contains links (RecordAt head.seek bytes) × (text ≡ record_text classes head bytes))
 
--- what is told of the object of this name and cycle is said
-pub record TellsObject {X : Type 0} (name : List ℕ) (cycle : ℕ) (old new : View) (before after : SessionState) (answer : Result X SessionFault) : Type 0 where
+-- what is told of the object of this key is said
+pub record TellsObject {X : Type 0} (head : KeyHead) (old new : View) (before after : SessionState) (answer : Result X SessionFault) : Type 0 where
   pub text : List ℕ
-  pub head : KeyHead
-  pub found : head_of name (Some cycle) before.heads ≡ Some head
   pub tells : IsSaid answer → TellsRecord old before.segments before.classes head text
   pub says : SaysReply text 0 old new before after answer

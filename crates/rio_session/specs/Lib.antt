@@ -1,7 +1,9 @@
 pub mod Behind
 pub mod Causes
 pub mod Closes
+pub mod Doable
 pub mod Does
+pub mod FileSteps
 pub mod Gets
 pub mod Kept
 pub mod Marks

@@ -6,7 +6,7 @@ use Rattle.rio_value.specs.declared.value.Value.{Value}
 use Rattle.rio_chain.specs.{declared.segment.Segment.{Segment}, Placing.{file_end, place_of, with_segment}}
 use Rattle.rio_machine.specs.{Limits.{head_length}, State.{NameAndCycle, State}, declared.command.Command.{Command, TheVariants.{Put}}}
 use Rattle.rio_chain.specs.Record.{new_key}
-use Rattle.rio_step.specs.{Costs.{value_size}, Refusing.{FullMark, object_class_name, put_value, refusal_of}, Runs.{Marks}, Step.{state_behind, step}}
+use Rattle.rio_step.specs.{Costs.{value_size}, Refusing.{FullMark, object_class_name, put_value, refusal_of}, Step.{state_behind}}
 use Rattle.rio_state.specs.Closing.{KeptRecords, close_need, is_full, padded_length}
 
 -- ---- what a file of a state keeps
@@ -53,12 +53,3 @@ mark_of_command name segments m c =
 unfoldable pub segments_behind : List ℕ → List Segment → State → Command → List Segment
 segments_behind name segments m c =
     if is_some (refusal_of m c (mark_of_command name segments m c)) then segments else fold with_placed segments (command_lengths m c)
-
--- ---- runs
-
--- the marks of a run's commands, in a file of this name that begins with these segments
-unfoldable pub marks_of_run : List ℕ → List Segment → State → List Command → Marks
-marks_of_run name segments m [] = []
-marks_of_run name segments m (c ∷ cs) =
-    let mark = mark_of_command name segments m c in
-    mark ∷ marks_of_run name (segments_behind name segments m c) (step m c mark).state cs

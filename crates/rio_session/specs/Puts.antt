@@ -3,14 +3,14 @@ use Rattle.std.specs.{Prelude.{◌≡◌, ◌⊎◌, ◌≤◌, ℕ, ◌+◌, �
 use Rattle.rio_host.specs.Host.{Any, Becomes, Elapses, IsQuiet, Longer, LongerByPart, View}
 use Rattle.rio_key.specs.declared.head.KeyHead.{KeyHead}
 use Rattle.rio_dir.specs.Table.{is_at_cycle, with_head}
-use Rattle.rio_chain.specs.{Chains.{HasChain}, Changes.{with_record}, Placing.{file_end, place_of, record_count, with_segment}}
+use Rattle.rio_chain.specs.{Becoming.{ChainBecomes}, Chains.{HasChain}, Changes.{with_record}, Placing.{file_end, place_of, record_count, with_segment}}
 use Rattle.rio_chain.specs.{Segments.{IsChain, IsRecord, Link}, Stops.{KeepsFront}}
 use Rattle.rio_chain.specs.{declared.fault.PlanFault.{PlanFault, TheVariants.{Full, NoMemory as NoRoomFor}}, declared.segment.Segment.{Segment}}
 use Rattle.rio_types.specs.declared.class.ClassDef.{ClassDef}
-use Rattle.rio_value.specs.declared.value.Value.{Value}
 use Rattle.rio_format.specs.Written.{written_form}
 use Rattle.rio_machine.specs.Limits.{head_length}
-use Rattle.rio_chain.specs.{Record.{new_key, record_bytes}, declared.record.NewRecord.{NewRecord}}
+use Rattle.rio_judge.specs.declared.work.StoredObject.{StoredObject}
+use Rattle.rio_chain.specs.{Record.{new_key, record_bytes}, declared.record.NewRecord.{NewRecord}, declared.key_words.KeyWords.{KeyWords}}
 use Rattle.rio_state.specs.Closing.{close_need, end_limit, is_full, padded_length}
 use Rattle.rio_step.specs.Refusing.{object_class}
 use Rattle.rio_effect.specs.ObjectRecord.{object_data, object_words}
@@ -47,8 +47,7 @@ with_put p s = record s { segments = with_segment p.place (length p.bytes) s.seg
 -- the record is put and its text said
 pub record PutAndSaid (p : Putting) (old new : View) (before after : SessionState) : Type 0 where
   pub time : PutsInTime p old new before
-  pub holds : (file : List ℕ) (links : List Link) → old.holds ≡ Some file → HasChain links before.segments file
-      → (now : List ℕ) × (new.holds ≡ Some now) × HasChain (with_record p.place p.bytes links) after.segments now × KeepsFront file now
+  pub holds : ChainBecomes old new before.segments after.segments (with_record p.place p.bytes)
   pub says : Becomes (Longer p.text) old.said new.said
   pub quiet : IsQuiet new
   pub told : Becomes Any old.holds new.holds
@@ -66,8 +65,7 @@ pub record NotPut (p : Putting) (old new : View) (before after : SessionState) :
 -- the record is put, and the text could not be said
 pub record PutNotSaid (p : Putting) (old new : View) (before after : SessionState) : Type 0 where
   pub time : PutsInTime p old new before
-  pub holds : (file : List ℕ) (links : List Link) → old.holds ≡ Some file → HasChain links before.segments file
-      → (now : List ℕ) × (new.holds ≡ Some now) × IsChain (with_record p.place p.bytes links) now × KeepsFront file now
+  pub holds : ChainBecomes old new before.segments (with_put p before).segments (with_record p.place p.bytes)
   pub quiet : IsQuiet new
   pub told : Becomes Any old.holds new.holds
   pub says : Becomes (LongerByPart p.text) old.said new.said
@@ -100,18 +98,28 @@ pub record CanBePut (s : SessionState) (made : NewRecord) : Type 0 where
 
 -- ---- an object that is stored
 
--- It has this class, name and cycle, passes no limit, and so many bytes are written of it, at whatever place.
-pub record IsStored (classes : List ClassDef) (name : List ℕ) (v : Value) (own : List ℕ) (number size : ℕ) : Type 0 where
-  pub class : object_class v ≡ Some own
-  pub key_short : head_length own name ≤ 229
-  pub size_is : (start : ℕ) → size ≡ length (written_form classes start v)
-  pub size_short : size ≤ 16777216
-  pub last : number ≤ 32767
+-- It passes no limit, and so many bytes are written of it, at whatever place.
+pub record IsStored (classes : List ClassDef) (o : StoredObject) : Type 0 where
+  pub class : object_class o.value ≡ Some o.class
+  pub class_short : length o.class ≤ 100
+  pub name_short : length o.name ≤ 100
+  pub key_short : head_length o.class o.name ≤ 229
+  pub size_is : (start : ℕ) → o.length ≡ length (written_form classes start o.value)
+  pub size_short : o.length ≤ 16777216
+  pub last : o.cycle ≤ 32767
+
+-- what its key says, for this place and time
+abbrev pub stored_words : ℕ → ℕ → StoredObject → KeyWords
+stored_words place datime o = object_words place datime o.name o.cycle o.class
+
+-- its data, behind that key
+abbrev pub stored_data : List ClassDef → ℕ → ℕ → StoredObject → List ℕ
+stored_data classes place datime o = object_data classes (stored_words place datime o) o.value
 
 -- the record of the object, for this place
-pub record IsStoredRecord (s : SessionState) (place : ℕ) (name : List ℕ) (v : Value) (own : List ℕ) (number size : ℕ) (made : NewRecord) : Type 0 where
-  pub head : made.head ≡ new_key (object_words place s.datime name number own) (length (object_data s.classes (object_words place s.datime name number own) v))
-  pub bytes : made.bytes.bytes ≡ record_bytes (object_words place s.datime name number own) (object_data s.classes (object_words place s.datime name number own) v)
+pub record IsStoredRecord (s : SessionState) (place : ℕ) (o : StoredObject) (made : NewRecord) : Type 0 where
+  pub head : made.head ≡ new_key (stored_words place s.datime o) (length (stored_data s.classes place s.datime o))
+  pub bytes : made.bytes.bytes ≡ record_bytes (stored_words place s.datime o) (stored_data s.classes place s.datime o)
   pub spare : 4 ≤ made.bytes.spare
   pub whole : IsRecord place made.bytes.bytes
-  pub long : length made.bytes.bytes ≡ padded_length (head_length own name + size)
+  pub long : length made.bytes.bytes ≡ padded_length (head_length o.class o.name + o.length)

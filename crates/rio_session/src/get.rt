@@ -7,11 +7,8 @@ use rio_machine::Outcome;
 use rio_num::{Bytes, NoMemory};
 use rio_reply::get_reply;
 
-/// More bytes than a record has.
-const TOO_LONG: usize = 1 << 31;
-
 impl Session {
-    ghost use Rattle.std.specs.Prelude.{◌≡◌, Some, IsSome, false, IfOk, Contains};
+    ghost use Rattle.std.specs.Prelude.{◌≡◌, Some, false, IfOk, Contains};
     ghost use Rattle.rio_host.specs.OnlyReads.{OnlyReads};
     ghost use Rattle.rio_chain.specs.Chains.{HoldsChain};
     ghost use Rattle.rio_host.specs.Reading.{IsReadCause};
@@ -20,7 +17,7 @@ impl Session {
     ghost use Rattle.rio_session.specs.Gets.{TellsObject, TellsRecord};
     ghost use Rattle.rio_session.specs.Kept.{IsSoundState};
 
-    // What is told of the object of a key. (A record is never as long as to be refused here.)
+    // What is told of the object of a key.
     fn told<H: Host>(&self, host: &mut H, head: &KeyHead) -> Result<Bytes, ReadFault>
         requires fresh { self.now.failed ≡ false }
         requires among { Contains self.now.heads head.now }
@@ -31,34 +28,27 @@ impl Session {
         ensures cause { IsReadCause (H.view host.old) (H.view host.new) result }
     {
         let bytes = self.chain.read_record(host, head.seek)?;
-        if bytes.len() >= TOO_LONG {
-            return Err(ReadFault::NoMemory);
-        }
         match get_reply(self.alloc, self.registry.classes(), head, bytes.as_slice()) {
             Ok(text) => Ok(text),
             Err(NoMemory) => Err(ReadFault::NoMemory),
         }
     }
 
-    // Says what is told of the object of a name and cycle, which is there.
+    // Says what is told of the object of a key.
     pub(crate) fn get<H: Host>(
         &mut self,
         host: &mut H,
-        name: &[u8],
-        cycle: u16,
+        head: &KeyHead,
     ) -> Result<Outcome, SessionFault>
         requires fresh { self.old.failed ≡ false }
-        requires there { IsSome (head_of name.now (Some cycle) self.old.heads) }
+        requires there { head_of head.now.name (Some head.now.cycle) self.old.heads
+            ≡ Some head.now }
         requires holds { HoldsChain (H.view host.old) self.old.segments }
-        ensures tells { TellsObject name.now cycle (H.view host.old) (H.view host.new)
+        ensures tells { TellsObject head.now (H.view host.old) (H.view host.new)
             self.old self.new result }
         ensures outcome { IfOk result (λ outcome. outcome ≡ BecameOf.Accepted) }
         ensures sound { IsSoundState self.old }
     {
-        let head = match self.table.find(name, Some(cycle)) {
-            Some(head) => head,
-            None => unreachable!(),
-        };
         match self.told(host, head) {
             Ok(text) => {
                 self.answer(host, text.as_slice(), 0)?;

@@ -8,6 +8,7 @@
 mod close;
 mod fault;
 mod get;
+mod laws;
 mod open;
 mod open_front;
 mod place;
@@ -18,4 +19,5 @@ mod store;
 mod work;
 
 pub use fault::{OpenFault, SessionFault};
+pub use laws::steps_follow_files;
 pub use session::Session;

@@ -2,13 +2,14 @@
 ghost use Rattle.std.specs.Prelude.{◌≡◌, ◌+◌, ◌%◌, ◌≤◌, ◌<◌, ◌^◌, ◌∷◌, [], length, false, IfOk, IfErr, OnOk};
 ghost use Rattle.rio_chain.specs.Placing.{file_end, place_of, with_segment};
 ghost use Rattle.rio_chain.specs.Segments.{IsRecord};
-ghost use Rattle.rio_effect.specs.ObjectRecord.{object_data, object_words};
+ghost use Rattle.rio_effect.specs.ObjectRecord.{object_data};
 ghost use Rattle.rio_machine.specs.Limits.{head_length};
 ghost use Rattle.rio_chain.specs.Record.{FitsWords, new_key, record_bytes};
 ghost use Rattle.rio_state.specs.Closing.{is_full};
-ghost use Rattle.rio_session.specs.Puts.{IsFullFor};
+ghost use Rattle.rio_session.specs.Puts.{IsFullFor, stored_words};
 
 use rio_chain::{Chain, KeyWords, NewRecord, PlanFault, new_record};
+use rio_judge::StoredObject;
 use rio_key::key_length_of;
 use rio_num::{Name, NoMemory};
 use rio_state::END_LIMIT;
@@ -55,20 +56,17 @@ pub(crate) fn words_of(
     alloc: Global,
     place: u64,
     datime: u32,
-    name: &[u8],
-    class: &[u8],
-    cycle: u16,
+    object: &StoredObject,
 ) -> Result<KeyWords, NoMemory>
-    ensures { IfOk result
-        (λ words. words ≡ object_words place datime name.now cycle class.now) }
+    ensures { IfOk result (λ words. words ≡ stored_words place datime object.now) }
 {
     Ok(KeyWords {
         place,
         directory: DIRECTORY,
         datime,
-        cycle,
-        class: Name::from_slice(alloc, class)?,
-        name: Name::from_slice(alloc, name)?,
+        cycle: object.cycle,
+        class: object.class.copy()?,
+        name: object.name.copy()?,
         title: Name::new(alloc),
     })
 }

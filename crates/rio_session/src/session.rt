@@ -62,22 +62,14 @@ impl Model for Session {
 }
 
 impl Session {
-    ghost use Rattle.std.specs.Prelude.{◌≡◌, ℕ, List, false, IfOk, OnOk, OnErr, IsErrOf, IsTrue};
-    ghost use Rattle.rio_host.specs.Host.{Any, Becomes, Elapses};
-    ghost use Rattle.rio_host.specs.OnlyReads.{Grown, OnlyReads};
-    ghost use Rattle.rio_judge.specs.Judging.{is_judged};
+    ghost use Rattle.std.specs.Prelude.{◌≡◌, ℕ, List, false, IsTrue, OnOk};
     ghost use Rattle.rio_machine.specs.State.{State};
-    ghost use Rattle.rio_machine.specs.declared.command.Command.{Command as Line};
-    ghost use Rattle.rio_machine.specs.declared.command.Outcome.{Outcome as Became};
-    ghost use Rattle.rio_step.specs.Costs.{cost_of};
-    ghost use Rattle.rio_step.specs.ReplyText.{text_of};
-    ghost use Rattle.rio_step.specs.Step.{outcome_of};
+    ghost use Rattle.rio_judge.specs.Judging.{is_judged};
     ghost use Rattle.rio_step.specs.Statable.{IsStatable};
-    ghost use Rattle.rio_value.specs.declared.value.Value.{Value};
-    ghost use Rattle.rio_session.specs.Behind.{FollowsStep, HasPut, IsOfKeys, PutsNothing, SaysPart, Stays};
-    ghost use Rattle.rio_session.specs.Causes.{IsSaid, IsSessionCause, SaysNothing, NeverReads, StaysIfRefused, fails_by};
-    ghost use Rattle.rio_session.specs.Session.{IsReady, LacksRoomIfFull, LeavesOpenAs, StandsFor, Steps, Went, next_of, with_cost};
-    ghost use Rattle.rio_session.specs.declared.fault.SessionFault.{SessionFault as Fault};
+    ghost use Rattle.rio_session.specs.Causes.{NeverReads};
+    ghost use Rattle.rio_session.specs.Does.{FileAfter, KeptAfter, TextAfter};
+    ghost use Rattle.rio_session.specs.FileSteps.{IsStepTold, RecordsBecome};
+    ghost use Rattle.rio_session.specs.Session.{IsReady, StandsFor};
 
     /// Whether a call of the host failed, after which nothing more can be done.
     pub fn is_failed(&self) -> bool
@@ -87,6 +79,7 @@ impl Session {
     }
 
     /// Does a command and says its reply, once it is on the disk. A refused command changes nothing.
+    /// Its three clauses tell what becomes of the file, of the text, and of what is kept.
     pub fn apply<H: Host>(
         &mut self,
         host: &mut H,
@@ -96,46 +89,21 @@ impl Session {
         requires built { IsTrue (is_judged command.now) }
         requires statable { IsStatable command.now }
         requires ready { IsReady (H.view host.old) self.old }
-        ensures done { IfOk result (λ outcome. (m : State) (text : List ℕ)
+        ensures file { FileAfter (H.view host.old) (H.view host.new) self.old self.new command.now
+            result }
+        // The records of the file tell the command's mark, and what they are after it.
+        ensures marks { (m : State) (text : List ℕ)
+            → (stands : StandsFor (H.view host.old) self.old m text)
+            → IsStepTold self.old m command.now stands.state.links }
+        ensures records { OnOk result ((m : State) (text : List ℕ)
             → StandsFor (H.view host.old) self.old m text
-            → Went (H.view host.old) (H.view host.new) self.old self.new m command.now text
-            outcome) }
-        ensures any_moment { OnErr result ((m : State) (text : List ℕ)
-            → StandsFor (H.view host.old) self.old m text
-            → Elapses (H.view host.old) (H.view host.new)
-            (Steps m (next_of self.old m command.now) text)) }
-        ensures ready { OnOk result (IsReady (H.view host.new) self.new) }
-        ensures refused { IfOk result (StaysIfRefused (H.view host.old) (H.view host.new)) }
-        ensures no_memory { IsErrOf result Fault.NoMemory
-            → (self.new ≡ self.old) × OnlyReads (H.view host.old) (H.view host.new) }
-        // What was done stands where its reply can't be said.
-        ensures unsaid { IsErrOf result Fault.SayFault → (m : State) (text : List ℕ)
-            → StandsFor (H.view host.old) self.old m text
-            → LeavesOpenAs (H.view host.new) (next_of self.old m command.now).state }
-        ensures failed { self.new.failed ≡ fails_by result }
+            → RecordsBecome (H.view host.old) (H.view host.new) self.old self.new m command.now) }
+        ensures text { TextAfter (H.view host.old) (H.view host.new) self.old self.new command.now
+            result }
+        ensures kept { KeptAfter (H.view host.old) (H.view host.new) self.old self.new command.now
+            result }
         ensures reads { NeverReads command.now
             → (H.view host.new).reads ≡ (H.view host.old).reads }
-        ensures told { Becomes Any (H.view host.old).holds (H.view host.new).holds }
-        ensures cause { IsSessionCause (H.view host.old) (H.view host.new) result }
-
-        // Also where the host tells nothing: outcome and keys follow each state that the keys stand for.
-        ensures goes { IfOk result (λ outcome. (m : State) → IsOfKeys self.old m
-            → FollowsStep self.old self.new m command.now outcome) }
-
-        // What becomes of the file, and of the text.
-        ensures puts { IfOk result (λ outcome. (m : State) (name : List ℕ) (v : Value)
-            → IsOfKeys self.old m → command.now ≡ Line.Put name v → outcome ≡ Became.Accepted
-            → HasPut (H.view host.old) (H.view host.new) self.old self.new m name v) }
-        ensures unwritten { (m : State) → IsOfKeys self.old m → PutsNothing self.old m command.now
-            → Stays (H.view host.old) (H.view host.new) }
-        ensures said { Becomes Grown (H.view host.old).said (H.view host.new).said }
-        ensures silent { SaysNothing result → (H.view host.new).said ≡ (H.view host.old).said }
-        ensures part { (m : State) (text : List ℕ) → StandsFor (H.view host.old) self.old m text
-            → SaysPart (H.view host.new) text (text_of (next_of self.old m command.now).reply) }
-        ensures lacks { IsSaid result → (m : State) (text : List ℕ)
-            → StandsFor (H.view host.old) self.old m text
-            → LacksRoomIfFull (with_cost (cost_of m command.now) self.old)
-            (outcome_of (next_of self.old m command.now).reply) }
     {
         self.judge_and_do(host, command)
     }

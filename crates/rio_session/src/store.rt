@@ -3,22 +3,21 @@ use crate::place::{key_length, place_within, record_of, words_of};
 use crate::{Session, SessionFault};
 use rio_chain::{NewRecord, PlanFault};
 use rio_host::Host;
-use rio_machine::{Command, Outcome, Refusal};
+use rio_judge::StoredObject;
+use rio_machine::{Outcome, Refusal};
 use rio_num::{NoMemory, padded};
 use rio_reply::put_reply;
 use rio_state::close_length;
-use rio_value::Value;
 
 impl Session {
     ghost use Rattle.std.specs.Prelude.{◌≡◌, ◌+◌, ◌≤◌, ◌<◌, ◌^◌, length, true, false, IfOk};
     ghost use Rattle.rio_key.specs.declared.head.KeyHead.{KeyHead};
     ghost use Rattle.rio_dir.specs.Table.{with_head};
     ghost use Rattle.rio_chain.specs.Placing.{record_count};
-    ghost use Rattle.rio_judge.specs.Judging.{WorkCanBeDone, IsJudgementOfStates};
-    ghost use Rattle.rio_judge.specs.declared.work.Judged.{Judged};
+    ghost use Rattle.rio_machine.specs.declared.command.Command.{Command as Line};
     ghost use Rattle.rio_judge.specs.declared.work.Work.{Work};
     ghost use Rattle.rio_state.specs.Closing.{close_need};
-    ghost use Rattle.rio_step.specs.Statable.{IsStatable};
+    ghost use Rattle.rio_session.specs.Doable.{CanBeDone, IsToDo};
     ghost use Rattle.rio_session.specs.Does.{Does};
     ghost use Rattle.rio_session.specs.Kept.{is_sized, kept_with};
     ghost use Rattle.rio_session.specs.Puts.{IsStored, IsStoredRecord};
@@ -38,60 +37,40 @@ impl Session {
     }
 
     // The record of an object.
-    fn make(
-        &self,
-        place: u64,
-        name: &[u8],
-        class: &[u8],
-        cycle: u16,
-        value: &Value,
-        length: u32,
-    ) -> Result<NewRecord, NoMemory>
-        requires stored { IsStored self.now.classes name.now value.now class.now cycle length }
+    fn make(&self, place: u64, object: &StoredObject) -> Result<NewRecord, NoMemory>
+        requires stored { IsStored self.now.classes object.now }
         requires low { place < 2 ^ 32 }
-        ensures { IfOk result (λ made. IsStoredRecord self.now place name.now value.now class.now
-            cycle length made) }
+        ensures { IfOk result (IsStoredRecord self.now place object.now) }
     {
-        let words = words_of(self.alloc, place, self.datime, name, class, cycle)?;
-        record_of(self.alloc, self.registry.classes(), words, value)
+        let words = words_of(self.alloc, place, self.datime, object)?;
+        record_of(self.alloc, self.registry.classes(), words, &object.value)
     }
 
     // Does the work of a put: its object goes where there is room for it, or the put is refused.
     pub(crate) fn put<H: Host>(
         &mut self,
         host: &mut H,
-        command: &Command,
-        value: &Value,
-        class: &[u8],
-        cycle: u16,
-        length: u32,
+        object: &StoredObject,
     ) -> Result<Outcome, SessionFault>
         requires fresh { self.old.failed ≡ false }
         requires ready { IsReady (H.view host.old) self.old }
-        requires statable { IsStatable command.now }
-        requires can { WorkCanBeDone self.old.classes self.old.heads command.now
-            (Work.Put value.now class.now cycle length) }
-        requires judged { IsJudgementOfStates self.old.classes self.old.heads command.now
-            (Judged.Accepted (Work.Put value.now class.now cycle length)) }
-        ensures does { Does (H.view host.old) (H.view host.new) self.old self.new command.now
-            result }
+        requires can { CanBeDone self.old (Work.Put object.now) }
+        ensures does { (c : Line) → IsToDo self.old c (Work.Put object.now)
+            → Does (H.view host.old) (H.view host.new) self.old self.new c result }
         ensures reads { (H.view host.new).reads ≡ (H.view host.old).reads }
     {
-        let alloc = self.alloc;
-        let Command::Put { name, .. } = command else {
-            unreachable!()
-        };
-        let name = name.as_slice();
-        let cost = 500 + u64::from(length);
-        let n = padded(key_length(class, name) + u64::from(length));
+        let name = object.name.as_slice();
+        let class = object.class.as_slice();
+        let length = u64::from(object.length);
+        let n = padded(key_length(class, name) + length);
         match place_within(&self.chain, n, self.need_with(class, name)) {
             Ok(place) => {
-                let made = self.make(place, name, class, cycle, value, length)?;
-                let text = put_reply(alloc, name, cycle)?;
-                self.put_and_say(host, made, text.as_slice(), cost)
+                let made = self.make(place, object)?;
+                let text = put_reply(self.alloc, name, object.cycle)?;
+                self.put_and_say(host, made, text.as_slice(), 500 + length)
             }
             Err(PlanFault::Full { end, wanted }) => {
-                self.refuse(host, Refusal::Full { end, wanted }, cost)
+                self.refuse(host, Refusal::Full { end, wanted }, 500 + length)
             }
             Err(PlanFault::NoMemory) => Err(SessionFault::NoMemory),
         }

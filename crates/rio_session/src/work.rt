@@ -5,44 +5,28 @@ use rio_judge::{Judged, Work, judge};
 use rio_machine::{Command, Outcome};
 
 impl Session {
-    ghost use Rattle.std.specs.Prelude.{◌≡◌, false, IsTrue};
-    ghost use Rattle.rio_judge.specs.Judging.{WorkCanBeDone, IsJudgementOfStates, is_judged};
-    ghost use Rattle.rio_judge.specs.declared.work.Judged.{Judged as Judgement};
+    ghost use Rattle.std.specs.Prelude.{◌≡◌, ◌<◌, ◌^◌, false, IsTrue};
+    ghost use Rattle.rio_judge.specs.Judging.{is_judged};
+    ghost use Rattle.rio_machine.specs.declared.command.Command.{Command as Line};
     ghost use Rattle.rio_step.specs.Statable.{IsStatable};
     ghost use Rattle.rio_session.specs.Causes.{NeverReads};
     ghost use Rattle.rio_session.specs.Does.{Does};
+    ghost use Rattle.rio_session.specs.Doable.{CanBeDone, IsToDo, ReadsNothing};
+    ghost use Rattle.rio_session.specs.Kept.{IsSoundState};
     ghost use Rattle.rio_session.specs.Session.{IsReady};
 
     // Does the work of a command.
-    fn work<H: Host>(
-        &mut self,
-        host: &mut H,
-        command: &Command,
-        work: Work,
-    ) -> Result<Outcome, SessionFault>
+    fn work<H: Host>(&mut self, host: &mut H, work: Work) -> Result<Outcome, SessionFault>
         requires fresh { self.old.failed ≡ false }
-        requires built { IsTrue (is_judged command.now) }
-        requires statable { IsStatable command.now }
         requires ready { IsReady (H.view host.old) self.old }
-        requires can { WorkCanBeDone self.old.classes self.old.heads command.now work }
-        requires judged { IsJudgementOfStates self.old.classes self.old.heads command.now
-            (Judgement.Accepted work) }
-        ensures does { Does (H.view host.old) (H.view host.new) self.old self.new command.now
-            result }
-        ensures reads { NeverReads command.now
-            → (H.view host.new).reads ≡ (H.view host.old).reads }
+        requires can { CanBeDone self.old work }
+        ensures does { (c : Line) → IsToDo self.old c work
+            → Does (H.view host.old) (H.view host.new) self.old self.new c result }
+        ensures reads { ReadsNothing work → (H.view host.new).reads ≡ (H.view host.old).reads }
     {
         match work {
-            Work::Put {
-                value,
-                class,
-                cycle,
-                length,
-            } => self.put(host, command, &value, class.as_slice(), cycle, length),
-            Work::Get { cycle } => match command {
-                Command::Get { name, .. } => self.get(host, name.as_slice(), cycle),
-                _ => unreachable!(),
-            },
+            Work::Put(object) => self.put(host, &object),
+            Work::Get(head) => self.get(host, &head),
             Work::Ls => self.list(host),
         }
     }
@@ -61,10 +45,12 @@ impl Session {
             result }
         ensures reads { NeverReads command.now
             → (H.view host.new).reads ≡ (H.view host.old).reads }
+        ensures sound { IsSoundState self.old }
+        ensures soon { self.old.datime < 2 ^ 32 }
     {
         match judge(self.alloc, self.registry.classes(), &self.table, command)? {
             Judged::Refused(refusal) => self.refuse(host, refusal, 0),
-            Judged::Accepted(work) => self.work(host, command, work),
+            Judged::Accepted(work) => self.work(host, work),
         }
     }
 }

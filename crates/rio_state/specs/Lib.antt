@@ -1,10 +1,14 @@
+pub mod Cleaning
 pub mod Closing
 pub mod Contents
 pub mod DirectoryKeys
+pub mod Holding
 pub mod KeyedRecords
 pub mod Laws
 pub mod Left
+pub mod OneLess
 pub mod OneMore
 pub mod Reads
 pub mod Reasons
+pub mod Referred
 pub mod Sizes

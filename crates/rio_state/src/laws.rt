@@ -1,4 +1,7 @@
 //! Laws of what files read as.
+ghost use Rattle.rio_state.specs.Cleaning.{GarbageIsLeft};
+ghost use Rattle.rio_state.specs.Holding.{HeldIsLimited};
+ghost use Rattle.rio_state.specs.OneLess.{FirstIsKept, GarbageGoes, NeedFalls, OthersAreReferred, RecordLess};
 ghost use Rattle.rio_state.specs.OneMore.{CountGrows, EmptyIsRead, FirstStays, InfoStays, InternalStays, KeysFollow, KeysStay, NeedStays, RecordMore};
 ghost use Rattle.rio_state.specs.Sizes.{CloseSizeIsNeed};
 ghost use Rattle.rio_state.specs.Laws.{HasOneReason, NoReasonIsRead, ReadsAsOneState, ReadsMeetsNoReason};
@@ -53,4 +56,31 @@ pub fn internal_stays()
 /// heads of so many bytes, and so many records.
 pub fn close_length_is_need()
     ensures { CloseSizeIsNeed }
+{}
+
+/// A record that is released is one less among the records of the file, and without another one the
+/// first record stays the first.
+pub fn record_less()
+    ensures less { RecordLess }
+    ensures first { FirstIsKept }
+{}
+
+/// Without a record that nothing refers to a file reads as the same state, has the same keys, and
+/// keeps what it kept. Something refers to the same records, so without the first of those that
+/// nothing refers to the others are left.
+pub fn garbage_goes()
+    ensures same { GarbageGoes }
+    ensures others { OthersAreReferred }
+    ensures left { GarbageIsLeft }
+{}
+
+/// Without a record that is neither the first nor a tree's, a close needs no more, and neither END with
+/// that nor what the file holds rises.
+pub fn need_falls()
+    ensures { NeedFalls }
+{}
+
+/// A file holds at most three times its length, and 10,000.
+pub fn held_is_limited()
+    ensures { HeldIsLimited }
 {}

@@ -1,5 +1,5 @@
 //! Words that are numbers or bit patterns.
-ghost use Rattle.std.specs.Prelude.{◌≡◌, ℕ, ◌+◌, ◌*◌, ◌<◌, ◌≤◌, ◌^◌, length, option_map, IfSome};
+ghost use Rattle.std.specs.Prelude.{◌≡◌, ◌+◌, ◌*◌, ◌<◌, ◌≤◌, option_map, IfSome};
 ghost use Rattle.rio_token.specs.Words.{at_most, bits_from, bits_of, decimal, digit_in, has_no_leading_zero, num_between_of, num_of, number_of, written};
 
 use crate::quoted::hex_digit;

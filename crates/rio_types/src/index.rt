@@ -1,6 +1,6 @@
 //! Where classes stand in a list of them, by name and by name and number.
-ghost use Rattle.std.specs.Prelude.{◌≡◌, ◌+◌, ◌^◌, ◌<◌, ℕ, ℤ, List, [], ◌∷◌, ◌++◌, Some, slice_get, ◌==◌, ◌&&◌, length, pos, if◌then◌else◌, IfOk, IsOk, OnOk, OnErr, vec_capacity, vec_len};
-ghost use Rattle.std.specs.Option.{option_and_then, option_copied};
+ghost use Rattle.std.specs.Prelude.{◌≡◌, ◌+◌, ◌<◌, ℕ, ℤ, List, [], ◌∷◌, ◌++◌, Some, slice_get, ◌==◌, ◌&&◌, length, pos, if◌then◌else◌, IfOk, IsOk, OnOk, OnErr, vec_capacity, vec_len};
+ghost use Rattle.std.specs.Option.{option_and_then};
 ghost use Rattle.std.specs.Ordering.{int_eq};
 ghost use Rattle.std.specs.Str.{bytes_eq};
 ghost use Rattle.rio_types.specs.Chain.{last_before};

@@ -1,3 +1,5 @@
+pub mod ListReads
+pub mod PartReads
 pub mod ResolveLaws
 pub mod StoredClasses
 pub mod StoredLaws

@@ -1,13 +1,23 @@
 //! Values are read from left to right. A call reads a value with at most `levels` brackets within one
 //! another.
-ghost use Rattle.std.specs.Prelude.{◌≡◌, ◌<◌, ◌^◌, length, pos};
+//!
+//! Up to 1,024 brackets are read within one another, by calls within one another. So these calls keep little: what is made of
+//! a value that was read is made in calls of their own, which are left before the next value is read.
+ghost use Rattle.std.specs.Prelude.{◌≡◌, ◌<◌, ◌^◌, ◌++◌, [], ◌∷◌, length, IfErr, IfOk, OnOk, Ok, if◌then◌else◌};
+ghost use Rattle.rio_format.specs.Bodies.{part};
+ghost use Rattle.rio_num.specs.Answers.{FailsUnless};
+ghost use Rattle.rio_num.specs.At.{At};
 ghost use Rattle.rio_num.specs.Word.{is_name_text};
+ghost use Rattle.rio_token.specs.declared.fault.TextFault.TheVariants.{NoMemory as OutOfMemory};
+ghost use Rattle.rio_token.specs.Tokens.{token_place};
+ghost use Rattle.rio_value.specs.declared.value.Part.{Part as Parted};
+ghost use Rattle.rio_value.specs.declared.value.Value.{Value as Given, Object, Pointed};
 ghost use Rattle.rio_token.specs.Reading.{AnswersText, Reads, TakesInMemory, list_at, more_at};
 ghost use Rattle.rio_token.specs.Words.{bits_of, number_of};
 ghost use Rattle.rio_token.specs.Marks.{closing_brace, closing_bracket};
-ghost use Rattle.rio_model.specs.ValueGrammar.{bracket_limit, class_version_at, enclosed_at, listed, marked_value_at, named_object_at, number_or, bits_value, object_at, object_of, opens_object, part_at, pointer_at, row_at, text_value_at, value_and_end, value_in_text, value_in, values_at, word_value, word_value_at};
+ghost use Rattle.rio_model.specs.ValueGrammar.{bracket_limit, class_version_at, enclosed_at, listed, marked_value_at, number_or, bits_value, object_at, opens_object, part_at, pointer_at, row_at, text_value_at, value_and_end, value_in_text, value_in, values_at, word_value, word_value_at, worded};
 
-use rio_num::{Boxed, Name, is_name};
+use rio_num::{Boxed, Name, NoMemory, is_name};
 use rio_token::{Bits, TextFault, Token, Tokens, parse_bits, parse_number};
 use rio_value::{Part, Parts, Value, Values};
 use std::alloc::Global;
@@ -120,6 +130,18 @@ fn goes_on(tokens: &Tokens) -> bool
     matches!(tokens.peek(), Token::Mark(b'{' | b'#'))
 }
 
+// What a word is that no object follows. `bad_word` is its fault.
+fn word_alone(word: &[u8], tokens: &Tokens, bad_word: TextFault) -> Result<Value, TextFault>
+    ensures { (s : At) → bad_word ≡ TextFault.BadText (token_place s) → Reads (λ v. v) result
+        (worded (word_value word.now) (is_name_text word.now) s tokens.now) tokens.now }
+{
+    match value_of_word(word) {
+        Some(value) => Ok(value),
+        None if is_name(word) => Err(tokens.bad()),
+        None => Err(bad_word),
+    }
+}
+
 #[cycle(value)]
 #[tactic(auto, unfolding(rio_model::specs::ValueGrammar::word_value_at))]
 fn read_word(alloc: Global, tokens: &mut Tokens, levels: u32) -> Result<Value, TextFault>
@@ -130,11 +152,7 @@ fn read_word(alloc: Global, tokens: &mut Tokens, levels: u32) -> Result<Value, T
     if is_name(word) && goes_on(tokens) {
         return read_object(alloc, tokens, word, levels);
     }
-    match value_of_word(word) {
-        Some(value) => Ok(value),
-        None if is_name(word) => Err(tokens.bad()),
-        None => Err(bad_word),
-    }
+    word_alone(word, tokens, bad_word)
 }
 
 // The version behind a class, or 0 where none stands there.
@@ -150,9 +168,22 @@ fn read_version(tokens: &mut Tokens) -> Result<i32, TextFault>
     }
 }
 
+// An object of these parts.
+fn object_with(alloc: Global, class: &[u8], version: i32, parts: Parts) -> Result<Value, TextFault>
+    ensures ok { IfOk result (λ v. v ≡ Object class.now version parts) }
+    ensures err { IfErr result (λ e. e ≡ TextFault.NoMemory) }
+{
+    let class = Name::from_slice(alloc, class)?;
+    Ok(Value::Object {
+        class,
+        version,
+        parts,
+    })
+}
+
 // An object, behind its class.
 #[cycle(value)]
-#[tactic(auto, unfolding(rio_model::specs::ValueGrammar::object_at))]
+#[tactic(auto, unfolding(rio_model::specs::ValueGrammar::object_at, rio_model::specs::ValueGrammar::enclosed_at, rio_model::specs::ValueGrammar::enclosed_by))]
 fn read_object(
     alloc: Global,
     tokens: &mut Tokens,
@@ -163,21 +194,30 @@ fn read_object(
         Reads (λ v. v) result read tokens.new }
 {
     let version = read_version(tokens)?;
-    read_braces(alloc, tokens, class, version, levels)
+    if levels == 0 {
+        return Err(tokens.bad());
+    }
+    tokens.expect_mark(b'{')?;
+    match read_parts(alloc, tokens, levels - 1) {
+        Ok(parts) => object_with(alloc, class, version, parts),
+        Err(fault) => Err(fault),
+    }
 }
 
-#[cycle(value)]
-#[tactic(auto, unfolding(rio_model::specs::ValueGrammar::named_object_at))]
-fn read_named_object(alloc: Global, tokens: &mut Tokens, levels: u32) -> Result<Value, TextFault>
-    ensures { Reads (λ v. v) result (named_object_at (enclosed_at levels) tokens.old) tokens.new }
+// A pointer to the object of this label, which begins here.
+fn pointed(alloc: Global, label: u32, object: Value) -> Result<Value, TextFault>
+    ensures ok { IfOk result (λ v. v ≡ Pointed label object) }
+    ensures err { IfErr result (λ e. e ≡ TextFault.NoMemory) }
 {
-    let class = tokens.take_name()?;
-    read_object(alloc, tokens, class, levels)
+    Ok(Value::Pointed {
+        label,
+        object: Boxed::new(alloc, object)?,
+    })
 }
 
 // A pointer, behind its `@`.
 #[cycle(value)]
-#[tactic(auto, unfolding(rio_model::specs::ValueGrammar::pointer_at))]
+#[tactic(auto, unfolding(rio_model::specs::ValueGrammar::pointer_at, rio_model::specs::ValueGrammar::named_object_at))]
 fn read_pointer(alloc: Global, tokens: &mut Tokens, levels: u32) -> Result<Value, TextFault>
     ensures { Reads (λ v. v) result (pointer_at (enclosed_at levels) tokens.old) tokens.new }
 {
@@ -185,11 +225,11 @@ fn read_pointer(alloc: Global, tokens: &mut Tokens, levels: u32) -> Result<Value
     if !tokens.take_mark(b'=') {
         return Ok(Value::Back(label));
     }
-    let object = read_named_object(alloc, tokens, levels)?;
-    Ok(Value::Pointed {
-        label,
-        object: Boxed::new(alloc, object)?,
-    })
+    let class = tokens.take_name()?;
+    match read_object(alloc, tokens, class, levels) {
+        Ok(object) => pointed(alloc, label, object),
+        Err(fault) => Err(fault),
+    }
 }
 
 #[cycle(value)]
@@ -200,7 +240,10 @@ fn read_list(alloc: Global, tokens: &mut Tokens, levels: u32) -> Result<Value, T
     if levels == 0 {
         return Err(tokens.bad());
     }
-    Ok(Value::List(read_values(alloc, tokens, levels - 1)?))
+    match read_values(alloc, tokens, levels - 1) {
+        Ok(items) => Ok(Value::List(items)),
+        Err(fault) => Err(fault),
+    }
 }
 
 // The values between square brackets.
@@ -211,6 +254,26 @@ fn read_values(alloc: Global, tokens: &mut Tokens, levels: u32) -> Result<Values
 {
     tokens.expect_mark(b'[')?;
     read_items(alloc, tokens, levels)
+}
+
+// Puts the next value at the end.
+#[cycle(value)]
+fn push_next(
+    alloc: Global,
+    tokens: &mut Tokens,
+    items: &mut Values,
+    levels: u32,
+) -> Result<(), TextFault>
+    ensures ok { OnOk result ((v : Given)
+        × (value_in_text (enclosed_at levels) tokens.old ≡ Ok (v, tokens.new))
+        × (items.new ≡ items.old ++ v ∷ [])) }
+    ensures err { let read = value_in_text (enclosed_at levels) tokens.old in
+        IfErr result (λ e. FailsUnless OutOfMemory e read) }
+{
+    match read_next(alloc, tokens, levels) {
+        Ok(value) => Ok(items.push(value)?),
+        Err(fault) => Err(fault),
+    }
 }
 
 // The values of a list and its closing bracket.
@@ -225,7 +288,7 @@ fn read_items(alloc: Global, tokens: &mut Tokens, levels: u32) -> Result<Values,
     if tokens.take_mark(b']') {
         return Ok(items);
     }
-    items.push(read_next(alloc, tokens, levels)?)?;
+    push_next(alloc, tokens, &mut items, levels)?;
     read_more_items(alloc, tokens, items, levels)
 }
 
@@ -246,34 +309,9 @@ fn read_more_items(
             return Ok(items);
         }
         tokens.expect_mark(b',')?;
-        items.push(read_next(alloc, tokens, levels)?)?;
+        push_next(alloc, tokens, &mut items, levels)?;
     }
     Err(tokens.bad())
-}
-
-// What stands in an object's braces.
-#[cycle(value)]
-#[tactic(auto, unfolding(rio_model::specs::ValueGrammar::enclosed_at, rio_model::specs::ValueGrammar::enclosed_by))]
-fn read_braces(
-    alloc: Global,
-    tokens: &mut Tokens,
-    class: &[u8],
-    version: i32,
-    levels: u32,
-) -> Result<Value, TextFault>
-    ensures { Reads (λ v. v) result
-        (enclosed_at levels (object_of class.now version) tokens.old) tokens.new }
-{
-    if levels == 0 {
-        return Err(tokens.bad());
-    }
-    tokens.expect_mark(b'{')?;
-    let parts = read_parts(alloc, tokens, levels - 1)?;
-    Ok(Value::Object {
-        class: Name::from_slice(alloc, class)?,
-        version,
-        parts,
-    })
 }
 
 // The parts of an object and its closing brace.
@@ -288,7 +326,7 @@ fn read_parts(alloc: Global, tokens: &mut Tokens, levels: u32) -> Result<Parts, 
     if tokens.take_mark(b'}') {
         return Ok(parts);
     }
-    parts.push(read_part(alloc, tokens, levels)?)?;
+    push_part(alloc, tokens, &mut parts, levels)?;
     read_more_parts(alloc, tokens, parts, levels)
 }
 
@@ -309,23 +347,75 @@ fn read_more_parts(
             return Ok(parts);
         }
         tokens.expect_mark(b',')?;
-        parts.push(read_part(alloc, tokens, levels)?)?;
+        push_part(alloc, tokens, &mut parts, levels)?;
     }
     Err(tokens.bad())
 }
 
+// The value behind the name of a part: that of a member, or a base.
+#[cycle(value)]
+fn read_named(
+    alloc: Global,
+    tokens: &mut Tokens,
+    name: &[u8],
+    is_member: bool,
+    levels: u32,
+) -> Result<Value, TextFault>
+    ensures { Reads (λ v. v) result (if is_member then value_in_text (enclosed_at levels) tokens.old
+        else object_at (enclosed_at levels) name.now tokens.old) tokens.new }
+{
+    if is_member {
+        read_next(alloc, tokens, levels)
+    } else {
+        read_object(alloc, tokens, name, levels)
+    }
+}
+
+// The name of a part. A base has none.
+fn part_name(alloc: Global, name: &[u8], is_member: bool) -> Result<Name, NoMemory>
+    ensures { IfOk result (λ n. n ≡ (if is_member then name.now else [])) }
+{
+    if is_member {
+        Name::from_slice(alloc, name)
+    } else {
+        Ok(Name::new(alloc))
+    }
+}
+
+// Puts a part at the end.
+fn put_part(
+    alloc: Global,
+    parts: &mut Parts,
+    name: &[u8],
+    is_member: bool,
+    value: Value,
+) -> Result<(), TextFault>
+    ensures ok { OnOk result
+        (parts.new ≡ parts.old ++ part (if is_member then name.now else []) value ∷ []) }
+    ensures err { IfErr result (λ e. e ≡ TextFault.NoMemory) }
+{
+    let name = part_name(alloc, name, is_member)?;
+    Ok(parts.push(Part { name, value })?)
+}
+
+// Puts the next part at the end.
 #[cycle(value)]
 #[tactic(auto, unfolding(rio_model::specs::ValueGrammar::part_at))]
-fn read_part(alloc: Global, tokens: &mut Tokens, levels: u32) -> Result<Part, TextFault>
-    ensures { Reads (λ p. p) result (part_at (enclosed_at levels) tokens.old) tokens.new }
+fn push_part(
+    alloc: Global,
+    tokens: &mut Tokens,
+    parts: &mut Parts,
+    levels: u32,
+) -> Result<(), TextFault>
+    ensures ok { OnOk result ((p : Parted) × (part_at (enclosed_at levels) tokens.old ≡ Ok (p, tokens.new))
+        × (parts.new ≡ parts.old ++ p ∷ [])) }
+    ensures err { let read = part_at (enclosed_at levels) tokens.old in
+        IfErr result (λ e. FailsUnless OutOfMemory e read) }
 {
     let name = tokens.take_name()?;
-    if tokens.take_mark(b':') {
-        let value = read_next(alloc, tokens, levels)?;
-        let name = Name::from_slice(alloc, name)?;
-        return Ok(Part { name, value });
+    let is_member = tokens.take_mark(b':');
+    match read_named(alloc, tokens, name, is_member, levels) {
+        Ok(value) => put_part(alloc, parts, name, is_member, value),
+        Err(fault) => Err(fault),
     }
-    let value = read_object(alloc, tokens, name, levels)?;
-    let name = Name::new(alloc);
-    Ok(Part { name, value })
 }

@@ -1,6 +1,9 @@
-//! Values with the versions that their text leaves open.
-ghost use Rattle.std.specs.Prelude.{◌≡◌, [], ◌∷◌, map, option_and_then, IfOk, IfErr, Some, None};
-ghost use Rattle.rio_format.specs.Bodies.{t_object_base};
+//! Values with the versions that their text leaves open. The calls go as deep as the value, so those within one another keep
+//! little: what is made of a value is made in calls of their own.
+ghost use Rattle.std.specs.Prelude.{◌≡◌, ◌==◌, [], ◌∷◌, length, map, option_and_then, IfOk, IfErr, Some, None, if◌then◌else◌};
+ghost use Rattle.std.specs.Option.{option_map};
+ghost use Rattle.rio_value.specs.declared.value.Value.{List as Items, Object, Pointed};
+ghost use Rattle.rio_format.specs.Bodies.{part, t_object_base};
 ghost use Rattle.rio_format.specs.Slots.{body_bases, headed_body};
 ghost use Rattle.rio_model.specs.Resolving.{ResolvedHasVersions, ResolvedStays, base_version, built_in_version, each_resolved, is_known_version, meant_version, newest_known, object_resolved, resolved, resolved_row, resolved_version, resolving_of, resolving_of_part};
 ghost use Rattle.rio_valtext.specs.Resolves.{Resolves};
@@ -8,7 +11,7 @@ ghost use Rattle.rio_valtext.specs.Resolves.{Resolves};
 use rio_format::{Body, BodyKind, declared_body, headed_version, is_headed};
 use rio_num::{Boxed, Name, NoMemory};
 use rio_types::{Base, Classes};
-use rio_value::{Part, Parts, Value, Values};
+use rio_value::{Part, Parts, Value, Values, copy};
 use std::alloc::Global;
 use thiserror::Error;
 
@@ -148,6 +151,14 @@ fn resolved_version(
     }
 }
 
+// The value as it is.
+fn copied(alloc: Global, value: &Value) -> Result<Value, ResolveFault>
+    ensures ok { IfOk result (λ v. v ≡ value.now) }
+    ensures err { IfErr result (λ e. e ≡ ResolveFault.NoMemory) }
+{
+    Ok(copy(alloc, value)?)
+}
+
 // The value, which is a base of an object with this body if it stands in one.
 #[cycle(resolve)]
 fn resolve_value(
@@ -159,12 +170,15 @@ fn resolve_value(
     ensures { Resolves result (resolving_of classes.now value.now (body_bases around.now)) }
 {
     match value {
-        Value::Int(n) => Ok(Value::Int(*n)),
-        Value::Bits32(n) => Ok(Value::Bits32(*n)),
-        Value::Bits64(n) => Ok(Value::Bits64(*n)),
-        Value::Bool(b) => Ok(Value::Bool(*b)),
-        Value::Text(text) => Ok(Value::Text(text.copy()?)),
-        Value::List(items) => Ok(Value::List(resolve_items(alloc, classes, items.as_slice())?)),
+        Value::Int(_)
+        | Value::Bits32(_)
+        | Value::Bits64(_)
+        | Value::Bool(_)
+        | Value::Text(_)
+        | Value::Null
+        | Value::Back(_)
+        | Value::Opaque { .. } => copied(alloc, value),
+        Value::List(items) => resolve_list(alloc, classes, items.as_slice()),
         Value::Object {
             class,
             version,
@@ -177,19 +191,45 @@ fn resolve_value(
             *version,
             parts.as_slice(),
         ),
-        Value::Pointed { label, object } => {
-            let object = resolve_value(alloc, classes, &None, object.get())?;
-            Ok(Value::Pointed {
-                label: *label,
-                object: Boxed::new(alloc, object)?,
-            })
-        }
-        Value::Null => Ok(Value::Null),
-        Value::Back(label) => Ok(Value::Back(*label)),
-        Value::Opaque { class, length } => Ok(Value::Opaque {
-            class: class.copy()?,
-            length: *length,
-        }),
+        Value::Pointed { label, object } => resolve_pointed(alloc, classes, *label, object.get()),
+    }
+}
+
+#[cycle(resolve)]
+fn resolve_list(alloc: Global, classes: &Classes, items: &[Value]) -> Result<Value, ResolveFault>
+    ensures { let found = each_resolved [] (map (resolving_of classes.now) items.now) in
+        Resolves result (option_map Items found) }
+{
+    match resolve_items(alloc, classes, items) {
+        Ok(items) => Ok(Value::List(items)),
+        Err(fault) => Err(fault),
+    }
+}
+
+// A pointer to the object of this label, which begins here.
+fn pointed(alloc: Global, label: u32, object: Value) -> Result<Value, ResolveFault>
+    ensures ok { IfOk result (λ v. v ≡ Pointed label object) }
+    ensures err { IfErr result (λ e. e ≡ ResolveFault.NoMemory) }
+{
+    Ok(Value::Pointed {
+        label,
+        object: Boxed::new(alloc, object)?,
+    })
+}
+
+#[cycle(resolve)]
+fn resolve_pointed(
+    alloc: Global,
+    classes: &Classes,
+    label: u32,
+    object: &Value,
+) -> Result<Value, ResolveFault>
+    ensures { let found = resolving_of classes.now object.now [] in
+        Resolves result (option_map (Pointed label) found) }
+{
+    match resolve_value(alloc, classes, &None, object) {
+        Ok(object) => pointed(alloc, label, object),
+        Err(fault) => Err(fault),
     }
 }
 
@@ -210,6 +250,24 @@ fn resolve_object(
     resolve_in_version(alloc, classes, class, version, parts)
 }
 
+// An object of these parts.
+fn object_with(
+    alloc: Global,
+    class: &[u8],
+    version: i32,
+    parts: Parts,
+) -> Result<Value, ResolveFault>
+    ensures ok { IfOk result (λ v. v ≡ Object class.now version parts) }
+    ensures err { IfErr result (λ e. e ≡ ResolveFault.NoMemory) }
+{
+    let class = Name::from_slice(alloc, class)?;
+    Ok(Value::Object {
+        class,
+        version,
+        parts,
+    })
+}
+
 // The object of the class in this version.
 #[cycle(resolve)]
 fn resolve_in_version(
@@ -223,12 +281,10 @@ fn resolve_in_version(
         Resolves result (object_resolved classes.now class.now within version) }
 {
     let body = headed_body(classes, class, version);
-    let parts = resolve_parts(alloc, classes, &body, parts)?;
-    Ok(Value::Object {
-        class: Name::from_slice(alloc, class)?,
-        version,
-        parts,
-    })
+    match resolve_parts(alloc, classes, &body, parts) {
+        Ok(parts) => object_with(alloc, class, version, parts),
+        Err(fault) => Err(fault),
+    }
 }
 
 #[cycle(resolve)]
@@ -260,6 +316,32 @@ fn resolve_parts(
     Ok(resolved)
 }
 
+// The value of a part of an object with this body. Where the part has no name it is a base.
+#[cycle(resolve)]
+fn resolve_named(
+    alloc: Global,
+    classes: &Classes,
+    around: &Option<Body>,
+    part: &Part,
+) -> Result<Value, ResolveFault>
+    ensures { let bases = if length part.now.name == 0 then body_bases around.now else [] in
+        Resolves result (resolving_of classes.now part.now.value bases) }
+{
+    if part.name.len() == 0 {
+        resolve_value(alloc, classes, around, &part.value)
+    } else {
+        resolve_value(alloc, classes, &None, &part.value)
+    }
+}
+
+fn part_with(name: &Name, value: Value) -> Result<Part, ResolveFault>
+    ensures ok { IfOk result (λ p. p ≡ part name.now value) }
+    ensures err { IfErr result (λ e. e ≡ ResolveFault.NoMemory) }
+{
+    let name = name.copy()?;
+    Ok(Part { name, value })
+}
+
 #[cycle(resolve)]
 fn resolve_part(
     alloc: Global,
@@ -269,15 +351,10 @@ fn resolve_part(
 ) -> Result<Part, ResolveFault>
     ensures { Resolves result (resolving_of_part classes.now part.now (body_bases around.now)) }
 {
-    let value = if part.name.len() == 0 {
-        resolve_value(alloc, classes, around, &part.value)?
-    } else {
-        resolve_value(alloc, classes, &None, &part.value)?
-    };
-    Ok(Part {
-        name: part.name.copy()?,
-        value,
-    })
+    match resolve_named(alloc, classes, around, part) {
+        Ok(value) => part_with(&part.name, value),
+        Err(fault) => Err(fault),
+    }
 }
 
 /// The value with a version in each object. One of version 0 gets the newest version in which its class is declared, or

@@ -16,7 +16,7 @@ mod write;
 
 pub use builtin::write_builtin;
 pub use laws::small_builtins_are_alike;
-pub use measure::{Total, text_length};
+pub use measure::Total;
 pub use numbers::{write_bool, write_prim};
 pub use sink::Sink;
 pub use write::{write_object, written_length};

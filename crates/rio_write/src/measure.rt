@@ -1,9 +1,8 @@
 //! How many bytes are written, counted without writing them.
-ghost use Rattle.std.specs.Prelude.{◌≡◌, ◌+◌, ◌^◌, ◌<◌, ℕ, List, length, false};
-ghost use Rattle.rio_num.specs.Text.{text_bytes};
+ghost use Rattle.std.specs.Prelude.{◌≡◌, ◌+◌, ◌<◌, false};
 
 use crate::sink::Sink;
-use rio_num::{Names, NoMemory};
+use rio_num::{Names, NoMemory, text_length};
 
 /// The greatest length that is told.
 const LIMIT: u64 = 16_777_216;
@@ -95,12 +94,4 @@ impl Sink for Total {
     }
 
     fn close(&mut self, _begun: ()) {}
-}
-
-/// How many bytes a text has in a file: those of its length, and its characters.
-pub fn text_length(text: &[u8]) -> u64
-    ensures { result ≡ length (text_bytes text.now) }
-{
-    let len = text.len() as u64;
-    if len < 255 { len + 1 } else { len + 5 }
 }

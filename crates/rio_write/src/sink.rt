@@ -1,5 +1,5 @@
 //! What is written goes into a sink: the writer of objects takes the bytes, and a `Total` counts them.
-ghost use Rattle.std.specs.Prelude.{◌<◌, ◌^◌, ℕ, List, [], ◌∷◌, length, Bool, IsTrue, true};
+ghost use Rattle.std.specs.Prelude.{◌<◌, ◌^◌, ℕ, List, length, Bool, IsTrue, true};
 ghost use Rattle.byteorder.specs.Endian.{big_bytes};
 ghost use Rattle.rio_buffer.specs.Writer.{WriterState, begun, begun_pointer};
 ghost use Rattle.rio_format.specs.Written.{reference_bytes};

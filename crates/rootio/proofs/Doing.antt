@@ -1,20 +1,23 @@
 -- A run's commands, one after the other.
-use Rattle.std.proofs.Common.{◌≡◌, inl, inr, ℕ, suc, ◌+◌, ◌<◌, ◌≤◌, false, List, ◌∷◌, ◌++◌, length, take, drop, get_or, Some, Result, Ok, Err, subst, sym, refl, ap, ◌∙◌, arith, append_assoc}
-use Rattle.std.proofs.{lemmas.List.{append-nil, drop-drop, get_or_default, take_all}, lemmas.Option.{slice_get-get_or}, Math.Seq.{drop-cons}}
-use Rattle.std.specs.Result.{OnOk}
+use Rattle.std.proofs.Common.{◌≡◌, inl, inr, ℕ, suc, ◌+◌, ◌<◌, ◌≤◌, true, false, List, [], ◌∷◌, ◌++◌, length, take, drop, get_or, Option, None, Some, Result, Ok, Err, subst, sym, refl, ap, ◌∙◌, arith, append_assoc}
+use Rattle.std.proofs.{lemmas.List.{append-nil, drop-drop, drop_all, get_or_default, take_all}, lemmas.Option.{same_Some, slice_get-get_or}, Math.Seq.{drop-cons}}
+use Rattle.std.specs.{List.{list_all}, Result.{OnOk}}
 use Rattle.rio_host.specs.{Host.{Any, Becomes, Elapses, IsLawful, View}, OnlyReads.{Grown}}
 use Rattle.rio_host.proofs.{Moments.{elapses_join}, PiecesLaws.{grown_join}}
-use Rattle.rio_chain.specs.declared.segment.Segment.{Segment}
+use Rattle.rio_chain.specs.{Chains.{HasChain}, Segments.{IsChain, Link}, Stops.{KeepsFront}}
+use Rattle.rio_chain.proofs.OneChain.{chain_one}
 use Rattle.rio_machine.specs.{State.{State}, declared.command.Command.{Command, TheVariants.{Ls}}, declared.command.Outcome.{Outcome}}
 use Rattle.rio_step.proofs.RunLaws.{runs_begin_alike}
 use Rattle.rio_step.specs.{ReplyText.{text_of}, Runs.{first_mark, said_of, saved_of, state_after}, Step.{Stepped, outcome_of, step}}
 use Rattle.rio_step.specs.Costs.{HasFileRoom, cost_of}
 use Rattle.rio_state.specs.Left.{IsLeftAs}
 use Rattle.rio_session.specs.{Behind.{SaysPart}, Causes.{IsCloseCause, IsSaid, IsSessionCause, NoCountRose, SaysNothing}}
-use Rattle.rio_session.specs.Marks.{mark_of_command, marks_of_run, segments_behind}
+use Rattle.rio_effect.specs.FileRuns.{FileRun, FileStep, IsRunOf, file_run, file_step, is_told, marks_in}
+use Rattle.rio_effect.proofs.FileRunLaws.{runs_are_told, runs_have_parts}
+use Rattle.rio_session.specs.FileSteps.{IsStepTold, RecordsBecome}
 use Rattle.rio_session.specs.Session.{IsOpenAs, IsReady, LacksRoomIfFull, LeavesOpenAs, SessionState, StandsFor, Steps, Went, next_of, with_cost}
 use Rattle.rio_session.specs.declared.fault.SessionFault.{SessionFault, TheVariants.{HostFault, SayFault, NoMemory}}
-use Rattle.rio_session.proofs.Spoken.{grows_none}
+use Rattle.rio_session.proofs.{Opened.{keeps_own}, Spoken.{grows_none}}
 use Rattle.rootio.specs.{Headline.{IsStopOf, SaidFindRoom, ScriptRun, replies}, Script.{HasDone, session_run}, Writing.{LeavesOpen, StandsUnsaid}}
 use Rattle.rootio.proofs.{Unclosed.{steps_open}, Untouched.{any_join, becomes_same, elapses_none}}
 use Rattle.rootio.proofs.Room.{CostsSo, all_find_room, costs_more, no_costs, room_at_fault}
@@ -22,64 +25,88 @@ use Rattle.rootio.proofs.RunStops.{IsNext, behind, behind_next, prefix_at, repli
 
 -- ---- marks
 
--- what is left of the marks belongs to what is left of the commands
-pub record MarksLeft (name : List ℕ) (segments : List Segment) (r : ScriptRun) (k : ℕ) : Type 0 where
-  pub are : drop k r.marks ≡ marks_of_run name segments (behind r k) (drop k r.commands)
+-- What is left of the marks belongs to what is left of the commands, on a file of these records, and what is left of the run ends with
+-- the last records.
+pub record MarksLeft (datime : ℕ) (links last : List Link) (r : ScriptRun) (k : ℕ) : Type 0 where
+  pub run : FileRun
+  pub told : file_run datime links (behind r k) (drop k r.commands) ≡ Some run
+  pub are : drop k r.marks ≡ run.marks
+  pub ends : run.links ≡ last
 
 commands_left : (r : ScriptRun) (k : ℕ) (c : Command) → IsNext r k c → drop k r.commands ≡ c ∷ drop (k + 1) r.commands
 commands_left r k c next =
     let e : suc k ≡ k + 1 = omega arith in
     drop-cons r.commands k Ls next.within ∙ ap (λ x. x ∷ drop (suc k) r.commands) next.is ∙ ap (λ n. c ∷ drop n r.commands) e
 
-first_marked : (name : List ℕ) (segments : List Segment) (m : State) (c : Command) (cs : List Command)
-    → first_mark (marks_of_run name segments m (c ∷ cs)) ≡ mark_of_command name segments m c
-unfolding marks_of_run
-first_marked name segments m c cs = refl
+module _ (datime : ℕ) (links last : List Link) (r : ScriptRun) (k : ℕ) (c : Command) (left : MarksLeft datime links last r k) (next : IsNext r k c) where
+  pub parts : IsRunOf datime links (behind r k) c (drop (k + 1) r.commands) left.run
+  parts = runs_have_parts datime links (behind r k) c (drop (k + 1) r.commands) left.run
+      (ap (file_run datime links (behind r k)) (sym (commands_left r k c next)) ∙ left.told)
 
-later_marked : (name : List ℕ) (segments : List Segment) (m : State) (c : Command) (cs : List Command)
-    → drop 1 (marks_of_run name segments m (c ∷ cs)) ≡ marks_of_run name (segments_behind name segments m c) (step m c (mark_of_command name segments m c)).state cs
-unfolding marks_of_run
-later_marked name segments m c cs = refl
+  marks_are : drop k r.marks ≡ parts.first.mark ∷ parts.later.marks
+  marks_are = left.are ∙ ap (λ (x : FileRun). x.marks) parts.run_is
 
-module _ (name : List ℕ) (segments : List Segment) (r : ScriptRun) (k : ℕ) (c : Command) (left : MarksLeft name segments r k) (next : IsNext r k c) where
-  marks_are : drop k r.marks ≡ marks_of_run name segments (behind r k) (c ∷ drop (k + 1) r.commands)
-  marks_are = left.are ∙ ap (λ cs. marks_of_run name segments (behind r k) cs) (commands_left r k c next)
+  -- the next step is that of the file's records
+  pub step_is : step_at r k c ≡ step (behind r k) c parts.first.mark
+  step_is = ap (λ mark. step (behind r k) c mark) (ap first_mark marks_are)
 
-  mark_is : first_mark (drop k r.marks) ≡ mark_of_command name segments (behind r k) c
-  mark_is = ap first_mark marks_are ∙ first_marked name segments (behind r k) c (drop (k + 1) r.commands)
-
-  -- the next step is that of the rule of marks
-  pub step_is : step_at r k c ≡ step (behind r k) c (mark_of_command name segments (behind r k) c)
-  step_is = ap (λ mark. step (behind r k) c mark) mark_is
-
-  pub marks_next : MarksLeft name (segments_behind name segments (behind r k) c) r (k + 1)
+  pub marks_next : MarksLeft datime parts.first.links last r (k + 1)
   marks_next = record {
-    are =
-        sym (drop-drop 1 k r.marks)
-        ∙ ap (drop 1) marks_are
-        ∙ later_marked name segments (behind r k) c (drop (k + 1) r.commands)
-        ∙ ap (λ m. marks_of_run name (segments_behind name segments (behind r k) c) m (drop (k + 1) r.commands))
-        (ap (λ (next : Stepped). next.state) (sym step_is) ∙ sym (behind_next r k c next));
+    run = parts.later;
+    told =
+        ap (λ (m : State). file_run datime parts.first.links m (drop (k + 1) r.commands)) (behind_next r k c next ∙ ap (λ (t : Stepped). t.state) step_is)
+        ∙ parts.later_is;
+    are = sym (drop-drop 1 k r.marks) ∙ ap (drop 1) marks_are;
+    ends = ap (λ (x : FileRun). x.links) (sym parts.run_is) ∙ left.ends;
   }
+
+  -- the step that the session tells
+  pub first_is : (t : FileStep) → file_step datime links (behind r k) c ≡ Some t → parts.first ≡ t
+  first_is t told = same_Some parts.first t (sym parts.first_is ∙ told)
+
+-- the records of a file, after a command
+pub links_after : (old new : View) (s s1 : SessionState) (m m1 : State) (c : Command) (text text1 : List ℕ) (stands : StandsFor old s m text) (later : StandsFor new s1 m1 text1) → RecordsBecome old new s s1 m c
+    → (t : FileStep) → file_step s.datime stands.state.links m c ≡ Some t → t.links ≡ later.state.links
+links_after old new s s1 m m1 c text text1 stands later become t told =
+    let b = become stands.file stands.state.links stands.holds stands.state.chain in
+    let same : b.0 ≡ t = same_Some b.0 t (sym b.1 ∙ told) in
+    let file : b.2 ≡ later.file = same_Some b.2 later.file (sym b.3 ∙ later.holds) in
+    let chain : IsChain t.links later.file = subst (λ (x : FileStep × List ℕ). IsChain x.0.links x.1) (λ i. (same i, file i)) b.4.chain in
+    chain_one later.file t.links later.state.links chain later.state.chain.chain
+
+-- and the front of the file
+front_after : (old new : View) (s s1 : SessionState) (m m1 : State) (c : Command) (text text1 front : List ℕ) (stands : StandsFor old s m text) (later : StandsFor new s1 m1 text1) → RecordsBecome old new s s1 m c
+    → KeepsFront front stands.file → KeepsFront front later.file
+front_after old new s s1 m m1 c text text1 front stands later become kept =
+    let b = become stands.file stands.state.links stands.holds stands.state.chain in
+    let file : b.2 ≡ later.file = same_Some b.2 later.file (sym b.3 ∙ later.holds) in
+    subst (KeepsFront front) file (λ i x low at. b.5 i x low (kept i x low at))
+
+-- where no command is left the records are the last ones
+none_left : (datime : ℕ) (links last : List Link) (m : State) (run : FileRun) (commands : List Command) → commands ≡ [] → file_run datime links m commands ≡ Some run → run.links ≡ last → links ≡ last
+unfolding file_run
+none_left datime links last m run [] none told ends = let same : ◌≡◌ {A = FileRun} (record { marks = []; links = links }) run = same_Some _ run told in ap (λ (x : FileRun). x.links) same ∙ ends
+none_left datime links last m run (c ∷ cs) none told ends = absurd cc
 
 -- ---- one command
 
 -- a run so far: the first k commands are done and their replies said
-pub record Sofar (start v : View) (first s : SessionState) (r : ScriptRun) (before : List ℕ) (k : ℕ) : Type 0 where
+pub record Sofar (start v : View) (last : List Link) (front : List ℕ) (first s : SessionState) (r : ScriptRun) (before : List ℕ) (k : ℕ) : Type 0 where
   pub stands : StandsFor v s (behind r k) (before ++ replies r k)
   pub name : s.name ≡ first.name
   pub datime : s.datime ≡ first.datime
-  pub marks : MarksLeft s.name s.segments r k
+  pub marks : MarksLeft s.datime stands.state.links last r k
+  pub kept : KeepsFront front stands.file
   pub time : (file : List ℕ) → Elapses start v (IsStopOf r file before)
   pub costs : CostsSo first s r k
 
-module _ (r : ScriptRun) (before : List ℕ) (k : ℕ) (c : Command) (next : IsNext r k c) (s : SessionState) (left : MarksLeft s.name s.segments r k) where
+module _ (r : ScriptRun) (before : List ℕ) (k : ℕ) (c : Command) (next : IsNext r k c) (s : SessionState) (links last : List Link) (left : MarksLeft s.datime links last r k) (told : IsStepTold s (behind r k) c links) where
   -- the session does the run's next step
   abbrev done : Stepped
   done = next_of s (behind r k) c
 
   done_is : step_at r k c ≡ done
-  done_is = step_is s.name s.segments r k c left next
+  done_is = step_is s.datime links last r k c left next ∙ ap (λ (t : FileStep). step (behind r k) c t.mark) (first_is s.datime links last r k c left next told.0 told.1) ∙ told.2
 
   -- what a stop leaves within the command
   pub stops_within : (file image said : List ℕ) → Steps (behind r k) done (before ++ replies r k) image said → IsStopOf r file before image said
@@ -95,19 +122,26 @@ module _ (r : ScriptRun) (before : List ℕ) (k : ℕ) (c : Command) (next : IsN
 
   -- one command more
   pub one_more : (start v new : View) (s1 : SessionState) (outcome : Outcome) → ((file : List ℕ) → Elapses start v (IsStopOf r file before))
-      → (first : SessionState) → s.name ≡ first.name → s.datime ≡ first.datime → CostsSo first s r k → Went v new s s1 (behind r k) c (before ++ replies r k) outcome → Sofar start new first s1 r before (k + 1)
-  one_more start v new s1 outcome time first named soon costs went =
+      → (first : SessionState) → s.name ≡ first.name → s.datime ≡ first.datime → CostsSo first s r k → (at : StandsFor v s (behind r k) (before ++ replies r k)) → at.state.links ≡ links
+      → (front : List ℕ) → KeepsFront front at.file → RecordsBecome v new s s1 (behind r k) c → Went v new s s1 (behind r k) c (before ++ replies r k) outcome → Sofar start new last front first s1 r before (k + 1)
+  one_more start v new s1 outcome time first named soon costs at links_are front kept become went =
       let state : done.state ≡ behind r (k + 1) = ap (λ (t : Stepped). t.state) (sym done_is) ∙ sym (behind_next r k c next) in
       let text : (before ++ replies r k) ++ text_of done.reply ≡ before ++ replies r (k + 1) =
       append_assoc before (replies r k) (text_of done.reply)
       ∙ ap (λ (t : Stepped). before ++ (replies r k ++ text_of t.reply)) (sym done_is)
       ∙ ap (λ l. before ++ l) (sym (replies_next r k c next)) in
+      let later : StandsFor new s1 (behind r (k + 1)) (before ++ replies r (k + 1)) =
+      subst (λ l. StandsFor new s1 (behind r (k + 1)) l) text (subst (λ m. StandsFor new s1 m ((before ++ replies r k) ++ text_of done.reply)) state went.stands) in
+      let first_there = parts s.datime links last r k c left next in
+      let same_links : first_there.first.links ≡ later.state.links =
+      links_after v new s s1 (behind r k) (behind r (k + 1)) c (before ++ replies r k) (before ++ replies r (k + 1)) at later become first_there.first
+      (ap (λ (x : List Link). file_step s.datime x (behind r k) c) links_are ∙ first_there.first_is) in
       record {
-        stands = subst (λ l. StandsFor new s1 (behind r (k + 1)) l) text (subst (λ m. StandsFor new s1 m ((before ++ replies r k) ++ text_of done.reply)) state went.stands);
+        stands = later;
         name = went.follows.name ∙ named;
         datime = went.follows.datime ∙ soon;
-        marks = subst (λ name. MarksLeft name s1.segments r (k + 1)) (sym went.follows.name)
-            (subst (λ segments. MarksLeft s.name segments r (k + 1)) (sym went.follows.segments) (marks_next s.name s.segments r k c left next));
+        marks = subst (λ (x : ℕ × List Link). MarksLeft x.0 x.1 last r (k + 1)) (λ i. (sym went.follows.datime i, same_links i)) (marks_next s.datime links last r k c left next);
+        kept = front_after v new s s1 (behind r k) (behind r (k + 1)) c (before ++ replies r k) (before ++ replies r (k + 1)) front at later become kept;
         time = λ file. elapses_join (Steps (behind r k) done (before ++ replies r k)) (time file) went.time (λ i t steps. stops_within file i t steps);
         costs = costs_more first s s1 r k c next costs outcome went.follows.opened went.follows.costs
             (went.outcome_is ∙ ap (λ (t : Stepped). outcome_of t.reply) (sym done_is)) went.full;
@@ -132,6 +166,14 @@ module _ (r : ScriptRun) (before : List ℕ) (k : ℕ) (c : Command) (next : IsN
 
 -- ---- all of them
 
+-- the records after a run that is told
+pub links_in : Option FileRun → List Link
+links_in (Some r) = r.links
+links_in None = []
+
+pub last_of : SessionState → List Link → State → List Command → List Link
+last_of first links m commands = links_in (file_run first.datime links m commands)
+
 -- The first k commands are done, and nothing failed.
 pub record Doing (start v : View) (first s : SessionState) (commands : List Command) (k : ℕ) : Type 0 where
   pub ready : IsReady v s
@@ -139,32 +181,46 @@ pub record Doing (start v : View) (first s : SessionState) (commands : List Comm
   pub told : Becomes Any start.holds v.holds
   pub said : Becomes Grown start.said v.said
   pub none : NoCountRose start v
-  pub sofar : (m : State) (text : List ℕ) → StandsFor start first m text → Sofar start v first s (session_run first m commands) text k
+  pub sofar : (m : State) (text : List ℕ) (stands : StandsFor start first m text) → Sofar start v (last_of first stands.state.links m commands) stands.file first s (session_run first stands.state.links m commands) text k
+  pub all : list_all is_told commands ≡ true
 
-start_marks : (first : SessionState) (m : State) (commands : List Command) → MarksLeft first.name first.segments (session_run first m commands) 0
-unfolding state_after
-start_marks first m commands = record { are = refl }
+start_marks : (first : SessionState) (links : List Link) (m : State) (commands : List Command) → list_all is_told commands ≡ true → MarksLeft first.datime links (last_of first links m commands) (session_run first links m commands) 0
+unfolding state_after last_of links_in
+start_marks first links m commands told =
+    let r = runs_are_told first.datime links m commands told in
+    record { run = r.0; told = r.1; are = ap marks_in r.1; ends = ap links_in (sym r.1) }
 
-start_stands : (v : View) (first : SessionState) (m : State) (commands : List Command) (text : List ℕ) → StandsFor v first m text
-    → let r = session_run first m commands in StandsFor v first (behind r 0) (text ++ replies r 0)
+start_stands : (v : View) (first : SessionState) (links : List Link) (m : State) (commands : List Command) (text : List ℕ) → StandsFor v first m text
+    → let r = session_run first links m commands in StandsFor v first (behind r 0) (text ++ replies r 0)
 unfolding state_after said_of
-start_stands v first m commands text stands = subst (λ l. StandsFor v first m l) (sym (append-nil text)) stands
+start_stands v first links m commands text stands = subst (λ l. StandsFor v first m l) (sym (append-nil text)) stands
 
-pub nothing_yet : (v : View) (first : SessionState) (commands : List Command) → IsReady v first → first.failed ≡ false → Doing v v first first commands 0
-nothing_yet v first commands ready fresh = record {
+-- a host tells one file, which has one list of records
+same_links : (v : View) (s : SessionState) (m m1 : State) (text text1 : List ℕ) (a : StandsFor v s m text) (b : StandsFor v s m1 text1) → a.state.links ≡ b.state.links
+same_links v s m m1 text text1 a b =
+    let file : a.file ≡ b.file = same_Some a.file b.file (sym a.holds ∙ b.holds) in
+    chain_one b.file a.state.links b.state.links (subst (IsChain a.state.links) file a.state.chain.chain) b.state.chain.chain
+
+pub nothing_yet : (v : View) (first : SessionState) (commands : List Command) → list_all is_told commands ≡ true → IsReady v first → first.failed ≡ false → Doing v v first first commands 0
+nothing_yet v first commands all ready fresh = record {
   ready = ready;
   fresh = fresh;
   told = becomes_same v.holds;
   said = grows_none v.said v.said refl;
   none = (refl, refl);
-  sofar = λ m text stands. record {
-    stands = start_stands v first m commands text stands;
-    name = refl;
-    datime = refl;
-    marks = start_marks first m commands;
-    time = λ file. elapses_none v (IsStopOf (session_run first m commands) file text);
-    costs = no_costs first (session_run first m commands);
-  };
+  all = all;
+  sofar = λ m text stands.
+      let r = session_run first stands.state.links m commands in
+      let here = start_stands v first stands.state.links m commands text stands in
+      record {
+        stands = here;
+        name = refl;
+        datime = refl;
+        marks = subst (λ (links : List Link). MarksLeft first.datime links (last_of first stands.state.links m commands) r 0) (same_links v first m (behind r 0) text (text ++ replies r 0) stands here) (start_marks first stands.state.links m commands all);
+        kept = subst (KeepsFront stands.file) (same_Some stands.file here.file (sym stands.holds ∙ here.holds)) (keeps_own stands.file);
+        time = λ file. elapses_none v (IsStopOf r file text);
+        costs = no_costs first r;
+      };
 }
 
 next_at : (r : ScriptRun) (k : ℕ) (c : Command) → k < length r.commands → c ≡ get_or r.commands k c → IsNext r k c
@@ -173,40 +229,45 @@ next_at r k c within is = record { within = within; is = get_or_default r.comman
 module _ (start v new : View) (first s s1 : SessionState) (commands : List Command) (k : ℕ) (c : Command) (within : k < length commands) (is : c ≡ get_or commands k c)
     (doing : Doing start v first s commands k) where
   pub does_next : (outcome : Outcome) → ((m : State) (text : List ℕ) → StandsFor v s m text → Went v new s s1 m c text outcome)
+      → ((m : State) (text : List ℕ) → StandsFor v s m text → RecordsBecome v new s s1 m c)
+      → ((m : State) (text : List ℕ) (stands : StandsFor v s m text) → IsStepTold s m c stands.state.links)
       → IsReady new s1 → s1.failed ≡ false → Becomes Any v.holds new.holds → Becomes Grown v.said new.said → NoCountRose v new → Doing start new first s1 commands (k + 1)
-  does_next outcome went ready fresh told said none = record {
+  does_next outcome went become steps ready fresh told said none = record {
     ready = ready;
     fresh = fresh;
     told = any_join start.holds v.holds new.holds doing.told told;
     said = grown_join start.said v.said new.said doing.said said;
     none = (none.0 ∙ doing.none.0, none.1 ∙ doing.none.1);
+    all = doing.all;
     sofar = λ m text stands.
-        let r = session_run first m commands in
+        let r = session_run first stands.state.links m commands in
         let so = doing.sofar m text stands in
-        one_more r text k c (next_at r k c within is) s so.marks start v new s1 outcome so.time first so.name so.datime so.costs
-        (went (behind r k) (text ++ replies r k) so.stands);
+        one_more r text k c (next_at r k c within is) s so.stands.state.links (last_of first stands.state.links m commands) so.marks (steps (behind r k) (text ++ replies r k) so.stands) start v new s1 outcome so.time first so.name so.datime so.costs
+        so.stands refl stands.file so.kept (become (behind r k) (text ++ replies r k) so.stands) (went (behind r k) (text ++ replies r k) so.stands);
   }
 
   pub stops_there : ((m : State) (text : List ℕ) → StandsFor v s m text → Elapses v new (Steps m (next_of s m c) text))
-      → (file text : List ℕ) (m : State) → StandsFor start first m text → Elapses start new (IsStopOf (session_run first m commands) file text)
-  stops_there stopped file text m stands =
-      let r = session_run first m commands in
+      → ((m : State) (text : List ℕ) (stands : StandsFor v s m text) → IsStepTold s m c stands.state.links)
+      → (file text : List ℕ) (m : State) (stands : StandsFor start first m text) → Elapses start new (IsStopOf (session_run first stands.state.links m commands) file text)
+  stops_there stopped steps file text m stands =
+      let r = session_run first stands.state.links m commands in
       let so = doing.sofar m text stands in
       elapses_join (Steps (behind r k) (next_of s (behind r k) c) (text ++ replies r k)) (so.time file)
       (stopped (behind r k) (text ++ replies r k) so.stands)
-      (λ image said steps. stops_within r text k c (next_at r k c within is) s so.marks file image said steps)
+      (λ image said at. stops_within r text k c (next_at r k c within is) s so.stands.state.links (last_of first stands.state.links m commands) so.marks (steps (behind r k) (text ++ replies r k) so.stands) file image said at)
 
   -- and nothing of what was said is want of room
   pub room_there : (e : SessionFault) → (SaysNothing {X = Outcome} (Err e) → new.said ≡ v.said)
       → (IsSaid {X = Outcome} (Err e) → (m : State) (text : List ℕ) → StandsFor v s m text → LacksRoomIfFull (with_cost (cost_of m c) s) (outcome_of (next_of s m c).reply))
       → ((m : State) (text : List ℕ) → StandsFor v s m text → SaysPart new text (text_of (next_of s m c).reply))
-      → (m : State) (text : List ℕ) → StandsFor start first m text → first.costs ≡ 0 → HasFileRoom first.opened m commands (session_run first m commands).marks
-      → SaidFindRoom (session_run first m commands) text new
-  room_there e silent lacks part m text stands none room =
-      let r = session_run first m commands in
+      → ((m : State) (text : List ℕ) (stands : StandsFor v s m text) → IsStepTold s m c stands.state.links)
+      → (m : State) (text : List ℕ) (stands : StandsFor start first m text) → first.costs ≡ 0 → HasFileRoom first.opened m commands (session_run first stands.state.links m commands).marks
+      → SaidFindRoom (session_run first stands.state.links m commands) text new
+  room_there e silent lacks part steps m text stands none room =
+      let r = session_run first stands.state.links m commands in
       let so = doing.sofar m text stands in
       let next = next_at r k c within is in
-      let same : step_at r k c ≡ next_of s (behind r k) c = done_is r text k c next s so.marks in
+      let same : step_at r k c ≡ next_of s (behind r k) c = done_is r text k c next s so.stands.state.links (last_of first stands.state.links m commands) so.marks (steps (behind r k) (text ++ replies r k) so.stands) in
       room_at_fault first s r text k c next so.costs none room v new e so.stands.said silent
       (λ spoken. subst (λ (t : Stepped). LacksRoomIfFull (with_cost (cost_of (behind r k) c) s) (outcome_of t.reply)) (sym same) (lacks spoken (behind r k) (text ++ replies r k) so.stands))
       (subst (λ (t : Stepped). SaysPart new (text ++ replies r k) (text_of t.reply)) (sym same) (part (behind r k) (text ++ replies r k) so.stands))
@@ -215,30 +276,48 @@ module _ (start v new : View) (first s s1 : SessionState) (commands : List Comma
   pub unsaid_there : (e : SessionFault)
       → (◌≡◌ {A = Result Outcome SessionFault} (Err e) (Err SayFault) → (m : State) (text : List ℕ) → StandsFor v s m text → LeavesOpenAs new (next_of s m c).state)
       → ((m : State) (text : List ℕ) → StandsFor v s m text → SaysPart new text (text_of (next_of s m c).reply))
+      → ((m : State) (text : List ℕ) (stands : StandsFor v s m text) → IsStepTold s m c stands.state.links)
       → ◌≡◌ {A = Result (Unit {0}) SessionFault} (Err e) (Err SayFault)
-      → (m : State) (text : List ℕ) → StandsFor start first m text → StandsUnsaid (session_run first m commands) text new
-  unsaid_there HostFault unsaid part e m text stands = absurd cc
-  unsaid_there SayFault unsaid part e m text stands =
-      let r = session_run first m commands in
+      → (m : State) (text : List ℕ) (stands : StandsFor start first m text) → StandsUnsaid (session_run first stands.state.links m commands) text new
+  unsaid_there HostFault unsaid part steps e m text stands = absurd cc
+  unsaid_there SayFault unsaid part steps e m text stands =
+      let r = session_run first stands.state.links m commands in
       let so = doing.sofar m text stands in
-      stands_unsaid r text k c (next_at r k c within is) s so.marks new (unsaid refl (behind r k) (text ++ replies r k) so.stands) (part (behind r k) (text ++ replies r k) so.stands)
-  unsaid_there NoMemory unsaid part e m text stands = absurd cc
+      stands_unsaid r text k c (next_at r k c within is) s so.stands.state.links (last_of first stands.state.links m commands) so.marks (steps (behind r k) (text ++ replies r k) so.stands) new (unsaid refl (behind r k) (text ++ replies r k) so.stands) (part (behind r k) (text ++ replies r k) so.stands)
+  unsaid_there NoMemory unsaid part steps e m text stands = absurd cc
 
 -- a command that fails leaves the file marked as open
 pub leaves_open : (start v new : View) (first s : SessionState) (commands : List Command) (k : ℕ) (c : Command) → Doing start v first s commands k → IsLawful new
     → ((m : State) (text : List ℕ) → StandsFor v s m text → Elapses v new (Steps m (next_of s m c) text))
     → (m : State) (text : List ℕ) → StandsFor start first m text → LeavesOpen new
 leaves_open start v new first s commands k c doing law stopped m text stands =
-    let r = session_run first m commands in
+    let r = session_run first stands.state.links m commands in
     let so = doing.sofar m text stands in
     steps_open v new s (behind r k) (text ++ replies r k) doing.ready so.stands law (next_of s (behind r k) c) (stopped (behind r k) (text ++ replies r k) so.stands)
 
+last_is : (first : SessionState) (links : List Link) (m : State) (commands : List Command) (run : FileRun) → file_run first.datime links m commands ≡ Some run → last_of first links m commands ≡ run.links
+unfolding last_of links_in
+last_is first links m commands run is = ap links_in is
+
 pub all_done : (start v : View) (first s : SessionState) (commands : List Command) (k : ℕ) → length commands ≤ k → Doing start v first s commands k
-    → (m : State) (text : List ℕ) → StandsFor start first m text → HasDone (session_run first m commands) first s text v
+    → (m : State) (text : List ℕ) (stands : StandsFor start first m text) → HasDone (session_run first stands.state.links m commands) stands.state.links stands.file first s text v
 all_done start v first s commands k all doing m text stands =
-    let r = session_run first m commands in
+    let r = session_run first stands.state.links m commands in
     let so = doing.sofar m text stands in
+    let told = runs_are_told first.datime stands.state.links m commands doing.all in
+    let none : drop k commands ≡ [] = drop_all k commands all in
+    let ends : so.stands.state.links ≡ last_of first stands.state.links m commands =
+    none_left s.datime so.stands.state.links (last_of first stands.state.links m commands) (behind r k) so.marks.run (drop k commands) none so.marks.told so.marks.ends in
+    let same : so.stands.state.links ≡ told.0.links = ends ∙ last_is first stands.state.links m commands told.0 told.1 in
     record {
+      records = record {
+        run = told.0;
+        run_is = told.1;
+        now = so.stands.file;
+        holds = so.stands.holds;
+        chain = subst (λ (l : List Link). HasChain l s.segments so.stands.file) same so.stands.state.chain;
+        front = so.kept;
+      };
       stands = subst (λ (cs : List Command). StandsFor v s (state_after m cs r.marks) (text ++ said_of m cs r.marks)) (take_all k commands all) so.stands;
       name = so.name;
       datime = so.datime;

@@ -8,7 +8,7 @@ use Rattle.rio_report.specs.{declared.item.Item.{Item}, Described.{described_fil
 use Rattle.rio_report.specs.Scan.{scan_text, scanned_file}
 use Rattle.rio_close.specs.Causes.{AnyKind, IsSayCauseOf, IsTested}
 use Rattle.rio_close.specs.declared.fault.ReportFault.TheVariants.{BadFile as FileBad, NoMemory as OutOfMemory, HostFault, SayFault as NotSaid}
-use Rattle.rio_report.specs.Lists.{AnswersOf, ListingAnswer}
+use Rattle.rio_report.specs.{Lists.{AnswersOf, ListingAnswer}, PiecesCause.{IsPiecesCauseOf}}
 use Rattle.rootio.specs.{declared.status.Status.{Status, TheVariants.{BadFile}}, declared.words.Form.TheVariants.{Reads}}
 use Rattle.rootio.specs.{declared.words.Listing.{Listing, TheVariants.{Ls, Dump, Scan}}, Complete.{CanBeDone, IsComplete, IsDoneOrNoMemory, NoneRose}}
 use Rattle.rootio.specs.{Reading.{EndsListing, RefusesBroken, TellsFirstFault, TellsUnlessCut, rules_of}, Status.{status_of}}
@@ -87,7 +87,16 @@ module _ (old new : View) (status : Status) (before : Input) where
   ends_by tested list can ends (Err HostFault) is cause none = none.disk cause.0
   ends_by tested list can ends (Err NotSaid) is cause none = none.say cause.1
 
+  -- by the cause of a listing that is said in pieces
+  ends_by_pieces : (list : Listing) → CanBeDone (Reads list) old before → EndsListing list old new status
+      → (told : ListingAnswer) → status ≡ status_of told → IsPiecesCauseOf AnyKind old new told → NoneRose old new before before → IsDoneOrNoMemory (status_of told)
+  ends_by_pieces list can ends (Ok x) is cause none = tt
+  ends_by_pieces list can ends (Err (FileBad place kind)) is cause none = not_sound list can ends place kind is
+  ends_by_pieces list can ends (Err OutOfMemory) is cause none = tt
+  ends_by_pieces list can ends (Err HostFault) is cause none = none.disk cause
+  ends_by_pieces list can ends (Err NotSaid) is cause none = none.say cause.1
+
   pub ends_complete : (list : Listing) → EndsListing list old new status → IsComplete (Reads list) old new before before status
   ends_complete Ls ends can none = rw ends.1 (ends_by IsTested Ls can ends ends.0 ends.1 ends.2.cause none)
-  ends_complete (Dump item) ends can none = rw ends.1 (ends_by AnyKind (Dump item) can ends ends.0 ends.1 ends.2.cause none)
-  ends_complete (Scan tree) ends can none = rw ends.1 (ends_by AnyKind (Scan tree) can ends ends.0 ends.1 ends.2.cause none)
+  ends_complete (Dump item) ends can none = rw ends.1 (ends_by_pieces (Dump item) can ends ends.0 ends.1 ends.2.cause none)
+  ends_complete (Scan tree) ends can none = rw ends.1 (ends_by_pieces (Scan tree) can ends ends.0 ends.1 ends.2.cause none)

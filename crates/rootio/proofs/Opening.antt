@@ -1,19 +1,22 @@
 -- How a run of a script ends: where nothing is done, where the file isn't opened, and where it is.
-use Rattle.std.proofs.Common.{if◌then◌else◌, ◌≡◌, ◌⊎◌, inl, inr, ⊎_elim, ℕ, Bool, true, false, List, length, Option, Some, None, Result, Ok, Err, subst, sym, refl, ap, ◌∙◌}
-use Rattle.std.specs.Result.{OnOk}
+use Rattle.std.proofs.Common.{if◌then◌else◌, ◌≡◌, ◌⊎◌, inl, inr, ⊎_elim, ℕ, ◌+◌, Bool, true, false, List, length, Option, Some, None, Result, Ok, Err, subst, sym, refl, ap, ◌∙◌, arith}
+use Rattle.std.proofs.lemmas.Option.{same_Some}
+use Rattle.std.specs.{List.{slice_get}, Result.{OnOk}}
 use Rattle.rio_head.specs.{declared.fault.FileFault.{FileFault}, declared.fault.HeadFault.{HeadFault}, declared.reason.Reason.{Reason, TheVariants.{NotYet}}}
 use Rattle.rio_head.specs.Head.{fault_at}
 use Rattle.rio_host.specs.{Host.{Any, Becomes, Elapses, IsLawful, IsQuiet, View}, OnlyReads.{Grown, OnlyReads}}
 use Rattle.rio_host.proofs.{Moments.{elapses_as, elapses_join}, ReadsLaws.{reads_none}, PiecesLaws.{grown_join}}
 use Rattle.rio_dir.specs.Unborn.{header_fault, is_unborn}
-use Rattle.rio_chain.specs.Walks.{Told}
+use Rattle.rio_chain.specs.{Segments.{IsChain, Link}, Stops.{KeepsFront}, Walks.{Told}}
+use Rattle.rio_chain.proofs.OneChain.{chain_one}
 use Rattle.rio_machine.specs.{State.{State}, declared.command.Command.{Command}}
 use Rattle.rio_report.specs.FirstFault.{HeaderAlone}
 use Rattle.rio_cmd.specs.Built.{built_script}
 use Rattle.rio_step.specs.Costs.{HasFileRoom}
 use Rattle.rio_state.specs.{Reads.{ReadsAsState}, Reasons.{reason_at}}
-use Rattle.rio_create.specs.Creation.{LeavesUnclosed}
-use Rattle.rio_session.specs.{Closes.{IsWellClosed}, Causes.{IsNotOpened, IsOpenCause, IsSessionCause, NoCountRose, TellsWhyNot}, Marks.{marks_of_run}}
+use Rattle.rio_create.specs.{Creation.{LeavesUnclosed}, NewFile.{IsNewFile, first_links, new_file}}
+use Rattle.rio_effect.specs.FileRuns.{file_run, marks_in}
+use Rattle.rio_session.specs.{Closes.{IsWellClosed}, Causes.{IsNotOpened, IsOpenCause, IsSessionCause, NoCountRose, TellsWhyNot}}
 use Rattle.rio_session.specs.Session.{BeginsNew, SessionState, StandsFor}
 use Rattle.rio_session.specs.declared.fault.OpenFault.{OpenFault, TheVariants.{BadFile as FileBad, ReadOnly as FileReadOnly, NoMemory as NotRoomy, HostFault as NotOpened}}
 use Rattle.rio_session.specs.declared.fault.SessionFault.{SessionFault, TheVariants.{HostFault, SayFault as NotSaid, NoMemory as OutOfMemory}}
@@ -168,11 +171,31 @@ not_opened target script v0 v1 fault opens unclosed why unwritten untouched told
 
 -- ---- the file is opened
 
+-- a file that was closed behind another front with the same header
+closed_of_front : (name : List ℕ) (datime : ℕ) (later front : List ℕ) (links : List Link) (file : List ℕ) → KeepsFront front later → IsWellClosed name datime later links file
+    → IsWellClosed name datime front links file
+closed_of_front name datime later front links file keeps w = record {
+  kept = w.kept;
+  name_is = w.name_is;
+  datime_is = w.datime_is;
+  records = w.records;
+  made = w.made;
+  before = w.before;
+  front = λ i x low at. w.front i x low (keeps i x low at);
+  chain = w.chain;
+  head = w.head;
+  keys = w.keys;
+  info = w.info;
+  named = w.named;
+  owned = w.owned;
+  written = w.written;
+}
+
 -- a new session does the run of the words
-run_same : (target : TargetFile) (script : List ℕ) (s : SessionState) (commands : List Command) (m : State)
-    → BeginsNew s target.name target.datime → commands ≡ built_script script → session_run s m commands ≡ run_of_work (Run target) script m
-run_same target script s commands m new are =
-    λ i. record { start = m; commands = are i; marks = marks_of_run (new.name_is i) (new.segments i) m (are i) }
+run_same : (target : TargetFile) (script : List ℕ) (s : SessionState) (links : List Link) (commands : List Command) (m : State)
+    → BeginsNew s target.name target.datime → links ≡ first_links target.name target.datime → commands ≡ built_script script → session_run s links m commands ≡ run_of_work (Run target) script m
+run_same target script s links commands m new first are =
+    λ i. record { start = m; commands = are i; marks = marks_in (file_run (new.datime_is i) (first i) m (are i)) }
 
 ended_well : (r : Result (Unit {0}) SessionFault) (P : Type 0) → OnOk r P → status_of_session r ≡ Done → P
 ended_well (Ok x) P p is = p
@@ -217,20 +240,41 @@ module _ (target : TargetFile) (script : List ℕ) (v0 v1 v2 : View) (s : Sessio
     (stands : (file text : List ℕ) (m : State) → v0.holds ≡ Some file → v0.said ≡ Some text → ReadsAsState file m → StandsFor v1 s m text)
     (new : BeginsNew s target.name target.datime) (why : Told v0 (λ file. TellsWhyNot file {X = SessionState} (Ok s)))
     (told01 : Becomes Any v0.holds v1.holds) (said01 : v1.said ≡ v0.said) (none : NoCountRose v0 v1) (are : commands ≡ built_script script)
-    (stops : (file text : List ℕ) (m : State) → StandsFor v1 s m text → Elapses v1 v2 (IsStopOf (session_run s m commands) file text))
-    (done : OnOk r ((m : State) (text : List ℕ) → StandsFor v1 s m text → HasClosed (session_run s m commands) s text v2))
-    (unclosed : (m : State) (text : List ℕ) → StandsFor v1 s m text → StaysOpenBy (session_run s m commands) text v2 r)
+    (made : (file : List ℕ) → v0.holds ≡ Some file → (new : List ℕ) × (v1.holds ≡ Some new) × IsNewFile target.name target.datime new)
+    (stops : (file text : List ℕ) (m : State) (st : StandsFor v1 s m text) → Elapses v1 v2 (IsStopOf (session_run s st.state.links m commands) file text))
+    (done : OnOk r ((m : State) (text : List ℕ) (st : StandsFor v1 s m text) → HasClosed (session_run s st.state.links m commands) st.state.links st.file s text v2))
+    (unclosed : (m : State) (text : List ℕ) (st : StandsFor v1 s m text) → StaysOpenBy (session_run s st.state.links m commands) text v2 r)
     (told12 : Becomes Any v1.holds v2.holds) (said12 : Becomes Grown v1.said v2.said)
-    (room12 : (m : State) (text : List ℕ) → StandsFor v1 s m text → s.costs ≡ 0 → HasFileRoom s.opened m commands (session_run s m commands).marks → SaidFindRoom (session_run s m commands) text v2)
+    (room12 : (m : State) (text : List ℕ) (st : StandsFor v1 s m text) → s.costs ≡ 0 → HasFileRoom s.opened m commands (session_run s st.state.links m commands).marks → SaidFindRoom (session_run s st.state.links m commands) text v2)
     (cause : IsSessionCause v1 v2 r) (law : IsLawful v0) (law' : IsLawful v2) where
+  -- the file begins with the first record of a new one
+  first_there : (file text : List ℕ) (m : State) (begins : BeginsRun v0 file text m) → (stands file text m begins.holds begins.said begins.reads).state.links ≡ first_links target.name target.datime
+  first_there file text m begins =
+      let st = stands file text m begins.holds begins.said begins.reads in
+      let new_file = made file begins.holds in
+      let same : st.file ≡ new_file.0 = same_Some st.file new_file.0 (sym st.holds ∙ new_file.1) in
+      chain_one new_file.0 st.state.links new_file.2.links (subst (IsChain st.state.links) same st.state.chain.chain) new_file.2.chain.chain ∙ new_file.2.links_are
+
+  -- and with the header of a new one
+  front_there : (file text : List ℕ) (m : State) (begins : BeginsRun v0 file text m) → KeepsFront (new_file target.name target.datime) (stands file text m begins.holds begins.said begins.reads).file
+  front_there file text m begins =
+      let st = stands file text m begins.holds begins.said begins.reads in
+      let made_file = made file begins.holds in
+      let same : made_file.0 ≡ st.file = same_Some made_file.0 st.file (sym made_file.1 ∙ st.holds) in
+      subst (KeepsFront (new_file target.name target.datime)) same (λ i x low at. let e : i ≡ 0 + i = omega arith in ap (slice_get made_file.0) e ∙ made_file.2.bytes i x at)
+
+  its_run : (file text : List ℕ) (m : State) (begins : BeginsRun v0 file text m) → session_run s (stands file text m begins.holds begins.said begins.reads).state.links m commands ≡ run_of_work (Run target) script m
+  its_run file text m begins = run_same target script s (stands file text m begins.holds begins.said begins.reads).state.links commands m new (first_there file text m begins) are
+
   does_all : (file text : List ℕ) (m : State) → BeginsRun v0 file text m → Elapses v0 v2 (IsStopOf (run_of_work (Run target) script m) file text)
   does_all file text m begins =
       let P = IsStopOf (run_of_work (Run target) script m) file text in
-      let same = run_same target script s commands m new are in
+      let st = stands file text m begins.holds begins.said begins.reads in
+      let same = its_run file text m begins in
       let first = elapses_as P (OpensAs file text m) (opens file text m begins.quiet begins.holds begins.said begins.reads)
       (λ image said left. stop_opening (run_of_work (Run target) script m) file text image said begins.reads left) in
       let later = stops file text m (stands file text m begins.holds begins.said begins.reads) in
-      elapses_join (IsStopOf (session_run s m commands) file text) first later
+      elapses_join (IsStopOf (session_run s st.state.links m commands) file text) first later
       (λ image said stop. subst (λ (run : ScriptRun). IsStopOf run file text image said) same stop)
 
   opened_empty : (file text : List ℕ) (m : State) → BeginsRun v0 file text m → s.opened ≡ opening_length file
@@ -243,25 +287,33 @@ module _ (target : TargetFile) (script : List ℕ) (v0 v1 v2 : View) (s : Sessio
         said_front v0 v2 file text m (run_of_work (Run target) script m) law law' begins (does_all file text m begins) (any_join v0.holds v1.holds v2.holds told01 told12)
         (grown_join v0.said v1.said v2.said (grows_none v0.said v1.said said01) said12);
     room = λ file text m begins.
-        subst (λ (run : ScriptRun). HasFileRoom (opening_length file) m run.commands run.marks → SaidFindRoom run text v2) (run_same target script s commands m new are)
+        subst (λ (run : ScriptRun). HasFileRoom (opening_length file) m run.commands run.marks → SaidFindRoom run text v2) (its_run file text m begins)
         (λ room.
         room12 m text (stands file text m begins.holds begins.said begins.reads) new.costs
-        (subst (λ n. HasFileRoom n m commands (session_run s m commands).marks) (sym (opened_empty file text m begins)) room));
+        (subst (λ n. HasFileRoom n m commands (session_run s (stands file text m begins.holds begins.said begins.reads).state.links m commands).marks) (sym (opened_empty file text m begins)) room));
     done = λ file text m begins is.
         let closed = ended_well r _ done is m text (stands file text m begins.holds begins.said begins.reads) in
         let empty : s.opened ≡ opening_length file = opened_empty file text m begins in
-        subst (λ (run : ScriptRun). IsRunDone run file text v2) (run_same target script s commands m new are)
+        subst (λ (run : ScriptRun). IsRunDone run file text v2) (its_run file text m begins)
         (record {
+          quiet = closed.quiet;
           said = closed.said;
           left = closed.left;
-          room = λ room. closed.room new.costs (subst (λ n. HasFileRoom n m commands (session_run s m commands).marks) (sym empty) room);
+          room = λ room. closed.room new.costs (subst (λ n. HasFileRoom n m commands (session_run s (stands file text m begins.holds begins.said begins.reads).state.links m commands).marks) (sym empty) room);
         });
-    written = λ file text m begins is image told left.
-        let closed = ended_well r _ done is m text (stands file text m begins.holds begins.said begins.reads) in
-        subst (λ (x : List ℕ × ℕ). IsWellClosed x.0 x.1 image) (λ i. (new.name_is i, new.datime_is i)) (closed.written image told left);
+    written = λ file text m begins is.
+        let st = stands file text m begins.holds begins.said begins.reads in
+        let closed = ended_well r _ done is m text st in
+        record {
+          run = closed.run;
+          run_is = sym (λ i. file_run (new.datime_is i) (first_there file text m begins i) m (are i)) ∙ closed.run_is;
+          left = λ image told left.
+              subst (λ (x : List ℕ × ℕ). IsWellClosed x.0 x.1 (new_file target.name target.datime) closed.run.links image) (λ i. (new.name_is i, new.datime_is i))
+              (closed_of_front s.name s.datime st.file (new_file target.name target.datime) closed.run.links image (front_there file text m begins) (closed.written image told left));
+        };
     unclosed = λ file text m begins.
-        subst (λ (run : ScriptRun). EndsUnclosed run text v0 v2 (status_of_session r)) (run_same target script s commands m new are)
-        (ends_unclosed (session_run s m commands) text v0 v2 r (unclosed m text (stands file text m begins.holds begins.said begins.reads)));
+        subst (λ (run : ScriptRun). EndsUnclosed run text v0 v2 (status_of_session r)) (its_run file text m begins)
+        (ends_unclosed (session_run s (stands file text m begins.holds begins.said begins.reads).state.links m commands) text v0 v2 r (unclosed m text (stands file text m begins.holds begins.said begins.reads)));
     told = any_join v0.holds v1.holds v2.holds told01 told12;
     faults = λ place kind is. absurd (not_bad r place kind is);
     broken = λ fault file here e.

@@ -7,7 +7,7 @@ use Rattle.rio_host.proofs.{Images.{becomes_some}, ReadsLaws.{reads_none}}
 use Rattle.rio_state.specs.Reasons.{ReasonAt}
 use Rattle.rootio.specs.{Causes.{IsCause, NoInputFault}, Headline.{IsRunDone, IsStopOf, SaidFindRoom, ScriptRun, all_replies, opening_length}}
 use Rattle.rootio.specs.{Input.{IsPastInput, ReadsAll, RefusesTooLong, TakenAll, TellsTooLong, status_of_input}, Reading.{TellsUnlessCut}}
-use Rattle.rootio.specs.{Script.{IsFileCause, RunsScript, WorksOn}, Target.{TargetFile}, Writing.{EndsUnclosed, RefusesFile, TellsReasonUnlessCut, run_of_work}}
+use Rattle.rootio.specs.{Script.{IsFileCause, RunsScript, WorksOn}, Target.{TargetFile}, Writing.{EndsUnclosed, LeavesRun, RefusesFile, TellsReasonUnlessCut, run_of_work}}
 use Rattle.rootio.specs.declared.input.InputError.{InputError, TheVariants.{Fault, NoMemory as OutOfMemory, TooLong}}
 use Rattle.rootio.specs.declared.status.Status.{Status, TheVariants.{Done, Usage, BadFile, DiskFault, InputFault, NoMemory, InputTooLong, ReadOnly, SayFault}}
 use Rattle.rootio.specs.{declared.words.Form.TheVariants.{Writes}, declared.words.Work.{Work, TheVariants.{Run}}}
@@ -38,6 +38,7 @@ untouched work v before after status is unclosed too_long limited cause = record
       room = λ file text input m begins told room. silent_room (run_of_work work input m) text v begins.said;
       done = λ file text input m begins told ended. absurd (is.done ended);
       written = λ file text m begins ended. absurd (is.done ended);
+      records = λ file text input m begins told ended. absurd (is.done ended);
       unclosed = λ file text input m begins told. unclosed (run_of_work work input m) text;
       input = λ input told past. absurd (is.past past);
       order = λ input told. inr (reads_none v, refl);
@@ -103,7 +104,10 @@ with_input target old new before after text status read ran =
           done = λ file said input m begins here ended.
               let all : input ≡ text.bytes = (told input here).2.0 in
               subst (λ (l : List ℕ). IsRunDone (run_of_work (Run target) l m) file said new) (sym all) (ran.done file said m begins ended);
-          written = ran.written;
+          written = λ file said m begins ended. let w = ran.written file said m begins ended in (w.run.links, w.left);
+          records = λ file said input m begins here ended.
+              let all : input ≡ text.bytes = (told input here).2.0 in
+              subst (λ (l : List ℕ). LeavesRun (Run target) l m new) (sym all) (ran.written file said m begins ended);
           unclosed = λ file said input m begins here.
               let all : input ≡ text.bytes = (told input here).2.0 in
               subst (λ (l : List ℕ). EndsUnclosed (run_of_work (Run target) l m) said old new status) (sym all) (ran.unclosed file said m begins);

@@ -3,7 +3,7 @@
 -- put, delete and save whose reply had been said; a run that ends well says exactly the model's replies and leaves the whole
 -- script's state.
 use Rattle.std.specs.Prelude.{◌≡◌, ◌<◌, ◌≤◌, ℕ, ◌+◌, List, ◌++◌, length, take, drop, slice_get, Some, if◌then◌else◌}
-use Rattle.rio_host.specs.Host.{Leaves, View}
+use Rattle.rio_host.specs.Host.{IsQuiet, Leaves, View}
 use Rattle.rio_dir.specs.Unborn.{is_unborn}
 use Rattle.rio_machine.specs.{State.{State}, declared.command.Command.{Command}, declared.refusal.Refusal.TheVariants.{Full}}
 use Rattle.rio_step.specs.{Costs.{HasFileRoom}, Runs.{Marks, closed_of, first_step, said_of, saved_of, state_after, states_of_run}, Step.{Reply, refused}}
@@ -83,9 +83,10 @@ SaidFindRoom r before new = (said : List ℕ) → new.said ≡ Some said → (k 
 abbrev pub opening_length : List ℕ → ℕ
 opening_length file = if is_unborn file then 0 else length file
 
--- All replies were said, and a stop leaves what reads as the last state, by the walk and by the key list. Where the file's length
+-- The host is quiet, all replies were said, and a stop leaves what reads as the last state, by the walk and by the key list. Where the file's length
 -- and the costs of the commands leave room for them, no reply was want of room.
 pub record IsRunDone (r : ScriptRun) (file before : List ℕ) (new : View) : Type 0 where
+  pub quiet : IsQuiet new
   pub said : new.said ≡ Some (before ++ all_replies r)
   pub left : (image said : List ℕ) → Leaves new image said → ReadsAsState image (end_state r) × ReadsClosed image (end_state r)
   pub room : HasFileRoom (opening_length file) r.start r.commands r.marks → AllFindRoom r

@@ -1,38 +1,59 @@
 -- A script on a file: how a run of it ends.
 use Rattle.std.specs.Prelude.{◌≡◌, ◌⊎◌, ℕ, List, ◌++◌, Some, Result, Ok, Err}
 use Rattle.rio_head.specs.{Head.{IsHeaderKind}, declared.reason.Reason.TheVariants.{NotYet}}
-use Rattle.rio_host.specs.{Host.{Any, Becomes, Elapses, Leaves, Rose, View}, Source.{Input}}
+use Rattle.rio_host.specs.{Host.{Any, Becomes, Elapses, IsQuiet, Leaves, Rose, View}, Source.{Input}}
 use Rattle.rio_report.specs.FirstFault.{HeaderAlone}
 use Rattle.rio_close.specs.Causes.{NoDiskFault, NoSayFault}
 use Rattle.rio_machine.specs.{State.{State}, declared.command.Command.{Command}}
 use Rattle.rio_step.specs.{Costs.{HasFileRoom}, Runs.{state_after}}
 use Rattle.rio_state.specs.Reads.{ReadsAsState, ReadsClosed}
-use Rattle.rio_session.specs.{Behind.{SaysPart}, Closes.{IsWellClosed}, Marks.{marks_of_run}, Session.{SessionState, StandsFor}}
+use Rattle.rio_chain.specs.{Chains.{HasChain}, Segments.{Link}, Stops.{KeepsFront}}
+use Rattle.rio_effect.specs.FileRuns.{FileRun, file_run, marks_in}
+use Rattle.rio_session.specs.{Behind.{SaysPart}, Closes.{IsWellClosed}, Session.{SessionState, StandsFor}}
 use Rattle.rio_session.specs.declared.fault.OpenFault.{OpenFault, TheVariants.{BadFile as FileBad, ReadOnly as FileReadOnly, NoMemory as NotRoomy, HostFault as NotOpened}}
 use Rattle.rio_session.specs.declared.fault.SessionFault.{SessionFault, TheVariants.{HostFault, SayFault as NotSaid, NoMemory as OutOfMemory}}
 use Rattle.rootio.specs.{Causes.{IsCause}, Input.{RefusesTooLong, TellsTooLong}}
 use Rattle.rootio.specs.Headline.{AllFindRoom, IsRunDone, IsStopOf, SaidFindRoom, ScriptRun, all_replies, end_state, opening_length}
 use Rattle.rootio.specs.{Reading.{RefusesBroken, TellsFirstFault}, Target.{TargetFile}}
-use Rattle.rootio.specs.Writing.{BeginsRun, EndsUnclosed, EndsWriting, LeavesOpen, RefusesReadOnly, SparesRefused, StandsUnsaid, TellsFirstReason, run_of_work}
+use Rattle.rootio.specs.Writing.{BeginsRun, EndsUnclosed, EndsWriting, LeavesOpen, LeavesRun, RefusesReadOnly, SparesRefused, StandsUnsaid, TellsFirstReason, run_of_work}
 use Rattle.rootio.specs.declared.status.Status.{Status, TheVariants.{Done, Usage, BadFile, DiskFault, InputFault, NoMemory, InputTooLong, ReadOnly, SayFault}}
 use Rattle.rootio.specs.{declared.words.Form.TheVariants.{Writes}, declared.words.Work.{Work, TheVariants.{Run}}}
 
--- the run of these commands from a session on
-abbrev pub session_run : SessionState → State → List Command → ScriptRun
-session_run s m commands = record { start = m; commands = commands; marks = marks_of_run s.name s.segments m commands }
+-- the run of these commands from a session on, whose file has these records
+abbrev pub session_run : SessionState → List Link → State → List Command → ScriptRun
+session_run s links m commands = record { start = m; commands = commands; marks = marks_in (file_run s.datime links m commands) }
 
--- All commands were done, and all replies said; where the costs leave room, none was want of room.
-pub record HasDone (r : ScriptRun) (first s : SessionState) (before : List ℕ) (new : View) : Type 0 where
+-- the run of these commands from where a session stands
+abbrev pub run_from : {v : View} {s : SessionState} {m : State} {text : List ℕ} → StandsFor v s m text → List Command → ScriptRun
+run_from {s = s} {m = m} stands commands = session_run s stands.state.links m commands
+
+-- The file has the records that the definition of runs tells of these commands, each at its place and with its bytes, and its first 100
+-- bytes are as before them.
+pub record HasRecords (datime : ℕ) (links : List Link) (file : List ℕ) (m : State) (commands : List Command) (s : SessionState) (new : View) : Type 0 where
+  pub run : FileRun
+  pub run_is : file_run datime links m commands ≡ Some run
+  pub now : List ℕ
+  pub holds : new.holds ≡ Some now
+  pub chain : HasChain run.links s.segments now
+  pub front : KeepsFront file now
+
+-- All commands were done on this file with these records, and all replies said; where the costs leave room, none was want of room.
+pub record HasDone (r : ScriptRun) (links : List Link) (file : List ℕ) (first s : SessionState) (before : List ℕ) (new : View) : Type 0 where
+  pub records : HasRecords first.datime links file r.start r.commands s new
   pub stands : StandsFor new s (state_after r.start r.commands r.marks) (before ++ all_replies r)
   pub name : s.name ≡ first.name
   pub datime : s.datime ≡ first.datime
   pub room : first.costs ≡ 0 → HasFileRoom first.opened r.start r.commands r.marks → AllFindRoom r
 
--- All commands were done, all replies said, and the file was closed, without garbage.
-pub record HasClosed (r : ScriptRun) (first : SessionState) (before : List ℕ) (new : View) : Type 0 where
+-- All commands were done on this file with these records, all replies said, and the file was closed, without garbage, with the records of
+-- the run.
+pub record HasClosed (r : ScriptRun) (links : List Link) (file : List ℕ) (first : SessionState) (before : List ℕ) (new : View) : Type 0 where
+  pub quiet : IsQuiet new
+  pub run : FileRun
+  pub run_is : file_run first.datime links r.start r.commands ≡ Some run
   pub said : new.said ≡ Some (before ++ all_replies r)
   pub left : (image said : List ℕ) → Leaves new image said → ReadsAsState image (end_state r) × ReadsClosed image (end_state r)
-  pub written : (image said : List ℕ) → Leaves new image said → IsWellClosed first.name first.datime image
+  pub written : (image said : List ℕ) → Leaves new image said → IsWellClosed first.name first.datime file run.links image
   pub room : first.costs ≡ 0 → HasFileRoom first.opened r.start r.commands r.marks → AllFindRoom r
 
 -- A session that ended without a close, as it does where it finds no memory, can't say a reply or its disk fails, leaves a file
@@ -81,7 +102,7 @@ pub record RunsScript (target : TargetFile) (script : List ℕ) (old new : View)
   pub done : (file text : List ℕ) (m : State) → BeginsRun old file text m
       → status ≡ Done → IsRunDone (run_of_work (Run target) script m) file text new
   pub written : (file text : List ℕ) (m : State) → BeginsRun old file text m
-      → status ≡ Done → (image said : List ℕ) → Leaves new image said → IsWellClosed target.name target.datime image
+      → status ≡ Done → LeavesRun (Run target) script m new
   pub unclosed : (file text : List ℕ) (m : State) → BeginsRun old file text m
       → EndsUnclosed (run_of_work (Run target) script m) text old new status
   pub told : Becomes Any old.holds new.holds

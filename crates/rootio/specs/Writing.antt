@@ -7,8 +7,10 @@ use Rattle.rio_machine.specs.{State.{State}, declared.command.Command.{Command}}
 use Rattle.rio_cmd.specs.Built.{built_script}
 use Rattle.rio_state.specs.{Left.{IsMarkedOpen}, Reads.{ReadsAsState}, Reasons.{ReasonAt, reason_at}}
 use Rattle.rio_step.specs.{Costs.{HasFileRoom}, ReplyText.{text_of}, Runs.{saved_of}}
-use Rattle.rio_create.specs.{Creation.{LeavesUnclosed}, NewFile.{first_segments}}
-use Rattle.rio_session.specs.{Behind.{SaysPart}, Closes.{IsWellClosed}, Marks.{marks_of_run}}
+use Rattle.rio_chain.specs.Segments.{Link}
+use Rattle.rio_effect.specs.FileRuns.{FileRun, file_run, marks_in}
+use Rattle.rio_create.specs.{Creation.{LeavesUnclosed}, NewFile.{first_links, new_file}}
+use Rattle.rio_session.specs.{Behind.{SaysPart}, Closes.{IsWellClosed}}
 use Rattle.rootio.specs.{Headline.{IsRunDone, IsStopOf, SaidFindRoom, ScriptRun, all_replies, opening_length, replies, reply_at, states}, Input.{IsPastInput}}
 use Rattle.rootio.specs.Target.{TargetFile}
 use Rattle.rootio.specs.declared.status.Status.{Status, TheVariants.{Done, Usage, BadFile, DiskFault, InputFault, NoMemory, InputTooLong, ReadOnly, SayFault}}
@@ -113,13 +115,28 @@ target_of (Run target) = target
 abbrev pub commands_of : Work → List ℕ → List Command
 commands_of (Run target) input = built_script input
 
+-- what they do to a new file
+abbrev pub file_run_of : Work → List ℕ → State → Option FileRun
+file_run_of work input m = let target = target_of work in file_run target.datime (first_links target.name target.datime) m (commands_of work input)
+
 -- Its run on a file that isn't made yet, or reads as this state. (A made file isn't opened yet, so no command of its run is
 -- done.)
 abbrev pub run_of_work : Work → List ℕ → State → ScriptRun
 run_of_work work input m =
-    let name = (target_of work).name in
-    let commands = commands_of work input in
-    record { start = m; commands = commands; marks = marks_of_run name (first_segments name) m commands }
+    record { start = m; commands = commands_of work input; marks = marks_in (file_run_of work input m) }
+
+-- Each file that a stop leaves now was closed under the verb's name and time, without garbage: a new file with just these records before
+-- its close.
+abbrev pub LeavesClosed : Work → List Link → View → Type 0
+LeavesClosed work links v =
+    let target = target_of work in
+    (image said : List ℕ) → Leaves v image said → IsWellClosed target.name target.datime (new_file target.name target.datime) links image
+
+-- They are the records of the run, each at its place and with its bytes.
+pub record LeavesRun (work : Work) (input : List ℕ) (m : State) (new : View) : Type 0 where
+  pub run : FileRun
+  pub run_is : file_run_of work input m ≡ Some run
+  pub left : LeavesClosed work run.links new
 
 -- nothing was written and no call looked at the file
 abbrev pub IsUntouched : View → View → Type 0
@@ -135,7 +152,8 @@ pub record BeginsRun (old : View) (file text : List ℕ) (m : State) : Type 0 wh
 
 -- Wherever it is stopped, whatever it answers, it leaves a prefix of the run. What it said is a front of all replies, and where file
 -- and commands leave room for them, none of these is want of room. Where it says that it is done it is, and each file that a stop
--- leaves then was closed under its name and time, without garbage; where it ends early it doesn't close the file. Where not all of
+-- leaves then was closed under its name and time, without garbage, with the records of the run; where it ends early it doesn't close the
+-- file. Where not all of
 -- the input was read, nothing was written and no call looked at the file, and no answer tells of the file, its disk or its text.
 pub record KeepsHeadline (work : Work) (old new : View) (before after : Input) (status : Status) : Type 0 where
   pub stops : (file text input : List ℕ) (m : State) → BeginsRun old file text m → before.remaining ≡ Some input
@@ -147,7 +165,9 @@ pub record KeepsHeadline (work : Work) (old new : View) (before after : Input) (
   pub done : (file text input : List ℕ) (m : State) → BeginsRun old file text m → before.remaining ≡ Some input
       → status ≡ Done → IsRunDone (run_of_work work input m) file text new
   pub written : (file text : List ℕ) (m : State) → BeginsRun old file text m
-      → status ≡ Done → (image said : List ℕ) → Leaves new image said → IsWellClosed (target_of work).name (target_of work).datime image
+      → status ≡ Done → (links : List Link) × LeavesClosed work links new
+  pub records : (file text input : List ℕ) (m : State) → BeginsRun old file text m → before.remaining ≡ Some input
+      → status ≡ Done → LeavesRun work input m new
   pub unclosed : (file text input : List ℕ) (m : State) → BeginsRun old file text m → before.remaining ≡ Some input
       → EndsUnclosed (run_of_work work input m) text old new status
   pub input : (input : List ℕ) → before.remaining ≡ Some input → IsPastInput status → after.remaining ≡ Some []

@@ -11,7 +11,7 @@ ghost use Rattle.rio_session.specs.Causes.{IsSessionCause};
 ghost use Rattle.rio_session.specs.Session.{IsReady, StandsFor};
 ghost use Rattle.rio_session.specs.declared.fault.SessionFault.{SessionFault as Fault};
 ghost use Rattle.rootio.specs.Headline.{IsStopOf, SaidFindRoom};
-ghost use Rattle.rootio.specs.Script.{HasClosed, HasDone, RunsScript, StaysOpenBy, session_run, status_of_open, status_of_session};
+ghost use Rattle.rootio.specs.Script.{HasClosed, HasDone, RunsScript, StaysOpenBy, run_from, status_of_open, status_of_session};
 ghost use Rattle.rootio.specs.Writing.{LeavesOpen, StandsUnsaid};
 
 use crate::status::Status;
@@ -34,25 +34,25 @@ fn do_commands<H: Host>(
     requires statable { list_all is_statable commands.now ≡ true }
     requires ready { IsReady (H.view host.old) session.old }
     ensures stops { (file text : List ℕ) (m : State)
-        → StandsFor (H.view host.old) session.old m text
+        → (stands : StandsFor (H.view host.old) session.old m text)
         → Elapses (H.view host.old) (H.view host.new)
-        (IsStopOf (session_run session.old m commands.now) file text) }
+        (IsStopOf (run_from stands commands.now) file text) }
     ensures done { OnOk result ((m : State) (text : List ℕ)
-        → StandsFor (H.view host.old) session.old m text
-        → HasDone (session_run session.old m commands.now) session.old session.new text
-        (H.view host.new)) }
+        → (stands : StandsFor (H.view host.old) session.old m text)
+        → HasDone (run_from stands commands.now) stands.state.links stands.file
+        session.old session.new text (H.view host.new)) }
     ensures unclosed { OnErr result ((m : State) (text : List ℕ)
         → StandsFor (H.view host.old) session.old m text → LeavesOpen (H.view host.new)) }
     ensures unsaid { IsErrOf result Fault.SayFault → (m : State) (text : List ℕ)
-        → StandsFor (H.view host.old) session.old m text
-        → StandsUnsaid (session_run session.old m commands.now) text (H.view host.new) }
+        → (stands : StandsFor (H.view host.old) session.old m text)
+        → StandsUnsaid (run_from stands commands.now) text (H.view host.new) }
     ensures ready { OnOk result (IsReady (H.view host.new) session.new) }
     ensures fresh { OnOk result (session.new.failed ≡ false) }
     ensures told { Becomes Any (H.view host.old).holds (H.view host.new).holds }
     ensures said { Becomes Grown (H.view host.old).said (H.view host.new).said }
     ensures room { (m : State) (text : List ℕ)
-        → StandsFor (H.view host.old) session.old m text → session.old.costs ≡ 0
-        → let r = session_run session.old m commands.now in
+        → (stands : StandsFor (H.view host.old) session.old m text) → session.old.costs ≡ 0
+        → let r = run_from stands commands.now in
         HasFileRoom session.old.opened m r.commands r.marks
         → SaidFindRoom r text (H.view host.new) }
     ensures cause { IsSessionCause (H.view host.old) (H.view host.new) result }
@@ -74,19 +74,20 @@ fn do_and_close<H: Host>(
     requires statable { list_all is_statable commands.now ≡ true }
     requires ready { IsReady (H.view host.old) session }
     ensures stops { (file text : List ℕ) (m : State)
-        → StandsFor (H.view host.old) session m text
+        → (stands : StandsFor (H.view host.old) session m text)
         → Elapses (H.view host.old) (H.view host.new)
-        (IsStopOf (session_run session m commands.now) file text) }
+        (IsStopOf (run_from stands commands.now) file text) }
     ensures done { OnOk result ((m : State) (text : List ℕ)
-        → StandsFor (H.view host.old) session m text
-        → HasClosed (session_run session m commands.now) session text (H.view host.new)) }
-    ensures unclosed { (m : State) (text : List ℕ) → StandsFor (H.view host.old) session m text
-        → StaysOpenBy (session_run session m commands.now) text (H.view host.new) result }
+        → (stands : StandsFor (H.view host.old) session m text)
+        → HasClosed (run_from stands commands.now) stands.state.links stands.file session text
+        (H.view host.new)) }
+    ensures unclosed { (m : State) (text : List ℕ) → (stands : StandsFor (H.view host.old) session m text)
+        → StaysOpenBy (run_from stands commands.now) text (H.view host.new) result }
     ensures told { Becomes Any (H.view host.old).holds (H.view host.new).holds }
     ensures said { Becomes Grown (H.view host.old).said (H.view host.new).said }
     ensures room { (m : State) (text : List ℕ)
-        → StandsFor (H.view host.old) session m text → session.costs ≡ 0
-        → let r = session_run session m commands.now in
+        → (stands : StandsFor (H.view host.old) session m text) → session.costs ≡ 0
+        → let r = run_from stands commands.now in
         HasFileRoom session.opened m r.commands r.marks
         → SaidFindRoom r text (H.view host.new) }
     ensures cause { IsSessionCause (H.view host.old) (H.view host.new) result }

@@ -1,6 +1,5 @@
 //! The top call.
 ghost use Rattle.std.specs.Prelude.{◌≡◌, ◌≤◌, ◌↔◌, Some, None, false, length};
-ghost use Rattle.std.specs.Option.{option_copied};
 ghost use Rattle.rootio.specs.Causes.{IsCause};
 ghost use Rattle.rootio.specs.Complete.{IsComplete};
 ghost use Rattle.rootio.specs.Input.{EndsWithInput, RefusesTooLong, TellsTooLong, status_of_input};

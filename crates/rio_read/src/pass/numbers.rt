@@ -1,5 +1,4 @@
 //! Passing over numbers, lists of them and texts.
-ghost use Rattle.std.specs.Prelude.{◌≡◌};
 ghost use Rattle.rio_num.specs.At.{GoesOn};
 ghost use Rattle.rio_buffer.specs.Frames.{ReadsAs};
 ghost use Rattle.rio_format.specs.Objects.{counted_values, filled, number_value, numbers, text_value};

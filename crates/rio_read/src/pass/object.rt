@@ -1,6 +1,6 @@
 //! Objects of the classes that a file describes, passed over. A call passes over an object with at most `levels` levels
 //! of objects inside.
-ghost use Rattle.std.specs.Prelude.{◌≡◌, [], pos};
+ghost use Rattle.std.specs.Prelude.{[], pos};
 ghost use Rattle.rio_num.specs.At.{GoesOn};
 ghost use Rattle.rio_buffer.specs.Frames.{ReadsAs};
 ghost use Rattle.rio_buffer.specs.Reader.{IsCounted};

@@ -1,5 +1,5 @@
 //! Passing over what has no objects inside, or a TObject alone.
-ghost use Rattle.std.specs.Prelude.{◌≡◌, codes};
+ghost use Rattle.std.specs.Prelude.{codes};
 ghost use Rattle.rio_num.specs.At.{GoesOn};
 ghost use Rattle.rio_buffer.specs.Frames.{ReadsAs};
 ghost use Rattle.rio_buffer.specs.Reader.{IsCounted};

@@ -344,27 +344,30 @@ fn rows(rt: HostRuntime) {
 
 // How many calls a run over the file of another maker makes on the file, before it says all its lines at
 // once: the length, the header, the directory record and two for each of the key list and the class list,
-// and then one for each record of an object or a tree. The compressed one isn't read.
-static CALLS: [(&[&str], u64, &str); 5] = [
-    (&["dump", "b.root"], 15, HAND),
+// and then one for each record of an object or a tree. The compressed one isn't read. And how many lines are complete where
+// one of the last of these fails: those of three classes, and of the keys before.
+static CALLS: [(&[&str], u64, &[usize], &str); 5] = [
+    (&["dump", "b.root"], 15, &[3, 4, 5, 6, 7, 8, 9, 11], HAND),
     (
         &["dump", "b.root", "s"],
         8,
+        &[],
         "s;2 TObjString#1{TObject#1{fUniqueID: 0, fBits: 0}, fString: \"ho\"}\n",
     ),
     (
         &["dump", "b.root", "T"],
         8,
+        &[],
         "T;1 fault MissingMember fEntries\n",
     ),
-    (&["dump", "b.root", "z"], 7, "z;1 compressed\n"),
-    (&["dump", "b.root", "x"], 7, "no 3 NoSuchName\n"),
+    (&["dump", "b.root", "z"], 7, &[], "z;1 compressed\n"),
+    (&["dump", "b.root", "x"], 7, &[], "no 3 NoSuchName\n"),
 ];
 
 // The first run, and the first of its calls, that is told otherwise where it fails.
 fn failing_otherwise(alloc: Global, image: &[u8]) -> Option<(&'static str, u64)> {
-    for (words, reads, text) in &CALLS {
-        if let Some(call) = cut_otherwise(alloc, words, image, *reads, text.as_bytes()) {
+    for (words, reads, lines, text) in &CALLS {
+        if let Some(call) = cut_otherwise(alloc, words, image, *reads, lines, text.as_bytes()) {
             return Some((text, call));
         }
     }

@@ -1,5 +1,4 @@
 //! A host of a large file, of which there is only what stands at its front and far behind.
-ghost use Rattle.std.specs.Prelude.{◌≡◌};
 ghost use Rattle.rio_host.specs.Host.{Rose};
 
 use super::forest::{FAR, File};

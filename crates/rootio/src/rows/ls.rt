@@ -388,7 +388,7 @@ fn cuts(rt: HostRuntime) {
 // The first call of the host that is told otherwise where it fails: five look at the file, and one says the text.
 fn failing_otherwise(alloc: Global) -> Option<u64> {
     match File::One.image(alloc, WHOLE, &[]) {
-        Ok(image) => cut_otherwise(alloc, &WORDS, image.as_slice(), 5, b"s;1 TObjString\n"),
+        Ok(image) => cut_otherwise(alloc, &WORDS, image.as_slice(), 5, &[], b"s;1 TObjString\n"),
         Err(_) => Some(0),
     }
 }

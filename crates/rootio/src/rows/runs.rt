@@ -118,11 +118,39 @@ pub(super) fn says(alloc: Global, words: &[&str], image: Bytes, end: End) -> boo
     }
 }
 
+// The first lines of a text.
+fn first_lines(text: &[u8], lines: usize) -> &[u8] {
+    let mut left = lines;
+    for (k, byte) in text.iter().enumerate() {
+        if left == 0 {
+            return &text[..k];
+        }
+        if *byte == b'\n' {
+            left -= 1;
+        }
+    }
+    text
+}
+
+// How many lines are complete where this call fails. They are given for the last calls.
+fn lines_at(reads: u64, lines: &[usize], call: u64) -> usize {
+    let first = reads.saturating_sub(lines.len() as u64);
+    if call < first {
+        return 0;
+    }
+    match lines.get((call - first) as usize) {
+        Some(n) => *n,
+        None => 0,
+    }
+}
+
 // What a run answers and says whose call of that number fails, where it makes so many calls before it says
-// all of its text at once: a say that fails says its first half.
-fn cut_short(reads: u64, call: u64, text: &[u8]) -> End {
+// all of its text at once: where one of these fails, the lines that are complete are said, and a say that fails says
+// its first half.
+fn cut_short<'a>(reads: u64, lines: &[usize], call: u64, text: &'a [u8]) -> End<'a> {
     if call < reads {
-        (Status::DiskFault, b"")
+        let complete = lines_at(reads, lines, call);
+        (Status::DiskFault, first_lines(text, complete))
     } else if call == reads {
         (Status::SayFault, &text[..text.len() / 2])
     } else {
@@ -138,16 +166,23 @@ fn is_cut_short(alloc: Global, words: &[&str], image: &[u8], call: u64, end: End
 }
 
 /// The first call of the host that is told otherwise where it fails. The run makes so many calls before
-/// it says this text at once.
+/// it says this text at once. So many of its lines are complete where one of the last of these fails.
 pub(super) fn cut_otherwise(
     alloc: Global,
     words: &[&str],
     image: &[u8],
     reads: u64,
+    lines: &[usize],
     text: &[u8],
 ) -> Option<u64> {
     for call in 0..reads.saturating_add(3) {
-        if !is_cut_short(alloc, words, image, call, cut_short(reads, call, text)) {
+        if !is_cut_short(
+            alloc,
+            words,
+            image,
+            call,
+            cut_short(reads, lines, call, text),
+        ) {
             return Some(call);
         }
     }

@@ -1,11 +1,12 @@
-use Rattle.std.proofs.{Common.{◌≡◌, ℤ, List, [], ◌∷◌, ◌++◌, drop, take, rules, Ok, ◌∙◌, sym, ap, arith}, lemmas.Int.{to_z-of_z}, lemmas.List.{length-append}}
+use Rattle.std.proofs.{Common.{◌≡◌, ℕ, ℤ, Option, List, length, [], ◌∷◌, ◌++◌, drop, take, rules, Ok, ◌∙◌, sym, ap, arith}, lemmas.Int.{to_z-of_z}, lemmas.List.{length-append, length-take}}
 use Rattle.std.proofs.lemmas.Result.{err_from_is_err_and}
 use Rattle.std.specs.Int.{w128}
 use Rattle.rio_num.specs.Meanings.{read}
 use Rattle.rio_buffer.specs.Frames.{Step}
 use Rattle.rio_machine.specs.Rows.{leaf_kind}
 use Rattle.rio_value.specs.declared.value.Value.{Value, Int}
-use Rattle.rio_entry.specs.{Entries.{counter_saying, given_count, said_count}, Leaves.{kind_layout, numbers_after, number_of_value}}
+use Rattle.rio_entry.specs.{Counting.{counter_at}, Entries.{counter_saying, given_count, said_count}, Leaves.{kind_layout, numbers_after, number_of_value}}
+use Rattle.rio_entry.proofs.Counting.{counter_there}
 use Rattle.rio_entry.proofs.LeafNumbers.{numbers_done, numbers_fail, numbers_go_on}
 use Rattle.rio_entry.proofs.check_leaves.pass_counting.Goals as goal
 
@@ -15,7 +16,9 @@ returns-in_err-value-clause-exact c = λ classes.
     let l = c.index-leaves-k.result in
     let own = take c.loop-k.k c.args.leaves.now in
     let given = to_z-of_z w128 c.given_count-given.result (search rules) ∙ c.given_count-given.ensures in
-    let counted = c.said_count-count.ensures ∙ ap (λ (n : ℤ). said_count l.dim n (numbers_after own c.as_slice.result.now [])) given in
+    let there = c.get.ensures ∙ ap (λ (cs : List (Option ℕ)). counter_at cs c.loop-k.k) c.requires ∙ counter_there c.args.leaves.now c.loop-k.k l (omega arith) c.index-leaves-k.is in
+    let long : length own ≡ length c.as_slice.result.now = omega (arith, length-take c.loop-k.k c.args.leaves.now, ap (λ (vs : List Value). length vs) c.as_slice.ensures, c.loop-k.invariant.1) in
+    let counted = c.said_count-count.ensures l.dim own long there ∙ ap (λ (n : ℤ). said_count l.dim n (numbers_after own c.as_slice.result.now [])) given in
     let count = counted ∙ ap (λ (vs : List Value). said_count l.dim (given_count (drop c.loop-k.k c.args.counts.now)) (numbers_after own vs [])) c.as_slice.ensures in
     let said = to_z-of_z w128 c.said_count-count.result (search rules) ∙ count in
     let layout = ap (λ (n : ℤ). read (number_of_value (kind_layout (leaf_kind (counter_saying l.dim n) l))) c.loop-k.reader) (sym said) in
@@ -27,7 +30,9 @@ loop-k-preserved c =
     let own = take c.loop-k.k c.args.leaves.now in
     let n = c.number.result in
     let given = to_z-of_z w128 c.given_count-given.result (search rules) ∙ c.given_count-given.ensures in
-    let counted = c.said_count-count.ensures ∙ ap (λ (n : ℤ). said_count l.dim n (numbers_after own c.as_slice.result.now [])) given in
+    let there = c.get.ensures ∙ ap (λ (cs : List (Option ℕ)). counter_at cs c.loop-k.k) c.requires ∙ counter_there c.args.leaves.now c.loop-k.k l (omega arith) c.index-leaves-k.is in
+    let long : length own ≡ length c.as_slice.result.now = omega (arith, length-take c.loop-k.k c.args.leaves.now, ap (λ (vs : List Value). length vs) c.as_slice.ensures, c.loop-k.invariant.1) in
+    let counted = c.said_count-count.ensures l.dim own long there ∙ ap (λ (n : ℤ). said_count l.dim n (numbers_after own c.as_slice.result.now [])) given in
     let count = counted ∙ ap (λ (vs : List Value). said_count l.dim (given_count (drop c.loop-k.k c.args.counts.now)) (numbers_after own vs [])) c.as_slice.ensures in
     let said = to_z-of_z w128 c.said_count-count.result (search rules) ∙ count in
     let layout = ap (λ (n : ℤ). read (number_of_value (kind_layout (leaf_kind (counter_saying l.dim n) l))) c.loop-k.reader) (sym said) in

@@ -1,7 +1,9 @@
-use Rattle.std.proofs.Common.{◌<◌, ℕ, Option, None, Ok, Err, sym, subst, arith}
+use Rattle.std.proofs.Common.{◌≡◌, ◌<◌, ℕ, ◌∙◌, Option, Some, None, Ok, Err, sym, ap, subst, arith}
+use Rattle.rio_dir.specs.Table.{head_of}
+use Rattle.rio_key.specs.declared.head.KeyHead.{KeyHead}
 use Rattle.rio_machine.specs.{declared.command.Command.TheVariants.{Get}, declared.refusal.Refusal.TheVariants.{NoSuchCycle}}
 use Rattle.rio_judge.specs.{Stops.{GoesByState}, declared.stop.Stop.TheVariants.{Refused}, declared.work.Work.TheVariants.{Get as Telling}}
-use Rattle.rio_judge.proofs.{GetTests.{no_cycle, no_name, tells_cycle, tells_newest}, KeysOfState.{first_is_there, none_above_first}}
+use Rattle.rio_judge.proofs.{GetTests.{no_cycle, no_name, tells_cycle, tells_newest}, KeysOfState.{first_is_found, found_key, none_above_first}}
 use Rattle.rio_judge.proofs.get.get_work.Goals as goal
 
 pub returns-in_default-clause-answers : goal.returns-in_default-clause-answers
@@ -10,12 +12,13 @@ returns-in_default-clause-answers c m are =
 
 pub returns-in_default-cycle-clause-answers : goal.returns-in_default-cycle-clause-answers
 returns-in_default-cycle-clause-answers c m are =
-    subst (λ (cycle : Option ℕ). GoesByState m (Get c.args.name.now cycle None) (Ok (Telling c.in-Some.newest.now.cycle))) (sym c.in_default-cycle.is)
+    subst (λ (x : Option ℕ × KeyHead). GoesByState m (Get c.args.name.now x.0 None) (Ok (Telling x.1))) (λ i. (sym c.in_default-cycle.is i, sym c.in_ok-copy.ensures i))
     (tells_newest c.args.table.now.heads m c.args.name.now are c.in-Some.newest.now (sym c.in-Some.ensures))
 
 pub returns-in_default-cycle-clause-sound : goal.returns-in_default-cycle-clause-sound
 returns-in_default-cycle-clause-sound c classes =
-    first_is_there c.args.name.now c.args.table.now.heads c.in-Some.newest.now (sym c.in-Some.ensures)
+    subst (λ (h : KeyHead). head_of c.args.name.now (Some h.cycle) c.args.table.now.heads ≡ Some h) (sym c.in_ok-copy.ensures)
+    (first_is_found c.args.name.now c.args.table.now.heads c.in-Some.newest.now (sym c.in-Some.ensures))
 
 pub returns-then-cycle-from-clause-answers : goal.returns-then-cycle-from-clause-answers
 returns-then-cycle-from-clause-answers c m are =
@@ -25,10 +28,18 @@ returns-then-cycle-from-clause-answers c m are =
     subst (λ (cycle : Option ℕ). GoesByState m (Get c.args.name.now cycle None) (Err (Refused NoSuchCycle))) (sym c.in-Some-cycle.is)
     (no_cycle c.args.table.now.heads m c.args.name.now are h c.in-Some-cycle.cycle (sym c.in-Some.ensures) none)
 
-pub returns-in-Some-find-clause-answers : goal.returns-in-Some-find-clause-answers
-returns-in-Some-find-clause-answers c m are =
-    subst (λ (cycle : Option ℕ). GoesByState m (Get c.args.name.now cycle None) (Ok (Telling c.in-Some-cycle.cycle))) (sym c.in-Some-cycle.is)
-    (tells_cycle c.args.table.now.heads m c.args.name.now are c.in-Some.newest.now c.in-Some-find.field-0.now c.in-Some-cycle.cycle (sym c.in-Some.ensures) (sym c.in-Some-find.ensures))
+pub returns-in_ok-copy-in-Some-find-clause-answers : goal.returns-in_ok-copy-in-Some-find-clause-answers
+returns-in_ok-copy-in-Some-find-clause-answers c m are =
+    subst (λ (x : Option ℕ × KeyHead). GoesByState m (Get c.args.name.now x.0 None) (Ok (Telling x.1))) (λ i. (sym c.in-Some-cycle.is i, sym c.in_ok-copy-in-Some-find.ensures i))
+    (tells_cycle c.args.table.now.heads m c.args.name.now are c.in-Some.newest.now c.in-Some-find.head.now c.in-Some-cycle.cycle (sym c.in-Some.ensures) (sym c.in-Some-find.ensures))
+
+pub returns-in_ok-copy-in-Some-find-clause-sound : goal.returns-in_ok-copy-in-Some-find-clause-sound
+returns-in_ok-copy-in-Some-find-clause-sound c classes =
+    let h = c.in-Some-find.head.now in
+    let found : head_of c.args.name.now (Some c.in-Some-cycle.cycle) c.args.table.now.heads ≡ Some h = sym c.in-Some-find.ensures in
+    let cycle = (found_key c.args.name.now c.in-Some-cycle.cycle c.args.table.now.heads h found).1 in
+    subst (λ (k : KeyHead). head_of c.args.name.now (Some k.cycle) c.args.table.now.heads ≡ Some k) (sym c.in_ok-copy-in-Some-find.ensures)
+    (ap (λ (n : ℕ). head_of c.args.name.now (Some n) c.args.table.now.heads) cycle ∙ found)
 
 pub returns-in-None-clause-answers : goal.returns-in-None-clause-answers
 returns-in-None-clause-answers c m are =

@@ -1,8 +1,8 @@
-use Rattle.std.proofs.{Common.{◌≡◌, ℕ, List, None, subst}, lemmas.Result.{err_from_is_err_and}}
+use Rattle.std.proofs.{Common.{◌≡◌, ℕ, List, None, sym, subst}, lemmas.Result.{err_from_is_err_and}}
 use Rattle.rio_step.specs.Refusing.{first_of}
-use Rattle.rio_judge.specs.{Stops.{StopsAt}, Judging.{CanBeStored}}
+use Rattle.rio_judge.specs.{Stops.{StopsAt}, Judging.{CanBeStored}, declared.work.StoredObject.{StoredObject}}
 use Rattle.rio_judge.proofs.PutTests.{own_length_tests, stopped, stops_at_class, stops_at_counts, stops_at_cycle, stops_at_fit, stops_at_length, stops_at_name}
-use Rattle.rio_judge.proofs.{PutLaws.{can_be_stored, put_answers}, put.put_work.Goals.{In_ok-check_counts}}
+use Rattle.rio_judge.proofs.{PutLaws.{Passed, can_be_stored, put_answers}, put.put_work.Goals.{In_ok-name}}
 use Rattle.rio_judge.proofs.put.put_work.Goals as goal
 
 pub returns-in_err-check_name-clause-answers : goal.returns-in_err-check_name-clause-answers
@@ -51,13 +51,18 @@ returns-in_err-check_counts-clause-answers c =
     stopped c.args.classes.now c.args.table.now.heads c.args.name.now c.args.value.now c.from_residual-in_err-check_counts.result p.0 stop p.1 p.2
     (stops_at_counts c.args.classes.now c.args.table.now.heads c.args.name.now c.args.value.now stop c.in_ok-check_name.ensures c.in_ok-value.value c.in_ok-value.ensures.value c.in_ok-class.ensures.told c.in_ok-cycle.ensures.told c.in_ok-class.class c.in_ok-class.ensures.class short c.in_err-check_counts.ensures)
 
+-- the object that is to be stored
+abbrev made : In_ok-name → StoredObject
+made c = record { name = c.in_ok-name.name; class = c.in_ok-class.class; cycle = c.in_ok-cycle.cycle; length = c.in_ok-length.length; value = c.in_ok-value.value }
+
 -- what is done can be done
-done : (c : In_ok-check_counts) → CanBeStored c.args.classes.now c.args.table.now.heads c.args.name.now c.args.value.now c.in_ok-value.value c.in_ok-class.class c.in_ok-cycle.cycle c.in_ok-length.length
+done : (c : In_ok-name) → CanBeStored c.args.classes.now c.args.table.now.heads c.args.value.now (made c)
 done c =
+    let named = c.in_ok-name.ensures in
     let short : first_of (own_length_tests c.args.classes.now c.in_ok-class.class c.args.name.now c.in_ok-value.value) ≡ None =
     subst (λ (own : List ℕ). first_of (own_length_tests c.args.classes.now own c.args.name.now c.in_ok-value.value) ≡ None) c.as_slice.ensures c.in_ok-length.ensures.told in
-    can_be_stored c.args.classes.now c.args.table.now.heads c.args.name.now c.args.value.now c.in_ok-value.value c.in_ok-class.class c.in_ok-cycle.cycle c.in_ok-length.length
-    (record {
+    can_be_stored c.args.classes.now c.args.table.now.heads c.args.value.now (made c)
+    (subst (λ (n : List ℕ). Passed c.args.classes.now c.args.table.now.heads c.args.value.now (record (made c) { name = n })) (sym named) (record {
       value = c.in_ok-value.ensures.value;
       class = c.in_ok-class.ensures.class;
       cycle = c.in_ok-cycle.ensures.cycle;
@@ -67,11 +72,11 @@ done c =
       by_cycle = c.in_ok-cycle.ensures.told;
       by_length = short;
       by_counts = c.in_ok-check_counts.ensures;
-    })
+    }))
 
 pub returns-clause-answers : goal.returns-clause-answers
 returns-clause-answers c =
-    put_answers c.args.classes.now c.args.table.now.heads c.args.name.now c.args.value.now c.in_ok-value.value c.in_ok-class.class c.in_ok-cycle.cycle c.in_ok-length.length (done c)
+    put_answers c.args.classes.now c.args.table.now.heads c.args.name.now c.args.value.now (made c) c.in_ok-name.ensures (done c)
 
 pub returns-clause-sound : goal.returns-clause-sound
-returns-clause-sound c = done c
+returns-clause-sound c = (c.in_ok-name.ensures, done c)

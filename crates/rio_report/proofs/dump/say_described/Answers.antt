@@ -1,6 +1,6 @@
 use Rattle.std.proofs.Common.{List, ap}
 use Rattle.rio_key.specs.declared.head.KeyHead.{KeyHead}
-use Rattle.rio_host.proofs.PiecesLaws.{says_as}
+use Rattle.rio_report.proofs.Gather.{says_as}
 use Rattle.rio_report.specs.{Dump.{item_line}, Item.{found_item}}
 use Rattle.rio_report.proofs.dump.say_described.Goals as goal
 

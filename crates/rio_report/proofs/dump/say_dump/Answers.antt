@@ -6,5 +6,6 @@ returns g c = record {
   refused = c.say_all_or_item.ensures.refused;
   calls = c.say_all_or_item.ensures.calls;
   silent = c.say_all_or_item.ensures.silent;
+  lines = c.say_all_or_item.ensures.lines;
   cause = c.say_all_or_item.ensures.cause;
 }

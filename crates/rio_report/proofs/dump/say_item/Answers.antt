@@ -1,5 +1,5 @@
 use Rattle.std.proofs.Common.{sym, ap}
-use Rattle.rio_host.proofs.PiecesLaws.{says_as}
+use Rattle.rio_report.proofs.Gather.{says_as}
 use Rattle.rio_report.specs.{Dump.{item_line, stored_line}, Item.{found_item}}
 use Rattle.rio_report.proofs.dump.say_item.Goals as goal
 

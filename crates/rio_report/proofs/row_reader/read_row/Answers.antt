@@ -1,9 +1,21 @@
 use Rattle.std.proofs.{Common.{length, take, get_or, None, length-set, refl, sym, ap, ◌∙◌, arith}, lemmas.Option.{slice_get-get_or}}
 use Rattle.rio_host.proofs.ReadsLaws.{reads_join, reads_none}
+use Rattle.rio_entry.specs.Counting.{counters_within}
+use Rattle.rio_tree.specs.declared.head.Branch.{Branch}
+use Rattle.rio_index.proofs.CounterLaws.{counters_for_all, counters_there}
 use Rattle.rio_report.specs.{declared.row.Row.{Row}, Sweeps.{empty_row, sweep, sweep_one}}
 use Rattle.rio_report.specs.{Checked.{made_one, made_there, row_made}, declared.checked.Made.{Made}}
 use Rattle.rio_report.proofs.{Left.{any_default}, CheckedRows.{empty_made, length-values_made, one_more_made}, Walks.{lanes_set, sweep_last, sweep_more}}
 use Rattle.rio_report.proofs.row_reader.read_row.Goals as goal
+
+pub at-requires : goal.at-requires
+at-requires g c = counters_for_all c.args.tree.now.branches.now c.args.tree.now.counters.now c.loop-k.k c.args.tree.now.counted (omega arith)
+
+pub invariant_of-place : goal.invariant_of-place
+invariant_of-place g c =
+    let tree = c.args.tree.now in
+    let own = counters_there tree.branches.now tree.counters.now c.loop-k.k c.index-tree-k.result c.at.result.now tree.counted (omega arith) c.index-tree-k.is c.at.ensures in
+    record { counted = own ∙ ap (λ (b : Branch). counters_within b.def.shape) c.index-tree-k.is }
 
 pub loop-k-init : goal.loop-k-init
 unfolding sweep

@@ -1,6 +1,6 @@
 use Rattle.std.proofs.Common.{List, sym, ap, ◌∙◌}
 use Rattle.rio_key.specs.declared.head.KeyHead.{KeyHead}
-use Rattle.rio_host.proofs.PiecesLaws.{says_as}
+use Rattle.rio_report.proofs.Gather.{says_as}
 use Rattle.rio_machine.specs.RefusalText.{refusal_text}
 use Rattle.rio_report.specs.Scan.{found_tree, key_scan, scan_lines, scan_text}
 use Rattle.rio_report.proofs.scan.say_described_tree.Goals as goal

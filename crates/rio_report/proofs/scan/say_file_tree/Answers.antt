@@ -1,10 +1,11 @@
 use Rattle.std.proofs.{Common.{◌∙◌, List, ℕ}, lemmas.Result.{err_from_is_err_and}}
 use Rattle.rio_host.specs.OnlyReads.{OnlyReads}
-use Rattle.rio_host.proofs.{ReadsLaws.{reads_join, reads_one}, PiecesLaws.{reads_then_piece}}
+use Rattle.rio_host.proofs.ReadsLaws.{reads_join, reads_one}
 use Rattle.rio_report.specs.{declared.described.Described.{Described}, Described.{described_file}}
 use Rattle.rio_report.specs.Scan.{scan_text, scanned_file}
 use Rattle.rio_close.specs.Causes.{AnyKind}
-use Rattle.rio_report.proofs.{Scans.{scanned_bad, scanned_is}, Dumps.{read_answers, read_refuses, told_calls, told_done}}
+use Rattle.rio_report.proofs.Gather.{nothing_said, reads_then_piece}
+use Rattle.rio_report.proofs.{Scans.{scanned_bad, scanned_is}, Dumps.{read_answers, read_refuses, told_calls, told_done, told_lines}}
 use Rattle.rio_report.proofs.scan.say_file_tree.Goals as goal
 
 pub returns-in_err-described-clause-refused : goal.returns-in_err-described-clause-refused
@@ -39,3 +40,24 @@ returns-clause-calls g c =
     let reads : OnlyReads a b = reads_join (g.met.H.Host.lawful c.length.new.self) (reads_one c.length.ensures.disk c.length.ensures.holds c.length.ensures.reads) c.in_ok-described.ensures.calls in
     told_calls (scanned_file tree) text_of a d (λ file told. scanned_is tree file c.in_ok-described.described (c.in_ok-described.ensures.exact file (c.length.ensures.holds ∙ told))) c.say_described_tree.result
     (reads_then_piece a b d (g.met.H.Host.lawful c.args.host.now) (g.met.H.Host.lawful c.open_described.new.host) text_of reads c.say_described_tree.result c.say_described_tree.ensures.says)
+
+pub returns-clause-lines : goal.returns-clause-lines
+returns-clause-lines g c =
+    let a = g.H.Host.view c.args.host.now in
+    let b = g.H.Host.view c.open_described.new.host in
+    let d = g.H.Host.view c.say_described_tree.new.host in
+    let tree = c.args.tree.now in
+    let text_of : List ℕ → List ℕ = λ file. scan_text file tree c.in_ok-described.described in
+    let reads : OnlyReads a b = reads_join (g.met.H.Host.lawful c.length.new.self) (reads_one c.length.ensures.disk c.length.ensures.holds c.length.ensures.reads) c.in_ok-described.ensures.calls in
+    told_lines (scanned_file tree) text_of a d (λ file told. scanned_is tree file c.in_ok-described.described (c.in_ok-described.ensures.exact file (c.length.ensures.holds ∙ told))) c.say_described_tree.result
+    (reads_then_piece a b d (g.met.H.Host.lawful c.args.host.now) (g.met.H.Host.lawful c.open_described.new.host) text_of reads c.say_described_tree.result c.say_described_tree.ensures.says)
+
+pub returns-in_err-file_length-clause-lines : goal.returns-in_err-file_length-clause-lines
+returns-in_err-file_length-clause-lines g c =
+    let p = err_from_is_err_and c.from_residual.result c.from_residual.ensures.1 in
+    rw p.1 (nothing_said (reads_one c.length.ensures.disk c.length.ensures.holds c.length.ensures.reads))
+
+pub returns-in_err-described-clause-lines : goal.returns-in_err-described-clause-lines
+returns-in_err-described-clause-lines g c =
+    let p = err_from_is_err_and c.from_residual-in_err-described.result c.from_residual-in_err-described.ensures.1 in
+    rw p.1 (nothing_said (reads_join (g.met.H.Host.lawful c.length.new.self) (reads_one c.length.ensures.disk c.length.ensures.holds c.length.ensures.reads) c.in_err-described.ensures.calls))

@@ -6,5 +6,6 @@ returns g c = record {
   refused = c.say_file_tree.ensures.refused;
   calls = c.say_file_tree.ensures.calls;
   silent = c.say_file_tree.ensures.silent;
+  lines = c.say_file_tree.ensures.lines;
   cause = c.say_file_tree.ensures.cause;
 }

@@ -1,5 +1,5 @@
-use Rattle.std.proofs.Common.{List, ℕ, codes, sym, ap, ◌∙◌}
-use Rattle.rio_host.proofs.PiecesLaws.{reads_then_piece, says_as}
+use Rattle.std.proofs.{Common.{List, ℕ, codes, sym, ap, ◌∙◌}, lemmas.Result.{err_from_is_err_and}}
+use Rattle.rio_report.proofs.Gather.{cut_reads, reads_then_piece, says_as}
 use Rattle.rio_report.specs.Scan.{key_scan, tree_lines, unread_line}
 use Rattle.rio_report.proofs.Trees.{key_compressed, key_read, key_unread}
 use Rattle.rio_report.proofs.scan.say_tree_key.Goals as goal
@@ -26,3 +26,8 @@ returns-in-Err-clause-says g c =
     says_as a d (λ file. unread_line c.args.key.now c.as_slice-in-Err.result.now) (λ file. key_scan file c.args.classes.now c.args.key.now)
     (λ file told. ap (unread_line c.args.key.now) c.as_slice-in-Err.ensures ∙ sym (key_unread file c.args.classes.now c.args.key.now c.in-Err.instead.bytes (sym c.is_compressed.ensures ∙ c.if-is_compressed.false) (rw c.in-Err.is at (c.in_ok-head.ensures.found file told)))) c.say_unread-in-Err.result
     (reads_then_piece a b d (g.met.H.Host.lawful c.args.host.now) (g.met.H.Host.lawful c.read_stored_tree.new.host) (λ file. unread_line c.args.key.now c.as_slice-in-Err.result.now) c.read_stored_tree.ensures.calls c.say_unread-in-Err.result c.say_unread-in-Err.ensures.says)
+
+pub returns-in_err-head-clause-says : goal.returns-in_err-head-clause-says
+returns-in_err-head-clause-says g c =
+    let p = err_from_is_err_and c.from_residual.result c.from_residual.ensures.1 in
+    rw p.1 (cut_reads (λ file. key_scan file c.args.classes.now c.args.key.now) c.read_stored_tree.ensures.calls)

@@ -4,7 +4,7 @@ use Rattle.std.specs.List.{range_with_len}
 use Rattle.rio_host.proofs.ReadsLaws.{reads_none}
 use Rattle.rio_report.specs.Scan.{row_line}
 use Rattle.rio_report.specs.{declared.lane.Lane.{Lane}, Lanes.{AreLanes}}
-use Rattle.rio_report.proofs.{Gather.{gathered_reads}, LineByLine.{all_gathered, first_lines, line_cut, line_gathered}, Left.{only_new}, Walks.{lanes_later}}
+use Rattle.rio_report.proofs.{Gather.{gathered_reads}, LineByLine.{all_gathered, first_lines, line_cut, line_gathered}, Left.{only_new}, Walks.{lanes_later}, WholeLines.{row_ends}}
 use Rattle.rio_report.proofs.scan_rows.gather_rows.Goals as goal
 
 pub loop-entry-init : goal.loop-entry-init
@@ -15,8 +15,8 @@ loop-entry-init g c =
       holds = refl;
       calm = refl;
       heard = refl;
-      lanes = λ file told. c.in_ok-lanes.ensures.empty file 0 c.args.tree.now.branches.now;
-      width = c.in_ok-lanes.ensures.count;
+      lanes = λ file told. c.requires.empty file 0 c.args.tree.now.branches.now;
+      width = c.requires.width;
     }
 
 pub gather_row-requires-clause-held : goal.gather_row-requires-clause-held
@@ -30,9 +30,9 @@ returns-in_err-gather_row-clause-says g c =
     let e = c.loop-entry.entry in
     let lt : e < length xs = subst (λ (n : ℕ). e < n) (sym (length-range_with_len 0 c.args.entries)) (omega arith) in
     let is : e ≡ get_or xs e e = sym (get_or-range_with_len 0 c.args.entries e e (omega arith) ∙ omega arith) in
-    let p = err_from_is_err_and c.from_residual-in_err-gather_row.result c.from_residual-in_err-gather_row.ensures.1 in
+    let p = err_from_is_err_and c.from_residual.result c.from_residual.ensures.1 in
     rw p.1 (line_cut line xs c.args.held.now.bytes (g.H.Host.view c.args.host.now) (g.H.Host.view c.loop-entry.host) (g.H.Host.view c.gather_row.new.host)
-    (g.met.H.Host.lawful c.args.host.now) (g.met.H.Host.lawful c.loop-entry.host) e e lt is c.loop-entry.held.bytes c.loop-entry.invariant.so_far c.in_err-gather_row.ensures.says)
+    (g.met.H.Host.lawful c.args.host.now) (g.met.H.Host.lawful c.loop-entry.host) e e lt is c.loop-entry.held.bytes c.loop-entry.invariant.so_far (λ file y. row_ends y _) c.in_err-gather_row.ensures.says)
 
 pub loop-entry-preserved : goal.loop-entry-preserved
 loop-entry-preserved g c =

@@ -137,17 +137,72 @@ fn nested(alloc: Global, brackets: usize) -> Result<Bytes, NoMemory> {
     Ok(text)
 }
 
-// An object within an object, and so on, so many in all.
-fn nested_objects(alloc: Global, objects: usize) -> Result<Bytes, NoMemory> {
-    let mut text = Bytes::new(alloc);
-    for _level in 1..objects {
-        text.put(b"A{a:")?;
+// A text in which `open` stands so often, then `inner`, and then `close` as often.
+#[derive(Clone, Copy)]
+struct Nest {
+    open: &'static [u8],
+    times: usize,
+    inner: &'static [u8],
+    close: &'static [u8],
+}
+
+impl Nest {
+    fn text(&self, alloc: Global) -> Result<Bytes, NoMemory> {
+        let mut text = Bytes::new(alloc);
+        for _level in 0..self.times {
+            text.put(self.open)?;
+        }
+        text.put(self.inner)?;
+        for _level in 0..self.times {
+            text.put(self.close)?;
+        }
+        Ok(text)
     }
-    text.put(b"A{}")?;
-    for _level in 1..objects {
-        text.push(b'}')?;
+}
+
+// What stands in each object, in all ways in which values stand in one another: as a first member, as a later one, as a base,
+// as a later one, behind a pointer, behind a pointer that is a later member.
+static OBJECTS: [&[u8]; 6] = [
+    b"A{a:",
+    b"A{x:1,y:",
+    b"A{",
+    b"A{x:1,",
+    b"@0=A{x:",
+    b"@0=A{y:1,x:",
+];
+
+// So many objects, each in the one before.
+fn objects(open: &'static [u8], objects: usize) -> Nest {
+    Nest {
+        open,
+        times: objects.saturating_sub(1),
+        inner: b"A{}",
+        close: b"}",
     }
-    Ok(text)
+}
+
+// Objects with lists of objects, 1,022 brackets in all, around `inner`.
+fn arrays(inner: &'static [u8]) -> Nest {
+    Nest {
+        open: b"TObjArray{items:[",
+        times: 511,
+        inner,
+        close: b"]}",
+    }
+}
+
+// 1,024 objects in one another are read, where each has these bytes before its value. Of 1,025 the last brace is the token
+// that can't stand.
+fn is_counted(alloc: Global, open: &'static [u8]) -> bool {
+    if open.len() > 100 {
+        return false;
+    }
+    let before = open.len() as u32;
+    made_ends_at(
+        alloc,
+        objects(open, 1024).text(alloc),
+        before * 1023 + 3 + 1023,
+    ) && made_is_bad_at(alloc, objects(open, 1025).text(alloc), before * 1024 + 1)
 }
 
 fn made_ends_at(alloc: Global, made: Result<Bytes, NoMemory>, end: u32) -> bool {
@@ -169,8 +224,9 @@ fn counts_brackets(rt: HostRuntime) {
     let alloc = rt.alloc();
     assert!(rt; made_ends_at(alloc, nested(alloc, 1024), 2048));
     assert!(rt; made_is_bad_at(alloc, nested(alloc, 1025), 1024));
-    assert!(rt; made_ends_at(alloc, nested_objects(alloc, 1024), 5118));
-    assert!(rt; made_is_bad_at(alloc, nested_objects(alloc, 1025), 4097));
+    assert!(rt; OBJECTS.iter().all(|open| is_counted(alloc, *open)));
+    assert!(rt; made_ends_at(alloc, arrays(b"[[]]").text(alloc), 9713));
+    assert!(rt; made_is_bad_at(alloc, arrays(b"[[[]]]").text(alloc), 8689));
 }
 
 fn is_text(value: &Value, text: &[u8]) -> bool {

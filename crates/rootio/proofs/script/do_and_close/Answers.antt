@@ -1,5 +1,7 @@
-use Rattle.std.proofs.{Common.{◌++◌, ◌∙◌, List, ℕ, Some, ap, subst, sym}, lemmas.Result.{IfOk-from_err, err_from_is_err_and}}
+use Rattle.std.proofs.{Common.{◌≡◌, ◌++◌, ◌∙◌, List, ℕ, Some, ap, subst, sym}, lemmas.{Option.{same_Some}, Result.{IfOk-from_err, err_from_is_err_and}}}
 use Rattle.rio_host.proofs.{Moments.{elapses_join}, PiecesLaws.{grown_join}}
+use Rattle.rio_chain.specs.{Segments.{IsChain, Link}, Stops.{KeepsFront}}
+use Rattle.rio_chain.proofs.OneChain.{chain_one}
 use Rattle.rio_step.specs.Runs.{state_after}
 use Rattle.rio_session.specs.{Closes.{ClosesFile, IsWellClosed}, Session.{ClosesAs}}
 use Rattle.rio_session.proofs.{CloseStates.{holds_closed_file}, Spoken.{grows_none}}
@@ -14,7 +16,7 @@ returns-in_err-do_commands g c =
       stops = c.in_err-do_commands.ensures.stops;
       done = IfOk-from_err c.from_residual.result _ c.from_residual.ensures.0;
       unclosed = λ m text stands.
-          rw (p.1, p.2) (stays_open (session_run c.args.session m c.args.commands.now) text (g.H.Host.view c.do_commands.new.host) c.in_err-do_commands.field-0.0 (c.in_err-do_commands.ensures.unclosed m text stands)
+          rw (p.1, p.2) (stays_open (session_run c.args.session stands.state.links m c.args.commands.now) text (g.H.Host.view c.do_commands.new.host) c.in_err-do_commands.field-0.0 (c.in_err-do_commands.ensures.unclosed m text stands)
           (λ e. c.in_err-do_commands.ensures.unsaid e m text stands));
       told = c.in_err-do_commands.ensures.told;
       said = c.in_err-do_commands.ensures.said;
@@ -27,7 +29,7 @@ returns g c =
     let all = c.in_ok-do_commands.ensures in
     record {
       stops = λ file text m stands.
-          let r = session_run c.args.session m c.args.commands.now in
+          let r = session_run c.args.session stands.state.links m c.args.commands.now in
           let end = state_after m c.args.commands.now r.marks in
           let said = text ++ all_replies r in
           elapses_join (ClosesAs end said) (all.stops file text m stands)
@@ -35,21 +37,28 @@ returns g c =
           (λ image told closes. stop_closing r file text image told closes);
       room = λ m text stands none room said told k command there long. (all.done m text stands).room none room k command there;
       done = on_ok_all c.close.result (λ closed written quiet m text stands.
-          let r = session_run c.args.session m c.args.commands.now in
+          let r = session_run c.args.session stands.state.links m c.args.commands.now in
           let end = state_after m c.args.commands.now r.marks in
           let done = all.done m text stands in
           record {
+            quiet = quiet;
+            run = done.records.run;
+            run_is = done.records.run_is;
             said = c.close.ensures.writes.said ∙ done.stands.said;
             left = λ image told leaves. closed end (text ++ all_replies r) done.stands image told leaves;
             written = λ image told leaves.
                 let closes : ClosesFile (g.H.Host.view c.do_commands.new.host) (g.H.Host.view c.close.new.host) c.do_commands.new.session = written end (text ++ all_replies r) done.stands in
                 let same = quiet image told closes.written.file leaves closes.written.holds in
-                let last = holds_closed_file (g.H.Host.view c.do_commands.new.host) (g.H.Host.view c.close.new.host) c.do_commands.new.session image closes (closes.written.holds ∙ ap Some (sym same)) in
-                subst (λ (x : List ℕ × ℕ). IsWellClosed x.0 x.1 image) (λ i. (done.name i, done.datime i)) last;
+                let file : done.records.now ≡ closes.file = same_Some done.records.now closes.file (sym done.records.holds ∙ closes.holds) in
+                let links : closes.links ≡ done.records.run.links =
+                chain_one closes.file closes.links done.records.run.links closes.chain.chain (subst (IsChain done.records.run.links) file done.records.chain.chain) in
+                let last = holds_closed_file (g.H.Host.view c.do_commands.new.host) (g.H.Host.view c.close.new.host) c.do_commands.new.session stands.file image closes
+                (subst (KeepsFront stands.file) file done.records.front) (closes.written.holds ∙ ap Some (sym same)) in
+                subst (λ (x : (List ℕ × ℕ) × List Link). IsWellClosed x.0.0 x.0.1 stands.file x.1 image) (λ i. ((done.name i, done.datime i), links i)) last;
             room = done.room;
           }) c.close.ensures.closed c.close.ensures.written c.close.ensures.quiet;
       unclosed = λ m text stands.
-          let r = session_run c.args.session m c.args.commands.now in
+          let r = session_run c.args.session stands.state.links m c.args.commands.now in
           close_open (g.H.Host.view c.do_commands.new.host) (g.H.Host.view c.close.new.host) c.do_commands.new.session (state_after m c.args.commands.now r.marks)
           (text ++ all_replies r) all.ready (all.done m text stands).stands (g.met.H.Host.lawful c.close.new.host) r text c.close.result
           (c.close.ensures.writes.said ∙ (all.done m text stands).stands.said) c.close.ensures.no_memory c.close.ensures.cause;

@@ -1,12 +1,12 @@
 use Rattle.std.proofs.lemmas.Result.{IfOk-from_err, err_from_is_err_and}
 use Rattle.rio_host.proofs.PiecesLaws.{grown_join}
 use Rattle.rio_machine.specs.declared.command.Outcome.{Outcome}
-use Rattle.rootio.proofs.Built.{built_at, statable_at}
+use Rattle.rootio.proofs.Built.{all_told, built_at, statable_at}
 use Rattle.rootio.proofs.{Doing.{all_done, cause_behind, does_next, leaves_open, nothing_yet, room_there, stops_there, unsaid_there}, Untouched.{any_join}}
 use Rattle.rootio.proofs.script.do_commands.Goals as goal
 
 pub loop-command-init : goal.loop-command-init
-loop-command-init g c = nothing_yet (g.H.Host.view c.args.host.now) c.args.session.now c.args.commands.now c.requires.ready c.requires.fresh
+loop-command-init g c = nothing_yet (g.H.Host.view c.args.host.now) c.args.session.now c.args.commands.now (all_told c.args.commands.now c.requires.built) c.requires.ready c.requires.fresh
 
 pub apply-requires : goal.apply-requires
 apply-requires g c = record {
@@ -20,7 +20,7 @@ pub loop-command-preserved : goal.loop-command-preserved
 loop-command-preserved g c =
     does_next (g.H.Host.view c.args.host.now) (g.H.Host.view c.loop-command.host) (g.H.Host.view c.apply.new.host) c.args.session.now c.loop-command.session c.apply.new.self
     c.args.commands.now c.loop-command.command-index c.command-item.result c.loop-command-test.true c.command-item.is c.loop-command.invariant c.in_ok-apply.field-0
-    c.in_ok-apply.ensures.done c.in_ok-apply.ensures.ready c.in_ok-apply.ensures.failed c.in_ok-apply.ensures.told c.in_ok-apply.ensures.said c.in_ok-apply.ensures.cause
+    c.in_ok-apply.ensures.kept.done c.in_ok-apply.ensures.records c.in_ok-apply.ensures.marks c.in_ok-apply.ensures.kept.ready c.in_ok-apply.ensures.kept.failed c.in_ok-apply.ensures.file.told c.in_ok-apply.ensures.text.said c.in_ok-apply.ensures.kept.cause
 
 pub returns-in_err-apply : goal.returns-in_err-apply
 returns-in_err-apply g c =
@@ -29,27 +29,27 @@ returns-in_err-apply g c =
       stops = λ file text m stands.
           stops_there (g.H.Host.view c.args.host.now) (g.H.Host.view c.loop-command.host) (g.H.Host.view c.apply.new.host) c.args.session.now c.loop-command.session c.apply.new.self
           c.args.commands.now c.loop-command.command-index c.command-item.result c.loop-command-test.true c.command-item.is c.loop-command.invariant
-          c.in_err-apply.ensures.any_moment file text m stands;
+          c.in_err-apply.ensures.file.any_moment c.in_err-apply.ensures.marks file text m stands;
       unclosed = rw p.1 (λ m text stands.
           leaves_open (g.H.Host.view c.args.host.now) (g.H.Host.view c.loop-command.host) (g.H.Host.view c.apply.new.host) c.args.session.now c.loop-command.session
           c.args.commands.now c.loop-command.command-index c.command-item.result c.loop-command.invariant (g.met.H.Host.lawful c.apply.new.host)
-          c.in_err-apply.ensures.any_moment m text stands);
+          c.in_err-apply.ensures.file.any_moment m text stands);
       unsaid = rw (p.1, p.2) (
           unsaid_there (g.H.Host.view c.args.host.now) (g.H.Host.view c.loop-command.host) (g.H.Host.view c.apply.new.host) c.args.session.now c.loop-command.session c.apply.new.self
           c.args.commands.now c.loop-command.command-index c.command-item.result c.loop-command-test.true c.command-item.is c.loop-command.invariant c.in_err-apply.field-0.0
-          c.in_err-apply.ensures.unsaid c.in_err-apply.ensures.part);
+          c.in_err-apply.ensures.file.unsaid c.in_err-apply.ensures.text.part c.in_err-apply.ensures.marks);
       room = λ m text stands none room.
           room_there (g.H.Host.view c.args.host.now) (g.H.Host.view c.loop-command.host) (g.H.Host.view c.apply.new.host) c.args.session.now c.loop-command.session c.apply.new.self
           c.args.commands.now c.loop-command.command-index c.command-item.result c.loop-command-test.true c.command-item.is c.loop-command.invariant c.in_err-apply.field-0.0
-          c.in_err-apply.ensures.silent c.in_err-apply.ensures.lacks c.in_err-apply.ensures.part m text stands none room;
+          c.in_err-apply.ensures.text.silent c.in_err-apply.ensures.text.lacks c.in_err-apply.ensures.text.part c.in_err-apply.ensures.marks m text stands none room;
       done = IfOk-from_err c.from_residual.result _ c.from_residual.ensures.0;
       ready = IfOk-from_err c.from_residual.result _ c.from_residual.ensures.0;
       fresh = IfOk-from_err c.from_residual.result _ c.from_residual.ensures.0;
-      told = any_join (g.H.Host.view c.args.host.now).holds (g.H.Host.view c.loop-command.host).holds (g.H.Host.view c.apply.new.host).holds c.loop-command.invariant.told c.in_err-apply.ensures.told;
-      said = grown_join (g.H.Host.view c.args.host.now).said (g.H.Host.view c.loop-command.host).said (g.H.Host.view c.apply.new.host).said c.loop-command.invariant.said c.in_err-apply.ensures.said;
+      told = any_join (g.H.Host.view c.args.host.now).holds (g.H.Host.view c.loop-command.host).holds (g.H.Host.view c.apply.new.host).holds c.loop-command.invariant.told c.in_err-apply.ensures.file.told;
+      said = grown_join (g.H.Host.view c.args.host.now).said (g.H.Host.view c.loop-command.host).said (g.H.Host.view c.apply.new.host).said c.loop-command.invariant.said c.in_err-apply.ensures.text.said;
       cause = rw (p.1, p.2)
           (cause_behind Outcome (Unit {0}) (g.H.Host.view c.args.host.now) (g.H.Host.view c.loop-command.host) (g.H.Host.view c.apply.new.host) c.in_err-apply.field-0.0 c.loop-command.invariant.none
-          c.in_err-apply.ensures.cause);
+          c.in_err-apply.ensures.kept.cause);
     }
 
 pub returns : goal.returns

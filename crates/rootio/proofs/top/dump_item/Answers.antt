@@ -2,6 +2,7 @@ use Rattle.std.proofs.Common.{Err, Some, refl}
 use Rattle.rio_host.proofs.{PiecesLaws.{reads_part}, ReadsLaws.{reads_none}}
 use Rattle.rio_dir.specs.Listing.{said_listing}
 use Rattle.rio_report.specs.Dump.{dumped_file}
+use Rattle.rio_report.proofs.Gather.{nothing_said}
 use Rattle.rio_close.specs.declared.fault.ReportFault.TheVariants.{NoMemory}
 use Rattle.rootio.proofs.top.dump_item.Goals as goal
 
@@ -15,6 +16,7 @@ returns-in-Err g c = (
     refused = λ file told. tt;
     calls = reads_part (λ file. said_listing (dumped_file (Some c.args.word.now) file)) (reads_none (g.H.Host.view c.args.host.now));
     silent = λ silent. absurd silent;
-    cause = (refl, refl);
+    lines = nothing_said (reads_none (g.H.Host.view c.args.host.now));
+    cause = refl;
   },
 )

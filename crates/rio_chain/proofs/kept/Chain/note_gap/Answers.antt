@@ -1,35 +1,54 @@
-use Rattle.std.proofs.Common.{◌≡◌, ap, sym, subst, arith}
+use Rattle.std.proofs.Common.{◌≡◌, ◌∙◌, ◌-◌, ◌+◌, ◌<◌, ◌≤◌, length, ap, sym, subst, arith}
+use Rattle.std.specs.Vec.{vec_len, vec_capacity}
+use Rattle.rio_num.proofs.Cases.{one_more}
 use Rattle.rio_free.specs.Gaps.{FreeGaps, HasGapFor}
 use Rattle.rio_chain.specs.{Chains.{ChainState}, Placing.{gaps_in}}
-use Rattle.rio_chain.proofs.{Indices.{count_low}, Placed.{gap_low, keeps_gap}}
+use Rattle.rio_chain.proofs.{Indices.{kept_if_ok}, Merged.{kept, keeps_gap, spans_with}}
 use Rattle.rio_chain.proofs.kept.Chain.note_gap.Goals as goal
 
-pub fill_gap-requires-clause-fits : goal.fill_gap-requires-clause-fits
-fill_gap-requires-clause-fits c =
+pub insert-requires : goal.insert-requires
+insert-requires c =
     let i = c.self.invariant in
-    let fit = subst (λ (s : ChainState). HasGapFor (gaps_in s.segments) c.args.place c.args.n) (sym c.self.view_is) c.requires.fit in
-    let low = gap_low c.self.inside.segments.items c.args.place c.args.n i.shape fit in
-    omega (arith, low, i.end_is, i.low)
+    let now = c.args.self.now in
+    let was = kept now.segments c.self.inside.records.items c.self.inside.gaps.gaps c.self.inside.end (ap (λ (s : ChainState). s.segments) c.self.view_is) i.shape i.records_are i.gaps_are i.end_is in
+    let at = (spans_with now.segments c.args.place c.args.n c.count_before-at.result was.shape c.requires.fit c.count_before-at.ensures).1 in
+    omega (arith, at, ap length was.records_are)
 
-pub overflow_add-self : goal.overflow_add-self
-overflow_add-self c =
+pub take-requires : goal.take-requires
+take-requires c =
     let i = c.self.invariant in
-    let low = count_low 100 c.self.inside.segments.items i.shape.adjacent in
-    omega (arith, low, i.live_is, i.end_is, i.low)
+    let gaps = i.gaps_are ∙ ap (λ (s : ChainState). gaps_in s.segments) c.self.view_is in
+    subst (λ l. HasGapFor l c.args.place c.args.n) (sym gaps) c.requires.fit
 
 pub invariant_of-self : goal.invariant_of-self
 invariant_of-self c =
     let i = c.self.invariant in
-    let spare : c.self.inside.spare ≡ c.args.self.now.spare = ap (λ (s : ChainState). s.spare) c.self.view_is in
-    let fit = subst (λ (s : ChainState). HasGapFor (gaps_in s.segments) c.args.place c.args.n) (sym c.self.view_is) c.requires.fit in
-    let k = keeps_gap c.self.inside.segments.items c.fill_gap.new.segments.items c.self.inside.gaps.gaps c.take.new.self.gaps c.self.inside.end c.self.inside.live c.args.place c.args.n
-    i.shape i.gaps_are i.end_is i.live_is c.requires.some c.requires.aligned fit c.fill_gap.ensures.items (ap (λ (g : FreeGaps). g.gaps) c.take.ensures.exact) in
+    let now = c.args.self.now in
+    let spare : c.self.inside.spare ≡ now.spare = ap (λ (s : ChainState). s.spare) c.self.view_is in
+    let room : vec_len c.self.inside.records < vec_capacity c.self.inside.records = omega (arith, i.room, c.requires.room, spare) in
+    let is = kept_if_ok c.insert.result _ _ _ (c.insert.ensures.succeeds room) c.insert.ensures.items in
+    let was = kept now.segments c.self.inside.records.items c.self.inside.gaps.gaps c.self.inside.end (ap (λ (s : ChainState). s.segments) c.self.view_is) i.shape i.records_are i.gaps_are i.end_is in
+    let k = keeps_gap now.segments c.self.inside.records.items c.insert.new.self.items c.self.inside.gaps.gaps c.take.new.self.gaps c.self.inside.end c.args.place c.args.n c.count_before-at.result
+    was c.requires.some c.requires.aligned c.requires.fit c.count_before-at.ensures is (ap (λ (g : FreeGaps). g.gaps) c.take.ensures.exact) in
+    let long : vec_len c.insert.new.self ≤ vec_len c.self.inside.records + 1 = one_more _ _ _ c.insert.ensures.len in
     record {
       shape = k.shape;
+      records_are = k.records_are;
       gaps_are = k.gaps_are;
       end_is = k.end_is;
-      live_is = k.live_is;
       low = i.low;
-      room = omega (arith, i.room, c.fill_gap.ensures.len, c.fill_gap.ensures.room, c.requires.room, spare);
+      room = omega (arith, long, c.insert.ensures.capacity, i.room, c.requires.room, spare);
       gap_room = omega (arith, i.gap_room, ap (λ (g : FreeGaps). g.spare) c.take.ensures.exact);
     }
+
+pub returns : goal.returns
+returns c =
+    let i = c.self.invariant in
+    let now = c.args.self.now in
+    let spare : c.self.inside.spare ≡ now.spare = ap (λ (s : ChainState). s.spare) c.self.view_is in
+    let room : vec_len c.self.inside.records < vec_capacity c.self.inside.records = omega (arith, i.room, c.requires.room, spare) in
+    let is = kept_if_ok c.insert.result _ _ _ (c.insert.ensures.succeeds room) c.insert.ensures.items in
+    let was = kept now.segments c.self.inside.records.items c.self.inside.gaps.gaps c.self.inside.end (ap (λ (s : ChainState). s.segments) c.self.view_is) i.shape i.records_are i.gaps_are i.end_is in
+    let k = keeps_gap now.segments c.self.inside.records.items c.insert.new.self.items c.self.inside.gaps.gaps c.take.new.self.gaps c.self.inside.end c.args.place c.args.n c.count_before-at.result
+    was c.requires.some c.requires.aligned c.requires.fit c.count_before-at.ensures is (ap (λ (g : FreeGaps). g.gaps) c.take.ensures.exact) in
+    λ j. record { segments = k.is j; spare = spare j - 1; spent = ap (λ (s : ChainState). s.spent) c.self.view_is j }

@@ -1,7 +1,7 @@
-use Rattle.std.proofs.Common.{◌≡◌, inl, ℕ, ◌≤◌, Option, Some, ap, sym, subst, ◌∙◌, arith}
+use Rattle.std.proofs.Common.{◌≡◌, inl, ℕ, Option, Some, ap, subst, ◌∙◌, arith}
 use Rattle.std.specs.Option.{unwrap_or}
 use Rattle.rio_free.specs.Gaps.{best_place}
-use Rattle.rio_chain.specs.{Adjoining.{AreSegments}, Chains.{ChainState}, Placing.{file_end, gaps_in, laid_at, place_of, space_of}}
+use Rattle.rio_chain.specs.{Adjoining.{AreSegments}, Chains.{ChainState}, Placing.{file_end, gaps_in, place_of}}
 use Rattle.rio_chain.proofs.Placed.{low_place, place_free}
 use Rattle.rio_chain.proofs.kept.Chain.place_for.Goals as goal
 

@@ -10,7 +10,7 @@ hold-requires c =
     let inside = c.self.inside in
     let seen : RowScan = record { head = inside.head; lanes = inside.lanes.items; next = inside.next } in
     let wanted = subst (λ (s : RowScan). IsWanted s c.args.branch c.args.basket (length c.args.entries)) (sym c.self.view_is) c.requires in
-    let within = given_within seen c.args.branch c.args.basket c.args.entries c.self.invariant wanted in
+    let within = given_within seen c.args.branch c.args.basket c.args.entries c.self.invariant.going wanted in
     let same = ap (λ (lanes : List Lane). length lanes) c.as_mut_slice.ensures.value in
     omega (arith, within, same)
 
@@ -31,19 +31,22 @@ invariant_of-self c =
     let inside = c.self.inside in
     let seen : RowScan = record { head = inside.head; lanes = inside.lanes.items; next = inside.next } in
     let wanted = subst (λ (s : RowScan). IsWanted s c.args.branch c.args.basket (length c.args.entries)) (sym c.self.view_is) c.requires in
-    let goes = given_goes_on seen c.args.branch c.args.basket c.args.entries c.self.invariant wanted in
+    let goes = given_goes_on seen c.args.branch c.args.basket c.args.entries c.self.invariant.going wanted in
     let first = c.first_entry-first.ensures ∙ ap (λ (bs : List Branch). first_entry (baskets_at bs c.args.branch) c.args.basket) c.as_slice.ensures in
     let lanes = c.hold.ensures ∙ lanes_are inside.head.branches inside.lanes.items c.as_mut_slice.result.now c.args.branch c.args.basket c.first_entry-first.result c.args.entries c.as_mut_slice.ensures.value first in
     let kept : length c.hold.new.lanes ≡ length inside.lanes.items = omega (arith, c.hold.auto.lanes, ap (λ (lanes : List Lane). length lanes) c.as_mut_slice.ensures.value) in
     let all = all_written inside.lanes.len c.hold.new.lanes inside.lanes.items inside.lanes.ok.0 kept ∙ lanes in
-    subst (λ (lanes : List Lane). CanGoOn inside.head.entries inside.head.branches lanes) (sym all) goes
+    record {
+      going = subst (λ (lanes : List Lane). CanGoOn inside.head.entries inside.head.branches lanes) (sym all) goes;
+      counted = c.self.invariant.counted;
+    }
 
 pub returns-clause-fewer : goal.returns-clause-fewer
 returns-clause-fewer c =
     let inside = c.self.inside in
     let seen : RowScan = record { head = inside.head; lanes = inside.lanes.items; next = inside.next } in
     let wanted = subst (λ (s : RowScan). IsWanted s c.args.branch c.args.basket (length c.args.entries)) (sym c.self.view_is) c.requires in
-    let less = given_fewer seen c.args.branch c.args.basket c.args.entries c.self.invariant wanted in
+    let less = given_fewer seen c.args.branch c.args.basket c.args.entries c.self.invariant.going wanted in
     let first = c.first_entry-first.ensures ∙ ap (λ (bs : List Branch). first_entry (baskets_at bs c.args.branch) c.args.basket) c.as_slice.ensures in
     let lanes = c.hold.ensures ∙ lanes_are inside.head.branches inside.lanes.items c.as_mut_slice.result.now c.args.branch c.args.basket c.first_entry-first.result c.args.entries c.as_mut_slice.ensures.value first in
     let kept : length c.hold.new.lanes ≡ length inside.lanes.items = omega (arith, c.hold.auto.lanes, ap (λ (lanes : List Lane). length lanes) c.as_mut_slice.ensures.value) in

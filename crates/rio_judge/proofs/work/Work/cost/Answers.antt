@@ -6,7 +6,7 @@ use Rattle.rio_judge.proofs.work.Work.cost.Goals as goal
 pub returns-in-Put : goal.returns-in-Put
 returns-in-Put c m command none work =
     ap (λ n. 500 + n) c.from.ensures
-    ∙ put_cost m command c.in-Put.value c.in-Put.class c.in-Put.cycle c.in-Put.length none (subst (λ (w : Work). IsWorkOf m command w) c.in-Put.is work)
+    ∙ put_cost m command _ none (subst (λ (w : Work). IsWorkOf m command w) c.in-Put.is work)
 
 pub returns-in-Get : goal.returns-in-Get
 returns-in-Get c m command none work = get_cost m command _ none (subst (λ (w : Work). IsWorkOf m command w) c.in-Get.is work)

@@ -2,7 +2,7 @@ use Rattle.std.proofs.Common.{◌∙◌, length, refl, sym, ap}
 use Rattle.rio_chain.specs.Chains.{ChainState}
 use Rattle.rio_dir.specs.Table.{TableRoom, heads_size}
 use Rattle.rio_session.proofs.OpenMoments.{looked_unclosed, made_unclosed, making_time, synced_unclosed, unborn_empty}
-use Rattle.rio_session.proofs.OpenNew.{directory_before_end, kept_new, stands_new}
+use Rattle.rio_session.proofs.OpenNew.{chain_new, directory_before_end, kept_new, stands_new}
 use Rattle.rio_session.proofs.session.Session.open.Goals as goal
 
 pub returns-in_err-chain-clause-any_moment : goal.returns-in_err-chain-clause-any_moment
@@ -28,6 +28,13 @@ returns-clause-any_moment g c file text m quiet holds said reads =
     let law = g.met.H.Host.lawful in
     making_time file text m _ _ _ _ (law c.args.host.now) (law c.check_unborn.new.host) quiet holds said (c.in_ok-check_unborn.ensures.tells file holds) reads
     c.check_unborn.ensures.calls c.sync.ensures.disk (c.create.ensures.any_moment file (c.sync.ensures.holds ∙ c.check_unborn.ensures.calls.holds ∙ holds))
+
+pub returns-clause-ready : goal.returns-clause-ready
+returns-clause-ready g c = record {
+  quiet = c.in_ok-chain.ensures.quiet;
+  chain = chain_new (g.H.Host.view c.sync.new.self) (g.H.Host.view c.create.new.host) c.args.name.now c.args.datime c.in_ok-chain.field-0.chain.segments c.create.ensures.writes.told
+      c.in_ok-chain.ensures.made (ap (λ (s : ChainState). s.segments) c.in_ok-chain.ensures.chain);
+}
 
 pub returns-clause-stands : goal.returns-clause-stands
 returns-clause-stands g c file text m holds said reads =

@@ -50,6 +50,7 @@ returns-in-Err-clause-puts g c =
 
 pub returns-in_err-answer-in-Ok-clause-puts : goal.returns-in_err-answer-in-Ok-clause-puts
 returns-in_err-answer-in-Ok-clause-puts g c =
+    let n = c.args.made in
     let same = ap (λ (s : SessionState). s.segments) (sym c.self.view_is) ∙ sym (ap (λ (s : ChainState). s.segments) c.in_ok-reserve.ensures.ok) in
     let p = err_from_is_err_and c.from_residual-in_err-answer-in-Ok.result c.from_residual-in_err-answer-in-Ok.ensures.1 in
     let not_said = says_fault (Unit {0}) c.args.text.now c.args.cost _ _ _ _ c.in_err-answer-in-Ok.field-0.0 c.in_err-answer-in-Ok.ensures.fault c.in_err-answer-in-Ok.ensures.says in
@@ -57,7 +58,9 @@ returns-in_err-answer-in-Ok-clause-puts g c =
     (λ file links holds chain. c.put_record.ensures.any_moment file links holds (subst (λ (s : List Segment). HasChain links s file) same chain))
     (record c.args.self.now { segments = c.put_record.new.self.segments }) (g.met.H.Host.lawful c.put_record.new.host) c.in-Ok.ensures.quiet c.put_record.ensures.writes.said
     (λ file links holds chain. c.in-Ok.ensures.holds file links holds (subst (λ (s : List Segment). HasChain links s file) same chain))
-    (g.H.Host.view c.answer.new.host) c.answer.new.self (g.met.H.Host.lawful c.answer.new.host) not_said c.put_record.ensures.writes.told (c.in-Ok.ensures.cause.counted refl, c.put_record.ensures.writes.say_faults))
+    (g.H.Host.view c.answer.new.host) c.answer.new.self (g.met.H.Host.lawful c.answer.new.host) not_said c.put_record.ensures.writes.told (c.in-Ok.ensures.cause.counted refl, c.put_record.ensures.writes.say_faults)
+    (ap (λ (s : ChainState). s.segments) c.in-Ok.ensures.chain ∙ ap (λ (s : ChainState). with_segment n.head.seek (length n.bytes.bytes) s.segments) c.in_ok-reserve.ensures.ok
+    ∙ ap (λ (s : SessionState). with_segment n.head.seek (length n.bytes.bytes) s.segments) c.self.view_is))
 
 pub returns-in_ok-answer-in-Ok-clause-puts : goal.returns-in_ok-answer-in-Ok-clause-puts
 returns-in_ok-answer-in-Ok-clause-puts g c =

@@ -1,0 +1,49 @@
+-- What one change makes of a file's segments.
+use Rattle.std.proofs.Common.{◌≡◌, ℕ, ◌+◌, ◌-◌, ◌%◌, List, length, length-append, map, refl, sym, ap, ◌∙◌}
+use Rattle.std.proofs.lemmas.List.{length-replicate}
+use Rattle.rio_chain.specs.{Placing.{with_segment}, Segments.{segment_of}}
+use Rattle.rio_chain.proofs.PutChain.{map_with}
+use Rattle.rio_key.specs.Written.{written_key}
+use Rattle.rio_machine.specs.State.{State}
+use Rattle.rio_num.specs.Room.{padding}
+use Rattle.rio_chain.specs.{Record.{key_size, new_key, record_bytes, unpadded}, declared.key_words.KeyWords.{KeyWords}}
+use Rattle.rio_chain.proofs.Records.{key_long}
+use Rattle.rio_value.specs.declared.value.Value.{Value}
+use Rattle.rio_effect.specs.{FileRuns.{SegmentsFollow, added_length, added_place, bytes_at}, ObjectRecord.{data_of_put, object_record, record_of_put, words_of_put}}
+
+-- how long a front is with its zero bytes
+abbrev filled : ℕ → ℕ
+filled n = n + (4 - n % 4) % 4
+
+record_size : (words : KeyWords) (contents : List ℕ) → length (record_bytes words contents) ≡ filled (key_size words + length contents)
+unfolding record_bytes
+record_size words contents =
+    let front : List ℕ = unpadded words contents in
+    let long : length (unpadded words contents) ≡ key_size words + length contents = length-append (written_key (new_key words (length contents))) contents ∙ ap (λ (n : ℕ). n + length contents) (key_long words (length contents)) in
+    length-append front (padding front)
+    ∙ ap (λ (n : ℕ). length front + n) (length-replicate ((4 - length front % 4) % 4) 0)
+    ∙ ap filled long
+
+-- a record is as long at each place
+pub same_length : (place : ℕ) (words : KeyWords) (contents : List ℕ) → length (bytes_at place words contents) ≡ added_length words contents
+same_length place words contents = record_size (record words { place = place }) contents ∙ sym (record_size (record words { place = 0 }) contents)
+
+-- the segments have one more, at the place of the rule
+pub segments_follow : SegmentsFollow
+segments_follow links words contents =
+    let place = added_place links words contents in
+    map_with place (bytes_at place words contents) links
+    ∙ ap (λ (n : ℕ). with_segment place n (map segment_of links)) (same_length place words contents)
+
+-- ---- a put
+
+-- the record that a put adds is that of its object
+pub put_bytes : (m : State) (place datime : ℕ) (name : List ℕ) (v : Value)
+    → bytes_at place (words_of_put m 0 datime name v) (data_of_put m 0 datime name v) ≡ record_of_put m place datime name v
+unfolding object_record
+put_bytes m place datime name v = refl
+
+pub put_length : (m : State) (place datime : ℕ) (name : List ℕ) (v : Value)
+    → added_length (words_of_put m 0 datime name v) (data_of_put m 0 datime name v) ≡ length (record_of_put m place datime name v)
+put_length m place datime name v =
+    sym (same_length place (words_of_put m 0 datime name v) (data_of_put m 0 datime name v)) ∙ ap length (put_bytes m place datime name v)

@@ -1,0 +1,5 @@
+use Rattle.rio_session.proofs.FileMarks.{steps_follow_files}
+use Rattle.rio_session.proofs.laws.steps_follow_files.Goals as goal
+
+pub returns : goal.returns
+returns c = steps_follow_files

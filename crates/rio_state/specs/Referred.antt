@@ -1,0 +1,15 @@
+-- To which records of a file something refers: the state that they stand for, or the file itself.
+use Rattle.std.specs.Prelude.{List, Bool, ◌==◌, ◌&&◌, ◌||◌, not}
+use Rattle.rio_state.specs.{KeyedRecords.{KeyedRecord, first_place, info_key, is_top_key, is_tree_key, is_tree_record, top_keys}, Reads.{info_place}}
+
+-- the record is that of an object or a tree; of a tree's name it has the greatest cycle
+abbrev pub is_item_record : List KeyedRecord → KeyedRecord → Bool
+is_item_record tops r = is_top_key r.head && (not (is_tree_key r.head) || is_tree_record tops r)
+
+-- the record of a tree, which has the greatest cycle of its name
+abbrev pub is_tree_item : List KeyedRecord → KeyedRecord → Bool
+is_tree_item tops r = is_top_key r.head && is_tree_record tops r
+
+-- the record is the first, that of the class list that counts, or an item's
+abbrev pub is_referred : List KeyedRecord → KeyedRecord → Bool
+is_referred records r = (r.head.seek == first_place) || (r.head.seek == info_place (info_key records)) || is_item_record (top_keys records) r
