@@ -317,19 +317,19 @@ pub(super) const WORKED: &str =
 pub(super) const SAID: &str = "ok put s;1\nok put s;2\nok put s;3\nok ls 3\n\
     s;3 TObjString\ns;2 TObjString\ns;1 TObjString\n";
 
-// How the run ends where this call fails, and how many bytes it has said then. The file is looked at and synced by 3 calls, made by
-// 6, written by 4 for each put and closed by 14; the others say the replies, of 11 bytes thrice and of 53, and the one that fails
-// says the half of its own.
+// How the run ends where this call fails, and how many bytes it has said then. The empty file is measured and synced by 2 calls,
+// made by 6, written by 4 for each put and closed by 14; the others say the replies, of 11 bytes thrice and of 53, and the one that
+// fails says the half of its own.
 fn end_by(call: u64) -> (Status, usize) {
     match call {
-        0..=12 => (Status::DiskFault, 0),
-        13 => (Status::SayFault, 5),
-        14..=17 => (Status::DiskFault, 11),
-        18 => (Status::SayFault, 16),
-        19..=22 => (Status::DiskFault, 22),
-        23 => (Status::SayFault, 27),
-        24 => (Status::SayFault, 59),
-        25..=38 => (Status::DiskFault, 86),
+        0..=11 => (Status::DiskFault, 0),
+        12 => (Status::SayFault, 5),
+        13..=16 => (Status::DiskFault, 11),
+        17 => (Status::SayFault, 16),
+        18..=21 => (Status::DiskFault, 22),
+        22 => (Status::SayFault, 27),
+        23 => (Status::SayFault, 59),
+        24..=37 => (Status::DiskFault, 86),
         _ => (Status::Done, 86),
     }
 }
