@@ -50,14 +50,44 @@ check "scan of what isn't there" $? 0 'no 3 NoSuchName' ""
 "$program" scan a.root t P#1 </dev/null >said 2>told
 check "scan as a class" $? 1 "" "rootio: usage: rootio VERB FILE ARG..."
 
-# A made file isn't opened yet: it stays as it is.
+# The file is opened again: an object more, and what was there is as it was. Without a command it stays, byte for byte.
+printf '%s\n' "get s;1" "put t $value \"new\"}" "ls" >more
+"$program" run a.root <more >said 2>told
+check "a file that is opened again" $? 0 'ok get s;1 TObjString#1{TObject#1{fUniqueID: 0, fBits: 0}, fString: "hi"}
+ok put t;1
+ok ls 3
+s;2 TObjString
+s;1 TObjString
+t;1 TObjString' ""
+keys='s;2 TObjString
+s;1 TObjString
+t;1 TObjString'
 cp a.root kept.root
-"$program" run a.root <script >said 2>told
-check "a made file" $? 7 "" "rootio: read only at 0: NotYet"
-cmp -s a.root kept.root || fail "a made file: it has changed"
-
 "$program" run a.root 1 </dev/null >said 2>told
-check "a made file, with a datime" $? 7 "" "rootio: read only at 0: NotYet"
+check "an empty script on a made file" $? 0 "" ""
+cmp -s a.root kept.root || fail "an empty script on a made file: it has changed"
+
+# A run that is cut off leaves the file marked as open; `recover` closes it, to the same bytes.
+python3 - <<'P'
+with open("a.root", "r+b") as file:
+    file.seek(12)
+    file.write((2000000000).to_bytes(4, "big"))
+P
+"$program" ls a.root </dev/null >said 2>told
+check "ls of an open file" $? 2 "" "rootio: bad file at 12: NotClosed"
+"$program" recover a.root </dev/null >said 2>told
+check "recover" $? 0 "$keys" ""
+cmp -s a.root kept.root || fail "recover: the file isn't the one that was closed"
+"$program" recover a.root 0x1 </dev/null >said 2>told
+check "recover with no datime" $? 1 "" "rootio: usage: rootio VERB FILE ARG..."
+
+# Another maker's file isn't written to.
+python3 "$top/bench/tree_file.py" other.root small || fail "another maker's file isn't made"
+cp other.root kept.root
+"$program" run other.root <more >said 2>told
+status=$?
+[ $status -eq 7 ] || fail "another maker's file: status $status, not 7"
+cmp -s other.root kept.root || fail "another maker's file: it has changed"
 
 # An empty script leaves the file of 308 bytes that an empty file is, and one put the stored file, byte for byte.
 mkdir empty && cd empty && "$program" run a.root 1 </dev/null >../said 2>../told

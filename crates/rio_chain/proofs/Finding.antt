@@ -1,10 +1,10 @@
 -- Records and first records, as they are found.
-use Rattle.std.proofs.Common.{◌≡◌, ◌↔◌, ℕ, ◌%◌, Bool, true, false, pos, List, length, Option, Some, None, sym, ap, subst, ◌∙◌, arith}
+use Rattle.std.proofs.Common.{◌≡◌, ◌↔◌, ℕ, ◌%◌, Bool, true, false, pos, List, length, Option, Some, None, refl, sym, ap, subst, ◌∙◌, arith}
 use Rattle.std.proofs.{lemmas.Bool.{cases_from_iff}, lemmas.Option.{none-some, same_Some}}
 use Rattle.std.specs.Prelude.{IsTrue, MatchBool}
 use Rattle.rio_key.specs.declared.head.KeyHead.{KeyHead}
 use Rattle.rio_host.specs.Reading.{FindsWord, HasWord}
-use Rattle.rio_chain.specs.{Segments.{IsRecord, IsFirst}, Found.{FindsKey, FindsKeyAt, FindsRecord, IsKeyOf, IsFirstBy}}
+use Rattle.rio_chain.specs.{Segments.{HoldsRecord, IsRecord, IsFirst}, Found.{FindsKey, FindsKeyAt, FindsRecord, IsKeyOf, IsFirstBy}, Keyed.{HasKeyAt}}
 use Rattle.rio_chain.proofs.Words.{word_one, word_within}
 
 -- ---- a whole record
@@ -64,12 +64,21 @@ by_first file bytes word head w f r =
     let same : head ≡ r.head = same_Some head r.head (f.only r.head r.key) in
     subst (λ (h : KeyHead). IsFirstBy word h bytes) (sym same) (r.class, (r.directory, r.texts, (r.room, r.small, word_is file word r.directory.place w r.nbytes_name)))
 
-pub finds_first : (file bytes : List ℕ) (word : Option ℕ) (head : KeyHead) (b : Bool) → FindsWord 28 word file → FindsKey bytes (Some head) → IsTrue b ↔ IsFirstBy word head bytes → MatchBool b (IsFirst file bytes) (¬ IsFirst file bytes)
-finds_first file bytes word head b w f iff = matched b (cases_from_iff iff)
+-- the n bytes at place 100 as a whole first record, by their key
+pub finds_whole_first : (file bytes : List ℕ) (n : ℕ) (word : Option ℕ) (head : KeyHead) (b : Bool) → n % 4 ≡ 0 → length bytes ≡ n → FindsWord 28 word file → FindsKey bytes (Some head)
+    → IsTrue b ↔ (IsKeyOf 100 n head × IsFirstBy word head bytes) → MatchBool b (IsRecord 100 bytes × ((◌≡◌ {A = ℕ} 100 100) → IsFirst file bytes)) (¬ HoldsRecord file 100 bytes)
+finds_whole_first file bytes n word head b aligned long w f iff = matched b (cases_from_iff iff)
   where
-    matched : (b : Bool) → MatchBool b (IsFirstBy word head bytes) (IsFirstBy word head bytes → ⊥) → MatchBool b (IsFirst file bytes) (¬ IsFirst file bytes)
-    matched true is = first_by file bytes word head w f is
-    matched false never = λ r. never (by_first file bytes word head w f r)
+    Both : Type 0
+    Both = IsKeyOf 100 n head × IsFirstBy word head bytes
 
-pub finds_no_first : (file bytes : List ℕ) → FindsKey bytes None → ¬ IsFirst file bytes
-finds_no_first file bytes f r = none-some r.head (f.only r.head r.key)
+    matched : (b : Bool) → MatchBool b Both (Both → ⊥) → MatchBool b (IsRecord 100 bytes × ((◌≡◌ {A = ℕ} 100 100) → IsFirst file bytes)) (¬ HoldsRecord file 100 bytes)
+    matched true is = (record_of_key 100 n head bytes aligned long f is.0, λ e. first_by file bytes word head w f is.1)
+    matched false never = λ h. never (key_of_record 100 n head bytes long f h.whole, by_first file bytes word head w f (h.first refl))
+
+pub finds_no_whole : (file bytes : List ℕ) (place : ℕ) → FindsKey bytes None → ¬ HoldsRecord file place bytes
+finds_no_whole file bytes place f h = none-some h.whole.head (f.only h.whole.head h.whole.key)
+
+-- the key that was found stands there
+pub key_stands : (file : List ℕ) (place n : ℕ) (head : KeyHead) → FindsKeyAt place n (Some head) file → HasKeyAt head place n file
+key_stands file place n head finds bytes long has = (finds bytes long has).found_is

@@ -21,4 +21,5 @@ pub mod Records
 pub mod Releases
 pub mod ShortKeys
 pub mod SoFar
+pub mod WalkedKeys
 pub mod Words

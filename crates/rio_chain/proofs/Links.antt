@@ -1,11 +1,10 @@
 -- Segments, as they are found at a place.
 use Rattle.std.proofs.Common.{◌≡◌, ◌≢◌, ◌⊎◌, ⊎_elim, ℕ, ◌+◌, ◌-◌, ◌%◌, ◌^◌, ◌<◌, ◌≤◌, Bool, true, false, List, length, length-take, length-drop, take, drop, Option, Some, None, refl, sym, ap, subst, ◌∙◌, arith}
 use Rattle.std.proofs.lemmas.Bool.Decides.{nat_tests}
-use Rattle.std.specs.Prelude.{MatchBool}
 use Rattle.rio_host.specs.Image.{Has}
 use Rattle.rio_host.proofs.Images.{has_length}
 use Rattle.rio_chain.specs.{declared.segment.Segment.{Segment, TheVariants.{Record, Gap}}, Adjoining.{BeginsAt, segment_length, segment_place}}
-use Rattle.rio_chain.specs.Segments.{Link, RecordAt, GapAt, link_length, HasWord, HoldsLink, HoldsRecord, IsFirst, IsPositive}
+use Rattle.rio_chain.specs.Segments.{Link, RecordAt, GapAt, link_length, HasWord, HoldsLink, HoldsRecord, IsPositive}
 use Rattle.rio_host.specs.Reading.{FindsWord}
 use Rattle.rio_chain.specs.Found.{MayPrecede, FindsLink, FindsRecord, FindsSegment, FindsWhole, IsKindOf, IsNoGap, segment_length_of}
 use Rattle.rio_chain.proofs.Words.{held_long, held_positive, held_word, has_own, word_one, word_within}
@@ -63,15 +62,10 @@ no_first_gap file word w large (GapAt p n) h = omega (arith, h.1.later)
 -- ---- a whole record
 
 module _ (file : List ℕ) (place n : ℕ) where
-  pub whole_not : FindsRecord place n false file → FindsWhole place n false file
-  whole_not finds bytes long has h = finds bytes long has h.whole
-
-  pub whole_later : place ≢ 100 → FindsRecord place n true file → FindsWhole place n true file
-  whole_later ne finds bytes long has = (finds bytes long has, λ is. absurd (ne is))
-
-  pub whole_first : (b : Bool) → place ≡ 100 → FindsRecord place n true file → ((bytes : List ℕ) → length bytes ≡ n → Has file 100 bytes → MatchBool b (IsFirst file bytes) (¬ IsFirst file bytes)) → FindsWhole place n b file
-  whole_first true is finds first bytes long has = (finds bytes long has, λ e. first bytes long (subst (λ (p : ℕ). Has file p bytes) is has))
-  whole_first false is finds first bytes long has = λ h. first bytes long (subst (λ (p : ℕ). Has file p bytes) is has) (h.first is)
+  -- at another place than 100 a record is whole
+  pub whole_elsewhere : (b : Bool) → place ≢ 100 → FindsRecord place n b file → FindsWhole place n b file
+  whole_elsewhere true ne finds bytes long has = (finds bytes long has, λ is. absurd (ne is))
+  whole_elsewhere false ne finds bytes long has = λ h. finds bytes long has h.whole
 
   -- the bytes there
   own : place + n ≤ length file → (bytes : List ℕ) × (length bytes ≡ n) × Has file place bytes

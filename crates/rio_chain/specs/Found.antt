@@ -47,10 +47,6 @@ IsDirectory nbytes_name directory = (60 ≤ length directory.rest) × (big_numbe
 abbrev pub IsFirstBy : Option ℕ → KeyHead → List ℕ → Type 0
 IsFirstBy nbytes_name head bytes = (head.class ≡ codes "TFile") × ((directory : At) × (texts_end_at head.keylen bytes ≡ Ok directory) × IsDirectory nbytes_name directory)
 
--- the n bytes at place 100 are a first record, or they are none
-abbrev pub FindsFirst : ℕ → Bool → List ℕ → Type 0
-FindsFirst n first file = (bytes : List ℕ) → length bytes ≡ n → Has file 100 bytes → MatchBool first (IsFirst file bytes) (¬ IsFirst file bytes)
-
 -- ---- segments
 
 -- the word of a record, or of a gap behind the first segment

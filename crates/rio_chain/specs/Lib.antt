@@ -4,6 +4,7 @@ pub mod Chains
 pub mod Changes
 pub mod FewerRecords
 pub mod Found
+pub mod Keyed
 pub mod Laws
 pub mod Merging
 pub mod NewRecords

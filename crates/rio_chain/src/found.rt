@@ -1,10 +1,11 @@
 //! What stands at a place of a file: a record, the first record, or a gap.
-ghost use Rattle.std.specs.Prelude.{◌≡◌, ◌+◌, ◌<◌, ◌≤◌, ◌^◌, ◌%◌, ◌↔◌, length, IsTrue, IfOk, IfErr, IfSome};
+ghost use Rattle.std.specs.Prelude.{◌≡◌, ◌+◌, ◌<◌, ◌≤◌, ◌^◌, ◌%◌, ◌↔◌, is_some, length, IsTrue, IfOk, IfErr, IfSome};
 ghost use Rattle.byteorder.specs.Endian.{big_number};
 ghost use Rattle.rio_host.specs.Host.{IsLength, IsWithin};
 ghost use Rattle.rio_host.specs.OnlyReads.{OnlyReads};
 ghost use Rattle.rio_chain.specs.Adjoining.{BeginsAt, segment_length};
-ghost use Rattle.rio_chain.specs.Found.{MayPrecede, FindsFirst, FindsLink, FindsRecord, FindsSegment, FindsWhole, IsDirectory, IsFirstBy, IsKeyOf, IsKindOf, IsNoGap, segment_length_of, TellsNoLink};
+ghost use Rattle.rio_chain.specs.Keyed.{HasKeyAt, IsKeyed, IsRecordKey, IsWalkedKey};
+ghost use Rattle.rio_chain.specs.Found.{MayPrecede, FindsLink, FindsRecord, FindsSegment, FindsWhole, IsDirectory, IsFirstBy, IsKeyOf, IsKindOf, IsNoGap, segment_length_of, TellsNoLink};
 ghost use Rattle.rio_chain.specs.Segments.{HasWord, texts_end_at};
 ghost use Rattle.rio_chain.specs.Walks.{IsReadCause, IsWalkCause, Told};
 
@@ -26,18 +27,33 @@ fn is_key_of(head: &KeyHead, place: u64, n: u32) -> bool
         && u64::from(head.keylen) + u64::from(head.objlen) == u64::from(n)
 }
 
-// Whether the `n` bytes at `place` are a whole record.
-fn is_record_at<H: Host>(alloc: Global, host: &mut H, place: u64, n: u32) -> Result<bool, WalkFault>
+// The key of the whole record that the `n` bytes at `place` are, or None where they are none.
+fn record_key_at<H: Host>(
+    alloc: Global,
+    host: &mut H,
+    place: u64,
+    n: u32,
+) -> Result<Option<KeyHead>, WalkFault>
     requires told { IsWithin (H.view host.old) (place + n) }
     requires fits { place + n < 2 ^ 64 }
     requires aligned { n % 4 ≡ 0 }
-    ensures whole { IfOk result (λ whole. Told (H.view host.old) (FindsRecord place n whole)) }
+    ensures whole { IfOk result
+        (λ key. Told (H.view host.old) (FindsRecord place n (is_some key))) }
+    ensures keyed { IfOk result (λ key. IfSome key (IsRecordKey place n)) }
+    ensures key { IfOk result
+        (λ key. IfSome key (λ head. Told (H.view host.old) (HasKeyAt head place n))) }
     ensures calls { OnlyReads (H.view host.old) (H.view host.new) }
     ensures cause { IsReadCause (H.view host.old) (H.view host.new) result }
 {
     match key_at(alloc, host, place, n as usize)? {
-        Some(head) => Ok(is_key_of(&head, place, n)),
-        None => Ok(false),
+        Some(head) => {
+            if is_key_of(&head, place, n) {
+                Ok(Some(head))
+            } else {
+                Ok(None)
+            }
+        }
+        None => Ok(None),
     }
 }
 
@@ -90,49 +106,72 @@ fn is_first(head: &KeyHead, bytes: &[u8], nbytes_name: Option<u32>) -> bool
     }
 }
 
-// Whether the `n` bytes at place 100 are a first record.
-fn is_first_at<H: Host>(
+// Whether these are the bytes of a first record of `n` bytes, where this is their key and the header's
+// fNbytesName this number.
+fn is_whole_first(head: &KeyHead, bytes: &[u8], nbytes_name: Option<u32>, n: u32) -> bool
+    requires { length bytes.now < 2 ^ 32 }
+    ensures { IsTrue result
+        ↔ (IsKeyOf 100 n head.now × IsFirstBy nbytes_name head.now bytes.now) }
+{
+    is_key_of(head, 100, n) && is_first(head, bytes, nbytes_name)
+}
+
+// The key of the first record that the `n` bytes at place 100 are, or None where they are none.
+fn first_key_at<H: Host>(
     alloc: Global,
     host: &mut H,
     file_length: u64,
     n: u32,
-) -> Result<bool, WalkFault>
+) -> Result<Option<KeyHead>, WalkFault>
     requires told { IsLength (H.view host.old) file_length }
     requires within { 100 + n ≤ file_length }
-    ensures first { IfOk result (λ first. Told (H.view host.old) (FindsFirst n first)) }
+    requires aligned { n % 4 ≡ 0 }
+    ensures whole { IfOk result (λ key. Told (H.view host.old) (FindsWhole 100 n (is_some key))) }
+    ensures walked { IfOk result (λ key. IfSome key (IsWalkedKey 100 n)) }
+    ensures key { IfOk result
+        (λ key. IfSome key (λ head. Told (H.view host.old) (HasKeyAt head 100 n))) }
     ensures calls { OnlyReads (H.view host.old) (H.view host.new) }
     ensures cause { IsReadCause (H.view host.old) (H.view host.new) result }
 {
     let nbytes_name = word_at(host, file_length, 28)?;
     let bytes = bytes_at(alloc, host, 100, n as usize)?;
     match key_in(alloc, &bytes, 100)? {
-        Some(head) => Ok(is_first(&head, &bytes, nbytes_name)),
-        None => Ok(false),
+        Some(head) => {
+            if is_whole_first(&head, &bytes, nbytes_name, n) {
+                Ok(Some(head))
+            } else {
+                Ok(None)
+            }
+        }
+        None => Ok(None),
     }
 }
 
-// Whether the `n` bytes at `place` are a whole record, which is a first record at place 100.
-fn is_whole_at<H: Host>(
+// The key of the whole record that the `n` bytes at `place` are, which is a first record at place 100;
+// None where they are none.
+fn whole_key_at<H: Host>(
     alloc: Global,
     host: &mut H,
     file_length: u64,
     place: u64,
     n: u32,
-) -> Result<bool, WalkFault>
+) -> Result<Option<KeyHead>, WalkFault>
     requires told { IsLength (H.view host.old) file_length }
     requires within { place + n ≤ file_length }
     requires aligned { n % 4 ≡ 0 }
-    ensures whole { IfOk result (λ whole. Told (H.view host.old) (FindsWhole place n whole)) }
+    ensures whole { IfOk result
+        (λ key. Told (H.view host.old) (FindsWhole place n (is_some key))) }
+    ensures walked { IfOk result (λ key. IfSome key (IsWalkedKey place n)) }
+    ensures key { IfOk result
+        (λ key. IfSome key (λ head. Told (H.view host.old) (HasKeyAt head place n))) }
     ensures calls { OnlyReads (H.view host.old) (H.view host.new) }
     ensures cause { IsReadCause (H.view host.old) (H.view host.new) result }
 {
-    if !is_record_at(alloc, host, place, n)? {
-        return Ok(false);
+    if place == 100 {
+        first_key_at(alloc, host, file_length, n)
+    } else {
+        record_key_at(alloc, host, place, n)
     }
-    if place != 100 {
-        return Ok(true);
-    }
-    Ok(is_first_at(alloc, host, file_length, n)?)
 }
 
 // How long the segment of this word is.
@@ -146,23 +185,26 @@ fn length_of(word: u32) -> u64
     }
 }
 
-// The segment at `place`, where this word stands.
+// The segment at `place`, where this word stands, and the key of a record.
 fn segment_at<H: Host>(
     alloc: Global,
     host: &mut H,
     file_length: u64,
     place: u64,
     word: u32,
-) -> Result<Segment, WalkFault>
+) -> Result<(Segment, Option<KeyHead>), WalkFault>
     requires told { IsLength (H.view host.old) file_length }
     requires later { 100 ≤ place }
     requires within { place + 4 ≤ file_length }
     requires word { Told (H.view host.old) (λ file. HasWord file place word) }
-    ensures begins { IfOk result (BeginsAt place) }
-    ensures within { IfOk result (λ segment. place + segment_length segment ≤ file_length) }
-    ensures kind { IfOk result (IsKindOf place word) }
-    ensures length { IfOk result (λ segment. segment_length segment ≡ segment_length_of word) }
-    ensures segment { IfOk result (λ segment. Told (H.view host.old) (FindsSegment place segment)) }
+    ensures begins { IfOk result (λ found. BeginsAt place found.0) }
+    ensures within { IfOk result (λ found. place + segment_length found.0 ≤ file_length) }
+    ensures kind { IfOk result (λ found. IsKindOf place word found.0) }
+    ensures length { IfOk result (λ found. segment_length found.0 ≡ segment_length_of word) }
+    ensures segment { IfOk result (λ found. Told (H.view host.old) (FindsSegment place found.0)) }
+    ensures walked { IfOk result (λ found. IsKeyed IsWalkedKey found.0 found.1) }
+    ensures key { IfOk result (λ found. Told (H.view host.old)
+        (λ file. IsKeyed (λ p n head. HasKeyAt head p n file) found.0 found.1)) }
     ensures none { IfErr result (TellsNoLink (H.view host.old) place) }
     ensures calls { OnlyReads (H.view host.old) (H.view host.new) }
     ensures cause { IsWalkCause (H.view host.old) (H.view host.new) result }
@@ -175,12 +217,11 @@ fn segment_at<H: Host>(
         if place == 100 {
             return Err(WalkFault::NoChain { place });
         }
-        return Ok(Segment::Gap { place, length });
+        return Ok((Segment::Gap { place, length }, None));
     }
-    if is_whole_at(alloc, host, file_length, place, word)? {
-        Ok(Segment::Record { place, length })
-    } else {
-        Err(WalkFault::NoChain { place })
+    match whole_key_at(alloc, host, file_length, place, word)? {
+        Some(key) => Ok((Segment::Record { place, length }, Some(key))),
+        None => Err(WalkFault::NoChain { place }),
     }
 }
 
@@ -204,33 +245,51 @@ fn are_apart(segment: Segment, behind: Option<u32>) -> bool
     }
 }
 
-// The segment at `place`, where this word stands, and the word behind it.
+/// A segment of a file as a walk finds it.
+#[derive(Drop)]
+pub(crate) struct FoundLink {
+    pub(crate) segment: Segment,
+    /// The key of a record.
+    pub(crate) key: Option<KeyHead>,
+    /// The word after it.
+    pub(crate) behind: Option<u32>,
+}
+
+// The segment at `place`, where this word stands.
 pub(crate) fn link_at<H: Host>(
     alloc: Global,
     host: &mut H,
     file_length: u64,
     place: u64,
     word: u32,
-) -> Result<(Segment, Option<u32>), WalkFault>
+) -> Result<FoundLink, WalkFault>
     requires told { IsLength (H.view host.old) file_length }
     requires later { 100 ≤ place }
     requires within { place + 4 ≤ file_length }
     requires word { Told (H.view host.old) (λ file. HasWord file place word) }
-    ensures begins { IfOk result (λ found. BeginsAt place found.0) }
-    ensures within { IfOk result (λ found. place + segment_length found.0 ≤ file_length) }
-    ensures kind { IfOk result (λ found. IsKindOf place word found.0) }
+    ensures begins { IfOk result (λ found. BeginsAt place found.segment) }
+    ensures within { IfOk result (λ found. place + segment_length found.segment ≤ file_length) }
+    ensures kind { IfOk result (λ found. IsKindOf place word found.segment) }
     ensures behind { IfOk result
-        (λ found. IfSome found.1 (λ _. place + segment_length found.0 + 4 ≤ file_length)) }
-    ensures apart { IfOk result (λ found. MayPrecede found.0 found.1) }
-    ensures link { IfOk result (λ found. Told (H.view host.old) (FindsLink place found.0 found.1)) }
+        (λ found. IfSome found.behind (λ _. place + segment_length found.segment + 4 ≤ file_length)) }
+    ensures apart { IfOk result (λ found. MayPrecede found.segment found.behind) }
+    ensures link { IfOk result
+        (λ found. Told (H.view host.old) (FindsLink place found.segment found.behind)) }
+    ensures walked { IfOk result (λ found. IsKeyed IsWalkedKey found.segment found.key) }
+    ensures key { IfOk result (λ found. Told (H.view host.old)
+        (λ file. IsKeyed (λ p n head. HasKeyAt head p n file) found.segment found.key)) }
     ensures none { IfErr result (TellsNoLink (H.view host.old) place) }
     ensures calls { OnlyReads (H.view host.old) (H.view host.new) }
     ensures cause { IsWalkCause (H.view host.old) (H.view host.new) result }
 {
-    let segment = segment_at(alloc, host, file_length, place, word)?;
+    let (segment, key) = segment_at(alloc, host, file_length, place, word)?;
     let behind = word_at(host, file_length, segment.end())?;
     if !are_apart(segment, behind) {
         return Err(WalkFault::NoChain { place });
     }
-    Ok((segment, behind))
+    Ok(FoundLink {
+        segment,
+        key,
+        behind,
+    })
 }

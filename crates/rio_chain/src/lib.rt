@@ -44,4 +44,4 @@ pub use reads::key_at;
 pub use record::{NewRecord, new_record};
 pub use rio_host::ReadFault;
 pub use segment::{Segment, Segments};
-pub use walking::walk;
+pub use walking::{FoundChain, walk, walk_with_keys};

@@ -1,7 +1,11 @@
 //! Rows of files in memory: their chain, their close, what they are recovered as, and sessions on them.
+mod broken;
 mod chains;
+mod cleaned;
 mod closes;
+mod in_a_row;
 mod parts;
 mod records;
 mod recovery;
+mod reopened;
 mod sessions;

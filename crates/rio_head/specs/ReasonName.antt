@@ -1,6 +1,6 @@
 -- The names of the reasons against writing.
 use Rattle.std.specs.Prelude.{ℕ, List, codes}
-use Rattle.rio_head.specs.declared.reason.Reason.{Reason, TheVariants.{NotNew, LargeForm, NoChain, OtherDirectory, BadInfo, BadName, BadKey, BadObject, BadTree, DoubleKey, MixedName, TooMany, NoRoom, NotYet}}
+use Rattle.rio_head.specs.declared.reason.Reason.{Reason, TheVariants.{NotNew, LargeForm, NoChain, OtherDirectory, BadInfo, BadName, BadKey, BadObject, BadTree, DoubleKey, MixedName, TooMany, NoRoom}}
 
 abbrev pub name_of_reason : Reason → List ℕ
 name_of_reason NotNew = codes "NotNew"
@@ -16,4 +16,3 @@ name_of_reason DoubleKey = codes "DoubleKey"
 name_of_reason MixedName = codes "MixedName"
 name_of_reason TooMany = codes "TooMany"
 name_of_reason NoRoom = codes "NoRoom"
-name_of_reason NotYet = codes "NotYet"

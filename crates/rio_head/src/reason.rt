@@ -43,9 +43,6 @@ pub enum Reason {
     /// There is no room for what a close writes.
     #[error("there is no room for closing")]
     NoRoom,
-    /// The file is made, and no made file is opened for writing yet.
-    #[error("made files aren't opened for writing yet")]
-    NotYet,
 }
 
 impl Reason {
@@ -70,7 +67,6 @@ impl Reason {
             Reason::MixedName => "MixedName",
             Reason::TooMany => "TooMany",
             Reason::NoRoom => "NoRoom",
-            Reason::NotYet => "NotYet",
         }
     }
 }

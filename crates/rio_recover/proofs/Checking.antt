@@ -2,11 +2,10 @@
 use Rattle.std.proofs.Common.{◌≡◌, ◌∙◌, ℕ, ◌+◌, ◌≤◌, List, [], ◌∷◌, ◌++◌, append_assoc, length, take, drop, Bool, true, false, cond, not, ◌&&◌, ◌||◌, ◌==◌, ltb, Option, Some, Err, refl, sym, ap, subst, slice_get, arith}
 use Rattle.std.proofs.lemmas.List.{map-append, take_all, drop_all, Sums.{sum_by-cons}, Sorted.{IsPermutation-cons, IsPermutation-refl, IsPermutation-to_front, IsPermutation-trans, sum_by-IsPermutation}}
 use Rattle.std.proofs.{Math.Bool.{and-false, and-true}, lemmas.Bool.{not-false, not-true, Decides.{nat_tests}}}
-use Rattle.std.specs.{List.{All, find, list_any, sum_by, Sorted.{IsPermutation}}, Option.{is_some}}
+use Rattle.std.specs.{List.{All, filter, find, list_all, list_any, sum_by, Sorted.{IsPermutation}}, Option.{is_some}}
 use Rattle.rio_num.specs.Word.{is_item_text}
 use Rattle.rio_types.specs.declared.class.ClassDef.{ClassDef}
 use Rattle.rio_host.specs.{Host.{View}, OnlyReads.{OnlyReads}}
-use Rattle.rio_chain.specs.Found.{IsShortKey}
 use Rattle.rio_key.specs.declared.head.KeyHead.{KeyHead}
 use Rattle.rio_head.specs.declared.reason.Reason.{Reason, TheVariants.{BadKey, BadName, BadObject, BadTree, DoubleKey, MixedName}}
 use Rattle.rio_dir.specs.Table.{is_at_cycle, with_head}
@@ -14,7 +13,7 @@ use Rattle.rio_state.specs.Contents.{tree_of}
 use Rattle.rio_state.specs.KeyedRecords.{KeyedRecord, has_item, is_mixed_name, is_outdated, is_top_key, is_tree_key, is_tree_record, item_of_key, top_keys}
 use Rattle.rio_state.specs.Reasons.{Beside, ReasonAt, is_bad_object, is_bad_tree, key_reasons, keys_reasons, reason_at, reason_if}
 use Rattle.rio_state.proofs.NoReason.{none_if}
-use Rattle.rio_recover.specs.{Causes.{Judges}, Checks.{IsChecking, beside_of, item_reasons}, Keys.{StandsIn, keyed, keyed_by, record_heads}}
+use Rattle.rio_recover.specs.{Causes.{Judges}, Checks.{IsChecking, beside_of, is_untitled, item_reasons}, Keys.{StandsIn, keyed, keyed_by, record_heads}}
 use Rattle.rio_recover.specs.{Names.{IndexesNames}, declared.fault.RecoverFault.{RecoverFault}, declared.judge.KeyCheck.{KeyCheck}}
 use Rattle.rio_recover.proofs.{Judging.{judges_on, judges_same}, Keyed.{any_keyed, keyed_again, top_keyed}}
 use Rattle.rio_recover.proofs.{Numbered.{RecordAtIndex, before_other, before_top, behind_other, behind_top}, Tables.{some_found, with_moved}}
@@ -41,6 +40,14 @@ any_permuted p xs ys e = any_sum p ys ∙ ap (ltb 0) (sum_by-IsPermutation (λ x
 any_heads : (p : KeyHead → Bool) (rs : List KeyedRecord) → list_any p (record_heads rs) ≡ list_any (λ r. p r.head) rs
 any_heads p [] = refl
 any_heads p (r ∷ rs) = ap (λ (b : Bool). p r.head || b) (any_heads p rs)
+
+-- a head that is put is the last of some others
+pub moved_with : (before old new : List KeyHead) (head : KeyHead) → IsPermutation before old → new ≡ with_head head old → IsPermutation (before ++ head ∷ []) new
+moved_with before old new head moved is =
+    let front = IsPermutation-to_front before head in
+    let inner = IsPermutation-cons head before old moved in
+    let all = IsPermutation-trans (before ++ head ∷ []) (head ∷ old) (with_head head old) (IsPermutation-trans (before ++ head ∷ []) (head ∷ before) (head ∷ old) front inner) (with_moved head old) in
+    subst (IsPermutation (before ++ head ∷ [])) (sym is) all
 
 -- ---- one key
 
@@ -135,12 +142,7 @@ module _ (beside : Beside) (before : List KeyedRecord) (r : KeyedRecord) (head :
   pub passed_more : (old new : List KeyHead) → IsPermutation (record_heads before) old → new ≡ with_head head old → IsPermutation (record_heads (before ++ r ∷ [])) new
   passed_more old new moved is =
       let heads : record_heads (before ++ r ∷ []) ≡ record_heads before ++ head ∷ [] = map-append (λ s. s.head) before (r ∷ []) ∙ ap (λ (h : KeyHead). record_heads before ++ h ∷ []) same in
-      let front = IsPermutation-to_front (record_heads before) head in
-      let inner = IsPermutation-cons head (record_heads before) old moved in
-      let put = with_moved head old in
-      let all = IsPermutation-trans (record_heads before ++ head ∷ []) (head ∷ old) (with_head head old)
-      (IsPermutation-trans (record_heads before ++ head ∷ []) (head ∷ record_heads before) (head ∷ old) front inner) put in
-      subst (λ (hs : List KeyHead). IsPermutation hs new) (sym heads) (subst (IsPermutation (record_heads before ++ head ∷ [])) (sym is) all)
+      subst (λ (hs : List KeyHead). IsPermutation hs new) (sym heads) (moved_with (record_heads before) old new head moved is)
 
 -- the reasons against a key: those of its name, that of its object, those behind
 pub key_parts : (beside : Beside) (before : List KeyedRecord) (r : KeyedRecord)
@@ -210,7 +212,8 @@ all_checked beside records k check le sofar =
 pub record KeysSoFar (start now : View) (classes : List ClassDef) (heads : List KeyHead) (k : ℕ) (check : KeyCheck) : Type 0 where
   pub calls : OnlyReads start now
   pub calm : now.disk_faults ≡ start.disk_faults
-  pub short : All IsShortKey heads → All IsShortKey check.passed.heads
+  pub items : IsPermutation (filter is_top_key (take k heads)) check.passed.heads
+  pub untitled : list_all is_untitled check.passed.heads ≡ true
   pub told : (file : List ℕ) (records : List KeyedRecord) → start.holds ≡ Some file → All (StandsIn file) records → heads ≡ record_heads records
       → SoFar (beside_of classes records) records k check
 

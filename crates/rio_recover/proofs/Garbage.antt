@@ -3,8 +3,8 @@ use Rattle.std.proofs.Common.{◌≡◌, ◌∙◌, ℕ, List, [], ◌∷◌, ma
 use Rattle.std.proofs.lemmas.Bool.{and_parts, not-true}
 use Rattle.std.specs.List.{filter, list_all}
 use Rattle.rio_key.specs.declared.head.KeyHead.{KeyHead}
-use Rattle.rio_state.specs.{KeyedRecords.{KeyedRecord, first_place, info_key, is_top_key, is_tree_key, is_tree_record, top_keys}, Reads.{info_place}, Left.{info_head}}
-use Rattle.rio_recover.specs.{Keys.{record_heads}, Recovered.{garbage_of, is_item_record, is_left_over, place_in, places_left}}
+use Rattle.rio_state.specs.{KeyedRecords.{KeyedRecord, first_place, info_key, is_top_key, is_tree_key, is_tree_record, top_keys}, Reads.{info_place}, Left.{info_head}, Referred.{is_item_record}}
+use Rattle.rio_recover.specs.{Keys.{record_heads}, Recovered.{garbage_of, is_left_over, place_in, places_left}}
 use Rattle.rio_recover.proofs.NoTrees.{has_no_tree}
 
 -- an item that is no tree's

@@ -46,14 +46,14 @@ obtains_judged HostFault xs P Q o = tt
 -- the answer of a call behind it that calls no host
 pub cause_alone : {X : Type 0} (a b : View) (r : Result X RecoverFault) → b.disk_faults ≡ a.disk_faults → CallsNoHost r → IsRecoverCause a b r
 cause_alone a b (Ok x) e h = e
-cause_alone a b (Err (BadFile place kind)) e h = e
+cause_alone a b (Err (BadFile place kind)) e h = absurd h
 cause_alone a b (Err (ReadOnly place reason)) e h = e
 cause_alone a b (Err NoMemory) e h = e
 cause_alone a b (Err HostFault) e h = absurd h
 
 -- and of one whose fault is passed on
 pub cause_alone_on : (X Y : Type 0) (a b : View) (e : RecoverFault) → b.disk_faults ≡ a.disk_faults → CallsNoHost {X = X} (Err e) → IsRecoverCause {X = Y} a b (Err e)
-cause_alone_on X Y a b (BadFile place kind) e h = e
+cause_alone_on X Y a b (BadFile place kind) e h = absurd h
 cause_alone_on X Y a b (ReadOnly place reason) e h = e
 cause_alone_on X Y a b NoMemory e h = e
 cause_alone_on X Y a b HostFault e h = absurd h

@@ -1,7 +1,7 @@
 -- The reasons against one key: those of its name, that of its object, and those beside other keys.
 use Rattle.std.proofs.Common.{◌≡◌, ◌∙◌, ℕ, List, [], ◌∷◌, ◌++◌, length, Bool, true, false, not, ◌&&◌, ◌==◌, cond, Option, Some, Result, Err, refl, ap, slice_get}
-use Rattle.std.proofs.{lemmas.List.Elements.{All-cons, All-head, All-tail}, Math.Bool.{and-false}}
-use Rattle.std.specs.{List.{All}, Option.{is_some}}
+use Rattle.std.proofs.{lemmas.Bool.{and_from, and_parts}, Math.Bool.{and-false}}
+use Rattle.std.specs.{List.{list_all}, Option.{is_some}}
 use Rattle.rio_num.specs.Word.{is_item_text}
 use Rattle.rio_key.specs.declared.head.KeyHead.{KeyHead}
 use Rattle.rio_head.specs.declared.reason.Reason.TheVariants.{BadKey, BadName, BadObject}
@@ -9,7 +9,7 @@ use Rattle.rio_dir.specs.Table.{is_before, with_head}
 use Rattle.rio_state.specs.{Contents.{object_in}, KeyedRecords.{KeyedRecord, is_tree_key}}
 use Rattle.rio_state.specs.Reasons.{Beside, ReasonAt, is_bad_object, key_reasons, reason_at, reason_if}
 use Rattle.rio_state.proofs.NoReason.{none_if}
-use Rattle.rio_recover.specs.{Causes.{Judges}, Checks.{item_reasons}, declared.fault.RecoverFault.{RecoverFault}}
+use Rattle.rio_recover.specs.{Causes.{Judges}, Checks.{is_untitled, item_reasons}, declared.fault.RecoverFault.{RecoverFault}}
 use Rattle.rio_recover.proofs.{Checking.{key_parts}, Judging.{judges_behind, judges_on, judges_same}}
 
 -- ---- its name and title
@@ -63,10 +63,10 @@ module _ (beside : Beside) (r : KeyedRecord) (head : KeyHead) (same : r.head ≡
 
 -- ---- the table of those that passed
 
-pub all_with : (P : KeyHead → Type 0) (h : KeyHead) (hs : List KeyHead) → P h → All P hs → All P (with_head h hs)
-all_with P h [] here all = All-cons P h [] here all
-all_with P h (k ∷ ks) here all = by (is_before h.name h.cycle k) (all_with P h ks here (All-tail P k ks all))
+pub untitled_with : (h : KeyHead) (hs : List KeyHead) → is_untitled h ≡ true → list_all is_untitled hs ≡ true → list_all is_untitled (with_head h hs) ≡ true
+untitled_with h [] here all = and_from _ _ here refl
+untitled_with h (k ∷ ks) here all = by (is_before h.name h.cycle k) (untitled_with h ks here (and_parts (is_untitled k) (list_all is_untitled ks) all).1)
   where
-    by : (b : Bool) → All P (with_head h ks) → All P (cond b (k ∷ with_head h ks) (h ∷ k ∷ ks))
-    by true rest = All-cons P k (with_head h ks) (All-head P k ks all) rest
-    by false rest = All-cons P h (k ∷ ks) here all
+    by : (b : Bool) → list_all is_untitled (with_head h ks) ≡ true → list_all is_untitled (cond b (k ∷ with_head h ks) (h ∷ k ∷ ks)) ≡ true
+    by true rest = and_from _ _ (and_parts (is_untitled k) (list_all is_untitled ks) all).0 rest
+    by false rest = and_from _ _ here all

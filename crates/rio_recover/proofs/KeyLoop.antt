@@ -1,23 +1,24 @@
 -- A loop over the keys of a file that checks those of objects and trees.
-use Rattle.std.proofs.Common.{◌≡◌, ◌∙◌, ℕ, ◌+◌, ◌<◌, List, [], ◌∷◌, ◌++◌, length, take, get_or, true, false, Some, Err, refl, sym, subst}
-use Rattle.std.proofs.lemmas.List.Elements.{All-nil}
-use Rattle.std.specs.List.{All}
+use Rattle.std.proofs.Common.{◌≡◌, ◌∙◌, ℕ, ◌+◌, ◌<◌, List, [], ◌∷◌, ◌++◌, length, take, get_or, Bool, true, false, cond, Some, Err, refl, sym, ap, subst}
+use Rattle.std.proofs.lemmas.List.{append-nil, take_more, Elements.{filter-append}, Sorted.{IsPermutation-refl}}
+use Rattle.std.specs.List.{All, filter, list_all, Sorted.{IsPermutation}}
 use Rattle.rio_types.specs.declared.class.ClassDef.{ClassDef}
 use Rattle.rio_host.specs.{Host.{View}, OnlyReads.{OnlyReads}}
 use Rattle.rio_host.proofs.ReadsLaws.{reads_none}
-use Rattle.rio_chain.specs.Found.{IsShortKey}
+use Rattle.rio_dir.specs.Table.{with_head}
 use Rattle.rio_key.specs.declared.head.KeyHead.{KeyHead}
 use Rattle.rio_state.specs.{KeyedRecords.{KeyedRecord, is_top_key, top_keys}, Reasons.{Beside, key_reasons, keys_reasons}}
-use Rattle.rio_recover.specs.{Causes.{Judges}, Checks.{IsChecking, beside_of}, Keys.{StandsIn, keyed_by, record_heads}, Names.{IndexesNames}}
+use Rattle.rio_recover.specs.{Causes.{Judges}, Checks.{IsChecking, beside_of, is_untitled}, Keys.{StandsIn, keyed_by, record_heads}, Names.{IndexesNames}}
 use Rattle.rio_recover.specs.{declared.fault.RecoverFault.{RecoverFault}, declared.judge.KeyCheck.{KeyCheck}}
-use Rattle.rio_recover.proofs.{Checking.{KeysSoFar, checked, none_checked, refused, skipped}, Numbered.{RecordAtIndex, record_at}}
+use Rattle.rio_recover.proofs.{Checking.{KeysSoFar, checked, moved_with, none_checked, refused, skipped}, KeyJudged.{untitled_with}, Numbered.{RecordAtIndex, record_at}}
 
 pub keys_begin : (start : View) (classes : List ClassDef) (heads : List KeyHead) (check : KeyCheck) → IndexesNames (top_keys (keyed_by heads)) check.names → check.passed.heads ≡ []
     → KeysSoFar start start classes heads 0 check
 keys_begin start classes heads check names none = record {
   calls = reads_none start;
   calm = refl;
-  short = λ all. subst (All IsShortKey) (sym none) (All-nil IsShortKey);
+  items = subst (IsPermutation []) (sym none) (IsPermutation-refl []);
+  untitled = ap (list_all is_untitled) none;
   told = λ file records holds stand same. none_checked classes heads check records names none same;
 }
 
@@ -26,23 +27,32 @@ module _ (start now : View) (classes : List ClassDef) (heads : List KeyHead) (k 
   record_here file records same =
       record_at file records k head (subst (λ (hs : List KeyHead). k < length hs) same lt) (subst (λ (hs : List KeyHead). head ≡ get_or hs k head) same is)
 
+  -- the items up to the next index
+  next : (top : Bool) → is_top_key head ≡ top → filter is_top_key (take (k + 1) heads) ≡ filter is_top_key (take k heads) ++ cond top (head ∷ []) []
+  next top kind =
+      ap (filter is_top_key) (take_more heads k head lt ∙ ap (λ (h : KeyHead). take k heads ++ h ∷ []) (sym is))
+      ∙ filter-append is_top_key (take k heads) (head ∷ [])
+      ∙ ap (λ (b : Bool). filter is_top_key (take k heads) ++ cond b (head ∷ []) []) kind
+
   pub keys_skip : is_top_key head ≡ false → KeysSoFar start now classes heads (k + 1) old
   keys_skip top = record {
     calls = sofar.calls;
     calm = sofar.calm;
-    short = sofar.short;
+    items = subst (λ (hs : List KeyHead). IsPermutation hs old.passed.heads) (sym (next false top ∙ append-nil (filter is_top_key (take k heads)))) sofar.items;
+    untitled = sofar.untitled;
     told = λ file records holds stand same. skipped file (beside_of classes records) records k head (record_here file records same) old top (sofar.told file records holds stand same);
   }
 
   pub keys_pass : (new : View) (check : KeyCheck) → is_top_key head ≡ true → OnlyReads start new → new.disk_faults ≡ start.disk_faults
-      → (IsShortKey head → All IsShortKey old.passed.heads → All IsShortKey check.passed.heads)
+      → check.passed.heads ≡ with_head head old.passed.heads → is_untitled head ≡ true
       → ((file : List ℕ) (r : KeyedRecord) (beside : Beside) (before : List KeyedRecord) → now.holds ≡ Some file → StandsIn file r → r.head ≡ head → beside.classes ≡ classes
       → IsChecking beside before old → (key_reasons beside before r ≡ []) × IsChecking beside (before ++ r ∷ []) check)
       → KeysSoFar start new classes heads (k + 1) check
-  keys_pass new check top calls calm short told = record {
+  keys_pass new check top calls calm passed untitled told = record {
     calls = calls;
     calm = calm;
-    short = λ all. short (subst IsShortKey (sym is) (all k head lt)) (sofar.short all);
+    items = subst (λ (hs : List KeyHead). IsPermutation hs check.passed.heads) (sym (next true top)) (moved_with (filter is_top_key (take k heads)) old.passed.heads check.passed.heads head sofar.items passed);
+    untitled = ap (list_all is_untitled) passed ∙ untitled_with head old.passed.heads untitled sofar.untitled;
     told = λ file records holds stand same.
         let r = record_here file records same in
         let before = sofar.told file records holds stand same in

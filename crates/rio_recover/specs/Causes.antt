@@ -1,6 +1,6 @@
 -- Why a call of this crate fails, and what it tells of a file.
 use Rattle.std.specs.Prelude.{◌≡◌, List, [], Some, Result, Ok, Err, slice_get}
-use Rattle.rio_head.specs.declared.reason.Reason.TheVariants.{NoChain}
+use Rattle.rio_head.specs.{Head.{IsHeaderKind}, declared.reason.Reason.TheVariants.{NoChain}}
 use Rattle.rio_host.specs.{Host.{View, Rose}, declared.reading.ReadFault.{ReadFault, TheVariants.{NoMemory as NoRoom, HostFault as DiskFault}}}
 use Rattle.rio_chain.specs.declared.fault.WalkFault.{WalkFault, TheVariants.{NoChain as Broken, NoMemory as WalkMemory, HostFault as WalkDisk}}
 use Rattle.rio_state.specs.Reasons.{ReasonAt, reason_at}
@@ -22,15 +22,15 @@ fault_of_read DiskFault = HostFault
 -- a count of faults rises where a call of the host failed, and only there
 abbrev pub IsRecoverCause : {X : Type 0} → View → View → Result X RecoverFault → Type 0
 IsRecoverCause old new (Ok x) = new.disk_faults ≡ old.disk_faults
-IsRecoverCause old new (Err (BadFile place kind)) = new.disk_faults ≡ old.disk_faults
+IsRecoverCause old new (Err (BadFile place kind)) = IsHeaderKind kind × (new.disk_faults ≡ old.disk_faults)
 IsRecoverCause old new (Err (ReadOnly place reason)) = new.disk_faults ≡ old.disk_faults
 IsRecoverCause old new (Err NoMemory) = new.disk_faults ≡ old.disk_faults
 IsRecoverCause old new (Err HostFault) = Rose old.disk_faults new.disk_faults
 
--- a call that calls no host doesn't tell a fault of it
+-- a call that calls no host returns no fault of it, nor one of the header
 abbrev pub CallsNoHost : {X : Type 0} → Result X RecoverFault → Type 0
 CallsNoHost (Ok x) = Unit {0}
-CallsNoHost (Err (BadFile place kind)) = Unit {0}
+CallsNoHost (Err (BadFile place kind)) = ⊥
 CallsNoHost (Err (ReadOnly place reason)) = Unit {0}
 CallsNoHost (Err NoMemory) = Unit {0}
 CallsNoHost (Err HostFault) = ⊥

@@ -1,7 +1,10 @@
 pub mod Causes
 pub mod Checks
 pub mod Classes
+pub mod Cleaning
+pub mod Closable
 pub mod Keys
 pub mod Names
 pub mod Recovered
 pub mod Walked
+pub mod Whole

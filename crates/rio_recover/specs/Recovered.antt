@@ -1,5 +1,5 @@
 -- What is recovered of a file that reads as a state, and what a recovery answers.
-use Rattle.std.specs.Prelude.{◌≡◌, ◌+◌, ◌≤◌, ℕ, List, [], ◌++◌, map, length, Bool, true, false, ◌==◌, ◌&&◌, ◌||◌, not, MatchBool, Option, Some, None, Result, Ok, Err, slice_get}
+use Rattle.std.specs.Prelude.{◌≡◌, ◌+◌, ◌≤◌, ℕ, List, [], ◌++◌, map, length, Bool, true, false, ◌==◌, ◌||◌, not, MatchBool, Option, Some, None, Result, Ok, Err, slice_get}
 use Rattle.std.specs.{List.{filter, Sorted.{IsPermutation}}, Option.{option_map, option_map_or}}
 use Rattle.rio_types.specs.declared.class.ClassDef.{ClassDef}
 use Rattle.rio_key.specs.declared.head.KeyHead.{KeyHead}
@@ -8,24 +8,16 @@ use Rattle.rio_chain.specs.{Chains.{HasChain}, Placing.{file_end}, Segments.{Lin
 use Rattle.rio_dir.specs.Unborn.{header_fault}
 use Rattle.rio_machine.specs.{Limits.{item_limit}, State.{State}}
 use Rattle.rio_state.specs.{Closing.{KeptRecords, close_need, end_limit, name_in}, Contents.{HasStateClasses, state_classes}, DirectoryKeys.{AreKeysOf}}
-use Rattle.rio_state.specs.KeyedRecords.{KeyedRecord, first_place, info_key, is_top_key, is_tree_key, is_tree_record, keyed_records, top_keys}
-use Rattle.rio_state.specs.{Reads.{ReadsAsState, info_place}, Reasons.{IsFirstReason, ReasonAt, reason_at, room_reasons, state_reasons}}
+use Rattle.rio_state.specs.{Cleaning.{unreferred}, KeyedRecords.{KeyedRecord, first_place, info_key, is_top_key, keyed_records, top_keys}}
+use Rattle.rio_state.specs.{Reads.{ReadsAsState}, Reasons.{IsFirstReason, ReasonAt, reason_at, room_reasons, state_reasons}}
 use Rattle.rio_recover.specs.{Keys.{record_heads}, declared.fault.RecoverFault.{RecoverFault, TheVariants.{BadFile, ReadOnly, NoMemory, HostFault}}}
 use Rattle.rio_recover.specs.{declared.recovery.ReadState.{ReadState}, declared.recovery.Recovered.{Recovered}, declared.walked.Walked.{Walked}}
 
 -- ---- garbage
 
--- the record is that of an object or a tree; of a tree's name it has the greatest cycle
-abbrev pub is_item_record : List KeyedRecord → KeyedRecord → Bool
-is_item_record tops r = is_top_key r.head && (not (is_tree_key r.head) || is_tree_record tops r)
-
--- the state refers to the record, or the file itself does: it is the first, that of the class list that counts, or an item's
-abbrev pub is_referred : List KeyedRecord → KeyedRecord → Bool
-is_referred records r = (r.head.seek == first_place) || (r.head.seek == info_place (info_key records)) || is_item_record (top_keys records) r
-
 -- the places of the records that nothing refers to, in order
 abbrev pub garbage_of : List KeyedRecord → List ℕ
-garbage_of records = map (λ r. r.head.seek) (filter (λ r. not (is_referred records r)) records)
+garbage_of records = map (λ r. r.head.seek) (unreferred records)
 
 -- a key that is neither that of the first record nor of the class list at this place, nor of an item: where no item is a
 -- tree's, nothing refers to its record

@@ -1,9 +1,10 @@
 -- What a walk through a file answers.
 use Rattle.std.specs.Prelude.{◌≡◌, ℕ, List, false, Some, Result, Ok, Err}
 use Rattle.rio_head.specs.{Form.{is_large_head}, Head.{fault_at, head_at}, declared.head.FileHead.{FileHead}}
-use Rattle.rio_chain.specs.{Chains.{HasChain}, Segments.{Link}}
+use Rattle.rio_chain.specs.{Adjoining.{AreSegments}, Chains.{HasChain}, Segments.{Link}}
 use Rattle.rio_state.specs.{KeyedRecords.{keyed_records}, Reasons.{IsReasonOfMade, reason_at}}
-use Rattle.rio_recover.specs.{Keys.{record_heads}, declared.fault.RecoverFault.{RecoverFault, TheVariants.{BadFile, ReadOnly, NoMemory, HostFault}}}
+use Rattle.rio_chain.specs.Keyed.{AreKeyed, IsRecordKey}
+use Rattle.rio_recover.specs.{Keys.{record_heads}, Whole.{BeginsWithFile, HoldsDirectory}, declared.fault.RecoverFault.{RecoverFault, TheVariants.{BadFile, ReadOnly, NoMemory, HostFault}}}
 use Rattle.rio_recover.specs.declared.walked.Walked.{Walked}
 
 -- the header breaks no rule and has the small form
@@ -34,3 +35,12 @@ JudgesWalk (Err (BadFile place kind)) file = head_at file ≡ Err (fault_at plac
 JudgesWalk (Err (ReadOnly place reason)) file = IsReasonOfMade file (Some (reason_at place reason))
 JudgesWalk (Err NoMemory) file = Unit {0}
 JudgesWalk (Err HostFault) file = Unit {0}
+
+-- ---- whatever the host tells
+
+-- the keys are those of the records; the first is that of a first record, and the directory record is within it
+pub record IsWholeWalk (walked : Walked) : Type 0 where
+  pub shape : AreSegments walked.segments
+  pub keyed : AreKeyed IsRecordKey walked.segments walked.heads
+  pub first : BeginsWithFile walked.heads
+  pub directory : HoldsDirectory walked.nbytes_name walked.segments

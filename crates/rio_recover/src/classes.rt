@@ -166,6 +166,7 @@ pub(crate) fn read_classes<H: Host>(
         → (H.view host.old).holds ≡ Some file → IfSome found (StandsIn file)
         → option_map (λ r. r.head) found ≡ option_copied info.entry
         → Obtains result (AreClassesOf found) }
+    ensures state { IfOk result (λ classes. IfSome classes StateClasses) }
     ensures calls { OnlyReads (H.view host.old) (H.view host.new) }
     ensures cause { IsRecoverCause (H.view host.old) (H.view host.new) result }
 {

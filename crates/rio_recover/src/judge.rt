@@ -1,16 +1,16 @@
 //! The first reason against the key of an object or a tree.
-ghost use Rattle.std.specs.Prelude.{◌≡◌, ◌==◌, ◌∷◌, ◌++◌, [], not, length, ℕ, List, Some, IfOk, OnOk};
-ghost use Rattle.std.specs.List.{All};
+ghost use Rattle.std.specs.Prelude.{◌≡◌, ◌==◌, ◌∷◌, ◌++◌, [], not, true, length, ℕ, List, Some, IfOk, OnOk};
+ghost use Rattle.std.specs.List.{All, filter, list_all};
 ghost use Rattle.std.specs.List.Sorted.{IsPermutation};
 ghost use Rattle.rio_num.specs.Word.{is_item_text};
 ghost use Rattle.rio_head.specs.declared.reason.Reason.TheVariants.{BadKey, BadName, BadObject};
 ghost use Rattle.rio_host.specs.Host.{IsWithin};
 ghost use Rattle.rio_host.specs.OnlyReads.{OnlyReads};
-ghost use Rattle.rio_chain.specs.Found.{IsShortKey};
-ghost use Rattle.rio_state.specs.KeyedRecords.{KeyedRecord, top_keys};
+ghost use Rattle.rio_dir.specs.Table.{with_head};
+ghost use Rattle.rio_state.specs.KeyedRecords.{KeyedRecord, is_top_key, top_keys};
 ghost use Rattle.rio_state.specs.Reasons.{Beside, is_bad_object, key_reasons, keys_reasons, reason_if};
 ghost use Rattle.rio_recover.specs.Causes.{CallsNoHost, IsRecoverCause, Judges};
-ghost use Rattle.rio_recover.specs.Checks.{IsChecking, beside_of};
+ghost use Rattle.rio_recover.specs.Checks.{IsChecking, beside_of, is_untitled};
 ghost use Rattle.rio_recover.specs.Keys.{AreWithin, StandsIn, record_end, record_heads};
 
 use crate::RecoverFault;
@@ -48,6 +48,7 @@ fn check_name(head: &KeyHead) -> Result<(), RecoverFault>
     ensures told { Judges result
         (reason_if (not (is_item_text head.now.name)) head.now.seek BadName
         ++ reason_if (not (length head.now.title == 0)) head.now.seek BadKey) (λ _. Unit {0}) }
+    ensures untitled { OnOk result (is_untitled head.now ≡ true) }
     ensures alone { CallsNoHost result }
 {
     if !is_item(head.name.as_slice()) {
@@ -61,9 +62,8 @@ fn check_name(head: &KeyHead) -> Result<(), RecoverFault>
 
 impl KeyCheck {
     ghost use Rattle.std.specs.Prelude.{◌≡◌, ◌∷◌, ◌++◌, [], List, IfOk, OnOk};
-    ghost use Rattle.std.specs.List.{All};
     ghost use Rattle.rio_key.specs.declared.head.KeyHead.{KeyHead as Head};
-    ghost use Rattle.rio_chain.specs.Found.{IsShortKey};
+    ghost use Rattle.rio_dir.specs.Table.{with_head};
     ghost use Rattle.rio_state.specs.KeyedRecords.{KeyedRecord, top_keys};
     ghost use Rattle.rio_state.specs.Reasons.{Beside};
     ghost use Rattle.rio_recover.specs.Causes.{CallsNoHost, Judges};
@@ -91,8 +91,8 @@ impl KeyCheck {
             → r.head ≡ head.now → IsChecking beside before self.old
             → Judges result (item_reasons beside before r)
             (λ _. IsChecking beside (before ++ r ∷ []) self.new) }
-        ensures short { IsShortKey head.now → All IsShortKey self.old.passed.heads
-            → OnOk result (All IsShortKey self.new.passed.heads) }
+        ensures passed { OnOk result
+            (self.new.passed.heads ≡ with_head head.now self.old.passed.heads) }
         ensures alone { CallsNoHost result }
     {
         if is_tree_key(head) && !self.names.is_outdated(head) {
@@ -143,8 +143,9 @@ fn check_key<H: Host>(
         → beside.classes ≡ classes.now → IsChecking beside before check.old
         → Judges result (key_reasons beside before r)
         (λ _. IsChecking beside (before ++ r ∷ []) check.new) }
-    ensures short { IsShortKey head.now → All IsShortKey check.old.passed.heads
-        → OnOk result (All IsShortKey check.new.passed.heads) }
+    ensures passed { OnOk result
+        (check.new.passed.heads ≡ with_head head.now check.old.passed.heads) }
+    ensures untitled { OnOk result (is_untitled head.now ≡ true) }
     ensures calls { OnlyReads (H.view host.old) (H.view host.new) }
     ensures cause { IsRecoverCause (H.view host.old) (H.view host.new) result }
 {
@@ -166,7 +167,9 @@ pub(crate) fn check_keys<H: Host>(
         → heads.now ≡ record_heads records
         → Judges result (keys_reasons (beside_of classes.now records) [] (top_keys records))
         (λ table. IsPermutation (record_heads (top_keys records)) table.heads) }
-    ensures short { All IsShortKey heads.now → IfOk result (λ table. All IsShortKey table.heads) }
+    ensures items { IfOk result
+        (λ table. IsPermutation (filter is_top_key heads.now) table.heads) }
+    ensures untitled { IfOk result (λ table. list_all is_untitled table.heads ≡ true) }
     ensures calls { OnlyReads (H.view host.old) (H.view host.new) }
     ensures cause { IsRecoverCause (H.view host.old) (H.view host.new) result }
 {

@@ -1,6 +1,7 @@
 //! The state that a file reads as, by a walk through it, with every reason why nothing is written to a file.
 //! [`is_unborn`] tells whether a file is made. Of a made one [`recover`] tells the state, or the first rule that its
-//! header breaks, or the first reason not to write to it, and writes nothing. No tree is read yet: a tree's key is a
+//! header breaks, or the first reason not to write to it, and writes nothing. [`clean`] releases the records that nothing
+//! refers to. No tree is read yet: a tree's key is a
 //! reason, unless another has its name and a higher cycle.
 //!
 //! The definitions stand in `specs/`: `Recovered` (what is recovered and what is answered) and `Causes` (why a call
@@ -8,9 +9,11 @@
 #![tactic(auto)]
 
 mod classes;
+mod cleaning;
 mod fault;
 mod judge;
 mod keys;
+mod laws;
 mod names;
 mod object;
 mod recovery;
@@ -18,6 +21,8 @@ mod room;
 mod unborn;
 mod walked;
 
+pub use cleaning::clean;
 pub use fault::RecoverFault;
+pub use laws::garbage_is_cleaned;
 pub use recovery::{Recovered, recover};
 pub use unborn::is_unborn;

@@ -1,6 +1,7 @@
 //! A file is recovered.
-ghost use Rattle.std.specs.Prelude.{◌≡◌, ◌+◌, ◌<◌, ◌≤◌, ◌^◌, false, ℕ, List, Some, IfOk};
-ghost use Rattle.std.specs.List.{All};
+ghost use Rattle.std.specs.Prelude.{◌≡◌, ◌+◌, ◌<◌, ◌≤◌, ◌^◌, false, true, ℕ, List, Some, IfOk};
+ghost use Rattle.std.specs.List.{All, filter, list_all};
+ghost use Rattle.std.specs.List.Sorted.{IsPermutation};
 ghost use Rattle.std.specs.Option.{option_copied, option_map, option_map_or};
 ghost use Rattle.rio_host.specs.OnlyReads.{OnlyReads};
 ghost use Rattle.rio_chain.specs.Adjoining.{AreSegments};
@@ -11,10 +12,14 @@ ghost use Rattle.rio_chain.specs.Segments.{Link};
 ghost use Rattle.rio_chain.specs.Walks.{Told};
 ghost use Rattle.rio_dir.specs.Table.{AreOrdered};
 ghost use Rattle.rio_dir.specs.Unborn.{is_unborn};
+ghost use Rattle.rio_model.specs.StateClasses.{StateClasses};
 ghost use Rattle.rio_state.specs.Closing.{end_limit, name_in};
 ghost use Rattle.rio_state.specs.KeyedRecords.{KeyedRecord, info_key, is_top_key, keyed_records};
 ghost use Rattle.rio_recover.specs.Causes.{IsRecoverCause};
+ghost use Rattle.rio_recover.specs.Checks.{is_untitled};
 ghost use Rattle.rio_recover.specs.Keys.{AreWithin, StandsIn, keyed_by, record_heads};
+ghost use Rattle.rio_recover.specs.Walked.{IsWholeWalk};
+ghost use Rattle.rio_recover.specs.Whole.{IsWhole};
 ghost use Rattle.rio_recover.specs.Recovered.{AreParts, HasRoomBehind, IsAnswer, IsKeptOf, JudgesLinks, JudgesState, TellsAll, is_left_over, place_in, places_left};
 
 use crate::RecoverFault;
@@ -121,8 +126,10 @@ fn read_state<H: Host>(
     ensures told { (file : List ℕ) (records : List KeyedRecord)
         → (H.view host.old).holds ≡ Some file → All (StandsIn file) records
         → heads.now ≡ record_heads records → JudgesState result records }
-    ensures short { All IsShortKey heads.now
-        → IfOk result (λ state. All IsShortKey state.table.heads) }
+    ensures items { IfOk result
+        (λ state. IsPermutation (filter is_top_key heads.now) state.table.heads) }
+    ensures untitled { IfOk result (λ state. list_all is_untitled state.table.heads ≡ true) }
+    ensures classes { IfOk result (λ state. StateClasses state.registry) }
     ensures calls { OnlyReads (H.view host.old) (H.view host.new) }
     ensures cause { IsRecoverCause (H.view host.old) (H.view host.new) result }
 {
@@ -184,7 +191,7 @@ fn recover_walked<H: Host>(
     host: &mut H,
     walked: Walked,
 ) -> Result<Recovered, RecoverFault>
-    requires shape { AreSegments walked.segments }
+    requires whole { IsWholeWalk walked }
     requires end { file_end walked.segments < 2 ^ 64 }
     requires short { All IsShortKey walked.heads }
     requires within { AreWithin (H.view host.old) walked.heads }
@@ -192,6 +199,7 @@ fn recover_walked<H: Host>(
         → HasChain links walked.segments file → walked.heads ≡ record_heads (keyed_records links)
         → JudgesLinks result links }
     ensures kept { IfOk result (IsKeptOf walked) }
+    ensures whole { IfOk result IsWhole }
     ensures ordered { IfOk result (λ r. AreOrdered r.table.heads) }
     ensures room { IfOk result HasRoomBehind }
     ensures calls { OnlyReads (H.view host.old) (H.view host.new) }
@@ -222,6 +230,8 @@ pub fn recover<H: Host>(alloc: Global, host: &mut H) -> Result<Recovered, Recove
     ensures answer { Told (H.view host.old) (IsAnswer result) }
     ensures told { Told (H.view host.old) (TellsAll result) }
     ensures fresh { IfOk result (λ r. r.chain.spent ≡ false) }
+    // What the keys of the records tell is so whatever the host tells.
+    ensures whole { IfOk result IsWhole }
     ensures room { IfOk result HasRoomBehind }
     ensures calls { OnlyReads (H.view host.old) (H.view host.new) }
     ensures cause { IsRecoverCause (H.view host.old) (H.view host.new) result }

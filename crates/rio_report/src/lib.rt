@@ -31,6 +31,6 @@ mod tree_line;
 
 pub use dump::say_dump;
 pub use item::Item;
-pub use ls::say_ls;
+pub use ls::{key_listing, say_ls};
 pub use rio_close::ReportFault;
 pub use scan::say_scan;

@@ -32,9 +32,9 @@ fn put_line(text: &mut Bytes, key: &KeyHead) -> Result<(), NoMemory>
     text.put(b"\n")
 }
 
-// A line for each key, in order.
+/// A line for each key, in order.
 #[tactic(auto, unfolding(rio_dir::specs::Listing::key_lines))]
-fn listing(alloc: Global, keys: &[KeyHead]) -> Result<Bytes, NoMemory>
+pub fn key_listing(alloc: Global, keys: &[KeyHead]) -> Result<Bytes, NoMemory>
     ensures { IfOk result (λ text. text.bytes ≡ key_lines keys.now) }
 {
     let mut text = Bytes::new(alloc);
@@ -53,7 +53,7 @@ fn say_listing<H: Host>(alloc: Global, host: &mut H) -> Result<(), ReportFault>
     ensures cause { IsSayCause (H.view host.old) (H.view host.new) result }
 {
     let closed = open_closed(alloc, host)?;
-    let text = listing(alloc, closed.keys.as_slice())?;
+    let text = key_listing(alloc, closed.keys.as_slice())?;
     match host.say(text.as_slice()) {
         Ok(()) => Ok(()),
         Err(_) => Err(ReportFault::SayFault),

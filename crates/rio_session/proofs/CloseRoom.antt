@@ -1,14 +1,14 @@
 -- What a close needs, of what a session keeps.
-use Rattle.std.proofs.Common.{◌≡◌, ◌≤◌, ◌+◌, ◌-◌, ◌==◌, ◌^◌, true≢false, ℕ, Bool, true, false, leb, ltb, List, [], ◌∷◌, length, refl, sym, ap, subst, ◌∙◌, arith}
+use Rattle.std.proofs.Common.{◌≡◌, ◌≤◌, ◌<◌, ◌+◌, ◌-◌, ◌==◌, ◌||◌, ◌^◌, true≢false, ℕ, Bool, true, false, leb, ltb, List, [], ◌∷◌, length, Option, Some, None, Bor, refl, sym, ap, subst, ◌∙◌, arith}
 use Rattle.std.proofs.{lemmas.Bool.{and_parts, eqb-true, leb-true, ltb-true}, lemmas.List.Folds.{list_all_at}}
-use Rattle.std.specs.{Prelude.{if◌then◌else◌, slice_index_or}, List.{All, list_all}}
+use Rattle.std.specs.{Prelude.{IfSome, if◌then◌else◌, slice_index_or}, List.{All, list_all, list_any}, Option.{option_copied}}
 use Rattle.rio_num.specs.At.{place_len_of}
 use Rattle.rio_key.specs.{Written.{FitsKey}, declared.head.KeyHead.{KeyHead}}
 use Rattle.rio_dir.specs.Table.{heads_size}
-use Rattle.rio_chain.specs.{Adjoining.{segments_end}, Placing.{file_end, record_count, rest_of_gap, with_segment}}
+use Rattle.rio_chain.specs.{Adjoining.{AreAdjacent, AreSegments, segments_end}, Placing.{file_end, record_count, rest_of_gap, with_segment}}
 use Rattle.rio_chain.specs.declared.segment.Segment.{Segment, TheVariants.{Record, Gap}}
 use Rattle.rio_state.specs.Sizes.{close_size}
-use Rattle.rio_session.specs.Kept.{IsClosable, is_fit_key, kept_with}
+use Rattle.rio_recover.specs.Closable.{IsClosable, begins_at, is_fit_key, is_placed, kept_with}
 use Rattle.rio_state.proofs.CloseSizes.{close_size_is_need}
 
 -- ---- keys
@@ -38,11 +38,37 @@ fits_all heads all k d lt = by (is_fit_key (slice_index_or heads k d)) refl
 -- ---- room
 
 -- there is room for the records of a close
-pub need_low : (segments segments' : List Segment) (heads : List KeyHead) (name name' : List ℕ) → IsClosable segments heads name → segments' ≡ segments → name' ≡ name
+pub need_low : (segments segments' : List Segment) (heads : List KeyHead) (info : Option KeyHead) (name name' : List ℕ) → IsClosable segments heads info name → segments' ≡ segments → name' ≡ name
     → file_end segments' + close_size name' (heads_size heads) (record_count segments') ≤ 1999999996
-need_low segments segments' heads name name' kept same own =
+need_low segments segments' heads info name name' kept same own =
     subst (λ (x : List Segment × List ℕ). file_end x.0 + close_size x.1 (heads_size heads) (record_count x.0) ≤ 1999999996) (λ i. (sym same i, sym own i))
     (omega (arith, kept.room, close_size_is_need (kept_with name heads (record_count segments))))
+
+-- ---- the class list
+
+end_least : (from : ℕ) (segments : List Segment) → from ≤ segments_end from segments
+end_least from [] = omega arith
+end_least from (Record p k ∷ segments) = omega (arith, end_least (from + k) segments)
+end_least from (Gap p k ∷ segments) = omega (arith, end_least (from + k) segments)
+
+-- a record begins before END
+begins_low : (from place : ℕ) (segments : List Segment) → AreAdjacent from segments → list_any (begins_at place) segments ≡ true → place ≤ segments_end from segments
+begins_low from place [] shape e = absurd cc
+begins_low from place (Gap p k ∷ segments) shape e = begins_low (from + k) place segments shape.1 e
+begins_low from place (Record p k ∷ segments) shape e = by (p == place) refl (begins_low (from + k) place segments shape.1) e
+  where
+    by : (b : Bool) → (p == place) ≡ b → (list_any (begins_at place) segments ≡ true → place ≤ segments_end (from + k) segments) → (b || list_any (begins_at place) segments) ≡ true
+        → place ≤ segments_end (from + k) segments
+    by true is later e = omega (arith, shape.0.there, eqb-true p place is, end_least (from + k) segments)
+    by false is later e = later e
+
+-- so the place of the class list that is kept fits its word
+pub list_low : (segments : List Segment) (heads : List KeyHead) (info : Option KeyHead) (name : List ℕ) (own : Option (Bor KeyHead)) → AreSegments segments → IsClosable segments heads info name
+    → option_copied own ≡ info → IfSome own (λ h. h.now.seek < 2 ^ 32)
+list_low segments heads info name None shape kept is = tt
+list_low segments heads info name (Some h) shape kept is =
+    let placed : is_placed segments h.now ≡ true = subst (λ (o : Option KeyHead). IfSome o (λ k. is_placed segments k ≡ true)) (sym is) kept.listed in
+    omega (arith, begins_low 100 h.now.seek segments shape.adjacent placed, kept.room)
 
 -- ---- END
 

@@ -12,7 +12,8 @@ use Rattle.rio_state.specs.Reads.{ReadsAsState, ReadsClosed}
 use Rattle.rio_step.specs.{Runs.{closed_of, closing_saves, has_pending, states_of_run}, Step.{state_behind}}
 use Rattle.rio_close.specs.{Leaving.{HoldsClosed, HoldsClosedWith, HoldsOpen, IsClosedWith, StaysAs}, Written.{AreCloseRecords, OpenFile}}
 use Rattle.rio_close.specs.declared.parts.CloseRecords.{CloseRecords}
-use Rattle.rio_session.specs.{Closes.{ClosesFile, IsWellClosed, open_file}, Kept.{IsClosable}, Session.{ClosesAs, SessionState, StandsFor}}
+use Rattle.rio_recover.specs.Closable.{IsClosable}
+use Rattle.rio_session.specs.{Closes.{ClosesFile, IsWellClosed, open_file}, Session.{ClosesAs, SessionState, StandsFor}}
 use Rattle.rio_session.proofs.States.{Known, known}
 use Rattle.rio_reply.proofs.Listings.{entries-empty}
 
@@ -57,14 +58,14 @@ module _ (v : View) (s : SessionState) (m : State) (text : List ℕ) (stands : S
   unfolding closed_of closing_saves
   closed_same = ap (λ (es : List (List ℕ × Tree)). fold state_behind m (map (λ e. Save e.0) (filter (λ e. has_pending e.1) es))) (ap (λ (t : FinMap name_order Tree). entries t) known_here.stand.trees ∙ entries-empty)
 
-  -- behind the close
+  -- after the close
   pub leaves_closed : (new : View) → IsQuiet new → HoldsClosed new m → (image said : List ℕ) → Leaves new image said → ReadsAsState image (closed_of m) × ReadsClosed image (closed_of m)
   leaves_closed new quiet held image said left =
       let file_is : image ≡ held.file = quiet image said held.file left held.holds in
       subst (λ (x : State × List ℕ). ReadsAsState x.1 x.0 × ReadsClosed x.1 x.0) (λ i. (sym closed_same i, sym file_is i)) (held.reads, held.closed)
 
 -- what is written
-pub closes_file : (old new : View) (s : SessionState) (m : State) (f : OpenFile) (r : CloseRecords) (held : HoldsOpen old f m) → f ≡ open_file s → AreCloseRecords f r → HoldsClosedWith new f held.links r held.file → IsClosable s.segments s.heads s.name
+pub closes_file : (old new : View) (s : SessionState) (m : State) (f : OpenFile) (r : CloseRecords) (held : HoldsOpen old f m) → f ≡ open_file s → AreCloseRecords f r → HoldsClosedWith new f held.links r held.file → IsClosable s.segments s.heads s.info s.name
     → (kept_in held.links).name ≡ s.name → ClosesFile old new s
 closes_file old new s m f r held same made written kept named = record {
   records = r;

@@ -1,6 +1,5 @@
 -- What each command does, in all clauses.
-use Rattle.std.proofs.Common.{◌≡◌, ℕ, ◌+◌, ◌^◌, ◌<◌, ◌≤◌, List, [], ◌∷◌, length, Option, Some, None, Result, Ok, Err, IfOk, Bool, true, false, refl, sym, ap, subst, ◌∙◌, arith}
-use Rattle.std.specs.Prelude.{is_some}
+use Rattle.std.proofs.Common.{◌≡◌, ℕ, ◌+◌, ◌^◌, ◌<◌, ◌≤◌, List, [], ◌∷◌, Option, Some, None, Result, Ok, Err, IfOk, Bool, true, false, refl, sym, ap, subst, ◌∙◌, arith}
 use Rattle.rio_host.specs.Host.{IsLawful, View}
 use Rattle.rio_num.specs.Word.{is_item_text}
 use Rattle.rio_types.specs.declared.class.ClassDef.{ClassDef}
@@ -20,7 +19,9 @@ use Rattle.rio_judge.specs.declared.work.Judged.TheVariants.{Accepted as Judgeme
 use Rattle.rio_judge.specs.declared.work.{StoredObject.{StoredObject}, Work.TheVariants.{Put as Storing, Get as Telling, Ls as Listing}}
 use Rattle.rio_effect.specs.ObjectRecord.{key_of_put}
 use Rattle.rio_judge.proofs.CostLaws.{cost_accepted}
-use Rattle.rio_session.specs.{Behind.{IsOfKeys}, Doable.{IsToDo}, Does.{Does}, Causes.{IsSaid}, Gets.{TellsObject}, Kept.{IsClosable, IsSoundState, is_sized, kept_with}}
+use Rattle.rio_model.specs.StateClasses.{StateClasses}
+use Rattle.rio_recover.specs.Closable.{IsClosable, is_sized, kept_with}
+use Rattle.rio_session.specs.{Behind.{IsOfKeys}, Doable.{IsToDo}, Does.{Does}, Causes.{IsSaid}, Gets.{TellsObject}, Kept.{IsSoundState}}
 use Rattle.rio_session.specs.{Puts.{IsStoredRecord, PutsRecord, putting}, Says.{SaysReply}}
 use Rattle.rio_session.specs.{Session.{IsReady, LacksRoomIfFull, SessionState, StandsFor, next_of, with_cost}, declared.fault.SessionFault.{SessionFault}}
 use Rattle.rio_session.proofs.OtherSteps.{get_outcome, get_still, get_told, ls_outcome, ls_still, ls_told, refused_lacks, refused_outcome, refused_still, refused_told}
@@ -111,30 +112,30 @@ module _ (old new : View) (s s' : SessionState) (law : IsLawful old) (law' : IsL
   pub ls_does : IsSoundState s → IsJudgementOfStates s.classes s.heads Ls (Judgement Listing) → SaysReply (listing_of s.heads) 0 old new s s' answer → IfOk answer (λ outcome. outcome ≡ Accepted) → Does old new s s' Ls answer
   ls_does sound judged says is =
       does_says old new s s' (listing_of s.heads) 0 law law' ready Ls answer fresh says
-      (λ spoken m keys. ls_still s m keys sound.none (sound.kept fresh) (judged m keys.classes keys.keys).0)
-      (λ spoken m said st. let keys = of_keys s m st.file st.state in ls_told s m keys sound.none (sound.kept fresh) (judged m keys.classes keys.keys).0)
+      (λ spoken m keys. ls_still s m keys (sound.kept fresh) (judged m keys.classes keys.keys).0)
+      (λ spoken m said st. let keys = of_keys s m st.file st.state in ls_told s m keys (sound.kept fresh) (judged m keys.classes keys.keys).0)
       (same_accepted Ls answer outcome is) (λ spoken. lacks_accepted Ls outcome) (no_put Ls answer (λ name v put. absurd cc))
     where
       outcome : (m : State) → IsOfKeys s m → outcome_of (next_of s m Ls).reply ≡ Accepted
-      outcome m keys = ls_outcome s m keys sound.none (sound.kept fresh) (judged m keys.classes keys.keys).0
+      outcome m keys = ls_outcome s m keys (sound.kept fresh) (judged m keys.classes keys.keys).0
 
   pub get_does : (name : List ℕ) (asked : Option ℕ) (h : KeyHead) → IsSoundState s → head_of name (Some h.cycle) s.heads ≡ Some h → IsJudgementOfStates s.classes s.heads (Get name asked None) (Judgement (Telling h))
       → TellsObject h old new s s' answer → IfOk answer (λ outcome. outcome ≡ Accepted) → Does old new s s' (Get name asked None) answer
   get_does name asked h sound found judged t is =
       does_says old new s s' t.text 0 law law' ready (Get name asked None) answer fresh t.says
-      (λ spoken m keys. get_still s m keys sound.none (sound.kept fresh) name asked (judged m keys.classes keys.keys).0)
+      (λ spoken m keys. get_still s m keys (sound.kept fresh) name asked (judged m keys.classes keys.keys).0)
       told
       (same_accepted (Get name asked None) answer outcome is) (λ spoken. lacks_accepted (Get name asked None) outcome) (no_put (Get name asked None) answer (λ own v put. absurd cc))
     where
       outcome : (m : State) → IsOfKeys s m → outcome_of (next_of s m (Get name asked None)).reply ≡ Accepted
-      outcome m keys = get_outcome s m keys sound.none (sound.kept fresh) name asked (judged m keys.classes keys.keys).0
+      outcome m keys = get_outcome s m keys (sound.kept fresh) name asked (judged m keys.classes keys.keys).0
 
       told : IsSaid answer → (m : State) (said : List ℕ) → StandsFor old s m said → t.text ≡ text_of (next_of s m (Get name asked None)).reply
       told spoken m said st =
           let keys = of_keys s m st.file st.state in
           let j = judged m keys.classes keys.keys in
           let r = t.tells spoken st.file st.holds st.state.links st.state.chain in
-          get_told s m st.file st.state sound.none (sound.kept fresh) name asked h.cycle h r.0 t.text j.0 j.1.1 j.1.2 found r.1 r.2
+          get_told s m st.file st.state (sound.kept fresh) name asked h.cycle h r.0 t.text j.0 j.1.1 j.1.2 found r.1 r.2
 
   pub ls_is_done : (c : Command) → IsToDo s c Listing → IsSoundState s → SaysReply (listing_of s.heads) 0 old new s s' answer → IfOk answer (λ outcome. outcome ≡ Accepted) → Does old new s s' c answer
   ls_is_done c todo sound says outcome =
@@ -149,7 +150,7 @@ module _ (old new : View) (s s' : SessionState) (law : IsLawful old) (law' : IsL
 
   -- ---- put
 
-  module _ (v : Value) (o : StoredObject) (n need cost : ℕ) (none : length s.classes ≡ 0) (listless : is_some s.info ≡ false) (kept : IsClosable s.segments s.heads s.name)
+  module _ (v : Value) (o : StoredObject) (n need cost : ℕ) (classes : StateClasses s.classes) (kept : IsClosable s.segments s.heads s.info s.name)
       (named : is_item_text o.name ≡ true) (soon : s.datime < 2 ^ 32) (judged : IsJudgementOfStates s.classes s.heads (Put o.name v) (Judgement (Storing o))) (unused : head_of o.name (Some o.cycle) s.heads ≡ None)
       (n_is : n ≡ padded_length (head_length o.class o.name + o.length)) (need_is : (h : KeyHead) → is_sized h ≡ true → h.class ≡ o.class → h.name ≡ o.name → need ≡ close_need (kept_with s.name (with_head h s.heads) (record_count s.segments + 1)))
       (cost_is : cost ≡ 500 + o.length) where
@@ -163,9 +164,9 @@ module _ (old new : View) (s s' : SessionState) (law : IsLawful old) (law' : IsL
     room_is b place low is m keys =
         let j = its m keys in
         let k = need_is (key_of_put m place s.datime o.name v)
-        (key_sized s m keys none kept.count kept.sized v o place low soon named j.0 j.1 unused)
-        (key_class s m keys none kept.count kept.sized v o place low soon named j.0 j.1 unused)
-        (key_name s m keys none kept.count kept.sized v o place low soon named j.0 j.1 unused) in
+        (key_sized s m keys kept.count kept.sized v o place low soon named j.0 j.1 unused)
+        (key_class s m keys kept.count kept.sized v o place low soon named j.0 j.1 unused)
+        (key_name s m keys kept.count kept.sized v o place low soon named j.0 j.1 unused) in
         subst (λ (x : ℕ × ℕ). is_full s.segments (x.0 ∷ []) x.1 ≡ b) (λ i. (n_is i, k i)) is
 
     pub put_does : (place : ℕ) (made : NewRecord) (text : List ℕ) → place < 2 ^ 32 → IsStoredRecord s place o made → text ≡ text_of (object_put o.name o.cycle)
@@ -175,7 +176,7 @@ module _ (old new : View) (s s' : SessionState) (law : IsLawful old) (law' : IsL
         kept_step : (m : State) → IsOfKeys s m → IsPutStep (putting made text cost) s m o.name v
         kept_step m keys =
             let j = its m keys in
-            put_is_kept s m keys none kept.count kept.sized v o place low soon named j.0 j.1 unused (putting made text cost)
+            put_is_kept s m keys kept.count kept.sized v o place low soon named j.0 j.1 unused (putting made text cost)
             (is_put_of s place o made r m v (sym keys.classes) j.0 j.1 text cost text_is cost_is)
             (room_is false place low room m keys) (at ∙ ap (place_of s.segments) n_is) r.long
 
@@ -183,7 +184,7 @@ module _ (old new : View) (s s' : SessionState) (law : IsLawful old) (law' : IsL
         step m said st =
             let keys = of_keys s m st.file st.state in
             let j = its m keys in
-            put_is_step s m st.file st.state none kept.count kept.sized v o place low soon named j.0 j.1 unused (putting made text cost)
+            put_is_step s m st.file st.state classes kept.count kept.sized v o place low soon named j.0 j.1 unused (putting made text cost)
             (is_put_of s place o made r m v (sym keys.classes) j.0 j.1 text cost text_is cost_is)
             (room_is false place low room m keys) (at ∙ ap (place_of s.segments) n_is) r.long
 
@@ -193,7 +194,7 @@ module _ (old new : View) (s s' : SessionState) (law : IsLawful old) (law' : IsL
     same_full (Ok outcome) room is = λ m keys.
         let j = its m keys in
         is ∙ ap (λ (k : ℕ). Refused (Full (file_end s.segments) k)) n_is
-        ∙ sym (full_outcome s m keys none kept.count kept.sized v o 0 (omega arith) soon named j.0 j.1 unused (room_is true 0 (omega arith) room m keys))
+        ∙ sym (full_outcome s m keys kept.count kept.sized v o 0 (omega arith) soon named j.0 j.1 unused (room_is true 0 (omega arith) room m keys))
 
     lacks_full : head_length o.class o.name ≤ 229 → is_full s.segments (n ∷ []) need ≡ true
         → (m : State) (said : List ℕ) → StandsFor old s m said → LacksRoomIfFull (with_cost cost s) (outcome_of (next_of s m (Put o.name v)).reply)
@@ -201,8 +202,8 @@ module _ (old new : View) (s s' : SessionState) (law : IsLawful old) (law' : IsL
         let keys = of_keys s m st.file st.state in
         let j = its m keys in
         let full = room_is true 0 (omega arith) room m keys in
-        let lacks = full_lacks s m st.file st.state none kept.count kept.sized v o 0 (omega arith) soon named j.0 j.1 unused listless full cost cost_is short in
-        subst (LacksRoomIfFull (with_cost cost s)) (sym (full_outcome s m keys none kept.count kept.sized v o 0 (omega arith) soon named j.0 j.1 unused full)) lacks
+        let lacks = full_lacks s m st.file st.state classes kept.count kept.sized v o 0 (omega arith) soon named j.0 j.1 unused full cost cost_is short in
+        subst (LacksRoomIfFull (with_cost cost s)) (sym (full_outcome s m keys kept.count kept.sized v o 0 (omega arith) soon named j.0 j.1 unused full)) lacks
 
     pub full_does : head_length o.class o.name ≤ 229 → is_full s.segments (n ∷ []) need ≡ true → SaysReply (text_of (refused (Full (file_end s.segments) n))) cost old new s s' answer
         → IfOk answer (λ outcome. outcome ≡ Refused (Full (file_end s.segments) n)) → Does old new s s' (Put o.name v) answer
@@ -214,11 +215,11 @@ module _ (old new : View) (s s' : SessionState) (law : IsLawful old) (law' : IsL
         still spoken m keys =
             let j = its m keys in
             let costs : cost ≡ cost_of m (Put o.name v) = cost_is ∙ ap (λ (k : ℕ). 500 + k) (j.1.written ∙ ap (λ (w : Value). value_size m.classes w) j.1.value) ∙ sym (cost_accepted m (Put o.name v) j.0) in
-            full_still s m keys none kept.count kept.sized v o 0 (omega arith) soon named j.0 j.1 unused (room_is true 0 (omega arith) room m keys) cost costs
+            full_still s m keys kept.count kept.sized v o 0 (omega arith) soon named j.0 j.1 unused (room_is true 0 (omega arith) room m keys) cost costs
 
         told : IsSaid answer → (m : State) (said : List ℕ) → StandsFor old s m said → text_of (refused (Full (file_end s.segments) n)) ≡ text_of (next_of s m (Put o.name v)).reply
         told spoken m said st =
             let keys = of_keys s m st.file st.state in
             let j = its m keys in
             ap (λ (k : ℕ). text_of (refused (Full (file_end s.segments) k))) n_is
-            ∙ full_told s m keys none kept.count kept.sized v o 0 (omega arith) soon named j.0 j.1 unused (room_is true 0 (omega arith) room m keys)
+            ∙ full_told s m keys kept.count kept.sized v o 0 (omega arith) soon named j.0 j.1 unused (room_is true 0 (omega arith) room m keys)

@@ -7,7 +7,9 @@ pub mod Keeps
 pub mod KeysBehind
 pub mod MadeRecords
 pub mod Needs
-pub mod OpenFronts
+pub mod OpenAnswers
+pub mod OpenMade
+pub mod OpenMadeMoments
 pub mod OpenMoments
 pub mod OpenNew
 pub mod Opened

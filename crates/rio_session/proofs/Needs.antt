@@ -1,20 +1,21 @@
 -- What a close of a state needs, by the keys of its objects.
-use Rattle.std.proofs.Common.{◌≡◌, ◌==◌, ℕ, ◌+◌, ◌*◌, ◌≤◌, true, List, [], ◌∷◌, map, length, codes, cond, refl, sym, ap, subst, ◌∙◌, arith}
+use Rattle.std.proofs.Common.{◌≡◌, ℕ, ◌+◌, ◌*◌, ◌≤◌, true, List, [], ◌∷◌, map, length, codes, Option, Some, None, refl, sym, ap, subst, ◌∙◌, arith}
 use Rattle.std.proofs.{lemmas.Bool.{and_parts, eqb-true}, lemmas.List.{length-map, Sums.{sum_by-cons}}}
-use Rattle.std.specs.{FinMap.{entries}, List.{list_all, sum_by}}
+use Rattle.std.specs.{FinMap.{entries}, List.{list_all, sum_by}, Option.{option_map_or}}
 use Rattle.rio_key.specs.{Written.{written_key}, declared.head.KeyHead.{KeyHead}}
 use Rattle.rio_value.specs.declared.value.Value.{Value}
 use Rattle.rio_dir.specs.Table.{heads_size, with_head}
 use Rattle.rio_chain.specs.{Placing.{record_count}, declared.segment.Segment.{Segment}}
 use Rattle.rio_state.proofs.CloseSizes.{close_size_is_need}
-use Rattle.rio_state.specs.Sizes.{close_size}
+use Rattle.rio_state.specs.{KeyedRecords.{KeyedRecord}, Left.{info_head}, Sizes.{close_size}}
 use Rattle.rio_machine.specs.{Limits.{head_length}, State.{NameAndCycle, State}}
 use Rattle.rio_chain.proofs.Records.{key_long}
 use Rattle.rio_chain.specs.declared.record.NewRecord.{NewRecord}
 use Rattle.rio_step.specs.{ItemKeys.{AreKeysOfState, told_by_key}, Step.{Listed, listed_object, object_listed, tree_listed}, Refusing.{object_class_name}}
 use Rattle.rio_state.specs.Closing.{KeptRecords, close_need, end_limit, free_length, list_length, padded_length}
-use Rattle.rio_session.specs.{Kept.{IsClosable, is_sized, kept_with}, Puts.{CanBePut}, Session.{SessionState}}
-use Rattle.rio_session.specs.Marks.{key_of_object, kept_of, list_count, state_need}
+use Rattle.rio_recover.specs.Closable.{IsClosable, is_sized, kept_with, list_count}
+use Rattle.rio_session.specs.{Puts.{CanBePut}, Session.{SessionState}}
+use Rattle.rio_session.specs.Marks.{key_of_object, kept_of, state_need}
 use Rattle.rio_session.proofs.Keeps.{size_with}
 
 abbrev written_size : KeyHead → ℕ
@@ -24,7 +25,7 @@ class_listed : Listed → List ℕ
 class_listed (object_listed class) = class
 class_listed (tree_listed saved pending) = []
 
--- the key of an object is as long as one that tells the same
+-- the key of an object is as long as one with the same class and name
 one_size : (h : KeyHead) (e : NameAndCycle × Value) → told_by_key h ≡ listed_object e → is_sized h ≡ true → written_size (key_of_object e) ≡ written_size h
 unfolding class_listed
 one_size h e same sized =
@@ -48,23 +49,28 @@ sizes (h ∷ heads) (e ∷ es) same sized =
     ∙ ap (λ (n : ℕ). written_size h + n) more
     ∙ sym (sum_by-cons written_size h heads)
 
+-- the class list counts as one where there is one
+pub list_counted : (info : Option KeyHead) (found : Option KeyedRecord) → info ≡ info_head found → option_map_or (λ (r : KeyedRecord). 1) found 0 ≡ list_count info
+list_counted info None is = ap list_count (sym is)
+list_counted info (Some r) is = ap list_count (sym is)
+
 -- what is as long needs as much
 need_same : (a b : KeptRecords) → list_length a ≡ list_length b → free_length a ≡ free_length b → close_need a ≡ close_need b
 unfolding close_need
 need_same a b list free = λ i. sum_by padded_length (list i ∷ free i ∷ [])
 
--- a state without classes needs what its keys tell
-pub need_by_keys : (name : List ℕ) (heads : List KeyHead) (m : State) → AreKeysOfState heads m → list_all is_sized heads ≡ true → length m.classes ≡ 0
-    → state_need name m ≡ close_need (kept_with name heads (1 + length heads))
+-- what a close of a state needs, by its keys and the class list that is kept
+pub need_by_keys : (name : List ℕ) (info : Option KeyHead) (heads : List KeyHead) (m : State) → AreKeysOfState heads m → list_all is_sized heads ≡ true
+    → state_need name info m ≡ close_need (kept_with name heads (1 + list_count info + length heads))
 unfolding state_need
-need_by_keys name heads m keys sized none =
+need_by_keys name info heads m keys sized =
     let es = entries m.objects in
     let size = sizes heads es keys.objects sized in
     let long : length es ≡ length heads = sym (length-map es listed_object) ∙ ap length (sym keys.objects) ∙ length-map heads told_by_key in
-    let list : list_length (kept_of name m) ≡ list_length (kept_with name heads (1 + length heads)) = ap (λ (n : ℕ). head_length (codes "TFile") name + 4 + n) size in
-    let classes : list_count m ≡ 0 = ap (λ (n : ℕ). cond (n == 0) 0 1) none in
-    let count : (kept_of name m).count ≡ 1 + length heads = omega (arith, classes, long) in
-    need_same (kept_of name m) (kept_with name heads (1 + length heads)) list (ap (λ (n : ℕ). head_length (codes "TFile") name + 10 * (n + 2)) count)
+    let kept : KeptRecords = kept_with name heads (1 + list_count info + length heads) in
+    let list : list_length (kept_of name info m) ≡ list_length kept = ap (λ (n : ℕ). head_length (codes "TFile") name + 4 + n) size in
+    let count : (kept_of name info m).count ≡ 1 + list_count info + length heads = omega (arith, long) in
+    need_same (kept_of name info m) kept list (ap (λ (n : ℕ). head_length (codes "TFile") name + 10 * (n + 2)) count)
 
 -- ---- by lengths
 
@@ -73,8 +79,8 @@ unfolding close_size
 size_bounds name heads live limit le = (omega (arith, le), omega (arith, le))
 
 -- where there is room for a close, there are few keys and records
-pub kept_bounds : (segments : List Segment) (heads : List KeyHead) (name : List ℕ) → IsClosable segments heads name → (heads_size heads ≤ end_limit) × (record_count segments ≤ end_limit)
-kept_bounds segments heads name kept =
+pub kept_bounds : (segments : List Segment) (heads : List KeyHead) (info : Option KeyHead) (name : List ℕ) → IsClosable segments heads info name → (heads_size heads ≤ end_limit) × (record_count segments ≤ end_limit)
+kept_bounds segments heads info name kept =
     let is = close_size_is_need (kept_with name heads (record_count segments)) in
     let room : close_need (kept_with name heads (record_count segments)) ≤ end_limit = omega (arith, kept.room) in
     size_bounds name (heads_size heads) (record_count segments) end_limit (subst (λ (n : ℕ). n ≤ end_limit) is room)

@@ -33,7 +33,7 @@ pub record IsPutStep (p : Putting) (s : SessionState) (m : State) (name : List �
   pub put : IsPutOf m name v p.place s.datime p
   pub at : p.place ≡ place_of s.segments (length p.bytes)
   pub accepted : outcome_of (next_of s m (Put name v)).reply ≡ Accepted
-  pub segments : segments_behind s.name s.segments m (Put name v) ≡ with_segment p.place (length p.bytes) s.segments
+  pub segments : segments_behind s.name s.info s.segments m (Put name v) ≡ with_segment p.place (length p.bytes) s.segments
   pub cost_is : p.cost ≡ cost_of m (Put name v)
   pub classes : (next_of s m (Put name v)).state.classes ≡ m.classes
   pub keys : AreKeysOfState (with_head p.head s.heads) (next_of s m (Put name v)).state
@@ -42,7 +42,7 @@ pub record IsPutStep (p : Putting) (s : SessionState) (m : State) (name : List �
 pub record IsPutting (p : Putting) (s : SessionState) (m : State) (c : Command) (links : List Link) : Type 0 where
   pub text_is : p.text ≡ text_of (next_of s m c).reply
   pub accepted : outcome_of (next_of s m c).reply ≡ Accepted
-  pub segments : segments_behind s.name s.segments m c ≡ with_segment p.place (length p.bytes) s.segments
+  pub segments : segments_behind s.name s.info s.segments m c ≡ with_segment p.place (length p.bytes) s.segments
   pub cost_is : p.cost ≡ cost_of m c
   pub records : AreRecordsOf (keyed_records (with_record p.place p.bytes links)) (saved_of (next_of s m c).state)
   pub keys : AreKeysOf (keyed_records (with_record p.place p.bytes links)) (with_head p.head s.heads)
@@ -57,7 +57,7 @@ held_more : (before after bound costs cost : ℕ) → (costs < 2 ^ 64 - 1 → be
     → after ≤ bound + min (costs + cost) (2 ^ 64 - 1) + 10000
 held_more before after bound costs cost was grown low = omega (arith, was (omega (arith, low)), grown, low)
 
--- what the session keeps stands for the state behind
+-- what the session keeps represents the state after the put
 pub put_state : (p : Putting) (s : SessionState) (m : State) (c : Command) (file now : List ℕ) (h : HoldsState s m file) → IsPutting p s m c h.links
     → HasChain (with_record p.place p.bytes h.links) (with_segment p.place (length p.bytes) s.segments) now → KeepsFront file now → HoldsState (with_put p s) (next_of s m c).state now
 put_state p s m c file now h is chain front = record {
@@ -110,10 +110,11 @@ module _ (p : Putting) (old new : View) (before after : SessionState) (lawful : 
       subst (λ (i : List ℕ). IsOpenAs (next_of before m c).state i) (sym same)
       (open_image s.file f.0 before.nbytes_name s.state.links (with_record p.place p.bytes s.state.links) (next_of before m c).state s.state.head s.state.chain.chain f.3 f.2.chain putting.records).reads
 
-  put_follows : (m : State) (c : Command) → PutAndSaid p old new before after → segments_behind before.name before.segments m c ≡ with_segment p.place (length p.bytes) before.segments → p.cost ≡ cost_of m c
+  put_follows : (m : State) (c : Command) → PutAndSaid p old new before after → segments_behind before.name before.info before.segments m c ≡ with_segment p.place (length p.bytes) before.segments → p.cost ≡ cost_of m c
       → FollowsCommand before after m c
   put_follows m c is segments costs = record {
     segments = ap (λ (a : SessionState). a.segments) is.kept ∙ sym segments;
+    info = ap (λ (a : SessionState). a.info) is.kept;
     name = ap (λ (a : SessionState). a.name) is.kept;
     datime = ap (λ (a : SessionState). a.datime) is.kept;
     opened = ap (λ (a : SessionState). a.opened) is.kept;

@@ -12,7 +12,8 @@ use Rattle.rio_state.specs.Closing.{close_need, end_limit, is_full, padded_lengt
 use Rattle.rio_step.specs.{ReplyText.{text_of}, Step.{object_put, refused}}
 use Rattle.rio_judge.proofs.KeysOfState.{found_key}
 use Rattle.rio_judge.specs.declared.work.{StoredObject.{StoredObject}, Work.{Work, TheVariants.{Put as Storing, Get as Telling, Ls as Listing}}}
-use Rattle.rio_session.specs.{Causes.{NeverReads}, Doable.{CanBeDone, IsToDo, ReadsNothing}, Does.{Does}, Kept.{IsSoundState, is_sized, kept_with}}
+use Rattle.rio_session.specs.{Causes.{NeverReads}, Doable.{CanBeDone, IsToDo, ReadsNothing}, Does.{Does}, Kept.{IsSoundState}}
+use Rattle.rio_recover.specs.Closable.{is_sized, kept_with}
 use Rattle.rio_session.specs.Puts.{CanBePut, IsStoredRecord, PutsRecord, putting}
 use Rattle.rio_session.specs.{Says.{SaysReply}, Session.{IsReady, SessionState}, declared.fault.SessionFault.{SessionFault}}
 use Rattle.rio_session.proofs.{CommandDoes.{full_does, is_get, is_put, put_does}, PutFacts.{can_be_put, class_is, name_is, sized_is}, StoredRecords.{is_stored}}
@@ -22,9 +23,9 @@ pub can_store : (s : SessionState) (c : Command) (o : StoredObject) → IsToDo s
 can_store s c o todo sound =
     let p = is_put s.classes s.heads c o todo.can in
     let to : IsToDo s (Put o.name p.0) (Storing o) = subst (λ (x : Command). IsToDo s x (Storing o)) p.1 todo in
-    (is_stored s.classes s.heads p.0 o to.can.1 sound.none to.statable, to.can.1.new)
+    (is_stored s.classes s.heads p.0 o to.can.1 sound.classes to.statable, to.can.1.new)
 
--- it can be told
+-- it can be printed
 pub can_tell : (s : SessionState) (c : Command) (h : KeyHead) → IsToDo s c (Telling h) → CanBeDone s (Telling h)
 can_tell s c h todo =
     let p = is_get s.classes s.heads c h todo.can todo.built in
@@ -66,14 +67,14 @@ module _ (s : SessionState) (o : StoredObject) (can : CanBeDone s (Storing o)) (
         → place ≡ place_of s.segments n → is_full s.segments (n ∷ []) need ≡ false → PutsRecord (putting made text cost) old new s s' answer → IfOk answer (λ outcome. outcome ≡ Accepted) → Does old new s s' c answer
     put_is_done place made text low r text_is at room puts outcome =
         subst (λ (x : Command). Does old new s s' x answer) (sym is)
-        (put_does old new s s' law law' ready fresh answer v o n need cost sound.none sound.listless (sound.kept fresh) to.statable soon to.judged can.1 n_is need_is cost_is
+        (put_does old new s s' law law' ready fresh answer v o n need cost sound.classes (sound.kept fresh) to.statable soon to.judged can.1 n_is need_is cost_is
         place made text low r text_is at room puts outcome)
 
     pub full_is_said : (end wanted : ℕ) → end ≡ file_end s.segments → wanted ≡ n → is_full s.segments (n ∷ []) need ≡ true → SaysReply (text_of (refused (Full end wanted))) cost old new s s' answer
         → IfOk answer (λ outcome. outcome ≡ Refused (Full end wanted)) → Does old new s s' c answer
     full_is_said end wanted end_is wanted_is room says outcome =
         subst (λ (x : Command). Does old new s s' x answer) (sym is)
-        (full_does old new s s' law law' ready fresh answer v o n need cost sound.none sound.listless (sound.kept fresh) to.statable soon to.judged can.1 n_is need_is cost_is
+        (full_does old new s s' law law' ready fresh answer v o n need cost sound.classes (sound.kept fresh) to.statable soon to.judged can.1 n_is need_is cost_is
         can.0.key_short room
         (subst (λ (x : ℕ × ℕ). SaysReply (text_of (refused (Full x.0 x.1))) cost old new s s' answer) (λ i. (end_is i, wanted_is i)) says)
         (subst (λ (x : ℕ × ℕ). IfOk answer (λ outcome. outcome ≡ Refused (Full x.0 x.1))) (λ i. (end_is i, wanted_is i)) outcome))

@@ -17,7 +17,8 @@ use Rattle.rio_step.specs.{Refusing.{object_class, put_value, refusal_of}, Reply
 use Rattle.rio_effect.specs.ObjectRecord.{key_of_put, object_data, object_key, object_record, object_words, record_of_put}
 use Rattle.rio_judge.specs.{Judging.{IsStep}, declared.work.StoredObject.{StoredObject}}
 use Rattle.rio_judge.proofs.CostLaws.{cost_accepted}
-use Rattle.rio_session.specs.{Kept.{is_fit_key, is_sized, kept_with}, Puts.{CanBePut, IsStoredRecord, putting, stored_words}, Session.{SessionState}}
+use Rattle.rio_recover.specs.Closable.{is_fit_key, is_sized, kept_with}
+use Rattle.rio_session.specs.{Puts.{CanBePut, IsStoredRecord, putting, stored_words}, Session.{SessionState}}
 use Rattle.rio_session.proofs.PutAnswers.{IsPutOf}
 
 module _ (s : SessionState) (place : ℕ) (o : StoredObject) (made : NewRecord) (r : IsStoredRecord s place o made) where

@@ -1,7 +1,7 @@
 -- A put is the step of its command.
 use Rattle.std.proofs.Common.{◌≡◌, inl, inr, ℕ, ◌+◌, ◌-◌, ◌*◌, ◌^◌, ◌<◌, ◌≤◌, List, [], ◌∷◌, length, map, min, sum, add-zero, Option, Some, None, Bool, true, false, refl, sym, ap, subst, ◌∙◌, arith}
 use Rattle.std.proofs.{lemmas.Bool.{cases_lt, eq-eqb, eqb-true}, lemmas.List.Sums.{sum_by-cons}}
-use Rattle.std.specs.{Prelude.{if◌then◌else◌, is_some, unwrap_or}, List.{find, fold, list_all, sum_by}, Option.{option_map_or}}
+use Rattle.std.specs.{Prelude.{if◌then◌else◌, is_some, unwrap_or}, List.{find, fold, list_all, sum_by}}
 use Rattle.rio_num.specs.Word.{is_item_text}
 use Rattle.rio_key.specs.{declared.head.KeyHead.{KeyHead}, Written.{written_key}}
 use Rattle.rio_value.specs.declared.value.Value.{Value}
@@ -14,7 +14,7 @@ use Rattle.rio_machine.specs.{Limits.{head_length}, State.{State, next_cycle}, d
 use Rattle.rio_machine.specs.{declared.command.Outcome.TheVariants.{Refused}, declared.refusal.Refusal.{Refusal, TheVariants.{Full}}}
 use Rattle.rio_chain.proofs.Records.{key_long}
 use Rattle.rio_state.specs.Closing.{close_need, closing_lengths, end_limit, free_length, held_of, is_full, kept_count, kept_in, list_length, padded_length}
-use Rattle.rio_state.specs.{KeyedRecords.{KeyedRecord, info_key, keyed_records}, Left.{info_head}, Reads.{AreRecordsOf}, OneMore.{keyed_bytes}}
+use Rattle.rio_state.specs.{KeyedRecords.{info_key, keyed_records}, Reads.{AreRecordsOf}, OneMore.{keyed_bytes}}
 use Rattle.rio_step.specs.{ItemKeys.{AreKeysOfState, told_by_key}, Refusing.{FullMark, object_class, put_value, refusal_of}}
 use Rattle.rio_step.specs.{Costs.{cost_of, room_limit, value_size}, ReplyText.{text_of}, Runs.{saved_of}}
 use Rattle.rio_step.specs.Step.{Stepped, listed_object, object_put, outcome_of, refused, state_behind}
@@ -25,11 +25,12 @@ use Rattle.rio_effect.proofs.{PutEffect.{puts_have_records, saved_put_takes_effe
 use Rattle.rio_state.proofs.{MoreRecords.{record_more}, Stays.{info_stays}}
 use Rattle.rio_close.proofs.Fitting.{count_with}
 use Rattle.rio_judge.specs.{Judging.{IsStep}, declared.work.StoredObject.{StoredObject}}
-use Rattle.rio_session.specs.{Behind.{IsOfKeys}, Kept.{is_sized, kept_with}, Marks.{command_lengths, mark_of_command, segments_behind, state_need, with_placed}}
+use Rattle.rio_recover.specs.Closable.{is_sized, kept_with, list_count}
+use Rattle.rio_session.specs.{Behind.{IsOfKeys}, Marks.{command_lengths, mark_of_command, segments_behind, state_need, with_placed}}
 use Rattle.rio_session.specs.{Puts.{Putting}, Session.{HoldsState, SessionState, next_of}}
-use Rattle.rio_session.proofs.{Keeps.{all_with, length_with, size_with}, Needs.{need_by_keys}, Places.{end_most, full_is, sum_one}}
+use Rattle.rio_session.proofs.{Keeps.{all_with, length_with, size_with}, Needs.{list_counted, need_by_keys}, Places.{end_most, full_is, sum_one}}
 use Rattle.rio_session.proofs.{KeysBehind.{keys_behind}, PutAnswers.{IsPutOf, IsPutStep, IsPutting}, Refused.{refused_full, step_accepted, step_refused}}
-use Rattle.rio_session.proofs.{Replies.{IsStill}, States.{Known, known, of_keys}, StoredRecords.{no_classes}}
+use Rattle.rio_session.proofs.{Replies.{IsStill}, States.{Known, known, of_keys}}
 
 sum_two : (f : ℕ → ℕ) (a b : ℕ) → sum_by f (a ∷ b ∷ []) ≡ f a + f b
 sum_two f a b = sum_by-cons f a (b ∷ []) ∙ ap (λ (n : ℕ). f a + n) (sum_by-cons f b [] ∙ add-zero (f b))
@@ -38,18 +39,9 @@ sum_two f a b = sum_by-cons f a (b ∷ []) ∙ ap (λ (n : ℕ). f a + n) (sum_b
 lacking : (bound costs cost held : ℕ) → (costs < 2 ^ 64 - 1 → held ≤ bound + costs + 10000) → end_limit < held + cost + 100000 → room_limit < bound + min (costs + cost) (2 ^ 64 - 1)
 lacking bound costs cost held was much = elim (cases_lt costs (2 ^ 64 - 1)) [ inl low ↦ omega (arith, was low, much, low) | inr high ↦ omega (arith, high) ]
 
--- ---- the class list
-
-abbrev info_count : Option KeyedRecord → ℕ
-info_count info = option_map_or (λ (r : KeyedRecord). 1) info 0
-
-no_info : (info : Option KeyedRecord) → is_some (info_head info) ≡ false → info_count info ≡ 0
-no_info None e = refl
-no_info (Some r) e = absurd cc
-
 -- ---- the put
 
-module _ (s : SessionState) (m : State) (keys : IsOfKeys s m) (none : length s.classes ≡ 0) (count : record_count s.segments ≡ 1 + length s.heads) (sized : list_all is_sized s.heads ≡ true)
+module _ (s : SessionState) (m : State) (keys : IsOfKeys s m) (count : record_count s.segments ≡ 1 + list_count s.info + length s.heads) (sized : list_all is_sized s.heads ≡ true)
     (v : Value) (o : StoredObject) (place : ℕ) (low : place < 2 ^ 32) (soon : s.datime < 2 ^ 32) (named : is_item_text o.name ≡ true)
     (free : refusal_of m (Put o.name v) None ≡ None) (step : IsStep m v o) (new : head_of o.name (Some o.cycle) s.heads ≡ None) where
   abbrev n : ℕ
@@ -91,10 +83,10 @@ module _ (s : SessionState) (m : State) (keys : IsOfKeys s m) (none : length s.c
   abbrev need : ℕ
   need = close_need (kept_with s.name (with_head key s.heads) (record_count s.segments + 1))
 
-  need_is : state_need s.name (state_behind m (Put o.name v)) ≡ need
+  need_is : state_need s.name s.info (state_behind m (Put o.name v)) ≡ need
   need_is =
-      let more : 1 + length (with_head key s.heads) ≡ record_count s.segments + 1 = omega (arith, length_with key s.heads, count) in
-      need_by_keys s.name (with_head key s.heads) (state_behind m (Put o.name v)) stand_after (all_with is_sized key s.heads key_sized sized) (ap length keys.classes ∙ none)
+      let more : 1 + list_count s.info + length (with_head key s.heads) ≡ record_count s.segments + 1 = omega (arith, length_with key s.heads, count) in
+      need_by_keys s.name s.info (with_head key s.heads) (state_behind m (Put o.name v)) stand_after (all_with is_sized key s.heads key_sized sized)
       ∙ ap (λ (k : ℕ). close_need (kept_with s.name (with_head key s.heads) k)) more
 
   pub lengths_are : command_lengths m (Put o.name v) ≡ n ∷ []
@@ -104,29 +96,29 @@ module _ (s : SessionState) (m : State) (keys : IsOfKeys s m) (none : length s.c
   abbrev mark_by : List ℕ → ℕ → Option FullMark
   mark_by lengths k = if is_full s.segments lengths k then Some (record { end = file_end s.segments; wanted = sum lengths }) else None
 
-  mark_is : mark_of_command s.name s.segments m (Put o.name v) ≡ mark_by (n ∷ []) need
+  mark_is : mark_of_command s.name s.info s.segments m (Put o.name v) ≡ mark_by (n ∷ []) need
   unfolding mark_of_command
   mark_is = λ i. mark_by (lengths_are i) (need_is i)
 
   abbrev told_by : Bool → Option FullMark
   told_by b = if b then Some (record { end = file_end s.segments; wanted = sum (n ∷ []) }) else None
 
-  pub mark_none : is_full s.segments (n ∷ []) need ≡ false → mark_of_command s.name s.segments m (Put o.name v) ≡ None
+  pub mark_none : is_full s.segments (n ∷ []) need ≡ false → mark_of_command s.name s.info s.segments m (Put o.name v) ≡ None
   mark_none e = mark_is ∙ ap told_by e
 
-  pub mark_full : is_full s.segments (n ∷ []) need ≡ true → mark_of_command s.name s.segments m (Put o.name v) ≡ Some (record { end = file_end s.segments; wanted = n })
+  pub mark_full : is_full s.segments (n ∷ []) need ≡ true → mark_of_command s.name s.info s.segments m (Put o.name v) ≡ Some (record { end = file_end s.segments; wanted = n })
   mark_full e = mark_is ∙ ap told_by e ∙ ap (λ (k : ℕ). let x : Option FullMark = Some (record { end = file_end s.segments; wanted = k }) in x) (sum_one n)
 
   -- ---- where there is room
 
   module _ (p : Putting) (is : IsPutOf m o.name v place s.datime p) (room : is_full s.segments (n ∷ []) need ≡ false) (at : place ≡ place_of s.segments n) (long : length p.bytes ≡ n) where
-    unrefused : refusal_of m (Put o.name v) (mark_of_command s.name s.segments m (Put o.name v)) ≡ None
+    unrefused : refusal_of m (Put o.name v) (mark_of_command s.name s.info s.segments m (Put o.name v)) ≡ None
     unrefused = ap (refusal_of m (Put o.name v)) (mark_none room) ∙ free
 
     pub next_is : next_of s m (Put o.name v) ≡ record { state = state_behind m (Put o.name v); reply = object_put o.name (next_cycle m o.name) }
-    next_is = step_accepted m (Put o.name v) (mark_of_command s.name s.segments m (Put o.name v)) unrefused
+    next_is = step_accepted m (Put o.name v) (mark_of_command s.name s.info s.segments m (Put o.name v)) unrefused
 
-    pub segments_are : segments_behind s.name s.segments m (Put o.name v) ≡ with_segment p.place (length p.bytes) s.segments
+    pub segments_are : segments_behind s.name s.info s.segments m (Put o.name v) ≡ with_segment p.place (length p.bytes) s.segments
     unfolding segments_behind
     segments_are =
         ap (λ (x : Option Refusal). if is_some x then s.segments else fold with_placed s.segments (command_lengths m (Put o.name v))) unrefused
@@ -147,13 +139,13 @@ module _ (s : SessionState) (m : State) (keys : IsOfKeys s m) (none : length s.c
   -- ---- where there is none
 
   module _ (full : is_full s.segments (n ∷ []) need ≡ true) where
-    refused_is : refusal_of m (Put o.name v) (mark_of_command s.name s.segments m (Put o.name v)) ≡ Some (Full (file_end s.segments) n)
+    refused_is : refusal_of m (Put o.name v) (mark_of_command s.name s.info s.segments m (Put o.name v)) ≡ Some (Full (file_end s.segments) n)
     refused_is = ap (refusal_of m (Put o.name v)) (mark_full full) ∙ refused_full m (Put o.name v) (record { end = file_end s.segments; wanted = n }) free
 
     full_next : next_of s m (Put o.name v) ≡ record { state = m; reply = refused (Full (file_end s.segments) n) }
-    full_next = step_refused m (Put o.name v) (mark_of_command s.name s.segments m (Put o.name v)) (Full (file_end s.segments) n) refused_is
+    full_next = step_refused m (Put o.name v) (mark_of_command s.name s.info s.segments m (Put o.name v)) (Full (file_end s.segments) n) refused_is
 
-    same_segments : segments_behind s.name s.segments m (Put o.name v) ≡ s.segments
+    same_segments : segments_behind s.name s.info s.segments m (Put o.name v) ≡ s.segments
     unfolding segments_behind
     same_segments = ap (λ (x : Option Refusal). if is_some x then s.segments else fold with_placed s.segments (command_lengths m (Put o.name v))) refused_is
 
@@ -172,7 +164,7 @@ module _ (s : SessionState) (m : State) (keys : IsOfKeys s m) (none : length s.c
 
 -- ---- on a file
 
-module _ (s : SessionState) (m : State) (file : List ℕ) (h : HoldsState s m file) (none : length s.classes ≡ 0) (count : record_count s.segments ≡ 1 + length s.heads) (sized : list_all is_sized s.heads ≡ true)
+module _ (s : SessionState) (m : State) (file : List ℕ) (h : HoldsState s m file) (sound : StateClasses s.classes) (count : record_count s.segments ≡ 1 + list_count s.info + length s.heads) (sized : list_all is_sized s.heads ≡ true)
     (v : Value) (o : StoredObject) (place : ℕ) (low : place < 2 ^ 32) (soon : s.datime < 2 ^ 32) (named : is_item_text o.name ≡ true)
     (free : refusal_of m (Put o.name v) None ≡ None) (step : IsStep m v o) (new : head_of o.name (Some o.cycle) s.heads ≡ None) where
   abbrev its_key : KeyHead
@@ -194,11 +186,11 @@ module _ (s : SessionState) (m : State) (file : List ℕ) (h : HoldsState s m fi
   kn = known h.links s.heads m h.records h.keys
 
   classes : StateClasses m.classes
-  classes = no_classes m.classes (ap length (sym h.classes) ∙ none)
+  classes = subst StateClasses h.classes sound
 
   module _ (p : Putting) (is : IsPutOf m o.name v place s.datime p) (room : is_full s.segments (size_of ∷ []) its_need ≡ false) (at : place ≡ place_of s.segments size_of) (long : length p.bytes ≡ size_of) where
     abbrev goes : next_of s m (Put o.name v) ≡ record { state = state_behind m (Put o.name v); reply = object_put o.name (next_cycle m o.name) }
-    goes = next_is s m of none count sized v o place low soon named free step new p is room at long
+    goes = next_is s m of count sized v o place low soon named free step new p is room at long
 
     pr : IsPutRecord m place s.datime o.name v
     pr = puts_have_records m place s.datime o.name v None low soon classes named free
@@ -221,7 +213,7 @@ module _ (s : SessionState) (m : State) (file : List ℕ) (h : HoldsState s m fi
     its_putting = record {
       text_is = is.text_is ∙ ap (λ (t : Stepped). text_of t.reply) (sym goes);
       accepted = ap (λ (t : Stepped). outcome_of t.reply) goes;
-      segments = segments_are s m of none count sized v o place low soon named free step new p is room at long ∙ ap (λ (q : Putting). with_segment q.place (length q.bytes) s.segments) (sym its_same);
+      segments = segments_are s m of count sized v o place low soon named free step new p is room at long ∙ ap (λ (q : Putting). with_segment q.place (length q.bytes) s.segments) (sym its_same);
       cost_is = is.cost_is;
       records = subst (λ (k : State). AreRecordsOf (keyed_records after) (saved_of k)) (sym (ap (λ (t : Stepped). t.state) goes)) (saved_put_takes_effect h.links m place s.datime o.name v None low soon h.records named free);
       keys = put_key_follows h.links m s.heads place s.datime o.name v None low soon kn.records named free h.keys;
@@ -240,12 +232,12 @@ module _ (s : SessionState) (m : State) (file : List ℕ) (h : HoldsState s m fi
     put_is_step = subst (λ (q : Putting). IsPutting q s m (Put o.name v) h.links) its_same its_putting
 
   -- what is held where there is no room
-  module _ (listless : is_some s.info ≡ false) (full : is_full s.segments (size_of ∷ []) its_need ≡ true) where
+  module _ (full : is_full s.segments (size_of ∷ []) its_need ≡ true) where
     by_keys : kept_by_keys h.links s.heads ≡ kept_with s.name s.heads (record_count s.segments)
     unfolding kept_in
     by_keys =
-        let info : info_count (info_key (keyed_records h.links)) ≡ 0 = no_info (info_key (keyed_records h.links)) (ap is_some (sym h.info) ∙ listless) in
-        let all : kept_count (info_key (keyed_records h.links)) s.heads ≡ record_count s.segments = omega (arith, info, count) in
+        let listed = list_counted s.info (info_key (keyed_records h.links)) h.info in
+        let all : kept_count (info_key (keyed_records h.links)) s.heads ≡ record_count s.segments = omega (arith, listed, count) in
         λ i. record { name = h.name i; heads = s.heads; count = all i }
 
     closing_is : closing_lengths (kept_with s.name s.heads (record_count s.segments)) ≡ closing_lengths (kept_in h.links)
@@ -270,7 +262,7 @@ module _ (s : SessionState) (m : State) (file : List ℕ) (h : HoldsState s m fi
     need_most : its_need ≤ list_length (kept_with s.name s.heads (record_count s.segments)) + head_length o.class o.name + 3 + (free_length (kept_with s.name s.heads (record_count s.segments)) + 13)
     unfolding close_need
     need_most =
-        let long : length (written_key its_key) ≡ head_length o.class o.name = eqb-true (length (written_key its_key)) (head_length its_key.class its_key.name) (key_sized s m of none count sized v o place low soon named free step new) ∙ ap (λ (x : List ℕ × List ℕ). head_length x.0 x.1) (λ i. (key_class s m of none count sized v o place low soon named free step new i, key_name s m of none count sized v o place low soon named free step new i)) in
+        let long : length (written_key its_key) ≡ head_length o.class o.name = eqb-true (length (written_key its_key)) (head_length its_key.class its_key.name) (key_sized s m of count sized v o place low soon named free step new) ∙ ap (λ (x : List ℕ × List ℕ). head_length x.0 x.1) (λ i. (key_class s m of count sized v o place low soon named free step new i, key_name s m of count sized v o place low soon named free step new i)) in
         omega (arith, sum_two padded_length (list_length (kept_with s.name (with_head its_key s.heads) (record_count s.segments + 1))) (free_length (kept_with s.name (with_head its_key s.heads) (record_count s.segments + 1))), size_with its_key s.heads, long)
 
     pub full_lacks : (cost : ℕ) → cost ≡ 500 + o.length → head_length o.class o.name ≤ 229 → room_limit < 3 * s.opened + min (s.costs + cost) (2 ^ 64 - 1)

@@ -31,7 +31,7 @@ told_same a b same = subst (λ (o : Option (List ℕ)). Becomes Any a o) (sym sa
 -- the command leaves the state, and it has no records
 pub record IsStill (s : SessionState) (m : State) (c : Command) (cost : ℕ) : Type 0 where
   pub stays : (next_of s m c).state ≡ m
-  pub segments : segments_behind s.name s.segments m c ≡ s.segments
+  pub segments : segments_behind s.name s.info s.segments m c ≡ s.segments
   pub cost_is : cost ≡ cost_of m c
 
 -- and this is its reply
@@ -96,6 +96,7 @@ module _ (old new : View) (before after : SessionState) (text : List ℕ) (cost 
   said_follows : (m : State) (c : Command) → Said text cost old new before after → IsStill before m c cost → FollowsCommand before after m c
   said_follows m c is still = record {
     segments = ap (λ (a : SessionState). a.segments) is.kept ∙ sym still.segments;
+    info = ap (λ (a : SessionState). a.info) is.kept;
     name = ap (λ (a : SessionState). a.name) is.kept;
     datime = ap (λ (a : SessionState). a.datime) is.kept;
     opened = ap (λ (a : SessionState). a.opened) is.kept;

@@ -1,6 +1,5 @@
 -- Objects that are stored, and their records.
-use Rattle.std.proofs.{Common.{◌≡◌, ℕ, ◌+◌, ◌^◌, ◌<◌, ◌≤◌, List, [], length, Option, Result, Ok, Err, IfOk, true, false, not, ltb, sym, ap, subst, ◌∙◌, arith}, lemmas.List.{nil_from_length}}
-use Rattle.std.proofs.lemmas.Bool.{ltb-false, not-false}
+use Rattle.std.proofs.{Common.{◌≡◌, ℕ, ◌+◌, ◌^◌, ◌<◌, ◌≤◌, List, [], length, Option, Result, Ok, Err, IfOk, true, false, not, sym, ap, subst, ◌∙◌, arith}, lemmas.Bool.{ltb-false, not-false}}
 use Rattle.std.specs.{Prelude.{unwrap_or}, Option.{option_map_or}}
 use Rattle.rio_num.specs.Word.{is_item_text}
 use Rattle.rio_num.proofs.TextLengths.{short_text_bytes}
@@ -21,12 +20,9 @@ use Rattle.rio_effect.proofs.PutClasses.{IsObjectClass, object_class_is, short_i
 use Rattle.rio_judge.specs.{Judging.{CanBeStored}, declared.work.StoredObject.{StoredObject}}
 use Rattle.rio_session.specs.{Puts.{IsStored, IsStoredRecord, stored_data, stored_words}, Session.{SessionState}}
 
-pub no_classes : (classes : List ClassDef) → length classes ≡ 0 → StateClasses classes
-no_classes classes none = subst StateClasses (sym (nil_from_length classes none)) tt
-
-module _ (classes : List ClassDef) (heads : List KeyHead) (v : Value) (o : StoredObject) (can : CanBeStored classes heads v o) (none : length classes ≡ 0) (named : is_item_text o.name ≡ true) where
+module _ (classes : List ClassDef) (heads : List KeyHead) (v : Value) (o : StoredObject) (can : CanBeStored classes heads v o) (sound : StateClasses classes) (named : is_item_text o.name ≡ true) where
   own_class : IsObjectClass o.class
-  own_class = object_class_is classes o.class (no_classes classes none)
+  own_class = object_class_is classes o.class sound
       (not-false (can_be_put classes o.class) (ap (λ (x : Option (List ℕ)). option_map_or (λ c. not (can_be_put classes c)) x false) (sym can.class) ∙ can.object.taken))
 
   short_data : data_length classes (unwrap_or (object_class o.value) []) o.name o.value ≤ length_limit

@@ -1,10 +1,7 @@
 -- Why a call of a session failed, and what it leaves then.
-use Rattle.std.specs.Prelude.{◌≡◌, ℕ, List, Bool, true, false, None, Some, Result, Ok, Err}
-use Rattle.rio_head.specs.{Head.{IsHeaderKind, fault_at}, declared.reason.Reason.TheVariants.{NotYet}}
-use Rattle.rio_dir.specs.Unborn.{header_fault, is_unborn}
+use Rattle.std.specs.Prelude.{◌≡◌, Bool, true, false, Result, Ok, Err}
 use Rattle.rio_host.specs.Host.{Rose, Unwritten, View}
 use Rattle.rio_machine.specs.{declared.command.Command.{Command, TheVariants.{Get}}, declared.command.Outcome.{Outcome, TheVariants.{Accepted, Refused}}}
-use Rattle.rio_session.specs.declared.fault.OpenFault.{OpenFault, TheVariants.{BadFile, ReadOnly, NoMemory as NotRoomy, HostFault as NotOpened}}
 use Rattle.rio_session.specs.declared.fault.SessionFault.{SessionFault, TheVariants.{HostFault, SayFault, NoMemory}}
 
 -- ---- counts
@@ -33,14 +30,6 @@ IsCloseCause old new (Err HostFault) = DiskRose old new
 IsCloseCause old new (Err SayFault) = ⊥
 IsCloseCause old new (Err NoMemory) = NoCountRose old new
 
--- Why a file isn't opened. (As yet the only reason against writing to one is that it is made.)
-abbrev pub IsOpenCause : {X : Type 0} → View → View → Result X OpenFault → Type 0
-IsOpenCause old new (Ok x) = NoCountRose old new
-IsOpenCause old new (Err (BadFile place kind)) = IsHeaderKind kind × NoCountRose old new
-IsOpenCause old new (Err (ReadOnly place reason)) = (place ≡ 0) × (reason ≡ NotYet) × NoCountRose old new
-IsOpenCause old new (Err NotRoomy) = NoCountRose old new
-IsOpenCause old new (Err NotOpened) = DiskRose old new
-
 -- ---- behind a fault
 
 -- a session has failed behind a fault of the host, and not behind want of memory
@@ -64,29 +53,10 @@ SaysNothing (Err HostFault) = Unit {0}
 SaysNothing (Err SayFault) = ⊥
 SaysNothing (Err NoMemory) = Unit {0}
 
--- a file that isn't opened, for another cause than a fault of the host
-abbrev pub IsNotOpened : {X : Type 0} → Result X OpenFault → Type 0
-IsNotOpened (Ok x) = ⊥
-IsNotOpened (Err (BadFile place kind)) = Unit {0}
-IsNotOpened (Err (ReadOnly place reason)) = Unit {0}
-IsNotOpened (Err NotRoomy) = Unit {0}
-IsNotOpened (Err NotOpened) = ⊥
-
 -- a refused command leaves the file as it was, and a stop leaves only what it might have left before
 abbrev pub StaysIfRefused : View → View → Outcome → Type 0
 StaysIfRefused old new Accepted = Unit {0}
 StaysIfRefused old new (Refused refusal) = (new.holds ≡ old.holds) × Unwritten old new
-
--- ---- files that can't be opened
-
--- A file that is made breaks a rule, which is told, or isn't opened for writing yet. (The other reasons against writing are
--- told once made files are opened.)
-abbrev pub TellsWhyNot : List ℕ → {X : Type 0} → Result X OpenFault → Type 0
-TellsWhyNot file (Ok x) = is_unborn file ≡ true
-TellsWhyNot file (Err (BadFile place kind)) = header_fault file ≡ Some (fault_at place kind)
-TellsWhyNot file (Err (ReadOnly place reason)) = (is_unborn file ≡ false) × (header_fault file ≡ None) × (place ≡ 0) × (reason ≡ NotYet)
-TellsWhyNot file (Err NotRoomy) = Unit {0}
-TellsWhyNot file (Err NotOpened) = Unit {0}
 
 -- ---- commands
 

@@ -19,7 +19,7 @@ pub record HasPutRecord (s : SessionState) (m : State) (name : List ℕ) (v : Va
 -- command that puts nothing leaves the records as they are, and an accepted put adds that of its object.
 pub record FollowsFile (s : SessionState) (m : State) (c : Command) (links : List Link) (t : FileStep) : Type 0 where
   pub next : step m c t.mark ≡ next_of s m c
-  pub segments : map segment_of t.links ≡ segments_behind s.name s.segments m c
+  pub segments : map segment_of t.links ≡ segments_behind s.name s.info s.segments m c
   pub still : PutsNothing s m c → t.links ≡ links
   pub put : (name : List ℕ) (v : Value) → c ≡ Put name v → outcome_of (next_of s m c).reply ≡ Accepted → HasPutRecord s m name v links t.links
 

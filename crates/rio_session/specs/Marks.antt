@@ -1,5 +1,5 @@
 -- Where a command's records go, and which commands find no room.
-use Rattle.std.specs.{Prelude.{ℕ, ◌+◌, List, [], ◌∷◌, length, map, sum, Option, Some, None, is_some, if◌then◌else◌, ◌==◌}, FinMap.{entries}}
+use Rattle.std.specs.{Prelude.{ℕ, ◌+◌, List, [], ◌∷◌, length, map, sum, Option, Some, None, is_some, if◌then◌else◌}, FinMap.{entries}}
 use Rattle.std.specs.List.{fold}
 use Rattle.rio_key.specs.declared.head.KeyHead.{KeyHead}
 use Rattle.rio_value.specs.declared.value.Value.{Value}
@@ -7,6 +7,7 @@ use Rattle.rio_chain.specs.{declared.segment.Segment.{Segment}, Placing.{file_en
 use Rattle.rio_machine.specs.{Limits.{head_length}, State.{NameAndCycle, State}, declared.command.Command.{Command, TheVariants.{Put}}}
 use Rattle.rio_chain.specs.Record.{new_key}
 use Rattle.rio_step.specs.{Costs.{value_size}, Refusing.{FullMark, object_class_name, put_value, refusal_of}, Step.{state_behind}}
+use Rattle.rio_recover.specs.Closable.{list_count}
 use Rattle.rio_state.specs.Closing.{KeptRecords, close_need, is_full, padded_length}
 
 -- ---- what a file of a state keeps
@@ -15,18 +16,15 @@ use Rattle.rio_state.specs.Closing.{KeptRecords, close_need, is_full, padded_len
 abbrev pub key_of_object : NameAndCycle × Value → KeyHead
 key_of_object e = new_key (record { place = 0; directory = 100; datime = 0; cycle = e.0.1; class = object_class_name e.1; name = e.0.0; title = [] }) 0
 
--- the class list, if there are classes
-abbrev pub list_count : State → ℕ
-list_count m = if length m.classes == 0 then 0 else 1
-
--- What a file of this name keeps in a state, as far as a close writes of it. (No command makes a tree yet.)
-abbrev pub kept_of : List ℕ → State → KeptRecords
-kept_of name m = let objects = entries m.objects in
-    record { name = name; heads = map key_of_object objects; count = 1 + list_count m + length objects }
+-- What a file of this name and with this class list keeps in a state, as far as a close writes of it. A file may have a class list that
+-- lists no declared class. (No command makes a tree yet.)
+abbrev pub kept_of : List ℕ → Option KeyHead → State → KeptRecords
+kept_of name info m = let objects = entries m.objects in
+    record { name = name; heads = map key_of_object objects; count = 1 + list_count info + length objects }
 
 -- how long the records of a close are in this state
-unfoldable pub state_need : List ℕ → State → ℕ
-state_need name m = close_need (kept_of name m)
+unfoldable pub state_need : List ℕ → Option KeyHead → State → ℕ
+state_need name info m = close_need (kept_of name info m)
 
 -- ---- a command's records
 
@@ -42,14 +40,14 @@ abbrev pub with_placed : List Segment → ℕ → List Segment
 with_placed segments n = with_segment (place_of segments n) n segments
 
 -- A command's mark: there is no room for its records with what a close needs behind it.
-unfoldable pub mark_of_command : List ℕ → List Segment → State → Command → Option FullMark
-mark_of_command name segments m c =
+unfoldable pub mark_of_command : List ℕ → Option KeyHead → List Segment → State → Command → Option FullMark
+mark_of_command name info segments m c =
     let lengths = command_lengths m c in
-    if is_full segments lengths (state_need name (state_behind m c))
+    if is_full segments lengths (state_need name info (state_behind m c))
     then Some (record { end = file_end segments; wanted = sum lengths })
     else None
 
 -- the segments behind a command: a refused one changes none
-unfoldable pub segments_behind : List ℕ → List Segment → State → Command → List Segment
-segments_behind name segments m c =
-    if is_some (refusal_of m c (mark_of_command name segments m c)) then segments else fold with_placed segments (command_lengths m c)
+unfoldable pub segments_behind : List ℕ → Option KeyHead → List Segment → State → Command → List Segment
+segments_behind name info segments m c =
+    if is_some (refusal_of m c (mark_of_command name info segments m c)) then segments else fold with_placed segments (command_lengths m c)

@@ -14,7 +14,8 @@ use Rattle.rio_chain.specs.{Record.{new_key, record_bytes}, declared.record.NewR
 use Rattle.rio_state.specs.Closing.{close_need, end_limit, is_full, padded_length}
 use Rattle.rio_step.specs.Refusing.{object_class}
 use Rattle.rio_effect.specs.ObjectRecord.{object_data, object_words}
-use Rattle.rio_session.specs.{Causes.{DiskRose, NoCountRose, SayRose}, Kept.{is_fit_key, is_sized, kept_with}, Says.{NotDone}, Session.{SessionState}}
+use Rattle.rio_recover.specs.Closable.{is_fit_key, is_sized, kept_with}
+use Rattle.rio_session.specs.{Causes.{DiskRose, NoCountRose, SayRose}, Says.{NotDone}, Session.{SessionState}}
 use Rattle.rio_session.specs.declared.fault.SessionFault.{SessionFault, TheVariants.{HostFault, SayFault, NoMemory}}
 
 -- there is no room for a record of n bytes with what a close needs behind it: where the file ends, and the length

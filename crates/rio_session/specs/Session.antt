@@ -1,10 +1,9 @@
 -- A session: what it keeps beside a file, what of a state it stands for, and what a stop leaves while a command is done.
-use Rattle.std.specs.Prelude.{◌≡◌, ◌⊎◌, ◌<◌, ◌≤◌, ℕ, ◌+◌, ◌-◌, ◌*◌, ◌^◌, min, Bool, false, List, [], ◌++◌, take, slice_get, Option, Some, None}
+use Rattle.std.specs.Prelude.{◌≡◌, ◌⊎◌, ◌<◌, ◌≤◌, ℕ, ◌+◌, ◌-◌, ◌*◌, ◌^◌, min, Bool, List, [], ◌++◌, take, slice_get, Option, Some}
 use Rattle.rio_types.specs.declared.class.ClassDef.{ClassDef}
 use Rattle.rio_key.specs.declared.head.KeyHead.{KeyHead}
 use Rattle.rio_host.specs.Host.{Elapses, IsQuiet, Leaves, View}
 use Rattle.rio_chain.specs.{Chains.{HasChain, HoldsChain}, Placing.{record_count}, Segments.{Link}, declared.segment.Segment.{Segment}}
-use Rattle.rio_create.specs.NewFile.{first_segments}
 use Rattle.rio_machine.specs.{State.{State}, declared.command.Command.{Command}, declared.command.Outcome.{Outcome, TheVariants.{Refused}}}
 use Rattle.rio_machine.specs.declared.refusal.Refusal.TheVariants.{Full}
 use Rattle.rio_step.specs.{Costs.{cost_of, room_limit}, ReplyText.{text_of}, Runs.{saved_of, states_of_run}, Step.{Stepped, outcome_of, step}}
@@ -54,18 +53,6 @@ pub record StandsFor (v : View) (s : SessionState) (m : State) (text : List ℕ)
   pub said : v.said ≡ Some text
   pub state : HoldsState s m file
 
--- what a session of a file that is just made begins with
-pub record BeginsNew (s : SessionState) (name : List ℕ) (datime : ℕ) : Type 0 where
-  pub segments : s.segments ≡ first_segments name
-  pub classes : s.classes ≡ []
-  pub heads : s.heads ≡ []
-  pub info : s.info ≡ None
-  pub name_is : s.name ≡ name
-  pub datime_is : s.datime ≡ datime
-  pub opened : s.opened ≡ 0
-  pub costs : s.costs ≡ 0
-  pub fresh : s.failed ≡ false
-
 -- a host as a session leaves it, also where it tells nothing
 pub record IsReady (v : View) (s : SessionState) : Type 0 where
   pub quiet : IsQuiet v
@@ -89,12 +76,13 @@ Steps m next text image said =
 
 -- the command's step, with its mark
 abbrev pub next_of : SessionState → State → Command → Stepped
-next_of s m c = step m c (mark_of_command s.name s.segments m c)
+next_of s m c = step m c (mark_of_command s.name s.info s.segments m c)
 
 -- What a session keeps follows a command: the command's records stand where the rule places them, and its cost was counted, as far
 -- as 64 bits hold the costs.
 pub record FollowsCommand (old new : SessionState) (m : State) (c : Command) : Type 0 where
-  pub segments : new.segments ≡ segments_behind old.name old.segments m c
+  pub segments : new.segments ≡ segments_behind old.name old.info old.segments m c
+  pub info : new.info ≡ old.info
   pub name : new.name ≡ old.name
   pub datime : new.datime ≡ old.datime
   pub opened : new.opened ≡ old.opened

@@ -3,6 +3,7 @@ use rio_create::CreateFault;
 use rio_head::{FileFault, Reason};
 use rio_host::{Failed, HostFault};
 use rio_num::NoMemory;
+use rio_recover::RecoverFault;
 use thiserror::Error;
 
 /// Why a file could not be opened.
@@ -77,6 +78,22 @@ impl From<CreateFault> for OpenFault {
         match fault {
             CreateFault::NoMemory => OpenFault::NoMemory,
             CreateFault::HostFault => OpenFault::HostFault,
+        }
+    }
+}
+
+impl From<RecoverFault> for OpenFault {
+    ghost use Rattle.std.specs.Prelude.{◌≡◌};
+    ghost use Rattle.rio_session.specs.Opening.{fault_of_recovery};
+
+    ghost from_gives = { λ f e. e ≡ fault_of_recovery f };
+
+    fn from(fault: RecoverFault) -> OpenFault {
+        match fault {
+            RecoverFault::BadFile { place, kind } => OpenFault::BadFile { place, kind },
+            RecoverFault::ReadOnly { place, reason } => OpenFault::ReadOnly { place, reason },
+            RecoverFault::NoMemory => OpenFault::NoMemory,
+            RecoverFault::HostFault => OpenFault::HostFault,
         }
     }
 }

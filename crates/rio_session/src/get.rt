@@ -1,4 +1,4 @@
-//! An object is told.
+//! An object is printed.
 use crate::{Session, SessionFault};
 use rio_chain::ReadFault;
 use rio_host::Host;
@@ -17,7 +17,7 @@ impl Session {
     ghost use Rattle.rio_session.specs.Gets.{TellsObject, TellsRecord};
     ghost use Rattle.rio_session.specs.Kept.{IsSoundState};
 
-    // What is told of the object of a key.
+    // The reply that prints the object of a key.
     fn told<H: Host>(&self, host: &mut H, head: &KeyHead) -> Result<Bytes, ReadFault>
         requires fresh { self.now.failed ≡ false }
         requires among { Contains self.now.heads head.now }
@@ -34,7 +34,7 @@ impl Session {
         }
     }
 
-    // Says what is told of the object of a key.
+    // Prints the object of a key.
     pub(crate) fn get<H: Host>(
         &mut self,
         host: &mut H,

@@ -31,7 +31,7 @@ pub(crate) fn key_length(class: &[u8], name: &[u8]) -> u64
     key_length_of(class, name, b"") as u64
 }
 
-// The place of a record of `n` bytes by the rule, where there is room for it with what a close needs behind it.
+// The place of a record of `n` bytes by the rule, if there is room for it and for a close after it.
 pub(crate) fn place_within(chain: &Chain, n: u64, need: u64) -> Result<u64, PlanFault>
     requires aligned { n % 4 ≡ 0 }
     requires some { 4 ≤ n }
@@ -51,7 +51,7 @@ pub(crate) fn place_within(chain: &Chain, n: u64, need: u64) -> Result<u64, Plan
     }
 }
 
-// What the key of an object's record says.
+// The fields of the key of an object's record.
 pub(crate) fn words_of(
     alloc: Global,
     place: u64,

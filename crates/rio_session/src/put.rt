@@ -1,4 +1,4 @@
-//! A record is put, and what is put is said.
+//! A record is put, and the reply printed.
 use crate::{Session, SessionFault};
 use rio_chain::NewRecord;
 use rio_host::Host;
@@ -11,7 +11,7 @@ impl Session {
     ghost use Rattle.rio_session.specs.Puts.{CanBePut, PutsRecord, putting};
     ghost use Rattle.rio_session.specs.Session.{IsReady};
 
-    // Puts a record, keeps its key, and says a reply. All memory is taken before the record is written.
+    // Puts a record, keeps its key, and prints a reply. All memory is allocated before the record is written.
     pub(crate) fn put_and_say<H: Host>(
         &mut self,
         host: &mut H,

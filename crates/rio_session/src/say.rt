@@ -1,4 +1,4 @@
-//! Replies are said.
+//! Replies are printed.
 use crate::{Session, SessionFault};
 use rio_host::Host;
 use rio_machine::{Outcome, Refusal};
@@ -14,7 +14,7 @@ impl Session {
     ghost use Rattle.rio_session.specs.Says.{SaysReply};
     ghost use Rattle.rio_session.specs.declared.fault.SessionFault.{SessionFault as Fault};
 
-    // Says a reply, and counts its command's cost.
+    // Prints a reply, and counts its command's cost.
     pub(crate) fn answer<H: Host>(
         &mut self,
         host: &mut H,
@@ -38,7 +38,7 @@ impl Session {
         }
     }
 
-    // Says why a command is refused.
+    // Prints why a command is refused.
     pub(crate) fn refuse<H: Host>(
         &mut self,
         host: &mut H,
@@ -55,7 +55,7 @@ impl Session {
         Ok(Outcome::Refused(refusal))
     }
 
-    // Says the names of all objects.
+    // Prints the names of all objects.
     pub(crate) fn list<H: Host>(&mut self, host: &mut H) -> Result<Outcome, SessionFault>
         ensures says { SaysReply (listing_of self.old.heads) 0 (H.view host.old) (H.view host.new)
             self.old self.new result }

@@ -29,10 +29,11 @@ pub struct Session {
 }
 
 impl Model for Session {
-    ghost use Rattle.std.specs.Prelude.{◌≡◌, ◌+◌, ◌≤◌, false, length, is_some};
+    ghost use Rattle.std.specs.Prelude.{◌≡◌, ◌+◌, ◌≤◌, false};
     ghost use Rattle.rio_chain.specs.Placing.{file_end};
     ghost use Rattle.rio_dir.specs.Table.{heads_size};
-    ghost use Rattle.rio_session.specs.Kept.{IsClosable};
+    ghost use Rattle.rio_model.specs.StateClasses.{StateClasses};
+    ghost use Rattle.rio_recover.specs.Closable.{IsClosable};
     ghost use Rattle.rio_session.specs.Session.{SessionState};
 
     ghost Value = { SessionState };
@@ -50,14 +51,13 @@ impl Model for Session {
       failed = s.failed;
     } };
 
-    // The directory record stands before END. As yet no class is declared, so no class list is kept.
+    // The classes are such as commands declare. The directory record stands before END.
     ghost invariant = { λ s. record {
-      kept : s.failed ≡ false → IsClosable s.chain.segments s.table.heads s.name;
+      classes : StateClasses s.registry;
+      kept : s.failed ≡ false → IsClosable s.chain.segments s.table.heads s.info s.name;
       fresh : s.failed ≡ false → s.chain.spent ≡ false;
       bytes : s.failed ≡ false → s.heads_bytes ≡ heads_size s.table.heads;
       directory : s.failed ≡ false → s.nbytes_name + 160 ≤ file_end s.chain.segments;
-      no_classes : length s.registry ≡ 0;
-      no_list : is_some s.info ≡ false;
     } };
 }
 
@@ -78,8 +78,15 @@ impl Session {
         self.failed
     }
 
-    /// Does a command and says its reply, once it is on the disk. A refused command changes nothing.
-    /// Its three clauses tell what becomes of the file, of the text, and of what is kept.
+    /// The keys of objects and trees, in the order of the key list.
+    pub fn keys(&self) -> &[KeyHead]
+        ensures { result.now ≡ self.now.heads }
+    {
+        self.table.as_slice()
+    }
+
+    /// Does a command and prints its reply, once it is on the disk. A refused command changes nothing.
+    /// The clauses `file`, `text` and `kept` say what becomes of the file, of the printed text and of the session.
     pub fn apply<H: Host>(
         &mut self,
         host: &mut H,
@@ -91,7 +98,7 @@ impl Session {
         requires ready { IsReady (H.view host.old) self.old }
         ensures file { FileAfter (H.view host.old) (H.view host.new) self.old self.new command.now
             result }
-        // The records of the file tell the command's mark, and what they are after it.
+        // The mark of the command, and the records after it, follow from the records of the file.
         ensures marks { (m : State) (text : List ℕ)
             → (stands : StandsFor (H.view host.old) self.old m text)
             → IsStepTold self.old m command.now stands.state.links }

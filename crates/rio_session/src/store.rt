@@ -17,9 +17,9 @@ impl Session {
     ghost use Rattle.rio_machine.specs.declared.command.Command.{Command as Line};
     ghost use Rattle.rio_judge.specs.declared.work.Work.{Work};
     ghost use Rattle.rio_state.specs.Closing.{close_need};
+    ghost use Rattle.rio_recover.specs.Closable.{is_sized, kept_with};
     ghost use Rattle.rio_session.specs.Doable.{CanBeDone, IsToDo};
     ghost use Rattle.rio_session.specs.Does.{Does};
-    ghost use Rattle.rio_session.specs.Kept.{is_sized, kept_with};
     ghost use Rattle.rio_session.specs.Puts.{IsStored, IsStoredRecord};
     ghost use Rattle.rio_session.specs.Session.{IsReady};
 
@@ -46,7 +46,7 @@ impl Session {
         record_of(self.alloc, self.registry.classes(), words, &object.value)
     }
 
-    // Does the work of a put: its object goes where there is room for it, or the put is refused.
+    // Puts an object at the place of the rule, or refuses it where there is no room.
     pub(crate) fn put<H: Host>(
         &mut self,
         host: &mut H,

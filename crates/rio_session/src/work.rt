@@ -1,4 +1,4 @@
-//! What a command is to do is done.
+//! A command is judged and done.
 use crate::{Session, SessionFault};
 use rio_host::Host;
 use rio_judge::{Judged, Work, judge};
@@ -31,7 +31,7 @@ impl Session {
         }
     }
 
-    // Judges a command, and does what it is to do, or says why it is refused.
+    // Judges a command, and does its work, or prints why it is refused.
     pub(crate) fn judge_and_do<H: Host>(
         &mut self,
         host: &mut H,

@@ -2,14 +2,14 @@
 use Rattle.std.proofs.Common.{◌≡◌, ℕ, List, true, Some, None, subst, refl, arith}
 use Rattle.rio_head.specs.{declared.fault.HeadFault.{HeadFault}, Head.{fault_at}}
 use Rattle.rio_host.specs.{Host.{View}, Source.{Input}}
-use Rattle.rio_dir.specs.Unborn.{header_fault, is_unborn}
+use Rattle.rio_dir.specs.Unborn.{header_fault}
 use Rattle.rio_report.specs.FirstFault.{first_fault}
 use Rattle.rio_state.specs.Reasons.{ReasonAt, reason_at}
-use Rattle.rootio.specs.{Causes.{IsCause}, Complete.{CanBeDone, IsComplete}, Input.{TellsTooLong}, Reading.{TellsFirstFault, reads_input, rules_of, writes_of}}
-use Rattle.rootio.specs.Writing.{TellsFirstReason, made_reason, reason_against}
+use Rattle.rio_state.proofs.{MeetsNoReason.{meets_no_reason}, OneReason.{reason_one}}
+use Rattle.rootio.specs.{Causes.{IsCause}, Complete.{CanBeDone, IsComplete}, Input.{TellsTooLong}, Reading.{TellsFirstFault, reads_input, rules_of}}
+use Rattle.rootio.specs.Writing.{IsReasonFor, TellsFirstReason}
 use Rattle.rootio.specs.declared.status.Status.{Status, TheVariants.{Done, Usage, BadFile, DiskFault, InputFault, NoMemory, InputTooLong, ReadOnly, SayFault}}
-use Rattle.rootio.specs.declared.words.Form.{Form, TheVariants.{Reads, Writes}}
-use Rattle.rootio.proofs.Opening.{new_has_no_fault, no_reason_new}
+use Rattle.rootio.specs.{declared.words.Form.{Form, TheVariants.{Reads, Writes}}, declared.words.Work.TheVariants.{Run, Recover}}
 
 -- words that have a form aren't refused
 pub formed : (form : Form) (old new : View) (before after : Input) (status : Status) → IsCause (Some form) old new before after status → status ≡ Usage → ⊥
@@ -22,19 +22,19 @@ module _ (old new : View) (before after : Input) where
   not_bad_file : (form : Form) → CanBeDone form old before → (p : HeadFault) → ((file : List ℕ) → old.holds ≡ Some file → first_fault (rules_of form) file ≡ Some p) → ⊥
   not_bad_file (Reads list) can p tells = let is = tells can.file can.holds in let sound = can.sound in cc
   not_bad_file (Writes work) can p tells =
-      let none : header_fault can.file ≡ None = new_has_no_fault (is_unborn can.file) _ can.unborn in
+      let none : header_fault can.file ≡ None = (meets_no_reason can.file can.state can.reads).fault in
       let is : header_fault can.file ≡ Some p = tells can.file can.holds in cc
 
-  not_read_only : (form : Form) → CanBeDone form old before → (r : ReasonAt) → writes_of (Some form) ≡ true
-      → ((file : List ℕ) → old.holds ≡ Some file → reason_against form file ≡ Some r) → ⊥
-  not_read_only (Reads list) can r writes tells = cc
-  not_read_only (Writes work) can r writes tells =
-      let none : made_reason (is_unborn can.file) (header_fault can.file) ≡ None = no_reason_new (is_unborn can.file) (header_fault can.file) can.unborn in
-      let is : made_reason (is_unborn can.file) (header_fault can.file) ≡ Some r = tells can.file can.holds in cc
+  not_read_only : (form : Form) → CanBeDone form old before → (r : ReasonAt) → ((file : List ℕ) → old.holds ≡ Some file → IsReasonFor form file r) → ⊥
+  not_read_only (Reads list) can r tells = tells can.file can.holds
+  not_read_only (Writes work) can r tells =
+      let none : Some r ≡ None = reason_one can.file (Some r) None (tells can.file can.holds).1 can.free in
+      cc
 
   not_too_long : (form : Form) → CanBeDone form old before → reads_input (Some form) ≡ true → TellsTooLong before InputTooLong → ⊥
   not_too_long (Reads list) can reads tells = cc
-  not_too_long (Writes work) can reads tells = omega (arith, tells refl can.input can.remaining, can.within)
+  not_too_long (Writes (Run target)) can reads tells = omega (arith, tells refl can.input.0 can.input.1, can.input.2)
+  not_too_long (Writes (Recover target)) can reads tells = cc
 
   pub completes : (form : Form) (status : Status) → TellsFirstFault (rules_of form) old status → TellsFirstReason form old status
       → TellsTooLong before status → IsCause (Some form) old new before after status → IsComplete form old new before after status
@@ -47,5 +47,5 @@ module _ (old new : View) (before after : Input) where
   completes form NoMemory faults reasons long cause can none = tt
   completes form InputTooLong faults reasons long cause can none = not_too_long form can cause.0 long
   completes form (ReadOnly place reason) faults reasons long cause can none =
-      not_read_only form can (reason_at place reason) cause.0 (λ file here. reasons place reason refl file here)
+      not_read_only form can (reason_at place reason) (λ file here. reasons place reason refl file here)
   completes form SayFault faults reasons long cause can none = none.say cause.1

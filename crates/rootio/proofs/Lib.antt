@@ -1,9 +1,13 @@
+pub mod Beginnings
 pub mod Built
+pub mod CallRows
 pub mod Completes
 pub mod Doing
 pub mod Endings
 pub mod Opening
+pub mod OrderedKeys
 pub mod Pieces
+pub mod Recoveries
 pub mod Room
 pub mod Named
 pub mod RunStops

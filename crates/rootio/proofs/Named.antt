@@ -1,13 +1,13 @@
 -- A verb that writes has a file's name of at most 200 bytes.
-use Rattle.std.proofs.Common.{if◌then◌else◌, ◌≡◌, ◌⊎◌, inl, inr, ⊎_elim, ℕ, ◌≤◌, ◌&&◌, Bool, true, false, List, [], ◌∷◌, length, Option, Some, None, option_map, sym, refl, ap, subst, rules}
-use Rattle.std.proofs.lemmas.Bool.{and_parts}
+use Rattle.std.proofs.Common.{if◌then◌else◌, ◌≡◌, ◌⊎◌, inl, inr, ⊎_elim, ℕ, ◌≤◌, ◌&&◌, Bool, true, false, List, [], ◌∷◌, length, Option, Some, None, option_map, sym, refl, ap, ◌∙◌, subst, rules}
+use Rattle.std.proofs.lemmas.{Bool.{and_parts}, Option.{same_Some}}
 use Rattle.rio_report.specs.declared.item.Item.{Item}
 use Rattle.rio_token.specs.Words.{num_of}
 use Rattle.rio_num.specs.Word.{is_item_text}
 use Rattle.std.specs.{Prelude.{codes}, List.{list_all}, Str.{bytes_eq}}
 use Rattle.rootio.specs.{declared.words.Form.{Form, TheVariants.{Reads, Writes}}, declared.words.Listing.TheVariants.{Dump, Scan}}
-use Rattle.rootio.specs.declared.words.Work.{Work, TheVariants.{Run}}
-use Rattle.rootio.specs.{Words.{asked_by, dump_of, form_of_words, is_file, is_no_flag, item_of, ls_of, run_of, scan_of_words, written_at}, Writing.{target_of}}
+use Rattle.rootio.specs.declared.words.Work.{Work, TheVariants.{Run, Recover}}
+use Rattle.rootio.specs.{Words.{asked_by, dump_of, form_of_words, is_file, is_no_flag, item_of, ls_of, recover_of, run_of, scan_of_words, target_by}, Target.{TargetFile}, Writing.{target_of}}
 
 -- ---- choices
 
@@ -18,6 +18,20 @@ chosen false x y f e = inr e
 guarded : (b : Bool) (x : Option Form) (f : Form) → (if b then x else None) ≡ Some f → (b ≡ true) × (x ≡ Some f)
 guarded true x f e = (refl, e)
 guarded false x f e = absurd cc
+
+-- ---- files that are written to
+
+abbrev target_at : List ℕ → ℕ → TargetFile
+target_at file n = record { name = file; datime = n }
+
+number_named : (file : List ℕ) (o : Option ℕ) (target : TargetFile) → option_map (λ n. target_at file n) o ≡ Some target → target.name ≡ file
+number_named file None target e = absurd cc
+number_named file (Some n) target e = ap (λ (t : TargetFile). t.name) (sym (same_Some (target_at file n) target e))
+
+target_named : (file : List ℕ) (args : List (List ℕ)) (target : TargetFile) → target_by file args ≡ Some target → target.name ≡ file
+target_named file [] target e = ap (λ (t : TargetFile). t.name) (sym (same_Some (target_at file 1) target e))
+target_named file (datime ∷ []) target e = number_named file (num_of datime) target e
+target_named file (datime ∷ word ∷ words) target e = absurd cc
 
 -- ---- verbs that read
 
@@ -44,28 +58,30 @@ module _ (work : Work) where
   scan_reads (tree ∷ []) e = tree_reads (is_item_text tree) tree e
   scan_reads (tree ∷ word ∷ words) e = cc
 
-  -- ---- the one that writes
+  -- ---- those that write
 
-  written_named : (file : List ℕ) (datime : ℕ) → Some (written_at file datime) ≡ Some (Writes work) → (target_of work).name ≡ file
-  written_named file datime e =
-      let same : work ≡ Run (record { name = file; datime = datime }) = cc in
-      ap (λ (w : Work). (target_of w).name) same
+  run_named : (file : List ℕ) (o : Option TargetFile) → ((target : TargetFile) → o ≡ Some target → target.name ≡ file)
+      → option_map (λ target. Writes (Run target)) o ≡ Some (Writes work) → (target_of work).name ≡ file
+  run_named file None named e = absurd cc
+  run_named file (Some target) named e =
+      let same : work ≡ Run target = cc in
+      ap (λ (w : Work). (target_of w).name) same ∙ named target refl
 
-  number_named : (file : List ℕ) (o : Option ℕ) → option_map (written_at file) o ≡ Some (Writes work) → (target_of work).name ≡ file
-  number_named file None e = absurd cc
-  number_named file (Some n) e = written_named file n e
-
-  run_named : (file : List ℕ) (args : List (List ℕ)) → run_of file args ≡ Some (Writes work) → (target_of work).name ≡ file
-  run_named file [] e = written_named file 1 e
-  run_named file (datime ∷ []) e = number_named file (num_of datime) e
-  run_named file (datime ∷ word ∷ words) e = absurd cc
+  recover_named : (file : List ℕ) (o : Option TargetFile) → ((target : TargetFile) → o ≡ Some target → target.name ≡ file)
+      → option_map (λ target. Writes (Recover target)) o ≡ Some (Writes work) → (target_of work).name ≡ file
+  recover_named file None named e = absurd cc
+  recover_named file (Some target) named e =
+      let same : work ≡ Recover target = cc in
+      ap (λ (w : Work). (target_of w).name) same ∙ named target refl
 
   asked_named : (verb file : List ℕ) (args : List (List ℕ)) → asked_by verb file args ≡ Some (Writes work) → (target_of work).name ≡ file
   asked_named verb file args e =
       ⊎_elim (λ is. absurd (ls_reads args is))
       (λ behind. ⊎_elim (λ is. absurd (dump_reads args is))
       (λ further. ⊎_elim (λ is. absurd (scan_reads args is))
-      (λ last. run_named file args (guarded (bytes_eq verb (codes "run")) (run_of file args) (Writes work) last).1)
+      (λ later. ⊎_elim (λ is. run_named file (target_by file args) (target_named file args) is)
+      (λ last. recover_named file (target_by file args) (target_named file args) (guarded (bytes_eq verb (codes "recover")) (recover_of file args) (Writes work) last).1)
+      (chosen (bytes_eq verb (codes "run")) (run_of file args) _ (Writes work) later))
       (chosen (bytes_eq verb (codes "scan")) (scan_of_words args) _ (Writes work) further))
       (chosen (bytes_eq verb (codes "dump")) (dump_of args) _ (Writes work) behind))
       (chosen (bytes_eq verb (codes "ls")) (ls_of args) _ (Writes work) e)

@@ -1,72 +1,61 @@
--- How a run of a script ends: where nothing is done, where the file isn't opened, and where it is.
-use Rattle.std.proofs.Common.{if◌then◌else◌, ◌≡◌, ◌⊎◌, inl, inr, ⊎_elim, ℕ, ◌+◌, Bool, true, false, List, length, Option, Some, None, Result, Ok, Err, subst, sym, refl, ap, ◌∙◌, arith}
+-- How a run of a verb ends: where nothing is done, where the file isn't opened, and where it is.
+use Rattle.std.proofs.Common.{◌≡◌, inl, inr, ℕ, Bool, true, false, List, None, Some, Result, Ok, Err, MatchBool, subst, sym, refl, ap, ◌∙◌}
 use Rattle.std.proofs.lemmas.Option.{same_Some}
-use Rattle.std.specs.{List.{slice_get}, Result.{OnOk}}
-use Rattle.rio_head.specs.{declared.fault.FileFault.{FileFault}, declared.fault.HeadFault.{HeadFault}, declared.reason.Reason.{Reason, TheVariants.{NotYet}}}
-use Rattle.rio_head.specs.Head.{fault_at}
+use Rattle.std.specs.Result.{OnOk}
+use Rattle.rio_head.specs.{declared.fault.FileFault.{FileFault}, declared.reason.Reason.{Reason}, Head.{fault_at}}
 use Rattle.rio_host.specs.{Host.{Any, Becomes, Elapses, IsLawful, IsQuiet, View}, OnlyReads.{Grown, OnlyReads}}
 use Rattle.rio_host.proofs.{Moments.{elapses_as, elapses_join}, ReadsLaws.{reads_none}, PiecesLaws.{grown_join}}
 use Rattle.rio_dir.specs.Unborn.{header_fault, is_unborn}
 use Rattle.rio_chain.specs.{Segments.{IsChain, Link}, Stops.{KeepsFront}, Walks.{Told}}
 use Rattle.rio_chain.proofs.OneChain.{chain_one}
-use Rattle.rio_machine.specs.{State.{State}, declared.command.Command.{Command}}
+use Rattle.rio_close.specs.EndWord.{SaysEnd}
+use Rattle.rio_machine.specs.State.{State}
 use Rattle.rio_report.specs.FirstFault.{HeaderAlone}
-use Rattle.rio_cmd.specs.Built.{built_script}
 use Rattle.rio_step.specs.Costs.{HasFileRoom}
-use Rattle.rio_state.specs.{Reads.{ReadsAsState}, Reasons.{reason_at}}
-use Rattle.rio_create.specs.{Creation.{LeavesUnclosed}, NewFile.{IsNewFile, first_links, new_file}}
-use Rattle.rio_effect.specs.FileRuns.{file_run, marks_in}
-use Rattle.rio_session.specs.{Closes.{IsWellClosed}, Causes.{IsNotOpened, IsOpenCause, IsSessionCause, NoCountRose, TellsWhyNot}}
-use Rattle.rio_session.specs.Session.{BeginsNew, SessionState, StandsFor}
+use Rattle.rio_state.specs.{Closing.{name_in}, KeyedRecords.{keyed_records}, Left.{open_end}, Reads.{ReadsAsState}, Reasons.{IsFirstReason, reason_at}}
+use Rattle.rio_state.proofs.OneReason.{reason_one}
+use Rattle.rio_create.specs.NewFile.{first_links, new_file}
+use Rattle.rio_recover.specs.Cleaning.{cleaned}
+use Rattle.rio_effect.specs.FileRuns.{file_run}
+use Rattle.rio_session.specs.{Closes.{IsWellClosed}, Causes.{IsSessionCause, NoCountRose}}
+use Rattle.rio_session.specs.Opening.{BeginsOn, IsBegun, IsNotOpened, IsOpenCause, LeavesFileOrUnclosed, OpensMade, OpensWith, SparesFile, TellsWhyNot, opening_length}
+use Rattle.rio_session.specs.Session.{SessionState, StandsFor}
 use Rattle.rio_session.specs.declared.fault.OpenFault.{OpenFault, TheVariants.{BadFile as FileBad, ReadOnly as FileReadOnly, NoMemory as NotRoomy, HostFault as NotOpened}}
 use Rattle.rio_session.specs.declared.fault.SessionFault.{SessionFault, TheVariants.{HostFault, SayFault as NotSaid, NoMemory as OutOfMemory}}
 use Rattle.rio_session.proofs.Spoken.{front_none, grows_none}
-use Rattle.rootio.specs.{Headline.{IsRunDone, IsStopOf, SaidFindRoom, ScriptRun, all_replies, opening_length}, Reading.{RefusesBroken, TellsFirstFault}}
-use Rattle.rootio.specs.{Script.{HasClosed, IsFileCause, RunsScript, StaysOpenBy, session_run, status_of_open, status_of_session}, Target.{TargetFile}}
-use Rattle.rootio.specs.Writing.{BeginsRun, EndsUnclosed, RefusesFile, RefusesReadOnly, TellsFirstReason, made_reason, run_of_work}
+use Rattle.rootio.specs.{Headline.{IsRunDone, IsStopOf, SaidFindRoom, ScriptRun, all_texts}, Reading.{RefusesBroken, TellsFirstFault}}
+use Rattle.rootio.specs.Script.{HasClosed, IsFileCause, RunsWork, StaysOpenBy, status_of_open, status_of_session}
+use Rattle.rootio.specs.Writing.{Beginning, BeginsRun, EndsUnclosed, EndsUnsaid, IsOpenHeader, RefusesFile, RefusesReadOnly, TellsFirstReason, run_of_work, target_of}
 use Rattle.rootio.specs.{declared.status.Status.TheVariants.{Done, BadFile, NoMemory, ReadOnly}, declared.words.Form.TheVariants.{Writes}}
-use Rattle.rootio.specs.declared.words.Work.TheVariants.{Run}
+use Rattle.rootio.specs.declared.words.Work.{Work}
 use Rattle.rootio.proofs.{Room.{silent_room}, SaidFronts.{said_front}, Scripts.{OpensAs, stop_opening}, Unclosed.{ends_unclosed}}
 use Rattle.rootio.proofs.Untouched.{any_join, becomes_same, elapses_none}
 
 -- ---- nothing was done
 
-pub nothing_done : (target : TargetFile) (script : List ℕ) (v : View) → RunsScript target script v v NoMemory
-nothing_done target script v = record {
-  stops = λ file text m begins. elapses_none v (IsStopOf (run_of_work (Run target) script m) file text);
-  said = λ file text m begins. front_none v v text (all_replies (run_of_work (Run target) script m)) begins.said refl;
-  room = λ file text m begins room. silent_room (run_of_work (Run target) script m) text v begins.said;
-  done = λ file text m begins is. absurd cc;
-  written = λ file text m begins is. absurd cc;
-  unclosed = λ file text m begins. inl (reads_none v);
+pub spares_same : (file : List ℕ) (v : View) → SparesFile file v v
+spares_same file v = record { broken = λ fault e. reads_none v; reason = λ against e. reads_none v }
+
+pub nothing_done : (work : Work) (input : List ℕ) (v : View) → RunsWork work input v v NoMemory
+nothing_done work input v = record {
+  stops = λ b begins is. elapses_none v (IsStopOf (run_of_work work b) b.file b.text);
+  said = λ b begins is. front_none v v b.text (all_texts (run_of_work work b)) begins.said refl;
+  room = λ b begins is room. silent_room (run_of_work work b) b.text v begins.said;
+  done = λ b begins is ended. absurd cc;
+  written = λ b begins is ended. absurd cc;
+  unclosed = λ b begins is. inl (reads_none v);
   told = becomes_same v.holds;
   faults = λ place kind is. absurd cc;
   broken = λ fault file here e. tt;
   reasons = λ place reason is. absurd cc;
   read_only = λ against file here e. tt;
-  spares = record { answer = λ refuses. absurd refuses; file = λ file here made. reads_none v };
+  spares = record { answer = λ refuses. absurd refuses; file = λ file here. spares_same file v };
   cause = (refl, refl);
 }
 
 -- ---- the file isn't opened
 
--- a file with a fault has no reason beside it
-no_reason : (unborn : Bool) (fault : Option HeadFault) (f : HeadFault) → fault ≡ Some f → made_reason unborn fault ≡ None
-no_reason true fault f e = refl
-no_reason false None f e = absurd cc
-no_reason false (Some g) f e = refl
-
--- and one that isn't made has neither
-pub no_reason_new : (unborn : Bool) (fault : Option HeadFault) → unborn ≡ true → made_reason unborn fault ≡ None
-no_reason_new true fault e = refl
-no_reason_new false fault e = absurd cc
-
-not_yet : (unborn : Bool) (fault : Option HeadFault) → unborn ≡ false → fault ≡ None → made_reason unborn fault ≡ Some (reason_at 0 NotYet)
-not_yet true fault e f = absurd cc
-not_yet false None e f = refl
-not_yet false (Some g) e f = absurd cc
-
-module _ (target : TargetFile) (v0 v1 : View) where
+module _ (work : Work) (v0 v1 : View) where
   open_faults : (fault : OpenFault) → Told v0 (λ file. TellsWhyNot file {X = SessionState} (Err fault)) → TellsFirstFault HeaderAlone v0 (status_of_open fault)
   open_faults (FileBad p k) why place kind is file here =
       let one : p ≡ place = cc in
@@ -78,30 +67,27 @@ module _ (target : TargetFile) (v0 v1 : View) where
 
   open_broken : (fault : OpenFault) → Told v0 (λ file. TellsWhyNot file {X = SessionState} (Err fault)) → RefusesBroken HeaderAlone v0 (status_of_open fault)
   open_broken (FileBad p k) why f file here e = let is : header_fault file ≡ Some (fault_at p k) = why file here in cc
-  open_broken (FileReadOnly p r) why f file here e = let is : header_fault file ≡ None = (why file here).1 in absurd cc
+  open_broken (FileReadOnly p r) why f file here e = let is : header_fault file ≡ None = (why file here).0 in absurd cc
   open_broken NotRoomy why f file here e = tt
   open_broken NotOpened why f file here e = tt
 
-  open_reasons : (fault : OpenFault) → Told v0 (λ file. TellsWhyNot file {X = SessionState} (Err fault)) → TellsFirstReason (Writes (Run target)) v0 (status_of_open fault)
+  open_reasons : (fault : OpenFault) → Told v0 (λ file. TellsWhyNot file {X = SessionState} (Err fault)) → TellsFirstReason (Writes work) v0 (status_of_open fault)
   open_reasons (FileBad p k) why place reason is file here = absurd cc
   open_reasons (FileReadOnly p r) why place reason is file here =
       let w = why file here in
-      let one : 0 ≡ place = sym w.2 ∙ (let e : p ≡ place = cc in e) in
-      let other : NotYet ≡ reason = sym w.3 ∙ (let e : r ≡ reason = cc in e) in
-      not_yet (is_unborn file) (header_fault file) w.0 w.1
-      ∙ ap (λ (q : ℕ). Some (reason_at q NotYet)) one ∙ ap (λ (q : Reason). Some (reason_at place q)) other
+      let one : p ≡ place = cc in
+      let other : r ≡ reason = cc in
+      (w.0, subst (λ (x : ℕ × Reason). IsFirstReason file (Some (reason_at x.0 x.1))) (λ i. (one i, other i)) w.1)
   open_reasons NotRoomy why place reason is file here = absurd cc
   open_reasons NotOpened why place reason is file here = absurd cc
 
-  open_read_only : (fault : OpenFault) → Told v0 (λ file. TellsWhyNot file {X = SessionState} (Err fault)) → RefusesReadOnly (Writes (Run target)) v0 (status_of_open fault)
+  open_read_only : (fault : OpenFault) → Told v0 (λ file. TellsWhyNot file {X = SessionState} (Err fault)) → RefusesReadOnly (Writes work) v0 (status_of_open fault)
   open_read_only (FileBad p k) why against file here e =
-      let none : made_reason (is_unborn file) (header_fault file) ≡ None = no_reason (is_unborn file) (header_fault file) (fault_at p k) (why file here) in
+      let is : header_fault file ≡ Some (fault_at p k) = why file here in
+      let none : header_fault file ≡ None = e.0 in
       absurd cc
   open_read_only (FileReadOnly p r) why against file here e =
-      let w = why file here in
-      let is : made_reason (is_unborn file) (header_fault file) ≡ Some (reason_at 0 NotYet) = not_yet (is_unborn file) (header_fault file) w.0 w.1 in
-      let one : against ≡ reason_at 0 NotYet = cc in
-      one ∙ ap (λ (q : ℕ). reason_at q NotYet) (sym w.2) ∙ ap (λ (q : Reason). reason_at p q) (sym w.3)
+      same_Some against (reason_at p r) (reason_one file (Some against) (Some (reason_at p r)) e.1 (why file here).1)
   open_read_only NotRoomy why against file here e = tt
   open_read_only NotOpened why against file here e = tt
 
@@ -111,21 +97,16 @@ module _ (target : TargetFile) (v0 v1 : View) where
   open_answer NotRoomy untouched refuses = absurd refuses
   open_answer NotOpened untouched refuses = absurd refuses
 
-  -- a file that is made isn't written to, and one that isn't made stays so or is marked as open
-  made_or_not : (unborn : Bool) → (unborn ≡ true → LeavesUnclosed v1) → (unborn ≡ false → OnlyReads v0 v1) → OnlyReads v0 v1 ⊎ LeavesUnclosed v1
-  made_or_not true new made = inr (new refl)
-  made_or_not false new made = inl (made refl)
-
-  open_unclosed : (run : ScriptRun) (before : List ℕ) (fault : OpenFault) → OnlyReads v0 v1 ⊎ LeavesUnclosed v1
-      → (IsNotOpened {X = SessionState} (Err fault) → OnlyReads v0 v1) → EndsUnclosed run before v0 v1 (status_of_open fault)
-  open_unclosed run before (FileBad p k) stays untouched = tt
-  open_unclosed run before (FileReadOnly p r) stays untouched = tt
-  open_unclosed run before NotRoomy stays untouched = inl (untouched tt)
-  open_unclosed run before NotOpened stays untouched = ⊎_elim (λ reads. inl reads) (λ unclosed. inr (inl unclosed)) stays
+  open_unclosed : (run : ScriptRun) (file before : List ℕ) (fault : OpenFault) → LeavesFileOrUnclosed file v1
+      → (IsNotOpened {X = SessionState} (Err fault) → OnlyReads v0 v1) → EndsUnclosed work run file before v0 v1 (status_of_open fault)
+  open_unclosed run file before (FileBad p k) leaves untouched = tt
+  open_unclosed run file before (FileReadOnly p r) leaves untouched = tt
+  open_unclosed run file before NotRoomy leaves untouched = inl (untouched tt)
+  open_unclosed run file before NotOpened leaves untouched = inr (inl leaves)
 
   open_cause : (fault : OpenFault) → IsOpenCause {X = SessionState} v0 v1 (Err fault) → IsFileCause v0 v1 (status_of_open fault)
   open_cause (FileBad p k) cause = (cause.0, cause.1.0, cause.1.1)
-  open_cause (FileReadOnly p r) cause = (cause.0, cause.1, cause.2.0, cause.2.1)
+  open_cause (FileReadOnly p r) cause = cause
   open_cause NotRoomy cause = cause
   open_cause NotOpened cause = cause
 
@@ -139,35 +120,81 @@ module _ (target : TargetFile) (v0 v1 : View) where
 abbrev pub OpensSo : View → View → Type 0
 OpensSo v0 v1 = (file text : List ℕ) (m : State) → IsQuiet v0 → v0.holds ≡ Some file → v0.said ≡ Some text → ReadsAsState file m → Elapses v0 v1 (OpensAs file text m)
 
-pub not_opened : (target : TargetFile) (script : List ℕ) (v0 v1 : View) (fault : OpenFault) → OpensSo v0 v1
-    → ((file : List ℕ) → IsQuiet v0 → v0.holds ≡ Some file → is_unborn file ≡ true → LeavesUnclosed v1)
+-- so a stop leaves the run's start
+starts : (work : Work) (v0 v1 : View) → OpensSo v0 v1 → (b : Beginning) → BeginsRun work b v0 → Elapses v0 v1 (IsStopOf (run_of_work work b) b.file b.text)
+starts work v0 v1 opens b begins =
+    elapses_as (IsStopOf (run_of_work work b) b.file b.text) (OpensAs b.file b.text b.state) (opens b.file b.text b.state begins.quiet begins.holds begins.said begins.reads)
+    (λ image said left. stop_opening (run_of_work work b) b.file b.text image said begins.reads left)
+
+pub not_opened : (work : Work) (input : List ℕ) (v0 v1 : View) (fault : OpenFault) → OpensSo v0 v1
+    → ((file : List ℕ) → IsQuiet v0 → v0.holds ≡ Some file → LeavesFileOrUnclosed file v1)
     → Told v0 (λ file. TellsWhyNot file {X = SessionState} (Err fault))
-    → ((file : List ℕ) → v0.holds ≡ Some file → is_unborn file ≡ false → OnlyReads v0 v1)
+    → Told v0 (λ file. SparesFile file v0 v1)
     → (IsNotOpened {X = SessionState} (Err fault) → OnlyReads v0 v1) → Becomes Any v0.holds v1.holds → v1.said ≡ v0.said → IsOpenCause {X = SessionState} v0 v1 (Err fault)
-    → IsLawful v0 → IsLawful v1 → RunsScript target script v0 v1 (status_of_open fault)
-not_opened target script v0 v1 fault opens unclosed why unwritten untouched told same cause law law' = record {
-  stops = stops;
-  said = λ file text m begins.
-      said_front v0 v1 file text m (run_of_work (Run target) script m) law law' begins (stops file text m begins) told (grows_none v0.said v1.said same);
-  room = λ file text m begins room. silent_room (run_of_work (Run target) script m) text v1 (same ∙ begins.said);
-  done = λ file text m begins is. absurd (not_done target v0 v1 fault is);
-  written = λ file text m begins is. absurd (not_done target v0 v1 fault is);
-  unclosed = λ file text m begins.
-      open_unclosed target v0 v1 (run_of_work (Run target) script m) text fault
-      (made_or_not target v0 v1 (is_unborn file) (unclosed file begins.quiet begins.holds) (unwritten file begins.holds)) untouched;
+    → IsLawful v0 → IsLawful v1 → RunsWork work input v0 v1 (status_of_open fault)
+not_opened work input v0 v1 fault opens unclosed why spared untouched told same cause law law' = record {
+  stops = λ b begins is. starts work v0 v1 opens b begins;
+  said = λ b begins is.
+      said_front v0 v1 b.file b.text (run_of_work work b) law law' begins.holds begins.said (starts work v0 v1 opens b begins) told (grows_none v0.said v1.said same);
+  room = λ b begins is room. silent_room (run_of_work work b) b.text v1 (same ∙ begins.said);
+  done = λ b begins is ended. absurd (not_done work v0 v1 fault ended);
+  written = λ b begins is ended. absurd (not_done work v0 v1 fault ended);
+  unclosed = λ b begins is. open_unclosed work v0 v1 (run_of_work work b) b.file b.text fault (unclosed b.file begins.quiet begins.holds) untouched;
   told = told;
-  faults = open_faults target v0 v1 fault why;
-  broken = open_broken target v0 v1 fault why;
-  reasons = open_reasons target v0 v1 fault why;
-  read_only = open_read_only target v0 v1 fault why;
-  spares = record { answer = open_answer target v0 v1 fault untouched; file = unwritten };
-  cause = open_cause target v0 v1 fault cause;
+  faults = open_faults work v0 v1 fault why;
+  broken = open_broken work v0 v1 fault why;
+  reasons = open_reasons work v0 v1 fault why;
+  read_only = open_read_only work v0 v1 fault why;
+  spares = record { answer = open_answer work v0 v1 fault untouched; file = spared };
+  cause = open_cause work v0 v1 fault cause;
 }
+
+-- ---- what the session begins with
+
+-- a file begins with one list of records
+begins_one : (name : List ℕ) (datime : ℕ) (file : List ℕ) (a b : List Link) → OpensWith name datime file a → OpensWith name datime file b → a ≡ b
+begins_one name datime file a b = by (is_unborn file)
   where
-    stops : (file text : List ℕ) (m : State) → BeginsRun v0 file text m → Elapses v0 v1 (IsStopOf (run_of_work (Run target) script m) file text)
-    stops file text m begins =
-        elapses_as (IsStopOf (run_of_work (Run target) script m) file text) (OpensAs file text m) (opens file text m begins.quiet begins.holds begins.said begins.reads)
-        (λ image said left. stop_opening (run_of_work (Run target) script m) file text image said begins.reads left)
+    by : (unborn : Bool) → MatchBool unborn (a ≡ first_links name datime) (OpensMade file a) → MatchBool unborn (b ≡ first_links name datime) (OpensMade file b) → a ≡ b
+    by true p q = p ∙ sym q
+    by false p q = p.2 ∙ ap cleaned (chain_one file p.0 q.0 p.1 q.1) ∙ sym q.2
+
+module _ (work : Work) (v0 v1 : View) (s : SessionState)
+    (stands : (file text : List ℕ) (m : State) → v0.holds ≡ Some file → v0.said ≡ Some text → ReadsAsState file m → StandsFor v1 s m text)
+    (on : Told v0 (λ file. BeginsOn (target_of work).name (target_of work).datime file v1 s)) (b : Beginning) (begins : BeginsRun work b v0) where
+  abbrev stands_there : StandsFor v1 s b.state b.text
+  stands_there = stands b.file b.text b.state begins.holds begins.said begins.reads
+
+  found : BeginsOn (target_of work).name (target_of work).datime b.file v1 s
+  found = on b.file begins.holds
+
+  same_links : found.links ≡ b.links
+  same_links = begins_one (target_of work).name (target_of work).datime b.file found.links b.links found.begins begins.begins
+
+  same_file : stands_there.file ≡ found.now
+  same_file = same_Some stands_there.file found.now (sym stands_there.holds ∙ found.holds)
+
+  -- its file has the run's records
+  links_there : stands_there.state.links ≡ b.links
+  links_there = chain_one found.now stands_there.state.links found.links (subst (IsChain stands_there.state.links) same_file stands_there.state.chain.chain) found.chain.chain ∙ same_links
+
+  -- under their name
+  name_there : s.name ≡ name_in (keyed_records b.links)
+  name_there = found.name_is ∙ ap (λ (l : List Link). name_in (keyed_records l)) same_links
+
+  -- and with the header of an open file
+  header_there : (header : List ℕ) × IsOpenHeader (target_of work) b.file header × KeepsFront header stands_there.file
+  header_there =
+      let h = by (is_unborn b.file) found.front in
+      (h.0, h.1, subst (KeepsFront h.0) (sym same_file) h.2)
+    where
+      new : List ℕ
+      new = new_file (target_of work).name (target_of work).datime
+
+      by : (unborn : Bool) → MatchBool unborn (KeepsFront new found.now) ((marked : List ℕ) × SaysEnd open_end b.file marked × KeepsFront marked found.now)
+          → (header : List ℕ) × MatchBool unborn (header ≡ new) (SaysEnd open_end b.file header) × KeepsFront header found.now
+      by true front = (new, refl, front)
+      by false front = front
 
 -- ---- the file is opened
 
@@ -190,12 +217,6 @@ closed_of_front name datime later front links file keeps w = record {
   owned = w.owned;
   written = w.written;
 }
-
--- a new session does the run of the words
-run_same : (target : TargetFile) (script : List ℕ) (s : SessionState) (links : List Link) (commands : List Command) (m : State)
-    → BeginsNew s target.name target.datime → links ≡ first_links target.name target.datime → commands ≡ built_script script → session_run s links m commands ≡ run_of_work (Run target) script m
-run_same target script s links commands m new first are =
-    λ i. record { start = m; commands = are i; marks = marks_in (file_run (new.datime_is i) (first i) m (are i)) }
 
 ended_well : (r : Result (Unit {0}) SessionFault) (P : Type 0) → OnOk r P → status_of_session r ≡ Done → P
 ended_well (Ok x) P p is = p
@@ -227,105 +248,92 @@ session_cause v0 v1 v2 (Err HostFault) none cause = (rw (← none.0) cause.0, ca
 session_cause v0 v1 v2 (Err NotSaid) none cause = (cause.0 ∙ none.0, rw (← none.1) cause.1)
 session_cause v0 v1 v2 (Err OutOfMemory) none cause = (cause.0 ∙ none.0, cause.1 ∙ none.1)
 
-pub new_has_no_fault : (unborn : Bool) (fault : Option HeadFault) → unborn ≡ true → (if unborn then None else fault) ≡ None
-new_has_no_fault true fault e = refl
-new_has_no_fault false fault e = absurd cc
-
-new_is_empty : (unborn : Bool) (n : ℕ) → unborn ≡ true → (if unborn then 0 else n) ≡ 0
-new_is_empty true n e = refl
-new_is_empty false n e = absurd cc
-
-module _ (target : TargetFile) (script : List ℕ) (v0 v1 v2 : View) (s : SessionState) (commands : List Command) (r : Result (Unit {0}) SessionFault)
+module _ (work : Work) (input : List ℕ) (v0 v1 v2 : View) (s : SessionState) (run : List Link → State → ScriptRun) (r : Result (Unit {0}) SessionFault)
     (opens : OpensSo v0 v1)
     (stands : (file text : List ℕ) (m : State) → v0.holds ≡ Some file → v0.said ≡ Some text → ReadsAsState file m → StandsFor v1 s m text)
-    (new : BeginsNew s target.name target.datime) (why : Told v0 (λ file. TellsWhyNot file {X = SessionState} (Ok s)))
-    (told01 : Becomes Any v0.holds v1.holds) (said01 : v1.said ≡ v0.said) (none : NoCountRose v0 v1) (are : commands ≡ built_script script)
-    (made : (file : List ℕ) → v0.holds ≡ Some file → (new : List ℕ) × (v1.holds ≡ Some new) × IsNewFile target.name target.datime new)
-    (stops : (file text : List ℕ) (m : State) (st : StandsFor v1 s m text) → Elapses v1 v2 (IsStopOf (session_run s st.state.links m commands) file text))
-    (done : OnOk r ((m : State) (text : List ℕ) (st : StandsFor v1 s m text) → HasClosed (session_run s st.state.links m commands) st.state.links st.file s text v2))
-    (unclosed : (m : State) (text : List ℕ) (st : StandsFor v1 s m text) → StaysOpenBy (session_run s st.state.links m commands) text v2 r)
+    (on : Told v0 (λ file. BeginsOn (target_of work).name (target_of work).datime file v1 s)) (begun : IsBegun (target_of work).datime s)
+    (why : Told v0 (λ file. TellsWhyNot file {X = SessionState} (Ok s)))
+    (told01 : Becomes Any v0.holds v1.holds) (said01 : v1.said ≡ v0.said) (none : NoCountRose v0 v1)
+    (its : (b : Beginning) → BeginsRun work b v0 → b.input ≡ input → (st : StandsFor v1 s b.state b.text) → st.state.links ≡ b.links → run st.state.links b.state ≡ run_of_work work b)
+    (stops : (file text : List ℕ) (m : State) (st : StandsFor v1 s m text) → Elapses v1 v2 (IsStopOf (run st.state.links m) file text))
+    (done : OnOk r ((m : State) (text : List ℕ) (st : StandsFor v1 s m text) → HasClosed (run st.state.links m) st.state.links st.file s text v2))
+    (unclosed : (m : State) (text : List ℕ) (st : StandsFor v1 s m text) → StaysOpenBy (EndsUnsaid work) (run st.state.links m) text v2 r)
     (told12 : Becomes Any v1.holds v2.holds) (said12 : Becomes Grown v1.said v2.said)
-    (room12 : (m : State) (text : List ℕ) (st : StandsFor v1 s m text) → s.costs ≡ 0 → HasFileRoom s.opened m commands (session_run s st.state.links m commands).marks → SaidFindRoom (session_run s st.state.links m commands) text v2)
+    (room12 : (m : State) (text : List ℕ) (st : StandsFor v1 s m text) → s.costs ≡ 0 → HasFileRoom s.opened m (run st.state.links m).commands (run st.state.links m).marks → SaidFindRoom (run st.state.links m) text v2)
     (cause : IsSessionCause v1 v2 r) (law : IsLawful v0) (law' : IsLawful v2) where
-  -- the file begins with the first record of a new one
-  first_there : (file text : List ℕ) (m : State) (begins : BeginsRun v0 file text m) → (stands file text m begins.holds begins.said begins.reads).state.links ≡ first_links target.name target.datime
-  first_there file text m begins =
-      let st = stands file text m begins.holds begins.said begins.reads in
-      let new_file = made file begins.holds in
-      let same : st.file ≡ new_file.0 = same_Some st.file new_file.0 (sym st.holds ∙ new_file.1) in
-      chain_one new_file.0 st.state.links new_file.2.links (subst (IsChain st.state.links) same st.state.chain.chain) new_file.2.chain.chain ∙ new_file.2.links_are
+  module _ (b : Beginning) (begins : BeginsRun work b v0) (is : b.input ≡ input) where
+    abbrev st : StandsFor v1 s b.state b.text
+    st = stands_there work v0 v1 s stands on b begins
 
-  -- and with the header of a new one
-  front_there : (file text : List ℕ) (m : State) (begins : BeginsRun v0 file text m) → KeepsFront (new_file target.name target.datime) (stands file text m begins.holds begins.said begins.reads).file
-  front_there file text m begins =
-      let st = stands file text m begins.holds begins.said begins.reads in
-      let made_file = made file begins.holds in
-      let same : made_file.0 ≡ st.file = same_Some made_file.0 st.file (sym made_file.1 ∙ st.holds) in
-      subst (KeepsFront (new_file target.name target.datime)) same (λ i x low at. let e : i ≡ 0 + i = omega arith in ap (slice_get made_file.0) e ∙ made_file.2.bytes i x at)
+    links_are : st.state.links ≡ b.links
+    links_are = links_there work v0 v1 s stands on b begins
 
-  its_run : (file text : List ℕ) (m : State) (begins : BeginsRun v0 file text m) → session_run s (stands file text m begins.holds begins.said begins.reads).state.links m commands ≡ run_of_work (Run target) script m
-  its_run file text m begins = run_same target script s (stands file text m begins.holds begins.said begins.reads).state.links commands m new (first_there file text m begins) are
+    its_run : run st.state.links b.state ≡ run_of_work work b
+    its_run = its b begins is st links_are
 
-  does_all : (file text : List ℕ) (m : State) → BeginsRun v0 file text m → Elapses v0 v2 (IsStopOf (run_of_work (Run target) script m) file text)
-  does_all file text m begins =
-      let P = IsStopOf (run_of_work (Run target) script m) file text in
-      let st = stands file text m begins.holds begins.said begins.reads in
-      let same = its_run file text m begins in
-      let first = elapses_as P (OpensAs file text m) (opens file text m begins.quiet begins.holds begins.said begins.reads)
-      (λ image said left. stop_opening (run_of_work (Run target) script m) file text image said begins.reads left) in
-      let later = stops file text m (stands file text m begins.holds begins.said begins.reads) in
-      elapses_join (IsStopOf (session_run s st.state.links m commands) file text) first later
-      (λ image said stop. subst (λ (run : ScriptRun). IsStopOf run file text image said) same stop)
+    does_all : Elapses v0 v2 (IsStopOf (run_of_work work b) b.file b.text)
+    does_all =
+        elapses_join (IsStopOf (run st.state.links b.state) b.file b.text) (starts work v0 v1 opens b begins) (stops b.file b.text b.state st)
+        (λ image said stop. subst (λ (x : ScriptRun). IsStopOf x b.file b.text image said) its_run stop)
 
-  opened_empty : (file text : List ℕ) (m : State) → BeginsRun v0 file text m → s.opened ≡ opening_length file
-  opened_empty file text m begins = new.opened ∙ sym (new_is_empty (is_unborn file) (length file) (why file begins.holds))
+    closed_well : status_of_session r ≡ Done → HasClosed (run st.state.links b.state) st.state.links st.file s b.text v2
+    closed_well ended = ended_well r _ done ended b.state b.text st
 
-  pub opened : RunsScript target script v0 v2 (status_of_session r)
+    opened_is : s.opened ≡ opening_length b.file
+    opened_is = (found work v0 v1 s stands on b begins).opened
+
+  told02 : Becomes Any v0.holds v2.holds
+  told02 = any_join v0.holds v1.holds v2.holds told01 told12
+
+  pub opened : RunsWork work input v0 v2 (status_of_session r)
   opened = record {
     stops = does_all;
-    said = λ file text m begins.
-        said_front v0 v2 file text m (run_of_work (Run target) script m) law law' begins (does_all file text m begins) (any_join v0.holds v1.holds v2.holds told01 told12)
+    said = λ b begins is.
+        said_front v0 v2 b.file b.text (run_of_work work b) law law' begins.holds begins.said (does_all b begins is) told02
         (grown_join v0.said v1.said v2.said (grows_none v0.said v1.said said01) said12);
-    room = λ file text m begins.
-        subst (λ (run : ScriptRun). HasFileRoom (opening_length file) m run.commands run.marks → SaidFindRoom run text v2) (its_run file text m begins)
+    room = λ b begins is.
+        subst (λ (x : ScriptRun). HasFileRoom (opening_length b.file) b.state x.commands x.marks → SaidFindRoom x b.text v2) (its_run b begins is)
         (λ room.
-        room12 m text (stands file text m begins.holds begins.said begins.reads) new.costs
-        (subst (λ n. HasFileRoom n m commands (session_run s (stands file text m begins.holds begins.said begins.reads).state.links m commands).marks) (sym (opened_empty file text m begins)) room));
-    done = λ file text m begins is.
-        let closed = ended_well r _ done is m text (stands file text m begins.holds begins.said begins.reads) in
-        let empty : s.opened ≡ opening_length file = opened_empty file text m begins in
-        subst (λ (run : ScriptRun). IsRunDone run file text v2) (its_run file text m begins)
+        let from = run (st b begins is).state.links b.state in
+        room12 b.state b.text (st b begins is) begun.costs (subst (λ n. HasFileRoom n b.state from.commands from.marks) (sym (opened_is b begins is)) room));
+    done = λ b begins is ended.
+        let closed = closed_well b begins is ended in
+        let from = run (st b begins is).state.links b.state in
+        subst (λ (x : ScriptRun). IsRunDone x b.file b.text v2) (its_run b begins is)
         (record {
           quiet = closed.quiet;
           said = closed.said;
           left = closed.left;
-          room = λ room. closed.room new.costs (subst (λ n. HasFileRoom n m commands (session_run s (stands file text m begins.holds begins.said begins.reads).state.links m commands).marks) (sym empty) room);
+          room = λ room. closed.room begun.costs (subst (λ n. HasFileRoom n from.start from.commands from.marks) (sym (opened_is b begins is)) room);
         });
-    written = λ file text m begins is.
-        let st = stands file text m begins.holds begins.said begins.reads in
-        let closed = ended_well r _ done is m text st in
+    written = λ b begins is ended.
+        let closed = closed_well b begins is ended in
+        let header = header_there work v0 v1 s stands on b begins in
         record {
           run = closed.run;
-          run_is = sym (λ i. file_run (new.datime_is i) (first_there file text m begins i) m (are i)) ∙ closed.run_is;
-          left = λ image told left.
-              subst (λ (x : List ℕ × ℕ). IsWellClosed x.0 x.1 (new_file target.name target.datime) closed.run.links image) (λ i. (new.name_is i, new.datime_is i))
-              (closed_of_front s.name s.datime st.file (new_file target.name target.datime) closed.run.links image (front_there file text m begins) (closed.written image told left));
+          run_is = sym (λ i. file_run (begun.datime_is i) (links_are b begins is i) (its_run b begins is i).start (its_run b begins is i).commands) ∙ closed.run_is;
+          left = record {
+            header = header.0;
+            header_is = header.1;
+            left = λ image told left.
+                subst (λ (x : List ℕ × ℕ). IsWellClosed x.0 x.1 header.0 closed.run.links image) (λ i. (name_there work v0 v1 s stands on b begins i, begun.datime_is i))
+                (closed_of_front s.name s.datime (st b begins is).file header.0 closed.run.links image header.2 (closed.written image told left));
+          };
         };
-    unclosed = λ file text m begins.
-        subst (λ (run : ScriptRun). EndsUnclosed run text v0 v2 (status_of_session r)) (its_run file text m begins)
-        (ends_unclosed (session_run s (stands file text m begins.holds begins.said begins.reads).state.links m commands) text v0 v2 r (unclosed m text (stands file text m begins.holds begins.said begins.reads)));
-    told = any_join v0.holds v1.holds v2.holds told01 told12;
-    faults = λ place kind is. absurd (not_bad r place kind is);
-    broken = λ fault file here e.
-        let none : header_fault file ≡ None = new_has_no_fault (is_unborn file) _ (why file here) in
-        absurd cc;
-    reasons = λ place reason is. absurd (not_read_only r place reason is);
-    read_only = λ against file here e.
-        let none : made_reason (is_unborn file) (header_fault file) ≡ None = no_reason_new (is_unborn file) (header_fault file) (why file here) in
-        absurd cc;
+    unclosed = λ b begins is.
+        subst (λ (x : ScriptRun). EndsUnclosed work x b.file b.text v0 v2 (status_of_session r)) (its_run b begins is)
+        (ends_unclosed work (run (st b begins is).state.links b.state) b.file b.text v0 v2 r (unclosed b.state b.text (st b begins is)));
+    told = told02;
+    faults = λ place kind e. absurd (not_bad r place kind e);
+    broken = λ fault file here e. let sound : header_fault file ≡ None = (why file here).0 in absurd cc;
+    reasons = λ place reason e. absurd (not_read_only r place reason e);
+    read_only = λ against file here e. let no_reason : Some against ≡ None = reason_one file (Some against) None e.1 (why file here).1 in absurd cc;
     spares = record {
       answer = λ refuses. absurd (not_refused r refuses);
-      file = λ file here made. let unborn : is_unborn file ≡ true = why file here in absurd cc;
+      file = λ file here. record {
+        broken = λ fault e. let sound : header_fault file ≡ None = (why file here).0 in absurd cc;
+        reason = λ against e. let no_reason : Some against ≡ None = reason_one file (Some against) None e (why file here).1 in absurd cc;
+      };
     };
     cause = session_cause v0 v1 v2 r none cause;
   }

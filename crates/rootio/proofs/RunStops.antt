@@ -7,7 +7,7 @@ use Rattle.rio_step.proofs.RunLaws.{drop_later, each_says, replies_say_something
 use Rattle.rio_step.specs.{ReplyText.{text_of}, Runs.{Marks, first_step, later_marks, said_of, saved_of, state_after, states_of_run}, Step.{Stepped}}
 use Rattle.rio_state.specs.Left.{IsLeftAs}
 use Rattle.rio_session.specs.Session.{ClosesAs}
-use Rattle.rootio.specs.Headline.{HasSaid, HoldsPrefix, IsStopOf, ScriptRun, all_replies, replies}
+use Rattle.rootio.specs.Headline.{HasSaid, HoldsPrefix, IsStopOf, ScriptRun, all_replies, all_texts, replies}
 
 -- ---- one command more
 
@@ -73,16 +73,18 @@ module _ (r : ScriptRun) (k : ℕ) (c : Command) (next : IsNext r k c) where
   replies_longer = ap length replies_next ∙ length-append (replies r k) (text_of (step_at r k c).reply)
 
 -- what is said behind the first k replies
-abbrev later_replies : ScriptRun → ℕ → List ℕ
-later_replies r k = said_of (behind r k) (drop k r.commands) (drop k r.marks)
+abbrev later_texts : ScriptRun → ℕ → List ℕ
+later_texts r k = said_of (behind r k) (drop k r.commands) (drop k r.marks) ++ r.listing
 
-replies_front : (r : ScriptRun) (k : ℕ) → all_replies r ≡ replies r k ++ later_replies r k
-replies_front r k = said_in_parts r.start r.commands r.marks k
+texts_front : (r : ScriptRun) (k : ℕ) → all_texts r ≡ replies r k ++ later_texts r k
+texts_front r k =
+    ap (λ l. l ++ r.listing) (said_in_parts r.start r.commands r.marks k)
+    ∙ append_assoc (replies r k) (said_of (behind r k) (drop k r.commands) (drop k r.marks)) r.listing
 
-take_replies : (r : ScriptRun) (k j : ℕ) → take (length (replies r k) + j) (all_replies r) ≡ replies r k ++ take j (later_replies r k)
+take_replies : (r : ScriptRun) (k j : ℕ) → take (length (replies r k) + j) (all_texts r) ≡ replies r k ++ take j (later_texts r k)
 take_replies r k j =
-    ap (λ l. take (length (replies r k) + j) l) (replies_front r k)
-    ∙ take-append_add (replies r k) (later_replies r k) j (length (replies r k) + j) refl
+    ap (λ l. take (length (replies r k) + j) l) (texts_front r k)
+    ∙ take-append_add (replies r k) (later_texts r k) j (length (replies r k) + j) refl
 
 -- no reply is empty
 pub replies_grow : (r : ScriptRun) (k : ℕ) → k < length r.commands → length (replies r k) < length (replies r (k + 1))
@@ -128,11 +130,11 @@ module _ (r : ScriptRun) (k : ℕ) (c : Command) (next : IsNext r k c) where
   reply = text_of (step_at r k c).reply
 
   -- a front of the reply stands behind the replies before it
-  take_within : (q : ℕ) → q ≤ length reply → take (length (replies r k) + q) (all_replies r) ≡ replies r k ++ take q reply
+  take_within : (q : ℕ) → q ≤ length reply → take (length (replies r k) + q) (all_texts r) ≡ replies r k ++ take q reply
   take_within q short =
-      ap (λ l. take (length (replies r k) + q) l) (replies_front r (k + 1) ∙ ap (λ l. l ++ later_replies r (k + 1)) (replies_next r k c next) ∙ append_assoc (replies r k) reply (later_replies r (k + 1)))
-      ∙ take-append_add (replies r k) (reply ++ later_replies r (k + 1)) q (length (replies r k) + q) refl
-      ∙ ap (λ l. replies r k ++ l) (take-append-le q reply (later_replies r (k + 1)) short)
+      ap (λ l. take (length (replies r k) + q) l) (texts_front r (k + 1) ∙ ap (λ l. l ++ later_texts r (k + 1)) (replies_next r k c next) ∙ append_assoc (replies r k) reply (later_texts r (k + 1)))
+      ∙ take-append_add (replies r k) (reply ++ later_texts r (k + 1)) q (length (replies r k) + q) refl
+      ∙ ap (λ l. replies r k ++ l) (take-append-le q reply (later_texts r (k + 1)) short)
 
   said_within : (before said : List ℕ) (q : ℕ) → q < length reply → said ≡ (before ++ replies r k) ++ take q reply → HasSaid r before said k
   said_within before said q short is = record {

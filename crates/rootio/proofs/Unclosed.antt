@@ -8,7 +8,8 @@ use Rattle.rio_state.specs.Left.{IsMarkedOpen}
 use Rattle.rio_session.specs.{Causes.{IsCloseCause}, Session.{IsReady, SessionState, StandsFor, Steps}}
 use Rattle.rio_session.specs.declared.fault.SessionFault.{SessionFault, TheVariants.{HostFault, SayFault, NoMemory}}
 use Rattle.rio_session.proofs.Opened.{reads_open}
-use Rattle.rootio.specs.{Headline.{ScriptRun, all_replies}, Script.{StaysOpenBy, status_of_session}, Writing.{EndsUnclosed, LeavesOpen, StandsUnsaid}}
+use Rattle.rootio.specs.{Headline.{ScriptRun, all_replies}, Script.{StaysOpenBy, status_of_session}, Writing.{EndsUnclosed, EndsUnsaid, LeavesOpen, StandsUnsaid}}
+use Rattle.rootio.specs.declared.words.Work.{Work}
 
 pub steps_are_open : (m : State) (next : Stepped) (text image said : List ℕ) → Steps m next text image said → IsMarkedOpen image
 steps_are_open m next text image said (inl was) = was.0.marked
@@ -28,22 +29,23 @@ module _ (v new : View) (s : SessionState) (m : State) (text : List ℕ) (ready 
       ⊎_elim (λ was. stands_open image said was) (λ steps. steps_are_open m next text image said steps) (leaves_back law time image said left)
 
   -- a close that finds no memory writes nothing, and one whose disk fails stands behind all replies
-  pub close_open : IsLawful new → (run : ScriptRun) (before : List ℕ) (r : Result (Unit {0}) SessionFault) → new.said ≡ Some (before ++ all_replies run)
-      → (r ≡ Err NoMemory → OnlyReads v new) → IsCloseCause v new r → StaysOpenBy run before new r
-  close_open law run before (Ok x) said only cause = tt
-  close_open law run before (Err HostFault) said only cause = inr said
-  close_open law run before (Err SayFault) said only cause = absurd cause
-  close_open law run before (Err NoMemory) said only cause = λ image told left. stands_open image told (left_before law (only refl) image told left)
+  pub close_open : IsLawful new → (unsaid : ScriptRun → List ℕ → View → Type 0) (run : ScriptRun) (before : List ℕ) (r : Result (Unit {0}) SessionFault) → new.said ≡ Some (before ++ all_replies run)
+      → (r ≡ Err NoMemory → OnlyReads v new) → IsCloseCause v new r → StaysOpenBy unsaid run before new r
+  close_open law unsaid run before (Ok x) said only cause = tt
+  close_open law unsaid run before (Err HostFault) said only cause = inr said
+  close_open law unsaid run before (Err SayFault) said only cause = absurd cause
+  close_open law unsaid run before (Err NoMemory) said only cause = λ image told left. stands_open image told (left_before law (only refl) image told left)
 
 pub stays_open : (run : ScriptRun) (before : List ℕ) (new : View) (e : SessionFault) → LeavesOpen new
-    → (◌≡◌ {A = Result (Unit {0}) SessionFault} (Err e) (Err SayFault) → StandsUnsaid run before new) → StaysOpenBy run before new (Err e)
+    → (◌≡◌ {A = Result (Unit {0}) SessionFault} (Err e) (Err SayFault) → StandsUnsaid run before new) → StaysOpenBy StandsUnsaid run before new (Err e)
 stays_open run before new HostFault marked unsaid = inl marked
 stays_open run before new SayFault marked unsaid = unsaid refl
 stays_open run before new NoMemory marked unsaid = marked
 
-pub ends_unclosed : (run : ScriptRun) (before : List ℕ) (old new : View) (r : Result (Unit {0}) SessionFault) → StaysOpenBy run before new r
-    → EndsUnclosed run before old new (status_of_session r)
-ends_unclosed run before old new (Ok x) stays = tt
-ends_unclosed run before old new (Err HostFault) stays = inr (⊎_elim (λ marked. inl (λ image said left. inr (marked image said left))) (λ said. inr said) stays)
-ends_unclosed run before old new (Err SayFault) unsaid = unsaid
-ends_unclosed run before old new (Err NoMemory) marked = inr marked
+pub ends_unclosed : (work : Work) (run : ScriptRun) (file before : List ℕ) (old new : View) (r : Result (Unit {0}) SessionFault)
+    → StaysOpenBy (EndsUnsaid work) run before new r → EndsUnclosed work run file before old new (status_of_session r)
+ends_unclosed work run file before old new (Ok x) stays = tt
+ends_unclosed work run file before old new (Err HostFault) stays =
+    inr (⊎_elim (λ marked. inl (λ image said left. inr (inr (marked image said left)))) (λ said. inr said) stays)
+ends_unclosed work run file before old new (Err SayFault) unsaid = unsaid
+ends_unclosed work run file before old new (Err NoMemory) marked = inr marked

@@ -1,6 +1,5 @@
 -- Why a run ended so: which counts of faults rose.
 use Rattle.std.specs.Prelude.{◌≡◌, true, Option, Some, None}
-use Rattle.rio_head.specs.declared.reason.Reason.TheVariants.{NotYet}
 use Rattle.rio_host.specs.{Host.{Rose, View}, Source.{Input}}
 use Rattle.rio_close.specs.Causes.{NoDiskFault, NoSayFault}
 use Rattle.rootio.specs.Reading.{reads_input, tested_by, writes_of}
@@ -25,7 +24,7 @@ NoSayFaultAfter (Some (Reads (Scan tree))) old new = Unit {0}
 NoSayFaultAfter (Some (Writes work)) old new = NoSayFault old new
 
 -- Why a run of this form ended so: the counts of faults rose where it says so, and only there; and no other answer comes than
--- those that its verb has. (As yet the only reason against writing is that the file is made.)
+-- those that its verb has.
 abbrev pub IsCause : Option Form → View → View → Input → Input → Status → Type 0
 IsCause form old new before after Done = NoFault old new before after
 IsCause form old new before after Usage = (form ≡ None) × NoFault old new before after
@@ -35,6 +34,5 @@ IsCause form old new before after InputFault =
     (reads_input form ≡ true) × NoDiskFault old new × NoSayFault old new × Rose before.faults after.faults
 IsCause form old new before after NoMemory = NoDiskFault old new × NoSayFaultAfter form old new × NoInputFault before after
 IsCause form old new before after InputTooLong = (reads_input form ≡ true) × NoFault old new before after
-IsCause form old new before after (ReadOnly place reason) =
-    (writes_of form ≡ true) × (place ≡ 0) × (reason ≡ NotYet) × NoFault old new before after
+IsCause form old new before after (ReadOnly place reason) = (writes_of form ≡ true) × NoFault old new before after
 IsCause form old new before after SayFault = NoDiskFault old new × Rose old.say_faults new.say_faults × NoInputFault before after

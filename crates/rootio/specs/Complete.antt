@@ -1,11 +1,12 @@
 -- Where nothing fails, all is done unless memory runs out.
-use Rattle.std.specs.Prelude.{◌≡◌, ◌≤◌, ℕ, List, length, true, Some, None}
+use Rattle.std.specs.Prelude.{◌≡◌, ◌≤◌, ℕ, List, length, Some, None}
 use Rattle.rio_host.specs.{Host.{Rose, View}, Source.{Input}}
-use Rattle.rio_dir.specs.Unborn.{is_unborn}
+use Rattle.rio_machine.specs.State.{State}
+use Rattle.rio_state.specs.{Reads.{ReadsAsState}, Reasons.{IsFirstReason}}
 use Rattle.rio_report.specs.FirstFault.{first_fault}
 use Rattle.rootio.specs.{Input.{input_limit}, Reading.{rules_of}}
 use Rattle.rootio.specs.declared.status.Status.{Status, TheVariants.{Done, Usage, BadFile, DiskFault, InputFault, NoMemory, InputTooLong, ReadOnly, SayFault}}
-use Rattle.rootio.specs.declared.words.Form.{Form, TheVariants.{Reads, Writes}}
+use Rattle.rootio.specs.{declared.words.Form.{Form, TheVariants.{Reads, Writes}}, declared.words.Work.{Work, TheVariants.{Run, Recover}}}
 
 -- the file is told and breaks no rule that the verb tests
 pub record IsSound (form : Form) (old : View) : Type 0 where
@@ -13,19 +14,24 @@ pub record IsSound (form : Form) (old : View) : Type 0 where
   pub holds : old.holds ≡ Some file
   pub sound : first_fault (rules_of form) file ≡ None
 
--- the file isn't made yet, and the input is no longer than it may be
-pub record IsNewWork (old : View) (before : Input) : Type 0 where
+-- the input of a verb that reads it is told, and no longer than it may be
+abbrev pub IsInputWithin : Work → Input → Type 0
+IsInputWithin (Run target) before = (input : List ℕ) × (before.remaining ≡ Some input) × (length input ≤ input_limit)
+IsInputWithin (Recover target) before = Unit {0}
+
+-- the file is told, it isn't made yet or reads as a state, and nothing stands against writing to it
+pub record IsOpenable (work : Work) (old : View) (before : Input) : Type 0 where
   pub file : List ℕ
   pub holds : old.holds ≡ Some file
-  pub unborn : is_unborn file ≡ true
-  pub input : List ℕ
-  pub remaining : before.remaining ≡ Some input
-  pub within : length input ≤ input_limit
+  pub state : State
+  pub reads : ReadsAsState file state
+  pub free : IsFirstReason file None
+  pub input : IsInputWithin work before
 
--- Nothing in file and input stands in the way of the verb. (As yet no made file is written to.)
+-- Nothing in file and input stands in the way of the verb.
 abbrev pub CanBeDone : Form → View → Input → Type 0
 CanBeDone (Reads list) old before = IsSound (Reads list) old
-CanBeDone (Writes work) old before = IsNewWork old before
+CanBeDone (Writes work) old before = IsOpenable work old before
 
 -- no count of faults rose
 pub record NoneRose (old new : View) (before after : Input) : Type 0 where

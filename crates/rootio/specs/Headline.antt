@@ -2,20 +2,22 @@
 -- its keys, as the objects and saved entries after a prefix of the script's commands and closing saves, one that holds every
 -- put, delete and save whose reply had been said; a run that ends well says exactly the model's replies and leaves the whole
 -- script's state.
-use Rattle.std.specs.Prelude.{◌≡◌, ◌<◌, ◌≤◌, ℕ, ◌+◌, List, ◌++◌, length, take, drop, slice_get, Some, if◌then◌else◌}
+use Rattle.std.specs.Prelude.{◌≡◌, ◌<◌, ◌≤◌, ℕ, ◌+◌, List, ◌++◌, length, take, drop, slice_get, Some}
 use Rattle.rio_host.specs.Host.{IsQuiet, Leaves, View}
-use Rattle.rio_dir.specs.Unborn.{is_unborn}
 use Rattle.rio_machine.specs.{State.{State}, declared.command.Command.{Command}, declared.refusal.Refusal.TheVariants.{Full}}
 use Rattle.rio_step.specs.{Costs.{HasFileRoom}, Runs.{Marks, closed_of, first_step, said_of, saved_of, state_after, states_of_run}, Step.{Reply, refused}}
 use Rattle.rio_state.specs.{Left.{ReadsClosedUnlessOpen}, Reads.{ReadsAsState, ReadsClosed}}
+use Rattle.rio_session.specs.Opening.{opening_length}
 
 -- ---- a run
 
--- A run of a script: the state that the file reads as at the start, the commands, and the marks of those that find no room.
+-- A run of a script: the state that the file reads as at the start, the commands, the marks of those that find no room, and what is
+-- said after the close, behind all replies.
 pub record ScriptRun : Type 0 where
   pub start : State
   pub commands : List Command
   pub marks : Marks
+  pub listing : List ℕ
 
 -- the state at the start, behind each command, and behind each closing save
 abbrev pub states : ScriptRun → List State
@@ -32,16 +34,21 @@ replies r j = said_of r.start (take j r.commands) r.marks
 abbrev pub all_replies : ScriptRun → List ℕ
 all_replies r = said_of r.start r.commands r.marks
 
+-- all that it says
+abbrev pub all_texts : ScriptRun → List ℕ
+all_texts r = all_replies r ++ r.listing
+
 -- the reply of a command, the k-th
 abbrev pub reply_at : ScriptRun → ℕ → Command → Reply
 reply_at r k c = (first_step (state_after r.start (take k r.commands) r.marks) c (drop k r.marks)).reply
 
 -- ---- at a stop
 
--- What was said behind the text of before is a front of all replies: the first j are whole, and of the next one there is a part.
+-- What was said behind the text of before is a front of all that the run says: the first j replies are whole, and of the next one there
+-- is a part.
 pub record HasSaid (r : ScriptRun) (before said : List ℕ) (j : ℕ) : Type 0 where
   pub bytes : ℕ
-  pub text : said ≡ before ++ take bytes (all_replies r)
+  pub text : said ≡ before ++ take bytes (all_texts r)
   pub commands : j ≤ length r.commands
   pub whole : length (replies r j) ≤ bytes
   pub part : j < length r.commands → bytes < length (replies r (j + 1))
@@ -79,14 +86,10 @@ abbrev pub SaidFindRoom : ScriptRun → List ℕ → View → Type 0
 SaidFindRoom r before new = (said : List ℕ) → new.said ≡ Some said → (k : ℕ) (c : Command) → slice_get r.commands k ≡ Some c
     → length before + length (replies r k) < length said → ¬ IsWantOfRoom (reply_at r k c)
 
--- how long the file was when it was opened: one that isn't made yet counts as empty
-abbrev pub opening_length : List ℕ → ℕ
-opening_length file = if is_unborn file then 0 else length file
-
--- The host is quiet, all replies were said, and a stop leaves what reads as the last state, by the walk and by the key list. Where the file's length
+-- The host is quiet, all was said, and a stop leaves what reads as the last state, by the walk and by the key list. Where the file's length
 -- and the costs of the commands leave room for them, no reply was want of room.
 pub record IsRunDone (r : ScriptRun) (file before : List ℕ) (new : View) : Type 0 where
   pub quiet : IsQuiet new
-  pub said : new.said ≡ Some (before ++ all_replies r)
+  pub said : new.said ≡ Some (before ++ all_texts r)
   pub left : (image said : List ℕ) → Leaves new image said → ReadsAsState image (end_state r) × ReadsClosed image (end_state r)
   pub room : HasFileRoom (opening_length file) r.start r.commands r.marks → AllFindRoom r

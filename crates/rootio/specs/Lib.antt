@@ -1,6 +1,8 @@
+pub mod Beginnings
 pub mod Causes
 pub mod Complete
 pub mod Headline
+pub mod InARow
 pub mod Input
 pub mod Naming
 pub mod Reading

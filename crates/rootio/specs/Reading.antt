@@ -10,7 +10,7 @@ use Rattle.rio_report.specs.Lists.{AtOnce, InPieces, ListingAnswer, Lists}
 use Rattle.rootio.specs.Status.{status_of}
 use Rattle.rootio.specs.declared.status.Status.{Status, TheVariants.{Done, Usage, BadFile, DiskFault, InputFault, NoMemory, InputTooLong, ReadOnly, SayFault}}
 use Rattle.rootio.specs.{declared.words.Form.{Form, TheVariants.{Reads, Writes}}, declared.words.Listing.{Listing, TheVariants.{Ls, Dump, Scan}}}
-use Rattle.rootio.specs.declared.words.Work.{Work, TheVariants.{Run}}
+use Rattle.rootio.specs.declared.words.Work.{Work, TheVariants.{Run, Recover}}
 
 -- ---- what the words ask for
 
@@ -35,6 +35,7 @@ work_of_form (Some (Writes work)) = Some work
 -- the verbs that write and read the input
 abbrev pub takes_script : Work → Bool
 takes_script (Run target) = true
+takes_script (Recover target) = false
 
 -- whether the verb reads the input
 abbrev pub reads_input : Option Form → Bool

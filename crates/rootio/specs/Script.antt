@@ -1,7 +1,7 @@
 -- A script on a file: how a run of it ends.
-use Rattle.std.specs.Prelude.{◌≡◌, ◌⊎◌, ℕ, List, ◌++◌, Some, Result, Ok, Err}
-use Rattle.rio_head.specs.{Head.{IsHeaderKind}, declared.reason.Reason.TheVariants.{NotYet}}
-use Rattle.rio_host.specs.{Host.{Any, Becomes, Elapses, IsQuiet, Leaves, Rose, View}, Source.{Input}}
+use Rattle.std.specs.Prelude.{◌≡◌, ◌⊎◌, ℕ, List, [], ◌++◌, Some, Result, Ok, Err, OnOk}
+use Rattle.rio_head.specs.Head.{IsHeaderKind}
+use Rattle.rio_host.specs.{Host.{Any, Becomes, Elapses, IsQuiet, Leaves, Rose, View}, OnlyReads.{Grown}, Source.{Input}}
 use Rattle.rio_report.specs.FirstFault.{HeaderAlone}
 use Rattle.rio_close.specs.Causes.{NoDiskFault, NoSayFault}
 use Rattle.rio_machine.specs.{State.{State}, declared.command.Command.{Command}}
@@ -9,19 +9,19 @@ use Rattle.rio_step.specs.{Costs.{HasFileRoom}, Runs.{state_after}}
 use Rattle.rio_state.specs.Reads.{ReadsAsState, ReadsClosed}
 use Rattle.rio_chain.specs.{Chains.{HasChain}, Segments.{Link}, Stops.{KeepsFront}}
 use Rattle.rio_effect.specs.FileRuns.{FileRun, file_run, marks_in}
-use Rattle.rio_session.specs.{Behind.{SaysPart}, Closes.{IsWellClosed}, Session.{SessionState, StandsFor}}
+use Rattle.rio_session.specs.{Behind.{SaysPart}, Causes.{IsSessionCause}, Closes.{IsWellClosed}, Opening.{opening_length}, Session.{SessionState, StandsFor}}
 use Rattle.rio_session.specs.declared.fault.OpenFault.{OpenFault, TheVariants.{BadFile as FileBad, ReadOnly as FileReadOnly, NoMemory as NotRoomy, HostFault as NotOpened}}
 use Rattle.rio_session.specs.declared.fault.SessionFault.{SessionFault, TheVariants.{HostFault, SayFault as NotSaid, NoMemory as OutOfMemory}}
 use Rattle.rootio.specs.{Causes.{IsCause}, Input.{RefusesTooLong, TellsTooLong}}
-use Rattle.rootio.specs.Headline.{AllFindRoom, IsRunDone, IsStopOf, SaidFindRoom, ScriptRun, all_replies, end_state, opening_length}
-use Rattle.rootio.specs.{Reading.{RefusesBroken, TellsFirstFault}, Target.{TargetFile}}
-use Rattle.rootio.specs.Writing.{BeginsRun, EndsUnclosed, EndsWriting, LeavesOpen, LeavesRun, RefusesReadOnly, SparesRefused, StandsUnsaid, TellsFirstReason, run_of_work}
+use Rattle.rootio.specs.Headline.{AllFindRoom, IsRunDone, IsStopOf, SaidFindRoom, ScriptRun, all_replies, all_texts, end_state}
+use Rattle.rootio.specs.Reading.{RefusesBroken, TellsFirstFault}
+use Rattle.rootio.specs.Writing.{Beginning, BeginsRun, EndsUnclosed, EndsWriting, LeavesOpen, LeavesRun, RefusesReadOnly, SparesRefused, StandsClosed, TellsFirstReason, run_of_work}
 use Rattle.rootio.specs.declared.status.Status.{Status, TheVariants.{Done, Usage, BadFile, DiskFault, InputFault, NoMemory, InputTooLong, ReadOnly, SayFault}}
-use Rattle.rootio.specs.{declared.words.Form.TheVariants.{Writes}, declared.words.Work.{Work, TheVariants.{Run}}}
+use Rattle.rootio.specs.{declared.words.Form.TheVariants.{Writes}, declared.words.Work.{Work}}
 
 -- the run of these commands from a session on, whose file has these records
 abbrev pub session_run : SessionState → List Link → State → List Command → ScriptRun
-session_run s links m commands = record { start = m; commands = commands; marks = marks_in (file_run s.datime links m commands) }
+session_run s links m commands = record { start = m; commands = commands; marks = marks_in (file_run s.datime links m commands); listing = [] }
 
 -- the run of these commands from where a session stands
 abbrev pub run_from : {v : View} {s : SessionState} {m : State} {text : List ℕ} → StandsFor v s m text → List Command → ScriptRun
@@ -45,25 +45,40 @@ pub record HasDone (r : ScriptRun) (links : List Link) (file : List ℕ) (first 
   pub datime : s.datime ≡ first.datime
   pub room : first.costs ≡ 0 → HasFileRoom first.opened r.start r.commands r.marks → AllFindRoom r
 
--- All commands were done on this file with these records, all replies said, and the file was closed, without garbage, with the records of
+-- All commands were done on this file with these records, all was said, and the file was closed, without garbage, with the records of
 -- the run.
 pub record HasClosed (r : ScriptRun) (links : List Link) (file : List ℕ) (first : SessionState) (before : List ℕ) (new : View) : Type 0 where
   pub quiet : IsQuiet new
   pub run : FileRun
   pub run_is : file_run first.datime links r.start r.commands ≡ Some run
-  pub said : new.said ≡ Some (before ++ all_replies r)
+  pub said : new.said ≡ Some (before ++ all_texts r)
   pub left : (image said : List ℕ) → Leaves new image said → ReadsAsState image (end_state r) × ReadsClosed image (end_state r)
   pub written : (image said : List ℕ) → Leaves new image said → IsWellClosed first.name first.datime file run.links image
   pub room : first.costs ≡ 0 → HasFileRoom first.opened r.start r.commands r.marks → AllFindRoom r
 
--- A session that ended without a close, as it does where it finds no memory, can't say a reply or its disk fails, leaves a file
--- marked as open, and behind a reply that it can't say what the command did; unless it is the close whose disk fails, behind all
--- replies.
-abbrev pub StaysOpenBy : ScriptRun → List ℕ → View → Result (Unit {0}) SessionFault → Type 0
-StaysOpenBy r before new (Ok x) = Unit {0}
-StaysOpenBy r before new (Err HostFault) = LeavesOpen new ⊎ (new.said ≡ Some (before ++ all_replies r))
-StaysOpenBy r before new (Err NotSaid) = StandsUnsaid r before new
-StaysOpenBy r before new (Err OutOfMemory) = LeavesOpen new
+-- A session that ended without a close, as it does where it finds no memory, can't say a text or its disk fails, leaves a file
+-- marked as open, and where it can't say a text what is told here; unless it is the close whose disk fails, behind all replies.
+abbrev pub StaysOpenBy : (ScriptRun → List ℕ → View → Type 0) → ScriptRun → List ℕ → View → Result (Unit {0}) SessionFault → Type 0
+StaysOpenBy unsaid r before new (Ok x) = Unit {0}
+StaysOpenBy unsaid r before new (Err HostFault) = LeavesOpen new ⊎ (new.said ≡ Some (before ++ all_replies r))
+StaysOpenBy unsaid r before new (Err NotSaid) = unsaid r before new
+StaysOpenBy unsaid r before new (Err OutOfMemory) = LeavesOpen new
+
+-- the run of no command from a session on, with these lines said after the close
+abbrev pub listing_run : SessionState → List ℕ → List Link → State → ScriptRun
+listing_run s lines links m = record { start = m; commands = []; marks = marks_in (file_run s.datime links m []); listing = lines }
+
+-- An open file is closed, and then these lines are said.
+pub record ClosesAndSays (old new : View) (s : SessionState) (lines : List ℕ) (result : Result (Unit {0}) SessionFault) : Type 0 where
+  pub stops : (file text : List ℕ) (m : State) (stands : StandsFor old s m text)
+      → Elapses old new (IsStopOf (listing_run s lines stands.state.links m) file text)
+  pub done : OnOk result ((m : State) (text : List ℕ) (stands : StandsFor old s m text)
+      → HasClosed (listing_run s lines stands.state.links m) stands.state.links stands.file s text new)
+  pub unclosed : (m : State) (text : List ℕ) (stands : StandsFor old s m text)
+      → StaysOpenBy StandsClosed (listing_run s lines stands.state.links m) text new result
+  pub told : Becomes Any old.holds new.holds
+  pub said : Becomes Grown old.said new.said
+  pub cause : IsSessionCause old new result
 
 -- how a run ended that opened the file
 abbrev pub status_of_session : Result (Unit {0}) SessionFault → Status
@@ -88,28 +103,24 @@ IsFileCause old new DiskFault = Rose old.disk_faults new.disk_faults × NoSayFau
 IsFileCause old new InputFault = ⊥
 IsFileCause old new NoMemory = NoDiskFault old new × NoSayFault old new
 IsFileCause old new InputTooLong = ⊥
-IsFileCause old new (ReadOnly place reason) = (place ≡ 0) × (reason ≡ NotYet) × NoDiskFault old new × NoSayFault old new
+IsFileCause old new (ReadOnly place reason) = NoDiskFault old new × NoSayFault old new
 IsFileCause old new SayFault = NoDiskFault old new × Rose old.say_faults new.say_faults
 
--- How a run of a script ends: at any stop it leaves a prefix, and at its end all; a refused file is told and spared.
-pub record RunsScript (target : TargetFile) (script : List ℕ) (old new : View) (status : Status) : Type 0 where
-  pub stops : (file text : List ℕ) (m : State) → BeginsRun old file text m
-      → Elapses old new (IsStopOf (run_of_work (Run target) script m) file text)
-  pub said : (file text : List ℕ) (m : State) → BeginsRun old file text m
-      → SaysPart new text (all_replies (run_of_work (Run target) script m))
-  pub room : (file text : List ℕ) (m : State) → BeginsRun old file text m
-      → let r = run_of_work (Run target) script m in HasFileRoom (opening_length file) m r.commands r.marks → SaidFindRoom r text new
-  pub done : (file text : List ℕ) (m : State) → BeginsRun old file text m
-      → status ≡ Done → IsRunDone (run_of_work (Run target) script m) file text new
-  pub written : (file text : List ℕ) (m : State) → BeginsRun old file text m
-      → status ≡ Done → LeavesRun (Run target) script m new
-  pub unclosed : (file text : List ℕ) (m : State) → BeginsRun old file text m
-      → EndsUnclosed (run_of_work (Run target) script m) text old new status
+-- How a run of a verb ends with this input: at any stop it leaves a prefix, and at its end all; a refused file is told and spared.
+pub record RunsWork (work : Work) (input : List ℕ) (old new : View) (status : Status) : Type 0 where
+  pub stops : (b : Beginning) → BeginsRun work b old → b.input ≡ input → Elapses old new (IsStopOf (run_of_work work b) b.file b.text)
+  pub said : (b : Beginning) → BeginsRun work b old → b.input ≡ input → SaysPart new b.text (all_texts (run_of_work work b))
+  pub room : (b : Beginning) → BeginsRun work b old → b.input ≡ input
+      → let r = run_of_work work b in HasFileRoom (opening_length b.file) b.state r.commands r.marks → SaidFindRoom r b.text new
+  pub done : (b : Beginning) → BeginsRun work b old → b.input ≡ input → status ≡ Done → IsRunDone (run_of_work work b) b.file b.text new
+  pub written : (b : Beginning) → BeginsRun work b old → b.input ≡ input → status ≡ Done → LeavesRun work b new
+  pub unclosed : (b : Beginning) → BeginsRun work b old → b.input ≡ input
+      → EndsUnclosed work (run_of_work work b) b.file b.text old new status
   pub told : Becomes Any old.holds new.holds
   pub faults : TellsFirstFault HeaderAlone old status
   pub broken : RefusesBroken HeaderAlone old status
-  pub reasons : TellsFirstReason (Writes (Run target)) old status
-  pub read_only : RefusesReadOnly (Writes (Run target)) old status
+  pub reasons : TellsFirstReason (Writes work) old status
+  pub read_only : RefusesReadOnly (Writes work) old status
   pub spares : SparesRefused old new status
   pub cause : IsFileCause old new status
 

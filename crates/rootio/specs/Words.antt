@@ -5,7 +5,7 @@ use Rattle.rio_num.specs.Word.{is_item_text}
 use Rattle.rio_token.specs.Words.{num_of}
 use Rattle.rio_report.specs.declared.item.Item.{Item}
 use Rattle.rootio.specs.{declared.words.Form.{Form, TheVariants.{Reads, Writes}}, declared.words.Listing.TheVariants.{Ls, Dump, Scan}}
-use Rattle.rootio.specs.declared.words.Work.TheVariants.{Run}
+use Rattle.rootio.specs.{declared.words.Work.TheVariants.{Run, Recover}, Target.{TargetFile}}
 
 -- a word that doesn't begin with -
 abbrev pub is_no_flag : List ℕ → Bool
@@ -53,15 +53,19 @@ scan_of_words [] = None
 scan_of_words (tree ∷ []) = scan_of_tree tree
 scan_of_words (tree ∷ word ∷ words) = None
 
--- the commands of a script, on the file of this name and with this datime
-abbrev pub written_at : List ℕ → ℕ → Form
-written_at name datime = Writes (Run (record { name = name; datime = datime }))
+-- FILE, FILE DATIME
+abbrev pub target_by : List ℕ → List (List ℕ) → Option TargetFile
+target_by file [] = Some (record { name = file; datime = 1 })
+target_by file (datime ∷ []) = option_map (λ n. record { name = file; datime = n }) (num_of datime)
+target_by file (datime ∷ word ∷ words) = None
 
 -- run FILE, run FILE DATIME
 abbrev pub run_of : List ℕ → List (List ℕ) → Option Form
-run_of file [] = Some (written_at file 1)
-run_of file (datime ∷ []) = option_map (written_at file) (num_of datime)
-run_of file (datime ∷ word ∷ words) = None
+run_of file args = option_map (λ target. Writes (Run target)) (target_by file args)
+
+-- recover FILE, recover FILE DATIME
+abbrev pub recover_of : List ℕ → List (List ℕ) → Option Form
+recover_of file args = option_map (λ target. Writes (Recover target)) (target_by file args)
 
 -- what a verb is asked for by the file and the words behind it
 abbrev pub asked_by : List ℕ → List ℕ → List (List ℕ) → Option Form
@@ -70,6 +74,7 @@ asked_by verb file args =
     else if bytes_eq verb (codes "dump") then dump_of args
     else if bytes_eq verb (codes "scan") then scan_of_words args
     else if bytes_eq verb (codes "run") then run_of file args
+    else if bytes_eq verb (codes "recover") then recover_of file args
     else None
 
 -- VERB FILE ARG..., where neither FILE nor an ARG begins with -

@@ -1,40 +1,35 @@
 -- What the verbs that write do: their commands, and what they leave of the file.
-use Rattle.std.specs.Prelude.{◌≡◌, ◌⊎◌, ℕ, ◌+◌, List, [], ◌++◌, slice_get, Bool, true, false, Option, Some, None}
-use Rattle.rio_head.specs.{declared.fault.HeadFault.{HeadFault}, declared.reason.Reason.{Reason, TheVariants.{NotYet}}}
+use Rattle.std.specs.Prelude.{◌≡◌, ◌⊎◌, ℕ, ◌+◌, List, [], ◌++◌, slice_get, true, Option, Some, None, MatchBool}
+use Rattle.rio_head.specs.declared.reason.Reason.{Reason}
 use Rattle.rio_host.specs.{Host.{Any, Becomes, Elapses, IsQuiet, Leaves, View}, OnlyReads.{OnlyReads}, Source.{Input}}
-use Rattle.rio_dir.specs.Unborn.{header_fault, is_unborn}
+use Rattle.rio_key.specs.declared.head.KeyHead.{KeyHead}
+use Rattle.rio_dir.specs.{Listing.{key_lines}, Unborn.{header_fault, is_unborn}}
 use Rattle.rio_machine.specs.{State.{State}, declared.command.Command.{Command}}
 use Rattle.rio_cmd.specs.Built.{built_script}
-use Rattle.rio_state.specs.{Left.{IsMarkedOpen}, Reads.{ReadsAsState}, Reasons.{ReasonAt, reason_at}}
+use Rattle.rio_state.specs.{Closing.{name_in}, DirectoryKeys.{AreKeysOf}, KeyedRecords.{keyed_records}, Left.{IsMarkedOpen, open_end}, Reads.{ReadsAsState, ReadsClosed}, Reasons.{IsFirstReason, ReasonAt, reason_at}}
 use Rattle.rio_step.specs.{Costs.{HasFileRoom}, ReplyText.{text_of}, Runs.{saved_of}}
 use Rattle.rio_chain.specs.Segments.{Link}
+use Rattle.rio_close.specs.EndWord.{SaysEnd}
 use Rattle.rio_effect.specs.FileRuns.{FileRun, file_run, marks_in}
-use Rattle.rio_create.specs.{Creation.{LeavesUnclosed}, NewFile.{first_links, new_file}}
-use Rattle.rio_session.specs.{Behind.{SaysPart}, Closes.{IsWellClosed}}
-use Rattle.rootio.specs.{Headline.{IsRunDone, IsStopOf, SaidFindRoom, ScriptRun, all_replies, opening_length, replies, reply_at, states}, Input.{IsPastInput}}
-use Rattle.rootio.specs.Target.{TargetFile}
+use Rattle.rio_create.specs.NewFile.{new_file}
+use Rattle.rio_session.specs.{Behind.{SaysPart}, Closes.{IsWellClosed}, Opening.{LeavesFileOrUnclosed, OpensWith, SparesFile, opening_length}}
+use Rattle.rootio.specs.{Headline.{IsRunDone, IsStopOf, SaidFindRoom, ScriptRun, all_replies, all_texts, end_state, replies, reply_at, states}, Input.{IsPastInput}}
+use Rattle.rootio.specs.{Reading.{takes_script}, Target.{TargetFile}}
 use Rattle.rootio.specs.declared.status.Status.{Status, TheVariants.{Done, Usage, BadFile, DiskFault, InputFault, NoMemory, InputTooLong, ReadOnly, SayFault}}
-use Rattle.rootio.specs.{declared.words.Form.{Form, TheVariants.{Reads, Writes}}, declared.words.Work.{Work, TheVariants.{Run}}}
+use Rattle.rootio.specs.{declared.words.Form.{Form, TheVariants.{Reads, Writes}}, declared.words.Work.{Work, TheVariants.{Run, Recover}}}
 
 -- ---- what stands against writing
 
--- As yet a made file isn't opened: where it breaks no rule, that is the reason. (The other reasons are told once made files are
--- opened.)
-abbrev pub made_reason : Bool → Option HeadFault → Option ReasonAt
-made_reason true fault = None
-made_reason false None = Some (reason_at 0 NotYet)
-made_reason false (Some fault) = None
-
--- why the verb doesn't write to a file that breaks no rule, and the place
-abbrev pub reason_against : Form → List ℕ → Option ReasonAt
-reason_against (Reads list) file = None
-reason_against (Writes work) file = made_reason (is_unborn file) (header_fault file)
+-- This is why the verb doesn't write to a file, whose header breaks no rule: the first reason against it, and its place.
+abbrev pub IsReasonFor : Form → List ℕ → ReasonAt → Type 0
+IsReasonFor (Reads list) file against = ⊥
+IsReasonFor (Writes work) file against = (header_fault file ≡ None) × IsFirstReason file (Some against)
 
 -- a reason that is told is the first one
 abbrev pub TellsFirstReason : Form → View → Status → Type 0
 TellsFirstReason form old status =
     (place : ℕ) (reason : Reason) → status ≡ ReadOnly place reason
-    → (file : List ℕ) → old.holds ≡ Some file → reason_against form file ≡ Some (reason_at place reason)
+    → (file : List ℕ) → old.holds ≡ Some file → IsReasonFor form file (reason_at place reason)
 
 -- this reason is told, unless the run ended before the file was judged
 abbrev pub TellsReasonUnlessCut : ReasonAt → Status → Type 0
@@ -51,8 +46,7 @@ TellsReasonUnlessCut against SayFault = ⊥
 -- a file with a reason against writing is told with its first one
 abbrev pub RefusesReadOnly : Form → View → Status → Type 0
 RefusesReadOnly form old status =
-    (against : ReasonAt) (file : List ℕ) → old.holds ≡ Some file
-    → reason_against form file ≡ Some against → TellsReasonUnlessCut against status
+    (against : ReasonAt) (file : List ℕ) → old.holds ≡ Some file → IsReasonFor form file against → TellsReasonUnlessCut against status
 
 -- ---- refused files
 
@@ -68,11 +62,10 @@ RefusesFile InputTooLong = ⊥
 RefusesFile (ReadOnly place reason) = Unit {0}
 RefusesFile SayFault = ⊥
 
--- A file that is refused isn't written to; nor is one that breaks a rule or has a reason against it, whatever is answered: as yet
--- each file that is made.
+-- A file that is refused isn't written to; nor is one that breaks a rule or has a reason against it, whatever is answered.
 pub record SparesRefused (old new : View) (status : Status) : Type 0 where
   pub answer : RefusesFile status → OnlyReads old new
-  pub file : (file : List ℕ) → old.holds ≡ Some file → is_unborn file ≡ false → OnlyReads old new
+  pub file : (file : List ℕ) → old.holds ≡ Some file → SparesFile file old new
 
 -- ---- runs that end early
 
@@ -91,52 +84,93 @@ pub record StandsUnsaid (r : ScriptRun) (before : List ℕ) (new : View) : Type 
   pub state_is : slice_get (states r) (j + 1) ≡ Some state
   pub left : (image said : List ℕ) → Leaves new image said → ReadsAsState image (saved_of state) × IsMarkedOpen image
 
--- A run that can't say a reply ends behind what its command did, without a close. So does one that finds no memory: nothing was
--- written, or the file is marked as open. Of one whose disk fails the file may also not be made yet; or it is the close that fails,
--- behind all replies.
-abbrev pub EndsUnclosed : ScriptRun → List ℕ → View → View → Status → Type 0
-EndsUnclosed r before old new Done = Unit {0}
-EndsUnclosed r before old new Usage = Unit {0}
-EndsUnclosed r before old new (BadFile place kind) = Unit {0}
-EndsUnclosed r before old new DiskFault = OnlyReads old new ⊎ (LeavesUnclosed new ⊎ (new.said ≡ Some (before ++ all_replies r)))
-EndsUnclosed r before old new InputFault = Unit {0}
-EndsUnclosed r before old new NoMemory = OnlyReads old new ⊎ LeavesOpen new
-EndsUnclosed r before old new InputTooLong = Unit {0}
-EndsUnclosed r before old new (ReadOnly place reason) = Unit {0}
-EndsUnclosed r before old new SayFault = StandsUnsaid r before new
+-- All replies were printed and the file was closed. Of the listing that follows only a prefix was printed. Each crash image reads as the
+-- last state, by the walk and by the key list.
+pub record StandsClosed (r : ScriptRun) (before : List ℕ) (new : View) : Type 0 where
+  pub text : SaysPart new (before ++ all_replies r) r.listing
+  pub left : (image said : List ℕ) → Leaves new image said → ReadsAsState image (end_state r) × ReadsClosed image (end_state r)
+
+-- what a run leaves whose print fails
+abbrev pub EndsUnsaid : Work → ScriptRun → List ℕ → View → Type 0
+EndsUnsaid (Run target) r before new = StandsUnsaid r before new
+EndsUnsaid (Recover target) r before new = StandsClosed r before new
+
+-- How a run ends early. If a reply can't be printed, what its command did stands, and the file isn't closed; if the listing can't be
+-- printed, the file is closed. If memory runs out, nothing was written, or each crash image is marked as open. If the disk fails, a crash
+-- image is the file of before, isn't made yet or is marked as open; or it is the close that failed, after all replies.
+abbrev pub EndsUnclosed : Work → ScriptRun → List ℕ → List ℕ → View → View → Status → Type 0
+EndsUnclosed work r file before old new Done = Unit {0}
+EndsUnclosed work r file before old new Usage = Unit {0}
+EndsUnclosed work r file before old new (BadFile place kind) = Unit {0}
+EndsUnclosed work r file before old new DiskFault =
+    OnlyReads old new ⊎ (LeavesFileOrUnclosed file new ⊎ (new.said ≡ Some (before ++ all_replies r)))
+EndsUnclosed work r file before old new InputFault = Unit {0}
+EndsUnclosed work r file before old new NoMemory = OnlyReads old new ⊎ LeavesOpen new
+EndsUnclosed work r file before old new InputTooLong = Unit {0}
+EndsUnclosed work r file before old new (ReadOnly place reason) = Unit {0}
+EndsUnclosed work r file before old new SayFault = EndsUnsaid work r before new
 
 -- ---- the run
 
 -- the file that the verb writes
 abbrev pub target_of : Work → TargetFile
 target_of (Run target) = target
+target_of (Recover target) = target
 
 -- the commands that it does, by its input
 abbrev pub commands_of : Work → List ℕ → List Command
 commands_of (Run target) input = built_script input
+commands_of (Recover target) input = []
 
--- what they do to a new file
-abbrev pub file_run_of : Work → List ℕ → State → Option FileRun
-file_run_of work input m = let target = target_of work in file_run target.datime (first_links target.name target.datime) m (commands_of work input)
+-- the lines that ls prints for the keys of the objects and trees among these records
+abbrev pub ListsKeys : List Link → List ℕ → Type 0
+ListsKeys links listing = (heads : List KeyHead) × AreKeysOf (keyed_records links) heads × (listing ≡ key_lines heads)
 
--- Its run on a file that isn't made yet, or reads as this state. (A made file isn't opened yet, so no command of its run is
--- done.)
-abbrev pub run_of_work : Work → List ℕ → State → ScriptRun
-run_of_work work input m =
-    record { start = m; commands = commands_of work input; marks = marks_in (file_run_of work input m) }
+-- what is printed after the close of a file that begins with these records
+abbrev pub IsListingOf : Work → List Link → List ℕ → Type 0
+IsListingOf (Run target) links listing = listing ≡ []
+IsListingOf (Recover target) links listing = ListsKeys links listing
 
--- Each file that a stop leaves now was closed under the verb's name and time, without garbage: a new file with just these records before
--- its close.
-abbrev pub LeavesClosed : Work → List Link → View → Type 0
-LeavesClosed work links v =
-    let target = target_of work in
-    (image said : List ℕ) → Leaves v image said → IsWellClosed target.name target.datime (new_file target.name target.datime) links image
+-- this is its input, where it reads one
+abbrev pub IsInputOf : Work → Input → List ℕ → Type 0
+IsInputOf (Run target) before input = before.remaining ≡ Some input
+IsInputOf (Recover target) before input = input ≡ []
+
+-- What a run begins with: the file, the text printed before, and the input; the records that something refers to, or those of a new file,
+-- and the state that they stand for; and what is to be printed after the close.
+pub record Beginning : Type 0 where
+  pub file : List ℕ
+  pub text : List ℕ
+  pub input : List ℕ
+  pub links : List Link
+  pub state : State
+  pub listing : List ℕ
+
+-- what the commands do to the file
+abbrev pub file_run_of : Work → Beginning → Option FileRun
+file_run_of work b = file_run (target_of work).datime b.links b.state (commands_of work b.input)
+
+abbrev pub run_of_work : Work → Beginning → ScriptRun
+run_of_work work b =
+    record { start = b.state; commands = commands_of work b.input; marks = marks_in (file_run_of work b); listing = b.listing }
+
+-- the first 100 bytes of the open file are those of this one: a new file, or the file of before with the mark of an open file
+abbrev pub IsOpenHeader : TargetFile → List ℕ → List ℕ → Type 0
+IsOpenHeader target file header = MatchBool (is_unborn file) (header ≡ new_file target.name target.datime) (SaysEnd open_end file header)
+
+-- Each crash image is closed at the verb's time, without garbage, with just these records before its close. Its name is that of its first
+-- record: for a new file the verb's, for any other the one that it had.
+pub record LeavesClosed (work : Work) (b : Beginning) (links : List Link) (v : View) : Type 0 where
+  pub header : List ℕ
+  pub header_is : IsOpenHeader (target_of work) b.file header
+  pub left : (image said : List ℕ) → Leaves v image said
+      → IsWellClosed (name_in (keyed_records b.links)) (target_of work).datime header links image
 
 -- They are the records of the run, each at its place and with its bytes.
-pub record LeavesRun (work : Work) (input : List ℕ) (m : State) (new : View) : Type 0 where
+pub record LeavesRun (work : Work) (b : Beginning) (new : View) : Type 0 where
   pub run : FileRun
-  pub run_is : file_run_of work input m ≡ Some run
-  pub left : LeavesClosed work run.links new
+  pub run_is : file_run_of work b ≡ Some run
+  pub left : LeavesClosed work b run.links new
 
 -- nothing was written and no call looked at the file
 abbrev pub IsUntouched : View → View → Type 0
@@ -144,34 +178,36 @@ IsUntouched old new = OnlyReads old new × (new.reads ≡ old.reads)
 
 -- What is taken for granted at the start: the host is quiet and tells its file and what it said, and the file isn't made yet or
 -- reads as a state.
-pub record BeginsRun (old : View) (file text : List ℕ) (m : State) : Type 0 where
+pub record BeginsRun (work : Work) (b : Beginning) (old : View) : Type 0 where
   pub quiet : IsQuiet old
-  pub holds : old.holds ≡ Some file
-  pub said : old.said ≡ Some text
-  pub reads : ReadsAsState file m
+  pub holds : old.holds ≡ Some b.file
+  pub said : old.said ≡ Some b.text
+  pub reads : ReadsAsState b.file b.state
+  pub begins : OpensWith (target_of work).name (target_of work).datime b.file b.links
+  pub listing : IsListingOf work b.links b.listing
 
--- Wherever it is stopped, whatever it answers, it leaves a prefix of the run. What it said is a front of all replies, and where file
--- and commands leave room for them, none of these is want of room. Where it says that it is done it is, and each file that a stop
--- leaves then was closed under its name and time, without garbage, with the records of the run; where it ends early it doesn't close the
--- file. Where not all of
--- the input was read, nothing was written and no call looked at the file, and no answer tells of the file, its disk or its text.
+-- Wherever it is stopped, whatever it answers, it leaves a prefix of the run. What it said is a front of all that the run says, and where file
+-- and commands leave room for them, no reply of which something was said is want of room. Where it says that it is done it is, and each
+-- file that a stop leaves then was closed under its name and time, without garbage, with the records of the run; where it ends early it
+-- doesn't close the file, unless it is a recovery that could not say its listing. A verb that reads the input reads all of it before anything else: where it could not, nothing was written and no
+-- call looked at the file, and no answer tells of the file, its disk or its text.
 pub record KeepsHeadline (work : Work) (old new : View) (before after : Input) (status : Status) : Type 0 where
-  pub stops : (file text input : List ℕ) (m : State) → BeginsRun old file text m → before.remaining ≡ Some input
-      → Elapses old new (IsStopOf (run_of_work work input m) file text)
-  pub said : (file text input : List ℕ) (m : State) → BeginsRun old file text m → before.remaining ≡ Some input
-      → SaysPart new text (all_replies (run_of_work work input m))
-  pub room : (file text input : List ℕ) (m : State) → BeginsRun old file text m → before.remaining ≡ Some input
-      → let r = run_of_work work input m in HasFileRoom (opening_length file) m r.commands r.marks → SaidFindRoom r text new
-  pub done : (file text input : List ℕ) (m : State) → BeginsRun old file text m → before.remaining ≡ Some input
-      → status ≡ Done → IsRunDone (run_of_work work input m) file text new
-  pub written : (file text : List ℕ) (m : State) → BeginsRun old file text m
-      → status ≡ Done → (links : List Link) × LeavesClosed work links new
-  pub records : (file text input : List ℕ) (m : State) → BeginsRun old file text m → before.remaining ≡ Some input
-      → status ≡ Done → LeavesRun work input m new
-  pub unclosed : (file text input : List ℕ) (m : State) → BeginsRun old file text m → before.remaining ≡ Some input
-      → EndsUnclosed (run_of_work work input m) text old new status
-  pub input : (input : List ℕ) → before.remaining ≡ Some input → IsPastInput status → after.remaining ≡ Some []
-  pub order : (input : List ℕ) → before.remaining ≡ Some input → (after.remaining ≡ Some []) ⊎ IsUntouched old new
+  pub stops : (b : Beginning) → BeginsRun work b old → IsInputOf work before b.input
+      → Elapses old new (IsStopOf (run_of_work work b) b.file b.text)
+  pub said : (b : Beginning) → BeginsRun work b old → IsInputOf work before b.input
+      → SaysPart new b.text (all_texts (run_of_work work b))
+  pub room : (b : Beginning) → BeginsRun work b old → IsInputOf work before b.input
+      → let r = run_of_work work b in HasFileRoom (opening_length b.file) b.state r.commands r.marks → SaidFindRoom r b.text new
+  pub done : (b : Beginning) → BeginsRun work b old → IsInputOf work before b.input
+      → status ≡ Done → IsRunDone (run_of_work work b) b.file b.text new
+  pub written : (b : Beginning) → BeginsRun work b old → status ≡ Done → (links : List Link) × LeavesClosed work b links new
+  pub records : (b : Beginning) → BeginsRun work b old → IsInputOf work before b.input → status ≡ Done → LeavesRun work b new
+  pub unclosed : (b : Beginning) → BeginsRun work b old → IsInputOf work before b.input
+      → EndsUnclosed work (run_of_work work b) b.file b.text old new status
+  pub input : (input : List ℕ) → takes_script work ≡ true → before.remaining ≡ Some input
+      → IsPastInput status → after.remaining ≡ Some []
+  pub order : (input : List ℕ) → takes_script work ≡ true → before.remaining ≡ Some input
+      → (after.remaining ≡ Some []) ⊎ IsUntouched old new
   pub told : Becomes Any old.holds new.holds
 
 -- How a run ends that writes.

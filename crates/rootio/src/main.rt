@@ -1,16 +1,20 @@
 //! Reads and writes CERN's ROOT files: `rootio VERB FILE ARG...`.
 //!
-//! `run` does what the words ask for, over any host and input. `form_of_words` tells which form they have, `say_file`
-//! says a listing by the calls of `rio_report`, and `run_script` opens the file as a session of `rio_session`, does the
-//! commands of the script and closes it. How it ended is a `Status`, from which `code` and `told_line` make the exit
-//! status and the line that is told. `main` gives `run` the file and the streams of the process.
+//! `run` does what the words ask for, over any host and input. `form_of_words` tells which form they have.
+//! `say_file` prints a listing by the calls of `rio_report`. `run_script` opens the file as a session of
+//! `rio_session`, does the commands of the script and closes it; `recover_file` opens it, closes it and
+//! prints its keys. How it ended is a `Status`, from which `code` and `told_line` make the exit status and
+//! the line on standard error. `main` gives `run` the file and the streams of the process.
 //!
-//! `specs/Words.antt` has the forms, `Headline.antt` what a run leaves wherever it is stopped, `Causes.antt` why it ended
-//! so, `Complete.antt` that all is done where nothing fails; the other files say what verbs and scripts answer.
+//! `specs/Words.antt` has the forms, `Headline.antt` what a run leaves wherever it is cut off, `InARow.antt`
+//! what several calls on one file leave, `Causes.antt` why a run ended so, `Complete.antt` that all is done
+//! where nothing fails; the other files say what verbs and scripts return.
 #![tactic(auto)]
 
 mod input;
 mod item_word;
+mod laws;
+mod recovery;
 #[cfg(test)]
 mod rows;
 mod script;

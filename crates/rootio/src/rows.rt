@@ -12,6 +12,7 @@ mod limit;
 mod ls;
 mod parts;
 mod pen;
+mod recover;
 mod refused;
 mod run;
 mod runs;

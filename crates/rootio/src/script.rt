@@ -11,8 +11,9 @@ ghost use Rattle.rio_session.specs.Causes.{IsSessionCause};
 ghost use Rattle.rio_session.specs.Session.{IsReady, StandsFor};
 ghost use Rattle.rio_session.specs.declared.fault.SessionFault.{SessionFault as Fault};
 ghost use Rattle.rootio.specs.Headline.{IsStopOf, SaidFindRoom};
-ghost use Rattle.rootio.specs.Script.{HasClosed, HasDone, RunsScript, StaysOpenBy, run_from, status_of_open, status_of_session};
+ghost use Rattle.rootio.specs.Script.{HasClosed, HasDone, RunsWork, StaysOpenBy, run_from, status_of_open, status_of_session};
 ghost use Rattle.rootio.specs.Writing.{LeavesOpen, StandsUnsaid};
+ghost use Rattle.rootio.specs.declared.words.Work.{Work};
 
 use crate::status::Status;
 use crate::target::Target;
@@ -81,8 +82,10 @@ fn do_and_close<H: Host>(
         → (stands : StandsFor (H.view host.old) session m text)
         → HasClosed (run_from stands commands.now) stands.state.links stands.file session text
         (H.view host.new)) }
-    ensures unclosed { (m : State) (text : List ℕ) → (stands : StandsFor (H.view host.old) session m text)
-        → StaysOpenBy (run_from stands commands.now) text (H.view host.new) result }
+    ensures unclosed { (m : State) (text : List ℕ)
+        → (stands : StandsFor (H.view host.old) session m text)
+        → StaysOpenBy StandsUnsaid (run_from stands commands.now) text
+        (H.view host.new) result }
     ensures told { Becomes Any (H.view host.old).holds (H.view host.new).holds }
     ensures said { Becomes Grown (H.view host.old).said (H.view host.new).said }
     ensures room { (m : State) (text : List ℕ)
@@ -97,7 +100,7 @@ fn do_and_close<H: Host>(
 }
 
 // How a run ended that opened the file.
-fn status_of_session(done: Result<(), SessionFault>) -> Status
+pub(crate) fn status_of_session(done: Result<(), SessionFault>) -> Status
     ensures { result ≡ status_of_session done }
 {
     match done {
@@ -109,7 +112,7 @@ fn status_of_session(done: Result<(), SessionFault>) -> Status
 }
 
 // How a run ended that could not open it.
-fn status_of_open(fault: OpenFault) -> Status
+pub(crate) fn status_of_open(fault: OpenFault) -> Status
     ensures { result ≡ status_of_open fault }
 {
     match fault {
@@ -124,7 +127,7 @@ fn status_of_open(fault: OpenFault) -> Status
 pub fn run_script<H: Host>(alloc: Global, host: &mut H, target: &Target, script: &[u8]) -> Status
     requires name { length target.now.name ≤ 200 }
     requires fits { length script.now < 2 ^ 32 }
-    ensures { RunsScript target.now script.now (H.view host.old) (H.view host.new) result }
+    ensures { RunsWork (Work.Run target.now) script.now (H.view host.old) (H.view host.new) result }
 {
     built_scripts_are_statable();
     let commands = match read_script(alloc, script) {

@@ -2,9 +2,10 @@
 ghost use Rattle.std.specs.Prelude.{◌≡◌, ◌≤◌, ◌↔◌, Some, None, false, length};
 ghost use Rattle.rootio.specs.Causes.{IsCause};
 ghost use Rattle.rootio.specs.Complete.{IsComplete};
+ghost use Rattle.rootio.specs.InARow.{LeavesCalls};
 ghost use Rattle.rootio.specs.Input.{EndsWithInput, RefusesTooLong, TellsTooLong, status_of_input};
 ghost use Rattle.rootio.specs.Reading.{EndsListing, RefusesBroken, TellsFirstFault};
-ghost use Rattle.rootio.specs.Reading.{reading_of, reads_input, rules_of, work_of_form};
+ghost use Rattle.rootio.specs.Reading.{reading_of, reads_input, rules_of, takes_script, work_of_form};
 ghost use Rattle.rootio.specs.Script.{WorksOn};
 ghost use Rattle.rootio.specs.Status.{status_of};
 ghost use Rattle.rootio.specs.Words.{form_of_words};
@@ -12,6 +13,7 @@ ghost use Rattle.rootio.specs.Writing.{EndsWriting, RefusesReadOnly, TellsFirstR
 
 use crate::input::{InputError, read_input};
 use crate::item_word::ItemWord;
+use crate::recovery::recover_file;
 use crate::script::run_script;
 use crate::status::Status;
 use crate::target::Target;
@@ -32,6 +34,7 @@ use std::alloc::Global;
 /// | `dump FILE NAME;CYCLE` | the line of that key is said; without `;CYCLE` that of the greatest cycle |
 /// | `scan FILE TREE` | a line for each branch of the tree that can't be read is said, and one with the values of each entry |
 /// | `run FILE [DATIME]` | the commands of the script, which is the input, are done on the file, and it is closed |
+/// | `recover FILE [DATIME]` | the file is opened and closed, and a line for each of its keys is said |
 ///
 /// The order is words, input, file, then command by command, and the close. Whatever ends a run ends it where it comes.
 pub fn run<H: Host, S: Source>(alloc: Global, words: &Words, host: &mut H, input: &mut S) -> Status
@@ -59,6 +62,9 @@ pub fn run<H: Host, S: Source>(alloc: Global, words: &Words, host: &mut H, input
     ensures writes { (work : _) → work_of_form (form_of_words words.now) ≡ Some work
         → EndsWriting work (H.view host.old) (H.view host.new)
         (S.view input.old) (S.view input.new) result }
+    // What a crash at any moment leaves is the image of a call, in a row of calls on one file.
+    ensures row { (work : _) → work_of_form (form_of_words words.now) ≡ Some work
+        → LeavesCalls work (H.view host.old) (H.view host.new) (S.view input.old) }
     ensures cause { IsCause (form_of_words words.now) (H.view host.old) (H.view host.new)
         (S.view input.old) (S.view input.new) result }
     // Where nothing fails all is done, unless memory runs out.
@@ -160,9 +166,11 @@ fn write_file<H: Host, S: Source>(alloc: Global, host: &mut H, input: &mut S, wo
     requires { length (target_of work.now).name ≤ 200 }
     ensures work { WorksOn work.now (H.view host.old) (H.view host.new)
         (S.view input.old) (S.view input.new) result }
+    ensures input { takes_script work.now ≡ false → input.new ≡ input.old }
     ensures input_alone { EndsWithInput result → host.new ≡ host.old }
 {
     match work {
         Work::Run { target } => do_script(alloc, host, input, target),
+        Work::Recover { target } => recover_file(alloc, host, target),
     }
 }

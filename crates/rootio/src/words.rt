@@ -3,7 +3,7 @@ ghost use Rattle.std.specs.Prelude.{◌≡◌, ◌==◌, nat_le, position};
 ghost use Rattle.std.specs.Str.{bytes_eq};
 ghost use Rattle.std.specs.List.{list_all};
 ghost use Rattle.rootio.specs.Reading.{writes_of};
-ghost use Rattle.rootio.specs.Words.{asked_by, cycle_item, dump_of, form_of_words, is_file, is_no_flag, item_of, ls_of, newest_item, run_of, scan_of_words, scan_of_tree, written_at};
+ghost use Rattle.rootio.specs.Words.{asked_by, cycle_item, dump_of, form_of_words, is_file, is_no_flag, item_of, ls_of, newest_item, recover_of, run_of, scan_of_words, scan_of_tree, target_by};
 
 use crate::item_word::ItemWord;
 use crate::target::Target;
@@ -36,6 +36,8 @@ pub enum Listing<'a> {
 pub enum Work<'a> {
     /// `run FILE` and `run FILE DATIME`: the commands of a script are done. The input is the script.
     Run { target: Target<'a> },
+    /// `recover FILE` and `recover FILE DATIME`: the file is opened and closed, and its keys are said.
+    Recover { target: Target<'a> },
 }
 
 // A word that begins with `-` has no place in any form.
@@ -144,25 +146,38 @@ fn scan_of_words(args: &[Name]) -> Option<Form<'_>>
     }
 }
 
-// What is asked for by `run`, with this datime.
-fn written_at(name: &[u8], datime: u32) -> Form<'_>
-    ensures { result ≡ written_at name.now datime }
+// The file with the datime that stands behind it, or with 1.
+fn target_by<'a>(file: &'a [u8], args: &[Name]) -> Option<Target<'a>>
+    ensures { result ≡ target_by file.now args.now }
 {
-    Form::Writes(Work::Run {
-        target: Target { name, datime },
-    })
+    match args {
+        [] => Some(Target {
+            name: file,
+            datime: 1,
+        }),
+        [datime] => match parse_num(datime.as_slice()) {
+            Some(datime) => Some(Target { name: file, datime }),
+            None => None,
+        },
+        _ => None,
+    }
 }
 
 fn run_of<'a>(file: &'a [u8], args: &[Name]) -> Option<Form<'a>>
     ensures { result ≡ run_of file.now args.now }
 {
-    match args {
-        [] => Some(written_at(file, 1)),
-        [datime] => match parse_num(datime.as_slice()) {
-            Some(datime) => Some(written_at(file, datime)),
-            None => None,
-        },
-        _ => None,
+    match target_by(file, args) {
+        Some(target) => Some(Form::Writes(Work::Run { target })),
+        None => None,
+    }
+}
+
+fn recover_of<'a>(file: &'a [u8], args: &[Name]) -> Option<Form<'a>>
+    ensures { result ≡ recover_of file.now args.now }
+{
+    match target_by(file, args) {
+        Some(target) => Some(Form::Writes(Work::Recover { target })),
+        None => None,
     }
 }
 
@@ -178,6 +193,8 @@ fn asked_by<'a>(verb: &[u8], file: &'a [u8], args: &'a [Name]) -> Option<Form<'a
         scan_of_words(args)
     } else if is_verb(verb, b"run") {
         run_of(file, args)
+    } else if is_verb(verb, b"recover") {
+        recover_of(file, args)
     } else {
         None
     }

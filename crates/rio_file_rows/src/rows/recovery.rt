@@ -38,10 +38,10 @@ const NEXT_LIST: &[u8] =
 const LATE_LIST: &[u8] =
     b"\0\0\0\x30\0\x04\0\0\0\x02\0\0\0\x01\0\x2e\0\x01\0\0\x01\x0c\0\0\0\x64\x05TList\x0cStreamerInfo\0\0\0";
 
-// Behind the lengths of a class list at 208: version and time, and then from its place on.
+// Behind the lengths of a class list: its time and its key's length, and then from its directory on.
 const LIST_FRONT: &[u8] = b"\0\0\0\x01\0\x2e";
 
-const LIST_BACK: &[u8] = b"\0\0\0\xd0\0\0\0\x64\x05TList\x0cStreamerInfo\0";
+const LIST_BACK: &[u8] = b"\0\0\0\x64\x05TList\x0cStreamerInfo\0";
 
 const CLASS: &[u8] = b"class A 1 { x: i32 }";
 
@@ -79,7 +79,11 @@ fn file_of(alloc: Global, records: &[&[u8]]) -> Result<Bytes, NoMemory> {
 }
 
 // The same with some edits.
-fn edited_file(alloc: Global, records: &[&[u8]], edits: &[(usize, u8)]) -> Result<Bytes, NoMemory> {
+pub(super) fn edited_file(
+    alloc: Global,
+    records: &[&[u8]],
+    edits: &[(usize, u8)],
+) -> Result<Bytes, NoMemory> {
     let whole = file_of(alloc, records)?;
     let mut image = Bytes::new(alloc);
     put_edited(whole.as_slice(), edits, &mut image)?;
@@ -409,14 +413,21 @@ fn list_data(alloc: Global, classes: &Classes) -> Result<Bytes, NoMemory> {
     Ok(data)
 }
 
-fn declared_data(alloc: Global) -> Result<Bytes, NoMemory> {
+// The data of a class list that declares the class.
+pub(super) fn declared_list(alloc: Global) -> Result<Bytes, NoMemory> {
     let classes = declared(alloc)?;
     list_data(alloc, &classes)
 }
 
-// The class list at 208 with these data and this cycle.
-fn put_list(data: &[u8], cycle: u16, into: &mut Bytes) -> Result<(), NoMemory> {
-    if data.len() > 10_000 {
+// The data of one that declares none.
+pub(super) fn bare_list(alloc: Global) -> Result<Bytes, NoMemory> {
+    list_data(alloc, &Classes::new(alloc))
+}
+
+// Appends the class list with these data and this cycle.
+pub(super) fn put_list(data: &[u8], cycle: u16, into: &mut Bytes) -> Result<(), NoMemory> {
+    let place = into.len();
+    if place > 100_000 || data.len() > 100_000 {
         return Err(NoMemory);
     }
     let length = data.len() as u32;
@@ -425,6 +436,7 @@ fn put_list(data: &[u8], cycle: u16, into: &mut Bytes) -> Result<(), NoMemory> {
     into.put_u32(length)?;
     into.put(LIST_FRONT)?;
     into.put_u16(cycle)?;
+    into.put_u32(place as u32)?;
     into.put(LIST_BACK)?;
     into.put(data)
 }
@@ -442,8 +454,8 @@ fn listed_with(alloc: Global, data: &[u8], cycle: u16) -> Result<Bytes, NoMemory
 }
 
 // A file with a class list of this cycle, that declares the class.
-fn listed_file(alloc: Global, cycle: u16) -> Result<Bytes, NoMemory> {
-    let data = declared_data(alloc)?;
+pub(super) fn listed_file(alloc: Global, cycle: u16) -> Result<Bytes, NoMemory> {
+    let data = declared_list(alloc)?;
     listed_with(alloc, data.as_slice(), cycle)
 }
 
@@ -537,7 +549,7 @@ fn tells_calls_that_fail(rt: HostRuntime) {
     for number in 0..2 {
         assert!(rt; is_call_told(rt.alloc(), number), "call {number}");
     }
-    for number in 2..15 {
+    for number in 2..12 {
         assert!(rt; is_fault_told(rt.alloc(), number), "call {number}");
     }
 }

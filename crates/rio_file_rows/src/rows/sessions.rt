@@ -1,4 +1,4 @@
-//! A file `a.root` is made, stored into and closed, in memory.
+//! A file `a.root` is created, stored into and closed, in memory.
 ghost use Rattle.std.specs.Prelude.{◌≡◌, ◌<◌, ◌^◌, length, false, IfOk, OnOk, IsTrue};
 ghost use Rattle.rio_host.specs.MemHost.{view_of};
 ghost use Rattle.rio_step.specs.Statable.{IsStatable};
@@ -17,9 +17,9 @@ use std::alloc::Global;
 // Place, length and entries of the free record behind END, where two such records are stored.
 const FIELDS_OF_TWO: &[u8] = b"\0\0\x01\xf8\0\0\x01\xc4\0\0\0\x34\0\0\0\x01";
 
-const HI: &[u8] = b"TObjString{TObject{fUniqueID: 0, fBits: 0}, fString: \"hi\"}";
+pub(super) const HI: &[u8] = b"TObjString{TObject{fUniqueID: 0, fBits: 0}, fString: \"hi\"}";
 
-const HU: &[u8] = b"TObjString{TObject{fUniqueID: 0, fBits: 0}, fString: \"hu\"}";
+pub(super) const HU: &[u8] = b"TObjString{TObject{fUniqueID: 0, fBits: 0}, fString: \"hu\"}";
 
 fn value_of(alloc: Global, text: &[u8]) -> Result<Value, NoMemory>
     requires { length text.now < 2 ^ 32 }
@@ -31,7 +31,7 @@ fn value_of(alloc: Global, text: &[u8]) -> Result<Value, NoMemory>
 }
 
 // Stores the value of this text under the name `s`.
-fn put(alloc: Global, text: &[u8]) -> Result<Command, NoMemory>
+pub(super) fn put(alloc: Global, text: &[u8]) -> Result<Command, NoMemory>
     requires { length text.now < 2 ^ 32 }
     ensures stated { IfOk result IsStatable }
     ensures built { IfOk result (λ c. IsTrue (is_judged c)) }
@@ -42,7 +42,7 @@ fn put(alloc: Global, text: &[u8]) -> Result<Command, NoMemory>
 }
 
 // Tells the object `s` of this cycle, or the newest.
-fn get(alloc: Global, cycle: Option<u32>) -> Result<Command, NoMemory>
+pub(super) fn get(alloc: Global, cycle: Option<u32>) -> Result<Command, NoMemory>
     ensures stated { IfOk result IsStatable }
     ensures built { IfOk result (λ c. IsTrue (is_judged c)) }
 {
@@ -125,7 +125,7 @@ fn open(alloc: Global, host: &mut MemHost) -> Result<Session, SessionFault>
 }
 
 // Makes a file, does two commands, lists what there is, and closes the file.
-fn run(
+pub(super) fn run(
     alloc: Global,
     host: &mut MemHost,
     first: &Command,
@@ -141,7 +141,7 @@ fn run(
 }
 
 // Stores two values.
-fn run_puts(alloc: Global, host: &mut MemHost) -> Result<(), SessionFault> {
+pub(super) fn run_puts(alloc: Global, host: &mut MemHost) -> Result<(), SessionFault> {
     let first = put(alloc, HI)?;
     let second = put(alloc, HU)?;
     run(alloc, host, &first, &second)
@@ -161,19 +161,19 @@ fn run_refused(alloc: Global, host: &mut MemHost) -> Result<(), SessionFault> {
 }
 
 // A host without bytes.
-fn empty_host(alloc: Global) -> MemHost {
+pub(super) fn empty_host(alloc: Global) -> MemHost {
     MemHost::new(alloc, Bytes::new(alloc), Numbers::new(alloc))
 }
 
 // Whether it is the closed file without objects.
-fn is_empty_file(image: &[u8]) -> bool {
+pub(super) fn is_empty_file(image: &[u8]) -> bool {
     image.get(..208) == Some(FRONT)
         && image.get(208..252) == Some(KEY_LIST)
         && image.get(252..304) == Some(FREE)
         && image.get(304..) == Some(END)
 }
 
-fn opens_and_closes(alloc: Global, host: &mut MemHost) -> bool {
+pub(super) fn opens_and_closes(alloc: Global, host: &mut MemHost) -> bool {
     match open(alloc, host) {
         Ok(session) => {
             let failed = session.is_failed();
@@ -197,7 +197,7 @@ fn closes_an_empty_file(rt: HostRuntime) {
 const TWO: &[u8] = b"ok put s;1\nok put s;2\nok ls 2\ns;2 TObjString\ns;1 TObjString\n";
 
 // Two records of 60 bytes, a key list from 328 and a free record from 452 on.
-fn holds_two(image: &[u8]) -> bool {
+pub(super) fn holds_two(image: &[u8]) -> bool {
     image.len() == 508
         && image.get(208..268) == Some(FIRST)
         && image.get(12..28) == Some(FIELDS_OF_TWO)

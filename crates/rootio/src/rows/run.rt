@@ -10,26 +10,44 @@ use std::alloc::Global;
 
 // A file before a run, or behind it: the front of one of the files, with some words written over.
 #[derive(Clone, Copy)]
-struct Made {
+pub(super) struct Made {
     file: File,
     length: usize,
     words: &'static [(usize, u32)],
 }
 
-const NOTHING: Made = Made {
+pub(super) const NOTHING: Made = Made {
     file: File::Nothing,
     length: usize::MAX,
     words: &[],
 };
 
-const EMPTY: Made = Made {
+pub(super) const EMPTY: Made = Made {
     file: File::Empty,
     ..NOTHING
 };
 
-const ONE: Made = Made {
+pub(super) const ONE: Made = Made {
     file: File::One,
     ..NOTHING
+};
+
+const TWO: Made = Made {
+    file: File::Two,
+    ..NOTHING
+};
+
+// As it stands before its close: its END is behind the object, and it is marked as open.
+pub(super) const ONE_OPEN: Made = Made {
+    file: File::One,
+    length: 272,
+    words: &[(12, 2_000_000_000), (268, 0)],
+};
+
+// Closed again at the datime 5: the directory was changed then, and key list and free record are of that time.
+pub(super) const ONE_AT_FIVE: Made = Made {
+    words: &[(154, 5), (278, 5), (362, 5)],
+    ..ONE
 };
 
 const ROOT_ALONE: Made = Made {
@@ -56,7 +74,7 @@ const FIVE: Made = Made {
 };
 
 impl Made {
-    fn image(&self, alloc: Global) -> Result<Bytes, NoMemory> {
+    pub(super) fn image(&self, alloc: Global) -> Result<Bytes, NoMemory> {
         self.file.image(alloc, self.length, self.words)
     }
 }
@@ -72,7 +90,7 @@ struct Row {
     after: Made,
 }
 
-static ROWS: [Row; 13] = [
+static ROWS: [Row; 16] = [
     Row {
         name: "no bytes, no lines",
         datime: None,
@@ -116,28 +134,22 @@ static ROWS: [Row; 13] = [
         after: FIVE,
     },
     Row {
-        name: "a made file",
+        name: "a closed file without objects",
         datime: None,
         before: EMPTY,
         script: "ls\n",
-        status: Status::ReadOnly {
-            place: 0,
-            reason: Reason::NotYet,
-        },
-        said: "",
+        status: Status::Done,
+        said: "ok ls 0\n",
         after: EMPTY,
     },
     Row {
-        name: "a made file with another datime",
+        name: "a closed file at another datime",
         datime: Some("5"),
         before: ONE,
         script: "ls\n",
-        status: Status::ReadOnly {
-            place: 0,
-            reason: Reason::NotYet,
-        },
-        said: "",
-        after: ONE,
+        status: Status::Done,
+        said: "ok ls 1\ns;1 TObjString\n",
+        after: ONE_AT_FIVE,
     },
     Row {
         name: "the fourth byte is T",
@@ -169,11 +181,38 @@ static ROWS: [Row; 13] = [
         before: ENDLESS,
         script: "",
         status: Status::ReadOnly {
-            place: 0,
-            reason: Reason::NotYet,
+            place: 304,
+            reason: Reason::NoChain,
         },
         said: "",
         after: ENDLESS,
+    },
+    Row {
+        name: "one more object in a closed file",
+        datime: None,
+        before: ONE,
+        script: "put s TObjString{TObject{fUniqueID: 0, fBits: 0}, fString: \"hu\"}\nls\n",
+        status: Status::Done,
+        said: "ok put s;2\nok ls 2\ns;2 TObjString\ns;1 TObjString\n",
+        after: TWO,
+    },
+    Row {
+        name: "an object of an earlier run",
+        datime: None,
+        before: TWO,
+        script: "get s\nget s;1\n",
+        status: Status::Done,
+        said: "ok get s;2 TObjString#1{TObject#1{fUniqueID: 0, fBits: 0}, fString: \"hu\"}\nok get s;1 TObjString#1{TObject#1{fUniqueID: 0, fBits: 0}, fString: \"hi\"}\n",
+        after: TWO,
+    },
+    Row {
+        name: "one more object in a file without its close",
+        datime: None,
+        before: ONE_OPEN,
+        script: "put s TObjString{TObject{fUniqueID: 0, fBits: 0}, fString: \"hu\"}\n",
+        status: Status::Done,
+        said: "ok put s;2\n",
+        after: TWO,
     },
     Row {
         name: "one object",
@@ -191,10 +230,7 @@ static ROWS: [Row; 13] = [
         script: "put s TObjString{TObject{fUniqueID: 0, fBits: 0}, fString: \"hi\"}\nput s TObjString{TObject{fUniqueID: 0, fBits: 0}, fString: \"hu\"}\nls\n",
         status: Status::Done,
         said: "ok put s;1\nok put s;2\nok ls 2\ns;2 TObjString\ns;1 TObjString\n",
-        after: Made {
-            file: File::Two,
-            ..NOTHING
-        },
+        after: TWO,
     },
     Row {
         name: "the worked run",

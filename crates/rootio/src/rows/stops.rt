@@ -55,7 +55,7 @@ fn objects_in(alloc: Global, image: &[u8]) -> Option<usize> {
     }
 }
 
-const PUT: &[u8] = b"put s TObjString{TObject{fUniqueID: 0, fBits: 0}, fString: \"hi\"}";
+pub(super) const PUT: &[u8] = b"put s TObjString{TObject{fUniqueID: 0, fBits: 0}, fString: \"hi\"}";
 
 pub(super) static WORDS: [&str; 2] = ["run", "a.root"];
 

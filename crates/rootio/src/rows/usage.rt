@@ -8,7 +8,7 @@ use std::alloc::Global;
 
 type Texts = &'static [&'static str];
 
-static NO_FORMS: [Texts; 40] = [
+static NO_FORMS: [Texts; 43] = [
     &[],
     &["ls"],
     &["ls", "-x"],
@@ -24,6 +24,9 @@ static NO_FORMS: [Texts; 40] = [
     &["run", "a.root", "-1"],
     &["run", "a.root", "4294967296"],
     &["run", "a.root", "1", "2"],
+    &["recover"],
+    &["recover", "a.root", "x"],
+    &["recover", "a.root", "1", "2"],
     &["dump"],
     &["dump", "-x"],
     &["dump", "a.root", "s", "1"],

@@ -1,5 +1,6 @@
 use Rattle.std.proofs.{Common.{◌∙◌, sym, refl, subst}, lemmas.Bool.{false≢true}}
 use Rattle.rio_host.specs.Reading.{FindsWord}
+use Rattle.rio_host.proofs.ReadsLaws.{reads_join}
 use Rattle.rio_chain.proofs.Links.{link_found, not_alone}
 use Rattle.rio_chain.proofs.found.link_at.Goals as goal
 
@@ -17,3 +18,6 @@ returns-clause-link g c file told =
     link_found file c.args.place c.in_ok-segment.segment c.in_ok-behind.behind c.in_ok-segment.ensures.begins (c.in_ok-segment.ensures.segment file told)
     (subst (λ k. FindsWord k c.in_ok-behind.behind file) c.end.ensures (c.in_ok-behind.ensures.word file (c.segment_at.ensures.calls.holds ∙ told)))
     (c.are_apart.ensures.0 c.if-not-are_apart.false)
+
+pub returns-in_err-behind-clause-calls : goal.returns-in_err-behind-clause-calls
+returns-in_err-behind-clause-calls g c = reads_join (g.met.H.Host.lawful c.segment_at.new.host) c.segment_at.ensures.calls c.word_at.ensures.calls

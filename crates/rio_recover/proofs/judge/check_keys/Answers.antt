@@ -1,4 +1,7 @@
-use Rattle.std.proofs.{Common.{◌≡◌, ◌∙◌, ◌++◌, ◌∷◌, [], length, sym, ap, arith}, lemmas.List.{length-map}, lemmas.Result.{err_from_is_err_and}}
+use Rattle.std.proofs.{Common.{◌≡◌, ◌∙◌, ◌++◌, ◌∷◌, [], List, length, sym, ap, subst, arith}, lemmas.List.{length-map, take_all}, lemmas.Result.{err_from_is_err_and}}
+use Rattle.std.specs.List.{filter, Sorted.{IsPermutation}}
+use Rattle.rio_key.specs.declared.head.KeyHead.{KeyHead}
+use Rattle.rio_state.specs.KeyedRecords.{is_top_key}
 use Rattle.rio_host.proofs.ReadsLaws.{reads_join}
 use Rattle.rio_recover.specs.Checks.{IsChecking, beside_of}
 use Rattle.rio_recover.proofs.{Checking.{all_checked}, KeyLoop.{keys_begin, keys_moved, keys_pass, keys_refuse, keys_skip}}
@@ -30,7 +33,7 @@ loop-head-preserved g c =
           keys_moved start classes heads k (ap g.H.Host.view w.host-is) w.check-is
           (keys_pass start now classes heads k c.loop-head.check inv c.head-item.result c.loop-head-test.true c.head-item.is (g.H.Host.view w.check_key.new.host) w.check_key.new.check
           (sym c.is_top_key.ensures ∙ w.if-is_top_key.true) (reads_join (g.met.H.Host.lawful c.loop-head.host) inv.calls w.check_key.ensures.calls) (w.in_ok-check_key.ensures.cause ∙ inv.calm)
-          w.in_ok-check_key.ensures.short
+          w.in_ok-check_key.ensures.passed w.in_ok-check_key.ensures.untitled
           (λ f r beside before holds stands is same checking. w.in_ok-check_key.ensures.told f r beside before holds stands is same checking))
       | else-is_top_key w ↦
           keys_moved start classes heads k (ap g.H.Host.view w.host-is) w.check-is
@@ -41,3 +44,7 @@ pub returns-clause-told : goal.returns-clause-told
 returns-clause-told g c file records told stand same =
     let long : length c.args.heads.now ≡ length records = ap length same ∙ length-map records (λ r. r.head) in
     all_checked (beside_of c.args.classes.now records) records c.loop-head.head-index c.loop-head.check (omega (arith, long, c.loop-head-test.false)) (c.loop-head.invariant.told file records told stand same)
+
+pub returns-clause-items : goal.returns-clause-items
+returns-clause-items g c =
+    subst (λ (hs : List KeyHead). IsPermutation (filter is_top_key hs) c.loop-head.check.passed.heads) (take_all c.loop-head.head-index c.args.heads.now c.loop-head-test.false) c.loop-head.invariant.items

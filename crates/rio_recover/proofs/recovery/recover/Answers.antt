@@ -1,4 +1,5 @@
 use Rattle.std.proofs.{Common.{◌∙◌}, lemmas.Result.{err_from_is_err_and}}
+use Rattle.rio_host.proofs.ReadsLaws.{reads_join}
 use Rattle.rio_recover.proofs.{Answering.{tells_all, walk_refused}, Recovering.{answered}}
 use Rattle.rio_recover.proofs.recovery.recover.Goals as goal
 
@@ -26,3 +27,6 @@ returns-clause-told g c file told =
     tells_all file c.recover_walked.result
     (answered file (c.requires file told) c.in_ok-walked.walked is c.recover_walked.result c.recover_walked.ensures.kept c.recover_walked.ensures.ordered
     (c.recover_walked.ensures.told file is.links told1 is.chain is.heads))
+
+pub returns-clause-calls : goal.returns-clause-calls
+returns-clause-calls g c = reads_join (g.met.H.Host.lawful c.walk_file.new.host) c.walk_file.ensures.calls c.recover_walked.ensures.calls

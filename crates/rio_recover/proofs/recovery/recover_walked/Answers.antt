@@ -1,12 +1,12 @@
 use Rattle.std.proofs.{Common.{◌≡◌, ◌∙◌, ◌+◌, List, Option, length, sym, ap, subst, arith}, lemmas.Result.{err_from_is_err_and}}
-use Rattle.std.specs.{List.{All}, Option.{option_map_or}}
+use Rattle.std.specs.{List.{All, filter, Sorted.{IsPermutation}}, Option.{option_map_or}}
 use Rattle.rio_key.specs.declared.head.KeyHead.{KeyHead}
 use Rattle.rio_chain.specs.{Found.{IsShortKey}, Placing.{file_end}}
 use Rattle.rio_dir.specs.Table.{AreOrdered}
-use Rattle.rio_state.specs.{Closing.{name_in}, KeyedRecords.{info_key, keyed_records}, Left.{info_head}}
+use Rattle.rio_state.specs.{Closing.{name_in}, KeyedRecords.{info_key, is_top_key, keyed_records}, Left.{info_head}}
 use Rattle.rio_recover.specs.Keys.{keyed_by}
 use Rattle.rio_recover.proofs.{Gathering.{all_gathered}, Judging.{cause_alone_on}, LinkRecords.{all_stand}}
-use Rattle.rio_recover.proofs.{Recovering.{has_room, name_short, no_room, some_room}, StateJudged.{state_refused}}
+use Rattle.rio_recover.proofs.{Recovering.{has_room, name_short, no_room, some_room}, StateJudged.{state_refused}, WholeFile.{all_items, whole_file}}
 use Rattle.rio_recover.proofs.recovery.recover_walked.Goals as goal
 
 pub returns-in_err-state-clause-told : goal.returns-in_err-state-clause-told
@@ -22,7 +22,8 @@ check_room-requires-clause-name g c =
     omega (arith, long, name_short c.args.walked.heads c.requires.short)
 
 pub check_room-requires-clause-short : goal.check_room-requires-clause-short
-check_room-requires-clause-short g c = c.in_ok-state.ensures.short (subst (All IsShortKey) (sym c.as_slice-heads.ensures) c.requires.short)
+check_room-requires-clause-short g c =
+    all_items IsShortKey c.as_slice-heads.result.now c.in_ok-state.state.table.heads c.in_ok-state.ensures.items (subst (All IsShortKey) (sym c.as_slice-heads.ensures) c.requires.short)
 
 pub returns-in_err-check_room-clause-told : goal.returns-in_err-check_room-clause-told
 returns-in_err-check_room-clause-told g c file links told chain same =
@@ -72,3 +73,13 @@ returns-clause-room g c =
     let ends = c.end_of-end.ensures ∙ ap file_end c.as_slice.ensures in
     has_room c.args.walked c.in_ok-name.name c.as_slice-2.result.now c.in_ok-info.info c.in_ok-state.state c.in_ok-gather.field-0 c.count_others.result c.end_of-end.result c.in_ok-gather.ensures.parts ends
     c.as_slice-2.ensures other c.in_ok-check_room.ensures.told.0
+
+pub returns-clause-whole : goal.returns-clause-whole
+returns-clause-whole g c =
+    let seen = c.as_slice-heads.ensures in
+    let state = c.in_ok-state.state in
+    let named = c.in_ok-name.ensures ∙ ap (λ (hs : List KeyHead). name_in (keyed_by hs)) seen in
+    let counts = c.in_ok-info.ensures ∙ c.info_head.ensures ∙ ap (λ (hs : List KeyHead). info_head (info_key (keyed_by hs))) seen in
+    let items = subst (λ (hs : List KeyHead). IsPermutation (filter is_top_key hs) state.table.heads) seen c.in_ok-state.ensures.items in
+    whole_file c.args.walked c.requires.whole c.in_ok-name.name c.in_ok-info.info state c.in_ok-gather.field-0 c.in_ok-gather.ensures.parts items c.in_ok-state.ensures.untitled c.in_ok-state.ensures.classes counts named
+    c.in_ok-gather.ensures.garbage

@@ -1,11 +1,11 @@
-use Rattle.std.proofs.{Common.{◌≡◌, ◌++◌, ◌∙◌, List, ℕ, Some, ap, subst, sym}, lemmas.{Option.{same_Some}, Result.{IfOk-from_err, err_from_is_err_and}}}
+use Rattle.std.proofs.{Common.{◌≡◌, ◌++◌, ◌∙◌, List, ℕ, Option, Some, ap, subst, sym}, lemmas.{List.{append-nil}, Option.{same_Some}, Result.{IfOk-from_err, err_from_is_err_and}}}
 use Rattle.rio_host.proofs.{Moments.{elapses_join}, PiecesLaws.{grown_join}}
 use Rattle.rio_chain.specs.{Segments.{IsChain, Link}, Stops.{KeepsFront}}
 use Rattle.rio_chain.proofs.OneChain.{chain_one}
 use Rattle.rio_step.specs.Runs.{state_after}
 use Rattle.rio_session.specs.{Closes.{ClosesFile, IsWellClosed}, Session.{ClosesAs}}
 use Rattle.rio_session.proofs.{CloseStates.{holds_closed_file}, Spoken.{grows_none}}
-use Rattle.rootio.specs.{Headline.{all_replies}, Script.{session_run}}
+use Rattle.rootio.specs.{Headline.{all_replies}, Script.{session_run}, Writing.{StandsUnsaid}}
 use Rattle.rootio.proofs.{Doing.{cause_of_close, on_ok_all}, RunStops.{stop_closing}, Unclosed.{close_open, stays_open}, Untouched.{any_join}}
 use Rattle.rootio.proofs.script.do_and_close.Goals as goal
 
@@ -23,6 +23,9 @@ returns-in_err-do_commands g c =
       room = c.in_err-do_commands.ensures.room;
       cause = rw (p.1, p.2) c.in_err-do_commands.ensures.cause;
     }
+
+abbrev some_text : List ℕ → Option (List ℕ)
+some_text l = Some l
 
 pub returns : goal.returns
 returns g c =
@@ -44,7 +47,7 @@ returns g c =
             quiet = quiet;
             run = done.records.run;
             run_is = done.records.run_is;
-            said = c.close.ensures.writes.said ∙ done.stands.said;
+            said = c.close.ensures.writes.said ∙ done.stands.said ∙ ap (λ l. some_text (text ++ l)) (sym (append-nil (all_replies r)));
             left = λ image told leaves. closed end (text ++ all_replies r) done.stands image told leaves;
             written = λ image told leaves.
                 let closes : ClosesFile (g.H.Host.view c.do_commands.new.host) (g.H.Host.view c.close.new.host) c.do_commands.new.session = written end (text ++ all_replies r) done.stands in
@@ -60,7 +63,7 @@ returns g c =
       unclosed = λ m text stands.
           let r = session_run c.args.session stands.state.links m c.args.commands.now in
           close_open (g.H.Host.view c.do_commands.new.host) (g.H.Host.view c.close.new.host) c.do_commands.new.session (state_after m c.args.commands.now r.marks)
-          (text ++ all_replies r) all.ready (all.done m text stands).stands (g.met.H.Host.lawful c.close.new.host) r text c.close.result
+          (text ++ all_replies r) all.ready (all.done m text stands).stands (g.met.H.Host.lawful c.close.new.host) StandsUnsaid r text c.close.result
           (c.close.ensures.writes.said ∙ (all.done m text stands).stands.said) c.close.ensures.no_memory c.close.ensures.cause;
       told = any_join (g.H.Host.view c.args.host.now).holds (g.H.Host.view c.do_commands.new.host).holds (g.H.Host.view c.close.new.host).holds all.told c.close.ensures.writes.told;
       said = grown_join (g.H.Host.view c.args.host.now).said (g.H.Host.view c.do_commands.new.host).said (g.H.Host.view c.close.new.host).said all.said

@@ -1,10 +1,7 @@
-use Rattle.std.proofs.Common.{◌≡◌, ◌∙◌, false, sym, subst}
-use Rattle.std.specs.List.{All}
-use Rattle.rio_chain.specs.Found.{IsShortKey}
+use Rattle.std.proofs.Common.{◌≡◌, ◌∙◌, false}
 use Rattle.rio_dir.specs.Table.{with_head}
 use Rattle.rio_state.specs.Reasons.{is_bad_tree}
 use Rattle.rio_recover.proofs.Checking.{double_told, mixed_is, mixed_told, no_item_reason, old_tree, other_kind, passed_more, put_there, single, tree_told}
-use Rattle.rio_recover.proofs.KeyJudged.{all_with}
 use Rattle.rio_recover.proofs.judge.KeyCheck.check_item.Goals.{else-is_tree_key-via-then-is_tree_key+else-not-is_outdated, else-is_tree_key-via-else-is_tree_key}
 use Rattle.rio_recover.proofs.judge.KeyCheck.check_item.Goals as goal
 
@@ -48,10 +45,7 @@ returns-clause-told c beside before r same checking =
     let is = put_there c.in_ok-put_new.field-0 (with_head head old) old new c.if-not-branch.false c.in_ok-put_new.ensures.heads in
     (no_item_reason beside before r head same good one (apart ∙ c.if-is_mixed.false), record { names = checking.names; passed = passed_more beside before r head same old new checking.passed is })
 
-pub returns-clause-short : goal.returns-clause-short
-returns-clause-short c short all =
-    let head = c.args.head.now in
+pub returns-clause-passed : goal.returns-clause-passed
+returns-clause-passed c =
     let old = c.args.self.now.passed.heads in
-    let new = c.put_new.new.table.heads in
-    let is = put_there c.in_ok-put_new.field-0 (with_head head old) old new c.if-not-branch.false c.in_ok-put_new.ensures.heads in
-    subst (All IsShortKey) (sym is) (all_with IsShortKey head old short all)
+    put_there c.in_ok-put_new.field-0 (with_head c.args.head.now old) old c.put_new.new.table.heads c.if-not-branch.false c.in_ok-put_new.ensures.heads

@@ -1,18 +1,24 @@
 use Rattle.std.proofs.{Common.{◌≡◌, ◌∙◌, refl, ap, subst}, lemmas.Result.{err_from_is_err_and}}
 use Rattle.std.specs.Option.{option_copied}
-use Rattle.rio_chain.specs.Chains.{ChainState}
+use Rattle.rio_chain.specs.{Adjoining.{AreSegments}, Chains.{ChainState}}
 use Rattle.rio_close.specs.{Leaving.{IsReadyToClose}, Written.{OpenFile}}
 use Rattle.rio_session.specs.{Closes.{open_file}, Kept.{IsSoundState}, Session.{SessionState}}
-use Rattle.rio_session.proofs.{CloseRoom.{fits_all, need_low}, CloseStates.{closes_file, closing_time, holds_open, leaves_closed, open_named, same_file}}
+use Rattle.rio_session.proofs.{CloseRoom.{fits_all, list_low, need_low}, CloseStates.{closes_file, closing_time, holds_open, leaves_closed, open_named, same_file}}
 use Rattle.rio_session.proofs.session.Session.close.Goals as goal
 
 pub close_records-requires-clause-heads : goal.close_records-requires-clause-heads
 close_records-requires-clause-heads g c =
     fits_all c.self.inside.table.heads (c.self.invariant.kept (ap (λ (s : SessionState). s.failed) c.self.view_is ∙ c.requires.fresh)).fit
 
+pub close_records-requires-clause-info : goal.close_records-requires-clause-info
+close_records-requires-clause-info g c =
+    list_low c.self.inside.chain.segments c.self.inside.table.heads c.self.inside.info c.self.inside.name c.as_ref.result
+    (subst (λ (s : ChainState). AreSegments s.segments) (c.chain.view_is ∙ c.in_ok-reserve.ensures.ok) c.chain.invariant.shape)
+    (c.self.invariant.kept (ap (λ (s : SessionState). s.failed) c.self.view_is ∙ c.requires.fresh)) c.as_ref.ensures.value
+
 pub close_records-requires-clause-low : goal.close_records-requires-clause-low
 close_records-requires-clause-low g c =
-    need_low c.self.inside.chain.segments c.reserve.new.self.segments c.self.inside.table.heads c.self.inside.name c.as_slice.result.now
+    need_low c.self.inside.chain.segments c.reserve.new.self.segments c.self.inside.table.heads c.self.inside.info c.self.inside.name c.as_slice.result.now
     (c.self.invariant.kept (ap (λ (s : SessionState). s.failed) c.self.view_is ∙ c.requires.fresh))
     (ap (λ (s : ChainState). s.segments) c.in_ok-reserve.ensures.ok) c.as_slice.ensures
 
@@ -86,6 +92,6 @@ returns-clause-written g c m text stands =
     let held = holds_open (g.H.Host.view c.args.host.now) c.args.self m text stands f segments heads info nbytes_name in
     let ready : IsReadyToClose (g.H.Host.view c.args.host.now) c.reserve.new.self.segments c.in_ok-records.records f m = record { held = held; same = refl; made = c.in_ok-records.ensures } in
     let same : f ≡ open_file c.args.self = same_file f (open_file c.args.self) segments heads info (c.as_slice.ensures ∙ ap (λ (s : SessionState). s.name) c.self.view_is) nbytes_name (ap (λ (s : SessionState). s.datime) c.self.view_is) in
-    let sound : IsSoundState c.args.self = subst IsSoundState c.self.view_is (record { none = c.self.invariant.no_classes; listless = c.self.invariant.no_list; kept = c.self.invariant.kept }) in
+    let sound : IsSoundState c.args.self = subst IsSoundState c.self.view_is (record { classes = c.self.invariant.classes; kept = c.self.invariant.kept }) in
     closes_file (g.H.Host.view c.args.host.now) (g.H.Host.view c.write_close.new.host) c.args.self m f c.in_ok-records.records held same c.in_ok-records.ensures (c.in_ok-write_close.ensures.written f m ready) (sound.kept c.requires.fresh)
     (open_named (g.H.Host.view c.args.host.now) c.args.self m text stands f segments heads info nbytes_name)

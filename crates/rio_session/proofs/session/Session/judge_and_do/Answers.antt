@@ -21,7 +21,7 @@ work-requires-clause-can g c =
     let judged = subst (λ (x : List ClassDef × (List KeyHead × Judged)). IsJudgementOfStates x.0 x.1.0 c.args.command.now x.1.1) (λ i. (classes i, (heads i, c.in-Accepted.is i))) c.in_ok-refusal.ensures.judged in
     let can = subst (λ (x : List ClassDef × (List KeyHead × Judged)). IsSoundJudgement x.0 x.1.0 c.args.command.now x.1.1) (λ i. (classes i, (heads i, c.in-Accepted.is i))) c.in_ok-refusal.ensures.sound in
     let todo : IsToDo c.args.self.now c.args.command.now c.in-Accepted.work = record { built = c.requires.built; statable = c.requires.statable; can = can; judged = judged } in
-    let sound : IsSoundState c.args.self.now = subst IsSoundState c.self.view_is (record { none = c.self.invariant.no_classes; listless = c.self.invariant.no_list; kept = c.self.invariant.kept }) in
+    let sound : IsSoundState c.args.self.now = subst IsSoundState c.self.view_is (record { classes = c.self.invariant.classes; kept = c.self.invariant.kept }) in
     can_do c.args.self.now c.args.command.now c.in-Accepted.work todo sound
 
 pub returns-in-Accepted-clause-does : goal.returns-in-Accepted-clause-does
@@ -41,3 +41,6 @@ returns-in-Accepted-clause-reads g c never =
     let can = subst (λ (x : List ClassDef × (List KeyHead × Judged)). IsSoundJudgement x.0 x.1.0 c.args.command.now x.1.1) (λ i. (classes i, (heads i, c.in-Accepted.is i))) c.in_ok-refusal.ensures.sound in
     let todo : IsToDo c.args.self.now c.args.command.now c.in-Accepted.work = record { built = c.requires.built; statable = c.requires.statable; can = can; judged = judged } in
     c.work.ensures.reads (reads_nothing c.args.self.now c.args.command.now c.in-Accepted.work todo never)
+
+pub returns-in-Accepted-clause-sound : goal.returns-in-Accepted-clause-sound
+returns-in-Accepted-clause-sound g c = subst IsSoundState c.self.view_is (record { classes = c.self.invariant.classes; kept = c.self.invariant.kept })

@@ -5,7 +5,8 @@ use Rattle.rio_key.specs.declared.head.KeyHead.{KeyHead}
 use Rattle.rio_machine.specs.Limits.{head_length}
 use Rattle.rio_state.specs.Closing.{close_need, end_limit, is_full, padded_length}
 use Rattle.rio_step.specs.{Step.{object_put}, ReplyText.{text_of}}
-use Rattle.rio_session.specs.{Kept.{IsSoundState, is_sized, kept_with}, Puts.{IsFullFor}, Session.{SessionState}}
+use Rattle.rio_recover.specs.Closable.{is_sized, kept_with}
+use Rattle.rio_session.specs.{Kept.{IsSoundState}, Puts.{IsFullFor}, Session.{SessionState}}
 use Rattle.rio_session.proofs.{PutCalls.{full_is_said, put_is_done, record_can_be_put}, Replies.{does_nothing}}
 use Rattle.rio_session.proofs.session.Session.put.Goals as goal
 
@@ -30,7 +31,7 @@ put_and_say-requires-clause-can g c =
     let s = c.args.self.now in
     let o = c.args.object.now in
     let v = c.self.view_is in
-    let sound : IsSoundState s = subst IsSoundState c.self.view_is (record { none = c.self.invariant.no_classes; listless = c.self.invariant.no_list; kept = c.self.invariant.kept }) in
+    let sound : IsSoundState s = subst IsSoundState c.self.view_is (record { classes = c.self.invariant.classes; kept = c.self.invariant.kept }) in
     let keyed : c.key_length.result ≡ head_length o.class o.name = c.key_length.ensures.exact ∙ (λ i. head_length (c.as_slice-class.ensures i) (c.as_slice-name.ensures i)) in
     let long : c.padded-n.result ≡ padded_length (head_length o.class o.name + o.length) = c.padded-n.ensures ∙ ap (λ (x : ℕ × ℕ). padded_length (x.0 + x.1)) (λ i. (keyed i, c.from-length.ensures i)) in
     let need : (h : KeyHead) → is_sized h ≡ true → h.class ≡ o.class → h.name ≡ o.name → c.need_with.result ≡ close_need (kept_with s.name (with_head h s.heads) (record_count s.segments + 1)) =
@@ -44,7 +45,7 @@ returns-in_ok-text-in-Ok-clause-does g c command todo =
     let s = c.args.self.now in
     let o = c.args.object.now in
     let v = c.self.view_is in
-    let sound : IsSoundState s = subst IsSoundState c.self.view_is (record { none = c.self.invariant.no_classes; listless = c.self.invariant.no_list; kept = c.self.invariant.kept }) in
+    let sound : IsSoundState s = subst IsSoundState c.self.view_is (record { classes = c.self.invariant.classes; kept = c.self.invariant.kept }) in
     let keyed : c.key_length.result ≡ head_length o.class o.name = c.key_length.ensures.exact ∙ (λ i. head_length (c.as_slice-class.ensures i) (c.as_slice-name.ensures i)) in
     let long : c.padded-n.result ≡ padded_length (head_length o.class o.name + o.length) = c.padded-n.ensures ∙ ap (λ (x : ℕ × ℕ). padded_length (x.0 + x.1)) (λ i. (keyed i, c.from-length.ensures i)) in
     let need : (h : KeyHead) → is_sized h ≡ true → h.class ≡ o.class → h.name ≡ o.name → c.need_with.result ≡ close_need (kept_with s.name (with_head h s.heads) (record_count s.segments + 1)) =
@@ -62,7 +63,7 @@ returns-in-Err-Full-clause-does g c command todo =
     let s = c.args.self.now in
     let o = c.args.object.now in
     let v = c.self.view_is in
-    let sound : IsSoundState s = subst IsSoundState c.self.view_is (record { none = c.self.invariant.no_classes; listless = c.self.invariant.no_list; kept = c.self.invariant.kept }) in
+    let sound : IsSoundState s = subst IsSoundState c.self.view_is (record { classes = c.self.invariant.classes; kept = c.self.invariant.kept }) in
     let keyed : c.key_length.result ≡ head_length o.class o.name = c.key_length.ensures.exact ∙ (λ i. head_length (c.as_slice-class.ensures i) (c.as_slice-name.ensures i)) in
     let long : c.padded-n.result ≡ padded_length (head_length o.class o.name + o.length) = c.padded-n.ensures ∙ ap (λ (x : ℕ × ℕ). padded_length (x.0 + x.1)) (λ i. (keyed i, c.from-length.ensures i)) in
     let need : (h : KeyHead) → is_sized h ≡ true → h.class ≡ o.class → h.name ≡ o.name → c.need_with.result ≡ close_need (kept_with s.name (with_head h s.heads) (record_count s.segments + 1)) =

@@ -19,7 +19,8 @@ pub invariant_of-self-in-Ok : goal.invariant_of-self-in-Ok
 invariant_of-self-in-Ok g c =
     let n = c.args.made in
     record {
-      kept = λ fresh. kept_put c.args.self.now n c.self.inside.chain.segments _ c.self.inside.table.heads _ c.self.inside.name c.requires.can (c.self.invariant.kept fresh)
+      classes = c.self.invariant.classes;
+      kept = λ fresh. kept_put c.args.self.now n c.self.inside.chain.segments _ c.self.inside.table.heads _ c.self.inside.info c.self.inside.name c.requires.can (c.self.invariant.kept fresh)
           (ap (λ (s : SessionState). s.segments) (sym c.self.view_is)) (ap (λ (s : SessionState). s.heads) (sym c.self.view_is)) (ap (λ (s : SessionState). s.name) (sym c.self.view_is))
           (ap (λ (s : ChainState). s.segments) c.in-Ok.ensures.chain ∙ ap (λ (s : ChainState). with_segment n.head.seek (length n.bytes.bytes) s.segments) c.in_ok-reserve.ensures.ok)
           (ap (λ (t : TableRoom). t.heads) c.insert.ensures ∙ ap (λ (t : TableRoom). with_head n.head t.heads) c.in_ok-reserve_one.ensures.ok);
@@ -29,8 +30,6 @@ invariant_of-self-in-Ok g c =
           omega (arith, ap heads_size more, size_with n.head c.self.inside.table.heads, c.self.invariant.bytes fresh, c.key_length-added.ensures);
       directory = λ fresh. directory_stays c.self.inside.nbytes_name n.head.seek (length n.bytes.bytes) c.self.inside.chain.segments _
           (ap (λ (s : ChainState). s.segments) c.in-Ok.ensures.chain ∙ ap (λ (s : ChainState). with_segment n.head.seek (length n.bytes.bytes) s.segments) c.in_ok-reserve.ensures.ok) (c.self.invariant.directory fresh);
-      no_classes = c.self.invariant.no_classes;
-      no_list = c.self.invariant.no_list;
     }
 
 pub returns-in-Err-clause-puts : goal.returns-in-Err-clause-puts

@@ -1,0 +1,168 @@
+-- A file's links while its garbage is released, one record after the other.
+use Rattle.std.proofs.Common.{◌≡◌, ◌≢◌, ◌∙◌, ◌↔◌, inl, ℕ, true, false, not, ◌&&◌, ◌||◌, ◌==◌, List, [], ◌∷◌, length, map, Option, refl, sym, ap, subst, arith}
+use Rattle.std.proofs.{lemmas.Bool.{eq-eqb, not-true, or_parts}, lemmas.List.Elements.{filter_agree}}
+use Rattle.std.specs.{Prelude.{is_some, option_and_then}, List.{Contains, filter, find, list_all, sum_by}, Str.{bytes_eq}}
+use Rattle.rio_types.specs.declared.class.ClassDef.{ClassDef}
+use Rattle.rio_key.specs.{Written.{written_key}, declared.head.KeyHead.{KeyHead}}
+use Rattle.rio_chain.specs.Segments.{IsChain, Link}
+use Rattle.rio_machine.specs.State.{State}
+use Rattle.rio_state.specs.{Cleaning.{unreferred}, Closing.{KeptRecords, item_heads, kept_count, kept_in, name_in}, Contents.{object_in, state_classes, tree_of}, DirectoryKeys.{AreKeysOf}}
+use Rattle.rio_state.specs.KeyedRecords.{KeyedRecord, first_place, has_item, info_key, is_elsewhere, is_mixed_name, is_top_key, is_tree_key, keyed_records, top_keys, tree_records}
+use Rattle.rio_state.specs.{OneLess.{NeedsNoMore, links_without}, OneMore.{HasOneMoreIn}, Reads.{AreRecordsOf, StandsForState, info_place, is_named_key}, Referred.{is_item_record, is_referred}}
+use Rattle.rio_state.proofs.{Insertion.{filter_more}, LessNeeds.{needs_no_more}, Members.{In, filter_in}, Removal.{all_less, all_weaker}}
+use Rattle.rio_state.proofs.Unreferred.{IsPart, info_kept, items_same, part_without, tree_kept}
+use Rattle.rio_recover.specs.Cleaning.{GarbageIsCleaned, IsCleanOf, without_all}
+use Rattle.rio_recover.proofs.SoundLinks.{Sound, StartsFirst, first_less, gone, one_less, rest_is_left, sound_chain, sound_without}
+
+-- the links that are left stand for what those of before stood for, and these records are left of the garbage
+pub record CleanSoFar (before now : List Link) (left : List KeyedRecord) : Type 0 where
+  pub records : (m : State) → AreRecordsOf (keyed_records before) m → AreRecordsOf (keyed_records now) m
+  pub keys : (heads : List KeyHead) → AreKeysOf (keyed_records before) heads → AreKeysOf (keyed_records now) heads
+  pub info : info_key (keyed_records now) ≡ info_key (keyed_records before)
+  pub name : name_in (keyed_records now) ≡ name_in (keyed_records before)
+  pub kept : kept_in now ≡ kept_in before
+  pub need : NeedsNoMore before now
+  pub left_is : unreferred (keyed_records now) ≡ left
+  pub sound : Sound 100 now
+  pub first : StartsFirst (keyed_records now)
+
+pub clean_begins : (file : List ℕ) (links : List Link) → IsChain links file → CleanSoFar links links (unreferred (keyed_records links))
+clean_begins file links chain = record {
+  records = λ m are. are;
+  keys = λ heads are. are;
+  info = refl;
+  name = refl;
+  kept = refl;
+  need = record { need = omega arith; end = omega arith; held = omega arith };
+  left_is = refl;
+  sound = (sound_chain file links chain).0;
+  first = (sound_chain file links chain).1;
+}
+
+-- ---- what stands without a record that nothing refers to
+
+module _ (old new tops left : List KeyedRecord) (info : Option KeyedRecord) (part : IsPart tops left) where
+  abbrev classes : List ClassDef
+  classes = state_classes info
+
+  stands_without : (m : State) → StandsForState old info tops m → StandsForState new info left m
+  stands_without m s = record {
+    listed = s.listed;
+    classes = s.classes;
+    named = part.all (λ t. is_named_key t.head) s.named;
+    distinct = part.distinct s.distinct;
+    apart = all_weaker (λ t. not (is_mixed_name tops t.head.name)) (λ t. not (is_mixed_name left t.head.name)) (λ t e. ap not (part.mixed t.head.name (not-true _ e))) left
+        (part.all (λ t. not (is_mixed_name tops t.head.name)) s.apart);
+    readable = ap (list_all (λ t. is_some (object_in classes t))) part.objects ∙ s.readable;
+    objects = λ item. s.objects item ∙ ap (λ (rs : List KeyedRecord). option_and_then (object_in classes) (find (has_item item) rs)) (sym part.objects);
+    tree_readable = ap (λ (ts : List KeyedRecord). list_all (λ t. is_some (tree_of classes new ts t)) ts) part.trees
+        ∙ (λ i. list_all (λ t. is_some (tree_kept classes classes new old (tree_records tops) t i)) (tree_records tops))
+        ∙ s.tree_readable;
+    trees = λ name. s.trees name
+        ∙ (λ i. option_and_then (λ t. tree_kept classes classes old new (tree_records tops) t i) (find (λ t. bytes_eq t.head.name name) (tree_records tops)))
+        ∙ ap (λ (ts : List KeyedRecord). option_and_then (tree_of classes new ts) (find (λ t. bytes_eq t.head.name name) ts)) (sym part.trees);
+  }
+
+-- ---- one record less
+
+abbrev kept_from : List ℕ → Option KeyedRecord → List KeyHead → KeptRecords
+kept_from name info heads = record { name = name; heads = heads; count = kept_count info heads }
+
+module _ (before now : List Link) (r : KeyedRecord) (others : List KeyedRecord) (so : CleanSoFar before now (r ∷ others)) where
+  abbrev old : List KeyedRecord
+  old = keyed_records now
+
+  abbrev after : List Link
+  after = links_without now r
+
+  abbrev new : List KeyedRecord
+  new = keyed_records after
+
+  among : In r old × (not (is_referred old r) ≡ true)
+  among = filter_in (λ s. not (is_referred old s)) r old (subst (λ (rs : List KeyedRecord). In r rs) (sym so.left_is) (inl refl))
+
+  free : is_referred old r ≡ false
+  free = not-true _ among.1
+
+  parts : (((r.head.seek == first_place) || (r.head.seek == info_place (info_key old))) ≡ false) × (is_item_record (top_keys old) r ≡ false)
+  parts = or_parts ((r.head.seek == first_place) || (r.head.seek == info_place (info_key old))) (is_item_record (top_keys old) r) free
+
+  sides : ((r.head.seek == first_place) ≡ false) × ((r.head.seek == info_place (info_key old)) ≡ false)
+  sides = or_parts (r.head.seek == first_place) (r.head.seek == info_place (info_key old)) parts.0
+
+  other : r.head.seek ≢ first_place
+  other same = let f : true ≡ false = sym (eq-eqb r.head.seek first_place same) ∙ sides.0 in cc
+
+  less : HasOneMoreIn new old r
+  less = one_less 100 now r so.sound among.0
+
+  info : info_key new ≡ info_key old
+  info = info_kept old new r less sides.1
+
+  part : IsPart (top_keys old) (top_keys new)
+  part = part_without old new r less parts.1
+
+  items : item_heads (top_keys new) ≡ item_heads (top_keys old)
+  items = items_same (top_keys old) (top_keys new) part
+
+  start : (name_in new ≡ name_in old) × StartsFirst new
+  start = first_less old new r less other so.first
+
+  stays : (m : State) → AreRecordsOf old m → AreRecordsOf new m
+  stays m is = record {
+    here = all_less (λ s. not (is_elsewhere s.head)) r old new less is.here;
+    stand = subst (λ (o : Option KeyedRecord). StandsForState new o (top_keys new) m) (sym info) (stands_without old new (top_keys old) (top_keys new) (info_key old) part m is.stand);
+  }
+
+  keys_stay : (heads : List KeyHead) → AreKeysOf old heads → AreKeysOf new heads
+  keys_stay heads are = record { ordered = are.ordered; each = subst (λ (hs : List KeyHead). (head : KeyHead) → Contains heads head ↔ Contains hs head) (sym items) are.each }
+
+  kept_stays : kept_in after ≡ kept_in now
+  unfolding kept_in
+  kept_stays = let name = start.0 in λ i. kept_from (name i) (info i) (items i)
+
+  referred_still : (s : KeyedRecord) → is_referred new s ≡ is_referred old s
+  referred_still s =
+      let greatest = part.greatest s in
+      λ i. (s.head.seek == first_place) || (s.head.seek == info_place (info i)) || (is_top_key s.head && (not (is_tree_key s.head) || greatest i))
+
+  need : NeedsNoMore now after
+  need = needs_no_more r.head.seek now (record {
+    name = ap (λ (k : KeptRecords). k.name) kept_stays;
+    heads = omega (arith, ap (λ (k : KeptRecords). sum_by (λ h. length (written_key h)) k.heads) kept_stays);
+    count = omega (arith, ap (λ (k : KeptRecords). k.count) kept_stays);
+  })
+
+  left_over : unreferred new ≡ others
+  left_over =
+      filter_agree (λ s. not (is_referred new s)) (λ s. not (is_referred old s)) (λ s. ap not (referred_still s)) new
+      ∙ rest_is_left r (unreferred old) (filter (λ s. not (is_referred old s)) new) others
+      (filter_more (λ s. not (is_referred old s)) r new old less among.1) so.left_is
+      (λ i. gone 100 now r so.sound (filter_in (λ s. not (is_referred old s)) r new i).0)
+
+  pub clean_step : CleanSoFar before after others
+  clean_step = record {
+    records = λ m are. stays m (so.records m are);
+    keys = λ heads are. keys_stay heads (so.keys heads are);
+    info = info ∙ so.info;
+    name = start.0 ∙ so.name;
+    kept = kept_stays ∙ so.kept;
+    need = record { need = omega (arith, need.need, so.need.need); end = omega (arith, need.end, so.need.end); held = omega (arith, need.held, so.need.held) };
+    left_is = left_over;
+    sound = sound_without r.head.seek 100 now so.sound;
+    first = start.1;
+  }
+
+-- ---- all of them
+
+clean_all : (before now : List Link) (left : List KeyedRecord) → CleanSoFar before now left → CleanSoFar before (without_all (map (λ r. r.head.seek) left) now) []
+clean_all before now [] so = so
+clean_all before now (r ∷ left) so = clean_all before (links_without now r) left (clean_step before now r left so)
+
+pub clean_ends : (before now : List Link) → CleanSoFar before now [] → IsCleanOf before now
+clean_ends before now so = record { records = so.records; keys = so.keys; info = so.info; name = so.name; kept = so.kept; need = so.need; none = so.left_is }
+
+pub garbage_is_cleaned : GarbageIsCleaned
+garbage_is_cleaned file links chain =
+    let left = unreferred (keyed_records links) in
+    clean_ends links (without_all (map (λ r. r.head.seek) left) links) (clean_all links links left (clean_begins file links chain))

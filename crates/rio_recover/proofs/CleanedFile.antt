@@ -1,0 +1,234 @@
+-- What is recovered, without its garbage.
+use Rattle.std.proofs.Common.{◌≡◌, ◌∙◌, inl, inr, ℕ, ◌+◌, ◌<◌, ◌≤◌, ◌||◌, Bool, true, false, cond, not, ◌==◌, List, [], ◌∷◌, codes, map, length, get_or, Option, Some, None, refl, sym, ap, subst, arith}
+use Rattle.std.proofs.lemmas.{Bool.{and_from, eq-eqb, ne_eqb}, List.{Elements.{All-head}, Sorted.{All-permutation, length_permutation}, Sums.{AllPass-from_list_all, list_all-from_AllPass}}}
+use Rattle.std.specs.{List.{All, filter, list_all}, Option.{IfSome}}
+use Rattle.rio_key.specs.declared.head.KeyHead.{KeyHead}
+use Rattle.rio_chain.specs.{Adjoining.{AreSegments}, Changes.{without_record}, Found.{IsShortKey}, Placing.{file_end, record_count}, Releasing.{without_segment}, declared.segment.Segment.{Segment, TheVariants.{Record, Gap}}}
+use Rattle.rio_chain.proofs.{Freed.{map_without}, Freeing.{link_for, links_for}, Placed.{end-le}, PutChain.{map_end}}
+use Rattle.rio_state.specs.{Closing.{close_need, name_in}, KeyedRecords.{is_top_key}}
+use Rattle.rio_state.proofs.{LessNeeds.{end_less}, Members.{In, all_at, in_filter, filter_in}}
+use Rattle.rio_recover.specs.{Checks.{is_untitled}, Cleaning.{AreReleasable, AreRising, IsCleaned, without_segments}, Closable.{IsClosable, is_fit_key, is_placed, is_sized, kept_with, list_count, name_limit}}
+use Rattle.rio_chain.specs.Keyed.{AreKeyed, IsRecordKey}
+use Rattle.rio_recover.specs.{Keys.{keyed_by}, Recovered.{HasRoomBehind, is_left_over, kept_by, place_in, places_left}, Whole.{BeginsWithFile, HoldsDirectory, IsWhole}, declared.recovery.Recovered.{Recovered}}
+use Rattle.rio_recover.proofs.Closables.{HeadsRise, IsPlaced, heads_left, keyed_count, keyed_left, keyed_there, places_rise, places_there, rises}
+use Rattle.rio_recover.proofs.{KeySizes.{file_name, fit_key, sized_key}, Keyed.{info_head_keyed}, Owned.{IsListKey, is_kept, kept_count, list_found, owned_by, owner}, RecordKeys.{keyed_all}, WholeFile.{all_items}}
+
+-- ---- END
+
+end_one : (place : ℕ) (segments : List Segment) → file_end (without_segment place segments) ≤ file_end segments
+end_one place segments =
+    let links = map link_for segments in
+    let same = links_for segments in
+    let after : file_end (without_segment place segments) ≡ _ = ap (λ (ss : List Segment). file_end (without_segment place ss)) same ∙ ap file_end (sym (map_without place links)) ∙ map_end 100 (without_record place links) in
+    let before : file_end segments ≡ _ = ap file_end same ∙ map_end 100 links in
+    omega (arith, after, before, end_less place 100 links)
+
+end_all : (places : List ℕ) (segments : List Segment) → file_end (without_segments places segments) ≤ file_end segments
+end_all [] segments = omega arith
+end_all (p ∷ places) segments = omega (arith, end_all places (without_segment p segments), end_one p segments)
+
+-- ---- the first record
+
+-- it stays
+pub record FirstStays (n : ℕ) (segments : List Segment) : Type 0 where
+  pub rest : List Segment
+  pub is : segments ≡ Record 100 n ∷ rest
+
+first_stays : (n p : ℕ) (places : List ℕ) (segments : List Segment) → 100 ≤ p → AreRising p places → FirstStays n (without_segments places (Record 100 n ∷ segments))
+first_stays n p [] segments low rise = record { rest = segments; is = refl }
+first_stays n p (q ∷ places) segments low rise =
+    let other : (100 == q) ≡ false = ne_eqb 100 q (omega (arith, rise.0, low)) in
+    let rest = first_stays n q places (without_segment q segments) (omega (arith, rise.0, low)) rise.1 in
+    record { rest = rest.rest; is = rw other rest.is }
+
+module _ (r : Recovered) (w : IsWhole r) where
+  abbrev heads : List KeyHead
+  heads = w.heads
+
+  abbrev segments : List Segment
+  segments = r.chain.segments
+
+  abbrev info : ℕ
+  info = place_in r.info
+
+  abbrev left : List Segment
+  left = without_segments r.garbage segments
+
+  abbrev kept : List KeyHead
+  kept = filter (is_kept info) heads
+
+  placed : IsPlaced IsRecordKey
+  placed place n head key = key.0.1
+
+  rise : HeadsRise 100 heads
+  rise = rises IsRecordKey placed 100 segments heads w.shape.adjacent w.keyed
+
+  -- the first key
+  record First (hs : List KeyHead) : Type 0 where
+    first : KeyHead
+    others : List KeyHead
+    is : hs ≡ first ∷ others
+    at : first.seek ≡ 100
+    class : first.class ≡ codes "TFile"
+    rise : HeadsRise 101 others
+
+  begins : First heads
+  begins = by segments heads w.shape w.keyed w.first rise
+    where
+      by : (ss : List Segment) (hs : List KeyHead) → AreSegments ss → AreKeyed IsRecordKey ss hs → BeginsWithFile hs → HeadsRise 100 hs → First hs
+      by [] hs shape keyed class up = absurd shape.first
+      by (Gap p n ∷ ss) hs shape keyed class up = absurd shape.first
+      by (Record p n ∷ ss) [] shape keyed class up = absurd keyed
+      by (Record p n ∷ ss) (h ∷ hs) shape keyed class up =
+          let at : h.seek ≡ 100 = placed p n h keyed.0 ∙ shape.adjacent.0.there in
+          record { first = h; others = hs; is = refl; at = at; class = class; rise = subst (λ (q : ℕ). HeadsRise (q + 1) hs) at up.1 }
+
+  pub releasable : AreReleasable segments r.garbage
+  releasable = subst (AreReleasable segments) (sym w.garbage) (record {
+    there = places_there segments (is_left_over info) heads (keyed_there IsRecordKey placed segments heads w.keyed);
+    rising = rising;
+  })
+    where
+      behind : (h : KeyHead) (hs : List KeyHead) → h.seek ≡ 100 → HeadsRise 101 hs → AreRising 100 (places_left info (h ∷ hs))
+      behind h hs at up =
+          let other : is_left_over info h ≡ false = ap (λ (q : ℕ). is_left_over info (record h { seek = q })) at in
+          subst (λ (b : Bool). AreRising 100 (map (λ k. k.seek) (cond b (h ∷ filter (is_left_over info) hs) (filter (is_left_over info) hs)))) (sym other) (places_rise 101 100 (is_left_over info) hs (omega arith) up)
+
+      rising : AreRising 100 (places_left info heads)
+      rising = subst (λ (hs : List KeyHead). AreRising 100 (places_left info hs)) (sym begins.is) (behind begins.first begins.others begins.at begins.rise)
+
+  -- each record that is left has one of the keys that are kept
+  kept_keyed : AreKeyed IsRecordKey left kept
+  kept_keyed =
+      subst (λ (ps : List ℕ). AreKeyed IsRecordKey (without_segments ps segments) kept) (sym w.garbage)
+      (subst (AreKeyed IsRecordKey (without_segments (places_left info heads) segments)) (heads_left (is_left_over info) 100 heads rise)
+      (keyed_left IsRecordKey placed (places_left info heads) segments heads w.keyed))
+
+  there : list_all (is_placed left) kept ≡ true
+  there = keyed_there IsRecordKey placed left kept kept_keyed
+
+  -- ---- the items' keys
+
+  record IsGoodKey (h : KeyHead) : Type 0 where
+    small : h.version ≤ 1000
+    short : IsShortKey h
+
+  good : All IsGoodKey r.table.heads
+  good = all_items IsGoodKey heads r.table.heads w.items (keyed_all IsRecordKey IsGoodKey (λ place n h key. record { small = key.0.0; short = key.1 }) segments heads w.keyed)
+
+  untitled : (k : ℕ) (d : KeyHead) → k < length r.table.heads → is_untitled (get_or r.table.heads k d) ≡ true
+  untitled k d lt = AllPass-from_list_all is_untitled r.table.heads w.untitled k d lt
+
+  sized : list_all is_sized r.table.heads ≡ true
+  sized = list_all-from_AllPass is_sized r.table.heads (λ k d lt. sized_key (get_or r.table.heads k d) (good k d lt).small (untitled k d lt))
+
+  fit : list_all is_fit_key r.table.heads ≡ true
+  fit = list_all-from_AllPass is_fit_key r.table.heads (λ k d lt. fit_key (get_or r.table.heads k d) (good k d lt).small (good k d lt).short (untitled k d lt))
+
+  kept_if_top : (h : KeyHead) → is_top_key h ≡ true → is_kept info h ≡ true
+  kept_if_top h top = ap (λ (b : Bool). not (not ((h.seek == 100) || (h.seek == info) || b))) top ∙ by (h.seek == 100) (h.seek == info)
+    where
+      by : (a b : Bool) → not (not (a || b || true)) ≡ true
+      by true b = refl
+      by false true = refl
+      by false false = refl
+
+  items_there : list_all (is_placed left) (filter is_top_key heads) ≡ true
+  items_there = by (filter is_top_key heads) (λ h i. i)
+    where
+      by : (hs : List KeyHead) → ((h : KeyHead) → In h hs → In h (filter is_top_key heads)) → list_all (is_placed left) hs ≡ true
+      by [] within = refl
+      by (h ∷ hs) within =
+          let f = filter_in is_top_key h heads (within h (inl refl)) in
+          and_from _ _ (all_at (is_placed left) h kept there (in_filter (is_kept info) h heads f.0 (kept_if_top h f.1))) (by hs (λ k i. within k (inr i)))
+
+  table_there : list_all (is_placed left) r.table.heads ≡ true
+  table_there = list_all-from_AllPass (is_placed left) r.table.heads
+      (All-permutation (λ h. is_placed left h ≡ true) (filter is_top_key heads) r.table.heads w.items (AllPass-from_list_all (is_placed left) (filter is_top_key heads) items_there))
+
+  -- ---- the class list
+
+  list_key : IfSome r.info (IsListKey heads)
+  list_key = subst (λ (o : Option KeyHead). IfSome o (IsListKey heads)) (sym (w.info ∙ info_head_keyed heads)) (list_found heads)
+
+  list_there : IfSome r.info (λ h. is_placed left h ≡ true)
+  list_there = by r.info refl list_key
+    where
+      by : (o : Option KeyHead) → r.info ≡ o → IfSome o (IsListKey heads) → IfSome o (λ h. is_placed left h ≡ true)
+      by None same is = tt
+      by (Some l) same is =
+          let at : info ≡ l.seek = ap place_in same in
+          all_at (is_placed left) l kept there (in_filter (is_kept info) l heads is.among (kept_list l (sym at)))
+        where
+          kept_list : (l : KeyHead) → l.seek ≡ info → is_kept info l ≡ true
+          kept_list l at = ap (λ (b : Bool). not (not ((l.seek == 100) || b || is_top_key l))) (eq-eqb l.seek info at) ∙ either (l.seek == 100)
+            where
+              either : (a : Bool) → not (not (a || true || is_top_key l)) ≡ true
+              either true = refl
+              either false = refl
+
+  -- ---- how many
+
+  count : record_count left ≡ 1 + list_count r.info + length r.table.heads
+  count =
+      let c = subst (λ (hs : List KeyHead). length (filter (is_kept info) hs) ≡ 1 + list_count r.info + length (filter is_top_key hs)) (sym begins.is)
+      (kept_count begins.first begins.others r.info begins.at begins.class begins.rise (subst (λ (hs : List KeyHead). IfSome r.info (IsListKey hs)) begins.is list_key)) in
+      omega (arith, keyed_count IsRecordKey placed left kept kept_keyed, c, length_permutation (filter is_top_key heads) r.table.heads w.items)
+
+  above : (h : KeyHead) → In h heads → 0 < h.seek
+  above h i = by 100 heads (omega arith) rise i
+    where
+      by : (p : ℕ) (hs : List KeyHead) → 0 < p → HeadsRise p hs → In h hs → 0 < h.seek
+      by p [] some up i = absurd i
+      by p (k ∷ hs) some up (inl same) = omega (arith, ap (λ (x : KeyHead). x.seek) same, up.0, some)
+      by p (k ∷ hs) some up (inr i) = by (k.seek + 1) hs (omega arith) up.1 i
+
+  -- ---- the first record
+
+  named : length r.name ≤ name_limit
+  named =
+      let name : r.name ≡ begins.first.name = w.name ∙ ap (λ (hs : List KeyHead). name_in (keyed_by hs)) begins.is in
+      let all = keyed_all IsRecordKey IsGoodKey (λ place n h key. record { small = key.0.0; short = key.1 }) segments heads w.keyed in
+      let g = All-head IsGoodKey begins.first begins.others (subst (All IsGoodKey) begins.is all) in
+      subst (λ (xs : List ℕ). length xs ≤ name_limit) (sym name) (file_name begins.first g.small g.short begins.class)
+
+  pub directory : r.nbytes_name + 160 ≤ file_end left
+  directory = by segments w.shape w.directory
+    where
+      by : (ss : List Segment) → AreSegments ss → HoldsDirectory r.nbytes_name ss → r.nbytes_name + 160 ≤ file_end (without_segments r.garbage ss)
+      by [] shape holds = absurd holds
+      by (Gap p n ∷ ss) shape holds = absurd holds
+      by (Record p n ∷ ss) shape holds =
+          let f = subst (λ (q : ℕ). FirstStays n (without_segments r.garbage (Record q n ∷ ss))) (sym shape.adjacent.0.there) (first_stays n 100 r.garbage ss (omega arith) releasable.rising) in
+          let end : file_end (without_segments r.garbage (Record p n ∷ ss)) ≡ file_end (Record 100 n ∷ f.rest) = ap file_end f.is in
+          omega (arith, end, end-le (100 + n) f.rest, holds)
+
+  pub closable : HasRoomBehind r → IsClosable left r.table.heads r.info r.name
+  closable room = record {
+    sized = sized;
+    fit = fit;
+    placed = table_there;
+    listed = list_there;
+    owned = owned_by IsRecordKey placed r.info r.table.heads left kept kept_keyed (λ h i. owner heads r.info r.table.heads h w.items (above h (filter_in (is_kept info) h heads i).0) i);
+    short = named;
+    count = count;
+    room =
+        let need : close_need (kept_with r.name r.table.heads (record_count left)) ≡ close_need (kept_by r) = ap (λ (n : ℕ). close_need (kept_with r.name r.table.heads n)) count in
+        omega (arith, need, room.close, end_all r.garbage segments);
+  }
+
+-- ---- once it is cleaned
+
+pub is_cleaned : (before after : Recovered) → IsWhole before → HasRoomBehind before → after.chain.segments ≡ without_segments before.garbage before.chain.segments → after.chain.spent ≡ false
+    → after.registry ≡ before.registry → after.table ≡ before.table → after.info ≡ before.info → after.name ≡ before.name → after.nbytes_name ≡ before.nbytes_name → IsCleaned before after
+is_cleaned before after w room segments fresh registry table info name nbytes_name =
+    record {
+      closable = subst (λ (x : List Segment × List KeyHead × Option KeyHead × List ℕ). IsClosable x.0 x.1 x.2 x.3) (λ i. (sym segments i, (sym table i).heads, sym info i, sym name i)) (closable before w room);
+      fresh = fresh;
+      registry = registry;
+      table = table;
+      info = info;
+      name = name;
+      nbytes_name = nbytes_name;
+      directory = subst (λ (x : ℕ × List Segment). x.0 + 160 ≤ file_end x.1) (λ i. (sym nbytes_name i, sym segments i)) (directory before w);
+    }

@@ -1,0 +1,102 @@
+use Rattle.std.proofs.Common.{◌≡◌, ◌∙◌, refl, ap}
+use Rattle.rio_dir.specs.Table.{TableRoom}
+use Rattle.rio_session.proofs.OpenMade.{begins_made, holds_marked, marked_chain, records_of, size_low, stands_made, within_header}
+use Rattle.rio_session.proofs.OpenMadeMoments.{cleaned_unclosed, cleaning_time, marked_unclosed, marking_time}
+use Rattle.rio_session.proofs.made_file.begin.Goals as goal
+
+pub mark_open-requires : goal.mark_open-requires
+mark_open-requires g c = record { within = within_header (g.H.Host.view c.args.host.now) c.args.recovered c.requires.recovered }
+
+pub returns-in_err-mark_open-clause-any_moment : goal.returns-in_err-mark_open-clause-any_moment
+returns-in_err-mark_open-clause-any_moment g c file text m quiet holds told reads =
+    marking_time file c.args.recovered (c.requires.made file holds) (c.requires.recovered file holds) _ quiet holds text m told reads _ (c.mark_open.ensures.any_moment file holds)
+
+pub returns-in_err-mark_open-clause-unclosed : goal.returns-in_err-mark_open-clause-unclosed
+returns-in_err-mark_open-clause-unclosed g c file quiet holds =
+    marked_unclosed file c.args.recovered (c.requires.made file holds) (c.requires.recovered file holds) _ quiet holds (g.H.Host.view c.mark_open.new.host) (g.met.H.Host.lawful c.mark_open.new.host)
+    (c.mark_open.ensures.any_moment file holds)
+
+pub clean-requires-clause-holds : goal.clean-requires-clause-holds
+clean-requires-clause-holds g c =
+    holds_marked (g.H.Host.view c.args.host.now) (g.H.Host.view c.mark_open.new.host) c.args.recovered c.requires.made c.requires.recovered c.mark_open.ensures.writes.told c.in_ok-mark_open.ensures.marked
+
+pub returns-in_err-clean-clause-any_moment : goal.returns-in_err-clean-clause-any_moment
+returns-in_err-clean-clause-any_moment g c file text m quiet holds told reads =
+    let made = c.requires.made file holds in
+    let rec = c.requires.recovered file holds in
+    let marked = c.in_ok-mark_open.ensures.marked file holds in
+    cleaning_time file c.args.recovered made rec _ quiet holds marked.0 marked.2 text m told reads _ _ c.mark_open.ensures.writes.said (c.mark_open.ensures.any_moment file holds)
+    (c.clean.ensures.any_moment marked.0 rec.links m marked.1 (marked_chain file c.args.recovered made rec marked.0 marked.2) rec.garbage (records_of file c.args.recovered made rec m reads))
+
+pub returns-in_err-clean-clause-unclosed : goal.returns-in_err-clean-clause-unclosed
+returns-in_err-clean-clause-unclosed g c file quiet holds =
+    let made = c.requires.made file holds in
+    let rec = c.requires.recovered file holds in
+    let marked = c.in_ok-mark_open.ensures.marked file holds in
+    cleaned_unclosed file c.args.recovered made rec (g.H.Host.view c.args.host.now) quiet holds marked.0 marked.2 (g.H.Host.view c.mark_open.new.host) (g.H.Host.view c.clean.new.host) (g.met.H.Host.lawful c.clean.new.host)
+    c.in_ok-mark_open.ensures.quiet marked.1
+    (c.clean.ensures.any_moment marked.0 rec.links rec.m marked.1 (marked_chain file c.args.recovered made rec marked.0 marked.2) rec.garbage (records_of file c.args.recovered made rec rec.m rec.reads))
+
+pub returns-clause-any_moment : goal.returns-clause-any_moment
+returns-clause-any_moment g c file text m quiet holds told reads =
+    let made = c.requires.made file holds in
+    let rec = c.requires.recovered file holds in
+    let marked = c.in_ok-mark_open.ensures.marked file holds in
+    cleaning_time file c.args.recovered made rec _ quiet holds marked.0 marked.2 text m told reads _ _ c.mark_open.ensures.writes.said (c.mark_open.ensures.any_moment file holds)
+    (c.clean.ensures.any_moment marked.0 rec.links m marked.1 (marked_chain file c.args.recovered made rec marked.0 marked.2) rec.garbage (records_of file c.args.recovered made rec m reads))
+
+pub returns-clause-unclosed : goal.returns-clause-unclosed
+returns-clause-unclosed g c file quiet holds =
+    let made = c.requires.made file holds in
+    let rec = c.requires.recovered file holds in
+    let marked = c.in_ok-mark_open.ensures.marked file holds in
+    cleaned_unclosed file c.args.recovered made rec (g.H.Host.view c.args.host.now) quiet holds marked.0 marked.2 (g.H.Host.view c.mark_open.new.host) (g.H.Host.view c.clean.new.host) (g.met.H.Host.lawful c.clean.new.host)
+    c.in_ok-mark_open.ensures.quiet marked.1
+    (c.clean.ensures.any_moment marked.0 rec.links rec.m marked.1 (marked_chain file c.args.recovered made rec marked.0 marked.2) rec.garbage (records_of file c.args.recovered made rec rec.m rec.reads))
+
+pub heads_length-heads_bytes-requires : goal.heads_length-heads_bytes-requires
+heads_length-heads_bytes-requires g c =
+    let after = c.clean.new.recovered in
+    size_low after.chain.segments after.table.heads after.info after.name c.in_ok-clean.ensures.kept.closable
+
+pub returns-clause-stands : goal.returns-clause-stands
+returns-clause-stands g c file text m holds told reads =
+    let made = c.requires.made file holds in
+    let rec = c.requires.recovered file holds in
+    let marked = c.in_ok-mark_open.ensures.marked file holds in
+    let clean = c.in_ok-clean.ensures.cleaned marked.0 rec.links marked.1 (marked_chain file c.args.recovered made rec marked.0 marked.2) rec.garbage in
+    let kept = c.in_ok-clean.ensures.kept in
+    stands_made file c.args.recovered made rec marked.0 marked.2 (g.H.Host.view c.clean.new.host) c.clean.new.recovered clean _
+    (record {
+      segments = refl;
+      classes = kept.registry;
+      heads = ap (λ (t : TableRoom). t.heads) kept.table;
+      info = kept.info;
+      name = kept.name;
+      nbytes_name = kept.nbytes_name;
+      opened = c.requires.opened file holds;
+      costs = refl;
+      closable = kept.closable;
+    })
+    m reads text (c.clean.ensures.writes.said ∙ c.mark_open.ensures.writes.said ∙ told)
+
+pub returns-clause-begins : goal.returns-clause-begins
+returns-clause-begins g c name file holds =
+    let made = c.requires.made file holds in
+    let rec = c.requires.recovered file holds in
+    let marked = c.in_ok-mark_open.ensures.marked file holds in
+    let clean = c.in_ok-clean.ensures.cleaned marked.0 rec.links marked.1 (marked_chain file c.args.recovered made rec marked.0 marked.2) rec.garbage in
+    let kept = c.in_ok-clean.ensures.kept in
+    begins_made file c.args.recovered made rec marked.0 marked.2 (g.H.Host.view c.clean.new.host) c.clean.new.recovered clean _
+    (record {
+      segments = refl;
+      classes = kept.registry;
+      heads = ap (λ (t : TableRoom). t.heads) kept.table;
+      info = kept.info;
+      name = kept.name;
+      nbytes_name = kept.nbytes_name;
+      opened = c.requires.opened file holds;
+      costs = refl;
+      closable = kept.closable;
+    })
+    name c.args.datime

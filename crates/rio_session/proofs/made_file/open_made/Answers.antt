@@ -1,0 +1,60 @@
+use Rattle.std.proofs.{Common.{◌≡◌, sym, ◌∙◌}, lemmas.Result.{err_from_is_err_and}}
+use Rattle.rio_host.proofs.ReadsLaws.{reads_join, reads_one}
+use Rattle.rio_session.proofs.OpenAnswers.{reads_quiet, reads_unclosed, spares_none, tells_why}
+use Rattle.rio_session.proofs.OpenMoments.{then_time}
+use Rattle.rio_session.proofs.made_file.open_made.Goals as goal
+
+pub returns-in_err-opened-clause-unclosed : goal.returns-in_err-opened-clause-unclosed
+returns-in_err-opened-clause-unclosed g c file quiet holds =
+    reads_unclosed file (g.H.Host.view c.args.host.now) (g.H.Host.view c.length.new.self) (g.met.H.Host.lawful c.length.new.self) quiet holds
+    (reads_one c.length.ensures.disk c.length.ensures.holds c.length.ensures.reads)
+
+pub returns-in_err-recovered-clause-unclosed : goal.returns-in_err-recovered-clause-unclosed
+returns-in_err-recovered-clause-unclosed g c file quiet holds =
+    let law = g.met.H.Host.lawful in
+    let calls = reads_join (law c.length.new.self) (reads_one c.length.ensures.disk c.length.ensures.holds c.length.ensures.reads) c.recover.ensures.calls in
+    reads_unclosed file (g.H.Host.view c.args.host.now) (g.H.Host.view c.recover.new.host) (law c.recover.new.host) quiet holds calls
+
+pub returns-in_err-recovered-clause-why_not : goal.returns-in_err-recovered-clause-why_not
+returns-in_err-recovered-clause-why_not g c file holds =
+    let p = err_from_is_err_and c.from_residual-in_err-recovered.result c.from_residual-in_err-recovered.ensures.1 in
+    tells_why file _ p.0 c.in_err-recovered.field-0.0 p.1 p.2 (c.in_err-recovered.ensures.answer file (c.length.ensures.holds ∙ holds))
+
+pub begin-requires-clause-recovered : goal.begin-requires-clause-recovered
+begin-requires-clause-recovered g c file holds = (c.in_ok-recovered.ensures.answer file (sym c.recover.ensures.calls.holds ∙ holds)).0
+
+pub returns-in_err-begin-clause-any_moment : goal.returns-in_err-begin-clause-any_moment
+returns-in_err-begin-clause-any_moment g c file text m quiet holds said reads =
+    let law = g.met.H.Host.lawful in
+    let calls = reads_join (law c.length.new.self) (reads_one c.length.ensures.disk c.length.ensures.holds c.length.ensures.reads) c.recover.ensures.calls in
+    then_time file text m (g.H.Host.view c.args.host.now) (law c.args.host.now) quiet holds said reads _ _ calls
+    (c.begin.ensures.any_moment file text m (reads_quiet (g.H.Host.view c.args.host.now) (g.H.Host.view c.recover.new.host) (law c.recover.new.host) quiet calls) (calls.holds ∙ holds) (calls.said ∙ said) reads)
+
+pub returns-in_err-begin-clause-unclosed : goal.returns-in_err-begin-clause-unclosed
+returns-in_err-begin-clause-unclosed g c file quiet holds =
+    let law = g.met.H.Host.lawful in
+    let calls = reads_join (law c.length.new.self) (reads_one c.length.ensures.disk c.length.ensures.holds c.length.ensures.reads) c.recover.ensures.calls in
+    c.begin.ensures.unclosed file (reads_quiet (g.H.Host.view c.args.host.now) (g.H.Host.view c.recover.new.host) (law c.recover.new.host) quiet calls) (calls.holds ∙ holds)
+
+pub returns-in_err-begin-clause-spared : goal.returns-in_err-begin-clause-spared
+returns-in_err-begin-clause-spared g c file holds =
+    let is = c.in_ok-recovered.ensures.answer file (c.length.ensures.holds ∙ holds) in
+    spares_none file _ _ is.1 is.2
+
+pub returns-clause-any_moment : goal.returns-clause-any_moment
+returns-clause-any_moment g c file text m quiet holds said reads =
+    let law = g.met.H.Host.lawful in
+    let calls = reads_join (law c.length.new.self) (reads_one c.length.ensures.disk c.length.ensures.holds c.length.ensures.reads) c.recover.ensures.calls in
+    then_time file text m (g.H.Host.view c.args.host.now) (law c.args.host.now) quiet holds said reads _ _ calls
+    (c.begin.ensures.any_moment file text m (reads_quiet (g.H.Host.view c.args.host.now) (g.H.Host.view c.recover.new.host) (law c.recover.new.host) quiet calls) (calls.holds ∙ holds) (calls.said ∙ said) reads)
+
+pub returns-clause-unclosed : goal.returns-clause-unclosed
+returns-clause-unclosed g c file quiet holds =
+    let law = g.met.H.Host.lawful in
+    let calls = reads_join (law c.length.new.self) (reads_one c.length.ensures.disk c.length.ensures.holds c.length.ensures.reads) c.recover.ensures.calls in
+    c.begin.ensures.unclosed file (reads_quiet (g.H.Host.view c.args.host.now) (g.H.Host.view c.recover.new.host) (law c.recover.new.host) quiet calls) (calls.holds ∙ holds)
+
+pub returns-clause-spared : goal.returns-clause-spared
+returns-clause-spared g c file holds =
+    let is = c.in_ok-recovered.ensures.answer file (c.length.ensures.holds ∙ holds) in
+    spares_none file _ _ is.1 is.2

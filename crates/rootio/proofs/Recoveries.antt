@@ -1,0 +1,225 @@
+-- A recovery: an open file is closed, and then its keys are said.
+use Rattle.std.proofs.{Common.{◌≡◌, ⊎_elim, ℕ, ◌<◌, List, [], ◌++◌, length, take, Option, Some, Result, Ok, Err, subst, sym, refl, ap, ◌∙◌, arith}, lemmas.{List.{append-nil}, Option.{same_Some, slice_get_within}}}
+use Rattle.rio_host.specs.{Host.{Any, Becomes, Elapses, IsLawful, IsQuiet, Leaves, Longer, LongerByPart, Rose, Speaking, View}, OnlyReads.{Grown, OnlyReads}}
+use Rattle.rio_host.proofs.{Images.{becomes_as, becomes_some}, Moments.{elapses_as, elapses_join, leaves_back, says_quiet}, PiecesLaws.{grown_join}}
+use Rattle.rio_chain.specs.{Segments.{IsChain, Link}, Stops.{KeepsFront}}
+use Rattle.rio_chain.proofs.OneChain.{chain_one}
+use Rattle.rio_dir.specs.Listing.{key_lines}
+use Rattle.rio_machine.specs.{State.{State}, declared.command.Command.{Command}}
+use Rattle.rio_step.specs.Runs.{closed_of, said_of, saved_of, state_after, states_of_run}
+use Rattle.rio_state.specs.{DirectoryKeys.{AreKeysOf}, KeyedRecords.{keyed_records}, Left.{IsLeftAs}, Reads.{ReadsAsState, ReadsClosed}}
+use Rattle.std.specs.List.{slice_get}
+use Rattle.rio_effect.specs.FileRuns.{file_run, marks_in}
+use Rattle.rio_session.specs.{Causes.{IsCloseCause, IsSessionCause, NoCountRose}, Closes.{ClosesFile, IsWellClosed}, Opening.{IsBegun}}
+use Rattle.rio_session.specs.Session.{ClosesAs, IsReady, SessionState, StandsFor}
+use Rattle.rio_session.specs.declared.fault.SessionFault.{SessionFault, TheVariants.{HostFault, SayFault, NoMemory}}
+use Rattle.rio_session.proofs.{CloseStates.{holds_closed_file}, Opened.{keeps_own, reads_open}, Spoken.{front_part, grows_none, grows_whole}}
+use Rattle.rootio.specs.{Headline.{AllFindRoom, IsStopOf, SaidFindRoom, ScriptRun, all_replies, all_texts, end_state}, Script.{ClosesAndSays, listing_run}}
+use Rattle.rootio.specs.{Target.{TargetFile}, Writing.{Beginning, BeginsRun, StandsClosed, run_of_work}, declared.words.Work.TheVariants.{Recover}}
+use Rattle.rootio.proofs.{OrderedKeys.{keys_one}, RunStops.{stop_closing}, Unclosed.{close_open, stands_open}, Untouched.{becomes_same, elapses_none}}
+
+abbrev some_text : List ℕ → Option (List ℕ)
+some_text l = Some l
+
+-- ---- the run
+
+module _ (s : SessionState) (lines : List ℕ) (links : List Link) (m : State) where
+  abbrev run : ScriptRun
+  run = listing_run s lines links m
+
+  -- it has no replies, so it says the lines alone
+  texts_are : all_texts run ≡ lines
+  unfolding said_of
+  texts_are = refl
+
+  replies_none : (text : List ℕ) → text ++ all_replies run ≡ text
+  unfolding said_of
+  replies_none text = append-nil text
+
+  end_is : end_state run ≡ closed_of m
+  unfolding state_after
+  end_is = refl
+
+  records_are : file_run s.datime links m [] ≡ Some (record { marks = []; links = links })
+  unfolding file_run
+  records_are = refl
+
+  -- while it is closed
+  stop_within_close : (file text image said : List ℕ) → ClosesAs m text image said → IsStopOf run file text image said
+  unfolding state_after
+  stop_within_close file text image said closes =
+      stop_closing run file text image said (subst (λ (l : List ℕ). ClosesAs m l image said) (sym (replies_none text)) closes)
+
+  -- while the lines are said
+  stop_behind_close : (file text image before said : List ℕ) (k : ℕ) → ClosesAs m text image before → said ≡ before ++ take k lines → IsStopOf run file text image said
+  unfolding said_of
+  stop_behind_close file text image before said k closes is =
+      let stop = stop_within_close file text image before closes in
+      record {
+        j = 0;
+        k = stop.k;
+        replies = record {
+          bytes = k;
+          text = is ∙ ap (λ (l : List ℕ). l ++ take k lines) closes.text_is;
+          commands = omega arith;
+          whole = omega arith;
+          part = λ lt. absurd (omega (arith, lt));
+        };
+        prefix = stop.prefix;
+        holds = omega arith;
+        next = λ lt. absurd (omega (arith, lt));
+      }
+
+  -- no reply is want of room
+  finds_room : AllFindRoom run
+  finds_room k c there = absurd (let within : k < length {A = Command} [] = slice_get_within [] k c there in omega (arith, within))
+
+first_state : (m : State) → slice_get (states_of_run m [] []) 0 ≡ Some m
+unfolding states_of_run
+first_state m = refl
+
+-- the state of an open file is one of its close
+closes_none : (m : State) (text : List ℕ) (v : View) (s : SessionState) → IsReady v s → IsLawful v → (stands : StandsFor v s m text) → (image said : List ℕ) → Leaves v image said → ClosesAs m text image said
+closes_none m text v s ready law stands image said left =
+    let h = stands.state in
+    let same : image ≡ stands.file = ready.quiet image said stands.file left stands.holds in
+    record {
+      k = 0;
+      state = m;
+      state_is = first_state m;
+      left = subst (λ (l : List ℕ). IsLeftAs (saved_of m) l) (sym same) (reads_open stands.file s.nbytes_name h.links m h.head h.chain.chain h.records).left;
+      text_is = law.text image said text left stands.said;
+    }
+
+-- ---- nothing was closed
+
+-- there was no memory for the lines
+pub no_lines : (v : View) (s : SessionState) (lines : List ℕ) → IsReady v s → ClosesAndSays v v s lines (Err NoMemory)
+no_lines v s lines ready = record {
+  stops = λ file text m stands. elapses_none v (IsStopOf (listing_run s lines stands.state.links m) file text);
+  done = tt;
+  unclosed = λ m text stands. stands_open v v s m text ready stands;
+  told = becomes_same v.holds;
+  said = grows_none v.said v.said refl;
+  cause = (refl, refl);
+}
+
+module _ (v1 v2 : View) (s : SessionState) (lines : List ℕ) (ready : IsReady v1 s) (law1 : IsLawful v1) (law2 : IsLawful v2)
+    (time : (m : State) (text : List ℕ) → StandsFor v1 s m text → Elapses v1 v2 (ClosesAs m text)) (told : Becomes Any v1.holds v2.holds) (same : v2.said ≡ v1.said) where
+  closing : (file text : List ℕ) (m : State) (stands : StandsFor v1 s m text) → Elapses v1 v2 (IsStopOf (listing_run s lines stands.state.links m) file text)
+  closing file text m stands =
+      elapses_as (IsStopOf (listing_run s lines stands.state.links m) file text) (ClosesAs m text) (time m text stands)
+      (λ image said closes. stop_within_close s lines stands.state.links m file text image said closes)
+
+  close_cause : (r : Result (Unit {0}) SessionFault) → IsCloseCause v1 v2 r → IsSessionCause v1 v2 r
+  close_cause (Ok x) cause = cause
+  close_cause (Err HostFault) cause = cause
+  close_cause (Err SayFault) cause = absurd cause
+  close_cause (Err NoMemory) cause = cause
+
+  -- the close failed
+  pub not_closed : (e : SessionFault) → (◌≡◌ {A = Result (Unit {0}) SessionFault} (Err e) (Err NoMemory) → OnlyReads v1 v2) → IsCloseCause {X = Unit {0}} v1 v2 (Err e) → ClosesAndSays v1 v2 s lines (Err e)
+  not_closed e only cause = record {
+    stops = closing;
+    done = tt;
+    unclosed = λ m text stands.
+        let r = listing_run s lines stands.state.links m in
+        close_open v1 v2 s m text ready stands law2 StandsClosed r text (Err e)
+        (same ∙ stands.said ∙ ap some_text (sym (replies_none s lines stands.state.links m text))) only cause;
+    told = told;
+    said = grows_none v1.said v2.said same;
+    cause = close_cause (Err e) cause;
+  }
+
+  module _ (v3 : View) (law3 : IsLawful v3) (quiet : IsQuiet v2)
+      (closed : (m : State) (text : List ℕ) → StandsFor v1 s m text → (image said : List ℕ) → Leaves v2 image said → ReadsAsState image (closed_of m) × ReadsClosed image (closed_of m))
+      (written : (m : State) (text : List ℕ) → StandsFor v1 s m text → ClosesFile v1 v2 s)
+      (none : NoCountRose v1 v2) (speaks : Elapses v2 v3 (Speaking lines v2)) (holds : v3.holds ≡ v2.holds) (disk : v3.disk_faults ≡ v2.disk_faults) where
+    -- what is left is what the close left
+    left_closed : (image said : List ℕ) → Leaves v3 image said → (before : List ℕ) × Leaves v2 image before
+    left_closed image said left = ⊎_elim (λ was. (said, was)) (λ spoken. (spoken.0, spoken.1)) (leaves_back law3 speaks image said left)
+
+    saying : (file text : List ℕ) (m : State) (stands : StandsFor v1 s m text) → Elapses v1 v3 (IsStopOf (listing_run s lines stands.state.links m) file text)
+    saying file text m stands =
+        elapses_join (Speaking lines v2) (closing file text m stands) speaks
+        (λ image said spoken.
+        let closes : ClosesAs m text image spoken.0 =
+        ⊎_elim (λ was. closes_none m text v1 s ready law1 stands image spoken.0 was) (λ now. now) (leaves_back law2 (time m text stands) image spoken.0 spoken.1) in
+        stop_behind_close s lines stands.state.links m file text image spoken.0 said spoken.2.0 closes spoken.2.1)
+
+    ends_closed : (m : State) (text : List ℕ) (stands : StandsFor v1 s m text) → (image said : List ℕ) → Leaves v3 image said
+        → let end = end_state (listing_run s lines stands.state.links m) in ReadsAsState image end × ReadsClosed image end
+    ends_closed m text stands image said left =
+        let was = left_closed image said left in
+        subst (λ (x : State). ReadsAsState image x × ReadsClosed image x) (sym (end_is s lines stands.state.links m)) (closed m text stands image was.0 was.1)
+
+    well_closed : (m : State) (text : List ℕ) (stands : StandsFor v1 s m text) → (image said : List ℕ) → Leaves v3 image said → IsWellClosed s.name s.datime stands.file stands.state.links image
+    well_closed m text stands image said left =
+        let was = left_closed image said left in
+        let closes : ClosesFile v1 v2 s = written m text stands in
+        let image_is : image ≡ closes.written.file = quiet image was.0 closes.written.file was.1 closes.written.holds in
+        let file : stands.file ≡ closes.file = same_Some stands.file closes.file (sym stands.holds ∙ closes.holds) in
+        let links : closes.links ≡ stands.state.links =
+        chain_one closes.file closes.links stands.state.links closes.chain.chain (subst (IsChain stands.state.links) file stands.state.chain.chain) in
+        let last = holds_closed_file v1 v2 s stands.file image closes (subst (KeepsFront stands.file) file (keeps_own stands.file)) (closes.written.holds ∙ ap some_text (sym image_is)) in
+        subst (λ (x : List Link). IsWellClosed s.name s.datime stands.file x image) links last
+
+    told_all : Becomes Any v1.holds v3.holds
+    told_all = subst (Becomes Any v1.holds) (sym holds) told
+
+    -- the lines were said
+    pub said_all : Becomes (Longer lines) v2.said v3.said → v3.say_faults ≡ v2.say_faults → ClosesAndSays v1 v3 s lines (Ok tt)
+    said_all longer say = record {
+      stops = saying;
+      done = λ m text stands. record {
+        quiet = says_quiet lines law3 quiet speaks holds;
+        run = record { marks = []; links = stands.state.links };
+        run_is = records_are s lines stands.state.links m;
+        said =
+            let grown = becomes_some (Longer lines) v2.said v3.said text (same ∙ stands.said) longer in
+            grown.1 ∙ ap some_text (grown.2 ∙ ap (λ (l : List ℕ). text ++ l) (sym (texts_are s lines stands.state.links m)));
+        left = ends_closed m text stands;
+        written = well_closed m text stands;
+        room = λ costs room. finds_room s lines stands.state.links m;
+      };
+      unclosed = λ m text stands. tt;
+      told = told_all;
+      said = grown_join v1.said v2.said v3.said (grows_none v1.said v2.said same) (grows_whole lines v2.said v3.said longer);
+      cause = (disk ∙ none.0, say ∙ none.1);
+    }
+
+    -- they could not be said
+    pub said_part : Becomes (LongerByPart lines) v2.said v3.said → Rose v2.say_faults v3.say_faults → ClosesAndSays v1 v3 s lines (Err SayFault)
+    said_part part rose = record {
+      stops = saying;
+      done = tt;
+      unclosed = λ m text stands. record {
+        text =
+            front_part v2 v3 (text ++ all_replies (listing_run s lines stands.state.links m)) lines lines
+            (same ∙ stands.said ∙ ap some_text (sym (replies_none s lines stands.state.links m text))) refl part;
+        left = ends_closed m text stands;
+      };
+      told = told_all;
+      said =
+          grown_join v1.said v2.said v3.said (grows_none v1.said v2.said same)
+          (becomes_as (LongerByPart lines) Grown v2.said v3.said (λ x y grown. (take grown.0 lines, grown.1)) part);
+      cause = (disk ∙ none.0, rw (← none.1) rose);
+    }
+
+-- ---- the run of the words
+
+-- the run of no command from a session on, with the lines of its keys
+abbrev pub listing_there : SessionState → List Link → State → ScriptRun
+listing_there s links m = listing_run s (key_lines s.heads) links m
+
+pub listing_finds_room : (s : SessionState) (links : List Link) (m : State) (text : List ℕ) (v : View) → SaidFindRoom (listing_there s links m) text v
+listing_finds_room s links m text v said told k c there long = finds_room s (key_lines s.heads) links m k c there
+
+-- a session that began with the run's records does the run of the words
+pub its_listing : (target : TargetFile) (v0 v1 : View) (s : SessionState) → IsBegun target.datime s
+    → (b : Beginning) → BeginsRun (Recover target) b v0 → b.input ≡ [] → (st : StandsFor v1 s b.state b.text) → st.state.links ≡ b.links
+    → listing_there s st.state.links b.state ≡ run_of_work (Recover target) b
+its_listing target v0 v1 s begun b begins is st links =
+    let heads : s.heads ≡ begins.listing.0 = keys_one (keyed_records b.links) s.heads begins.listing.0 (subst (λ (l : List Link). AreKeysOf (keyed_records l) s.heads) links st.state.keys) begins.listing.1 in
+    let lines : key_lines s.heads ≡ b.listing = ap key_lines heads ∙ sym begins.listing.2 in
+    λ i. record { start = b.state; commands = []; marks = marks_in (file_run (begun.datime_is i) (links i) b.state []); listing = lines i }

@@ -1,0 +1,16 @@
+//! Laws of runs.
+ghost use Rattle.rootio.specs.Beginnings.{BeginningsExist};
+ghost use Rattle.rootio.specs.InARow.{CallsInARow};
+
+/// Each file that isn't made yet or reads as a state has records with which a run begins, and a listing
+/// of their keys. So what is said of a run that begins with such records is said of each of these files.
+pub fn beginnings_exist()
+    ensures { BeginningsExist }
+{}
+
+/// After any list of runs and recoveries on one file, each cut off at some moment or ended, and each begun
+/// on an image that the one before it left, the file decodes to the state to which their prefixes lead, one
+/// after the other.
+pub fn calls_in_a_row()
+    ensures { CallsInARow }
+{}
