@@ -62,10 +62,15 @@ with open(sys.argv[1], "r+b") as file:
     file.write(data)
 P
 "$program" recover "$folder/gaps.root" >"$folder/said"
-before=$(duration "$folder/gaps.root" "$folder/none")
-puts p 1000 200 >"$folder/script"
-cp "$folder/gaps.root" "$folder/more.root"
-end=$(duration "$folder/more.root" "$folder/script")
-puts q 1000 2 >"$folder/script"
-taken=$(duration "$folder/gaps.root" "$folder/script")
-echo "$gaps gaps: a put at the end $(((end - before) / 1000000)) us, one into a gap $(((taken - before) / 1000000)) us"
+# the microseconds of a put, by runs of few and of many puts of a text of so many bytes
+per_put() {
+  local few many
+  puts p 100 "$1" >"$folder/script"
+  cp "$folder/gaps.root" "$folder/more.root"
+  few=$(duration "$folder/more.root" "$folder/script")
+  puts p 20100 "$1" >"$folder/script"
+  cp "$folder/gaps.root" "$folder/more.root"
+  many=$(duration "$folder/more.root" "$folder/script")
+  echo $(((many - few) / 20000000))
+}
+echo "$gaps gaps: a put at the end $(per_put 200) us, one into a gap $(per_put 2) us"
