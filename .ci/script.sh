@@ -78,6 +78,22 @@ check "ls of an open file" $? 2 "" "rootio: bad file at 12: NotClosed"
 "$program" recover a.root </dev/null >said 2>told
 check "recover" $? 0 "$keys" ""
 cmp -s a.root kept.root || fail "recover: the file isn't the one that was closed"
+
+# An object is deleted, and another of its length goes where it was: the file isn't longer.
+cp a.root less.root
+printf '%s\n' "delete s;2" "delete s;2" "get s" "put s $value \"hu\"}" "ls" >less
+"$program" run less.root <less >said 2>told
+check "a delete" $? 0 'ok delete s;2
+no 4 NoSuchCycle
+ok get s;1 TObjString#1{TObject#1{fUniqueID: 0, fBits: 0}, fString: "hi"}
+ok put s;2
+ok ls 3
+s;2 TObjString
+s;1 TObjString
+t;1 TObjString' ""
+[ "$(wc -c <less.root)" -eq "$(wc -c <a.root)" ] || fail "a delete: the file is longer"
+"$program" ls less.root </dev/null >said 2>told
+check "ls after a delete" $? 0 "$keys" ""
 "$program" recover a.root 0x1 </dev/null >said 2>told
 check "recover with no datime" $? 1 "" "rootio: usage: rootio VERB FILE ARG..."
 

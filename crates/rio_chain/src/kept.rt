@@ -90,6 +90,7 @@ impl Chain {
     pub fn reserve(&mut self, n: u64) -> Result<(), NoMemory>
         ensures ok { OnOk result (self.new ≡ record self.old { spare = max self.old.spare n }) }
         ensures err { OnErr result ((self.new ≡ self.old) × (self.old.spare < n)) }
+        ensures shape { AreSegments self.old.segments }
     {
         if self.spare as u64 >= n {
             return Ok(());

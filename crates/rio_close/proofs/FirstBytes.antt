@@ -5,7 +5,9 @@ use Rattle.rio_key.specs.declared.head.KeyHead.{KeyHead}
 use Rattle.rio_chain.proofs.Keys.{spelled_one}
 use Rattle.rio_chain.specs.Segments.{IsFirst, IsRecord, Link, RecordAt}
 use Rattle.rio_machine.specs.State.{State}
-use Rattle.rio_state.specs.{Contents.{tree_of}, KeyedRecords.{KeyedRecord, info_key, is_internal, keyed_records, top_keys}}
+use Rattle.rio_state.specs.{Contents.{state_classes}, KeyedRecords.{KeyedRecord, info_key, is_internal, keyed_records, top_keys, tree_records}}
+use Rattle.rio_state.proofs.Unreferred.{tree_kept}
+use Rattle.std.specs.{Prelude.{is_some, option_and_then}, List.{find, list_all}, Str.{bytes_eq}}
 use Rattle.rio_state.specs.{Reads.{AreRecordsOf, StandsForState}, OneMore.{keyed_bytes}}
 use Rattle.rio_state.proofs.{Insertion.{here}, MoreRecords.{keyed_link, own_key}, Stays.{info_same, not_info, not_top, tops_same}}
 
@@ -39,7 +41,6 @@ module _ (head : KeyHead) (internal : is_internal head ≡ true) (a b : List ℕ
 
   -- no tree is read, whatever the records are
   among_others : (info : Option KeyedRecord) (tops : List KeyedRecord) (m : State) → StandsForState one info tops m → StandsForState two info tops m
-  unfolding tree_of
   among_others info tops m s = record {
     listed = s.listed;
     classes = s.classes;
@@ -48,8 +49,9 @@ module _ (head : KeyHead) (internal : is_internal head ≡ true) (a b : List ℕ
     apart = s.apart;
     readable = s.readable;
     objects = s.objects;
-    tree_readable = s.tree_readable;
-    trees = s.trees;
+    tree_readable = (λ i. list_all (λ t. is_some (tree_kept (state_classes info) (state_classes info) two one (tree_records tops) t i)) (tree_records tops)) ∙ s.tree_readable;
+    trees = λ name. s.trees name
+        ∙ (λ i. option_and_then (λ t. tree_kept (state_classes info) (state_classes info) one two (tree_records tops) t i) (find (λ t. bytes_eq t.head.name name) (tree_records tops)));
   }
 
   pub records_change : (m : State) → AreRecordsOf one m → AreRecordsOf two m

@@ -7,7 +7,7 @@ use Rattle.rio_key.specs.declared.head.KeyHead.{KeyHead}
 use Rattle.rio_dir.specs.Table.{AreBehind, AreOrdered, comes_before}
 use Rattle.rio_dir.proofs.TableOrder.{before_itself}
 use Rattle.rio_machine.specs.State.{NameAndCycle, State}
-use Rattle.rio_state.specs.{Contents.{object_in, state_classes, tree_of}, DirectoryKeys.{AreKeysOf}}
+use Rattle.rio_state.specs.{Contents.{no_tree_is_read, object_in, state_classes, tree_of}, DirectoryKeys.{AreKeysOf}}
 use Rattle.rio_state.specs.KeyedRecords.{KeyedRecord, has_item, info_key, is_mixed_name, is_top_key, is_tree_key, is_tree_record, item_of_key, object_records, top_keys, tree_records}
 use Rattle.rio_state.specs.Reads.{AreRecordsOf, StandsForState, are_distinct, is_named_key}
 use Rattle.rio_state.proofs.{KeyRecords.{ObjectOf, TreeOf, distinct_filter, distinct_found, item_is, key_record, record_key}, Collected.{own_item}}
@@ -22,13 +22,13 @@ all_from p (x ∷ xs) all = and_from (p x) (list_all p xs) (all x (inl refl)) (a
 -- ---- no trees are read
 
 no_tree : (classes : List ClassDef) (records headers : List KeyedRecord) (r : KeyedRecord) (rs : List KeyedRecord) → list_all (λ s. is_some (tree_of classes records headers s)) rs ≡ true → In r rs → ⊥
-unfolding tree_of
-no_tree classes records headers r rs all i = let e : false ≡ true = all_at (λ s. is_some (tree_of classes records headers s)) r rs all i in absurd cc
+no_tree classes records headers r rs all i =
+    let e : false ≡ true = ap is_some (sym (no_tree_is_read classes records headers r)) ∙ all_at (λ s. is_some (tree_of classes records headers s)) r rs all i in
+    absurd cc
 
 no_tree_under : (classes : List ClassDef) (records headers : List KeyedRecord) (o : Option KeyedRecord) → option_and_then (tree_of classes records headers) o ≡ None
-unfolding tree_of
 no_tree_under classes records headers None = refl
-no_tree_under classes records headers (Some r) = refl
+no_tree_under classes records headers (Some r) = no_tree_is_read classes records headers r
 
 -- ---- heads in order
 

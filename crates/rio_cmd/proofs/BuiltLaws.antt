@@ -37,6 +37,12 @@ put_of_language : (s : At) → comes_next (codes "put") s ≡ true → command_a
 unfolding command_at
 put_of_language s comes = rw (other_word (codes "put") (codes "class") s refl comes, comes) refl
 
+delete_of_language : (s : At) → comes_next (codes "delete") s ≡ true → command_at s ≡ ended_at (delete_command_at (behind s))
+unfolding command_at
+delete_of_language s comes =
+    let no : (other : List ℕ) → bytes_eq (codes "delete") other ≡ false → comes_next other s ≡ false = λ other apart. other_word (codes "delete") other s apart comes in
+    rw (no (codes "class") refl, no (codes "put") refl, comes) refl
+
 get_of_language : (s : At) → comes_next (codes "get") s ≡ true → command_at s ≡ ended_at (get_command_at (behind s))
 unfolding command_at
 get_of_language s comes =
@@ -103,9 +109,11 @@ read_of_language s =
     let next = behind s in
     let ls = if comes_next (codes "ls") s then ended_at (Ok (Ls, next)) else bad_at s in
     let get = if comes_next (codes "get") s then ended_at (built_get_at next) else ls in
-    one_of_language (comes_next (codes "put") s) (ended_at (put_command_at next)) get (command_at s) (λ comes. the_same _ _ (put_of_language s comes))
+    let delete = if comes_next (codes "delete") s then ended_at (delete_command_at next) else get in
+    one_of_language (comes_next (codes "put") s) (ended_at (put_command_at next)) delete (command_at s) (λ comes. the_same _ _ (put_of_language s comes))
+    (λ _. one_of_language (comes_next (codes "delete") s) (ended_at (delete_command_at next)) get (command_at s) (λ comes. the_same _ _ (delete_of_language s comes))
     (λ _. one_of_language (comes_next (codes "get") s) (ended_at (built_get_at next)) ls (command_at s) (λ comes. rw (get_of_language s comes) (built_get_of_language next))
-    (λ _. one_of_language (comes_next (codes "ls") s) (ended_at (Ok (Ls, next))) (bad_at s) (command_at s) (λ comes. the_same _ _ (ls_of_language s comes)) (λ _. tt)))
+    (λ _. one_of_language (comes_next (codes "ls") s) (ended_at (Ok (Ls, next))) (bad_at s) (command_at s) (λ comes. the_same _ _ (ls_of_language s comes)) (λ _. tt))))
 
 -- ---- what the whole language reads is read, if its verb is built
 
@@ -132,13 +140,6 @@ ended_given : (P : Command → Type 0) (r : Read Command) → Given P r → Give
 ended_given P r known =
     then_given P P r (λ command. end_at command.1 >>= λ done. Ok (command.0, done.1)) known
     (λ command p. then_any P (end_at command.1) (λ done. Ok (command.0, done.1)) (λ done. p))
-
-delete_unbuilt : (s : At) → Given IsUnbuilt (delete_command_at s)
-unfolding delete_command_at
-delete_unbuilt s =
-    then_any IsUnbuilt (item_at s) (λ name. mark_at semicolon name.1 >>= λ passed. num_at passed.1 >>= λ cycle. Ok (Delete name.0 cycle.0, cycle.1))
-    (λ name. then_any IsUnbuilt (mark_at semicolon name.1) (λ passed. num_at passed.1 >>= λ cycle. Ok (Delete name.0 cycle.0, cycle.1))
-    (λ passed. then_any IsUnbuilt (num_at passed.1) (λ cycle. Ok (Delete name.0 cycle.0, cycle.1)) (λ cycle. refl)))
 
 tree_unbuilt : (s : At) → Given IsUnbuilt (tree_command_at s)
 unfolding tree_command_at
@@ -194,17 +195,25 @@ get_read s = by (item_at s)
     by (Ok name) = behind_name name.0 (cycle_at name.1)
     by (Err e) = tt
 
-built_put : (s : At) → comes_next (codes "put") s ≡ true → built_command_at s ≡ ended_at (put_command_at (behind s))
-unfolding built_command_at
-built_put s put = rw put refl
+-- no verb before these comes next
+module _ (s : At) where
+  built_put : comes_next (codes "put") s ≡ true → built_command_at s ≡ ended_at (put_command_at (behind s))
+  unfolding built_command_at
+  built_put put = rw put refl
 
-built_get : (s : At) → comes_next (codes "put") s ≡ false → comes_next (codes "get") s ≡ true → built_command_at s ≡ ended_at (built_get_at (behind s))
-unfolding built_command_at
-built_get s put get = rw (put, get) refl
+  module _ (put : comes_next (codes "put") s ≡ false) where
+    built_delete : comes_next (codes "delete") s ≡ true → built_command_at s ≡ ended_at (delete_command_at (behind s))
+    unfolding built_command_at
+    built_delete delete = rw (put, delete) refl
 
-built_ls : (s : At) → comes_next (codes "put") s ≡ false → comes_next (codes "get") s ≡ false → comes_next (codes "ls") s ≡ true → built_command_at s ≡ ended_at (Ok (Ls, behind s))
-unfolding built_command_at
-built_ls s put get ls = rw (put, get, ls) refl
+    module _ (delete : comes_next (codes "delete") s ≡ false) where
+      built_get : comes_next (codes "get") s ≡ true → built_command_at s ≡ ended_at (built_get_at (behind s))
+      unfolding built_command_at
+      built_get get = rw (put, delete, get) refl
+
+      built_ls : comes_next (codes "get") s ≡ false → comes_next (codes "ls") s ≡ true → built_command_at s ≡ ended_at (Ok (Ls, behind s))
+      unfolding built_command_at
+      built_ls get ls = rw (put, delete, get, ls) refl
 
 language_read : (s : At) → IsRead (command_at s) (built_command_at s)
 unfolding command_at
@@ -222,13 +231,13 @@ language_read s =
     let unbuilt : (r : Read Command) → Given IsUnbuilt r → IsRead (ended_at r) read = λ r known. unbuilt_read (ended_at r) read (ended_given IsUnbuilt r known) in
     one_read (comes_next (codes "class") s) (class_command_at s) put read (λ _. unbuilt_read (class_command_at s) read (class_unbuilt s))
     (λ _. one_read (comes_next (codes "put") s) (ended_at (put_command_at next)) delete read (λ comes. the_same_read (ended_at (put_command_at next)) read (built_put s comes))
-    (λ no_put. one_read (comes_next (codes "delete") s) (ended_at (delete_command_at next)) tree read (λ _. unbuilt (delete_command_at next) (delete_unbuilt next))
-    (λ _. one_read (comes_next (codes "tree") s) (ended_at (tree_command_at next)) fill read (λ _. unbuilt (tree_command_at next) (tree_unbuilt next))
+    (λ no_put. one_read (comes_next (codes "delete") s) (ended_at (delete_command_at next)) tree read (λ comes. the_same_read (ended_at (delete_command_at next)) read (built_delete s no_put comes))
+    (λ no_delete. one_read (comes_next (codes "tree") s) (ended_at (tree_command_at next)) fill read (λ _. unbuilt (tree_command_at next) (tree_unbuilt next))
     (λ _. one_read (comes_next (codes "fill") s) (ended_at (fill_command_at next)) save read (λ _. unbuilt (fill_command_at next) (fill_unbuilt next))
     (λ _. one_read (comes_next (codes "save") s) (ended_at (save_command_at next)) get read (λ _. unbuilt (save_command_at next) (save_unbuilt next))
-    (λ _. one_read (comes_next (codes "get") s) (ended_at (get_command_at next)) scan read (λ comes. rw (built_get s no_put comes) (get_read next))
+    (λ _. one_read (comes_next (codes "get") s) (ended_at (get_command_at next)) scan read (λ comes. rw (built_get s no_put no_delete comes) (get_read next))
     (λ no_get. one_read (comes_next (codes "scan") s) (ended_at (scan_command_at next)) ls read (λ _. unbuilt (scan_command_at next) (scan_unbuilt next))
-    (λ _. one_read (comes_next (codes "ls") s) (ended_at (Ok (Ls, next))) (bad_at s) read (λ comes. the_same_read (ended_at (Ok (Ls, next))) read (built_ls s no_put no_get comes)) (λ _. tt)))))))))
+    (λ _. one_read (comes_next (codes "ls") s) (ended_at (Ok (Ls, next))) (bad_at s) read (λ comes. the_same_read (ended_at (Ok (Ls, next))) read (built_ls s no_put no_delete no_get comes)) (λ _. tt)))))))))
 
 -- ---- what is read is of a verb that is built
 
@@ -240,6 +249,13 @@ unfolding put_command_at
 put_has s =
     then_any HasVerb (item_at s) (λ name. value_in_text (enclosed_at bracket_limit) name.1 >>= λ value. Ok (Put name.0 value.0, value.1))
     (λ name. then_any HasVerb (value_in_text (enclosed_at bracket_limit) name.1) (λ value. Ok (Put name.0 value.0, value.1)) (λ value. refl))
+
+delete_has : (s : At) → Given HasVerb (delete_command_at s)
+unfolding delete_command_at
+delete_has s =
+    then_any HasVerb (item_at s) (λ name. mark_at semicolon name.1 >>= λ passed. num_at passed.1 >>= λ cycle. Ok (Delete name.0 cycle.0, cycle.1))
+    (λ name. then_any HasVerb (mark_at semicolon name.1) (λ passed. num_at passed.1 >>= λ cycle. Ok (Delete name.0 cycle.0, cycle.1))
+    (λ passed. then_any HasVerb (num_at passed.1) (λ cycle. Ok (Delete name.0 cycle.0, cycle.1)) (λ cycle. refl)))
 
 get_has : (s : At) → Given HasVerb (built_get_at s)
 unfolding built_get_at
@@ -253,9 +269,11 @@ command_has s =
     let next = behind s in
     let ls = if comes_next (codes "ls") s then ended_at (Ok (Ls, next)) else bad_at s in
     let get = if comes_next (codes "get") s then ended_at (built_get_at next) else ls in
-    one_given HasVerb (comes_next (codes "put") s) (ended_at (put_command_at next)) get (λ _. ended_given HasVerb (put_command_at next) (put_has next))
+    let delete = if comes_next (codes "delete") s then ended_at (delete_command_at next) else get in
+    one_given HasVerb (comes_next (codes "put") s) (ended_at (put_command_at next)) delete (λ _. ended_given HasVerb (put_command_at next) (put_has next))
+    (λ _. one_given HasVerb (comes_next (codes "delete") s) (ended_at (delete_command_at next)) get (λ _. ended_given HasVerb (delete_command_at next) (delete_has next))
     (λ _. one_given HasVerb (comes_next (codes "get") s) (ended_at (built_get_at next)) ls (λ _. ended_given HasVerb (built_get_at next) (get_has next))
-    (λ _. one_given HasVerb (comes_next (codes "ls") s) (ended_at (Ok (Ls, next))) (bad_at s) (λ _. ended_given HasVerb (Ok (Ls, next)) refl) (λ _. tt)))
+    (λ _. one_given HasVerb (comes_next (codes "ls") s) (ended_at (Ok (Ls, next))) (bad_at s) (λ _. ended_given HasVerb (Ok (Ls, next)) refl) (λ _. tt))))
 
 -- ---- lines
 

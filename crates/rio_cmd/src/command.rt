@@ -1,6 +1,8 @@
 //! The command of one line, by its first word.
+ghost use Rattle.std.specs.Prelude.{◌≡◌, if◌then◌else◌};
 ghost use Rattle.rio_token.specs.Reading.{Reads};
-ghost use Rattle.rio_step.specs.Script.{cycle_at, ended_at, put_command_at};
+ghost use Rattle.rio_token.specs.Tokens.{behind};
+ghost use Rattle.rio_step.specs.Script.{comes_next, cycle_at, delete_command_at, ended_at, put_command_at};
 ghost use Rattle.rio_cmd.specs.Built.{built_command_at, built_get_at};
 
 use rio_machine::Command;
@@ -10,25 +12,44 @@ use rio_valtext::take_value;
 use std::alloc::Global;
 
 /// The command that the tokens of a line spell, up to its end. `BadText` names the first token that can't
-/// stand there. Each verb has a reader of its own, which begins behind the verb.
+/// stand there. Each verb has a reader of its own, which begins after the verb.
 #[tactic(auto, unfolding(crate::specs::Built::built_command_at))]
 pub(crate) fn read_command(alloc: Global, tokens: &mut Tokens) -> Result<Command, TextFault>
     ensures { Reads (λ c. c) result (built_command_at tokens.old) tokens.new }
 {
+    if take_verb(tokens, b"put") {
+        read_put(alloc, tokens)
+    } else if take_verb(tokens, b"delete") {
+        read_delete(alloc, tokens)
+    } else if take_verb(tokens, b"get") {
+        read_get(alloc, tokens)
+    } else if take_verb(tokens, b"ls") {
+        read_ls(tokens)
+    } else {
+        Err(tokens.bad())
+    }
+}
+
+// Whether this verb comes next.
+fn is_verb_next(tokens: &Tokens, verb: &[u8]) -> bool
+    ensures { result ≡ comes_next verb.now tokens.now }
+{
     match tokens.peek_word() {
-        Some(b"put") => {
-            tokens.pass();
-            read_put(alloc, tokens)
-        }
-        Some(b"get") => {
-            tokens.pass();
-            read_get(alloc, tokens)
-        }
-        Some(b"ls") => {
-            tokens.pass();
-            read_ls(tokens)
-        }
-        _ => Err(tokens.bad()),
+        Some(word) => word == verb,
+        None => false,
+    }
+}
+
+// Passes over this verb, if it comes next.
+fn take_verb(tokens: &mut Tokens, verb: &[u8]) -> bool
+    ensures value { result ≡ comes_next verb.now tokens.old }
+    ensures state { tokens.new ≡ (if result then behind tokens.old else tokens.old) }
+{
+    if is_verb_next(tokens, verb) {
+        tokens.pass();
+        true
+    } else {
+        false
     }
 }
 
@@ -41,6 +62,18 @@ fn read_put(alloc: Global, tokens: &mut Tokens) -> Result<Command, TextFault>
     tokens.expect_end()?;
     let name = Name::from_slice(alloc, name)?;
     Ok(Command::Put { name, value })
+}
+
+#[tactic(auto, unfolding(rio_step::specs::Script::delete_command_at))]
+fn read_delete(alloc: Global, tokens: &mut Tokens) -> Result<Command, TextFault>
+    ensures { Reads (λ c. c) result (ended_at (delete_command_at tokens.old)) tokens.new }
+{
+    let name = tokens.take_item()?;
+    tokens.expect_mark(b';')?;
+    let cycle = tokens.take_num()?;
+    tokens.expect_end()?;
+    let name = Name::from_slice(alloc, name)?;
+    Ok(Command::Delete { name, cycle })
 }
 
 // The cycle behind a name, if one is named.

@@ -11,6 +11,10 @@ fn put_number(text: &mut Bytes, before: &[u8], number: u32) -> Result<(), NoMemo
     text.put_decimal(u64::from(number))
 }
 
+fn put_cycle(text: &mut Bytes, cycle: u32) -> Result<(), NoMemory> {
+    put_number(text, b";", cycle)
+}
+
 fn put_command(text: &mut Bytes, command: &Command) -> Result<(), NoMemory> {
     match command {
         Command::Bad { line, place } => {
@@ -23,6 +27,11 @@ fn put_command(text: &mut Bytes, command: &Command) -> Result<(), NoMemory> {
             text.put(b" ")?;
             print_value(value, text)
         }
+        Command::Delete { name, cycle } => {
+            text.put(b"delete ")?;
+            text.put(name.as_slice())?;
+            put_cycle(text, *cycle)
+        }
         Command::Get {
             name,
             cycle,
@@ -31,7 +40,7 @@ fn put_command(text: &mut Bytes, command: &Command) -> Result<(), NoMemory> {
             text.put(b"get ")?;
             text.put(name.as_slice())?;
             match cycle {
-                Some(cycle) => put_number(text, b";", *cycle),
+                Some(cycle) => put_cycle(text, *cycle),
                 None => Ok(()),
             }
         }
@@ -58,7 +67,7 @@ fn commands_of(alloc: Global, script: &[u8]) -> Result<Bytes, NoMemory> {
 fn reads_scripts(rt: HostRuntime) -> Result<(), Fail> {
     let stored = b"put s TObjString{TObject{fUniqueID: 0, fBits: 0}, fString: \"hi\"}";
     let printed = b"put s TObjString#0{TObject#0{fUniqueID: 0, fBits: 0}, fString: \"hi\"}\n";
-    let table: [(&[u8], &[u8]); 12] = [
+    let table: [(&[u8], &[u8]); 14] = [
         (b"put s TObjString{\n\nfrob x\n", b"bad 1 17\nbad 3 0\n"),
         (stored, printed),
         (b"get s\nget s;2\nls", b"get s\nget s;2\nls\n"),
@@ -74,6 +83,11 @@ fn reads_scripts(rt: HostRuntime) -> Result<(), Fail> {
         (b"\n\n\n #\nlsx\n", b"bad 4 1\nbad 5 0\n"),
         (b" \t\nls\n", b"bad 1 2\nls\n"),
         (b"get s;0\nget s;-1\n", b"get s;0\nbad 2 6\n"),
+        (
+            b"delete s;2\ndelete s\ndelete s;\ndelete s;2 x\ndelete\n",
+            b"delete s;2\nbad 2 8\nbad 3 9\nbad 4 11\nbad 5 6\n",
+        ),
+        (b"delete 007 ;0\ndelete s 2\n", b"delete 007;0\nbad 2 9\n"),
     ];
     for (script, expected) in table {
         let text = commands_of(rt.alloc(), script)?;

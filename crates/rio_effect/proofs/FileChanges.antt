@@ -1,15 +1,18 @@
 -- What one change makes of a file's segments.
-use Rattle.std.proofs.Common.{◌≡◌, ℕ, ◌+◌, ◌-◌, ◌%◌, List, length, length-append, map, refl, sym, ap, ◌∙◌}
+use Rattle.std.proofs.Common.{◌≡◌, ℕ, ◌+◌, ◌-◌, ◌%◌, List, length, length-append, map, Option, refl, sym, ap, ◌∙◌}
 use Rattle.std.proofs.lemmas.List.{length-replicate}
 use Rattle.rio_chain.specs.{Placing.{with_segment}, Segments.{segment_of}}
-use Rattle.rio_chain.proofs.PutChain.{map_with}
-use Rattle.rio_key.specs.Written.{written_key}
+use Rattle.rio_chain.proofs.{FewerRecords.{keeps_segments}, PutChain.{map_with}}
+use Rattle.rio_types.specs.declared.class.ClassDef.{ClassDef}
+use Rattle.rio_key.specs.{Written.{written_key}, declared.head.KeyHead.{KeyHead}}
 use Rattle.rio_machine.specs.State.{State}
 use Rattle.rio_num.specs.Room.{padding}
 use Rattle.rio_chain.specs.{Record.{key_size, new_key, record_bytes, unpadded}, declared.key_words.KeyWords.{KeyWords}}
 use Rattle.rio_chain.proofs.Records.{key_long}
 use Rattle.rio_value.specs.declared.value.Value.{Value}
-use Rattle.rio_effect.specs.{FileRuns.{SegmentsFollow, added_length, added_place, bytes_at}, ObjectRecord.{data_of_put, object_record, record_of_put, words_of_put}}
+use Rattle.rio_step.specs.Refusing.{with_class}
+use Rattle.rio_effect.specs.ClassRecord.{list_data, list_record, list_words, next_list_cycle, record_of_class}
+use Rattle.rio_effect.specs.{FileRuns.{SegmentsFollow, added, released, added_length, added_place, bytes_at}, ObjectRecord.{data_of_put, object_record, record_of_put, words_of_put}}
 
 -- how long a front is with its zero bytes
 abbrev filled : ℕ → ℕ
@@ -28,9 +31,10 @@ record_size words contents =
 pub same_length : (place : ℕ) (words : KeyWords) (contents : List ℕ) → length (bytes_at place words contents) ≡ added_length words contents
 same_length place words contents = record_size (record words { place = place }) contents ∙ sym (record_size (record words { place = 0 }) contents)
 
--- the segments have one more, at the place of the rule
+-- an added record is one segment more, at the place of the rule; a released one is one less
 pub segments_follow : SegmentsFollow
-segments_follow links words contents =
+segments_follow links (released place) = keeps_segments links place
+segments_follow links (added words contents) =
     let place = added_place links words contents in
     map_with place (bytes_at place words contents) links
     ∙ ap (λ (n : ℕ). with_segment place n (map segment_of links)) (same_length place words contents)
@@ -47,3 +51,17 @@ pub put_length : (m : State) (place datime : ℕ) (name : List ℕ) (v : Value)
     → added_length (words_of_put m 0 datime name v) (data_of_put m 0 datime name v) ≡ length (record_of_put m place datime name v)
 put_length m place datime name v =
     sym (same_length place (words_of_put m 0 datime name v) (data_of_put m 0 datime name v)) ∙ ap length (put_bytes m place datime name v)
+
+-- ---- a class command
+
+-- the record that a class command adds is that of the longer class list
+pub class_bytes : (info : Option KeyHead) (m : State) (place datime : ℕ) (class : ClassDef)
+    → bytes_at place (list_words 0 datime (next_list_cycle info)) (list_data (list_words 0 datime (next_list_cycle info)) (with_class m.classes class)) ≡ record_of_class info m place datime class
+unfolding list_record
+class_bytes info m place datime class = refl
+
+pub class_length : (info : Option KeyHead) (m : State) (place datime : ℕ) (class : ClassDef)
+    → added_length (list_words 0 datime (next_list_cycle info)) (list_data (list_words 0 datime (next_list_cycle info)) (with_class m.classes class)) ≡ length (record_of_class info m place datime class)
+class_length info m place datime class =
+    let words = list_words 0 datime (next_list_cycle info) in
+    sym (same_length place words (list_data words (with_class m.classes class))) ∙ ap length (class_bytes info m place datime class)

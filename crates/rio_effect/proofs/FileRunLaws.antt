@@ -4,26 +4,27 @@ use Rattle.std.specs.{Prelude.{option_and_then, option_map}, List.{list_all}}
 use Rattle.rio_chain.specs.Segments.{Link}
 use Rattle.rio_machine.specs.State.{State}
 use Rattle.rio_machine.specs.declared.command.Command.{Command, TheVariants.{Bad, Class, Put, Delete, Tree, Fill, Save, Get, Scan, Ls}}
-use Rattle.rio_step.specs.Step.{step}
-use Rattle.rio_effect.specs.FileRuns.{Change, FileRun, FileStep, IsRunOf, RunsAreTold, RunsHaveParts, added, changes_of, file_run, file_step, is_told, marked_before, step_by_changes}
+use Rattle.rio_state.specs.KeyedRecords.{info_key, keyed_records}
+use Rattle.rio_step.specs.{Refusing.{with_class}, Step.{step}}
+use Rattle.rio_effect.specs.FileRuns.{Change, FileRun, FileStep, IsRunOf, RunsAreTold, RunsHaveParts, added, changes_of, changes_of_class, file_run, file_step, is_told, item_record, marked_before, release_of, step_by_changes}
 use Rattle.rio_effect.specs.ObjectRecord.{data_of_put, words_of_put}
 
-changes_told : (datime : ℕ) (m : State) (c : Command) → is_told c ≡ true → (changes : List Change) × (changes_of datime m c ≡ Some changes)
-changes_told datime m (Put name v) told = (added (words_of_put m 0 datime name v) (data_of_put m 0 datime name v) ∷ [], refl)
-changes_told datime m (Bad line place) told = ([], refl)
-changes_told datime m (Get name cycle version) told = ([], refl)
-changes_told datime m (Scan name class) told = ([], refl)
-changes_told datime m Ls told = ([], refl)
-changes_told datime m (Class class) told = absurd cc
-changes_told datime m (Delete name cycle) told = absurd cc
-changes_told datime m (Tree name branches) told = absurd cc
-changes_told datime m (Fill name row) told = absurd cc
-changes_told datime m (Save name) told = absurd cc
+changes_told : (datime : ℕ) (links : List Link) (m : State) (c : Command) → is_told c ≡ true → (changes : List Change) × (changes_of datime links m c ≡ Some changes)
+changes_told datime links m (Put name v) told = (added (words_of_put m 0 datime name v) (data_of_put m 0 datime name v) ∷ [], refl)
+changes_told datime links m (Delete name cycle) told = (release_of (item_record links name cycle), refl)
+changes_told datime links m (Class class) told = (changes_of_class datime (info_key (keyed_records links)) (with_class m.classes class), refl)
+changes_told datime links m (Bad line place) told = ([], refl)
+changes_told datime links m (Get name cycle version) told = ([], refl)
+changes_told datime links m (Scan name class) told = ([], refl)
+changes_told datime links m Ls told = ([], refl)
+changes_told datime links m (Tree name branches) told = absurd cc
+changes_told datime links m (Fill name row) told = absurd cc
+changes_told datime links m (Save name) told = absurd cc
 
 step_told : (datime : ℕ) (links : List Link) (m : State) (c : Command) → is_told c ≡ true → (s : FileStep) × (file_step datime links m c ≡ Some s)
 unfolding file_step
 step_told datime links m c told =
-    let is = changes_told datime m c told in
+    let is = changes_told datime links m c told in
     (step_by_changes links m c is.0, ap (option_map (step_by_changes links m c)) is.1)
 
 run_made : (datime : ℕ) (links : List Link) (m : State) (c : Command) (commands : List Command) (s : FileStep) (later : FileRun) → file_step datime links m c ≡ Some s

@@ -62,7 +62,7 @@ end_low segments n place shape some aligned (inl at) =
     subst (λ (p : ℕ). file_end (with_segment p n segments) ≤ file_end segments + n) (sym at) (omega (arith, end, low))
 end_low segments n place shape some aligned (inr at) = let end = end_grows segments place n shape at in omega (arith, end)
 
-chain_low : (file : List ℕ) (links : List Link) (place : ℕ) (bytes : List ℕ) → IsChain links file → 4 ≤ length bytes → length bytes % 4 ≡ 0 → IsPlaceFor (map segment_of links) (length bytes) place
+pub chain_low : (file : List ℕ) (links : List Link) (place : ℕ) (bytes : List ℕ) → IsChain links file → 4 ≤ length bytes → length bytes % 4 ≡ 0 → IsPlaceFor (map segment_of links) (length bytes) place
     → chain_end (with_record place bytes links) ≤ chain_end links + length bytes
 chain_low file links place bytes chain some aligned at =
     let low = end_low (map segment_of links) (length bytes) place (chain_segments file links chain) some aligned at in

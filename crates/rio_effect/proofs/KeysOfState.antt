@@ -15,7 +15,7 @@ use Rattle.rio_machine.proofs.OrderLaws.{items_tie, items_total, names_tie, name
 use Rattle.rio_machine.specs.State.{NameAndCycle, State, item_order}
 use Rattle.rio_state.proofs.{Collected.{item_same}, KeyRecords.{ObjectOf, TreeOf, holder, key_record, object_of, record_key}}
 use Rattle.rio_state.proofs.Members.{In, all_at, any_from, in_contained, in_map, map_in}
-use Rattle.rio_state.specs.{Contents.{state_classes, tree_of}, DirectoryKeys.{AreKeysOf}}
+use Rattle.rio_state.specs.{Contents.{no_tree_is_read, state_classes, tree_of}, DirectoryKeys.{AreKeysOf}}
 use Rattle.rio_state.specs.{KeyedRecords.{KeyedRecord, info_key, item_of_key, top_keys, tree_records}, Reads.{AreRecordsOf}}
 use Rattle.rio_step.specs.{ItemKeys.{AreKeysOfState, told_by_key}, Refusing.{object_class}, Step.{Listed, listed_object, object_listed}}
 use Rattle.rio_effect.specs.Laws.{KeysNameObjects, KeysStandForState}
@@ -113,8 +113,10 @@ found_in item (h ∷ hs) = by (has_key item h) refl (found_in item hs)
 
 -- no record stands for a tree yet
 no_tree_record : (classes : List ClassDef) (records headers rs : List KeyedRecord) (r : KeyedRecord) → list_all (λ s. is_some (tree_of classes records headers s)) rs ≡ true → In r rs → ⊥
-unfolding tree_of
-no_tree_record classes records headers rs r all i = let there = all_at (λ s. is_some (tree_of classes records headers s)) r rs all i in cc
+no_tree_record classes records headers rs r all i =
+    let there = all_at (λ s. is_some (tree_of classes records headers s)) r rs all i in
+    let none : false ≡ true = sym (ap is_some (no_tree_is_read classes records headers r)) ∙ there in
+    cc
 
 module _ (records : List KeyedRecord) (heads : List KeyHead) (m : State) (are : AreKeysOf records heads) (is : AreRecordsOf records m) where
   abbrev no_tree : (r : KeyedRecord) → In r (tree_records (top_keys records)) → ⊥
@@ -173,12 +175,11 @@ module _ (records : List KeyedRecord) (heads : List KeyHead) (m : State) (are : 
       sym (entries-from_sorted item_order by_keys one) ∙ ap entries same ∙ entries-from_sorted item_order by_objects two
 
   none_under : (name : List ℕ) → get m.trees name ≡ None
-  unfolding tree_of
   none_under name = is.stand.trees name ∙ by (find_by (λ r. bytes_eq r.head.name name) (tree_records (top_keys records)))
     where
       by : (o : Option KeyedRecord) → option_and_then (tree_of (state_classes (info_key records)) records (tree_records (top_keys records))) o ≡ None
       by None = refl
-      by (Some r) = refl
+      by (Some r) = no_tree_is_read (state_classes (info_key records)) records (tree_records (top_keys records)) r
 
   pub keys_stand : AreKeysOfState heads m
   keys_stand = record {

@@ -1,7 +1,11 @@
+pub mod ClassCommand
+pub mod ClassEffect
+pub mod ClassHeld
 pub mod DeleteEffect
 pub mod DeleteKeys
 pub mod DeleteNeeds
 pub mod DeleteObject
+pub mod DeleteRecords
 mod Examples
 pub mod FileChanges
 pub mod FileRunLaws
@@ -13,6 +17,8 @@ pub mod KeysOfState
 pub mod Needs
 pub mod NeedsByKeys
 pub mod NextCycles
+pub mod ObjectsStay
+pub mod OldLists
 pub mod PutClasses
 pub mod PutEffect
 pub mod PutKeys
@@ -21,5 +27,6 @@ pub mod ReadClasses
 pub mod SavedDeletes
 pub mod SavedPuts
 pub mod StateNeeds
+pub mod StatesDescribed
 pub mod Versions
 pub mod WrittenLengths

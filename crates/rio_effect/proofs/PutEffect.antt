@@ -92,10 +92,11 @@ module _ (links : List Link) (m : State) (place datime : ℕ) (name : List ℕ) 
         stand = subst (λ (o : Option KeyedRecord). StandsForState new o (top_keys new) after) (sym info) stand;
       }
 
--- the record of the put, on its own
-padded_as : (k n size : ℕ) → n ≡ size → k + (n + (4 - (k + n) % 4) % 4) ≡ padded_length (k + size)
+-- how long a record is, with data as long as other data
+pub padded_as : (k n size : ℕ) → n ≡ size → k + (n + (4 - (k + n) % 4) % 4) ≡ padded_length (k + size)
 padded_as k n size e = ap (λ (j : ℕ). k + (j + (4 - (k + j) % 4) % 4)) e ∙ omega arith
 
+-- the record of the put, on its own
 pub puts_have_records : PutsHaveRecords
 unfolding object_key object_record
 puts_have_records m place datime name v mark low soon are named e =

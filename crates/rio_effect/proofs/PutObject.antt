@@ -1,5 +1,5 @@
 -- The record of an object that a put adds holds the object.
-use Rattle.std.proofs.Common.{◌≡◌, ℕ, ◌^◌, ◌<◌, ◌≤◌, ◌∙◌, List, [], ◌++◌, length, replicate, Bool, true, false, not, ltb, Option, Some, None, Ok, refl, ap, arith}
+use Rattle.std.proofs.Common.{◌≡◌, ℕ, ◌^◌, ◌<◌, ◌≤◌, ◌∙◌, List, [], ◌++◌, length, replicate, Bool, true, false, not, Option, Some, None, Ok, refl, ap, arith}
 use Rattle.std.proofs.lemmas.Bool.{and_from, ltb-false, not-false, or_parts}
 use Rattle.std.specs.{Prelude.{if◌then◌else◌, unwrap_or}, Option.{option_map_or}}
 use Rattle.rio_num.specs.{Text.{text_bytes}, Word.{is_item_text}, Room.{is_padding}}

@@ -1,6 +1,6 @@
 -- What the release of an object's record makes of what a file reads as, of the keys that are kept beside it, and of the cycles
 -- of the object's name.
-use Rattle.std.specs.Prelude.{◌≡◌, ◌≢◌, ℕ, ◌+◌, List, false, Option, Some, None}
+use Rattle.std.specs.Prelude.{◌≡◌, ◌≢◌, ℕ, ◌+◌, List, false, Option, Some, None, option_map}
 use Rattle.std.specs.FinMap.{get}
 use Rattle.rio_key.specs.declared.head.KeyHead.{KeyHead}
 use Rattle.rio_machine.specs.{State.{NameAndCycle, State, names_tree, next_cycle}, declared.command.Command.{Command, TheVariants.{Delete}}}
@@ -9,7 +9,7 @@ use Rattle.rio_chain.specs.Segments.{IsChain, Link}
 use Rattle.rio_state.specs.{Closing.{KeptRecords, kept_in}, DirectoryKeys.{AreKeysOf}}
 use Rattle.rio_state.specs.{KeyedRecords.{KeyedRecord, keyed_records}, OneLess.{HasRecord, NeedsNoMore, links_without}, OneMore.{HasOneMoreIn}, Reads.{AreRecordsOf}}
 use Rattle.rio_step.specs.{Costs.{cost_of}, Refusing.{FullMark, refusal_of}, Runs.{saved_of}, Step.{state_behind}}
-use Rattle.rio_effect.specs.Laws.{IsObjectKey}
+use Rattle.rio_effect.specs.{FileRuns.{item_record}, Laws.{IsObjectKey}}
 
 -- ---- pending rows
 
@@ -89,3 +89,11 @@ DeleteKeepsLess = (file : List ℕ) (links : List Link) (r : KeyedRecord) → Ha
 -- a close needs no more, nor does the file hold more
 abbrev pub DeleteNeedsNoMore : Type 0
 DeleteNeedsNoMore = (file : List ℕ) (links : List Link) (r : KeyedRecord) → HasObject file links r → NeedsNoMore links (links_without links r)
+
+-- ---- by the records of the file
+
+-- the record that a delete releases, as the definition of runs finds it, is that of the key which is kept for the object
+abbrev pub DeletesFindRecords : Type 0
+DeletesFindRecords = (file : List ℕ) (links : List Link) (heads : List KeyHead) (m : State) (name : List ℕ) (cycle : ℕ) (mark : Option FullMark) → IsChain links file
+    → AreKeysOf (keyed_records links) heads → AreRecordsOf (keyed_records links) m → names_tree m name ≡ false → refusal_of m (Delete name cycle) mark ≡ None
+    → option_map (λ r. r.head) (item_record links name cycle) ≡ head_of name (Some cycle) heads

@@ -1,3 +1,5 @@
+pub mod ClassRecord
+pub mod Classes
 pub mod Deletes
 pub mod FileRuns
 pub mod Laws

@@ -1,7 +1,9 @@
 pub mod Answered
 pub mod ClassBytes
 pub mod Counting
+pub mod EntriesStay
 pub mod EntryLaws
+pub mod FittingRows
 pub mod KeptEntries
 pub mod LeafBytes
 pub mod LeafKinds

@@ -2,6 +2,7 @@ pub mod Bounds
 pub mod Counting
 pub mod Entries
 pub mod Faults
+pub mod Growth
 pub mod Laws
 pub mod Leaves
 pub mod Reading

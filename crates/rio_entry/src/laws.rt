@@ -1,4 +1,5 @@
 //! Laws of entries.
+ghost use Rattle.rio_entry.specs.Growth.{EntryStays, FittingRowStays, SpelledEntryStays};
 ghost use Rattle.rio_entry.specs.Laws.{EntriesHaveOneAnswer, EntryIsPartOfRow, WrittenEntriesAreRead};
 ghost use Rattle.rio_entry.specs.Rows.{BrokenRowsHaveABranch, WrittenRowsAreRead};
 
@@ -28,4 +29,12 @@ pub fn written_rows_are_read()
 /// A row is read exactly where no branch breaks.
 pub fn broken_rows_have_a_branch()
     ensures { BrokenRowsHaveABranch }
+{}
+
+/// What is read of an entry, if no object in it is opaque, is the same wherever the same classes are picked. So with one
+/// class more a row that fits its branches is read as it was.
+pub fn rows_stay_read()
+    ensures entry { EntryStays }
+    ensures spelled { SpelledEntryStays }
+    ensures row { FittingRowStays }
 {}

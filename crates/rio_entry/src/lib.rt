@@ -35,7 +35,7 @@ pub use check::{check_entry, check_entry_with};
 pub use counter::LeafCounters;
 pub use fault::EntryFault;
 pub use laws::{
-    broken_rows_have_a_branch, entries_have_one_answer, entry_is_part_of_row,
+    broken_rows_have_a_branch, entries_have_one_answer, entry_is_part_of_row, rows_stay_read,
     written_entries_are_read, written_rows_are_read,
 };
 pub use numbers::{Numbers, leaf_counts, note_leaves};

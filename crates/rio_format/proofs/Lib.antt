@@ -1,3 +1,4 @@
+pub mod AllRead
 pub mod BaseDepth
 pub mod BaseLaws
 pub mod BuiltInLaws
@@ -9,8 +10,14 @@ pub mod CounterLaws
 pub mod Examples
 pub mod FaultExamples
 pub mod FieldLaws
+pub mod FittingRead
+mod GrowthExamples
+pub mod GrowthLaws
 mod ListLaws
 pub mod ObjectLaws
+pub mod ObjectStays
+pub mod Picks
+pub mod Stays
 pub mod Tests
 pub mod ValueCases
 pub mod WrittenArrays

@@ -8,6 +8,7 @@ pub mod Descriptions
 pub mod Elements
 pub mod FieldKinds
 pub mod Fits
+pub mod Growth
 pub mod Laws
 pub mod Lists
 pub mod Objects

@@ -1,4 +1,5 @@
 //! Laws: how reading, spelling and writing of objects belong together.
+ghost use Rattle.rio_format.specs.Growth.{FittingIsAllRead, FittingReadStays, FittingSpelledStays, LaterLeavePicks, ReadStays, SpelledStays};
 ghost use Rattle.rio_format.specs.Laws.{BrokenIsFault, BrokenIsNotSpelled, FaultIsBroken, FaultIsNotSpelled, IsBrokenOnce, IsSpelledOnce, NoBaseIsDeeper, ReadIsSpelled, SpelledIsRead, SpelledOrBroken, WrittenIsSpelled};
 
 /// What spells an object is read as it, whatever follows, and reading stands behind it.
@@ -47,4 +48,19 @@ pub fn one_answer()
     ensures some { SpelledOrBroken }
     ensures apart { BrokenIsNotSpelled }
     ensures one { IsBrokenOnce }
+{}
+
+/// What is read of an object, if none in it is opaque, is the same wherever the same classes are picked, and classes
+/// after the others leave what is picked of those.
+pub fn read_stays()
+    ensures read { ReadStays }
+    ensures spelled { SpelledStays }
+    ensures picks { LaterLeavePicks }
+    ensures whole { FittingIsAllRead }
+{}
+
+/// With one class more a value that fits its class is read as it was, from whatever bytes spell it.
+pub fn fitting_values_stay_read()
+    ensures read { FittingReadStays }
+    ensures spelled { FittingSpelledStays }
 {}

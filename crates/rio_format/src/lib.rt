@@ -24,8 +24,9 @@ pub use built_in::BuiltIn;
 pub use counters::Counters;
 pub use form::{Form, form_of};
 pub use laws::{
-    broken_is_fault, fault_is_broken, fault_is_not_spelled, is_spelled_once, no_base_is_deeper,
-    one_answer, read_is_spelled, spelled_is_read, written_is_spelled,
+    broken_is_fault, fault_is_broken, fault_is_not_spelled, fitting_values_stay_read,
+    is_spelled_once, no_base_is_deeper, one_answer, read_is_spelled, read_stays, spelled_is_read,
+    written_is_spelled,
 };
 pub use lists::ClassLists;
 pub use part_list::{PartList, array_object, list_object, part_with, titled_object};

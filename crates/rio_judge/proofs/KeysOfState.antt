@@ -174,10 +174,10 @@ first_is_greatest heads m name h are found =
     cycles_are heads m name are ∙ greatest_is name heads (keys_are_ordered heads m are) ∙ ap cycle_of found
 
 -- no key of a name has a cycle above the first one's
-pub none_above_first : (heads : List KeyHead) (m : State) (name : List ℕ) (h : KeyHead) (cycle : ℕ) → AreKeysOfState heads m
+pub none_above_first : (heads : List KeyHead) (name : List ℕ) (h : KeyHead) (cycle : ℕ) → AreOrdered heads
     → head_of name None heads ≡ Some h → h.cycle < cycle → head_of name (Some cycle) heads ≡ None
-none_above_first heads m name h cycle are found above =
-    let first : greatest_cycle name heads ≡ h.cycle = greatest_is name heads (keys_are_ordered heads m are) ∙ ap cycle_of found in
+none_above_first heads name h cycle ordered found above =
+    let first : greatest_cycle name heads ≡ h.cycle = greatest_is name heads ordered ∙ ap cycle_of found in
     above_none name cycle heads (omega (arith, first, above))
 
 -- the first key of a name is found by its cycle

@@ -1,7 +1,12 @@
+pub mod ClassLaws
+pub mod ClassTests
 pub mod CostLaws
+pub mod DeclaredAgain
+pub mod DeleteTests
 pub mod GetTests
 pub mod KeyStates
 pub mod KeysOfState
 pub mod LengthLaws
 pub mod PutLaws
 pub mod PutTests
+pub mod TestsInOrder

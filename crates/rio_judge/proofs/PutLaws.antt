@@ -14,7 +14,8 @@ use Rattle.rio_machine.specs.declared.refusal.Refusal.TheVariants.{BadName, NoSu
 use Rattle.rio_step.specs.{ItemKeys.{AreKeysOfState}, Refusing.{first_of, is_fit, is_kept_out, is_list_name, object_class, put_value, refused_if}}
 use Rattle.rio_judge.specs.{Judging.{CanBeStored, IsStep}, Stops.{GoesByState}, declared.work.{StoredObject.{StoredObject}, Work.TheVariants.{Put as Storing}}}
 use Rattle.rio_judge.proofs.KeysOfState.{cycles_are, next_is_new}
-use Rattle.rio_judge.proofs.PutTests.{count_tests, cycle_tests, fit_tests, name_tests, passes_one, passes_two, put_refusal, put_tests}
+use Rattle.rio_judge.proofs.PutTests.{count_tests, cycle_tests, fit_tests, name_tests, put_refusal, put_tests}
+use Rattle.rio_judge.proofs.TestsInOrder.{passes_one, passes_two}
 
 module _ (classes : List ClassDef) (heads : List KeyHead) (v : Value) (o : StoredObject) where
   -- what was found on the way, and that no test stopped

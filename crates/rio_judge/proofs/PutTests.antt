@@ -11,36 +11,8 @@ use Rattle.rio_machine.specs.{State.{State, item_count, last_cycle, names_tree},
 use Rattle.rio_machine.specs.declared.refusal.Refusal.{Refusal, TheVariants.{BadName, NameIsTree, NoSuchClass, DoesNotFit, CycleLimit, TooLarge, TooDeep, TooMany}}
 use Rattle.rio_step.specs.ItemKeys.{AreKeysOfState}
 use Rattle.rio_step.specs.Refusing.{first_of, is_fit, is_kept_out, is_list_name, object_class, object_length, put_value, refusal_of, refused_if}
-use Rattle.rio_judge.specs.{Stops.{GoesByState, StopsAt}, declared.stop.Stop.{Stop, TheVariants.{Refused, NoMemory}}, declared.work.Work.{Work}}
-use Rattle.rio_judge.proofs.KeysOfState.{count_is, cycles_are, no_tree}
-
--- ---- tests in order
-
-same_front : (xs ys : List (Option Refusal)) → first_of xs ≡ None → first_of (xs ++ ys) ≡ first_of ys
-same_front [] ys e = refl
-same_front (None ∷ xs) ys e = same_front xs ys e
-same_front (Some x ∷ xs) ys e = absurd cc
-
--- the tests at the front give none, so it stops by the later ones
-stops_behind : (xs ys : List (Option Refusal)) (stop : Stop) → first_of xs ≡ None → StopsAt (first_of ys) stop → StopsAt (first_of (xs ++ ys)) stop
-stops_behind xs ys stop e told = subst (λ (first : Option Refusal). StopsAt first stop) (sym (same_front xs ys e)) told
-
--- it stops by the tests at the front, whatever is behind them
-stops_in_front : (xs ys : List (Option Refusal)) (stop : Stop) → StopsAt (first_of xs) stop → StopsAt (first_of (xs ++ ys)) stop
-stops_in_front xs ys NoMemory told = tt
-stops_in_front [] ys (Refused refusal) told = absurd cc
-stops_in_front (None ∷ xs) ys (Refused refusal) told = stops_in_front xs ys (Refused refusal) told
-stops_in_front (Some x ∷ xs) ys (Refused refusal) told = told
-
-pub passes_one : (b : Bool) (refusal : Refusal) → first_of (refused_if b refusal ∷ []) ≡ None → b ≡ false
-passes_one true refusal e = absurd cc
-passes_one false refusal e = refl
-
-pub passes_two : (a b : Bool) (one two : Refusal) → first_of (refused_if a one ∷ refused_if b two ∷ []) ≡ None → (a ≡ false) × (b ≡ false)
-passes_two true b one two e = absurd cc
-passes_two false b one two e = (refl, passes_one b two e)
-
--- ---- those of a put
+use Rattle.rio_judge.specs.{Stops.{GoesByState, StopsAt}, declared.stop.Stop.{Stop}, declared.work.Work.{Work}}
+use Rattle.rio_judge.proofs.{KeysOfState.{count_is, cycles_are, no_tree}, TestsInOrder.{stops_behind, stops_in_front}}
 
 abbrev pub name_tests : List ℕ → List (Option Refusal)
 name_tests name = refused_if (is_list_name name) BadName ∷ []

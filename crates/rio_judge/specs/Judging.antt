@@ -1,22 +1,24 @@
 -- What is found of a command: why it is refused, or what it is to do.
-use Rattle.std.specs.Prelude.{◌≡◌, ◌≤◌, ◌<◌, ℕ, ◌+◌, List, length, Bool, true, false, Some, None, IsSome}
+use Rattle.std.specs.{Prelude.{◌≡◌, ◌≤◌, ◌<◌, ℕ, ◌+◌, List, [], ◌∷◌, ◌++◌, length, Bool, true, false, Some, None, IsSome}, FinMap.{get}}
 use Rattle.rio_key.specs.declared.head.KeyHead.{KeyHead}
 use Rattle.rio_dir.specs.Table.{AreOrdered, greatest_cycle, head_of}
 use Rattle.rio_types.specs.declared.class.ClassDef.{ClassDef}
 use Rattle.rio_value.specs.declared.value.Value.{Value}
-use Rattle.rio_format.specs.Written.{written_form}
-use Rattle.rio_model.specs.Resolving.{resolved}
-use Rattle.rio_machine.specs.{Limits.{cycle_limit, item_limit}, State.{State, next_cycle}, declared.command.Command.{Command, TheVariants.{Bad, Put, Get, Ls}}}
-use Rattle.rio_step.specs.{ItemKeys.{AreKeysOfState}, Refusing.{is_list_name, meant_cycle, meant_object, object_class, put_value, refusal_of}}
-use Rattle.rio_step.specs.Storable.{IsStoredObject}
+use Rattle.rio_format.specs.{Written.{written_form}, WrittenBytes.{length_limit, written_list}}
+use Rattle.rio_model.specs.{Declaring.{declare_fault, declared}, Resolving.{resolved}}
+use Rattle.rio_machine.specs.{Limits.{cycle_limit, item_limit}, State.{State, next_cycle}, declared.command.Command.{Command, TheVariants.{Bad, Class, Put, Delete, Get, Ls}}}
+use Rattle.rio_step.specs.{ItemKeys.{AreKeysOfState}, Refusing.{is_list_name, meant_cycle, meant_object, object_class, put_value, refusal_of, with_class}}
+use Rattle.rio_step.specs.{Costs.{info_size}, Storable.{IsStoredObject}}
 use Rattle.rio_judge.specs.declared.work.Judged.{Judged, TheVariants.{Accepted, Refused}}
-use Rattle.rio_judge.specs.declared.work.StoredObject.{StoredObject}
-use Rattle.rio_judge.specs.declared.work.Work.{Work, TheVariants.{Put as Storing, Get as Telling, Ls as Listing}}
+use Rattle.rio_judge.specs.declared.work.{NewClass.{NewClass}, StoredObject.{StoredObject}}
+use Rattle.rio_judge.specs.declared.work.Work.{Work, TheVariants.{Class as Declaring, Put as Storing, Delete as Deleting, Get as Telling, Ls as Listing}}
 
 -- The commands that are judged as of now. It goes out when the others are built.
 abbrev pub is_judged : Command → Bool
 is_judged (Bad line place) = true
+is_judged (Class class) = true
 is_judged (Put name v) = true
+is_judged (Delete name cycle) = true
 is_judged (Get name cycle None) = true
 is_judged Ls = true
 is_judged other = false
@@ -30,9 +32,11 @@ pub record IsStep (m : State) (v : Value) (o : StoredObject) : Type 0 where
   pub cycle : o.cycle ≡ next_cycle m o.name
   pub written : o.length ≡ length (written_form m.classes 0 o.value)
 
--- what a command is to do to a state: what its step does, and the object that a get prints is there
+-- what a command is to do to a state: what its step does, and the object that a get prints or a delete takes away is there
 abbrev pub IsWorkOf : State → Command → Work → Type 0
+IsWorkOf m (Class class) (Declaring d) = (d.class ≡ declared m.classes class) × (d.length ≡ info_size (with_class m.classes class))
 IsWorkOf m (Put name v) (Storing o) = (o.name ≡ name) × IsStep m v o
+IsWorkOf m (Delete name cycle) (Deleting h) = (h.name ≡ name) × (h.cycle ≡ cycle) × IsSome (get m.objects (name, cycle))
 IsWorkOf m (Get name cycle version) (Telling h) = (h.name ≡ name) × (h.cycle ≡ meant_cycle m name cycle) × IsSome (meant_object m name cycle)
 IsWorkOf m Ls Listing = Unit {0}
 IsWorkOf m other work = ⊥
@@ -48,6 +52,15 @@ IsJudgementOfStates classes heads c judged = (m : State) → m.classes ≡ class
 
 -- ---- by classes and keys alone
 
+-- What is declared breaks no rule and passes no limit: it can be put after the classes just as it is, and the list of all of
+-- them can be written.
+pub record CanBeDeclared (classes : List ClassDef) (c : ClassDef) (d : NewClass) : Type 0 where
+  pub class : d.class ≡ declared classes c
+  pub stays : declared classes d.class ≡ d.class
+  pub fault : declare_fault classes d.class ≡ None
+  pub written : (start : ℕ) → d.length ≡ length (written_list start (classes ++ d.class ∷ []))
+  pub short : d.length ≤ length_limit
+
 -- What a put stores passes no limit, whatever the keys stand for: a record of it can be made, and a key put into the table.
 pub record CanBeStored (classes : List ClassDef) (heads : List KeyHead) (v : Value) (o : StoredObject) : Type 0 where
   pub value : resolved classes v ≡ Some o.value
@@ -60,9 +73,11 @@ pub record CanBeStored (classes : List ClassDef) (heads : List KeyHead) (v : Val
   pub new : head_of o.name (Some o.cycle) heads ≡ None
   pub room : length heads < item_limit
 
--- what a command is to do can be done: the object can be stored, or its key is the table's
+-- what a command is to do can be done: the class can be declared, the object can be stored, or its key is the table's
 abbrev pub WorkCanBeDone : List ClassDef → List KeyHead → Command → Work → Type 0
+WorkCanBeDone classes heads (Class class) (Declaring d) = CanBeDeclared classes class d
 WorkCanBeDone classes heads (Put name v) (Storing o) = (o.name ≡ name) × CanBeStored classes heads v o
+WorkCanBeDone classes heads (Delete name cycle) (Deleting h) = head_of name (Some cycle) heads ≡ Some h
 WorkCanBeDone classes heads (Get name cycle version) (Telling h) = head_of name (Some h.cycle) heads ≡ Some h
 WorkCanBeDone classes heads Ls Listing = Unit {0}
 WorkCanBeDone classes heads other work = ⊥

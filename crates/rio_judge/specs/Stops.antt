@@ -1,6 +1,7 @@
 -- Where a judgement stops.
 use Rattle.std.specs.Prelude.{◌≡◌, List, Option, Some, None, Result, Ok, Err}
-use Rattle.rio_machine.specs.{State.{State}, declared.command.Command.{Command}, declared.refusal.Refusal.{Refusal, TheVariants.{NoSuchClass}}}
+use Rattle.rio_machine.specs.{State.{State}, declared.command.Command.{Command}, declared.refusal.Refusal.{Refusal, TheVariants.{NoSuchClass, SameVersion, HoldsItself, TooMany}}}
+use Rattle.rio_model.specs.declared.declare.DeclareFault as declaring
 use Rattle.rio_step.specs.Refusing.{first_of, refusal_of}
 use Rattle.rio_valtext.specs.declared.resolving.ResolveFault.{ResolveFault, TheVariants.{NoSuchClass as Unknown, NoMemory as NoRoom}}
 use Rattle.rio_judge.specs.{Judging.{IsWorkOf}, declared.stop.Stop.{Stop, TheVariants.{Refused, NoMemory}}, declared.work.Work.{Work}}
@@ -9,6 +10,14 @@ use Rattle.rio_judge.specs.{Judging.{IsWorkOf}, declared.stop.Stop.{Stop, TheVar
 abbrev pub stop_of : ResolveFault → Stop
 stop_of Unknown = Refused NoSuchClass
 stop_of NoRoom = NoMemory
+
+-- a rule that a declaration breaks refuses it
+abbrev pub stop_of_declaration : declaring.DeclareFault → Stop
+stop_of_declaration declaring.TheVariants.NoSuchClass = Refused NoSuchClass
+stop_of_declaration declaring.TheVariants.SameVersion = Refused SameVersion
+stop_of_declaration declaring.TheVariants.HoldsItself = Refused HoldsItself
+stop_of_declaration declaring.TheVariants.TooMany = Refused TooMany
+stop_of_declaration declaring.TheVariants.NoMemory = NoMemory
 
 -- it stops at this refusal, or memory ran out
 abbrev pub StopsAt : Option Refusal → Stop → Type 0

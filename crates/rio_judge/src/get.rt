@@ -8,6 +8,7 @@ ghost use Rattle.rio_judge.specs.Judging.{WorkCanBeDone};
 ghost use Rattle.rio_judge.specs.Stops.{GoesByState};
 
 use crate::Work;
+use crate::key::key_at;
 use crate::stop::Stop;
 use rio_dir::KeyTable;
 use rio_machine::Refusal;
@@ -26,11 +27,7 @@ pub(crate) fn get_work(table: &KeyTable, name: &[u8], cycle: Option<u32>) -> Res
     let Some(cycle) = cycle else {
         return Ok(Work::Get(newest.copy()?));
     };
-    if cycle > u32::from(newest.cycle) {
-        return Err(Stop::Refused(Refusal::NoSuchCycle));
-    }
-    let cycle = cycle as u16;
-    match table.find(name, Some(cycle)) {
+    match key_at(table, name, newest, cycle) {
         Some(head) => Ok(Work::Get(head.copy()?)),
         None => Err(Stop::Refused(Refusal::NoSuchCycle)),
     }

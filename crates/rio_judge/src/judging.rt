@@ -5,6 +5,8 @@ ghost use Rattle.rio_step.specs.ItemKeys.{AreKeysOfState};
 ghost use Rattle.rio_judge.specs.Judging.{WorkCanBeDone, IsJudgementOfStates, IsSoundJudgement, is_judged};
 ghost use Rattle.rio_judge.specs.Stops.{GoesByState};
 
+use crate::class::class_work;
+use crate::delete::delete_work;
 use crate::get::get_work;
 use crate::put::put_work;
 use crate::stop::Stop;
@@ -12,25 +14,26 @@ use crate::{Judged, Work};
 use rio_dir::KeyTable;
 use rio_machine::{Command, Refusal};
 use rio_num::NoMemory;
-use rio_types::Classes;
+use rio_registry::Registry;
 use std::alloc::Global;
 
 /// Why the state refuses the command, or what the command is to do. Of several refusals the one of
-/// the lowest number is told; that of want of room, the last, is left to the caller. The state is
+/// the lowest number is returned; that of want of room, the last, is left to the caller. The state is
 /// known by its classes and by the keys of its objects, in which names and cycles are searched. A
-/// value is gone over a constant number of times.
+/// value is gone over a constant number of times, and for a declaration the class list is made and
+/// measured.
 pub fn judge(
     alloc: Global,
-    classes: &Classes,
+    registry: &Registry,
     table: &KeyTable,
     command: &Command,
 ) -> Result<Judged, NoMemory>
     requires { IsTrue (is_judged command.now) }
     ensures judged { IfOk result
-        (IsJudgementOfStates classes.now table.now.heads command.now) }
-    ensures sound { IfOk result (IsSoundJudgement classes.now table.now.heads command.now) }
+        (IsJudgementOfStates registry.now table.now.heads command.now) }
+    ensures sound { IfOk result (IsSoundJudgement registry.now table.now.heads command.now) }
 {
-    match work_of(alloc, classes, table, command) {
+    match work_of(alloc, registry, table, command) {
         Ok(work) => Ok(Judged::Accepted(work)),
         Err(Stop::Refused(refusal)) => Ok(Judged::Refused(refusal)),
         Err(Stop::NoMemory) => Err(NoMemory),
@@ -40,21 +43,25 @@ pub fn judge(
 // What the command is to do, or where its judgement stops.
 fn work_of(
     alloc: Global,
-    classes: &Classes,
+    registry: &Registry,
     table: &KeyTable,
     command: &Command,
 ) -> Result<Work, Stop>
     requires { IsTrue (is_judged command.now) }
-    ensures answers { (m : State) → m.classes ≡ classes.now → AreKeysOfState table.now.heads m
+    ensures answers { (m : State) → m.classes ≡ registry.now → AreKeysOfState table.now.heads m
         → GoesByState m command.now result }
-    ensures sound { IfOk result (WorkCanBeDone classes.now table.now.heads command.now) }
+    ensures sound { IfOk result (WorkCanBeDone registry.now table.now.heads command.now) }
 {
     match command {
         Command::Bad { line, place } => Err(Stop::Refused(Refusal::BadLine {
             line: *line,
             place: *place,
         })),
-        Command::Put { name, value } => put_work(alloc, classes, table, name.as_slice(), value),
+        Command::Class(class) => class_work(alloc, registry, class),
+        Command::Put { name, value } => {
+            put_work(alloc, registry.classes(), table, name.as_slice(), value)
+        }
+        Command::Delete { name, cycle } => delete_work(table, name.as_slice(), *cycle),
         Command::Get {
             name,
             cycle,

@@ -2,15 +2,18 @@
 //! if it isn't. The state is known by what a session keeps of it, its classes and the keys of its
 //! objects; no file is at hand.
 //!
-//! [`judge`] tells the first refusal, or the [`Work`] of a command, with what is found on the way:
-//! of a put the [`StoredObject`], of a get the key of the object.
-//! [`Work::cost`] tells what it may cost of a file's room. `specs/Judging.antt` says what a right
-//! judgement is: for each state that the keys stand for it is the state's, and whatever they stand
-//! for, what is accepted can be done.
+//! [`judge`] returns the first refusal, or the [`Work`] of a command, with what is found on the way:
+//! of a declaration the [`NewClass`], of a put the [`StoredObject`], of a delete and a get the key of
+//! the object. [`Work::cost`] returns what it may cost of a file's room. `specs/Judging.antt` says what
+//! a right judgement is: for each state that the keys stand for it is the state's, and whatever they
+//! stand for, what is accepted can be done.
 #![tactic(auto)]
 
+mod class;
+mod delete;
 mod get;
 mod judging;
+mod key;
 mod laws;
 mod put;
 mod stop;
@@ -18,7 +21,7 @@ mod work;
 
 pub use judging::judge;
 pub use laws::keys_have_states;
-pub use work::{Judged, StoredObject, Work};
+pub use work::{Judged, NewClass, StoredObject, Work};
 
 #[cfg(test)]
 mod tests;

@@ -1,4 +1,4 @@
-//! Commands by an empty class list and the key `s;1`, and what is found of them.
+//! Commands by no classes and the key `s;1`, and what is found of them; declarations in files of their own.
 ghost use Rattle.std.specs.Prelude.{IsTrue, IfOk};
 ghost use Rattle.rio_judge.specs.Judging.{is_judged};
 
@@ -7,10 +7,13 @@ use rio_dir::KeyTable;
 use rio_key::KeyHead;
 use rio_machine::Command;
 use rio_num::{Bytes, Name, NoMemory};
-use rio_types::Classes;
+use rio_registry::Registry;
 use rio_valtext::read_value;
 use rio_value::Value;
 use std::alloc::Global;
+
+mod declarations;
+mod limits;
 
 fn key(alloc: Global) -> Result<KeyHead, NoMemory> {
     Ok(KeyHead {
@@ -28,7 +31,7 @@ fn key(alloc: Global) -> Result<KeyHead, NoMemory> {
     })
 }
 
-fn keys(alloc: Global) -> Result<KeyTable, NoMemory> {
+pub(crate) fn keys(alloc: Global) -> Result<KeyTable, NoMemory> {
     let head = key(alloc)?;
     let mut table = KeyTable::new(alloc);
     table.reserve_one()?;
@@ -40,27 +43,27 @@ fn judged(alloc: Global, command: &Command) -> Result<Judged, NoMemory>
     requires { IsTrue (is_judged command.now) }
 {
     let table = keys(alloc)?;
-    judge(alloc, &Classes::new(alloc), &table, command)
+    judge(alloc, &Registry::new(alloc), &table, command)
 }
 
-// What is found of a command: the number of its refusal; or in which cycle what is stored or told, 0 for neither, and what it
-// may cost.
+// What is found of a command: the number of its refusal; or in which cycle what is stored, deleted or printed, 0 for none of
+// these, and what it may cost.
 #[derive(Clone, Copy)]
-enum Found {
+pub(crate) enum Found {
     Refused(u8),
     Accepted { cycle: u16, cost: u64 },
 }
 
 fn cycle_of(work: &Work) -> u16 {
     match work {
+        Work::Class(_) | Work::Ls => 0,
         Work::Put(object) => object.cycle,
-        Work::Get(head) => head.cycle,
-        Work::Ls => 0,
+        Work::Delete(head) | Work::Get(head) => head.cycle,
     }
 }
 
 impl Found {
-    fn is_of(&self, judged: &Judged) -> bool {
+    pub(crate) fn is_of(&self, judged: &Judged) -> bool {
         match (self, judged) {
             (Found::Refused(number), Judged::Refused(refusal)) => refusal.number() == *number,
             (Found::Accepted { cycle, cost }, Judged::Accepted(work)) => {
@@ -227,6 +230,33 @@ fn gets_are_refused_by_the_first_rule(rt: HostRuntime) {
     assert!(rt; is_told(alloc, b"s", Some(65_537), Found::Refused(4)));
     assert!(rt; is_told(alloc, b"s", Some(1), FIRST));
     assert!(rt; is_told(alloc, b"s", None, FIRST));
+}
+
+fn delete_of(alloc: Global, name: &[u8], cycle: u32) -> Result<Command, NoMemory>
+    ensures { IfOk result (λ c. IsTrue (is_judged c)) }
+{
+    Ok(Command::Delete {
+        name: Name::from_slice(alloc, name)?,
+        cycle,
+    })
+}
+
+fn is_deleted(alloc: Global, name: &[u8], cycle: u32, found: Found) -> bool {
+    match delete_of(alloc, name, cycle) {
+        Ok(command) => found.is_found(alloc, &command),
+        Err(_) => false,
+    }
+}
+
+#[test]
+fn deletes_are_refused_by_the_first_rule(rt: HostRuntime) {
+    let alloc = rt.alloc();
+    assert!(rt; is_deleted(alloc, b"x", 1, Found::Refused(3)));
+    assert!(rt; is_deleted(alloc, b"s", 0, Found::Refused(4)));
+    assert!(rt; is_deleted(alloc, b"s", 2, Found::Refused(4)));
+    assert!(rt; is_deleted(alloc, b"s", 65_537, Found::Refused(4)));
+    assert!(rt; is_deleted(alloc, b"StreamerInfo", 1, Found::Refused(3)));
+    assert!(rt; is_deleted(alloc, b"s", 1, FIRST));
 }
 
 const LISTED: Found = Found::Accepted { cycle: 0, cost: 0 };

@@ -2,6 +2,7 @@
 use rio_key::KeyHead;
 use rio_machine::Refusal;
 use rio_num::Name;
+use rio_types::ClassDef;
 use rio_value::Value;
 
 /// An object that is to be stored.
@@ -19,11 +20,24 @@ pub struct StoredObject {
     pub value: Value,
 }
 
+/// A class that is to be declared.
+#[derive(Drop)]
+pub struct NewClass {
+    /// The class, with the newest version of each of its bases.
+    pub class: ClassDef,
+    /// How many bytes the class list has with it.
+    pub length: u32,
+}
+
 /// What a command that isn't refused is to do.
 #[derive(Drop)]
 pub enum Work {
+    /// Declares a class.
+    Class(NewClass),
     /// Stores an object.
     Put(StoredObject),
+    /// Deletes the object of this key, which is there.
+    Delete(KeyHead),
     /// Prints the object of this key, which is there.
     Get(KeyHead),
     /// Prints the names of all objects and trees.
@@ -47,14 +61,16 @@ impl Work {
     ghost use Rattle.rio_step.specs.Refusing.{refusal_of};
     ghost use Rattle.rio_judge.specs.Judging.{IsWorkOf};
 
-    /// What the command may cost of a file's room, in bytes: for a put 500 and what is written of
-    /// the object.
+    /// What the command may cost of a file's room, in bytes: for a declaration 100 and the class list,
+    /// for a put 500 and what is written of the object.
     pub fn cost(&self) -> u64
         ensures { (m : State) (c : Command) → refusal_of m c None ≡ None → IsWorkOf m c self.now
             → result ≡ cost_of m c }
     {
         match self {
+            Work::Class(new) => 100 + u64::from(new.length),
             Work::Put(object) => 500 + u64::from(object.length),
+            Work::Delete(_) => 0,
             Work::Get(_) => 0,
             Work::Ls => 0,
         }

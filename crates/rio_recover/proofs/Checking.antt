@@ -9,8 +9,9 @@ use Rattle.rio_host.specs.{Host.{View}, OnlyReads.{OnlyReads}}
 use Rattle.rio_key.specs.declared.head.KeyHead.{KeyHead}
 use Rattle.rio_head.specs.declared.reason.Reason.{Reason, TheVariants.{BadKey, BadName, BadObject, BadTree, DoubleKey, MixedName}}
 use Rattle.rio_dir.specs.Table.{is_at_cycle, with_head}
-use Rattle.rio_state.specs.Contents.{tree_of}
-use Rattle.rio_state.specs.KeyedRecords.{KeyedRecord, has_item, is_mixed_name, is_outdated, is_top_key, is_tree_key, is_tree_record, item_of_key, top_keys}
+use Rattle.rio_machine.specs.State.{Tree}
+use Rattle.rio_state.specs.Contents.{no_tree_is_read}
+use Rattle.rio_state.specs.KeyedRecords.{KeyedRecord, has_item, is_mixed_name, is_outdated, is_top_key, is_tree_key, is_tree_record, item_of_key, top_keys, tree_records}
 use Rattle.rio_state.specs.Reasons.{Beside, ReasonAt, is_bad_object, is_bad_tree, key_reasons, keys_reasons, reason_at, reason_if}
 use Rattle.rio_state.proofs.NoReason.{none_if}
 use Rattle.rio_recover.specs.{Causes.{Judges}, Checks.{IsChecking, beside_of, is_untitled, item_reasons}, Keys.{StandsIn, keyed, keyed_by, record_heads}}
@@ -61,8 +62,9 @@ put_there put a b new is e = e ∙ ap (λ (x : Bool). cond x a b) is
 module _ (beside : Beside) (before : List KeyedRecord) (r : KeyedRecord) (head : KeyHead) (same : r.head ≡ head) where
   -- no record stands for a tree yet
   pub bad_tree : is_bad_tree beside r ≡ (is_tree_key head && not (is_outdated beside.tops (keyed head)))
-  unfolding tree_of
-  bad_tree = and-true (is_tree_record beside.tops r) ∙ ap (λ (h : KeyHead). is_tree_key h && not (is_outdated beside.tops (keyed h))) same
+  bad_tree =
+      ap (λ (t : Option Tree). is_tree_record beside.tops r && not (is_some t)) (no_tree_is_read beside.classes beside.records (tree_records beside.tops) r)
+      ∙ and-true (is_tree_record beside.tops r) ∙ ap (λ (h : KeyHead). is_tree_key h && not (is_outdated beside.tops (keyed h))) same
 
   pub double : (passed : List KeyHead) → IsPermutation (record_heads before) passed → is_some (find (is_at_cycle head.name head.cycle) passed) ≡ list_any (has_item (item_of_key r.head)) before
   double passed moved =

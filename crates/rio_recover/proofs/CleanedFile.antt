@@ -4,7 +4,7 @@ use Rattle.std.proofs.lemmas.{Bool.{and_from, eq-eqb, ne_eqb}, List.{Elements.{A
 use Rattle.std.specs.{List.{All, filter, list_all}, Option.{IfSome}}
 use Rattle.rio_key.specs.declared.head.KeyHead.{KeyHead}
 use Rattle.rio_chain.specs.{Adjoining.{AreSegments}, Changes.{without_record}, Found.{IsShortKey}, Placing.{file_end, record_count}, Releasing.{without_segment}, declared.segment.Segment.{Segment, TheVariants.{Record, Gap}}}
-use Rattle.rio_chain.proofs.{Freed.{map_without}, Freeing.{link_for, links_for}, Placed.{end-le}, PutChain.{map_end}}
+use Rattle.rio_chain.proofs.{Freed.{map_without}, Freeing.{link_for, links_for}, PutChain.{map_end}}
 use Rattle.rio_state.specs.{Closing.{close_need, name_in}, KeyedRecords.{is_top_key}}
 use Rattle.rio_state.proofs.{LessNeeds.{end_less}, Members.{In, all_at, in_filter, filter_in}}
 use Rattle.rio_recover.specs.{Checks.{is_untitled}, Cleaning.{AreReleasable, AreRising, IsCleaned, without_segments}, Closable.{IsClosable, is_fit_key, is_placed, is_sized, kept_with, list_count, name_limit}}
@@ -192,16 +192,15 @@ module _ (r : Recovered) (w : IsWhole r) where
       let g = All-head IsGoodKey begins.first begins.others (subst (All IsGoodKey) begins.is all) in
       subst (λ (xs : List ℕ). length xs ≤ name_limit) (sym name) (file_name begins.first g.small g.short begins.class)
 
-  pub directory : r.nbytes_name + 160 ≤ file_end left
+  pub directory : HoldsDirectory r.nbytes_name left
   directory = by segments w.shape w.directory
     where
-      by : (ss : List Segment) → AreSegments ss → HoldsDirectory r.nbytes_name ss → r.nbytes_name + 160 ≤ file_end (without_segments r.garbage ss)
+      by : (ss : List Segment) → AreSegments ss → HoldsDirectory r.nbytes_name ss → HoldsDirectory r.nbytes_name (without_segments r.garbage ss)
       by [] shape holds = absurd holds
       by (Gap p n ∷ ss) shape holds = absurd holds
       by (Record p n ∷ ss) shape holds =
           let f = subst (λ (q : ℕ). FirstStays n (without_segments r.garbage (Record q n ∷ ss))) (sym shape.adjacent.0.there) (first_stays n 100 r.garbage ss (omega arith) releasable.rising) in
-          let end : file_end (without_segments r.garbage (Record p n ∷ ss)) ≡ file_end (Record 100 n ∷ f.rest) = ap file_end f.is in
-          omega (arith, end, end-le (100 + n) f.rest, holds)
+          subst (HoldsDirectory r.nbytes_name) (sym f.is) holds
 
   pub closable : HasRoomBehind r → IsClosable left r.table.heads r.info r.name
   closable room = record {
@@ -230,5 +229,5 @@ is_cleaned before after w room segments fresh registry table info name nbytes_na
       info = info;
       name = name;
       nbytes_name = nbytes_name;
-      directory = subst (λ (x : ℕ × List Segment). x.0 + 160 ≤ file_end x.1) (λ i. (sym nbytes_name i, sym segments i)) (directory before w);
+      directory = subst (λ (x : ℕ × List Segment). HoldsDirectory x.0 x.1) (λ i. (sym nbytes_name i, sym segments i)) (directory before w);
     }

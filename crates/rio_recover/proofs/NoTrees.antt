@@ -1,12 +1,12 @@
 -- Where nothing is against the keys of objects and trees, none is a tree's, since no tree is read yet.
 use Rattle.std.proofs.Common.{◌≡◌, ◌⊎◌, inl, inr, ◌∙◌, ℕ, zero, suc, ◌+◌, ◌<◌, ◌≤◌, List, [], ◌∷◌, ◌++◌, length, Bool, true, false, cond, not, ◌&&◌, ◌||◌, ltb, refl, sym, ap, subst, arith}
 use Rattle.std.proofs.{lemmas.Bool.{and_parts, ltb-true}, lemmas.List.{append-nil, Sorted.{Contains-permutation, IsPermutation-sym}, Sums.{sum_by-cons}}}
-use Rattle.std.specs.{List.{Contains, filter, list_all, list_any, sum_by}, Str.{bytes_eq}}
+use Rattle.std.specs.{Prelude.{is_some}, List.{Contains, filter, list_all, list_any, sum_by}, Str.{bytes_eq}}
 use Rattle.rio_types.specs.declared.class.ClassDef.{ClassDef}
 use Rattle.rio_key.specs.declared.head.KeyHead.{KeyHead}
 use Rattle.rio_dir.specs.Table.{AreOrdered}
 use Rattle.rio_state.proofs.{NoReason.{beside_of, is_tree_read}, Unreasoned.{keys_kept, nil_two}}
-use Rattle.rio_state.specs.{Closing.{item_heads}, Contents.{tree_of}, DirectoryKeys.{AreKeysOf}}
+use Rattle.rio_state.specs.{Closing.{item_heads}, Contents.{no_tree_is_read}, DirectoryKeys.{AreKeysOf}}
 use Rattle.rio_state.specs.KeyedRecords.{KeyedRecord, info_key, is_outdated, is_tree_key, is_tree_record, object_records, top_keys, tree_records}
 use Rattle.rio_state.specs.Reasons.{Beside, directory_reasons, info_reasons, items_among, keys_reasons, state_reasons}
 use Rattle.rio_recover.specs.{Keys.{record_heads}, Recovered.{AreItemsOf}}
@@ -54,9 +54,10 @@ kept_all p (x ∷ xs) e =
 
 module _ (beside : Beside) where
   unread : (rs : List KeyedRecord) → list_all (is_tree_read beside) rs ≡ true → rs ≡ []
-  unfolding tree_of
   unread [] e = refl
-  unread (r ∷ rs) e = absurd cc
+  unread (r ∷ rs) e =
+      let one : false ≡ true = ap is_some (sym (no_tree_is_read beside.classes beside.records (tree_records beside.tops) r)) ∙ (and_parts (is_tree_read beside r) (list_all (is_tree_read beside) rs) e).0 in
+      absurd cc
 
   left_out : (p : KeyedRecord → Bool) (rs : List KeyedRecord) → filter p rs ≡ [] → (r : KeyedRecord) → Among rs r → p r ≡ false
   left_out p [] e r a = absurd a

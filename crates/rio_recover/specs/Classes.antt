@@ -1,6 +1,7 @@
 -- The classes that a file's class list stands for.
-use Rattle.std.specs.Prelude.{◌≡◌, List, Option, Some, None}
+use Rattle.std.specs.Prelude.{◌≡◌, ◌≤◌, ◌+◌, List, length, Option, Some, None, IfSome}
 use Rattle.rio_types.specs.declared.class.ClassDef.{ClassDef}
+use Rattle.rio_key.specs.declared.head.KeyHead.{KeyHead}
 use Rattle.rio_format.specs.TreeClasses.{written_classes}
 use Rattle.rio_model.specs.StateClasses.{StateClasses}
 use Rattle.rio_state.specs.{Contents.{HasStateClasses, state_classes}, KeyedRecords.{KeyedRecord}}
@@ -13,3 +14,7 @@ AreClassesOf info (Some classes) = HasStateClasses info × (classes ≡ state_cl
 -- the classes of trees, and then those of a state
 abbrev pub AreListedForState : List ClassDef → Type 0
 AreListedForState classes = (declared : List ClassDef) × (classes ≡ written_classes declared) × StateClasses declared
+
+-- the cycle of the class list that counts, if there is one, is at most one more than there are classes
+abbrev pub HasListCycle : Option KeyHead → List ClassDef → Type 0
+HasListCycle info classes = IfSome info (λ h. h.cycle ≤ length classes + 1)

@@ -3,11 +3,11 @@ use Rattle.std.specs.Prelude.{◌≡◌, ◌+◌, ◌<◌, ◌≤◌, ℕ, List,
 use Rattle.std.specs.List.{fold, list_all, list_any}
 use Rattle.rio_key.specs.declared.head.KeyHead.{KeyHead}
 use Rattle.rio_host.specs.Host.{View}
-use Rattle.rio_chain.specs.{Chains.{HasChain}, Changes.{without_record}, Placing.{file_end}, Releasing.{without_segment}, Segments.{IsChain, Link}, Stops.{IsSaidText, KeepsFront}, declared.segment.Segment.{Segment}}
+use Rattle.rio_chain.specs.{Chains.{HasChain}, Changes.{without_record}, Releasing.{without_segment}, Segments.{IsChain, Link}, Stops.{IsSaidText, KeepsFront}, declared.segment.Segment.{Segment}}
 use Rattle.rio_machine.specs.State.{State}
 use Rattle.rio_state.specs.{Cleaning.{unreferred}, Closing.{kept_in, name_in}, DirectoryKeys.{AreKeysOf}, KeyedRecords.{info_key, keyed_records}}
 use Rattle.rio_state.specs.{OneLess.{NeedsNoMore}, Reads.{AreRecordsOf}}
-use Rattle.rio_recover.specs.{Closable.{IsClosable, begins_at}, Recovered.{garbage_of}, declared.recovery.Recovered.{Recovered}}
+use Rattle.rio_recover.specs.{Closable.{IsClosable, begins_at}, Recovered.{garbage_of}, Whole.{HoldsDirectory}, declared.recovery.Recovered.{Recovered}}
 
 -- the links without the records at these places, one after the other
 abbrev pub without_all : List ℕ → List Link → List Link
@@ -72,8 +72,7 @@ pub record IsCleaned (before after : Recovered) : Type 0 where
   pub info : after.info ≡ before.info
   pub name : after.name ≡ before.name
   pub nbytes_name : after.nbytes_name ≡ before.nbytes_name
-  -- the directory record stands before END
-  pub directory : after.nbytes_name + 160 ≤ file_end after.chain.segments
+  pub directory : HoldsDirectory after.nbytes_name after.chain.segments
 
 -- a file without its garbage is one
 abbrev pub GarbageIsCleaned : Type 0

@@ -5,7 +5,7 @@ use Rattle.rio_key.specs.declared.head.KeyHead.{KeyHead}
 use Rattle.rio_chain.specs.{Adjoining.{AreSegments}, Keyed.{AreKeyed, IsRecordKey}, declared.segment.Segment.{Segment, TheVariants.{Record, Gap}}}
 use Rattle.rio_model.specs.StateClasses.{StateClasses}
 use Rattle.rio_state.specs.{Closing.{name_in}, KeyedRecords.{info_key, is_top_key}, Left.{info_head}}
-use Rattle.rio_recover.specs.{Keys.{keyed_by}, Recovered.{place_in, places_left}, declared.recovery.Recovered.{Recovered}}
+use Rattle.rio_recover.specs.{Classes.{HasListCycle}, Keys.{keyed_by}, Recovered.{place_in, places_left}, declared.recovery.Recovered.{Recovered}}
 
 -- the first key is that of a first record
 abbrev pub BeginsWithFile : List KeyHead → Type 0
@@ -19,8 +19,8 @@ HoldsDirectory nbytes_name (Record place n ∷ segments) = nbytes_name + 60 ≤ 
 HoldsDirectory nbytes_name (Gap place n ∷ segments) = ⊥
 
 -- Each record of the chain has one of these keys, which tells its place and its length. The items' keys, the class list that counts, the
--- garbage and the file's name are what these keys tell; the items' keys have no titles. The classes are such as commands declare, and the
--- directory record stands where the header says.
+-- garbage and the file's name are what these keys tell; the items' keys have no titles. The classes are such as commands declare, the
+-- class list that counts has a cycle that so many commands give, and the directory record stands where the header says.
 pub record IsWhole (r : Recovered) : Type 0 where
   pub heads : List KeyHead
   pub shape : AreSegments r.chain.segments
@@ -32,4 +32,5 @@ pub record IsWhole (r : Recovered) : Type 0 where
   pub garbage : r.garbage ≡ places_left (place_in r.info) heads
   pub name : r.name ≡ name_in (keyed_by heads)
   pub classes : StateClasses r.registry
+  pub listed : HasListCycle r.info r.registry
   pub directory : HoldsDirectory r.nbytes_name r.chain.segments

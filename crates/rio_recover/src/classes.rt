@@ -8,7 +8,7 @@ ghost use Rattle.rio_host.specs.OnlyReads.{OnlyReads};
 ghost use Rattle.rio_model.specs.StateClasses.{AreDeclared, HasShortList, IsDeclared, StateClasses};
 ghost use Rattle.rio_state.specs.KeyedRecords.{KeyedRecord};
 ghost use Rattle.rio_recover.specs.Causes.{IsRecoverCause, Obtains};
-ghost use Rattle.rio_recover.specs.Classes.{AreClassesOf, AreListedForState};
+ghost use Rattle.rio_recover.specs.Classes.{AreClassesOf, AreListedForState, HasListCycle};
 ghost use Rattle.rio_recover.specs.Keys.{StandsIn, record_end};
 
 use crate::RecoverFault;
@@ -167,6 +167,8 @@ pub(crate) fn read_classes<H: Host>(
         → option_map (λ r. r.head) found ≡ option_copied info.entry
         → Obtains result (AreClassesOf found) }
     ensures state { IfOk result (λ classes. IfSome classes StateClasses) }
+    ensures listed { IfOk result
+        (λ classes. IfSome classes (HasListCycle (option_copied info.entry))) }
     ensures calls { OnlyReads (H.view host.old) (H.view host.new) }
     ensures cause { IsRecoverCause (H.view host.old) (H.view host.new) result }
 {

@@ -1,11 +1,12 @@
 //! The state that a file reads as, by a walk through it, with every reason why nothing is written to a file.
-//! [`is_unborn`] tells whether a file is made. Of a made one [`recover`] tells the state, or the first rule that its
+//! [`is_unborn`] returns whether a file is made. Of a made one [`recover`] returns the state, or the first rule that its
 //! header breaks, or the first reason not to write to it, and writes nothing. [`clean`] releases the records that nothing
-//! refers to. No tree is read yet: a tree's key is a
-//! reason, unless another has its name and a higher cycle.
+//! refers to. No tree is read yet: a tree's key is a reason, unless another has its name and a higher cycle.
 //!
-//! The definitions stand in `specs/`: `Recovered` (what is recovered and what is answered) and `Causes` (why a call
-//! fails); `Walked`, `Keys`, `Names`, `Checks` and `Classes` are of the steps. Its tests stand in `rio_file_rows`.
+//! The definitions stand in `specs/`: `Recovered` (what is recovered and what is returned), `Whole` (the same of what the
+//! keys say, over any host), `Closable` (what a close needs of it), `Cleaning` (what is left after a release) and `Causes`
+//! (why a call fails); `Walked`, `Keys`, `Names`, `Checks` and `Classes` are of the steps. Its tests stand in
+//! `rio_file_rows`.
 #![tactic(auto)]
 
 mod classes;

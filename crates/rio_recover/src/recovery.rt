@@ -17,6 +17,7 @@ ghost use Rattle.rio_state.specs.Closing.{end_limit, name_in};
 ghost use Rattle.rio_state.specs.KeyedRecords.{KeyedRecord, info_key, is_top_key, keyed_records};
 ghost use Rattle.rio_recover.specs.Causes.{IsRecoverCause};
 ghost use Rattle.rio_recover.specs.Checks.{is_untitled};
+ghost use Rattle.rio_recover.specs.Classes.{HasListCycle};
 ghost use Rattle.rio_recover.specs.Keys.{AreWithin, StandsIn, keyed_by, record_heads};
 ghost use Rattle.rio_recover.specs.Walked.{IsWholeWalk};
 ghost use Rattle.rio_recover.specs.Whole.{IsWhole};
@@ -130,6 +131,8 @@ fn read_state<H: Host>(
         (λ state. IsPermutation (filter is_top_key heads.now) state.table.heads) }
     ensures untitled { IfOk result (λ state. list_all is_untitled state.table.heads ≡ true) }
     ensures classes { IfOk result (λ state. StateClasses state.registry) }
+    ensures listed { IfOk result
+        (λ state. HasListCycle (option_copied info.entry) state.registry) }
     ensures calls { OnlyReads (H.view host.old) (H.view host.new) }
     ensures cause { IsRecoverCause (H.view host.old) (H.view host.new) result }
 {

@@ -4,7 +4,7 @@ ghost use Rattle.rio_format.specs.Objects.{value_at};
 ghost use Rattle.rio_machine.specs.State.{State};
 ghost use Rattle.rio_step.specs.ItemKeys.{AreKeysOfState};
 ghost use Rattle.rio_step.specs.ReplyText.{text_of};
-ghost use Rattle.rio_step.specs.Step.{items_listed, items_of, object_put, object_told, refused};
+ghost use Rattle.rio_step.specs.Step.{class_declared, item_deleted, items_listed, items_of, object_put, object_told, refused};
 ghost use Rattle.rio_value.specs.declared.value.Value.{Value};
 ghost use Rattle.rio_reply.specs.Told.{listing_of, told_of};
 
@@ -33,6 +33,32 @@ pub fn put_reply(alloc: Global, name: &[u8], cycle: u16) -> Result<Bytes, NoMemo
 {
     let mut text = Bytes::new(alloc);
     text.put(b"ok put ")?;
+    put_item(&mut text, name, cycle)?;
+    text.put(b"\n")?;
+    Ok(text)
+}
+
+/// What is said of a class that was declared: `ok class NAME VERSION`.
+#[tactic(auto, unfolding(rio_step::specs::ReplyText::text_of))]
+pub fn class_reply(alloc: Global, name: &[u8], version: i32) -> Result<Bytes, NoMemory>
+    ensures { IfOk result (λ text. text.bytes ≡ text_of (class_declared name.now version)) }
+{
+    let mut text = Bytes::new(alloc);
+    text.put(b"ok class ")?;
+    text.put_name(name)?;
+    text.put(b" ")?;
+    text.put_integer(i128::from(version))?;
+    text.put(b"\n")?;
+    Ok(text)
+}
+
+/// What is said of an object that was deleted: `ok delete NAME;CYCLE`.
+#[tactic(auto, unfolding(rio_step::specs::ReplyText::text_of))]
+pub fn delete_reply(alloc: Global, name: &[u8], cycle: u16) -> Result<Bytes, NoMemory>
+    ensures { IfOk result (λ text. text.bytes ≡ text_of (item_deleted name.now cycle)) }
+{
+    let mut text = Bytes::new(alloc);
+    text.put(b"ok delete ")?;
     put_item(&mut text, name, cycle)?;
     text.put(b"\n")?;
     Ok(text)

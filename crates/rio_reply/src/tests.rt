@@ -1,5 +1,5 @@
 //! Replies as they are said.
-use crate::{get_reply, listing_reply, put_reply, refusal_reply};
+use crate::{class_reply, delete_reply, get_reply, listing_reply, put_reply, refusal_reply};
 use rio_key::KeyHead;
 use rio_machine::Refusal;
 use rio_num::Name;
@@ -25,9 +25,13 @@ fn head(alloc: Global, name: &[u8], cycle: u16) -> Result<KeyHead, Fail> {
 }
 
 #[test]
-fn says_what_was_put_or_refused(rt: HostRuntime) -> Result<(), Fail> {
+fn says_what_was_done_or_refused(rt: HostRuntime) -> Result<(), Fail> {
     let put = put_reply(rt.alloc(), b"s", 2)?;
     assert!(rt; put.as_slice() == b"ok put s;2\n".as_slice());
+    let deleted = delete_reply(rt.alloc(), b"s", 2)?;
+    assert!(rt; deleted.as_slice() == b"ok delete s;2\n".as_slice());
+    let declared = class_reply(rt.alloc(), b"Node", 1)?;
+    assert!(rt; declared.as_slice() == b"ok class Node 1\n".as_slice());
     let refused = refusal_reply(rt.alloc(), &Refusal::NoSuchCycle)?;
     assert!(rt; refused.as_slice() == b"no 4 NoSuchCycle\n".as_slice());
     Ok(())

@@ -1,14 +1,14 @@
 -- What a close needs, of what a session keeps.
-use Rattle.std.proofs.Common.{◌≡◌, ◌≤◌, ◌<◌, ◌+◌, ◌-◌, ◌==◌, ◌||◌, ◌^◌, true≢false, ℕ, Bool, true, false, leb, ltb, List, [], ◌∷◌, length, Option, Some, None, Bor, refl, sym, ap, subst, ◌∙◌, arith}
-use Rattle.std.proofs.{lemmas.Bool.{and_parts, eqb-true, leb-true, ltb-true}, lemmas.List.Folds.{list_all_at}}
-use Rattle.std.specs.{Prelude.{IfSome, if◌then◌else◌, slice_index_or}, List.{All, list_all, list_any}, Option.{option_copied}}
+use Rattle.std.proofs.Common.{◌≡◌, ◌≤◌, ◌<◌, ◌+◌, ◌==◌, ◌||◌, ◌^◌, true≢false, ℕ, Bool, true, false, leb, ltb, List, [], ◌∷◌, length, Option, Some, None, Bor, refl, sym, ap, subst, ◌∙◌, arith}
+use Rattle.std.proofs.{lemmas.Bool.{and_parts, eqb-true, leb-true, ltb-true, ne_eqb}, lemmas.List.Folds.{list_all_at}}
+use Rattle.std.specs.{Prelude.{IfSome, slice_index_or}, List.{All, list_all, list_any}, Option.{option_copied}}
 use Rattle.rio_num.specs.At.{place_len_of}
 use Rattle.rio_key.specs.{Written.{FitsKey}, declared.head.KeyHead.{KeyHead}}
 use Rattle.rio_dir.specs.Table.{heads_size}
-use Rattle.rio_chain.specs.{Adjoining.{AreAdjacent, AreSegments, segments_end}, Placing.{file_end, record_count, rest_of_gap, with_segment}}
+use Rattle.rio_chain.specs.{Adjoining.{AreAdjacent, AreSegments, segments_end}, Placing.{file_end, record_count, with_segment}, Releasing.{without_segment}}
 use Rattle.rio_chain.specs.declared.segment.Segment.{Segment, TheVariants.{Record, Gap}}
 use Rattle.rio_state.specs.Sizes.{close_size}
-use Rattle.rio_recover.specs.Closable.{IsClosable, begins_at, is_fit_key, is_placed, kept_with}
+use Rattle.rio_recover.specs.{Closable.{IsClosable, begins_at, is_fit_key, is_placed, kept_with}, Whole.{HoldsDirectory}}
 use Rattle.rio_state.proofs.CloseSizes.{close_size_is_need}
 
 -- ---- keys
@@ -70,29 +70,29 @@ list_low segments heads info name (Some h) shape kept is =
     let placed : is_placed segments h.now ≡ true = subst (λ (o : Option KeyHead). IfSome o (λ k. is_placed segments k ≡ true)) (sym is) kept.listed in
     omega (arith, begins_low 100 h.now.seek segments shape.adjacent placed, kept.room)
 
--- ---- END
+-- ---- the directory record
 
-end_later : (m n : ℕ) (segments : List Segment) → m ≤ n → segments_end m segments ≤ segments_end n segments
-end_later m n [] le = le
-end_later m n (Record p k ∷ segments) le = end_later (m + k) (n + k) segments (omega (arith, le))
-end_later m n (Gap p k ∷ segments) le = end_later (m + k) (n + k) segments (omega (arith, le))
+-- it is within the first record, and so before END
+pub directory_low : (nbytes_name : ℕ) (segments : List Segment) → HoldsDirectory nbytes_name segments → nbytes_name + 160 ≤ file_end segments
+directory_low nbytes_name [] within = absurd within
+directory_low nbytes_name (Gap p n ∷ segments) within = absurd within
+directory_low nbytes_name (Record p n ∷ segments) within = omega (arith, within, end_least (100 + n) segments)
 
-rest_later : (from m n place : ℕ) (segments : List Segment) → segments_end (from + m) segments ≤ segments_end (from + n) (rest_of_gap place (m - n) segments)
-rest_later from m n place segments =
-    elim (m - n == 0) as (λ b. (m - n == 0) ≡ b → segments_end (from + m) segments ≤ segments_end (from + n) (if b then segments else Gap place (m - n) ∷ segments)) [
-      | true ↦ λ e. end_later (from + m) (from + n) segments (omega (arith, eqb-true (m - n) 0 e))
-      | false ↦ λ e. end_later (from + m) (from + n + (m - n)) segments (omega arith)
-    ] refl
+first_stays : (nbytes_name place n : ℕ) (segments : List Segment) → HoldsDirectory nbytes_name segments → HoldsDirectory nbytes_name (with_segment place n segments)
+first_stays nbytes_name place n [] within = absurd within
+first_stays nbytes_name place n (Gap p k ∷ segments) within = absurd within
+first_stays nbytes_name place n (Record p k ∷ segments) within = within
 
-with_later : (from place n : ℕ) (segments : List Segment) → segments_end from segments ≤ segments_end from (with_segment place n segments)
-with_later from place n [] = omega arith
-with_later from place n (Record p k ∷ segments) = with_later (from + k) place n segments
-with_later from place n (Gap p k ∷ segments) =
-    elim (p == place) as (λ b. segments_end (from + k) segments ≤ segments_end from (if b then Record place n ∷ rest_of_gap (place + n) (k - n) segments else Gap p k ∷ with_segment place n segments)) [
-      | true ↦ rest_later from k n (place + n) segments
-      | false ↦ with_later (from + k) place n segments
-    ]
+-- it is where a record is put
+pub directory_stays : (nbytes_name place n : ℕ) (segments segments' : List Segment) → segments' ≡ with_segment place n segments → HoldsDirectory nbytes_name segments → HoldsDirectory nbytes_name segments'
+directory_stays nbytes_name place n segments segments' put within = subst (HoldsDirectory nbytes_name) (sym put) (first_stays nbytes_name place n segments within)
 
--- END doesn't fall where a record is put, so the directory record stays before it
-pub directory_stays : (nbytes_name place n : ℕ) (segments segments' : List Segment) → segments' ≡ with_segment place n segments → nbytes_name + 160 ≤ file_end segments → nbytes_name + 160 ≤ file_end segments'
-directory_stays nbytes_name place n segments segments' put low = omega (arith, low, with_later 100 place n segments, ap file_end put)
+other_stays : (nbytes_name place : ℕ) (segments : List Segment) → 100 < place → AreAdjacent 100 segments → HoldsDirectory nbytes_name segments → HoldsDirectory nbytes_name (without_segment place segments)
+other_stays nbytes_name place [] later are within = absurd within
+other_stays nbytes_name place (Gap p k ∷ segments) later are within = absurd within
+other_stays nbytes_name place (Record p k ∷ segments) later are within =
+    let other : (p == place) ≡ false = ne_eqb p place (omega (arith, are.0.there, later)) in rw other within
+
+-- and where one is released that isn't the first
+pub directory_left : (nbytes_name place : ℕ) (segments segments' : List Segment) → segments' ≡ without_segment place segments → 100 < place → AreAdjacent 100 segments → HoldsDirectory nbytes_name segments → HoldsDirectory nbytes_name segments'
+directory_left nbytes_name place segments segments' left later are within = subst (HoldsDirectory nbytes_name) (sym left) (other_stays nbytes_name place segments later are within)

@@ -14,19 +14,19 @@ use Rattle.rio_chain.specs.declared.record.NewRecord.{NewRecord}
 use Rattle.rio_reply.specs.Told.{listing_of}
 use Rattle.rio_state.specs.Closing.{close_need, is_full, padded_length}
 use Rattle.rio_step.specs.{Costs.{cost_of, value_size}, Refusing.{refusal_of}, ReplyText.{text_of}, Step.{object_put, outcome_of, refused}}
-use Rattle.rio_judge.specs.Judging.{IsJudgementOfStates, IsStep, WorkCanBeDone, is_judged}
+use Rattle.rio_judge.specs.Judging.{IsJudgementOfStates, IsStep, WorkCanBeDone}
 use Rattle.rio_judge.specs.declared.work.Judged.TheVariants.{Accepted as Judgement, Refused as RefusalOf}
 use Rattle.rio_judge.specs.declared.work.{StoredObject.{StoredObject}, Work.TheVariants.{Put as Storing, Get as Telling, Ls as Listing}}
 use Rattle.rio_effect.specs.ObjectRecord.{key_of_put}
 use Rattle.rio_judge.proofs.CostLaws.{cost_accepted}
 use Rattle.rio_model.specs.StateClasses.{StateClasses}
 use Rattle.rio_recover.specs.Closable.{IsClosable, is_sized, kept_with}
-use Rattle.rio_session.specs.{Behind.{IsOfKeys}, Doable.{IsToDo}, Does.{Does}, Causes.{IsSaid}, Gets.{TellsObject}, Kept.{IsSoundState}}
-use Rattle.rio_session.specs.{Puts.{IsStoredRecord, PutsRecord, putting}, Says.{SaysReply}}
-use Rattle.rio_session.specs.{Session.{IsReady, LacksRoomIfFull, SessionState, StandsFor, next_of, with_cost}, declared.fault.SessionFault.{SessionFault}}
+use Rattle.rio_session.specs.{Behind.{IsOfKeys}, Changing.{ChangesFile}, Doable.{IsToDo, is_done}, Does.{Does}, Causes.{IsSaid}, Effects.{IsChangeOf, TakesEffect}, Gets.{TellsObject}, Sound.{IsSoundState}}
+use Rattle.rio_session.specs.{Puts.{IsStoredRecord, putting}, Says.{SaysReply}}
+use Rattle.rio_session.specs.{Session.{HoldsState, IsReady, LacksRoomIfFull, SessionState, StandsFor, next_of, with_cost}, declared.fault.SessionFault.{SessionFault}}
 use Rattle.rio_session.proofs.OtherSteps.{get_outcome, get_still, get_told, ls_outcome, ls_still, ls_told, refused_lacks, refused_outcome, refused_still, refused_told}
-use Rattle.rio_session.proofs.{PutAnswers.{IsPutStep, IsPutting, does_put}, PutFacts.{is_put_of}}
-use Rattle.rio_session.proofs.PutSteps.{full_lacks, full_outcome, full_still, full_told, key_class, key_name, key_sized, put_is_kept, put_is_step}
+use Rattle.rio_session.proofs.{Changed.{does_change}, PutEffects.{put_takes_effect_on}}
+use Rattle.rio_session.proofs.PutSteps.{full_lacks, full_outcome, full_still, full_told, key_class, key_name, key_sized, put_is_change}
 use Rattle.rio_session.proofs.{Replies.{IsStill, does_says}, States.{of_keys}}
 
 -- ---- which command it is
@@ -43,7 +43,7 @@ is_ls classes heads (Get name cycle version) can = absurd can
 is_ls classes heads (Scan name class) can = absurd can
 is_ls classes heads Ls can = refl
 
-pub is_get : (classes : List ClassDef) (heads : List KeyHead) (c : Command) (h : KeyHead) → WorkCanBeDone classes heads c (Telling h) → is_judged c ≡ true → (name : List ℕ) × (asked : Option ℕ) × (c ≡ Get name asked None)
+pub is_get : (classes : List ClassDef) (heads : List KeyHead) (c : Command) (h : KeyHead) → WorkCanBeDone classes heads c (Telling h) → is_done c ≡ true → (name : List ℕ) × (asked : Option ℕ) × (c ≡ Get name asked None)
 is_get classes heads (Bad line place) h can built = absurd can
 is_get classes heads (Class class) h can built = absurd can
 is_get classes heads (Put name v) h can built = absurd can
@@ -71,10 +71,6 @@ is_put classes heads Ls o can = absurd can
 module _ (old new : View) (s s' : SessionState) (law : IsLawful old) (law' : IsLawful new) (ready : IsReady old s) (fresh : s.failed ≡ false) (answer : Result Outcome SessionFault) where
   -- ---- refused by the state
 
-  not_accepted : (a : Result Outcome SessionFault) (c : Command) (refusal : Refusal) → IfOk a (λ outcome. outcome ≡ Refused refusal) → IfOk a (λ outcome. (name : List ℕ) (v : Value) → c ≡ Put name v → outcome ≡ Accepted → ⊥)
-  not_accepted (Ok outcome) c refusal is = λ name v put accepted. let same : Refused refusal ≡ Accepted = sym is ∙ accepted in absurd cc
-  not_accepted (Err e) c refusal is = tt
-
   same_refused : (c : Command) (refusal : Refusal) (a : Result Outcome SessionFault) → IsJudgementOfStates s.classes s.heads c (RefusalOf refusal) → IfOk a (λ outcome. outcome ≡ Refused refusal)
       → IfOk a (λ outcome. (m : State) → IsOfKeys s m → outcome ≡ outcome_of (next_of s m c).reply)
   same_refused c refusal (Ok outcome) judged is = λ m keys. is ∙ sym (refused_outcome s m c refusal (judged m keys.classes keys.keys))
@@ -86,7 +82,7 @@ module _ (old new : View) (s s' : SessionState) (law : IsLawful old) (law' : IsL
       does_says old new s s' (text_of (refused refusal)) 0 law law' ready c answer fresh says
       (λ spoken m keys. refused_still s m c refusal (judged m keys.classes keys.keys))
       (λ spoken m said st. let keys = of_keys s m st.file st.state in refused_told s m c refusal (judged m keys.classes keys.keys))
-      (same_refused c refusal answer judged is) lacks (not_accepted answer c refusal is)
+      (same_refused c refusal answer judged is) lacks
     where
       lacks : IsSaid answer → (m : State) (said : List ℕ) → StandsFor old s m said → LacksRoomIfFull (with_cost 0 s) (outcome_of (next_of s m c).reply)
       lacks spoken m said st =
@@ -105,16 +101,12 @@ module _ (old new : View) (s s' : SessionState) (law : IsLawful old) (law' : IsL
       → (m : State) (said : List ℕ) → StandsFor old s m said → LacksRoomIfFull (with_cost 0 s) (outcome_of (next_of s m c).reply)
   lacks_accepted c accepted m said st = subst (λ (o : Outcome). LacksRoomIfFull (with_cost 0 s) o) (sym (accepted m (of_keys s m st.file st.state))) tt
 
-  no_put : (c : Command) (a : Result Outcome SessionFault) → ((name : List ℕ) (v : Value) → c ≡ Put name v → ⊥) → IfOk a (λ outcome. (name : List ℕ) (v : Value) → c ≡ Put name v → outcome ≡ Accepted → ⊥)
-  no_put c (Ok outcome) other = λ name v put accepted. other name v put
-  no_put c (Err e) other = tt
-
   pub ls_does : IsSoundState s → IsJudgementOfStates s.classes s.heads Ls (Judgement Listing) → SaysReply (listing_of s.heads) 0 old new s s' answer → IfOk answer (λ outcome. outcome ≡ Accepted) → Does old new s s' Ls answer
   ls_does sound judged says is =
       does_says old new s s' (listing_of s.heads) 0 law law' ready Ls answer fresh says
       (λ spoken m keys. ls_still s m keys (sound.kept fresh) (judged m keys.classes keys.keys).0)
       (λ spoken m said st. let keys = of_keys s m st.file st.state in ls_told s m keys (sound.kept fresh) (judged m keys.classes keys.keys).0)
-      (same_accepted Ls answer outcome is) (λ spoken. lacks_accepted Ls outcome) (no_put Ls answer (λ name v put. absurd cc))
+      (same_accepted Ls answer outcome is) (λ spoken. lacks_accepted Ls outcome)
     where
       outcome : (m : State) → IsOfKeys s m → outcome_of (next_of s m Ls).reply ≡ Accepted
       outcome m keys = ls_outcome s m keys (sound.kept fresh) (judged m keys.classes keys.keys).0
@@ -125,7 +117,7 @@ module _ (old new : View) (s s' : SessionState) (law : IsLawful old) (law' : IsL
       does_says old new s s' t.text 0 law law' ready (Get name asked None) answer fresh t.says
       (λ spoken m keys. get_still s m keys (sound.kept fresh) name asked (judged m keys.classes keys.keys).0)
       told
-      (same_accepted (Get name asked None) answer outcome is) (λ spoken. lacks_accepted (Get name asked None) outcome) (no_put (Get name asked None) answer (λ own v put. absurd cc))
+      (same_accepted (Get name asked None) answer outcome is) (λ spoken. lacks_accepted (Get name asked None) outcome)
     where
       outcome : (m : State) → IsOfKeys s m → outcome_of (next_of s m (Get name asked None)).reply ≡ Accepted
       outcome m keys = get_outcome s m keys (sound.kept fresh) name asked (judged m keys.classes keys.keys).0
@@ -170,23 +162,17 @@ module _ (old new : View) (s s' : SessionState) (law : IsLawful old) (law' : IsL
         subst (λ (x : ℕ × ℕ). is_full s.segments (x.0 ∷ []) x.1 ≡ b) (λ i. (n_is i, k i)) is
 
     pub put_does : (place : ℕ) (made : NewRecord) (text : List ℕ) → place < 2 ^ 32 → IsStoredRecord s place o made → text ≡ text_of (object_put o.name o.cycle)
-        → place ≡ place_of s.segments n → is_full s.segments (n ∷ []) need ≡ false → PutsRecord (putting made text cost) old new s s' answer → IfOk answer (λ outcome. outcome ≡ Accepted) → Does old new s s' (Put o.name v) answer
-    put_does place made text low r text_is at room puts is = does_put (putting made text cost) old new s s' law ready o.name v answer fresh law' puts kept_step step is
+        → place ≡ place_of s.segments n → is_full s.segments (n ∷ []) need ≡ false → ChangesFile (putting s made text cost) old new s s' answer → IfOk answer (λ outcome. outcome ≡ Accepted) → Does old new s s' (Put o.name v) answer
+    put_does place made text low r text_is at room changes is =
+        does_change (putting s made text cost) old new s s' law ready (Put o.name v) answer fresh fresh law' changes refl is_change takes is
       where
-        kept_step : (m : State) → IsOfKeys s m → IsPutStep (putting made text cost) s m o.name v
-        kept_step m keys =
+        is_change : (m : State) → IsOfKeys s m → IsChangeOf (putting s made text cost) s m (Put o.name v)
+        is_change m keys =
             let j = its m keys in
-            put_is_kept s m keys kept.count kept.sized v o place low soon named j.0 j.1 unused (putting made text cost)
-            (is_put_of s place o made r m v (sym keys.classes) j.0 j.1 text cost text_is cost_is)
-            (room_is false place low room m keys) (at ∙ ap (place_of s.segments) n_is) r.long
+            put_is_change s m keys kept.count kept.sized v o place low soon named j.0 j.1 unused made r (room_is false place low room m keys) (at ∙ ap (place_of s.segments) n_is) text cost text_is cost_is
 
-        step : (m : State) (said : List ℕ) (st : StandsFor old s m said) → IsPutting (putting made text cost) s m (Put o.name v) st.state.links
-        step m said st =
-            let keys = of_keys s m st.file st.state in
-            let j = its m keys in
-            put_is_step s m st.file st.state classes kept.count kept.sized v o place low soon named j.0 j.1 unused (putting made text cost)
-            (is_put_of s place o made r m v (sym keys.classes) j.0 j.1 text cost text_is cost_is)
-            (room_is false place low room m keys) (at ∙ ap (place_of s.segments) n_is) r.long
+        takes : (m : State) (file : List ℕ) (h : HoldsState s m file) → TakesEffect s m (Put o.name v) h.links
+        takes m file h = put_takes_effect_on s m file h (record { classes = classes; kept = λ f. kept }) fresh soon o.name v named (its m (of_keys s m file h)).0
 
     same_full : (a : Result Outcome SessionFault) → is_full s.segments (n ∷ []) need ≡ true → IfOk a (λ outcome. outcome ≡ Refused (Full (file_end s.segments) n))
         → IfOk a (λ outcome. (m : State) → IsOfKeys s m → outcome ≡ outcome_of (next_of s m (Put o.name v)).reply)
@@ -209,7 +195,7 @@ module _ (old new : View) (s s' : SessionState) (law : IsLawful old) (law' : IsL
         → IfOk answer (λ outcome. outcome ≡ Refused (Full (file_end s.segments) n)) → Does old new s s' (Put o.name v) answer
     full_does short room says is =
         does_says old new s s' (text_of (refused (Full (file_end s.segments) n))) cost law law' ready (Put o.name v) answer fresh says still told
-        (same_full answer room is) (λ spoken. lacks_full short room) (not_accepted answer (Put o.name v) (Full (file_end s.segments) n) is)
+        (same_full answer room is) (λ spoken. lacks_full short room)
       where
         still : IsSaid answer → (m : State) → IsOfKeys s m → IsStill s m (Put o.name v) cost
         still spoken m keys =

@@ -1,24 +1,38 @@
 -- The records that a file has after a command are those that the definition of runs tells.
-use Rattle.std.proofs.{Common.{◌≡◌, ℕ, ◌<◌, ◌^◌, List, length, map, Some, Result, Ok, Err, true, false, refl, sym, ap, subst, ◌∙◌}, lemmas.Option.{same_Some}}
+use Rattle.std.proofs.{Common.{◌≡◌, ℕ, ◌<◌, ◌^◌, List, [], Option, Some, None, Result, Ok, Err, true, false, refl, sym, ap, subst, ◌∙◌}, lemmas.Option.{same_Some}}
 use Rattle.std.specs.Result.{OnOk}
 use Rattle.rio_host.specs.Host.{View}
-use Rattle.rio_value.specs.declared.value.Value.{Value}
-use Rattle.rio_chain.specs.{Chains.{HasChain}, Changes.{with_record}, Placing.{place_of}, Segments.{Link, segment_of}, Stops.{KeepsFront}, declared.segment.Segment.{Segment}}
+use Rattle.rio_chain.specs.{Chains.{HasChain}, Segments.{Link}, Stops.{KeepsFront}, declared.segment.Segment.{Segment}}
 use Rattle.rio_chain.proofs.OneChain.{chain_one}
 use Rattle.rio_machine.specs.State.{State}
-use Rattle.rio_machine.specs.declared.command.Command.{Command, TheVariants.{Bad, Class, Put, Delete, Tree, Fill, Save, Get, Scan, Ls}}
-use Rattle.rio_machine.specs.declared.command.Outcome.{Outcome, TheVariants.{Accepted, Refused}}
-use Rattle.rio_step.specs.{Statable.{IsStatable}, Step.{outcome_of}}
-use Rattle.rio_effect.specs.{FileRuns.{FileStep, added_length, file_step}, ObjectRecord.{data_of_put, record_of_put, words_of_put}}
-use Rattle.rio_effect.proofs.FileChanges.{put_length}
-use Rattle.rio_judge.specs.Judging.{is_judged}
-use Rattle.rio_session.specs.{Behind.{HasPut, PutsNothing}, Does.{Does}, FileSteps.{FollowsFile, HasPutRecord, IsStepTold, RecordsBecome}, Kept.{IsSoundState}}
-use Rattle.rio_session.specs.{Session.{SessionState, StandsFor, Went, next_of}}
+use Rattle.rio_machine.specs.declared.command.Command.{Command, TheVariants.{Bad}}
+use Rattle.rio_machine.specs.{declared.command.Outcome.{Outcome, TheVariants.{Accepted, Refused}}, declared.refusal.Refusal.{Refusal}}
+use Rattle.rio_step.specs.{Costs.{cost_of}, Refusing.{refusal_of}, Statable.{IsStatable}, Step.{Stepped, outcome_of, reply_to}}
+use Rattle.rio_effect.specs.FileRuns.{FileStep, file_step}
+use Rattle.rio_session.specs.Doable.{is_done}
+use Rattle.rio_session.specs.{Behind.{HasChanged}, Causes.{StaysIfRefused}, Does.{Does}, FileSteps.{FollowsFile, IsStepTold, RecordsBecome}, Sound.{IsSoundState}}
+use Rattle.rio_session.specs.{Kept.{LinksChange, all_done, changes_after, changes_by, kept_after, kept_by}, Marks.{mark_of_command}, Session.{SessionState, StandsFor, Went, next_of, with_cost}}
 use Rattle.rio_session.specs.declared.fault.SessionFault.{SessionFault}
-use Rattle.rio_session.proofs.{FileMarks.{steps_follow_files}, Opened.{keeps_own}, States.{of_keys}}
+use Rattle.rio_session.proofs.{FileSteps.{steps_follow_files}, Opened.{keeps_own}, States.{of_keys}}
+use Rattle.rio_session.proofs.Refused.{changes_done, changes_refused, kept_done, kept_refused, step_accepted, unrefused}
+
+-- a bad line is refused by its reply, and has no changes
+told_refused : (s : SessionState) (m : State) (c : Command) (refusal : Refusal) → outcome_of (reply_to m c) ≡ Refused refusal → (◌≡◌ {A = List LinksChange} (changes_by s m c) []) × (kept_by s m c ≡ s)
+told_refused s m (Bad line place) refusal is = (refl, refl)
+told_refused s m other refusal is = absurd cc
+
+-- what is refused changes nothing
+changes_nothing : (s : SessionState) (m : State) (c : Command) (refusal : Refusal) → outcome_of (next_of s m c).reply ≡ Refused refusal → (◌≡◌ {A = List LinksChange} (changes_after s m c) []) × (kept_after s m c ≡ s)
+changes_nothing s m c refusal told = by (refusal_of m c (mark_of_command s m c)) refl
+  where
+    by : (o : Option Refusal) → refusal_of m c (mark_of_command s m c) ≡ o → (◌≡◌ {A = List LinksChange} (changes_after s m c) []) × (kept_after s m c ≡ s)
+    by (Some other) is = (changes_refused s m c other is, kept_refused s m c other is)
+    by None is =
+        let own = told_refused s m c refusal (ap (λ (t : Stepped). outcome_of t.reply) (sym (step_accepted m c (mark_of_command s m c) is)) ∙ told) in
+        (changes_done s m c is ∙ own.0, kept_done s m c is ∙ own.1)
 
 module _ (old new : View) (before after : SessionState) (m : State) (c : Command) (text : List ℕ) (outcome : Outcome) (d : Does old new before after c (Ok outcome)) (stands : StandsFor old before m text)
-    (sound : IsSoundState before) (fresh : before.failed ≡ false) (soon : before.datime < 2 ^ 32) (statable : IsStatable c) (judged : is_judged c ≡ true) where
+    (sound : IsSoundState before) (fresh : before.failed ≡ false) (soon : before.datime < 2 ^ 32) (statable : IsStatable c) (judged : is_done c ≡ true) where
   step_told : (t : FileStep) × (file_step before.datime stands.state.links m c ≡ Some t) × FollowsFile before m c stands.state.links t
   step_told = steps_follow_files before m stands.file c stands.state sound fresh soon statable judged
 
@@ -35,50 +49,30 @@ module _ (old new : View) (before after : SessionState) (m : State) (c : Command
   abbrev Held : Type 0
   Held = (now : List ℕ) × (new.holds ≡ Some now) × HasChain behind.links after.segments now × KeepsFront stands.file now
 
-  held_still : PutsNothing before m c → Held
-  held_still none =
-      let same : new.holds ≡ old.holds = (d.file.unwritten m (of_keys before m stands.file stands.state) none).0 in
-      let links_same : behind.links ≡ stands.state.links = follows.still none in
-      let segments : before.segments ≡ after.segments =
-      stands.state.chain.same ∙ ap (map segment_of) (sym links_same) ∙ follows.segments ∙ sym went.follows.segments in
-      (stands.file, same ∙ stands.holds, subst (λ (x : List Link × List Segment). HasChain x.0 x.1 stands.file) (λ i. (sym links_same i, segments i)) stands.state.chain, keeps_own stands.file)
+  -- an accepted command has done its changes
+  held_done : outcome ≡ Accepted → Held
+  held_done accepted =
+      let changed : HasChanged old new before after m c = d.file.changed m (of_keys before m stands.file stands.state) accepted in
+      let same = changes_done before m c (unrefused before m c (sym went.outcome_is ∙ accepted)) in
+      let f = changed.file stands.file stands.state.links stands.holds stands.state.chain in
+      let links : behind.links ≡ all_done (changes_by before m c) stands.state.links = follows.links_are ∙ ap (λ (l : List LinksChange). all_done l stands.state.links) same in
+      (f.0, f.1, subst (λ (l : List Link). HasChain l after.segments f.0) (sym links) f.2, f.3)
 
-  held_put : (name : List ℕ) (v : Value) → c ≡ Put name v → outcome ≡ Accepted → Held
-  held_put name v is accepted =
-      let put : HasPut old new before after m name v = d.file.puts m name v (of_keys before m stands.file stands.state) is accepted in
-      let told : HasPutRecord before m name v stands.state.links behind.links = follows.put name v is (sym went.outcome_is ∙ accepted) in
-      let f = put.file stands.file stands.state.links stands.holds stands.state.chain in
-      let places : put.place ≡ told.place = one_place put.place put.place_is ∙ sym (one_place told.place told.place_is) in (
-        f.0,
-        f.1,
-        subst (λ (l : List Link). HasChain l after.segments f.0)
-            (ap (λ (p : ℕ). with_record p (record_of_put m p before.datime name v) stands.state.links) places ∙ sym told.links) f.2,
-        f.3,
-      )
-    where
-      -- the place hangs on nothing but the segments and the record's length
-      one_place : (p : ℕ) → p ≡ place_of before.segments (length (record_of_put m p before.datime name v))
-          → p ≡ place_of before.segments (added_length (words_of_put m 0 before.datime name v) (data_of_put m 0 before.datime name v))
-      one_place p is = is ∙ ap (place_of before.segments) (sym (put_length m p before.datime name v))
+  -- a refused one none
+  held_still : (refusal : Refusal) → outcome ≡ Refused refusal → Held
+  held_still refusal refused =
+      let same : new.holds ≡ old.holds = (subst (StaysIfRefused old new) refused d.file.refused).0 in
+      let nothing = changes_nothing before m c refusal (sym went.outcome_is ∙ refused) in
+      let links : behind.links ≡ stands.state.links = follows.links_are ∙ ap (λ (l : List LinksChange). all_done l stands.state.links) nothing.0 in
+      let segments : after.segments ≡ before.segments = ap (λ (s : SessionState). s.segments) (went.follows ∙ ap (with_cost (cost_of m c)) nothing.1) in
+      (stands.file, same ∙ stands.holds, subst (λ (x : List Link × List Segment). HasChain x.0 x.1 stands.file) (λ i. (sym links i, sym segments i)) stands.state.chain, keeps_own stands.file)
 
   held : Held
-  held = by c refl
+  held = by outcome refl
     where
-      by : (x : Command) → c ≡ x → Held
-      by (Put name v) is = put_or_not outcome refl
-        where
-          put_or_not : (o : Outcome) → outcome ≡ o → Held
-          put_or_not Accepted accepted = held_put name v is accepted
-          put_or_not (Refused refusal) refused = held_still (subst (PutsNothing before m) (sym is) (refusal, ap (λ (y : Command). outcome_of (next_of before m y).reply) (sym is) ∙ sym went.outcome_is ∙ refused))
-      by (Bad line place) is = held_still (subst (PutsNothing before m) (sym is) tt)
-      by (Get name asked version) is = held_still (subst (PutsNothing before m) (sym is) tt)
-      by Ls is = held_still (subst (PutsNothing before m) (sym is) tt)
-      by (Class class) is = held_still (subst (PutsNothing before m) (sym is) tt)
-      by (Delete name cycle) is = held_still (subst (PutsNothing before m) (sym is) tt)
-      by (Tree name branches) is = held_still (subst (PutsNothing before m) (sym is) tt)
-      by (Fill name row) is = held_still (subst (PutsNothing before m) (sym is) tt)
-      by (Save name) is = held_still (subst (PutsNothing before m) (sym is) tt)
-      by (Scan name class) is = held_still (subst (PutsNothing before m) (sym is) tt)
+      by : (o : Outcome) → outcome ≡ o → Held
+      by Accepted is = held_done is
+      by (Refused refusal) is = held_still refusal is
 
   pub records_become : RecordsBecome old new before after m c
   unfolding step_told
@@ -91,13 +85,13 @@ module _ (old new : View) (before after : SessionState) (m : State) (c : Command
 
 -- where the command is done
 pub records_follow : (old new : View) (before after : SessionState) (c : Command) (answer : Result Outcome SessionFault) → Does old new before after c answer
-    → IsSoundState before → before.failed ≡ false → before.datime < 2 ^ 32 → IsStatable c → is_judged c ≡ true
+    → IsSoundState before → before.failed ≡ false → before.datime < 2 ^ 32 → IsStatable c → is_done c ≡ true
     → OnOk answer ((m : State) (text : List ℕ) → StandsFor old before m text → RecordsBecome old new before after m c)
 records_follow old new before after c (Ok outcome) d sound fresh soon statable judged = λ m text stands. records_become old new before after m c text outcome d stands sound fresh soon statable judged
 records_follow old new before after c (Err e) d sound fresh soon statable judged = tt
 
 -- the records tell the step, whatever is answered
-pub step_is_told : (v : View) (s : SessionState) (c : Command) → IsSoundState s → s.failed ≡ false → s.datime < 2 ^ 32 → IsStatable c → is_judged c ≡ true
+pub step_is_told : (v : View) (s : SessionState) (c : Command) → IsSoundState s → s.failed ≡ false → s.datime < 2 ^ 32 → IsStatable c → is_done c ≡ true
     → (m : State) (text : List ℕ) (stands : StandsFor v s m text) → IsStepTold s m c stands.state.links
 step_is_told v s c sound fresh soon statable judged m text stands =
     let t = steps_follow_files s m stands.file c stands.state sound fresh soon statable judged in

@@ -18,7 +18,7 @@ none_parts true x o e = absurd cc
 none_parts false x o e = (refl, e)
 
 -- a key with the same name and cycle is found
-same_found : (h k : KeyHead) → item_of k ≡ item_of h → is_at_cycle h.name h.cycle k ≡ true
+pub same_found : (h k : KeyHead) → item_of k ≡ item_of h → is_at_cycle h.name h.cycle k ≡ true
 same_found h k same =
     and_from (bytes_eq k.name h.name) (k.cycle == h.cycle)
     (ap (λ (x : List ℕ). bytes_eq x h.name) (ap (λ (x : NameAndCycle). x.0) same) ∙ nat_list_eq_equiv.refl h.name)

@@ -59,18 +59,18 @@ need_same : (a b : KeptRecords) → list_length a ≡ list_length b → free_len
 unfolding close_need
 need_same a b list free = λ i. sum_by padded_length (list i ∷ free i ∷ [])
 
--- what a close of a state needs, by its keys and the class list that is kept
-pub need_by_keys : (name : List ℕ) (info : Option KeyHead) (heads : List KeyHead) (m : State) → AreKeysOfState heads m → list_all is_sized heads ≡ true
-    → state_need name info m ≡ close_need (kept_with name heads (1 + list_count info + length heads))
+-- what a close of a state needs, by its keys and how many class lists are kept
+pub need_by_keys : (name : List ℕ) (lists : ℕ) (heads : List KeyHead) (m : State) → AreKeysOfState heads m → list_all is_sized heads ≡ true
+    → state_need name lists m ≡ close_need (kept_with name heads (1 + lists + length heads))
 unfolding state_need
-need_by_keys name info heads m keys sized =
+need_by_keys name lists heads m keys sized =
     let es = entries m.objects in
     let size = sizes heads es keys.objects sized in
     let long : length es ≡ length heads = sym (length-map es listed_object) ∙ ap length (sym keys.objects) ∙ length-map heads told_by_key in
-    let kept : KeptRecords = kept_with name heads (1 + list_count info + length heads) in
-    let list : list_length (kept_of name info m) ≡ list_length kept = ap (λ (n : ℕ). head_length (codes "TFile") name + 4 + n) size in
-    let count : (kept_of name info m).count ≡ 1 + list_count info + length heads = omega (arith, long) in
-    need_same (kept_of name info m) kept list (ap (λ (n : ℕ). head_length (codes "TFile") name + 10 * (n + 2)) count)
+    let kept : KeptRecords = kept_with name heads (1 + lists + length heads) in
+    let list : list_length (kept_of name lists m) ≡ list_length kept = ap (λ (n : ℕ). head_length (codes "TFile") name + 4 + n) size in
+    let count : (kept_of name lists m).count ≡ 1 + lists + length heads = omega (arith, long) in
+    need_same (kept_of name lists m) kept list (ap (λ (n : ℕ). head_length (codes "TFile") name + 10 * (n + 2)) count)
 
 -- ---- by lengths
 

@@ -17,7 +17,7 @@ use Rattle.rio_create.specs.NewFile.{first_links, new_file}
 use Rattle.rio_effect.proofs.NeedsByKeys.{items_same}
 use Rattle.rio_machine.specs.State.{State, Tree, empty_state}
 use Rattle.rio_recover.specs.{Cleaning.{HoldsCleaned, cleaned}, Closable.{IsClosable, kept_with, list_count}, Recovered.{IsRecovered}, declared.recovery.Recovered.{Recovered}}
-use Rattle.rio_state.specs.{DirectoryKeys.{AreKeysOf}, Closing.{KeptRecords, close_need, free_length, item_heads, kept_count, kept_in, list_length, name_in, padded_length}, Contents.{tree_of}, KeyedRecords.{KeyedRecord, info_key, keyed_records, top_keys, tree_records}}
+use Rattle.rio_state.specs.{DirectoryKeys.{AreKeysOf}, Closing.{KeptRecords, close_need, free_length, item_heads, kept_count, kept_in, list_length, name_in, padded_length}, Contents.{no_tree_is_read, tree_of}, KeyedRecords.{KeyedRecord, info_key, keyed_records, top_keys, tree_records}}
 use Rattle.rio_state.specs.{Left.{HasOpenHead, IsMarkedOpen, ReadsClosedUnlessOpen, info_head, open_end}, Reads.{AreRecordsOf, ReadsAsMade, ReadsAsState, tree_under}}
 use Rattle.rio_state.proofs.{HeldLimits.{held_is_limited}, OneState.{reads_one}}
 use Rattle.rio_step.specs.Runs.{saved_of}
@@ -43,9 +43,8 @@ made_state file m made reads = subst (λ (b : Bool). MatchBool b (m ≡ empty_st
 
 -- no record stands for a tree
 no_tree : (classes : List ClassDef) (records trees : List KeyedRecord) (found : Option KeyedRecord) → option_and_then (tree_of classes records trees) found ≡ None
-unfolding tree_of
 no_tree classes records trees None = refl
-no_tree classes records trees (Some r) = refl
+no_tree classes records trees (Some r) = no_tree_is_read classes records trees r
 
 pub records_saved : (records : List KeyedRecord) (m : State) → AreRecordsOf records m → saved_of m ≡ m
 records_saved records m are =

@@ -15,7 +15,7 @@ use Rattle.rio_step.specs.Runs.{saved_of, saved_tree}
 use Rattle.rio_step.proofs.ClosedLaws.{saved_keeps_the_rest}
 use Rattle.rio_create.specs.NewFile.{IsNewFile, first_length, first_links, first_segments, nbytes_name_of, new_file}
 use Rattle.rio_create.proofs.Lengths.{key_long}
-use Rattle.rio_recover.specs.Closable.{IsClosable, is_owned}
+use Rattle.rio_recover.specs.{Closable.{IsClosable, is_owned}, Whole.{HoldsDirectory}}
 use Rattle.rio_session.specs.{Opening.{BeginsOn, OpensMade}, Session.{HoldsState, SessionState, StandsFor}}
 
 -- a state without trees has no pending rows
@@ -49,11 +49,10 @@ kept_new segments heads name own short segments_are low none same =
     let one : record_count segments ≡ 1 = ap record_count segments_are in
     subst (λ (n : List ℕ). IsClosable segments heads None n) (sym same) (subst (λ (hs : List KeyHead). IsClosable segments hs None name) (sym none) (kept_empty segments name short low one (ap (list_all (is_owned None [])) segments_are)))
 
--- the directory record stands before END
-pub directory_before_end : (segments : List Segment) (name : List ℕ) (nbytes_name : ℕ) → segments ≡ first_segments name → nbytes_name ≡ nbytes_name_of name → nbytes_name + 160 ≤ file_end segments
-directory_before_end segments name nbytes_name same is =
-    let long : file_end segments ≡ 100 + first_length name = ap file_end same in
-    omega (arith, long, is)
+-- the directory record is within the first record
+pub directory_within : (segments : List Segment) (name : List ℕ) (nbytes_name : ℕ) → segments ≡ first_segments name → nbytes_name ≡ nbytes_name_of name → HoldsDirectory nbytes_name segments
+directory_within segments name nbytes_name same is =
+    subst (HoldsDirectory nbytes_name) (sym same) (let fits : nbytes_name + 60 ≤ first_length name = omega (arith, is) in fits)
 
 -- ---- what it stands for
 

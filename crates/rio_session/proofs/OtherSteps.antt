@@ -1,7 +1,7 @@
 -- Commands that aren't puts, and refused ones, are their steps.
 use Rattle.std.proofs.Common.{◌≡◌, inl, inr, ◌==◌, ◌||◌, ℕ, ◌+◌, ◌-◌, List, [], ◌∷◌, drop, sum, Option, Some, None, Ok, Bool, true, false, refl, sym, ap, subst, ◌∙◌}
 use Rattle.std.proofs.{lemmas.Bool.{and_parts, eqb-true, le-ltb}, lemmas.Slice.Eq.{bytes_eq-Decides}}
-use Rattle.std.specs.{Prelude.{IsSome, if◌then◌else◌, is_some, slice_get, unwrap_or}, FinMap.{get}, List.{Contains, fold, list_all, list_any}, Str.{bytes_eq}}
+use Rattle.std.specs.{Prelude.{IsSome, if◌then◌else◌, slice_get, unwrap_or}, FinMap.{get}, List.{Contains, list_all, list_any}, Str.{bytes_eq}}
 use Rattle.rio_types.specs.declared.class.ClassDef.{ClassDef}
 use Rattle.rio_key.specs.declared.head.KeyHead.{KeyHead}
 use Rattle.rio_value.specs.declared.value.Value.{Value, Null}
@@ -21,11 +21,11 @@ use Rattle.rio_step.proofs.LowestLaws.{lowest_is_told}
 use Rattle.rio_effect.proofs.KeyReads.{keys_have_records}
 use Rattle.rio_state.proofs.Members.{Found, In, all_at, contains_in, found, in_contained}
 use Rattle.rio_judge.proofs.CostLaws.{cost_accepted}
-use Rattle.rio_recover.specs.Closable.{IsClosable, begins_at, is_placed, kept_with}
-use Rattle.rio_session.specs.{Behind.{IsOfKeys}, Gets.{record_text}}
-use Rattle.rio_session.specs.Marks.{command_lengths, mark_of_command, segments_behind, state_need, with_placed}
+use Rattle.rio_recover.specs.Closable.{IsClosable, begins_at, is_placed, kept_with, list_count}
+use Rattle.rio_session.specs.{Behind.{IsOfKeys}, Gets.{record_text}, Kept.{LinksChange, changes_by, kept_by}}
+use Rattle.rio_session.specs.Marks.{command_lengths, lists_after, mark_of_command, state_need}
 use Rattle.rio_session.specs.Session.{HoldsState, LacksRoomIfFull, SessionState, next_of}
-use Rattle.rio_session.proofs.{Needs.{need_by_keys}, Refused.{cost_refused, refused_anyway, step_accepted, step_refused}, Replies.{IsStill}}
+use Rattle.rio_session.proofs.{Needs.{need_by_keys}, Refused.{changes_done, changes_refused, cost_refused, kept_done, kept_refused, refused_anyway, step_accepted, step_refused}, Replies.{IsStill}}
 use Rattle.rio_session.proofs.States.{Known, known, of_keys}
 
 -- ---- records by their keys
@@ -73,20 +73,17 @@ lacks_none s m c (Full end wanted) told = absurd cc
 lacks_none s m c other told = tt
 
 module _ (s : SessionState) (m : State) (c : Command) (refusal : Refusal) (is : refusal_of m c None ≡ Some refusal) where
-  marked : refusal_of m c (mark_of_command s.name s.info s.segments m c) ≡ Some refusal
-  marked = refused_anyway m c (mark_of_command s.name s.info s.segments m c) refusal is
+  marked : refusal_of m c (mark_of_command s m c) ≡ Some refusal
+  marked = refused_anyway m c (mark_of_command s m c) refusal is
 
   refused_next : next_of s m c ≡ record { state = m; reply = refused refusal }
-  refused_next = step_refused m c (mark_of_command s.name s.info s.segments m c) refusal marked
-
-  refused_segments : segments_behind s.name s.info s.segments m c ≡ s.segments
-  unfolding segments_behind
-  refused_segments = ap (λ (o : Option Refusal). if is_some o then s.segments else fold with_placed s.segments (command_lengths m c)) marked
+  refused_next = step_refused m c (mark_of_command s m c) refusal marked
 
   pub refused_still : IsStill s m c 0
   refused_still = record {
     stays = ap (λ (t : Stepped). t.state) refused_next;
-    segments = refused_segments;
+    kept = kept_refused s m c refusal marked;
+    changes = changes_refused s m c refusal marked;
     cost_is = sym (cost_refused m c refusal is);
   }
 
@@ -99,14 +96,14 @@ module _ (s : SessionState) (m : State) (c : Command) (refusal : Refusal) (is : 
   pub refused_lacks : (after : SessionState) → LacksRoomIfFull after (Refused refusal)
   refused_lacks after = lacks_none after m c refusal (lowest_is_told.some m c None refusal is).told
 
--- ---- accepted commands without records
+-- ---- accepted commands without changes
 
 module _ (s : SessionState) (m : State) (keys : IsOfKeys s m) (kept : IsClosable s.segments s.heads s.info s.name)
-    (c : Command) (free : refusal_of m c None ≡ None) (stays : state_behind m c ≡ m) (lengthless : command_lengths m c ≡ []) where
-  need_is : state_need s.name s.info (state_behind m c) ≡ close_need (kept_with s.name s.heads (record_count s.segments))
+    (c : Command) (free : refusal_of m c None ≡ None) (stays : state_behind m c ≡ m) (lengthless : command_lengths m c ≡ []) (lists : lists_after s c ≡ list_count s.info) where
+  need_is : state_need s.name (lists_after s c) (state_behind m c) ≡ close_need (kept_with s.name s.heads (record_count s.segments))
   need_is =
-      ap (state_need s.name s.info) stays
-      ∙ need_by_keys s.name s.info s.heads m keys.keys kept.sized
+      (λ i. state_need s.name (lists i) (stays i))
+      ∙ need_by_keys s.name (list_count s.info) s.heads m keys.keys kept.sized
       ∙ ap (λ (k : ℕ). close_need (kept_with s.name s.heads k)) (sym kept.count)
 
   abbrev mark_by : List ℕ → ℕ → Option FullMark
@@ -116,28 +113,23 @@ module _ (s : SessionState) (m : State) (keys : IsOfKeys s m) (kept : IsClosable
   unfolding is_full lay_all
   not_full = le-ltb end_limit (end_after [] (space_of s.segments) + close_need (kept_with s.name s.heads (record_count s.segments))) kept.room
 
-  mark_none : mark_of_command s.name s.info s.segments m c ≡ None
+  mark_none : mark_of_command s m c ≡ None
   unfolding mark_of_command
   mark_none =
       (λ i. mark_by (lengthless i) (need_is i))
       ∙ ap (λ (b : Bool). let o : Option FullMark = if b then Some (record { end = file_end s.segments; wanted = sum [] }) else None in o) not_full
 
-  unrefused : refusal_of m c (mark_of_command s.name s.info s.segments m c) ≡ None
+  unrefused : refusal_of m c (mark_of_command s m c) ≡ None
   unrefused = ap (refusal_of m c) mark_none ∙ free
 
   next_is : next_of s m c ≡ record { state = state_behind m c; reply = reply_to m c }
-  next_is = step_accepted m c (mark_of_command s.name s.info s.segments m c) unrefused
+  next_is = step_accepted m c (mark_of_command s m c) unrefused
 
-  same_segments : segments_behind s.name s.info s.segments m c ≡ s.segments
-  unfolding segments_behind
-  same_segments =
-      ap (λ (o : Option Refusal). if is_some o then s.segments else fold with_placed s.segments (command_lengths m c)) unrefused
-      ∙ ap (fold with_placed s.segments) lengthless
-
-  pub accepted_still : cost_of m c ≡ 0 → IsStill s m c 0
-  accepted_still costless = record {
+  pub accepted_still : kept_by s m c ≡ s → ◌≡◌ {A = List LinksChange} (changes_by s m c) [] → cost_of m c ≡ 0 → IsStill s m c 0
+  accepted_still same changeless costless = record {
     stays = ap (λ (t : Stepped). t.state) next_is ∙ stays;
-    segments = same_segments;
+    kept = kept_done s m c unrefused ∙ same;
+    changes = changes_done s m c unrefused ∙ changeless;
     cost_is = sym costless;
   }
 
@@ -152,15 +144,15 @@ module _ (s : SessionState) (m : State) (keys : IsOfKeys s m) (kept : IsClosable
 module _ (s : SessionState) (m : State) (keys : IsOfKeys s m) (kept : IsClosable s.segments s.heads s.info s.name) (free : refusal_of m Ls None ≡ None) where
   pub ls_still : IsStill s m Ls 0
   unfolding command_lengths
-  ls_still = accepted_still s m keys kept Ls free refl refl (cost_accepted m Ls free)
+  ls_still = accepted_still s m keys kept Ls free refl refl refl refl refl (cost_accepted m Ls free)
 
   pub ls_told : listing_of s.heads ≡ text_of (next_of s m Ls).reply
   unfolding command_lengths
-  ls_told = accepted_told s m keys kept Ls free refl refl (listing_of s.heads) (listing_is s.heads m keys.keys)
+  ls_told = accepted_told s m keys kept Ls free refl refl refl (listing_of s.heads) (listing_is s.heads m keys.keys)
 
   pub ls_outcome : outcome_of (next_of s m Ls).reply ≡ Accepted
   unfolding command_lengths
-  ls_outcome = accepted_outcome s m keys kept Ls free refl refl refl
+  ls_outcome = accepted_outcome s m keys kept Ls free refl refl refl refl
 
 -- ---- get
 
@@ -207,14 +199,14 @@ module _ (s : SessionState) (m : State) (file : List ℕ) (h : HoldsState s m fi
 
   pub get_told : text ≡ text_of (next_of s m (Get name asked None)).reply
   unfolding command_lengths
-  get_told = accepted_told s m (of_keys s m file h) kept (Get name asked None) free refl refl text told
+  get_told = accepted_told s m (of_keys s m file h) kept (Get name asked None) free refl refl refl text told
 
 module _ (s : SessionState) (m : State) (keys : IsOfKeys s m) (kept : IsClosable s.segments s.heads s.info s.name) (name : List ℕ) (asked : Option ℕ)
     (free : refusal_of m (Get name asked None) None ≡ None) where
   pub get_still : IsStill s m (Get name asked None) 0
   unfolding command_lengths
-  get_still = accepted_still s m keys kept (Get name asked None) free refl refl (cost_accepted m (Get name asked None) free)
+  get_still = accepted_still s m keys kept (Get name asked None) free refl refl refl refl refl (cost_accepted m (Get name asked None) free)
 
   pub get_outcome : outcome_of (next_of s m (Get name asked None)).reply ≡ Accepted
   unfolding command_lengths
-  get_outcome = accepted_outcome s m keys kept (Get name asked None) free refl refl refl
+  get_outcome = accepted_outcome s m keys kept (Get name asked None) free refl refl refl refl

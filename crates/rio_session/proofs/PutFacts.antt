@@ -1,5 +1,5 @@
 -- A record that was made for a put can be put, and is the put's.
-use Rattle.std.proofs.Common.{◌≡◌, ℕ, ◌+◌, ◌^◌, ◌<◌, ◌≤◌, List, [], length, Option, Some, None, true, refl, sym, ap, subst, ◌∙◌, arith}
+use Rattle.std.proofs.Common.{◌≡◌, ℕ, ◌+◌, ◌^◌, ◌<◌, ◌≤◌, List, [], ◌∷◌, length, Option, Some, None, true, refl, sym, ap, subst, ◌∙◌, arith}
 use Rattle.std.proofs.lemmas.Bool.{and_from, eq-eqb, le-leb, lt-ltb}
 use Rattle.std.specs.{Prelude.{unwrap_or}, List.{find}}
 use Rattle.rio_num.proofs.TextLengths.{text_within}
@@ -8,18 +8,18 @@ use Rattle.rio_key.specs.{Written.{written_key}, declared.head.KeyHead.{KeyHead}
 use Rattle.rio_value.specs.declared.value.Value.{Value}
 use Rattle.rio_format.specs.Written.{written_form}
 use Rattle.rio_dir.specs.Table.{head_of, is_at_cycle, with_head}
-use Rattle.rio_chain.specs.{Placing.{file_end, place_of, record_count, with_segment}, Segments.{IsRecord}}
-use Rattle.rio_machine.specs.{Limits.{head_length}, State.{State}, declared.command.Command.TheVariants.{Put}}
+use Rattle.rio_chain.specs.{Changes.{with_record}, Placing.{file_end, place_of, record_count, with_segment}, Segments.{IsRecord}, declared.segment.Segment.{Segment}}
+use Rattle.rio_machine.specs.{Limits.{head_length}, State.{State, next_cycle}, declared.command.Command.TheVariants.{Put}}
 use Rattle.rio_chain.specs.{Record.{new_key, record_bytes}, declared.record.NewRecord.{NewRecord}, declared.key_words.KeyWords.{KeyWords}}
 use Rattle.rio_chain.proofs.Records.{key_long}
 use Rattle.rio_state.specs.Closing.{close_need, end_limit, padded_length}
-use Rattle.rio_step.specs.{Refusing.{object_class, put_value, refusal_of}, ReplyText.{text_of}, Step.{object_put}}
+use Rattle.rio_step.specs.{Costs.{cost_of}, Refusing.{object_class, put_value, refusal_of}, ReplyText.{text_of}, Step.{object_put}}
 use Rattle.rio_effect.specs.ObjectRecord.{key_of_put, object_data, object_key, object_record, object_words, record_of_put}
+use Rattle.rio_effect.proofs.FileChanges.{put_length}
 use Rattle.rio_judge.specs.{Judging.{IsStep}, declared.work.StoredObject.{StoredObject}}
 use Rattle.rio_judge.proofs.CostLaws.{cost_accepted}
 use Rattle.rio_recover.specs.Closable.{is_fit_key, is_sized, kept_with}
-use Rattle.rio_session.specs.{Puts.{CanBePut, IsStoredRecord, putting, stored_words}, Session.{SessionState}}
-use Rattle.rio_session.proofs.PutAnswers.{IsPutOf}
+use Rattle.rio_session.specs.{Kept.{LinksChange, changes_by, kept_by, place_of_put}, Puts.{CanBePut, IsStoredRecord, putting, stored_words}, Session.{SessionState}}
 
 module _ (s : SessionState) (place : ℕ) (o : StoredObject) (made : NewRecord) (r : IsStoredRecord s place o made) where
   abbrev words : KeyWords
@@ -78,11 +78,42 @@ module _ (s : SessionState) (place : ℕ) (o : StoredObject) (made : NewRecord) 
     unfolding object_record
     bytes_are = r.bytes ∙ (λ i. bytes_by (step.cycle i) (own_is i) (step.value i) (classes i))
 
-    pub is_put_of : (text : List ℕ) (cost : ℕ) → text ≡ text_of (object_put o.name o.cycle) → cost ≡ 500 + o.length → IsPutOf m o.name value place s.datime (putting made text cost)
-    is_put_of text cost is costs = record {
-      place_is = seek_is;
-      bytes = bytes_are;
-      head = key_is;
-      text_is = is ∙ ap (λ (k : ℕ). text_of (object_put o.name k)) step.cycle;
-      cost_is = costs ∙ ap (λ (k : ℕ). 500 + k) (step.written ∙ ap (λ (w : Value). length (written_form m.classes 0 w)) step.value) ∙ sym (cost_accepted m (Put o.name value) free);
+    -- the reply, and the cost
+    pub text_is : (text : List ℕ) → text ≡ text_of (object_put o.name o.cycle) → text ≡ text_of (object_put o.name (next_cycle m o.name))
+    text_is text is = is ∙ ap (λ (k : ℕ). text_of (object_put o.name k)) step.cycle
+
+    pub cost_is : (cost : ℕ) → cost ≡ 500 + o.length → cost ≡ cost_of m (Put o.name value)
+    cost_is cost is = is ∙ ap (λ (k : ℕ). 500 + k) (step.written ∙ ap (λ (w : Value). length (written_form m.classes 0 w)) step.value) ∙ sym (cost_accepted m (Put o.name value) free)
+
+    -- the place is the command's
+    pub place_is : place ≡ place_of s.segments (padded_length (head_length o.class o.name + o.length)) → place ≡ place_of_put s m o.name value
+    place_is at =
+        let long : length (record_of_put m place s.datime o.name value) ≡ length (record_of_put m 0 s.datime o.name value) = sym (put_length m place s.datime o.name value) ∙ put_length m 0 s.datime o.name value in
+        at ∙ ap (place_of s.segments) (sym r.long ∙ ap length bytes_are ∙ long)
+
+    -- and so are the changes, and what is kept then
+    abbrev changes_at : ℕ → List LinksChange
+    changes_at k = with_record k (record_of_put m k s.datime o.name value) ∷ []
+
+    abbrev kept_at : ℕ → SessionState
+    kept_at k = record s {
+      segments = with_segment k (length (record_of_put m k s.datime o.name value)) s.segments;
+      heads = with_head (key_of_put m k s.datime o.name value) s.heads;
     }
+
+    pub changes_are : (text : List ℕ) (cost : ℕ) → place ≡ place_of_put s m o.name value → (putting s made text cost).changes ≡ changes_by s m (Put o.name value)
+    changes_are text cost at =
+        let one : (putting s made text cost).changes ≡ changes_at place = λ i. with_record (seek_is i) (bytes_are i) ∷ [] in
+        one ∙ ap changes_at at
+
+    pub kept_is : (text : List ℕ) (cost : ℕ) → place ≡ place_of_put s m o.name value → (putting s made text cost).kept ≡ kept_by s m (Put o.name value)
+    kept_is text cost at =
+        let one : (putting s made text cost).kept ≡ kept_at place = λ i. record s { segments = with_segment (seek_is i) (length (bytes_are i)) s.segments; heads = with_head (key_is i) s.heads } in
+        one ∙ ap kept_at at
+
+-- what a session keeps with one record more
+pub stored_is : (before v : SessionState) (segments : List Segment) (heads : List KeyHead) (place n : ℕ) (h : KeyHead) → v ≡ before → segments ≡ with_segment place n v.segments → heads ≡ with_head h v.heads
+    → ◌≡◌ {A = SessionState} (record v { segments = segments; heads = heads }) (record before { segments = with_segment place n before.segments; heads = with_head h before.heads })
+stored_is before v segments heads place n h is a b =
+    let one : ◌≡◌ {A = SessionState} (record v { segments = segments; heads = heads }) (record v { segments = with_segment place n v.segments; heads = with_head h v.heads }) = λ i. record v { segments = a i; heads = b i } in
+    one ∙ ap (λ (s : SessionState). let t : SessionState = record s { segments = with_segment place n s.segments; heads = with_head h s.heads } in t) is

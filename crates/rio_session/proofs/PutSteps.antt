@@ -1,35 +1,30 @@
 -- A put is the step of its command.
-use Rattle.std.proofs.Common.{◌≡◌, inl, inr, ℕ, ◌+◌, ◌-◌, ◌*◌, ◌^◌, ◌<◌, ◌≤◌, List, [], ◌∷◌, length, map, min, sum, add-zero, Option, Some, None, Bool, true, false, refl, sym, ap, subst, ◌∙◌, arith}
+use Rattle.std.proofs.Common.{◌≡◌, inl, inr, ℕ, ◌+◌, ◌-◌, ◌*◌, ◌^◌, ◌<◌, ◌≤◌, List, [], ◌∷◌, length, min, sum, add-zero, Option, Some, None, Bool, true, false, refl, sym, ap, subst, ◌∙◌, arith}
 use Rattle.std.proofs.{lemmas.Bool.{cases_lt, eq-eqb, eqb-true}, lemmas.List.Sums.{sum_by-cons}}
-use Rattle.std.specs.{Prelude.{if◌then◌else◌, is_some, unwrap_or}, List.{find, fold, list_all, sum_by}}
+use Rattle.std.specs.{Prelude.{if◌then◌else◌, unwrap_or}, List.{find, list_all, sum_by}}
 use Rattle.rio_num.specs.Word.{is_item_text}
 use Rattle.rio_key.specs.{declared.head.KeyHead.{KeyHead}, Written.{written_key}}
 use Rattle.rio_value.specs.declared.value.Value.{Value}
 use Rattle.rio_dir.specs.Table.{head_of, is_at_cycle, with_head}
-use Rattle.rio_chain.specs.{Changes.{with_record}, Placing.{file_end, place_of, record_count, with_segment}, Segments.{Link, chain_end, segment_of}}
-use Rattle.rio_chain.specs.declared.segment.Segment.{Segment}
-use Rattle.rio_chain.proofs.PutChain.{map_end}
+use Rattle.rio_chain.specs.{Placing.{file_end, place_of, record_count}, Segments.{chain_end}, declared.record.NewRecord.{NewRecord}}
+use Rattle.rio_chain.proofs.{PutChain.{map_end}, Records.{key_long}}
 use Rattle.rio_model.specs.StateClasses.{StateClasses}
 use Rattle.rio_machine.specs.{Limits.{head_length}, State.{State, next_cycle}, declared.command.Command.TheVariants.{Put}}
 use Rattle.rio_machine.specs.{declared.command.Outcome.TheVariants.{Refused}, declared.refusal.Refusal.{Refusal, TheVariants.{Full}}}
-use Rattle.rio_chain.proofs.Records.{key_long}
 use Rattle.rio_state.specs.Closing.{close_need, closing_lengths, end_limit, free_length, held_of, is_full, kept_count, kept_in, list_length, padded_length}
-use Rattle.rio_state.specs.{KeyedRecords.{info_key, keyed_records}, Reads.{AreRecordsOf}, OneMore.{keyed_bytes}}
+use Rattle.rio_state.specs.KeyedRecords.{info_key, keyed_records}
 use Rattle.rio_step.specs.{ItemKeys.{AreKeysOfState, told_by_key}, Refusing.{FullMark, object_class, put_value, refusal_of}}
-use Rattle.rio_step.specs.{Costs.{cost_of, room_limit, value_size}, ReplyText.{text_of}, Runs.{saved_of}}
+use Rattle.rio_step.specs.{Costs.{cost_of, room_limit, value_size}, ReplyText.{text_of}}
 use Rattle.rio_step.specs.Step.{Stepped, listed_object, object_put, outcome_of, refused, state_behind}
-use Rattle.rio_effect.specs.{Laws.{IsPutRecord, kept_by_keys}, More.{KeepsOneMore}}
-use Rattle.rio_effect.specs.ObjectRecord.{data_of_put, key_of_put, object_key, record_of_put, words_of_put}
-use Rattle.rio_effect.proofs.{Held.{held_grows}, Needs.{need_grows}, NeedsByKeys.{need_by_keys as keys_need}}
-use Rattle.rio_effect.proofs.{PutEffect.{puts_have_records, saved_put_takes_effect}, PutKeys.{put_key_follows}}
-use Rattle.rio_state.proofs.{MoreRecords.{record_more}, Stays.{info_stays}}
-use Rattle.rio_close.proofs.Fitting.{count_with}
+use Rattle.rio_effect.specs.Laws.{kept_by_keys}
+use Rattle.rio_effect.specs.ObjectRecord.{data_of_put, key_of_put, object_key, words_of_put}
+use Rattle.rio_effect.proofs.NeedsByKeys.{need_by_keys as keys_need}
 use Rattle.rio_judge.specs.{Judging.{IsStep}, declared.work.StoredObject.{StoredObject}}
 use Rattle.rio_recover.specs.Closable.{is_sized, kept_with, list_count}
-use Rattle.rio_session.specs.{Behind.{IsOfKeys}, Marks.{command_lengths, mark_of_command, segments_behind, state_need, with_placed}}
-use Rattle.rio_session.specs.{Puts.{Putting}, Session.{HoldsState, SessionState, next_of}}
-use Rattle.rio_session.proofs.{Keeps.{all_with, length_with, size_with}, Needs.{list_counted, need_by_keys}, Places.{end_most, full_is, sum_one}}
-use Rattle.rio_session.proofs.{KeysBehind.{keys_behind}, PutAnswers.{IsPutOf, IsPutStep, IsPutting}, Refused.{refused_full, step_accepted, step_refused}}
+use Rattle.rio_session.specs.{Behind.{IsOfKeys}, Effects.{IsChangeOf}, Kept.{place_of_put}, Marks.{command_lengths, mark_of_command, state_need}}
+use Rattle.rio_session.specs.{Puts.{IsStoredRecord, putting}, Session.{HoldsState, SessionState, next_of}}
+use Rattle.rio_session.proofs.{Keeps.{all_with, length_with, size_with}, KeysBehind.{keys_behind}, Needs.{list_counted, need_by_keys}, Places.{end_most, full_is, sum_one}}
+use Rattle.rio_session.proofs.{PutFacts.{changes_are, cost_is, kept_is, place_is, text_is}, Refused.{changes_refused, kept_refused, refused_full, step_refused}}
 use Rattle.rio_session.proofs.{Replies.{IsStill}, States.{Known, known, of_keys}}
 
 sum_two : (f : ℕ → ℕ) (a b : ℕ) → sum_by f (a ∷ b ∷ []) ≡ f a + f b
@@ -83,10 +78,10 @@ module _ (s : SessionState) (m : State) (keys : IsOfKeys s m) (count : record_co
   abbrev need : ℕ
   need = close_need (kept_with s.name (with_head key s.heads) (record_count s.segments + 1))
 
-  need_is : state_need s.name s.info (state_behind m (Put o.name v)) ≡ need
+  need_is : state_need s.name (list_count s.info) (state_behind m (Put o.name v)) ≡ need
   need_is =
       let more : 1 + list_count s.info + length (with_head key s.heads) ≡ record_count s.segments + 1 = omega (arith, length_with key s.heads, count) in
-      need_by_keys s.name s.info (with_head key s.heads) (state_behind m (Put o.name v)) stand_after (all_with is_sized key s.heads key_sized sized)
+      need_by_keys s.name (list_count s.info) (with_head key s.heads) (state_behind m (Put o.name v)) stand_after (all_with is_sized key s.heads key_sized sized)
       ∙ ap (λ (k : ℕ). close_need (kept_with s.name (with_head key s.heads) k)) more
 
   pub lengths_are : command_lengths m (Put o.name v) ≡ n ∷ []
@@ -96,63 +91,55 @@ module _ (s : SessionState) (m : State) (keys : IsOfKeys s m) (count : record_co
   abbrev mark_by : List ℕ → ℕ → Option FullMark
   mark_by lengths k = if is_full s.segments lengths k then Some (record { end = file_end s.segments; wanted = sum lengths }) else None
 
-  mark_is : mark_of_command s.name s.info s.segments m (Put o.name v) ≡ mark_by (n ∷ []) need
+  mark_is : mark_of_command s m (Put o.name v) ≡ mark_by (n ∷ []) need
   unfolding mark_of_command
   mark_is = λ i. mark_by (lengths_are i) (need_is i)
 
   abbrev told_by : Bool → Option FullMark
   told_by b = if b then Some (record { end = file_end s.segments; wanted = sum (n ∷ []) }) else None
 
-  pub mark_none : is_full s.segments (n ∷ []) need ≡ false → mark_of_command s.name s.info s.segments m (Put o.name v) ≡ None
+  pub mark_none : is_full s.segments (n ∷ []) need ≡ false → mark_of_command s m (Put o.name v) ≡ None
   mark_none e = mark_is ∙ ap told_by e
 
-  pub mark_full : is_full s.segments (n ∷ []) need ≡ true → mark_of_command s.name s.info s.segments m (Put o.name v) ≡ Some (record { end = file_end s.segments; wanted = n })
+  pub mark_full : is_full s.segments (n ∷ []) need ≡ true → mark_of_command s m (Put o.name v) ≡ Some (record { end = file_end s.segments; wanted = n })
   mark_full e = mark_is ∙ ap told_by e ∙ ap (λ (k : ℕ). let x : Option FullMark = Some (record { end = file_end s.segments; wanted = k }) in x) (sum_one n)
 
   -- ---- where there is room
 
-  module _ (p : Putting) (is : IsPutOf m o.name v place s.datime p) (room : is_full s.segments (n ∷ []) need ≡ false) (at : place ≡ place_of s.segments n) (long : length p.bytes ≡ n) where
-    unrefused : refusal_of m (Put o.name v) (mark_of_command s.name s.info s.segments m (Put o.name v)) ≡ None
-    unrefused = ap (refusal_of m (Put o.name v)) (mark_none room) ∙ free
+  module _ (made : NewRecord) (r : IsStoredRecord s place o made) (room : is_full s.segments (n ∷ []) need ≡ false) (at : place ≡ place_of s.segments n) where
+    abbrev own : ℕ
+    own = place_of_put s m o.name v
 
-    pub next_is : next_of s m (Put o.name v) ≡ record { state = state_behind m (Put o.name v); reply = object_put o.name (next_cycle m o.name) }
-    next_is = step_accepted m (Put o.name v) (mark_of_command s.name s.info s.segments m (Put o.name v)) unrefused
+    own_place : place ≡ own
+    own_place = place_is s place o made r m v (sym keys.classes) free step at
 
-    pub segments_are : segments_behind s.name s.info s.segments m (Put o.name v) ≡ with_segment p.place (length p.bytes) s.segments
-    unfolding segments_behind
-    segments_are =
-        ap (λ (x : Option Refusal). if is_some x then s.segments else fold with_placed s.segments (command_lengths m (Put o.name v))) unrefused
-        ∙ ap (fold with_placed s.segments) lengths_are
-        ∙ ap (λ (x : ℕ × ℕ). with_segment x.0 x.1 s.segments) (λ i. ((sym at ∙ sym is.place_is) i, sym long i))
-
-    pub put_is_kept : IsPutStep p s m o.name v
-    put_is_kept = record {
-      put = subst (λ (k : ℕ). IsPutOf m o.name v k s.datime p) (sym is.place_is) is;
-      at = is.place_is ∙ at ∙ ap (place_of s.segments) (sym long);
-      accepted = ap (λ (t : Stepped). outcome_of t.reply) next_is;
-      segments = segments_are;
-      cost_is = is.cost_is;
-      classes = ap (λ (t : Stepped). t.state.classes) next_is;
-      keys = subst (λ (x : KeyHead × State). AreKeysOfState (with_head x.0 s.heads) x.1) (λ i. (sym is.head i, sym (ap (λ (t : Stepped). t.state) next_is) i)) stand_after;
+    pub put_is_change : (text : List ℕ) (cost : ℕ) → text ≡ text_of (object_put o.name o.cycle) → cost ≡ 500 + o.length → IsChangeOf (putting s made text cost) s m (Put o.name v)
+    put_is_change text cost is costs = record {
+      free = ap (refusal_of m (Put o.name v)) (mark_none room) ∙ free;
+      changes = changes_are s place o made r m v (sym keys.classes) free step text cost own_place;
+      kept = kept_is s place o made r m v (sym keys.classes) free step text cost own_place;
+      text = text_is s place o made r m v (sym keys.classes) free step text is;
+      cost = cost_is s place o made r m v (sym keys.classes) free step cost costs;
+      stands = record {
+        classes = keys.classes;
+        keys = subst (λ (k : ℕ). AreKeysOfState (with_head (key_of_put m k s.datime o.name v) s.heads) (state_behind m (Put o.name v))) own_place stand_after;
+      };
     }
 
   -- ---- where there is none
 
   module _ (full : is_full s.segments (n ∷ []) need ≡ true) where
-    refused_is : refusal_of m (Put o.name v) (mark_of_command s.name s.info s.segments m (Put o.name v)) ≡ Some (Full (file_end s.segments) n)
+    refused_is : refusal_of m (Put o.name v) (mark_of_command s m (Put o.name v)) ≡ Some (Full (file_end s.segments) n)
     refused_is = ap (refusal_of m (Put o.name v)) (mark_full full) ∙ refused_full m (Put o.name v) (record { end = file_end s.segments; wanted = n }) free
 
     full_next : next_of s m (Put o.name v) ≡ record { state = m; reply = refused (Full (file_end s.segments) n) }
-    full_next = step_refused m (Put o.name v) (mark_of_command s.name s.info s.segments m (Put o.name v)) (Full (file_end s.segments) n) refused_is
-
-    same_segments : segments_behind s.name s.info s.segments m (Put o.name v) ≡ s.segments
-    unfolding segments_behind
-    same_segments = ap (λ (x : Option Refusal). if is_some x then s.segments else fold with_placed s.segments (command_lengths m (Put o.name v))) refused_is
+    full_next = step_refused m (Put o.name v) (mark_of_command s m (Put o.name v)) (Full (file_end s.segments) n) refused_is
 
     pub full_still : (cost : ℕ) → cost ≡ cost_of m (Put o.name v) → IsStill s m (Put o.name v) cost
     full_still cost costs = record {
       stays = ap (λ (t : Stepped). t.state) full_next;
-      segments = same_segments;
+      kept = kept_refused s m (Put o.name v) (Full (file_end s.segments) n) refused_is;
+      changes = changes_refused s m (Put o.name v) (Full (file_end s.segments) n) refused_is;
       cost_is = costs;
     }
 
@@ -176,60 +163,11 @@ module _ (s : SessionState) (m : State) (file : List ℕ) (h : HoldsState s m fi
   abbrev its_need : ℕ
   its_need = close_need (kept_with s.name (with_head its_key s.heads) (record_count s.segments + 1))
 
-  abbrev after : List Link
-  after = with_record place (record_of_put m place s.datime o.name v) h.links
-
   abbrev of : IsOfKeys s m
   of = of_keys s m file h
 
   abbrev kn : Known h.links s.heads m
   kn = known h.links s.heads m h.records h.keys
-
-  classes : StateClasses m.classes
-  classes = subst StateClasses h.classes sound
-
-  module _ (p : Putting) (is : IsPutOf m o.name v place s.datime p) (room : is_full s.segments (size_of ∷ []) its_need ≡ false) (at : place ≡ place_of s.segments size_of) (long : length p.bytes ≡ size_of) where
-    abbrev goes : next_of s m (Put o.name v) ≡ record { state = state_behind m (Put o.name v); reply = object_put o.name (next_cycle m o.name) }
-    goes = next_is s m of count sized v o place low soon named free step new p is room at long
-
-    pr : IsPutRecord m place s.datime o.name v
-    pr = puts_have_records m place s.datime o.name v None low soon classes named free
-
-    grows : KeepsOneMore (kept_in h.links) (kept_in after) its_key
-    grows = need_grows file h.links place (record_of_put m place s.datime o.name v) its_key h.chain.chain pr.read pr.key.top pr.key.object
-
-    put_long : length (record_of_put m place s.datime o.name v) ≡ size_of
-    put_long = ap length (sym is.bytes) ∙ long
-
-    its : Putting
-    its = record p { place = place; bytes = record_of_put m place s.datime o.name v; head = its_key }
-
-    its_same : its ≡ p
-    unfolding its
-    its_same = λ i. record p { place = sym is.place_is i; bytes = sym is.bytes i; head = sym is.head i }
-
-    its_putting : IsPutting its s m (Put o.name v) h.links
-    unfolding its
-    its_putting = record {
-      text_is = is.text_is ∙ ap (λ (t : Stepped). text_of t.reply) (sym goes);
-      accepted = ap (λ (t : Stepped). outcome_of t.reply) goes;
-      segments = segments_are s m of count sized v o place low soon named free step new p is room at long ∙ ap (λ (q : Putting). with_segment q.place (length q.bytes) s.segments) (sym its_same);
-      cost_is = is.cost_is;
-      records = subst (λ (k : State). AreRecordsOf (keyed_records after) (saved_of k)) (sym (ap (λ (t : Stepped). t.state) goes)) (saved_put_takes_effect h.links m place s.datime o.name v None low soon h.records named free);
-      keys = put_key_follows h.links m s.heads place s.datime o.name v None low soon kn.records named free h.keys;
-      info = info_stays (keyed_records h.links) (keyed_records after) (keyed_bytes its_key (record_of_put m place s.datime o.name v)) (record_more h.links place (record_of_put m place s.datime o.name v) its_key pr.read) pr.key.other;
-      name = grows.name;
-      count = grows.count;
-      more = count_with place (length (record_of_put m place s.datime o.name v)) s.segments;
-      classes = ap (λ (t : Stepped). t.state.classes) goes;
-      held = omega (arith, held_grows file h.links m place s.datime o.name v low soon h.chain.chain (inl placed) classes named free, is.cost_is);
-    }
-      where
-        placed : place ≡ place_of (map segment_of h.links) (length (record_of_put m place s.datime o.name v))
-        placed = at ∙ ap (λ (x : List Segment × ℕ). place_of x.0 x.1) (λ i. (h.chain.same i, sym put_long i))
-
-    pub put_is_step : IsPutting p s m (Put o.name v) h.links
-    put_is_step = subst (λ (q : Putting). IsPutting q s m (Put o.name v) h.links) its_same its_putting
 
   -- what is held where there is no room
   module _ (full : is_full s.segments (size_of ∷ []) its_need ≡ true) where

@@ -3,17 +3,16 @@ use Rattle.std.proofs.Common.{◌≡◌, inl, inr, ⊎_elim, ℕ, ◌+◌, ◌*�
 use Rattle.std.proofs.lemmas.List.{append-nil}
 use Rattle.rio_host.specs.{Host.{Any, Becomes, Elapses, IsLawful, Leaves, Longer, LongerByPart, Rose, Speaking, Unwritten, View}, OnlyReads.{OnlyReads}}
 use Rattle.rio_host.proofs.{Images.{becomes_some}, Moments.{elapses_as, elapses_join, leaves_back, says_quiet}, ReadsLaws.{reads_none, said_grows}}
-use Rattle.rio_value.specs.declared.value.Value.{Value}
-use Rattle.rio_chain.specs.{Chains.{HasChain}, Segments.{Link}}
-use Rattle.rio_machine.specs.{State.{State}, declared.command.Command.{Command, TheVariants.{Put}}}
+use Rattle.rio_chain.specs.{Becoming.{ChainBecomes}, Chains.{HasChain}, Segments.{Link}, declared.segment.Segment.{Segment}}
+use Rattle.rio_machine.specs.{State.{State}, declared.command.Command.{Command}}
 use Rattle.rio_machine.specs.declared.command.Outcome.{Outcome, TheVariants.{Accepted, Refused}}
 use Rattle.rio_state.specs.Closing.{held_of}
 use Rattle.rio_step.specs.{Costs.{cost_of}, ReplyText.{text_of}, Step.{Stepped, outcome_of}}
-use Rattle.rio_session.specs.{Behind.{FollowsStep, IsOfKeys}, Causes.{IsSaid, StaysIfRefused}, Does.{Does}, Marks.{segments_behind}}
-use Rattle.rio_session.specs.Says.{NotSaid, Said, SaysReply}
+use Rattle.rio_session.specs.{Behind.{FollowsStep, HasChanged, IsOfKeys}, Causes.{IsSaid, StaysIfRefused}, Does.{Does}}
+use Rattle.rio_session.specs.{Kept.{LinksChange, all_done, changes_after, changes_by, kept_after}, Says.{NotSaid, Said, SaysReply}}
 use Rattle.rio_session.specs.Session.{FollowsCommand, HoldsState, IsOpenAs, IsReady, LacksRoomIfFull, LeavesOpenAs, SessionState, StandsFor, Steps, Went, next_of, with_cost}
 use Rattle.rio_session.specs.declared.fault.SessionFault.{SessionFault, TheVariants.{HostFault, SayFault, NoMemory}}
-use Rattle.rio_session.proofs.{Opened.{reads_open}, Spoken.{front_none, front_part, front_whole, grows_none, grows_whole, reads_stay, speaking_stays}}
+use Rattle.rio_session.proofs.{Opened.{keeps_own, reads_open}, Refused.{changes_done, kept_done, unrefused}, Spoken.{front_none, front_part, front_whole, grows_none, grows_whole, reads_stay, speaking_stays}}
 use Rattle.rio_session.proofs.States.{of_keys}
 
 -- ---- what is told
@@ -28,10 +27,11 @@ told_same a b same = subst (λ (o : Option (List ℕ)). Becomes Any a o) (sym sa
 
 -- ---- what a command that only says a reply is about
 
--- the command leaves the state, and it has no records
+-- the command changes neither the state nor the file nor what is kept beside it
 pub record IsStill (s : SessionState) (m : State) (c : Command) (cost : ℕ) : Type 0 where
   pub stays : (next_of s m c).state ≡ m
-  pub segments : segments_behind s.name s.info s.segments m c ≡ s.segments
+  pub kept : kept_after s m c ≡ s
+  pub changes : changes_after s m c ≡ []
   pub cost_is : cost ≡ cost_of m c
 
 -- and this is its reply
@@ -94,14 +94,23 @@ module _ (old new : View) (before after : SessionState) (text : List ℕ) (cost 
       }
 
   said_follows : (m : State) (c : Command) → Said text cost old new before after → IsStill before m c cost → FollowsCommand before after m c
-  said_follows m c is still = record {
-    segments = ap (λ (a : SessionState). a.segments) is.kept ∙ sym still.segments;
-    info = ap (λ (a : SessionState). a.info) is.kept;
-    name = ap (λ (a : SessionState). a.name) is.kept;
-    datime = ap (λ (a : SessionState). a.datime) is.kept;
-    opened = ap (λ (a : SessionState). a.opened) is.kept;
-    costs = ap (λ (a : SessionState). a.costs) is.kept ∙ ap (λ (n : ℕ). min (before.costs + n) (2 ^ 64 - 1)) still.cost_is;
-  }
+  said_follows m c is still = is.kept ∙ (λ i. with_cost (still.cost_is i) (sym still.kept i))
+
+  -- an accepted command that does no more has no changes
+  said_changed : (m : State) (c : Command) (outcome : Outcome) → Said text cost old new before after → IsStill before m c cost → outcome ≡ outcome_of (next_of before m c).reply → outcome ≡ Accepted
+      → HasChanged old new before after m c
+  said_changed m c outcome is still same accepted =
+      let free = unrefused before m c (sym same ∙ accepted) in
+      let none : changes_by before m c ≡ [] = sym (changes_done before m c free) ∙ still.changes in
+      record {
+        kept = said_follows m c is still ∙ ap (with_cost (cost_of m c)) (kept_done before m c free);
+        file = λ file links holds chain. (
+          file,
+          is.holds ∙ holds,
+          subst (λ (x : List LinksChange × List Segment). HasChain (all_done x.0 links) x.1 file) (λ i. (sym none i, ap (λ (a : SessionState). a.segments) (sym is.kept) i)) chain,
+          keeps_own file,
+        );
+      }
 
   said_goes : (m : State) (c : Command) (outcome : Outcome) → Said text cost old new before after → IsOfKeys before m → IsStill before m c cost → outcome ≡ outcome_of (next_of before m c).reply
       → FollowsStep before after m c outcome
@@ -163,15 +172,14 @@ module _ (old new : View) (before after : SessionState) (text : List ℕ) (cost 
       → (IsSaid answer → (m : State) (said : List ℕ) → StandsFor old before m said → text ≡ text_of (next_of before m c).reply)
       → IfOk answer (λ outcome. (m : State) → IsOfKeys before m → outcome ≡ outcome_of (next_of before m c).reply)
       → (IsSaid answer → (m : State) (said : List ℕ) → StandsFor old before m said → LacksRoomIfFull (with_cost cost before) (outcome_of (next_of before m c).reply))
-      → IfOk answer (λ outcome. (name : List ℕ) (v : Value) → c ≡ Put name v → outcome ≡ Accepted → ⊥)
       → Does old new before after c answer
-  does_says c (Ok outcome) fresh is still told same full other = record {
+  does_says c (Ok outcome) fresh is still told same full = record {
     file = record {
       any_moment = tt;
       told = told_same old.holds new.holds is.holds;
       refused = said_stays outcome is;
       unwritten = λ m keys none. speaking_stays text old new is.holds is.time;
-      puts = λ m name v keys put accepted. absurd (other name v put accepted);
+      changed = λ m keys accepted. said_changed m c outcome is (still tt m keys) (same m keys) accepted;
       unsaid = λ e. absurd cc;
     };
     text = record {
@@ -191,13 +199,13 @@ module _ (old new : View) (before after : SessionState) (text : List ℕ) (cost 
       cause = is.faults;
     };
   }
-  does_says c (Err HostFault) fresh is still told same full other = record {
+  does_says c (Err HostFault) fresh is still told same full = record {
     file = record {
       any_moment = λ m said s. read_steps m c said is.calls s;
       told = told_same old.holds new.holds is.calls.holds;
       refused = tt;
       unwritten = λ m keys none. reads_stay old new is.calls;
-      puts = tt;
+      changed = tt;
       unsaid = λ e. absurd cc;
     };
     text = record {
@@ -215,13 +223,13 @@ module _ (old new : View) (before after : SessionState) (text : List ℕ) (cost 
       cause = is.faults;
     };
   }
-  does_says c (Err SayFault) fresh is still told same full other = record {
+  does_says c (Err SayFault) fresh is still told same full = record {
     file = record {
       any_moment = λ m said s. speaks m c said is.time (reply c (Err SayFault) still told tt m said s) s;
       told = told_same old.holds new.holds is.holds;
       refused = tt;
       unwritten = λ m keys none. speaking_stays text old new is.holds is.time;
-      puts = tt;
+      changed = tt;
       unsaid = λ e m said s. unsaid_open m c said is (still tt m (of_keys before m s.file s.state)) s;
     };
     text = record {
@@ -239,13 +247,13 @@ module _ (old new : View) (before after : SessionState) (text : List ℕ) (cost 
       cause = is.faults;
     };
   }
-  does_says c (Err NoMemory) fresh is still told same full other = record {
+  does_says c (Err NoMemory) fresh is still told same full = record {
     file = record {
       any_moment = λ m said s. read_steps m c said is.calls s;
       told = told_same old.holds new.holds is.calls.holds;
       refused = tt;
       unwritten = λ m keys none. reads_stay old new is.calls;
-      puts = tt;
+      changed = tt;
       unsaid = λ e. absurd cc;
     };
     text = record {
@@ -298,4 +306,4 @@ module _ (text : List ℕ) (old mid new : View) (law : IsLawful mid) (calls : On
 
 pub does_nothing : (v : View) (s : SessionState) (c : Command) → IsLawful v → IsReady v s → s.failed ≡ false → Does v v s s c (Err NoMemory)
 does_nothing v s c law ready fresh =
-    does_says v v s s [] 0 law law ready c (Err NoMemory) fresh (record { calls = reads_none v; faults = (refl, refl); kept = refl }) (λ said. absurd said) (λ said. absurd said) tt (λ said. absurd said) tt
+    does_says v v s s [] 0 law law ready c (Err NoMemory) fresh (record { calls = reads_none v; faults = (refl, refl); kept = refl }) (λ said. absurd said) (λ said. absurd said) tt (λ said. absurd said)

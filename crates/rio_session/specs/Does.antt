@@ -1,22 +1,22 @@
 -- What a command does: to the file, to the text, and to what the session keeps.
 use Rattle.std.specs.Prelude.{◌≡◌, ℕ, List, IfOk, OnOk, OnErr, IsErrOf, Result}
 use Rattle.rio_host.specs.{Host.{Any, Becomes, Elapses, View}, OnlyReads.{Grown, OnlyReads}}
-use Rattle.rio_value.specs.declared.value.Value.{Value}
-use Rattle.rio_machine.specs.{State.{State}, declared.command.Command.{Command, TheVariants.{Put}}, declared.command.Outcome.{Outcome, TheVariants.{Accepted}}}
+use Rattle.rio_machine.specs.{State.{State}, declared.command.Command.{Command}, declared.command.Outcome.{Outcome, TheVariants.{Accepted}}}
 use Rattle.rio_step.specs.{Costs.{cost_of}, ReplyText.{text_of}, Step.{outcome_of}}
-use Rattle.rio_session.specs.Behind.{FollowsStep, HasPut, IsOfKeys, PutsNothing, SaysPart, Stays}
+use Rattle.rio_session.specs.Behind.{FollowsStep, HasChanged, IsOfKeys, SaysPart, Stays, WritesNothing}
 use Rattle.rio_session.specs.Causes.{IsSaid, IsSessionCause, SaysNothing, StaysIfRefused, fails_by}
 use Rattle.rio_session.specs.Session.{IsReady, LacksRoomIfFull, LeavesOpenAs, SessionState, StandsFor, Steps, Went, next_of, with_cost}
 use Rattle.rio_session.specs.declared.fault.SessionFault.{SessionFault, TheVariants.{SayFault, NoMemory}}
 
--- What becomes of the file. A command that fails leaves the state of before or of after at any moment; a refused one, and one without
--- records, writes nothing; a put's record stands where the rule places it; and what was done stands where its reply can't be said.
+-- What becomes of the file. While a command fails, each crash image reads as the state from before or after it; a refused one, and one
+-- that only prints, writes nothing; after an accepted one the file has the records that it makes; and what was done stands where its
+-- reply can't be said.
 pub record FileAfter (old new : View) (before after : SessionState) (c : Command) (answer : Result Outcome SessionFault) : Type 0 where
   pub any_moment : OnErr answer ((m : State) (text : List ℕ) → StandsFor old before m text → Elapses old new (Steps m (next_of before m c) text))
   pub told : Becomes Any old.holds new.holds
   pub refused : IfOk answer (StaysIfRefused old new)
-  pub unwritten : (m : State) → IsOfKeys before m → PutsNothing before m c → Stays old new
-  pub puts : IfOk answer (λ outcome. (m : State) (name : List ℕ) (v : Value) → IsOfKeys before m → c ≡ Put name v → outcome ≡ Accepted → HasPut old new before after m name v)
+  pub unwritten : (m : State) → IsOfKeys before m → WritesNothing before m c → Stays old new
+  pub changed : IfOk answer (λ outcome. (m : State) → IsOfKeys before m → outcome ≡ Accepted → HasChanged old new before after m c)
   pub unsaid : IsErrOf answer SayFault → (m : State) (text : List ℕ) → StandsFor old before m text → LeavesOpenAs new (next_of before m c).state
 
 -- What becomes of the text: it grows by the reply, by a front of it, or not at all. Want of room is told only where room is wanting.

@@ -1,10 +1,103 @@
--- What holds of all that a session keeps, whatever its host tells.
-use Rattle.std.specs.Prelude.{◌≡◌, false}
-use Rattle.rio_model.specs.StateClasses.{StateClasses}
-use Rattle.rio_recover.specs.Closable.{IsClosable}
-use Rattle.rio_session.specs.Session.{SessionState}
+-- What a command changes: of the records of the file, and of what a session keeps beside it.
+use Rattle.std.specs.{Prelude.{ℕ, List, [], ◌∷◌, length, Option, Some, None, if◌then◌else◌}, List.{fold}}
+use Rattle.rio_key.specs.declared.head.KeyHead.{KeyHead}
+use Rattle.rio_types.specs.declared.class.ClassDef.{ClassDef}
+use Rattle.rio_value.specs.declared.value.Value.{Value}
+use Rattle.rio_dir.specs.Table.{head_of, with_head, without_head}
+use Rattle.rio_chain.specs.{Changes.{with_record, without_record}, Placing.{place_of, with_segment}, Releasing.{without_segment}, Segments.{Link}, declared.segment.Segment.{Segment}}
+use Rattle.rio_machine.specs.State.{State}
+use Rattle.rio_machine.specs.declared.command.Command.{Command, TheVariants.{Bad, Class, Put, Delete, Tree, Fill, Save, Get, Scan, Ls}}
+use Rattle.rio_step.specs.Refusing.{with_class}
+use Rattle.rio_effect.specs.{ClassRecord.{key_of_class, record_of_class}, ObjectRecord.{key_of_put, record_of_put}}
+use Rattle.rio_session.specs.{Marks.{is_refused}, SessionState.{SessionState}}
 
--- The classes are such as commands declare, and a session that hasn't failed can be closed.
-pub record IsSoundState (s : SessionState) : Type 0 where
-  pub classes : StateClasses s.classes
-  pub kept : s.failed ≡ false → IsClosable s.segments s.heads s.info s.name
+-- ---- records
+
+-- what one write makes of the links of a file
+abbrev pub LinksChange : Type 0
+LinksChange = List Link → List Link
+
+-- the links after all changes, one after the other
+abbrev pub all_done : List LinksChange → List Link → List Link
+all_done changes links = fold (λ l change. change l) links changes
+
+-- the release of the record of this key, if there is one
+abbrev pub released_link : Option KeyHead → List LinksChange
+released_link None = []
+released_link (Some h) = without_record h.seek ∷ []
+
+abbrev pub released_segment : Option KeyHead → List Segment → List Segment
+released_segment None segments = segments
+released_segment (Some h) segments = without_segment h.seek segments
+
+-- ---- places
+
+-- where the rule places the record of a put
+abbrev pub place_of_put : SessionState → State → List ℕ → Value → ℕ
+place_of_put s m name v = place_of s.segments (length (record_of_put m 0 s.datime name v))
+
+-- and that of a class list
+abbrev pub place_of_class : SessionState → State → ClassDef → ℕ
+place_of_class s m class = place_of s.segments (length (record_of_class s.info m 0 s.datime class))
+
+-- ---- by a command that isn't refused
+
+-- No law can look into these: what they say of commands whose records aren't told here means nothing.
+pub untold_changes : List LinksChange
+untold_changes = []
+
+pub untold_segments : List Segment → List Segment
+untold_segments segments = segments
+
+pub untold_heads : List KeyHead → List KeyHead
+untold_heads heads = heads
+
+pub untold_list : Option KeyHead → Option KeyHead
+untold_list info = info
+
+abbrev pub untold_state : SessionState → SessionState
+untold_state s = record s { segments = untold_segments s.segments; heads = untold_heads s.heads; info = untold_list s.info }
+
+-- the changes of the file's records, one after the other
+abbrev pub changes_by : SessionState → State → Command → List LinksChange
+changes_by s m (Put name v) = let place = place_of_put s m name v in with_record place (record_of_put m place s.datime name v) ∷ []
+changes_by s m (Delete name cycle) = released_link (head_of name (Some cycle) s.heads)
+changes_by s m (Class class) = let place = place_of_class s m class in with_record place (record_of_class s.info m place s.datime class) ∷ released_link s.info
+changes_by s m (Bad line place) = []
+changes_by s m (Get name cycle version) = []
+changes_by s m (Scan name class) = []
+changes_by s m Ls = []
+changes_by s m (Tree name branches) = untold_changes
+changes_by s m (Fill name row) = untold_changes
+changes_by s m (Save name) = untold_changes
+
+-- what the session keeps then, but for its costs
+abbrev pub kept_by : SessionState → State → Command → SessionState
+kept_by s m (Put name v) = let place = place_of_put s m name v in record s {
+  segments = with_segment place (length (record_of_put m place s.datime name v)) s.segments;
+  heads = with_head (key_of_put m place s.datime name v) s.heads;
+}
+kept_by s m (Delete name cycle) = record s {
+  segments = released_segment (head_of name (Some cycle) s.heads) s.segments;
+  heads = without_head name cycle s.heads;
+}
+kept_by s m (Class class) = let place = place_of_class s m class in record s {
+  segments = released_segment s.info (with_segment place (length (record_of_class s.info m place s.datime class)) s.segments);
+  classes = with_class m.classes class;
+  info = Some (key_of_class s.info m place s.datime class);
+}
+kept_by s m (Bad line place) = s
+kept_by s m (Get name cycle version) = s
+kept_by s m (Scan name class) = s
+kept_by s m Ls = s
+kept_by s m (Tree name branches) = untold_state s
+kept_by s m (Fill name row) = untold_state s
+kept_by s m (Save name) = untold_state s
+
+-- ---- by any command: a refused one changes nothing
+
+abbrev pub changes_after : SessionState → State → Command → List LinksChange
+changes_after s m c = if is_refused s m c then [] else changes_by s m c
+
+unfoldable pub kept_after : SessionState → State → Command → SessionState
+kept_after s m c = if is_refused s m c then s else kept_by s m c

@@ -1,10 +1,8 @@
--- What it is to put a record and to say so.
-use Rattle.std.specs.{Prelude.{◌≡◌, ◌⊎◌, ◌≤◌, ℕ, ◌+◌, ◌-◌, ◌^◌, min, true, List, [], ◌∷◌, ◌++◌, length, take, Some, None, Result, Ok, Err}, List.{find}}
-use Rattle.rio_host.specs.Host.{Any, Becomes, Elapses, IsQuiet, Longer, LongerByPart, View}
+-- Records that can be put: when there is room, and what of an object or a class list is stored.
+use Rattle.std.specs.{Prelude.{◌≡◌, ◌≤◌, ◌<◌, ℕ, ◌+◌, ◌^◌, true, List, [], ◌∷◌, length, Some, None}, List.{find}}
 use Rattle.rio_key.specs.declared.head.KeyHead.{KeyHead}
 use Rattle.rio_dir.specs.Table.{is_at_cycle, with_head}
-use Rattle.rio_chain.specs.{Becoming.{ChainBecomes}, Chains.{HasChain}, Changes.{with_record}, Placing.{file_end, place_of, record_count, with_segment}}
-use Rattle.rio_chain.specs.{Segments.{IsChain, IsRecord, Link}, Stops.{KeepsFront}}
+use Rattle.rio_chain.specs.{Changes.{with_record}, Placing.{file_end, place_of, record_count, with_segment}, Segments.{IsRecord}}
 use Rattle.rio_chain.specs.{declared.fault.PlanFault.{PlanFault, TheVariants.{Full, NoMemory as NoRoomFor}}, declared.segment.Segment.{Segment}}
 use Rattle.rio_types.specs.declared.class.ClassDef.{ClassDef}
 use Rattle.rio_format.specs.Written.{written_form}
@@ -15,76 +13,23 @@ use Rattle.rio_state.specs.Closing.{close_need, end_limit, is_full, padded_lengt
 use Rattle.rio_step.specs.Refusing.{object_class}
 use Rattle.rio_effect.specs.ObjectRecord.{object_data, object_words}
 use Rattle.rio_recover.specs.Closable.{is_fit_key, is_sized, kept_with}
-use Rattle.rio_session.specs.{Causes.{DiskRose, NoCountRose, SayRose}, Says.{NotDone}, Session.{SessionState}}
-use Rattle.rio_session.specs.declared.fault.SessionFault.{SessionFault, TheVariants.{HostFault, SayFault, NoMemory}}
+use Rattle.rio_session.specs.{Changing.{Changing}, SessionState.{SessionState}}
 
 -- there is no room for a record of n bytes with what a close needs behind it: where the file ends, and the length
 abbrev pub IsFullFor : List Segment → ℕ → ℕ → PlanFault → Type 0
 IsFullFor segments n need (Full end wanted) = (is_full segments (n ∷ []) need ≡ true) × (end ≡ file_end segments) × (wanted ≡ n)
 IsFullFor segments n need NoRoomFor = ⊥
 
--- a record that is put, its key, and what is said of it
-pub record Putting : Type 0 where
-  pub place : ℕ
-  pub bytes : List ℕ
-  pub head : KeyHead
-  pub text : List ℕ
-  pub cost : ℕ
-
--- An image of a file of these links, with the text of before; or with the record, and a front of what is said.
-pub record IsPutOrNot (p : Putting) (file said : List ℕ) (links : List Link) (image spoken : List ℕ) : Type 0 where
-  pub links_are : (IsChain links image × (spoken ≡ said)) ⊎ (IsChain (with_record p.place p.bytes links) image × ((k : ℕ) × (spoken ≡ said ++ take k p.text)))
-  pub front : KeepsFront file image
-
--- what a stop leaves
-abbrev pub PutsInTime : Putting → View → View → SessionState → Type 0
-PutsInTime p old new before = (file said : List ℕ) (links : List Link) → old.holds ≡ Some file → old.said ≡ Some said → HasChain links before.segments file
-    → Elapses old new (IsPutOrNot p file said links)
-
--- what a session keeps with one record more
-abbrev pub with_put : Putting → SessionState → SessionState
-with_put p s = record s { segments = with_segment p.place (length p.bytes) s.segments; heads = with_head p.head s.heads; costs = min (s.costs + p.cost) (2 ^ 64 - 1) }
-
--- the record is put and its text said
-pub record PutAndSaid (p : Putting) (old new : View) (before after : SessionState) : Type 0 where
-  pub time : PutsInTime p old new before
-  pub holds : ChainBecomes old new before.segments after.segments (with_record p.place p.bytes)
-  pub says : Becomes (Longer p.text) old.said new.said
-  pub quiet : IsQuiet new
-  pub told : Becomes Any old.holds new.holds
-  pub faults : NoCountRose old new
-  pub kept : after ≡ with_put p before
-
--- the record could not be put
-pub record NotPut (p : Putting) (old new : View) (before after : SessionState) : Type 0 where
-  pub time : PutsInTime p old new before
-  pub told : Becomes Any old.holds new.holds
-  pub said : new.said ≡ old.said
-  pub faults : DiskRose old new
-  pub failed : after.failed ≡ true
-
--- the record is put, and the text could not be said
-pub record PutNotSaid (p : Putting) (old new : View) (before after : SessionState) : Type 0 where
-  pub time : PutsInTime p old new before
-  pub holds : ChainBecomes old new before.segments (with_put p before).segments (with_record p.place p.bytes)
-  pub quiet : IsQuiet new
-  pub told : Becomes Any old.holds new.holds
-  pub says : Becomes (LongerByPart p.text) old.said new.said
-  pub faults : SayRose old new
-  pub failed : after.failed ≡ true
-
--- The record is put and its text said; or why not.
-abbrev pub PutsRecord : {X : Type 0} → Putting → View → View → SessionState → SessionState → Result X SessionFault → Type 0
-PutsRecord p old new before after (Ok x) = PutAndSaid p old new before after
-PutsRecord p old new before after (Err HostFault) = NotPut p old new before after
-PutsRecord p old new before after (Err SayFault) = PutNotSaid p old new before after
-PutsRecord p old new before after (Err NoMemory) = NotDone old new before after
-
 -- ---- a record that can be put
 
--- the put of a record that was made
-abbrev pub putting : NewRecord → List ℕ → ℕ → Putting
-putting made text cost = record { place = made.head.seek; bytes = made.bytes.bytes; head = made.head; text = text; cost = cost }
+-- the put of an object's record that was made, and what is printed then
+abbrev pub putting : SessionState → NewRecord → List ℕ → ℕ → Changing
+putting s made text cost = record {
+  changes = with_record made.head.seek made.bytes.bytes ∷ [];
+  kept = record s { segments = with_segment made.head.seek (length made.bytes.bytes) s.segments; heads = with_head made.head s.heads };
+  text = text;
+  cost = cost;
+}
 
 -- It is a whole record for the place of the rule, its key is new and can be kept, and it leaves room for a close.
 pub record CanBePut (s : SessionState) (made : NewRecord) : Type 0 where

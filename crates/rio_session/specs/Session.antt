@@ -9,25 +9,8 @@ use Rattle.rio_machine.specs.declared.refusal.Refusal.TheVariants.{Full}
 use Rattle.rio_step.specs.{Costs.{cost_of, room_limit}, ReplyText.{text_of}, Runs.{saved_of, states_of_run}, Step.{Stepped, outcome_of, step}}
 use Rattle.rio_state.specs.{Closing.{held_of, kept_in}, DirectoryKeys.{AreKeysOf}, KeyedRecords.{info_key, keyed_records}}
 use Rattle.rio_state.specs.{Left.{HasOpenHead, IsLeftAs, IsMarkedOpen, info_head}, Reads.{AreRecordsOf}}
-use Rattle.rio_session.specs.Marks.{mark_of_command, segments_behind}
-
--- ---- what a session keeps
-
-pub record SessionState : Type 0 where
-  pub segments : List Segment
-  pub classes : List ClassDef
-  -- the keys of objects and trees, in the order of the key list
-  pub heads : List KeyHead
-  -- the key of the class list that counts
-  pub info : Option KeyHead
-  -- the file's name, and what its header says how long key and texts of the first record are
-  pub name : List ℕ
-  pub nbytes_name : ℕ
-  pub datime : ℕ
-  -- the file's length when it was opened, 0 for one that wasn't made yet, and the costs of all commands together
-  pub opened : ℕ
-  pub costs : ℕ
-  pub failed : Bool
+use Rattle.rio_session.specs.{Kept.{kept_after}, Marks.{mark_of_command}}
+pub use Rattle.rio_session.specs.SessionState.{SessionState, with_cost}
 
 -- ---- what it stands for
 
@@ -76,21 +59,11 @@ Steps m next text image said =
 
 -- the command's step, with its mark
 abbrev pub next_of : SessionState → State → Command → Stepped
-next_of s m c = step m c (mark_of_command s.name s.info s.segments m c)
+next_of s m c = step m c (mark_of_command s m c)
 
--- What a session keeps follows a command: the command's records stand where the rule places them, and its cost was counted, as far
--- as 64 bits hold the costs.
-pub record FollowsCommand (old new : SessionState) (m : State) (c : Command) : Type 0 where
-  pub segments : new.segments ≡ segments_behind old.name old.info old.segments m c
-  pub info : new.info ≡ old.info
-  pub name : new.name ≡ old.name
-  pub datime : new.datime ≡ old.datime
-  pub opened : new.opened ≡ old.opened
-  pub costs : new.costs ≡ min (old.costs + cost_of m c) (2 ^ 64 - 1)
-
--- what a session keeps, with a cost counted as far as 64 bits hold the costs
-abbrev pub with_cost : ℕ → SessionState → SessionState
-with_cost cost s = record s { costs = min (s.costs + cost) (2 ^ 64 - 1) }
+-- What a session keeps follows a command: what the command changes is changed, unless it is refused, and its cost is counted.
+abbrev pub FollowsCommand : SessionState → SessionState → State → Command → Type 0
+FollowsCommand old new m c = new ≡ with_cost (cost_of m c) (kept_after old m c)
 
 -- Want of room is told only where three times the file's length at its opening, with the costs of all commands up to this one,
 -- pass what there is room for.

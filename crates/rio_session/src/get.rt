@@ -15,7 +15,7 @@ impl Session {
     ghost use Rattle.rio_dir.specs.Table.{head_of};
     ghost use Rattle.rio_machine.specs.declared.command.Outcome.{Outcome as BecameOf};
     ghost use Rattle.rio_session.specs.Gets.{TellsObject, TellsRecord};
-    ghost use Rattle.rio_session.specs.Kept.{IsSoundState};
+    ghost use Rattle.rio_session.specs.Sound.{IsSoundState};
 
     // The reply that prints the object of a key.
     fn told<H: Host>(&self, host: &mut H, head: &KeyHead) -> Result<Bytes, ReadFault>

@@ -1,11 +1,18 @@
-//! A session on one file: [`Session::open`] makes it, each command is done by [`Session::apply`], and [`Session::close`]
-//! closes the file. A stop at any moment leaves the state of before the command or of behind it; what is kept beside the
-//! file stands for the state, so no command but `get` reads it again. `specs/Session.antt` says what a session stands for
-//! and what a stop leaves, `specs/Marks.antt` where records go and which commands find no room.
-//! Its tests stand in `rio_file_rows`.
+//! A session on one file: [`Session::open`] opens it, [`Session::apply`] does a command, and [`Session::close`] closes
+//! the file. Each crash image while a command is done reads as the state from before it or after it. What is kept beside
+//! the file stands for the state, so no command but `get` reads the file again.
+//!
+//! A command changes the records of the file by a list of writes, one after the other: a put adds a record, a delete
+//! releases one, and a class command adds the longer class list and then releases the one before. One write of each list
+//! takes effect, so no crash image reads as anything between. Commands that only print, and refused ones, write nothing.
+//!
+//! `specs/Session.antt` says what a session stands for, `specs/Kept.antt` what each command changes, `specs/Changing.antt`
+//! which crash images there are meanwhile, `specs/Effects.antt` what they read as, and `specs/Marks.antt` which commands
+//! find no room. The tests stand in `rio_file_rows`.
 #![tactic(auto)]
 
 mod close;
+mod delete;
 mod fault;
 mod get;
 mod laws;

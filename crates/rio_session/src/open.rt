@@ -21,7 +21,7 @@ impl Session {
     ghost use Rattle.rio_session.specs.Session.{IsReady, StandsFor};
 
     /// Opens a file. One that isn't made yet is made, with this name of at most 200 bytes. Of a made one the
-    /// state is read and marked as open, and the records that nothing refers to are released; its name stays.
+    /// file is read and marked as open, and the records that nothing refers to are released; its name stays.
     /// BadFile is the first rule that its header breaks, and ReadOnly the first reason not to write to it;
     /// each has its place, and then nothing was written.
     pub fn open<H: Host>(

@@ -8,7 +8,7 @@ use rio_machine::Outcome;
 impl Session {
     ghost use Rattle.std.specs.Prelude.{◌≡◌, false, IfOk};
     ghost use Rattle.rio_machine.specs.declared.command.Outcome.{Outcome as BecameOf};
-    ghost use Rattle.rio_session.specs.Puts.{CanBePut, PutsRecord, putting};
+    ghost use Rattle.rio_session.specs.{Changing.{ChangesFile}, Puts.{CanBePut, putting}};
     ghost use Rattle.rio_session.specs.Session.{IsReady};
 
     // Puts a record, keeps its key, and prints a reply. All memory is allocated before the record is written.
@@ -22,8 +22,8 @@ impl Session {
         requires fresh { self.old.failed ≡ false }
         requires ready { IsReady (H.view host.old) self.old }
         requires can { CanBePut self.old made }
-        ensures puts { PutsRecord (putting made text.now cost) (H.view host.old) (H.view host.new)
-            self.old self.new result }
+        ensures changes { ChangesFile (putting self.old made text.now cost) (H.view host.old)
+            (H.view host.new) self.old self.new result }
         ensures outcome { IfOk result (λ outcome. outcome ≡ BecameOf.Accepted) }
         ensures reads { (H.view host.new).reads ≡ (H.view host.old).reads }
     {

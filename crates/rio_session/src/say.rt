@@ -10,7 +10,7 @@ impl Session {
     ghost use Rattle.rio_reply.specs.Told.{listing_of};
     ghost use Rattle.rio_step.specs.ReplyText.{text_of};
     ghost use Rattle.rio_step.specs.Step.{refused};
-    ghost use Rattle.rio_session.specs.Kept.{IsSoundState};
+    ghost use Rattle.rio_session.specs.Sound.{IsSoundState};
     ghost use Rattle.rio_session.specs.Says.{SaysReply};
     ghost use Rattle.rio_session.specs.declared.fault.SessionFault.{SessionFault as Fault};
 

@@ -6,13 +6,13 @@ use rio_machine::{Command, Outcome};
 
 impl Session {
     ghost use Rattle.std.specs.Prelude.{◌≡◌, ◌<◌, ◌^◌, false, IsTrue};
-    ghost use Rattle.rio_judge.specs.Judging.{is_judged};
+    ghost use Rattle.rio_session.specs.Doable.{is_done};
     ghost use Rattle.rio_machine.specs.declared.command.Command.{Command as Line};
     ghost use Rattle.rio_step.specs.Statable.{IsStatable};
     ghost use Rattle.rio_session.specs.Causes.{NeverReads};
     ghost use Rattle.rio_session.specs.Does.{Does};
     ghost use Rattle.rio_session.specs.Doable.{CanBeDone, IsToDo, ReadsNothing};
-    ghost use Rattle.rio_session.specs.Kept.{IsSoundState};
+    ghost use Rattle.rio_session.specs.Sound.{IsSoundState};
     ghost use Rattle.rio_session.specs.Session.{IsReady};
 
     // Does the work of a command.
@@ -25,7 +25,10 @@ impl Session {
         ensures reads { ReadsNothing work → (H.view host.new).reads ≡ (H.view host.old).reads }
     {
         match work {
+            // Classes are declared here when that is built.
+            Work::Class(_) => unreachable!(),
             Work::Put(object) => self.put(host, &object),
+            Work::Delete(head) => self.delete(host, &head),
             Work::Get(head) => self.get(host, &head),
             Work::Ls => self.list(host),
         }
@@ -38,7 +41,7 @@ impl Session {
         command: &Command,
     ) -> Result<Outcome, SessionFault>
         requires fresh { self.old.failed ≡ false }
-        requires built { IsTrue (is_judged command.now) }
+        requires built { IsTrue (is_done command.now) }
         requires statable { IsStatable command.now }
         requires ready { IsReady (H.view host.old) self.old }
         ensures does { Does (H.view host.old) (H.view host.new) self.old self.new command.now
@@ -48,7 +51,7 @@ impl Session {
         ensures sound { IsSoundState self.old }
         ensures soon { self.old.datime < 2 ^ 32 }
     {
-        match judge(self.alloc, self.registry.classes(), &self.table, command)? {
+        match judge(self.alloc, &self.registry, &self.table, command)? {
             Judged::Refused(refusal) => self.refuse(host, refusal, 0),
             Judged::Accepted(work) => self.work(host, work),
         }

@@ -4,12 +4,12 @@ use Rattle.std.specs.Prelude.{codes, replicate}
 use Rattle.byteorder.specs.Endian.{big_bytes}
 use Rattle.rio_num.specs.{Reading.{text_at}, Layout.{each}}
 use Rattle.rio_key.specs.Key.{key_fields, key_layout}
-use Rattle.rio_head.specs.declared.reason.Reason.TheVariants.{OtherDirectory, BadInfo, BadName, BadKey, BadObject, BadTree}
+use Rattle.rio_head.specs.declared.reason.Reason.TheVariants.{OtherDirectory, BadInfo, BadName, BadKey, BadObject}
 use Rattle.rio_buffer.specs.Frames.{header}
 use Rattle.rio_format.specs.Objects.{object_of, formed, headed, body, unread, whole_object, closed, parts, base_part, member_parts, member_part, kind_value, text_value, bare_layout}
 use Rattle.rio_chain.specs.{Segments.{Link, RecordAt}, declared.segment.Segment.TheVariants.{Record, Gap}}
 use Rattle.rio_machine.specs.State.{empty_state}
-use Rattle.rio_state.specs.{Closing.{close_need, held_of, is_full, kept_in, lay_all}, Contents.{object_in, tree_of}, KeyedRecords.{keyed_records}}
+use Rattle.rio_state.specs.{Closing.{close_need, held_of, is_full, kept_in, lay_all}, Contents.{object_in}, KeyedRecords.{keyed_records}}
 use Rattle.rio_state.specs.{Reads.{AreRecordsOf}, Reasons.{reason_at, room_reasons, state_reasons}}
 use Rattle.rio_state.proofs.EmptyState.{none_counts}
 
@@ -96,11 +96,6 @@ some_title = refl
 many_zeros : state_reasons true (keyed_records (first_record ∷ string_record (codes "abcd") [] 100 4 ∷ [])) ≡ reason_at 208 BadObject ∷ []
 unfolding first_record string_record key_bytes short_text key_layout key_fields text_at state_reasons object_in object_of formed headed body unread header whole_object closed each parts base_part member_parts member_part kind_value text_value bare_layout
 many_zeros = refl
-
--- trees aren't read yet; the lower cycle of a name isn't looked at
-two_trees : state_reasons true (keyed_records (first_record ∷ bare_record 208 1 (codes "TTree") (codes "ab") ∷ bare_record 244 2 (codes "TTree") (codes "ab") ∷ [])) ≡ reason_at 244 BadTree ∷ []
-unfolding first_record bare_record key_bytes short_text key_layout key_fields text_at state_reasons tree_of
-two_trees = refl
 
 -- of two class lists with the greatest cycle the later one counts, whatever its class
 last_list : state_reasons false (keyed_records (first_record ∷ bare_record 208 1 (codes "TList") (codes "StreamerInfo") ∷ bare_record 256 2 (codes "TList") (codes "StreamerInfo") ∷ bare_record 304 2 (codes "TMap") (codes "StreamerInfo") ∷ bare_record 348 1 (codes "TList") (codes "StreamerInfo") ∷ [])) ≡ reason_at 304 BadInfo ∷ []

@@ -7,7 +7,7 @@ use Rattle.rio_key.specs.declared.head.KeyHead.{KeyHead}
 use Rattle.rio_chain.proofs.Keys.{spelled_one}
 use Rattle.rio_chain.specs.{Segments.{IsFirst, IsRecord, RecordAt}, Changes.{with_record}}
 use Rattle.rio_machine.specs.State.{State, Tree, empty_state}
-use Rattle.rio_state.specs.{Closing.{item_heads, kept_count, kept_in, name_in, KeptRecords}, Contents.{tree_of}, DirectoryKeys.{AreKeysOf}}
+use Rattle.rio_state.specs.{Closing.{item_heads, kept_count, kept_in, name_in, KeptRecords}, Contents.{no_tree_is_read, tree_of}, DirectoryKeys.{AreKeysOf}}
 use Rattle.rio_state.specs.KeyedRecords.{KeyedRecord, first_place, has_info_name, info_key, is_elsewhere, is_in_directory, is_info_key, is_internal, is_top_key, keyed_records, later_info, top_keys, tree_records}
 use Rattle.rio_state.specs.Reads.{AreRecordsOf, StandsForState}
 use Rattle.rio_state.specs.OneMore.{EmptyIsRead, InfoStays, InternalStays, KeysStay, NeedStays, keyed_bytes, HasOneMoreIn}
@@ -49,8 +49,7 @@ tops_same old new r h e = filter_same (λ s. is_top_key s.head) r old new h e
 -- a tree that is read is read as before
 tree_stays : (classes : List ClassDef) (old new : List KeyedRecord) (r : KeyedRecord) → HasOneMoreIn old new r → (headers : List KeyedRecord) (s : KeyedRecord)
     → is_some (tree_of classes old headers s) ≡ true → tree_of classes new headers s ≡ tree_of classes old headers s
-unfolding tree_of
-tree_stays classes old new r h headers s e = refl
+tree_stays classes old new r h headers s e = no_tree_is_read classes new headers s ∙ sym (no_tree_is_read classes old headers s)
 
 module _ (classes : List ClassDef) (old new : List KeyedRecord) (r : KeyedRecord) (h : HasOneMoreIn old new r) (headers : List KeyedRecord) where
   abbrev read_before : KeyedRecord → Option Tree

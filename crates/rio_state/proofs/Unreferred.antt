@@ -7,7 +7,7 @@ use Rattle.rio_types.specs.declared.class.ClassDef.{ClassDef}
 use Rattle.rio_key.specs.declared.head.KeyHead.{KeyHead}
 use Rattle.rio_chain.specs.Segments.{Link}
 use Rattle.rio_machine.specs.State.{State}
-use Rattle.rio_state.specs.{Closing.{KeptRecords, item_heads, kept_count, kept_in, name_in}, Contents.{object_in, state_classes, tree_of}, DirectoryKeys.{AreKeysOf}}
+use Rattle.rio_state.specs.{Closing.{KeptRecords, item_heads, kept_count, kept_in, name_in}, Contents.{no_tree_is_read, object_in, state_classes, tree_of}, DirectoryKeys.{AreKeysOf}}
 use Rattle.rio_state.specs.KeyedRecords.{KeyedRecord, first_place, has_item, info_key, is_elsewhere, is_info_key, is_mixed_name, is_outdated, is_top_key, is_tree_key, is_tree_record, keyed_records, later_info, object_records, top_keys, tree_records}
 use Rattle.rio_state.specs.{OneLess.{GarbageGoes, HasRecord, IsSameWithout, OthersAreReferred, links_without}, OneMore.{HasOneMoreIn}, Reads.{AreRecordsOf, StandsForState, are_distinct, info_place, is_named_key}}
 use Rattle.rio_state.specs.Referred.{is_item_record, is_referred}
@@ -78,8 +78,7 @@ info_kept old new r h other = by (info_less old new r h)
 
 -- a tree is the same, whatever classes and other records there are
 pub tree_kept : (classes others : List ClassDef) (old new headers : List KeyedRecord) (s : KeyedRecord) → tree_of classes old headers s ≡ tree_of others new headers s
-unfolding tree_of
-tree_kept classes others old new headers s = refl
+tree_kept classes others old new headers s = no_tree_is_read classes old headers s ∙ sym (no_tree_is_read others new headers s)
 
 -- of keys of objects and trees some are left, with all objects, and all trees' keys of greatest cycle
 pub record IsPart (tops left : List KeyedRecord) : Type 0 where

@@ -1,6 +1,6 @@
 -- What stands in the record of a class list, of an object and of a tree: over the record's bytes, so that it is the same for a
 -- walk through the file and for its key list.
-use Rattle.std.specs.Prelude.{◌≡◌, ◌≤◌, ◌+◌, List, [], drop, length, codes, Bool, ◌&&◌, not, Option, Some, None, Result, Ok, Err, if◌then◌else◌}
+use Rattle.std.specs.Prelude.{◌≡◌, ◌≤◌, ◌+◌, List, [], drop, length, codes, Bool, ◌&&◌, not, Option, Some, None, Result, Ok, Err, refl, if◌then◌else◌}
 use Rattle.rio_num.specs.Room.{is_padding}
 use Rattle.rio_types.specs.declared.class.ClassDef.{ClassDef}
 use Rattle.rio_value.specs.declared.value.Value.{Value}
@@ -59,6 +59,10 @@ object_in classes r = stored_in classes r (first_at classes r.head.class r.head.
 
 -- The tree that a header's record stands for, with its saved rows, if it does; among all records of the file, where its
 -- baskets are, and beside the headers of all trees, no two of which name a basket.
--- Trees aren't read yet: no record stands for one, so a file with a tree reads as no state.
-unfoldable pub tree_of : List ClassDef → List KeyedRecord → List KeyedRecord → KeyedRecord → Option Tree
+-- Trees aren't read yet: no record stands for one, so a file with a tree reads as no state. What rests on that cites `no_tree_is_read`.
+pub tree_of : List ClassDef → List KeyedRecord → List KeyedRecord → KeyedRecord → Option Tree
 tree_of classes records headers r = None
+
+pub no_tree_is_read : (classes : List ClassDef) (records headers : List KeyedRecord) (r : KeyedRecord) → tree_of classes records headers r ≡ None
+unfolding tree_of
+no_tree_is_read classes records headers r = refl

@@ -18,9 +18,9 @@ value_size classes v = length (written_form classes 0 v)
 abbrev pub info_size : List ClassDef → ℕ
 info_size classes = length (written_list 0 classes)
 
--- How long the header of a tree without baskets is. Headers aren't written yet: no command makes a tree, and nothing is
--- counted for one.
-unfoldable pub header_size : List ℕ → List BranchDef → ℕ
+-- How long the header of a tree without baskets is. Headers aren't written yet: no command makes a tree, and no law can look
+-- into what is said here.
+pub header_size : List ℕ → List BranchDef → ℕ
 header_size name branches = 0
 
 -- ---- commands

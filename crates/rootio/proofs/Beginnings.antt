@@ -10,7 +10,7 @@ use Rattle.rio_dir.specs.{Listing.{key_lines}, Table.{AreOrdered, is_at_cycle, w
 use Rattle.rio_dir.proofs.TableLists.{ordered_with}
 use Rattle.rio_chain.specs.{Record.{new_key, record_bytes}, Segments.{Link, RecordAt}}
 use Rattle.rio_machine.specs.State.{State, empty_state}
-use Rattle.rio_state.specs.{Closing.{item_heads}, Contents.{state_classes, tree_of}, DirectoryKeys.{AreKeysOf}}
+use Rattle.rio_state.specs.{Closing.{item_heads}, Contents.{no_tree_is_read, state_classes, tree_of}, DirectoryKeys.{AreKeysOf}}
 use Rattle.rio_state.specs.KeyedRecords.{KeyedRecord, has_item, info_key, item_of_key, keyed_records, object_records, top_keys, tree_records}
 use Rattle.rio_state.specs.Reads.{AreRecordsOf, ReadsAsMade, ReadsAsState, are_distinct}
 use Rattle.rio_state.proofs.{KeysFollow.{head_more, in_before, in_new, in_still}, Members.{In, contains_in, filter_in, in_contained, none_at, none_from}}
@@ -73,9 +73,11 @@ distinct_among p (r ∷ rs) d =
 -- no record stands for a tree yet
 no_trees : (records rs : List KeyedRecord)
     → list_all (λ r. is_some (tree_of (state_classes (info_key records)) records (tree_records (top_keys records)) r)) rs ≡ true → rs ≡ []
-unfolding tree_of
 no_trees records [] e = refl
-no_trees records (r ∷ rs) e = absurd cc
+no_trees records (r ∷ rs) e =
+    let read : KeyedRecord → Bool = λ s. is_some (tree_of (state_classes (info_key records)) records (tree_records (top_keys records)) s) in
+    let one : false ≡ true = ap is_some (sym (no_tree_is_read (state_classes (info_key records)) records (tree_records (top_keys records)) r)) ∙ (and_parts (read r) (list_all read rs) e).0 in
+    absurd cc
 
 module _ (records : List KeyedRecord) (m : State) (are : AreRecordsOf records m) where
   abbrev objects : List KeyedRecord

@@ -15,6 +15,7 @@ use Rattle.rio_session.specs.{Behind.{SaysPart}, Causes.{IsCloseCause, IsSaid, I
 use Rattle.rio_effect.specs.FileRuns.{FileRun, FileStep, IsRunOf, file_run, file_step, is_told, marks_in}
 use Rattle.rio_effect.proofs.FileRunLaws.{runs_are_told, runs_have_parts}
 use Rattle.rio_session.specs.FileSteps.{IsStepTold, RecordsBecome}
+use Rattle.rio_session.proofs.Follows.{follows_costs, follows_datime, follows_name, follows_opened}
 use Rattle.rio_session.specs.Session.{IsOpenAs, IsReady, LacksRoomIfFull, LeavesOpenAs, SessionState, StandsFor, Steps, Went, next_of, with_cost}
 use Rattle.rio_session.specs.declared.fault.SessionFault.{SessionFault, TheVariants.{HostFault, SayFault, NoMemory}}
 use Rattle.rio_session.proofs.{Opened.{keeps_own}, Spoken.{grows_none}}
@@ -138,12 +139,12 @@ module _ (r : ScriptRun) (before : List ℕ) (k : ℕ) (c : Command) (next : IsN
       (ap (λ (x : List Link). file_step s.datime x (behind r k) c) links_are ∙ first_there.first_is) in
       record {
         stands = later;
-        name = went.follows.name ∙ named;
-        datime = went.follows.datime ∙ soon;
-        marks = subst (λ (x : ℕ × List Link). MarksLeft x.0 x.1 last r (k + 1)) (λ i. (sym went.follows.datime i, same_links i)) (marks_next s.datime links last r k c left next);
+        name = follows_name s s1 (behind r k) c went.follows ∙ named;
+        datime = follows_datime s s1 (behind r k) c went.follows ∙ soon;
+        marks = subst (λ (x : ℕ × List Link). MarksLeft x.0 x.1 last r (k + 1)) (λ i. (sym (follows_datime s s1 (behind r k) c went.follows) i, same_links i)) (marks_next s.datime links last r k c left next);
         kept = front_after v new s s1 (behind r k) (behind r (k + 1)) c (before ++ replies r k) (before ++ replies r (k + 1)) front at later become kept;
         time = λ file. elapses_join (Steps (behind r k) done (before ++ replies r k)) (time file) went.time (λ i t steps. stops_within file i t steps);
-        costs = costs_more first s s1 r k c next costs outcome went.follows.opened went.follows.costs
+        costs = costs_more first s s1 r k c next costs outcome (follows_opened s s1 (behind r k) c went.follows) (follows_costs s s1 (behind r k) c went.follows)
             (went.outcome_is ∙ ap (λ (t : Stepped). outcome_of t.reply) (sym done_is)) went.full;
       }
 

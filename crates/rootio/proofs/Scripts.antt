@@ -13,7 +13,7 @@ use Rattle.rio_effect.specs.FileRuns.{file_run, marks_in}
 use Rattle.rio_session.specs.{Opening.{IsBegun}, Session.{SessionState, StandsFor}}
 use Rattle.rio_step.proofs.{ClosedLaws.{saved_keeps_the_rest}, RunLaws.{runs_begin_alike}}
 use Rattle.rio_step.specs.Runs.{said_of, saved_of, saved_tree, state_after}
-use Rattle.rio_state.specs.{Contents.{tree_of}, Left.{ReadsClosedUnlessOpen}, Reads.{ReadsAsMade, ReadsAsState}}
+use Rattle.rio_state.specs.{Contents.{no_tree_is_read}, Left.{ReadsClosedUnlessOpen}, Reads.{ReadsAsMade, ReadsAsState}}
 use Rattle.rootio.specs.{Headline.{HoldsPrefix, IsStopOf, ScriptRun, replies}, Script.{session_run}, Target.{TargetFile}, Writing.{Beginning, BeginsRun, run_of_work}}
 use Rattle.rootio.specs.declared.words.Work.TheVariants.{Run}
 use Rattle.rootio.proofs.RunStops.{behind, stop_between}
@@ -26,9 +26,8 @@ and_then_none f none (Some x) = none x
 
 -- no file has trees yet
 trees_by : (file : List ℕ) (m : State) (name : List ℕ) (unborn : Bool) → MatchBool unborn (m ≡ empty_state) (ReadsAsMade file m) → get m.trees name ≡ None
-unfolding tree_of
 trees_by file m name true is = ap (λ (n : State). get n.trees name) is ∙ get-empty name_order name
-trees_by file m name false made = made.records.stand.trees name ∙ and_then_none _ (λ r. refl) _
+trees_by file m name false made = made.records.stand.trees name ∙ and_then_none _ (λ r. no_tree_is_read _ _ _ r) _
 
 no_trees : (file : List ℕ) (m : State) → ReadsAsState file m → (name : List ℕ) → get m.trees name ≡ None
 no_trees file m reads name = trees_by file m name (is_unborn file) reads

@@ -1,5 +1,6 @@
 //! Worked rows: what the program answers for files whose bytes and listings come from the format's rules.
 mod classes;
+mod deletes;
 mod dump;
 mod entries;
 mod far;
@@ -18,4 +19,5 @@ mod run;
 mod runs;
 mod scan;
 mod stops;
+mod undone;
 mod usage;

@@ -90,7 +90,7 @@ struct Row {
     after: Made,
 }
 
-static ROWS: [Row; 16] = [
+static ROWS: [Row; 18] = [
     Row {
         name: "no bytes, no lines",
         datime: None,
@@ -231,6 +231,24 @@ static ROWS: [Row; 16] = [
         status: Status::Done,
         said: "ok put s;1\nok put s;2\nok ls 2\ns;2 TObjString\ns;1 TObjString\n",
         after: TWO,
+    },
+    Row {
+        name: "the second of two objects is deleted and put again",
+        datime: None,
+        before: NOTHING,
+        script: "put s TObjString{TObject{fUniqueID: 0, fBits: 0}, fString: \"hi\"}\nput s TObjString{TObject{fUniqueID: 0, fBits: 0}, fString: \"ho\"}\ndelete s;2\nput s TObjString{TObject{fUniqueID: 0, fBits: 0}, fString: \"hu\"}\nls\n",
+        status: Status::Done,
+        said: "ok put s;1\nok put s;2\nok delete s;2\nok put s;2\nok ls 2\ns;2 TObjString\ns;1 TObjString\n",
+        after: TWO,
+    },
+    Row {
+        name: "deletes that are refused change nothing",
+        datime: None,
+        before: ONE,
+        script: "delete x;1\ndelete s;9\ndelete s;0\ndelete s;65537\ndelete s\nls\n",
+        status: Status::Done,
+        said: "no 3 NoSuchName\nno 4 NoSuchCycle\nno 4 NoSuchCycle\nno 4 NoSuchCycle\nno 1 BadLine 5 8\nok ls 1\ns;1 TObjString\n",
+        after: ONE,
     },
     Row {
         name: "the worked run",

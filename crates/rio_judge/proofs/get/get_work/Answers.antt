@@ -1,9 +1,9 @@
-use Rattle.std.proofs.Common.{◌≡◌, ◌<◌, ℕ, ◌∙◌, Option, Some, None, Ok, Err, sym, ap, subst, arith}
+use Rattle.std.proofs.Common.{◌≡◌, ℕ, ◌∙◌, Option, Some, None, Ok, Err, refl, sym, ap, subst}
 use Rattle.rio_dir.specs.Table.{head_of}
 use Rattle.rio_key.specs.declared.head.KeyHead.{KeyHead}
 use Rattle.rio_machine.specs.{declared.command.Command.TheVariants.{Get}, declared.refusal.Refusal.TheVariants.{NoSuchCycle}}
 use Rattle.rio_judge.specs.{Stops.{GoesByState}, declared.stop.Stop.TheVariants.{Refused}, declared.work.Work.TheVariants.{Get as Telling}}
-use Rattle.rio_judge.proofs.{GetTests.{no_cycle, no_name, tells_cycle, tells_newest}, KeysOfState.{first_is_found, found_key, none_above_first}}
+use Rattle.rio_judge.proofs.{GetTests.{no_cycle, no_name, tells_cycle, tells_newest}, KeysOfState.{first_is_found, found_key, keys_are_ordered}}
 use Rattle.rio_judge.proofs.get.get_work.Goals as goal
 
 pub returns-in_default-clause-answers : goal.returns-in_default-clause-answers
@@ -20,28 +20,20 @@ returns-in_default-cycle-clause-sound c classes =
     subst (λ (h : KeyHead). head_of c.args.name.now (Some h.cycle) c.args.table.now.heads ≡ Some h) (sym c.in_ok-copy.ensures)
     (first_is_found c.args.name.now c.args.table.now.heads c.in-Some.newest.now (sym c.in-Some.ensures))
 
-pub returns-then-cycle-from-clause-answers : goal.returns-then-cycle-from-clause-answers
-returns-then-cycle-from-clause-answers c m are =
-    let h = c.in-Some.newest.now in
-    let above : h.cycle < c.in-Some-cycle.cycle = omega (arith, c.from.ensures, c.if-cycle-from.true) in
-    let none = none_above_first c.args.table.now.heads m c.args.name.now h c.in-Some-cycle.cycle are (sym c.in-Some.ensures) above in
-    subst (λ (cycle : Option ℕ). GoesByState m (Get c.args.name.now cycle None) (Err (Refused NoSuchCycle))) (sym c.in-Some-cycle.is)
-    (no_cycle c.args.table.now.heads m c.args.name.now are h c.in-Some-cycle.cycle (sym c.in-Some.ensures) none)
+pub returns-in_ok-copy-in-Some-key_at-clause-answers : goal.returns-in_ok-copy-in-Some-key_at-clause-answers
+returns-in_ok-copy-in-Some-key_at-clause-answers c m are =
+    subst (λ (x : Option ℕ × KeyHead). GoesByState m (Get c.args.name.now x.0 None) (Ok (Telling x.1))) (λ i. (sym c.in-Some-cycle.is i, sym c.in_ok-copy-in-Some-key_at.ensures i))
+    (tells_cycle c.args.table.now.heads m c.args.name.now are c.in-Some.newest.now c.in-Some-key_at.head.now c.in-Some-cycle.cycle (sym c.in-Some.ensures) (c.in-Some-key_at.ensures.some))
 
-pub returns-in_ok-copy-in-Some-find-clause-answers : goal.returns-in_ok-copy-in-Some-find-clause-answers
-returns-in_ok-copy-in-Some-find-clause-answers c m are =
-    subst (λ (x : Option ℕ × KeyHead). GoesByState m (Get c.args.name.now x.0 None) (Ok (Telling x.1))) (λ i. (sym c.in-Some-cycle.is i, sym c.in_ok-copy-in-Some-find.ensures i))
-    (tells_cycle c.args.table.now.heads m c.args.name.now are c.in-Some.newest.now c.in-Some-find.head.now c.in-Some-cycle.cycle (sym c.in-Some.ensures) (sym c.in-Some-find.ensures))
-
-pub returns-in_ok-copy-in-Some-find-clause-sound : goal.returns-in_ok-copy-in-Some-find-clause-sound
-returns-in_ok-copy-in-Some-find-clause-sound c classes =
-    let h = c.in-Some-find.head.now in
-    let found : head_of c.args.name.now (Some c.in-Some-cycle.cycle) c.args.table.now.heads ≡ Some h = sym c.in-Some-find.ensures in
+pub returns-in_ok-copy-in-Some-key_at-clause-sound : goal.returns-in_ok-copy-in-Some-key_at-clause-sound
+returns-in_ok-copy-in-Some-key_at-clause-sound c classes =
+    let h = c.in-Some-key_at.head.now in
+    let found : head_of c.args.name.now (Some c.in-Some-cycle.cycle) c.args.table.now.heads ≡ Some h = c.in-Some-key_at.ensures.some in
     let cycle = (found_key c.args.name.now c.in-Some-cycle.cycle c.args.table.now.heads h found).1 in
-    subst (λ (k : KeyHead). head_of c.args.name.now (Some k.cycle) c.args.table.now.heads ≡ Some k) (sym c.in_ok-copy-in-Some-find.ensures)
+    subst (λ (k : KeyHead). head_of c.args.name.now (Some k.cycle) c.args.table.now.heads ≡ Some k) (sym c.in_ok-copy-in-Some-key_at.ensures)
     (ap (λ (n : ℕ). head_of c.args.name.now (Some n) c.args.table.now.heads) cycle ∙ found)
 
 pub returns-in-None-clause-answers : goal.returns-in-None-clause-answers
 returns-in-None-clause-answers c m are =
     subst (λ (cycle : Option ℕ). GoesByState m (Get c.args.name.now cycle None) (Err (Refused NoSuchCycle))) (sym c.in-Some-cycle.is)
-    (no_cycle c.args.table.now.heads m c.args.name.now are c.in-Some.newest.now c.in-Some-cycle.cycle (sym c.in-Some.ensures) (sym c.in-None.ensures))
+    (no_cycle c.args.table.now.heads m c.args.name.now are c.in-Some.newest.now c.in-Some-cycle.cycle (sym c.in-Some.ensures) (c.in-None.ensures.none refl (keys_are_ordered c.args.table.now.heads m are)))

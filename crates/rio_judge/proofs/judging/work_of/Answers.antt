@@ -9,9 +9,23 @@ returns-in-Bad-clause-answers c m same are =
     subst (λ (command : Command). GoesByState m command (Err (Refused (BadLine c.in-Bad.line c.in-Bad.place)))) (sym c.in-Bad.is)
     (bad_line_refused m c.in-Bad.line c.in-Bad.place)
 
+pub returns-in-Class-clause-answers : goal.returns-in-Class-clause-answers
+returns-in-Class-clause-answers c m same are =
+    subst (λ (command : Command). GoesByState m command c.class_work.result) (sym c.in-Class.is) (c.class_work.ensures.answers m same)
+
+pub returns-in-Class-clause-sound : goal.returns-in-Class-clause-sound
+returns-in-Class-clause-sound c =
+    let sound = c.class_work.ensures.sound c.args.table.now.heads in
+    search rules
+
+pub returns-in-Delete-clause-sound : goal.returns-in-Delete-clause-sound
+returns-in-Delete-clause-sound c =
+    let sound = c.delete_work.ensures.sound c.args.registry.now in
+    search rules
+
 pub returns-in-Get-default-default-None-clause-sound : goal.returns-in-Get-default-default-None-clause-sound
 returns-in-Get-default-default-None-clause-sound c =
-    let sound = c.get_work.ensures.sound c.args.classes.now in
+    let sound = c.get_work.ensures.sound c.args.registry.now in
     search rules
 
 pub returns-in-Ls-clause-answers : goal.returns-in-Ls-clause-answers

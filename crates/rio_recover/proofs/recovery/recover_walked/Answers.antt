@@ -4,7 +4,7 @@ use Rattle.rio_key.specs.declared.head.KeyHead.{KeyHead}
 use Rattle.rio_chain.specs.{Found.{IsShortKey}, Placing.{file_end}}
 use Rattle.rio_dir.specs.Table.{AreOrdered}
 use Rattle.rio_state.specs.{Closing.{name_in}, KeyedRecords.{info_key, is_top_key, keyed_records}, Left.{info_head}}
-use Rattle.rio_recover.specs.Keys.{keyed_by}
+use Rattle.rio_recover.specs.{Classes.{HasListCycle}, Keys.{keyed_by}}
 use Rattle.rio_recover.proofs.{Gathering.{all_gathered}, Judging.{cause_alone_on}, LinkRecords.{all_stand}}
 use Rattle.rio_recover.proofs.{Recovering.{has_room, name_short, no_room, some_room}, StateJudged.{state_refused}, WholeFile.{all_items, whole_file}}
 use Rattle.rio_recover.proofs.recovery.recover_walked.Goals as goal
@@ -81,5 +81,6 @@ returns-clause-whole g c =
     let named = c.in_ok-name.ensures ∙ ap (λ (hs : List KeyHead). name_in (keyed_by hs)) seen in
     let counts = c.in_ok-info.ensures ∙ c.info_head.ensures ∙ ap (λ (hs : List KeyHead). info_head (info_key (keyed_by hs))) seen in
     let items = subst (λ (hs : List KeyHead). IsPermutation (filter is_top_key hs) state.table.heads) seen c.in_ok-state.ensures.items in
-    whole_file c.args.walked c.requires.whole c.in_ok-name.name c.in_ok-info.info state c.in_ok-gather.field-0 c.in_ok-gather.ensures.parts items c.in_ok-state.ensures.untitled c.in_ok-state.ensures.classes counts named
+    let listed = subst (λ (o : Option KeyHead). HasListCycle o state.registry) c.as_ref.ensures.value c.in_ok-state.ensures.listed in
+    whole_file c.args.walked c.requires.whole c.in_ok-name.name c.in_ok-info.info state c.in_ok-gather.field-0 c.in_ok-gather.ensures.parts items c.in_ok-state.ensures.untitled c.in_ok-state.ensures.classes listed counts named
     c.in_ok-gather.ensures.garbage

@@ -1,4 +1,4 @@
-use Rattle.rio_session.proofs.FileMarks.{steps_follow_files}
+use Rattle.rio_session.proofs.FileSteps.{steps_follow_files}
 use Rattle.rio_session.proofs.laws.steps_follow_files.Goals as goal
 
 pub returns : goal.returns

@@ -4,7 +4,7 @@ use Rattle.rio_chain.specs.Chains.{ChainState}
 use Rattle.rio_dir.specs.Table.{TableRoom, heads_size}
 use Rattle.rio_session.proofs.OpenAnswers.{tells_why_new, unborn_sound}
 use Rattle.rio_session.proofs.OpenMoments.{first_unclosed, made_unclosed, making_time, synced_unclosed, unborn_empty}
-use Rattle.rio_session.proofs.OpenNew.{begins_new, chain_new, directory_before_end, kept_new, stands_new}
+use Rattle.rio_session.proofs.OpenNew.{begins_new, chain_new, directory_within, kept_new, stands_new}
 use Rattle.rio_session.proofs.new_file.open_new.Goals as goal
 
 pub returns-in_err-chain-clause-any_moment : goal.returns-in_err-chain-clause-any_moment
@@ -19,7 +19,7 @@ invariant_of-result g c = record {
       (ap (λ (s : ChainState). s.segments) c.in_ok-chain.ensures.chain) c.in_ok-chain.ensures.low (ap (λ (t : TableRoom). t.heads) c.new-2.ensures) c.in_ok-own.ensures;
   fresh = λ fresh. ap (λ (s : ChainState). s.spent) c.in_ok-chain.ensures.chain;
   bytes = λ fresh. sym (ap (λ (t : TableRoom). heads_size t.heads) c.new-2.ensures);
-  directory = λ fresh. directory_before_end c.in_ok-chain.field-0.chain.segments c.args.name.now c.in_ok-chain.field-0.nbytes_name
+  directory = λ fresh. directory_within c.in_ok-chain.field-0.chain.segments c.args.name.now c.in_ok-chain.field-0.nbytes_name
       (ap (λ (s : ChainState). s.segments) c.in_ok-chain.ensures.chain) c.in_ok-chain.ensures.name;
 }
 

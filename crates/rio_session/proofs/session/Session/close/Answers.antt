@@ -1,9 +1,9 @@
-use Rattle.std.proofs.{Common.{◌≡◌, ◌∙◌, refl, ap, subst}, lemmas.Result.{err_from_is_err_and}}
+use Rattle.std.proofs.{Common.{◌≡◌, ◌≤◌, ◌+◌, ◌∙◌, refl, sym, ap, subst, arith}, lemmas.Result.{err_from_is_err_and}}
 use Rattle.std.specs.Option.{option_copied}
-use Rattle.rio_chain.specs.{Adjoining.{AreSegments}, Chains.{ChainState}}
+use Rattle.rio_chain.specs.{Adjoining.{AreSegments}, Chains.{ChainState}, Placing.{file_end}}
 use Rattle.rio_close.specs.{Leaving.{IsReadyToClose}, Written.{OpenFile}}
-use Rattle.rio_session.specs.{Closes.{open_file}, Kept.{IsSoundState}, Session.{SessionState}}
-use Rattle.rio_session.proofs.{CloseRoom.{fits_all, list_low, need_low}, CloseStates.{closes_file, closing_time, holds_open, leaves_closed, open_named, same_file}}
+use Rattle.rio_session.specs.{Closes.{open_file}, Sound.{IsSoundState}, Session.{SessionState}}
+use Rattle.rio_session.proofs.{CloseRoom.{directory_low, fits_all, list_low, need_low}, CloseStates.{closes_file, closing_time, holds_open, leaves_closed, open_named, same_file}}
 use Rattle.rio_session.proofs.session.Session.close.Goals as goal
 
 pub close_records-requires-clause-heads : goal.close_records-requires-clause-heads
@@ -21,6 +21,12 @@ close_records-requires-clause-low g c =
     need_low c.self.inside.chain.segments c.reserve.new.self.segments c.self.inside.table.heads c.self.inside.info c.self.inside.name c.as_slice.result.now
     (c.self.invariant.kept (ap (λ (s : SessionState). s.failed) c.self.view_is ∙ c.requires.fresh))
     (ap (λ (s : ChainState). s.segments) c.in_ok-reserve.ensures.ok) c.as_slice.ensures
+
+pub write_close-requires-clause-directory : goal.write_close-requires-clause-directory
+write_close-requires-clause-directory g c file holds =
+    let low = directory_low c.self.inside.nbytes_name c.self.inside.chain.segments (c.self.invariant.directory (ap (λ (s : SessionState). s.failed) c.self.view_is ∙ c.requires.fresh)) in
+    let end : file_end c.reserve.new.self.segments ≡ file_end c.self.inside.chain.segments = ap (λ (s : ChainState). file_end s.segments) c.in_ok-reserve.ensures.ok in
+    omega (arith, low, end, c.in_ok-records.ensures.nbytes_name)
 
 pub returns-in_err-write_close-clause-any_moment : goal.returns-in_err-write_close-clause-any_moment
 returns-in_err-write_close-clause-any_moment g c m text stands =

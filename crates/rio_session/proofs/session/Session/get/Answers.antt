@@ -1,6 +1,6 @@
 use Rattle.std.proofs.{Common.{sym, subst}, lemmas.Result.{err_from_is_err_and}}
 use Rattle.rio_session.specs.Gets.{TellsRecord}
-use Rattle.rio_session.proofs.{OtherSteps.{found_key}, PutMoments.{says_fault}, Replies.{reads_not_said, reads_then_said}}
+use Rattle.rio_session.proofs.{ChangeMoments.{not_said}, OtherSteps.{found_key}, Replies.{reads_not_said, reads_then_said}}
 use Rattle.rio_session.proofs.session.Session.get.Goals as goal
 
 pub told-requires-clause-among : goal.told-requires-clause-among
@@ -11,11 +11,11 @@ pub returns-in_err-answer-in-Ok-clause-tells : goal.returns-in_err-answer-in-Ok-
 returns-in_err-answer-in-Ok-clause-tells g c =
     let s = c.args.self.now in
     let p = err_from_is_err_and c.from_residual.result c.from_residual.ensures.1 in
-    let not_said = says_fault (Unit {0}) c.as_slice.result.now 0 _ _ _ _ c.in_err-answer-in-Ok.field-0.0 c.in_err-answer-in-Ok.ensures.fault c.in_err-answer-in-Ok.ensures.says in
+    let unsaid = not_said (Unit {0}) c.as_slice.result.now 0 _ _ _ _ c.in_err-answer-in-Ok.field-0.0 c.in_err-answer-in-Ok.ensures.fault c.in_err-answer-in-Ok.ensures.says in
     rw (p.1, p.2, c.in_err-answer-in-Ok.ensures.fault) (record {
       text = c.as_slice.result.now;
       tells = λ said. subst (TellsRecord (g.H.Host.view c.args.host.now) s.segments s.classes c.args.head.now) (sym c.as_slice.ensures) c.in-Ok.ensures.text;
-      says = reads_not_said c.as_slice.result.now (g.H.Host.view c.args.host.now) (g.H.Host.view c.told.new.host) (g.H.Host.view c.answer.new.host) (g.met.H.Host.lawful c.told.new.host) c.told.ensures.calls c.in-Ok.ensures.cause c.answer.new.self not_said;
+      says = reads_not_said c.as_slice.result.now (g.H.Host.view c.args.host.now) (g.H.Host.view c.told.new.host) (g.H.Host.view c.answer.new.host) (g.met.H.Host.lawful c.told.new.host) c.told.ensures.calls c.in-Ok.ensures.cause c.answer.new.self unsaid;
     })
 
 pub returns-in_ok-answer-in-Ok-clause-tells : goal.returns-in_ok-answer-in-Ok-clause-tells

@@ -6,7 +6,7 @@ use Rattle.rio_machine.specs.Limits.{head_length}
 use Rattle.rio_state.specs.Closing.{close_need, end_limit, is_full, padded_length}
 use Rattle.rio_step.specs.{Step.{object_put}, ReplyText.{text_of}}
 use Rattle.rio_recover.specs.Closable.{is_sized, kept_with}
-use Rattle.rio_session.specs.{Kept.{IsSoundState}, Puts.{IsFullFor}, Session.{SessionState}}
+use Rattle.rio_session.specs.{Sound.{IsSoundState}, Puts.{IsFullFor}, Session.{SessionState}}
 use Rattle.rio_session.proofs.{PutCalls.{full_is_said, put_is_done, record_can_be_put}, Replies.{does_nothing}}
 use Rattle.rio_session.proofs.session.Session.put.Goals as goal
 
@@ -56,7 +56,7 @@ returns-in_ok-text-in-Ok-clause-does g c command todo =
     put_is_done s o c.requires.can sound c.padded-n.result c.need_with.result long need
     (g.H.Host.view c.args.host.now) (g.H.Host.view c.put_and_say.new.host) c.put_and_say.new.self (g.met.H.Host.lawful c.args.host.now) (g.met.H.Host.lawful c.put_and_say.new.host)
     c.requires.ready c.requires.fresh (omega (arith, ap (λ (x : SessionState). x.datime) v)) c.put_and_say.result (500 + c.from-length.result) (ap (λ (k : ℕ). 500 + k) c.from-length.ensures) command todo
-    c.in-Ok.place c.in_ok-made-in-Ok.made c.as_slice.result.now (omega (arith, c.in-Ok.ensures.low)) c.in_ok-made-in-Ok.ensures text at room c.put_and_say.ensures.puts c.put_and_say.ensures.outcome
+    c.in-Ok.place c.in_ok-made-in-Ok.made c.as_slice.result.now (omega (arith, c.in-Ok.ensures.low)) c.in_ok-made-in-Ok.ensures text at room c.put_and_say.ensures.changes c.put_and_say.ensures.outcome
 
 pub returns-in-Err-Full-clause-does : goal.returns-in-Err-Full-clause-does
 returns-in-Err-Full-clause-does g c command todo =

@@ -6,6 +6,9 @@ use Rattle.rio_session.proofs.session.Session.work.Goals as goal
 pub returns-in-Put-clause-does : goal.returns-in-Put-clause-does
 returns-in-Put-clause-does g c command todo = c.put.ensures.does command (subst (IsToDo c.args.self.now command) c.in-Put.is todo)
 
+pub returns-in-Delete-clause-does : goal.returns-in-Delete-clause-does
+returns-in-Delete-clause-does g c command todo = c.delete.ensures.does command (subst (IsToDo c.args.self.now command) c.in-Delete.is todo)
+
 pub returns-in-Get-clause-does : goal.returns-in-Get-clause-does
 returns-in-Get-clause-does g c command todo =
     get_is_done (g.H.Host.view c.args.host.now) (g.H.Host.view c.get.new.host) c.args.self.now c.get.new.self (g.met.H.Host.lawful c.args.host.now) (g.met.H.Host.lawful c.get.new.host) c.requires.ready c.requires.fresh c.get.result

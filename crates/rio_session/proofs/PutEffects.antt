@@ -1,0 +1,90 @@
+-- What the record of a put makes of the state that a session stands for.
+use Rattle.std.proofs.Common.{◌≡◌, inl, ℕ, zero, ◌+◌, ◌<◌, ◌≤◌, ◌^◌, List, [], ◌∷◌, length, map, take, None, true, false, refl, sym, ap, subst, ◌∙◌, arith}
+use Rattle.rio_num.specs.Word.{is_item_text}
+use Rattle.rio_key.specs.declared.head.KeyHead.{KeyHead}
+use Rattle.rio_value.specs.declared.value.Value.{Value}
+use Rattle.rio_chain.specs.{Adjoining.{AreSegments}, Changes.{with_record}, Placing.{place_of, record_count, with_segment}, Segments.{Link, segment_of}, declared.segment.Segment.{Segment}}
+use Rattle.rio_model.specs.StateClasses.{StateClasses}
+use Rattle.rio_machine.specs.{State.{State}, declared.command.Command.TheVariants.{Put}}
+use Rattle.rio_state.specs.{Closing.{held_of, kept_in}, DirectoryKeys.{AreKeysOf}, KeyedRecords.{info_key, keyed_records}, Left.{info_head}, OneMore.{keyed_bytes}, Reads.{AreRecordsOf}}
+use Rattle.rio_state.proofs.{MoreRecords.{record_more}, Stays.{info_stays}}
+use Rattle.rio_step.specs.{Costs.{cost_of}, Refusing.{refusal_of}, Runs.{saved_of}, Step.{state_behind}}
+use Rattle.rio_effect.specs.{Laws.{IsPutRecord}, More.{KeepsOneMore}, ObjectRecord.{key_of_put, record_of_put}}
+use Rattle.rio_effect.proofs.{FileChanges.{put_length}, Held.{chain_segments, held_grows}, Needs.{need_grows}, PutEffect.{puts_have_records, saved_put_takes_effect}, PutKeys.{put_key_follows}}
+use Rattle.rio_close.proofs.Fitting.{count_with, place_low}
+use Rattle.rio_session.specs.{Effects.{ArePassed, IsKeptAfter, TakesEffect, links_by}, Kept.{all_done, changes_by, kept_by, place_of_put}}
+use Rattle.rio_session.specs.{Session.{HoldsState, SessionState}, Sound.{IsSoundState}}
+use Rattle.rio_session.proofs.States.{Known, known}
+
+module _ (s : SessionState) (m : State) (file : List ℕ) (h : HoldsState s m file) (sound : IsSoundState s) (fresh : s.failed ≡ false) (soon : s.datime < 2 ^ 32)
+    (name : List ℕ) (v : Value) (named : is_item_text name ≡ true) (free : refusal_of m (Put name v) None ≡ None) where
+  abbrev at : ℕ
+  at = place_of_put s m name v
+
+  abbrev bytes : List ℕ
+  bytes = record_of_put m (place_of_put s m name v) s.datime name v
+
+  abbrev key : KeyHead
+  key = key_of_put m (place_of_put s m name v) s.datime name v
+
+  abbrev after : List Link
+  after = with_record (place_of_put s m name v) (record_of_put m (place_of_put s m name v) s.datime name v) h.links
+
+  shape : AreSegments s.segments
+  shape = subst AreSegments (sym h.chain.same) (chain_segments file h.links h.chain.chain)
+
+  -- the place of the rule is before END
+  pub put_low : place_of_put s m name v < 2 ^ 32
+  put_low = omega (arith, place_low s.segments at (length (record_of_put m 0 s.datime name v)) shape refl, (sound.kept fresh).room)
+
+  -- the record is as long wherever it is
+  pub put_placed : place_of_put s m name v ≡ place_of (map segment_of h.links) (length (record_of_put m (place_of_put s m name v) s.datime name v))
+  put_placed =
+      let long : length (record_of_put m 0 s.datime name v) ≡ length bytes = sym (put_length m 0 s.datime name v) ∙ put_length m at s.datime name v in
+      λ i. place_of (h.chain.same i) (long i)
+
+  pub put_classes : StateClasses m.classes
+  put_classes = subst StateClasses h.classes sound.classes
+
+  kn : Known h.links s.heads m
+  kn = known h.links s.heads m h.records h.keys
+
+  pr : IsPutRecord m (place_of_put s m name v) s.datime name v
+  pr = puts_have_records m at s.datime name v None put_low soon put_classes named free
+
+  grows : KeepsOneMore (kept_in h.links) (kept_in after) key
+  grows = need_grows file h.links at bytes key h.chain.chain pr.read pr.key.top pr.key.object
+
+  records_after : AreRecordsOf (keyed_records after) (saved_of (state_behind m (Put name v)))
+  records_after = saved_put_takes_effect h.links m at s.datime name v None put_low soon h.records named free
+
+  keys_after : AreKeysOf (keyed_records after) (kept_by s m (Put name v)).heads
+  keys_after = put_key_follows h.links m s.heads at s.datime name v None put_low soon kn.records named free h.keys
+
+  info_after : info_key (keyed_records after) ≡ info_key (keyed_records h.links)
+  info_after = info_stays (keyed_records h.links) (keyed_records after) (keyed_bytes key bytes) (record_more h.links at bytes key pr.read) pr.key.other
+
+  held_after : held_of after ≤ held_of h.links + cost_of m (Put name v)
+  held_after = held_grows file h.links m at s.datime name v put_low soon h.chain.chain (inl put_placed) put_classes named free
+
+  put_is_kept : IsKeptAfter s m (Put name v) h.links after
+  put_is_kept = record {
+    keys = keys_after;
+    info = h.info ∙ ap info_head (sym info_after);
+    name = grows.name;
+    count = grows.count ∙ ap (λ (n : ℕ). n + 1) h.count ∙ sym (count_with at (length bytes) s.segments);
+    held = held_after;
+  }
+
+  pub put_takes_effect_on : TakesEffect s m (Put name v) h.links
+  put_takes_effect_on = record {
+    turn = 0;
+    within = omega arith;
+    early = λ k low passed.
+        let none : 0 ≡ k = omega (arith, low) in
+        subst (λ (n : ℕ). AreRecordsOf (keyed_records (links_by s m (Put name v) n h.links)) (saved_of m)) none h.records;
+    late = λ k later low passed.
+        let one : 1 ≡ k = omega (arith, later, low) in
+        subst (λ (n : ℕ). AreRecordsOf (keyed_records (links_by s m (Put name v) n h.links)) (saved_of (state_behind m (Put name v)))) one records_after;
+    ends = λ passed. put_is_kept;
+  }

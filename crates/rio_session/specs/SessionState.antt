@@ -1,0 +1,25 @@
+-- What a session keeps beside its file.
+use Rattle.std.specs.Prelude.{ℕ, ◌+◌, ◌-◌, ◌^◌, min, Bool, List, Option}
+use Rattle.rio_types.specs.declared.class.ClassDef.{ClassDef}
+use Rattle.rio_key.specs.declared.head.KeyHead.{KeyHead}
+use Rattle.rio_chain.specs.declared.segment.Segment.{Segment}
+
+pub record SessionState : Type 0 where
+  pub segments : List Segment
+  pub classes : List ClassDef
+  -- the keys of objects and trees, in the order of the key list
+  pub heads : List KeyHead
+  -- the key of the class list that counts
+  pub info : Option KeyHead
+  -- the file's name, and what its header says how long key and texts of the first record are
+  pub name : List ℕ
+  pub nbytes_name : ℕ
+  pub datime : ℕ
+  -- the file's length when it was opened, 0 for one that wasn't made yet, and the costs of all commands together
+  pub opened : ℕ
+  pub costs : ℕ
+  pub failed : Bool
+
+-- with a cost counted, as far as 64 bits hold the costs
+abbrev pub with_cost : ℕ → SessionState → SessionState
+with_cost cost s = record s { costs = min (s.costs + cost) (2 ^ 64 - 1) }

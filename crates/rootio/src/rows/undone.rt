@@ -1,0 +1,275 @@
+//! Runs with `delete` that are cut off at some moment, or of which a call fails: what the file reads as then.
+use super::runs::{host_of, host_of_copy, ran};
+use super::stops::WORDS;
+use crate::status::Status;
+use rio_host::{Left, MemHost, Remains};
+use rio_key::KeyHead;
+use rio_num::{Bytes, NoMemory};
+use rio_recover::{Recovered, recover};
+use std::alloc::Global;
+
+// A line of a script, its reply, and what is listed of the file after it.
+struct Step {
+    line: &'static str,
+    reply: &'static str,
+    listing: &'static str,
+}
+
+const HI: &str = "put s TObjString{TObject{fUniqueID: 0, fBits: 0}, fString: \"hi\"}\n";
+
+const HO: &str = "put s TObjString{TObject{fUniqueID: 0, fBits: 0}, fString: \"ho\"}\n";
+
+const HU: &str = "put s TObjString{TObject{fUniqueID: 0, fBits: 0}, fString: \"hu\"}\n";
+
+const ONE: &str = "s;1 TObjString\n";
+
+const TWO: &str = "s;2 TObjString\ns;1 TObjString\n";
+
+// Two objects, the second of which is deleted and put again.
+static PUT_AGAIN: [Step; 5] = [
+    Step {
+        line: HI,
+        reply: "ok put s;1\n",
+        listing: ONE,
+    },
+    Step {
+        line: HO,
+        reply: "ok put s;2\n",
+        listing: TWO,
+    },
+    Step {
+        line: "delete s;2\n",
+        reply: "ok delete s;2\n",
+        listing: ONE,
+    },
+    Step {
+        line: HU,
+        reply: "ok put s;2\n",
+        listing: TWO,
+    },
+    Step {
+        line: "ls\n",
+        reply: "ok ls 2\ns;2 TObjString\ns;1 TObjString\n",
+        listing: TWO,
+    },
+];
+
+// The second record is deleted, and a text that reads as a record of 60 bytes goes into its gap.
+static IN_A_GAP: [Step; 5] = [
+    Step {
+        line: HI,
+        reply: "ok put s;1\n",
+        listing: ONE,
+    },
+    Step {
+        line: "put t TObjString{TObject{fUniqueID: 0, fBits: 0}, fString: \"123456789012345678901234567890123456789012345678901234567890\"}\n",
+        reply: "ok put t;1\n",
+        listing: "s;1 TObjString\nt;1 TObjString\n",
+    },
+    Step {
+        line: HU,
+        reply: "ok put s;2\n",
+        listing: "s;2 TObjString\ns;1 TObjString\nt;1 TObjString\n",
+    },
+    Step {
+        line: "delete t;1\n",
+        reply: "ok delete t;1\n",
+        listing: TWO,
+    },
+    Step {
+        line: "put u TObjString{TObject{fUniqueID: 0, fBits: 0}, fString: \"\\x00\\x00\\x00<\\x00\\x04\\x00\\x00\\x00\\x14\\x00\\x00\\x00\\x01\\x00(\\x00\\x01\\x00\\x00\\x00\\xd0\\x00\\x00\\x00d\\nTObjString\\x01s\\x00@\\x00\\x00\\x0f\\x00\\x01\\x00\\x01\\x00\\x00\\x00\\x00\\x00\\x00\\x00\\x00\\x02hi\\x00\"}\n",
+        reply: "ok put u;1\n",
+        listing: "s;2 TObjString\ns;1 TObjString\nu;1 TObjString\n",
+    },
+];
+
+fn script_of(alloc: Global, steps: &[Step]) -> Result<Bytes, NoMemory> {
+    let mut script = Bytes::new(alloc);
+    for step in steps {
+        script.put(step.line.as_bytes())?;
+    }
+    Ok(script)
+}
+
+// How many replies a text holds whole.
+fn whole_replies(steps: &[Step], said: &[u8]) -> usize {
+    let mut rest = said;
+    let mut count: usize = 0;
+    for step in steps {
+        match rest.strip_prefix(step.reply.as_bytes()) {
+            Some(behind) => rest = behind,
+            None => return count,
+        }
+        count = count.saturating_add(1);
+    }
+    count
+}
+
+// What is listed of the file after so many steps.
+fn listing_after(steps: &[Step], count: usize) -> &str {
+    match count.checked_sub(1) {
+        Some(last) => match steps.get(last) {
+            Some(step) => step.listing,
+            None => "more steps than there are",
+        },
+        None => "",
+    }
+}
+
+fn put_head(listing: &mut Bytes, head: &KeyHead) -> Result<(), NoMemory> {
+    listing.put(head.name.as_slice())?;
+    listing.put(b";")?;
+    listing.put_decimal(u64::from(head.cycle))?;
+    listing.put(b" ")?;
+    listing.put(head.class.as_slice())?;
+    listing.put(b"\n")
+}
+
+fn listing_of(alloc: Global, heads: &[KeyHead]) -> Result<Bytes, NoMemory> {
+    let mut listing = Bytes::new(alloc);
+    for head in heads {
+        put_head(&mut listing, head)?;
+    }
+    Ok(listing)
+}
+
+// Whether it reads as the state after so many steps.
+fn is_after(alloc: Global, found: &Recovered, steps: &[Step], count: usize) -> bool {
+    match listing_of(alloc, found.table.as_slice()) {
+        Ok(text) => text.as_slice() == listing_after(steps, count).as_bytes(),
+        Err(_) => false,
+    }
+}
+
+// Whether the host's file reads as a state after as many steps as were said, or one more.
+fn is_prefix_on(alloc: Global, host: &mut MemHost, steps: &[Step], said: usize) -> bool {
+    match rio_recover::is_unborn(host) {
+        Ok(true) => said == 0,
+        Ok(false) => match recover(alloc, host) {
+            Ok(found) => {
+                is_after(alloc, &found, steps, said)
+                    || is_after(alloc, &found, steps, said.saturating_add(1))
+            }
+            Err(_) => false,
+        },
+        Err(_) => false,
+    }
+}
+
+fn is_prefix(alloc: Global, image: Bytes, steps: &[Step], said: usize) -> bool {
+    match host_of(alloc, image, &[]) {
+        Ok(mut host) => is_prefix_on(alloc, &mut host, steps, said),
+        Err(_) => false,
+    }
+}
+
+// ---- stops
+
+fn remains(number: u8) -> Remains {
+    match number {
+        0 => Remains::Nothing,
+        1 => Remains::All,
+        2 => Remains::Front(50),
+        3 => Remains::Filled(0),
+        _ => Remains::Filled(255),
+    }
+}
+
+// What a stop at this moment leaves, by one of 25 choices for the first two writes in flight, and with a part of what was being said.
+fn left_at(host: &MemHost, moment: u64, choice: u8) -> Result<Left, NoMemory> {
+    let choices = [
+        remains(choice % 5),
+        remains(choice / 5),
+        remains(choice % 3),
+    ];
+    host.left(moment, &choices, u64::from(choice))
+}
+
+fn is_prefix_at(alloc: Global, host: &MemHost, moment: u64, choice: u8, steps: &[Step]) -> bool {
+    match left_at(host, moment, choice) {
+        Ok(left) => {
+            let said = whole_replies(steps, left.said.as_slice());
+            is_prefix(alloc, left.image, steps, said)
+        }
+        Err(_) => false,
+    }
+}
+
+// The first moment and choice at which it is none.
+fn no_prefix(alloc: Global, host: &MemHost, steps: &[Step]) -> Option<(u64, u8)> {
+    for at in 0..host.moment().saturating_mul(25) {
+        let (moment, choice) = (at / 25, (at % 25) as u8);
+        if !is_prefix_at(alloc, host, moment, choice, steps) {
+            return Some((moment, choice));
+        }
+    }
+    None
+}
+
+fn no_prefix_of(alloc: Global, steps: &[Step]) -> Option<(u64, u8)> {
+    let nowhere = Some((u64::MAX, 0));
+    let (Ok(script), Ok(mut host)) = (script_of(alloc, steps), host_of_copy(alloc, b"", &[])) else {
+        return nowhere;
+    };
+    match ran(alloc, &WORDS, &mut host, script.as_slice()) {
+        Ok(Status::Done) => no_prefix(alloc, &host, steps),
+        _ => nowhere,
+    }
+}
+
+#[test]
+fn stops(rt: HostRuntime) {
+    assert_eq!(rt; no_prefix_of(rt.alloc(), &PUT_AGAIN), None);
+    assert_eq!(rt; no_prefix_of(rt.alloc(), &IN_A_GAP), None);
+}
+
+// ---- failing calls
+
+// Whether the listing is that of the state after as many steps as were said, or one more.
+fn is_listed(steps: &[Step], said: usize, listing: &[u8]) -> bool {
+    listing == listing_after(steps, said).as_bytes()
+        || listing == listing_after(steps, said.saturating_add(1)).as_bytes()
+}
+
+// Whether the verb `recover` then lists the objects of a prefix.
+fn recovers(alloc: Global, image: &[u8], steps: &[Step], said: usize) -> Result<bool, NoMemory> {
+    let mut host = host_of_copy(alloc, image, &[])?;
+    let status = ran(alloc, &["recover", "a.root"], &mut host, b"")?;
+    Ok(status == Status::Done && is_listed(steps, said, host.said().as_slice()))
+}
+
+// A run of which this call fails, and whether it is recovered then. None where no call has the number.
+fn fails_well(
+    alloc: Global,
+    script: &[u8],
+    steps: &[Step],
+    call: u64,
+) -> Result<Option<bool>, NoMemory> {
+    let mut host = host_of_copy(alloc, b"", &[call])?;
+    match ran(alloc, &WORDS, &mut host, script)? {
+        Status::Done => Ok(None),
+        Status::DiskFault | Status::SayFault => {
+            let said = whole_replies(steps, host.said().as_slice());
+            Ok(Some(recovers(alloc, host.image(), steps, said)?))
+        }
+        _ => Ok(Some(false)),
+    }
+}
+
+// The first call after whose failure a file isn't recovered, and how many calls there are.
+fn fails_badly(alloc: Global, steps: &[Step]) -> Result<(Option<u64>, u64), NoMemory> {
+    let script = script_of(alloc, steps)?;
+    for call in 0..200 {
+        match fails_well(alloc, script.as_slice(), steps, call)? {
+            Some(true) => {}
+            Some(false) => return Ok((Some(call), call)),
+            None => return Ok((None, call)),
+        }
+    }
+    Ok((Some(200), 200))
+}
+
+#[test]
+fn failing_calls(rt: HostRuntime) {
+    assert!(rt; matches!(fails_badly(rt.alloc(), &PUT_AGAIN), Ok((None, 30..))));
+}
