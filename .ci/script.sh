@@ -94,6 +94,24 @@ t;1 TObjString' ""
 [ "$(wc -c <less.root)" -eq "$(wc -c <a.root)" ] || fail "a delete: the file is longer"
 "$program" ls less.root </dev/null >said 2>told
 check "ls after a delete" $? 0 "$keys" ""
+
+# A class is declared, and then a version more: each object stays as it was put.
+printf '%s\n' "class N 1 { v: i32, next: N* }" "put n N{v: 1, next: @0=N{v: 2, next: @0}}" "class N 1 { v: i32 }" "class N 2 { v: i32 }" \
+    "put n N{v: 4}" "get n;1" "get n" >classes
+"$program" run less.root <classes >said 2>told
+check "classes" $? 0 'ok class N 1
+ok put n;1
+no 9 SameVersion
+ok class N 2
+ok put n;2
+ok get n;1 N#1{v: 1, next: @0=N#1{v: 2, next: @0}}
+ok get n;2 N#2{v: 4}' ""
+"$program" dump less.root 'n;1' </dev/null >said 2>told
+check "dump of an object of a class" $? 0 'n;1 N#1{v: 1, next: @0=N#1{v: 2, next: @0}}' ""
+"$program" dump less.root </dev/null >said 2>told
+[ "$(grep '^class N ' said)" = 'class N 1 { v: i32, next: N* }
+class N 2 { v: i32 }' ] || fail "dump of the classes: '$(grep '^class' said)'"
+
 "$program" recover a.root 0x1 </dev/null >said 2>told
 check "recover with no datime" $? 1 "" "rootio: usage: rootio VERB FILE ARG..."
 

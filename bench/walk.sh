@@ -1,9 +1,9 @@
 #!/usr/bin/env bash
 # A random walk of commands over one file, by runs that are killed at random moments, against a model of its own.
 # Usage: [COMMANDS=100000] [RUNS=100] [SEED=1] bench/walk.sh [FOLDER] (builds the program first where it has to). RUNS scripts of put,
-# delete, get and ls, a tenth of them refused by the rules, go over one file, without FOLDER in memory where there is /dev/shm.
+# delete, get, ls and class, some of them refused by the rules, go over one file, without FOLDER in memory where there is /dev/shm.
 # Every third run is let run; each other is killed (SIGKILL) after a random time. The replies that were printed have to be
-# those of the model, and `recover` has to list what the model has after as many commands, or after one more.
+# those of the model, and `recover` and the classes of `dump` have to be what the model has after as many commands, or after one more.
 set -eu
 top=$(cd "$(dirname "$0")/.." && pwd)
 base=${1:-/dev/shm}
@@ -23,8 +23,12 @@ random.seed(seed)
 
 class Model:
     def __init__(self):
-        # name to {cycle: (class, printed value)}
+        # name to {cycle: (class, printed value)}, and the classes as (name, version)
         self.objects = {}
+        self.classes = []
+
+    def newest(self, name):
+        return max((v for n, v in self.classes if n == name), default=0)
 
     def names(self):
         return sorted(self.objects)
@@ -41,12 +45,21 @@ class Model:
             if kind == "TObjString":
                 text = value.split('"')[1]
                 shown = f'TObjString#1{{TObject#1{{fUniqueID: 0, fBits: 0}}, fString: "{text}"}}'
+            elif self.newest(kind):
+                version, number = self.newest(kind), value.split("a: ")[1].split("}")[0]
+                shown = f"{kind}#{version}{{a: {number}}}"
             else:
                 return "no 8 NoSuchClass"
             cycles = self.objects.setdefault(name, {})
             cycle = max(cycles, default=0) + 1
             cycles[cycle] = (kind, shown)
             return f"ok put {name};{cycle}"
+        if verb == "class":
+            name, version = rest[0], int(rest[1].split(" ")[0])
+            if (name, version) in self.classes:
+                return "no 9 SameVersion"
+            self.classes.append((name, version))
+            return f"ok class {name} {version}"
         if verb == "delete":
             name, cycle = rest[0].split(";")
             if name not in self.objects:
@@ -71,8 +84,10 @@ def command(model):
     name = f"n{random.randrange(60)}"
     if dice < 0.45:
         return f'put {name} TObjString{{TObject{{fUniqueID: 0, fBits: 0}}, fString: "{"x" * random.randrange(120)}"}}'
-    if dice < 0.50:
-        return f"put {name} Q{{a: {random.randrange(-9, 9)}}}"
+    if dice < 0.55:
+        return f"put {name} Q{random.randrange(12)}{{a: {random.randrange(-9, 9)}}}"
+    if dice < 0.57:
+        return f"class Q{random.randrange(12)} {random.randrange(1, 9)} {{ a: i32 }}"
     if dice < 0.90:
         # mostly something that is there
         if model.objects and random.random() < 0.9:
@@ -80,6 +95,13 @@ def command(model):
             return f"delete {name};{random.choice(list(model.objects[name]))}"
         return f"delete {name};{random.randrange(1, 5)}"
     return f"get {name}" if dice < 0.99 else "ls"
+
+def declared():
+    """Returns the classes that the file declares: those that `dump` lists, but for those of trees."""
+    out = subprocess.run([program, "dump", path], capture_output=True, text=True)
+    assert out.returncode == 0, (out.returncode, out.stderr)
+    words = [line.split() for line in out.stdout.splitlines() if line.startswith("class Q")]
+    return [(it[1], int(it[2])) for it in words]
 
 model, killed, done, longest = Model(), 0, 0, 0
 for k in range(runs):
@@ -117,11 +139,11 @@ for k in range(runs):
         model.do(line)
     out = subprocess.run([program, "recover", path], capture_output=True, text=True)
     assert out.returncode == 0, (k, out.returncode, out.stderr)
-    there = out.stdout.splitlines()
-    if there != model.listing():
+    there = (out.stdout.splitlines(), declared())
+    if there != (model.listing(), model.classes):
         assert whole < len(lines), (k, "the listing after all commands")
         model.do(lines[whole])
-        assert there == model.listing(), (k, whole)
+        assert there == (model.listing(), model.classes), (k, whole)
         whole += 1
     done += whole
 for name in random.sample(model.names(), min(20, len(model.objects))):

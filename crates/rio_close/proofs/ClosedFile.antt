@@ -11,7 +11,7 @@ use Rattle.rio_key.proofs.KeyParts.{parts_of_key}
 use Rattle.rio_head.specs.{Head.{fault_at, head_at}, declared.head.FileHead.{FileHead}, declared.dir.DirRecord.{DirRecord}}
 use Rattle.rio_head.specs.{declared.fault.HeadFault.{HeadFault}, declared.fault.FileFault.TheVariants.{BadDir, NotClosed}}
 use Rattle.rio_dir.specs.{Closed.{closed_dir, closed_file, closed_head, closed_keys, dir_place, or_fault}, Table.{AreWritable, heads_size, key_list_bytes}}
-use Rattle.rio_dir.specs.declared.closed.Closed.{Closed}
+use Rattle.rio_dir.specs.{Listing.{key_lines, listed_file}, declared.closed.Closed.{Closed}}
 use Rattle.rio_dir.proofs.TableWritten.{length-flat}
 use Rattle.rio_free.specs.Record.{free_bytes}
 use Rattle.rio_host.specs.Image.{Has, Put}
@@ -398,6 +398,11 @@ module _ (f : OpenFile) (r : CloseRecords) (made : AreCloseRecords f r) (file : 
         let to_dir : FileHead → Result Closed HeadFault = λ head. closed_dir last (dir_place head) >>= to_keys head in
         bind_is (closed_head last) head_3 to_dir head_read ∙ bind_is (closed_dir last (dir_place head_3)) dir_3 (to_keys head_3) dir_ok ∙ bind_is (closed_keys last list_at) f.heads (to_end head_3 dir_3) keys_ok
 
+    -- what is listed of it
+    file_listed : listed_file last ≡ Ok (key_lines f.heads)
+    unfolding listed_file
+    file_listed = bind_is (closed_file last) closed_3 (λ closed. Ok (key_lines closed.keys)) file_read
+
     pub last_reads : ReadsAsState last m
     last_reads = reads_made last head_3 (RecordAt 100 o.new ∷ behind) m small_3 o.chain records_3
 
@@ -436,6 +441,7 @@ module _ (f : OpenFile) (r : CloseRecords) (made : AreCloseRecords f r) (file : 
       same = kept_in_first;
       chain = record { chain = o.chain; same = sym segments_3 };
       end = grows_at_end (with_list f r) (free_place f r) (length r.free.bytes.bytes) shape_list refl;
+      lists = file_listed;
     }
       where
         kept : (i x : ℕ) → IsKeptByte i → slice_get file_2 i ≡ Some x → slice_get last i ≡ Some x

@@ -232,6 +232,7 @@ module _ (v0 : View) (f : OpenFile) (r : CloseRecords) (m : State) (made : AreCl
           same = w.same;
           chain = w.chain;
           end = w.end;
+          lists = w.lists;
         }
 
     fields_stay : (i s : List ℕ) → IsFieldsThenEnd v2 r.free_fields.bytes r.info_fields.bytes place r.dir_fields.bytes end two.file i s → StaysAs v0 m i s

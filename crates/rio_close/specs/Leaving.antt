@@ -1,6 +1,7 @@
 -- What a close makes of a file, and what a stop leaves of it meanwhile.
-use Rattle.std.specs.Prelude.{◌≡◌, ◌⊎◌, ◌<◌, ◌≤◌, ℕ, ◌+◌, List, ◌∷◌, length, Some, slice_get}
+use Rattle.std.specs.Prelude.{◌≡◌, ◌⊎◌, ◌<◌, ◌≤◌, ℕ, ◌+◌, List, ◌∷◌, length, Some, Ok, slice_get}
 use Rattle.byteorder.specs.Endian.{big_bytes}
+use Rattle.rio_dir.specs.Listing.{key_lines, listed_file}
 use Rattle.rio_host.specs.{Host.{View}, Image.{Has}}
 use Rattle.rio_chain.specs.{Chains.{HasChain}, Changes.{with_record}, Placing.{file_end}, Segments.{Link, RecordAt}, Stops.{IsSaidText}}
 use Rattle.rio_chain.specs.declared.segment.Segment.{Segment}
@@ -48,7 +49,7 @@ IsKeptInFirst nbytes_name i = (i < nbytes_name + 6) ⊎ (nbytes_name + 30 ≤ i)
 
 -- A file that is closed with these records: the fields of header and directory record are theirs, all other bytes of header and first
 -- record are as before, and behind it stand the records of before, the key list and the free record, and none else. END, which the
--- header says, is where the free record ends.
+-- header says, is where the free record ends. What is listed of it are the keys of its objects.
 pub record IsClosedWith (f : OpenFile) (links : List Link) (records : CloseRecords) (old file : List ℕ) : Type 0 where
   pub header : (i x : ℕ) → IsKeptByte i → slice_get old i ≡ Some x → slice_get file i ≡ Some x
   pub end_there : Has file 12 (big_bytes 4 (file_end (with_both f records)))
@@ -63,6 +64,7 @@ pub record IsClosedWith (f : OpenFile) (links : List Link) (records : CloseRecor
   pub same : (i x : ℕ) → IsKeptInFirst f.nbytes_name i → slice_get first i ≡ Some x → slice_get now i ≡ Some x
   pub chain : HasChain (RecordAt first_place now ∷ with_record (free_place f records) records.free.bytes.bytes (with_record (list_place f records) records.list.bytes.bytes others)) (with_both f records) file
   pub end : file_end (with_both f records) ≡ free_place f records + record_size records.free
+  pub lists : listed_file file ≡ Ok (key_lines f.heads)
 
 -- the host holds such a file
 pub record HoldsClosedWith (v : View) (f : OpenFile) (links : List Link) (records : CloseRecords) (old : List ℕ) : Type 0 where

@@ -33,6 +33,10 @@ word_is_no_end word s comes = by (next_at s).token comes
     by Word e = refl
     by other e = absurd cc
 
+class_of_language : (s : At) → comes_next (codes "class") s ≡ true → command_at s ≡ class_command_at s
+unfolding command_at
+class_of_language s comes = rw comes refl
+
 put_of_language : (s : At) → comes_next (codes "put") s ≡ true → command_at s ≡ ended_at (put_command_at (behind s))
 unfolding command_at
 put_of_language s comes = rw (other_word (codes "put") (codes "class") s refl comes, comes) refl
@@ -110,10 +114,12 @@ read_of_language s =
     let ls = if comes_next (codes "ls") s then ended_at (Ok (Ls, next)) else bad_at s in
     let get = if comes_next (codes "get") s then ended_at (built_get_at next) else ls in
     let delete = if comes_next (codes "delete") s then ended_at (delete_command_at next) else get in
-    one_of_language (comes_next (codes "put") s) (ended_at (put_command_at next)) delete (command_at s) (λ comes. the_same _ _ (put_of_language s comes))
+    let put = if comes_next (codes "put") s then ended_at (put_command_at next) else delete in
+    one_of_language (comes_next (codes "class") s) (class_command_at s) put (command_at s) (λ comes. the_same _ _ (class_of_language s comes))
+    (λ _. one_of_language (comes_next (codes "put") s) (ended_at (put_command_at next)) delete (command_at s) (λ comes. the_same _ _ (put_of_language s comes))
     (λ _. one_of_language (comes_next (codes "delete") s) (ended_at (delete_command_at next)) get (command_at s) (λ comes. the_same _ _ (delete_of_language s comes))
     (λ _. one_of_language (comes_next (codes "get") s) (ended_at (built_get_at next)) ls (command_at s) (λ comes. rw (get_of_language s comes) (built_get_of_language next))
-    (λ _. one_of_language (comes_next (codes "ls") s) (ended_at (Ok (Ls, next))) (bad_at s) (command_at s) (λ comes. the_same _ _ (ls_of_language s comes)) (λ _. tt))))
+    (λ _. one_of_language (comes_next (codes "ls") s) (ended_at (Ok (Ls, next))) (bad_at s) (command_at s) (λ comes. the_same _ _ (ls_of_language s comes)) (λ _. tt)))))
 
 -- ---- what the whole language reads is read, if its verb is built
 
@@ -163,9 +169,6 @@ scan_unbuilt s =
     then_any IsUnbuilt (item_at s) (λ name. asked_class_at name.1 >>= λ class. Ok (Scan name.0 class.0, class.1))
     (λ name. then_any IsUnbuilt (asked_class_at name.1) (λ class. Ok (Scan name.0 class.0, class.1)) (λ class. refl))
 
-class_unbuilt : (s : At) → Given IsUnbuilt (class_command_at s)
-class_unbuilt s = then_any IsUnbuilt (class_at s) (λ class. Ok (Class class.0, class.1)) (λ class. refl)
-
 -- a get with a version isn't built
 unasked_read : (name : List ℕ) (cycle : Option ℕ) (s : At) → IsRead (ended_at (get_of name cycle (asked_version_at s))) (ended_at (plain_get name cycle s))
 unfolding asked_version_at
@@ -197,23 +200,28 @@ get_read s = by (item_at s)
 
 -- no verb before these comes next
 module _ (s : At) where
-  built_put : comes_next (codes "put") s ≡ true → built_command_at s ≡ ended_at (put_command_at (behind s))
+  built_class : comes_next (codes "class") s ≡ true → built_command_at s ≡ class_command_at s
   unfolding built_command_at
-  built_put put = rw put refl
+  built_class class = rw class refl
 
-  module _ (put : comes_next (codes "put") s ≡ false) where
-    built_delete : comes_next (codes "delete") s ≡ true → built_command_at s ≡ ended_at (delete_command_at (behind s))
+  module _ (class : comes_next (codes "class") s ≡ false) where
+    built_put : comes_next (codes "put") s ≡ true → built_command_at s ≡ ended_at (put_command_at (behind s))
     unfolding built_command_at
-    built_delete delete = rw (put, delete) refl
+    built_put put = rw (class, put) refl
 
-    module _ (delete : comes_next (codes "delete") s ≡ false) where
-      built_get : comes_next (codes "get") s ≡ true → built_command_at s ≡ ended_at (built_get_at (behind s))
+    module _ (put : comes_next (codes "put") s ≡ false) where
+      built_delete : comes_next (codes "delete") s ≡ true → built_command_at s ≡ ended_at (delete_command_at (behind s))
       unfolding built_command_at
-      built_get get = rw (put, delete, get) refl
+      built_delete delete = rw (class, put, delete) refl
 
-      built_ls : comes_next (codes "get") s ≡ false → comes_next (codes "ls") s ≡ true → built_command_at s ≡ ended_at (Ok (Ls, behind s))
-      unfolding built_command_at
-      built_ls get ls = rw (put, delete, get, ls) refl
+      module _ (delete : comes_next (codes "delete") s ≡ false) where
+        built_get : comes_next (codes "get") s ≡ true → built_command_at s ≡ ended_at (built_get_at (behind s))
+        unfolding built_command_at
+        built_get get = rw (class, put, delete, get) refl
+
+        built_ls : comes_next (codes "get") s ≡ false → comes_next (codes "ls") s ≡ true → built_command_at s ≡ ended_at (Ok (Ls, behind s))
+        unfolding built_command_at
+        built_ls get ls = rw (class, put, delete, get, ls) refl
 
 language_read : (s : At) → IsRead (command_at s) (built_command_at s)
 unfolding command_at
@@ -229,20 +237,23 @@ language_read s =
     let delete = if comes_next (codes "delete") s then ended_at (delete_command_at next) else tree in
     let put = if comes_next (codes "put") s then ended_at (put_command_at next) else delete in
     let unbuilt : (r : Read Command) → Given IsUnbuilt r → IsRead (ended_at r) read = λ r known. unbuilt_read (ended_at r) read (ended_given IsUnbuilt r known) in
-    one_read (comes_next (codes "class") s) (class_command_at s) put read (λ _. unbuilt_read (class_command_at s) read (class_unbuilt s))
-    (λ _. one_read (comes_next (codes "put") s) (ended_at (put_command_at next)) delete read (λ comes. the_same_read (ended_at (put_command_at next)) read (built_put s comes))
-    (λ no_put. one_read (comes_next (codes "delete") s) (ended_at (delete_command_at next)) tree read (λ comes. the_same_read (ended_at (delete_command_at next)) read (built_delete s no_put comes))
+    one_read (comes_next (codes "class") s) (class_command_at s) put read (λ comes. the_same_read (class_command_at s) read (built_class s comes))
+    (λ no_class. one_read (comes_next (codes "put") s) (ended_at (put_command_at next)) delete read (λ comes. the_same_read (ended_at (put_command_at next)) read (built_put s no_class comes))
+    (λ no_put. one_read (comes_next (codes "delete") s) (ended_at (delete_command_at next)) tree read (λ comes. the_same_read (ended_at (delete_command_at next)) read (built_delete s no_class no_put comes))
     (λ no_delete. one_read (comes_next (codes "tree") s) (ended_at (tree_command_at next)) fill read (λ _. unbuilt (tree_command_at next) (tree_unbuilt next))
     (λ _. one_read (comes_next (codes "fill") s) (ended_at (fill_command_at next)) save read (λ _. unbuilt (fill_command_at next) (fill_unbuilt next))
     (λ _. one_read (comes_next (codes "save") s) (ended_at (save_command_at next)) get read (λ _. unbuilt (save_command_at next) (save_unbuilt next))
-    (λ _. one_read (comes_next (codes "get") s) (ended_at (get_command_at next)) scan read (λ comes. rw (built_get s no_put no_delete comes) (get_read next))
+    (λ _. one_read (comes_next (codes "get") s) (ended_at (get_command_at next)) scan read (λ comes. rw (built_get s no_class no_put no_delete comes) (get_read next))
     (λ no_get. one_read (comes_next (codes "scan") s) (ended_at (scan_command_at next)) ls read (λ _. unbuilt (scan_command_at next) (scan_unbuilt next))
-    (λ _. one_read (comes_next (codes "ls") s) (ended_at (Ok (Ls, next))) (bad_at s) read (λ comes. the_same_read (ended_at (Ok (Ls, next))) read (built_ls s no_put no_delete no_get comes)) (λ _. tt)))))))))
+    (λ _. one_read (comes_next (codes "ls") s) (ended_at (Ok (Ls, next))) (bad_at s) read (λ comes. the_same_read (ended_at (Ok (Ls, next))) read (built_ls s no_class no_put no_delete no_get comes)) (λ _. tt)))))))))
 
 -- ---- what is read is of a verb that is built
 
 abbrev HasVerb : Command → Type 0
 HasVerb c = is_built c ≡ true
+
+class_has : (s : At) → Given HasVerb (class_command_at s)
+class_has s = then_any HasVerb (class_at s) (λ class. Ok (Class class.0, class.1)) (λ class. refl)
 
 put_has : (s : At) → Given HasVerb (put_command_at s)
 unfolding put_command_at
@@ -270,10 +281,12 @@ command_has s =
     let ls = if comes_next (codes "ls") s then ended_at (Ok (Ls, next)) else bad_at s in
     let get = if comes_next (codes "get") s then ended_at (built_get_at next) else ls in
     let delete = if comes_next (codes "delete") s then ended_at (delete_command_at next) else get in
-    one_given HasVerb (comes_next (codes "put") s) (ended_at (put_command_at next)) delete (λ _. ended_given HasVerb (put_command_at next) (put_has next))
+    let put = if comes_next (codes "put") s then ended_at (put_command_at next) else delete in
+    one_given HasVerb (comes_next (codes "class") s) (class_command_at s) put (λ _. class_has s)
+    (λ _. one_given HasVerb (comes_next (codes "put") s) (ended_at (put_command_at next)) delete (λ _. ended_given HasVerb (put_command_at next) (put_has next))
     (λ _. one_given HasVerb (comes_next (codes "delete") s) (ended_at (delete_command_at next)) get (λ _. ended_given HasVerb (delete_command_at next) (delete_has next))
     (λ _. one_given HasVerb (comes_next (codes "get") s) (ended_at (built_get_at next)) ls (λ _. ended_given HasVerb (built_get_at next) (get_has next))
-    (λ _. one_given HasVerb (comes_next (codes "ls") s) (ended_at (Ok (Ls, next))) (bad_at s) (λ _. ended_given HasVerb (Ok (Ls, next)) refl) (λ _. tt))))
+    (λ _. one_given HasVerb (comes_next (codes "ls") s) (ended_at (Ok (Ls, next))) (bad_at s) (λ _. ended_given HasVerb (Ok (Ls, next)) refl) (λ _. tt)))))
 
 -- ---- lines
 

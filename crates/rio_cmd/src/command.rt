@@ -2,9 +2,10 @@
 ghost use Rattle.std.specs.Prelude.{◌≡◌, if◌then◌else◌};
 ghost use Rattle.rio_token.specs.Reading.{Reads};
 ghost use Rattle.rio_token.specs.Tokens.{behind};
-ghost use Rattle.rio_step.specs.Script.{comes_next, cycle_at, delete_command_at, ended_at, put_command_at};
+ghost use Rattle.rio_step.specs.Script.{class_command_at, comes_next, cycle_at, delete_command_at, ended_at, put_command_at};
 ghost use Rattle.rio_cmd.specs.Built.{built_command_at, built_get_at};
 
+use rio_decl::take_class;
 use rio_machine::Command;
 use rio_num::Name;
 use rio_token::{TextFault, Tokens};
@@ -12,12 +13,15 @@ use rio_valtext::take_value;
 use std::alloc::Global;
 
 /// The command that the tokens of a line spell, up to its end. `BadText` names the first token that can't
-/// stand there. Each verb has a reader of its own, which begins after the verb.
+/// stand there. Each verb has a reader of its own, which begins after the verb, but for a declaration's,
+/// which begins with it.
 #[tactic(auto, unfolding(crate::specs::Built::built_command_at))]
 pub(crate) fn read_command(alloc: Global, tokens: &mut Tokens) -> Result<Command, TextFault>
     ensures { Reads (λ c. c) result (built_command_at tokens.old) tokens.new }
 {
-    if take_verb(tokens, b"put") {
+    if is_verb_next(tokens, b"class") {
+        read_class(alloc, tokens)
+    } else if take_verb(tokens, b"put") {
         read_put(alloc, tokens)
     } else if take_verb(tokens, b"delete") {
         read_delete(alloc, tokens)
@@ -51,6 +55,12 @@ fn take_verb(tokens: &mut Tokens, verb: &[u8]) -> bool
     } else {
         false
     }
+}
+
+fn read_class(alloc: Global, tokens: &mut Tokens) -> Result<Command, TextFault>
+    ensures { Reads (λ c. c) result (class_command_at tokens.old) tokens.new }
+{
+    Ok(Command::Class(take_class(alloc, tokens)?))
 }
 
 #[tactic(auto, unfolding(rio_step::specs::Script::put_command_at))]

@@ -1,5 +1,6 @@
 //! Scripts as they are read, by the rules of the language.
 use crate::read_script;
+use rio_decl::print_class;
 use rio_machine::Command;
 use rio_num::{Bytes, NoMemory};
 use rio_valtext::print_value;
@@ -21,6 +22,7 @@ fn put_command(text: &mut Bytes, command: &Command) -> Result<(), NoMemory> {
             put_number(text, b"bad ", *line)?;
             put_number(text, b" ", *place)
         }
+        Command::Class(class) => print_class(class, text),
         Command::Put { name, value } => {
             text.put(b"put ")?;
             text.put(name.as_slice())?;
@@ -67,11 +69,11 @@ fn commands_of(alloc: Global, script: &[u8]) -> Result<Bytes, NoMemory> {
 fn reads_scripts(rt: HostRuntime) -> Result<(), Fail> {
     let stored = b"put s TObjString{TObject{fUniqueID: 0, fBits: 0}, fString: \"hi\"}";
     let printed = b"put s TObjString#0{TObject#0{fUniqueID: 0, fBits: 0}, fString: \"hi\"}\n";
-    let table: [(&[u8], &[u8]); 14] = [
+    let table: [(&[u8], &[u8]); 17] = [
         (b"put s TObjString{\n\nfrob x\n", b"bad 1 17\nbad 3 0\n"),
         (stored, printed),
         (b"get s\nget s;2\nls", b"get s\nget s;2\nls\n"),
-        (b"get s as 2\nclass A 1 { }\n", b"bad 1 6\nbad 2 0\n"),
+        (b"get s as 2\ntree T x=x/I\n", b"bad 1 6\nbad 2 0\n"),
         (b"put s 5 x\nget s;007\n", b"bad 1 8\nbad 2 6\n"),
         (
             b"put 007 5\n get\t.-+ ; 4294967295 \n",
@@ -88,6 +90,18 @@ fn reads_scripts(rt: HostRuntime) -> Result<(), Fail> {
             b"delete s;2\nbad 2 8\nbad 3 9\nbad 4 11\nbad 5 6\n",
         ),
         (b"delete 007 ;0\ndelete s 2\n", b"delete 007;0\nbad 2 9\n"),
+        (
+            b"class A 1 { }\n class B 32767:TObject , A{n:i32,xs:f64 [n], s : text,next:B*}\n",
+            b"class A 1 { }\nclass B 32767 : TObject, A { n: i32, xs: f64[n], s: text, next: B* }\n",
+        ),
+        (
+            b"class\nclass A 0 { }\nclass A 1\nclass A 1 { } x\nclass A 1 { x: u8, x: u8 }\n",
+            b"bad 1 5\nbad 2 8\nbad 3 9\nbad 4 14\nbad 5 19\n",
+        ),
+        (
+            b"class A 1 { x: f32[n], n: i32 }\nclass A 1 : B, B { }\nput s 1\nclasses\n",
+            b"bad 1 19\nbad 2 15\nput s 1\nbad 4 0\n",
+        ),
     ];
     for (script, expected) in table {
         let text = commands_of(rt.alloc(), script)?;

@@ -22,18 +22,6 @@ module _ (classes : List ClassDef) (c : ClassDef) (d : NewClass) where
     pub by_length : first_of (length_tests classes d.class) ≡ None
     pub by_count : first_of (count_tests classes) ≡ None
 
-  pub can_be_declared : Passed → CanBeDeclared classes c d
-  can_be_declared p =
-      let rules = passes_three (not (knows_all classes c)) (is_some (find_in classes c.name c.version)) (holds_itself classes c) NoSuchClass SameVersion HoldsItself p.by_rules in
-      let few = passes_one (nat_le class_limit (length classes)) TooMany p.by_count in
-      record {
-        class = p.class;
-        stays = ap (declared classes) p.class ∙ declared_again classes c ∙ sym p.class;
-        fault = ap (declare_fault classes) p.class ∙ no_fault classes c (not-false _ rules.0) rules.1 rules.2 few;
-        written = p.written;
-        short = p.short;
-      }
-
   none_tells : Passed → first_of (class_tests classes c d.class) ≡ None
   none_tells p =
       let by_limits = length_tests classes d.class ++ count_tests classes in
@@ -47,6 +35,19 @@ module _ (classes : List ClassDef) (c : ClassDef) (d : NewClass) where
       ∙ ap (λ cs. first_of (class_tests cs c (declared cs c))) same
       ∙ ap (λ added. first_of (class_tests classes c added)) (sym p.class)
       ∙ none_tells p
+
+  pub can_be_declared : Passed → CanBeDeclared classes c d
+  can_be_declared p =
+      let rules = passes_three (not (knows_all classes c)) (is_some (find_in classes c.name c.version)) (holds_itself classes c) NoSuchClass SameVersion HoldsItself p.by_rules in
+      let few = passes_one (nat_le class_limit (length classes)) TooMany p.by_count in
+      record {
+        class = p.class;
+        stays = ap (declared classes) p.class ∙ declared_again classes c ∙ sym p.class;
+        fault = ap (declare_fault classes) p.class ∙ no_fault classes c (not-false _ rules.0) rules.1 rules.2 few;
+        written = p.written;
+        short = p.short;
+        free = none_refuses p;
+      }
 
 -- for each state that has the classes
 pub class_answers : (classes : List ClassDef) (c : ClassDef) (d : NewClass) → Passed classes c d

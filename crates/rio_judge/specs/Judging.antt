@@ -52,14 +52,15 @@ IsJudgementOfStates classes heads c judged = (m : State) → m.classes ≡ class
 
 -- ---- by classes and keys alone
 
--- What is declared breaks no rule and passes no limit: it can be put after the classes just as it is, and the list of all of
--- them can be written.
+-- What is declared breaks no rule and passes no limit: no state of the classes refuses it but for want of room, it can be put
+-- after them just as it is, and the list of all of them can be written.
 pub record CanBeDeclared (classes : List ClassDef) (c : ClassDef) (d : NewClass) : Type 0 where
   pub class : d.class ≡ declared classes c
   pub stays : declared classes d.class ≡ d.class
   pub fault : declare_fault classes d.class ≡ None
   pub written : (start : ℕ) → d.length ≡ length (written_list start (classes ++ d.class ∷ []))
   pub short : d.length ≤ length_limit
+  pub free : (m : State) → m.classes ≡ classes → refusal_of m (Class c) None ≡ None
 
 -- What a put stores passes no limit, whatever the keys stand for: a record of it can be made, and a key put into the table.
 pub record CanBeStored (classes : List ClassDef) (heads : List KeyHead) (v : Value) (o : StoredObject) : Type 0 where

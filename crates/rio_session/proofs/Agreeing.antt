@@ -1,5 +1,5 @@
 -- A command's changes by the records of a file agree with those by what is kept beside it.
-use Rattle.std.proofs.Common.{◌≡◌, List, map, Option, Some, None}
+use Rattle.std.proofs.Common.{◌≡◌, List, map, Some, None}
 use Rattle.rio_chain.specs.Segments.{Link, segment_of}
 use Rattle.rio_machine.specs.{State.{State}, declared.command.Command.{Command}}
 use Rattle.rio_step.specs.Refusing.{refusal_of}

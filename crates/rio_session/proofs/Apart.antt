@@ -1,5 +1,5 @@
 -- Numbers that are apart, among as many others.
-use Rattle.std.proofs.Common.{◌≡◌, ◌==◌, ◌||◌, ℕ, ◌+◌, ◌<◌, ◌≤◌, Bool, true, false, cond, List, [], ◌∷◌, length, refl, sym, ap, ◌∙◌, arith}
+use Rattle.std.proofs.Common.{◌≡◌, ◌==◌, ◌||◌, ℕ, ◌≤◌, Bool, true, false, cond, List, [], ◌∷◌, length, refl, sym, ap, ◌∙◌, arith}
 use Rattle.std.proofs.{lemmas.Bool.{eq-eqb, eqb-true, or_left, or_right}, lemmas.Map.Made.{length-remove_key}}
 use Rattle.std.specs.{List.{list_any}, Set.{remove_key}}
 

@@ -1,11 +1,11 @@
 -- The records of a file are changed, and then a text is said: what a stop leaves meanwhile.
-use Rattle.std.proofs.Common.{◌≡◌, inl, inr, ⊎_elim, ℕ, ◌+◌, ◌-◌, ◌^◌, ◌<◌, ◌≤◌, min, List, [], ◌∷◌, ◌++◌, length, take, Option, Some, Err, true, refl, sym, ap, subst, ◌∙◌, arith}
-use Rattle.std.proofs.{Math.Seq.{take-length}, lemmas.List.{append-nil}}
+use Rattle.std.proofs.Common.{◌≡◌, inl, inr, ⊎_elim, ℕ, List, [], ◌∷◌, ◌++◌, length, take, Option, Some, Err, refl, sym, ap, subst, ◌∙◌, arith}
+use Rattle.std.proofs.{Math.Seq.{take-length}}
 use Rattle.rio_host.specs.Host.{Any, Becomes, Elapses, IsLawful, IsQuiet, Longer, LongerByPart, Rose, Speaking, View}
 use Rattle.rio_host.proofs.Moments.{elapses_as, elapses_join, says_quiet}
-use Rattle.rio_chain.specs.{Becoming.{ChainBecomes}, Chains.{HasChain}, Segments.{IsChain, Link}, Stops.{IsEither, KeepsFront}, declared.segment.Segment.{Segment}}
-use Rattle.rio_session.specs.Changing.{ChangedAndSaid, ChangedNotSaid, ChangesInTime, Changing, IsBetween, IsReached, NotChanged, ReachesAll}
-use Rattle.rio_session.specs.{Causes.{DiskRose, NoCountRose}, Kept.{LinksChange, all_done}, Says.{NotSaid, Said, SaysReply}, SessionState.{SessionState, with_cost}}
+use Rattle.rio_chain.specs.{Becoming.{ChainBecomes}, Chains.{HasChain}, Segments.{IsChain, Link}, Stops.{IsEither, KeepsFront}}
+use Rattle.rio_session.specs.Changing.{ChangedAndSaid, ChangedNotSaid, ChangesInTime, Changing, IsBetween, ReachesAll}
+use Rattle.rio_session.specs.{Causes.{NoCountRose}, Kept.{LinksChange, all_done}, Says.{NotSaid, Said, SaysReply}, SessionState.{SessionState, with_cost}}
 use Rattle.rio_session.specs.declared.fault.SessionFault.{SessionFault, TheVariants.{SayFault}}
 
 -- ---- one change

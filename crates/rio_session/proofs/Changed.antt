@@ -1,20 +1,19 @@
 -- What a command that changes the records of a file does, in all clauses.
-use Rattle.std.proofs.{Common.{◌≡◌, inl, inr, ⊎_elim, ◌⊎◌, ℕ, ◌+◌, ◌*◌, ◌-◌, ◌^◌, ◌<◌, ◌≤◌, min, Bool, true, false, List, ◌++◌, length, take, Option, Some, Result, Ok, Err, IfOk, refl, sym, ap, subst, ◌∙◌, arith}, Math.Seq.{take-length}}
+use Rattle.std.proofs.{Common.{◌≡◌, inl, inr, ⊎_elim, ℕ, ◌+◌, ◌*◌, ◌-◌, ◌^◌, ◌<◌, ◌≤◌, min, Bool, true, false, List, ◌++◌, length, take, Option, Some, Result, Ok, Err, IfOk, refl, sym, ap, subst, ◌∙◌, arith}, Math.Seq.{take-length}}
 use Rattle.std.proofs.{lemmas.Bool.{cases_lt}, lemmas.List.{append-nil}, lemmas.Option.{same_Some}}
 use Rattle.rio_host.specs.Host.{Any, Elapses, IsLawful, Longer, View}
 use Rattle.rio_host.proofs.{Images.{becomes_some, told_before}, Moments.{elapses_as}, ReadsLaws.{said_grows}}
-use Rattle.rio_chain.specs.{Becoming.{ChainBecomes}, Chains.{HasChain}, Placing.{record_count}, Segments.{IsChain, Link}, Stops.{KeepsFront}, declared.segment.Segment.{Segment}}
+use Rattle.rio_chain.specs.{Becoming.{ChainBecomes}, Chains.{HasChain}, Segments.{IsChain, Link}, Stops.{KeepsFront}, declared.segment.Segment.{Segment}}
 use Rattle.rio_machine.specs.{State.{State}, declared.command.Command.{Command, TheVariants.{Class, Put, Delete}}}
 use Rattle.rio_machine.specs.declared.command.Outcome.{Outcome, TheVariants.{Accepted, Refused}}
-use Rattle.rio_state.specs.{Closing.{held_of, kept_in}, KeyedRecords.{keyed_records}, Left.{HasOpenHead}, Reads.{AreRecordsOf}}
+use Rattle.rio_state.specs.{Closing.{held_of}, KeyedRecords.{keyed_records}, Left.{HasOpenHead}, Reads.{AreRecordsOf}}
 use Rattle.rio_step.specs.{Costs.{cost_of}, ReplyText.{text_of}, Runs.{saved_of}, Step.{Stepped, outcome_of, reply_to, state_behind}}
-use Rattle.rio_effect.specs.FileRuns.{is_told}
 use Rattle.rio_session.specs.{Behind.{FollowsStep, HasChanged, IsOfKeys, WritesNothing}, Causes.{StaysIfRefused}, Does.{Does}}
 use Rattle.rio_session.specs.Changing.{ChangedAndSaid, ChangedNotSaid, ChangesFile, ChangesInTime, Changing, IsBetween, IsReached}
-use Rattle.rio_session.specs.{Effects.{ArePassed, IsChangeOf, IsKeptAfter, TakesEffect, links_by}, Kept.{LinksChange, all_done, changes_by, kept_after, kept_by}, Marks.{mark_of_command}}
+use Rattle.rio_session.specs.{Effects.{ArePassed, IsChangeOf, IsKeptAfter, TakesEffect, links_by}, Kept.{LinksChange, all_done, changes_by, kept_by}, Marks.{mark_of_command}}
 use Rattle.rio_session.specs.Session.{FollowsCommand, HoldsState, IsOpenAs, IsReady, LacksRoomIfFull, LeavesOpenAs, SessionState, StandsFor, Steps, Went, next_of, with_cost}
 use Rattle.rio_session.specs.declared.fault.SessionFault.{SessionFault, TheVariants.{HostFault, SayFault, NoMemory}}
-use Rattle.rio_session.proofs.{Opened.{open_image}, Refused.{kept_done, step_accepted}, Replies.{read_steps, told_same}, Rest.{KeepsRest, keeps_rest}}
+use Rattle.rio_session.proofs.{Follows.{IsSameFile, kept_by_file}, Opened.{open_image}, Refused.{kept_done, step_accepted}, Replies.{read_steps, told_same}}
 use Rattle.rio_session.proofs.{Spoken.{front_none, front_part, front_whole, grows_none, grows_whole, reads_stay}, States.{of_keys}}
 
 -- ---- commands that write
@@ -25,12 +24,6 @@ is_writing (Class class) = true
 is_writing (Put name v) = true
 is_writing (Delete name cycle) = true
 is_writing other = false
-
-writing_told : (c : Command) → is_writing c ≡ true → is_told c ≡ true
-writing_told (Class class) is = refl
-writing_told (Put name v) is = refl
-writing_told (Delete name cycle) is = refl
-writing_told other is = absurd cc
 
 reply_accepts : (m : State) (c : Command) → is_writing c ≡ true → outcome_of (reply_to m c) ≡ Accepted
 reply_accepts m (Class class) is = refl
@@ -56,8 +49,8 @@ module _ (s : SessionState) (m : State) (c : Command) (writing : is_writing c �
   abbrev after : List Link
   after = all_done (changes_by s m c) h.links
 
-  abbrev rest : KeepsRest s (kept_by s m c)
-  rest = keeps_rest s m c (writing_told c writing)
+  abbrev rest : IsSameFile s (kept_by s m c)
+  rest = kept_by_file s m c
 
   -- the records at the end are those of the state after the command
   pub records_after : AreRecordsOf (keyed_records (all_done (changes_by s m c) h.links)) (saved_of (state_behind m c))

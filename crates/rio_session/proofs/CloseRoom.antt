@@ -1,5 +1,5 @@
 -- What a close needs, of what a session keeps.
-use Rattle.std.proofs.Common.{◌≡◌, ◌≤◌, ◌<◌, ◌+◌, ◌==◌, ◌||◌, ◌^◌, true≢false, ℕ, Bool, true, false, leb, ltb, List, [], ◌∷◌, length, Option, Some, None, Bor, refl, sym, ap, subst, ◌∙◌, arith}
+use Rattle.std.proofs.Common.{◌≡◌, ◌≤◌, ◌<◌, ◌+◌, ◌==◌, ◌||◌, ◌^◌, true≢false, ℕ, Bool, true, false, leb, ltb, List, [], ◌∷◌, length, Option, Some, None, Bor, refl, sym, subst, ◌∙◌, arith}
 use Rattle.std.proofs.{lemmas.Bool.{and_parts, eqb-true, leb-true, ltb-true, ne_eqb}, lemmas.List.Folds.{list_all_at}}
 use Rattle.std.specs.{Prelude.{IfSome, slice_index_or}, List.{All, list_all, list_any}, Option.{option_copied}}
 use Rattle.rio_num.specs.At.{place_len_of}

@@ -14,14 +14,14 @@ use Rattle.rio_chain.specs.declared.record.NewRecord.{NewRecord}
 use Rattle.rio_reply.specs.Told.{listing_of}
 use Rattle.rio_state.specs.Closing.{close_need, is_full, padded_length}
 use Rattle.rio_step.specs.{Costs.{cost_of, value_size}, Refusing.{refusal_of}, ReplyText.{text_of}, Step.{object_put, outcome_of, refused}}
-use Rattle.rio_judge.specs.Judging.{IsJudgementOfStates, IsStep, WorkCanBeDone}
+use Rattle.rio_judge.specs.Judging.{IsJudgementOfStates, IsStep, WorkCanBeDone, is_judged}
 use Rattle.rio_judge.specs.declared.work.Judged.TheVariants.{Accepted as Judgement, Refused as RefusalOf}
 use Rattle.rio_judge.specs.declared.work.{StoredObject.{StoredObject}, Work.TheVariants.{Put as Storing, Get as Telling, Ls as Listing}}
 use Rattle.rio_effect.specs.ObjectRecord.{key_of_put}
 use Rattle.rio_judge.proofs.CostLaws.{cost_accepted}
 use Rattle.rio_model.specs.StateClasses.{StateClasses}
 use Rattle.rio_recover.specs.Closable.{IsClosable, is_sized, kept_with}
-use Rattle.rio_session.specs.{Behind.{IsOfKeys}, Changing.{ChangesFile}, Doable.{IsToDo, is_done}, Does.{Does}, Causes.{IsSaid}, Effects.{IsChangeOf, TakesEffect}, Gets.{TellsObject}, Sound.{IsSoundState}}
+use Rattle.rio_session.specs.{Behind.{IsOfKeys}, Changing.{ChangesFile}, Doable.{IsToDo}, Does.{Does}, Causes.{IsSaid}, Effects.{IsChangeOf, TakesEffect}, Gets.{TellsObject}, Sound.{IsSoundState}}
 use Rattle.rio_session.specs.{Puts.{IsStoredRecord, putting}, Says.{SaysReply}}
 use Rattle.rio_session.specs.{Session.{HoldsState, IsReady, LacksRoomIfFull, SessionState, StandsFor, next_of, with_cost}, declared.fault.SessionFault.{SessionFault}}
 use Rattle.rio_session.proofs.OtherSteps.{get_outcome, get_still, get_told, ls_outcome, ls_still, ls_told, refused_lacks, refused_outcome, refused_still, refused_told}
@@ -43,7 +43,7 @@ is_ls classes heads (Get name cycle version) can = absurd can
 is_ls classes heads (Scan name class) can = absurd can
 is_ls classes heads Ls can = refl
 
-pub is_get : (classes : List ClassDef) (heads : List KeyHead) (c : Command) (h : KeyHead) → WorkCanBeDone classes heads c (Telling h) → is_done c ≡ true → (name : List ℕ) × (asked : Option ℕ) × (c ≡ Get name asked None)
+pub is_get : (classes : List ClassDef) (heads : List KeyHead) (c : Command) (h : KeyHead) → WorkCanBeDone classes heads c (Telling h) → is_judged c ≡ true → (name : List ℕ) × (asked : Option ℕ) × (c ≡ Get name asked None)
 is_get classes heads (Bad line place) h can built = absurd can
 is_get classes heads (Class class) h can built = absurd can
 is_get classes heads (Put name v) h can built = absurd can

@@ -1,16 +1,15 @@
 -- A delete by the records of a file agrees with that by what is kept beside it.
-use Rattle.std.proofs.Common.{◌≡◌, ℕ, ◌+◌, ◌≤◌, List, [], ◌∷◌, length, map, Option, Some, None, Bool, false, refl, sym, ap, subst, ◌∙◌, arith}
+use Rattle.std.proofs.Common.{◌≡◌, ℕ, ◌+◌, ◌≤◌, List, [], ◌∷◌, length, map, Option, Some, None, Bool, false, refl, sym, ap, ◌∙◌, arith}
 use Rattle.std.specs.{Prelude.{if◌then◌else◌}, List.{sum_by}}
 use Rattle.rio_key.specs.declared.head.KeyHead.{KeyHead}
 use Rattle.rio_dir.specs.Table.{head_of}
-use Rattle.rio_chain.specs.{Changes.{without_record}, Placing.{file_end, record_count}, Releasing.{without_segment}, Segments.{Link, segment_of}}
-use Rattle.rio_chain.specs.declared.segment.Segment.{Segment}
+use Rattle.rio_chain.specs.{Changes.{without_record}, Placing.{file_end}, Releasing.{without_segment}, Segments.{segment_of}}
 use Rattle.rio_chain.proofs.FewerRecords.{keeps_segments}
 use Rattle.rio_machine.specs.{State.{NameAndCycle, State}, declared.command.Command.TheVariants.{Delete}}
-use Rattle.rio_state.specs.Closing.{KeptRecords, close_need, closing_lengths, end_limit, is_full, kept_count, kept_in, padded_length}
-use Rattle.rio_state.specs.{DirectoryKeys.{AreKeysOf}, KeyedRecords.{KeyedRecord, info_key, keyed_records}, Left.{info_head}, Reads.{AreRecordsOf}}
+use Rattle.rio_state.specs.Closing.{KeptRecords, close_need, closing_lengths, end_limit, kept_count, kept_in, padded_length}
+use Rattle.rio_state.specs.{KeyedRecords.{KeyedRecord, info_key, keyed_records}}
 use Rattle.rio_step.specs.Refusing.{FullMark, refusal_of}
-use Rattle.rio_effect.specs.{Deletes.{HasObjectOf}, FileRuns.{Change, all_changed, item_record, mark_of_changes, release_of, released}, Laws.{kept_by_keys}}
+use Rattle.rio_effect.specs.{Deletes.{HasObjectOf}, FileRuns.{all_changed, item_record, mark_of_changes, release_of, released}, Laws.{kept_by_keys}}
 use Rattle.rio_effect.proofs.{DeleteNeeds.{delete_needs_no_more}, DeleteRecords.{object_found}, NeedsByKeys.{need_by_keys as keys_need}}
 use Rattle.rio_recover.specs.Closable.{kept_with, list_count}
 use Rattle.rio_session.specs.{Kept.{all_done, changes_by, kept_by, released_link, released_segment}, Marks.{mark_of_command}, Session.{HoldsState}, SessionState.{SessionState}, Sound.{IsSoundState}}

@@ -1,16 +1,15 @@
 -- What a delete does, by its judgement and what a session keeps.
-use Rattle.std.proofs.Common.{◌≡◌, ℕ, List, Result, IfOk, Some, false, refl, sym, subst}
+use Rattle.std.proofs.Common.{◌≡◌, ℕ, List, Result, IfOk, false, refl, sym, subst}
 use Rattle.rio_host.specs.Host.{IsLawful, View}
 use Rattle.rio_types.specs.declared.class.ClassDef.{ClassDef}
 use Rattle.rio_key.specs.declared.head.KeyHead.{KeyHead}
-use Rattle.rio_dir.specs.Table.{head_of}
-use Rattle.rio_machine.specs.{State.{State}, declared.command.Command.{Command, TheVariants.{Bad, Class, Put, Delete, Tree, Fill, Save, Get, Scan, Ls}}}
+use Rattle.rio_machine.specs.{declared.command.Command.{Command, TheVariants.{Bad, Class, Put, Delete, Tree, Fill, Save, Get, Scan, Ls}}}
 use Rattle.rio_machine.specs.declared.command.Outcome.{Outcome, TheVariants.{Accepted}}
 use Rattle.rio_step.specs.{ReplyText.{text_of}, Step.{item_deleted}}
 use Rattle.rio_judge.proofs.KeysOfState.{found_key}
 use Rattle.rio_judge.specs.{Judging.{WorkCanBeDone}, declared.work.Work.TheVariants.{Delete as Deleting}}
-use Rattle.rio_session.specs.{Behind.{IsOfKeys}, Changing.{ChangesFile}, Doable.{CanBeDone, IsToDo}, Does.{Does}, Releases.{deleting}}
-use Rattle.rio_session.specs.{Session.{HoldsState, IsReady, SessionState}, Sound.{IsSoundState}, declared.fault.SessionFault.{SessionFault}}
+use Rattle.rio_session.specs.{Changing.{ChangesFile}, Doable.{CanBeDone, IsToDo}, Does.{Does}, Releases.{deleting}}
+use Rattle.rio_session.specs.{Session.{IsReady, SessionState}, Sound.{IsSoundState}, declared.fault.SessionFault.{SessionFault}}
 use Rattle.rio_session.proofs.{Changed.{does_change}, DeleteSteps.{delete_is_change, delete_takes_effect_on}, States.{of_keys}}
 
 -- which command it is

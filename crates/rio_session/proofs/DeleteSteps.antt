@@ -1,20 +1,20 @@
 -- A delete is the step of its command.
-use Rattle.std.proofs.Common.{◌≡◌, ℕ, ◌+◌, ◌<◌, ◌≤◌, List, [], ◌∷◌, length, map, take, sum, Option, Some, None, Bool, true, false, refl, sym, ap, subst, ◌∙◌, arith}
+use Rattle.std.proofs.Common.{◌≡◌, ℕ, ◌+◌, ◌<◌, ◌≤◌, List, [], ◌∷◌, length, take, sum, Option, Some, None, Bool, false, sym, ap, subst, ◌∙◌, arith}
 use Rattle.std.proofs.{lemmas.Bool.{le-ltb}, lemmas.Option.{same_Some}}
 use Rattle.std.specs.{Prelude.{if◌then◌else◌, is_some}, List.{Contains}}
 use Rattle.rio_key.specs.declared.head.KeyHead.{KeyHead}
 use Rattle.rio_dir.specs.Table.{head_of, is_at_cycle, without_head}
-use Rattle.rio_chain.specs.{Adjoining.{AreSegments}, Changes.{without_record}, FewerRecords.{IsLeftWithout}, Placing.{file_end, record_count}, Releasing.{without_segment}, Segments.{Link, segment_of}}
+use Rattle.rio_chain.specs.{Adjoining.{AreSegments}, Changes.{without_record}, FewerRecords.{IsLeftWithout}, Placing.{file_end, record_count}, Releasing.{without_segment}, Segments.{Link}}
 use Rattle.rio_chain.specs.declared.segment.Segment.{Segment}
 use Rattle.rio_machine.specs.{State.{State}, declared.command.Command.{Command, TheVariants.{Delete}}}
-use Rattle.rio_state.specs.Closing.{close_need, end_limit, is_full, kept_in, lay_all}
-use Rattle.rio_state.specs.{KeyedRecords.{KeyedRecord, info_key, keyed_records}, Left.{info_head}, OneLess.{NeedsNoMore}, Reads.{AreRecordsOf}}
+use Rattle.rio_state.specs.Closing.{end_limit, is_full, kept_in, lay_all}
+use Rattle.rio_state.specs.{KeyedRecords.{KeyedRecord, keyed_records}, Left.{info_head}, OneLess.{NeedsNoMore}, Reads.{AreRecordsOf}}
 use Rattle.rio_state.proofs.{LessRecords.{record_less}, Members.{contains_in, found}, Stays.{info_same}}
 use Rattle.rio_step.specs.{ItemKeys.{AreKeysOfState}, Refusing.{FullMark, refusal_of}, ReplyText.{text_of}, Runs.{saved_of}, Step.{item_deleted, state_behind}}
 use Rattle.rio_judge.proofs.KeysOfState.{no_tree}
 use Rattle.rio_effect.specs.Deletes.{HasObject, HasObjectOf, KeepsOneLess}
 use Rattle.rio_effect.proofs.{DeleteEffect.{delete_key_follows, deletes_have_records, saved_delete_takes_effect}, DeleteNeeds.{delete_keeps_less, delete_needs_no_more, deletes_cost_nothing}, Held.{chain_segments}}
-use Rattle.rio_recover.specs.Closable.{IsClosable, is_sized, kept_with, list_count}
+use Rattle.rio_recover.specs.Closable.{IsClosable, is_sized, list_count}
 use Rattle.rio_session.specs.{Behind.{IsOfKeys}, Effects.{IsChangeOf, IsKeptAfter, TakesEffect, links_by}}
 use Rattle.rio_session.specs.Kept.{LinksChange, all_done, changes_by, kept_by, released_link, released_segment}
 use Rattle.rio_session.specs.{Marks.{command_lengths, mark_of_command, state_need}, Releases.{deleting}, Session.{HoldsState}, SessionState.{SessionState}, Sound.{IsSoundState}}

@@ -1,5 +1,5 @@
 -- What a close of a file needs by its records, and marks by them.
-use Rattle.std.proofs.Common.{◌≡◌, ℕ, ◌+◌, List, length, map, sum, Option, Some, None, Bool, refl, sym, ap, ◌∙◌, arith}
+use Rattle.std.proofs.Common.{◌≡◌, ℕ, ◌+◌, List, length, map, sum, Option, Some, None, refl, sym, ap, ◌∙◌, arith}
 use Rattle.std.specs.{Prelude.{if◌then◌else◌}, List.{sum_by}}
 use Rattle.rio_key.specs.declared.head.KeyHead.{KeyHead}
 use Rattle.rio_chain.specs.{Placing.{file_end}, Segments.{Link, segment_of}, declared.segment.Segment.{Segment}}

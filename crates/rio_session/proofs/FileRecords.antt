@@ -9,7 +9,7 @@ use Rattle.rio_machine.specs.declared.command.Command.{Command, TheVariants.{Bad
 use Rattle.rio_machine.specs.{declared.command.Outcome.{Outcome, TheVariants.{Accepted, Refused}}, declared.refusal.Refusal.{Refusal}}
 use Rattle.rio_step.specs.{Costs.{cost_of}, Refusing.{refusal_of}, Statable.{IsStatable}, Step.{Stepped, outcome_of, reply_to}}
 use Rattle.rio_effect.specs.FileRuns.{FileStep, file_step}
-use Rattle.rio_session.specs.Doable.{is_done}
+use Rattle.rio_judge.specs.Judging.{is_judged}
 use Rattle.rio_session.specs.{Behind.{HasChanged}, Causes.{StaysIfRefused}, Does.{Does}, FileSteps.{FollowsFile, IsStepTold, RecordsBecome}, Sound.{IsSoundState}}
 use Rattle.rio_session.specs.{Kept.{LinksChange, all_done, changes_after, changes_by, kept_after, kept_by}, Marks.{mark_of_command}, Session.{SessionState, StandsFor, Went, next_of, with_cost}}
 use Rattle.rio_session.specs.declared.fault.SessionFault.{SessionFault}
@@ -32,7 +32,7 @@ changes_nothing s m c refusal told = by (refusal_of m c (mark_of_command s m c))
         (changes_done s m c is ∙ own.0, kept_done s m c is ∙ own.1)
 
 module _ (old new : View) (before after : SessionState) (m : State) (c : Command) (text : List ℕ) (outcome : Outcome) (d : Does old new before after c (Ok outcome)) (stands : StandsFor old before m text)
-    (sound : IsSoundState before) (fresh : before.failed ≡ false) (soon : before.datime < 2 ^ 32) (statable : IsStatable c) (judged : is_done c ≡ true) where
+    (sound : IsSoundState before) (fresh : before.failed ≡ false) (soon : before.datime < 2 ^ 32) (statable : IsStatable c) (judged : is_judged c ≡ true) where
   step_told : (t : FileStep) × (file_step before.datime stands.state.links m c ≡ Some t) × FollowsFile before m c stands.state.links t
   step_told = steps_follow_files before m stands.file c stands.state sound fresh soon statable judged
 
@@ -85,13 +85,13 @@ module _ (old new : View) (before after : SessionState) (m : State) (c : Command
 
 -- where the command is done
 pub records_follow : (old new : View) (before after : SessionState) (c : Command) (answer : Result Outcome SessionFault) → Does old new before after c answer
-    → IsSoundState before → before.failed ≡ false → before.datime < 2 ^ 32 → IsStatable c → is_done c ≡ true
+    → IsSoundState before → before.failed ≡ false → before.datime < 2 ^ 32 → IsStatable c → is_judged c ≡ true
     → OnOk answer ((m : State) (text : List ℕ) → StandsFor old before m text → RecordsBecome old new before after m c)
 records_follow old new before after c (Ok outcome) d sound fresh soon statable judged = λ m text stands. records_become old new before after m c text outcome d stands sound fresh soon statable judged
 records_follow old new before after c (Err e) d sound fresh soon statable judged = tt
 
 -- the records tell the step, whatever is answered
-pub step_is_told : (v : View) (s : SessionState) (c : Command) → IsSoundState s → s.failed ≡ false → s.datime < 2 ^ 32 → IsStatable c → is_done c ≡ true
+pub step_is_told : (v : View) (s : SessionState) (c : Command) → IsSoundState s → s.failed ≡ false → s.datime < 2 ^ 32 → IsStatable c → is_judged c ≡ true
     → (m : State) (text : List ℕ) (stands : StandsFor v s m text) → IsStepTold s m c stands.state.links
 step_is_told v s c sound fresh soon statable judged m text stands =
     let t = steps_follow_files s m stands.file c stands.state sound fresh soon statable judged in

@@ -58,7 +58,7 @@ all_with test h (k ∷ ks) one all =
       | false ↦ and_from (test h) (list_all test (k ∷ ks)) one all
     ]
 
-all_placed : (place n : ℕ) (segments : List Segment) (heads : List KeyHead) → list_all (is_placed segments) heads ≡ true → list_all (is_placed (with_segment place n segments)) heads ≡ true
+pub all_placed : (place n : ℕ) (segments : List Segment) (heads : List KeyHead) → list_all (is_placed segments) heads ≡ true → list_all (is_placed (with_segment place n segments)) heads ≡ true
 all_placed place n segments [] all = refl
 all_placed place n segments (h ∷ heads) all =
     let parts = and_parts (is_placed segments h) (list_all (is_placed segments) heads) all in

@@ -1,11 +1,11 @@
 -- What a session keeps is sound with one record less.
 use Rattle.std.proofs.Common.{◌≡◌, ◌==◌, ◌||◌, ℕ, ◌+◌, ◌<◌, ◌≤◌, Bool, true, false, cond, List, [], ◌∷◌, length, map, Option, Some, None, refl, sym, ap, subst, ◌∙◌, arith}
-use Rattle.std.proofs.{lemmas.Bool.{and_from, and_parts, eq-eqb, eqb-true, ne_eqb, or_left, or_parts, or_right}, lemmas.Option.{same_Some}}
+use Rattle.std.proofs.{lemmas.Bool.{and_from, and_parts, eq-eqb, eqb-true, ne_eqb, or_parts}, lemmas.Option.{same_Some}}
 use Rattle.std.proofs.{Math.Bool.{or_assoc}, lemmas.{List.{length-map}, List.Sums.{sum_by-cons}}}
 use Rattle.std.specs.{Prelude.{IfSome}, List.{find, list_all, list_any}, Set.{remove_key}}
 use Rattle.rio_key.specs.{declared.head.KeyHead.{KeyHead}, Written.{written_key}}
 use Rattle.rio_dir.specs.Table.{head_of, heads_size, is_at_cycle, without_head}
-use Rattle.rio_chain.specs.{Adjoining.{AreAdjacent, AreSegments}, Chains.{HasRecordSegment}, FewerRecords.{IsLeftWithout}, Placing.{file_end, record_count}, Releasing.{with_free, without_segment}}
+use Rattle.rio_chain.specs.{Adjoining.{AreAdjacent, AreSegments}, Chains.{HasRecordSegment}, FewerRecords.{IsLeftWithout}, Placing.{record_count}, Releasing.{with_free, without_segment}}
 use Rattle.rio_chain.specs.declared.segment.Segment.{Segment, TheVariants.{Record, Gap}}
 use Rattle.rio_chain.proofs.FewerRecords.{left_by_releases}
 use Rattle.rio_state.specs.{Closing.{close_need, end_limit}, Sizes.{close_size}}
@@ -89,7 +89,7 @@ places_apart from (Record p n ∷ segments) are = (low_among (from + n) p segmen
 places_apart from (Gap p n ∷ segments) are = places_apart (from + n) segments are.1
 
 -- no record begins before the first place
-low_begins : (from p : ℕ) (segments : List Segment) → AreAdjacent from segments → list_any (begins_at p) segments ≡ true → from ≤ p
+pub low_begins : (from p : ℕ) (segments : List Segment) → AreAdjacent from segments → list_any (begins_at p) segments ≡ true → from ≤ p
 low_begins from p [] are e = absurd cc
 low_begins from p (Record q n ∷ segments) are e =
     (elim (q == p) as (λ b. (q == p) ≡ b → (b || list_any (begins_at p) segments) ≡ true → from ≤ p) [
@@ -173,14 +173,14 @@ module _ (h : KeyHead) (heads left : List KeyHead) (out : IsTakenOut h heads lef
         first None e = let f : (100 == h.seek) ≡ true = eq-eqb 100 h.seek (sym same) in let g = (or_parts (100 == h.seek) (is_among (seeks left) h.seek) e).0 in cc
         first (Some l) e = let f : (100 == h.seek) ≡ true = eq-eqb 100 h.seek (sym same) in let g = (or_parts (100 == h.seek) ((l.seek == h.seek) || is_among (seeks left) h.seek) e).0 in cc
 
-    not_listed : IfSome info (λ l. (l.seek == h.seek) ≡ false)
+    pub not_listed : IfSome info (λ l. (l.seek == h.seek) ≡ false)
     not_listed = list info alone
       where
         list : (o : Option KeyHead) → is_among (own_places o left) h.seek ≡ false → IfSome o (λ l. (l.seek == h.seek) ≡ false)
         list None e = tt
         list (Some l) e = (or_parts (l.seek == h.seek) (is_among (seeks left) h.seek) (or_parts (100 == h.seek) ((l.seek == h.seek) || is_among (seeks left) h.seek) e).1).0
 
-    not_left : is_among (seeks left) h.seek ≡ false
+    pub not_left : is_among (seeks left) h.seek ≡ false
     not_left = others info alone
       where
         others : (o : Option KeyHead) → is_among (own_places o left) h.seek ≡ false → is_among (seeks left) h.seek ≡ false
@@ -204,7 +204,7 @@ module _ (h : KeyHead) (heads left : List KeyHead) (out : IsTakenOut h heads lef
     free_owned p n (Record q m ∷ some) all = all
     free_owned p n (Gap q m ∷ some) all = all
 
-    owned_less : (from : ℕ) (some : List Segment) → AreAdjacent from some → list_all (is_owned info heads) some ≡ true → list_all (is_owned info left) (without_segment h.seek some) ≡ true
+    pub owned_less : (from : ℕ) (some : List Segment) → AreAdjacent from some → list_all (is_owned info heads) some ≡ true → list_all (is_owned info left) (without_segment h.seek some) ≡ true
     owned_less from [] are all = refl
     owned_less from (Record p n ∷ some) are all = by (p == h.seek) refl (owned_less (from + n) some are.1 parts.1)
       where
@@ -220,7 +220,7 @@ module _ (h : KeyHead) (heads left : List KeyHead) (out : IsTakenOut h heads lef
             rest
     owned_less from (Gap p n ∷ some) are all = free_owned p n (without_segment h.seek some) (owned_less (from + n) some are.1 all)
 
-    placed_less : (some : List KeyHead) → is_among (seeks some) h.seek ≡ false → list_all (is_placed segments) some ≡ true → list_all (is_placed (without_segment h.seek segments)) some ≡ true
+    pub placed_less : (some : List KeyHead) → is_among (seeks some) h.seek ≡ false → list_all (is_placed segments) some ≡ true → list_all (is_placed (without_segment h.seek segments)) some ≡ true
     placed_less [] none all = refl
     placed_less (k ∷ some) none all =
         let parts = and_parts (is_placed segments k) (list_all (is_placed segments) some) all in
@@ -229,7 +229,7 @@ module _ (h : KeyHead) (heads left : List KeyHead) (out : IsTakenOut h heads lef
         (any_without k.seek h.seek (turned h.seek k.seek ∙ others.0) segments ∙ parts.0)
         (placed_less some others.1 parts.1)
 
-    listed_less : (o : Option KeyHead) → IfSome o (λ l. (l.seek == h.seek) ≡ false) → IfSome o (λ l. is_placed segments l ≡ true) → IfSome o (λ l. is_placed (without_segment h.seek segments) l ≡ true)
+    pub listed_less : (o : Option KeyHead) → IfSome o (λ l. (l.seek == h.seek) ≡ false) → IfSome o (λ l. is_placed segments l ≡ true) → IfSome o (λ l. is_placed (without_segment h.seek segments) l ≡ true)
     listed_less None other there = tt
     listed_less (Some l) other there = any_without l.seek h.seek (turned h.seek l.seek ∙ other) segments ∙ there
 

@@ -1,5 +1,5 @@
 -- The keys stand for the state after a delete.
-use Rattle.std.proofs.Common.{◌≡◌, ℕ, List, [], ◌∷◌, map, Bool, true, false, cond, Option, Some, None, refl, sym, ap, subst, ◌∙◌}
+use Rattle.std.proofs.Common.{◌≡◌, List, [], ◌∷◌, map, Bool, true, false, cond, Option, Some, None, refl, sym, ap, subst, ◌∙◌}
 use Rattle.std.proofs.lemmas.Map.Views.{tells_apart}
 use Rattle.std.specs.{Prelude.{if◌then◌else◌, is_some}, Cmp.{eq_by_cmp_equiv}, FinMap.{FinMap, entries, entries-insert, find as find_key, get, get-entries, get-insert, get-remove, insert, remove, same_map, Entries.{by_order, put}}}
 use Rattle.std.specs.{List.{Contains}, Ordering.{eq_by_cmp, is_eq}, Set.{remove_key}, declared.cmp.Ordering.{Ordering, TheVariants.{Less, Equal, Greater}}}

@@ -2,6 +2,10 @@ pub mod Agreeing
 pub mod Apart
 pub mod ChangeMoments
 pub mod Changed
+pub mod ClassAgrees
+pub mod ClassCalls
+pub mod ClassEffects
+pub mod ClassSteps
 pub mod CloseRoom
 pub mod CloseStates
 pub mod CommandDoes
@@ -15,8 +19,13 @@ pub mod FileSteps
 pub mod Follows
 pub mod Keeps
 pub mod KeepsLess
+pub mod KeepsList
 pub mod KeysBehind
 pub mod KeysWithout
+pub mod Lacking
+pub mod ListCalls
+pub mod ListMade
+pub mod ListsReleased
 pub mod MadeRecords
 pub mod Moments
 pub mod Needs
@@ -34,8 +43,9 @@ pub mod PutEffects
 pub mod PutFacts
 pub mod PutSteps
 pub mod Refused
+pub mod ReplaceMoments
 pub mod Replies
-pub mod Rest
 pub mod Spoken
 pub mod States
 pub mod StoredRecords
+pub mod Unmarked

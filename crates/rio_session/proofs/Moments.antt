@@ -1,21 +1,11 @@
 -- The changes of a file's records, one write after the other: the crash images meanwhile.
-use Rattle.std.proofs.{Common.{◌≡◌, inl, inr, ⊎_elim, ℕ, ◌+◌, ◌<◌, ◌≤◌, true, List, length, take, Some, refl, sym, ap, subst, ◌∙◌, arith}, Math.Seq.{take-length}, lemmas.Bool.{cases_lt}}
+use Rattle.std.proofs.{Common.{◌≡◌, inl, inr, ⊎_elim, ℕ, ◌+◌, ◌≤◌, true, List, length, Some, refl, sym, ap, subst, ◌∙◌, arith}, Math.Seq.{take-length}, lemmas.Bool.{cases_lt}}
 use Rattle.rio_host.specs.Host.{Any, Becomes, Elapses, Rose, View}
 use Rattle.rio_host.proofs.{Images.{becomes_join}, Moments.{elapses_join}}
 use Rattle.rio_chain.specs.{Becoming.{ChainBecomes}, Chains.{HasChain}, Segments.{IsChain, Link}, Stops.{IsEither, KeepsFront}, declared.segment.Segment.{Segment}}
-use Rattle.rio_session.specs.{Causes.{DiskRose, NoCountRose}, Changing.{ChangesInTime, Changing, IsBetween, IsReached, NotChanged, ReachesAll, links_at}}
+use Rattle.rio_session.specs.{Causes.{DiskRose, NoCountRose}, Changing.{ChangesInTime, Changing, IsBetween, IsReached, IsUnderway, NotChanged, ReachesAll, links_at}}
 use Rattle.rio_session.specs.{Kept.{LinksChange, all_done}, SessionState.{SessionState}}
 use Rattle.rio_session.proofs.{Opened.{keeps_own}, Replies.{told_same}}
-
--- The first i changes are done, in these segments, and nothing was printed.
-pub record IsUnderway (p : Changing) (i : ℕ) (old now : View) (before : SessionState) (segments : List Segment) : Type 0 where
-  pub within : i ≤ length p.changes
-  pub time : ChangesInTime p old now before
-  pub reached : (file : List ℕ) (links : List Link) → old.holds ≡ Some file → HasChain links before.segments file → IsReached p i links
-  pub holds : ChainBecomes old now before.segments segments (links_at p i)
-  pub told : Becomes Any old.holds now.holds
-  pub said : now.said ≡ old.said
-  pub faults : NoCountRose old now
 
 -- ---- before the first
 

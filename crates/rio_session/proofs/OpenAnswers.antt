@@ -3,7 +3,7 @@ use Rattle.std.proofs.Common.{◌≡◌, inl, ℕ, List, Option, Some, None, Boo
 use Rattle.std.specs.Prelude.{MatchBool}
 use Rattle.std.proofs.lemmas.Option.{none-some}
 use Rattle.rio_create.specs.declared.fault.CreateFault.{CreateFault, TheVariants.{NoMemory as NoRoomToMake, HostFault as NotMade}}
-use Rattle.rio_head.specs.{Head.{head_at}, declared.fault.HeadFault.{HeadFault}}
+use Rattle.rio_head.specs.{Head.{head_at}}
 use Rattle.rio_host.specs.{Host.{IsLawful, IsQuiet, View}, OnlyReads.{OnlyReads}}
 use Rattle.rio_host.proofs.ReadsLaws.{left_before, reads_join}
 use Rattle.rio_dir.specs.{Closed.{fault_of}, Unborn.{header_fault, is_unborn}}

@@ -1,6 +1,6 @@
 -- A made file that is opened: marked as open, and without its garbage.
-use Rattle.std.proofs.{Common.{◌≡◌, ℕ, ◌+◌, ◌*◌, ◌≤◌, ◌<◌, ◌^◌, List, [], ◌∷◌, length, Option, Some, None, Bool, false, if◌then◌else◌, refl, sym, ap, subst, ◌∙◌, arith}, lemmas.{List.Sums.{sum_by-cons}, Option.{same_Some}}}
-use Rattle.std.specs.{Prelude.{MatchBool}, FinMap.{get}, List.{find}, Option.{option_and_then, option_map_or}}
+use Rattle.std.proofs.{Common.{◌≡◌, ℕ, ◌≤◌, ◌<◌, ◌^◌, List, [], ◌∷◌, length, Option, Some, None, Bool, false, if◌then◌else◌, refl, sym, ap, subst, ◌∙◌, arith}, lemmas.{List.Sums.{sum_by-cons}, Option.{same_Some}}}
+use Rattle.std.specs.{Prelude.{MatchBool}, List.{find}, Option.{option_and_then, option_map_or}}
 use Rattle.std.specs.Str.{bytes_eq}
 use Rattle.rio_types.specs.declared.class.ClassDef.{ClassDef}
 use Rattle.rio_key.specs.declared.head.KeyHead.{KeyHead}
@@ -15,10 +15,10 @@ use Rattle.rio_close.specs.EndWord.{SaysEnd}
 use Rattle.rio_close.proofs.EndWord.{chain_ignores_end, mark_opens_file, state_ignores_end}
 use Rattle.rio_create.specs.NewFile.{first_links, new_file}
 use Rattle.rio_effect.proofs.NeedsByKeys.{items_same}
-use Rattle.rio_machine.specs.State.{State, Tree, empty_state}
+use Rattle.rio_machine.specs.State.{State, empty_state}
 use Rattle.rio_recover.specs.{Cleaning.{HoldsCleaned, cleaned}, Closable.{IsClosable, kept_with, list_count}, Recovered.{IsRecovered}, declared.recovery.Recovered.{Recovered}}
 use Rattle.rio_state.specs.{DirectoryKeys.{AreKeysOf}, Closing.{KeptRecords, close_need, free_length, item_heads, kept_count, kept_in, list_length, name_in, padded_length}, Contents.{no_tree_is_read, tree_of}, KeyedRecords.{KeyedRecord, info_key, keyed_records, top_keys, tree_records}}
-use Rattle.rio_state.specs.{Left.{HasOpenHead, IsMarkedOpen, ReadsClosedUnlessOpen, info_head, open_end}, Reads.{AreRecordsOf, ReadsAsMade, ReadsAsState, tree_under}}
+use Rattle.rio_state.specs.{Left.{HasOpenHead, IsMarkedOpen, ReadsClosedUnlessOpen, info_head, open_end}, Reads.{AreRecordsOf, ReadsAsMade, ReadsAsState}}
 use Rattle.rio_state.proofs.{HeldLimits.{held_is_limited}, OneState.{reads_one}}
 use Rattle.rio_step.specs.Runs.{saved_of}
 use Rattle.rio_session.specs.{Opening.{BeginsOn, OpensMade}, Session.{HoldsState, SessionState, StandsFor}}

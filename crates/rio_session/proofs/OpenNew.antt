@@ -1,13 +1,13 @@
 -- What a session keeps of a file that is just made, and what it stands for.
 use Rattle.std.proofs.{Common.{◌≡◌, ℕ, ◌+◌, ◌≤◌, List, [], length, Option, Some, None, Bool, true, if◌then◌else◌, refl, sym, ap, subst, ◌∙◌, arith}, lemmas.Option.{same_Some}}
-use Rattle.std.specs.{Prelude.{MatchBool, slice_get}, FinMap.{FinMap, empty, get, get-empty, same_map}, List.{list_all}, Option.{option_map}}
+use Rattle.std.specs.{Prelude.{MatchBool, slice_get}, FinMap.{get, get-empty, same_map}, List.{list_all}, Option.{option_map}}
 use Rattle.rio_num.specs.Word.{name_order}
 use Rattle.rio_host.specs.Host.{Any, Becomes, View}
 use Rattle.rio_key.specs.declared.head.KeyHead.{KeyHead}
 use Rattle.rio_dir.specs.Unborn.{is_unborn}
 use Rattle.rio_chain.specs.{Chains.{HasChain, HoldsChain}, Placing.{file_end, record_count}, Segments.{Link}, Stops.{KeepsFront}, declared.segment.Segment.{Segment}}
 use Rattle.rio_close.specs.EndWord.{SaysEnd}
-use Rattle.rio_machine.specs.State.{State, Tree, empty_state}
+use Rattle.rio_machine.specs.State.{State, empty_state}
 use Rattle.rio_machine.proofs.OrderLaws.{names_tie, names_total}
 use Rattle.rio_state.specs.{Closing.{close_need, kept_in, name_in}, KeyedRecords.{KeyedRecord, keyed_records}, Left.{HasOpenHead, info_head, open_end}, DirectoryKeys.{AreKeysOf}}
 use Rattle.rio_state.specs.Reads.{AreRecordsOf}

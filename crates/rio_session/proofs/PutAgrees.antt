@@ -1,5 +1,5 @@
 -- A put by the records of a file agrees with that by what is kept beside it.
-use Rattle.std.proofs.Common.{◌≡◌, ℕ, ◌+◌, ◌<◌, ◌^◌, List, [], ◌∷◌, length, map, None, true, false, refl, sym, ap, subst, ◌∙◌}
+use Rattle.std.proofs.Common.{◌≡◌, ℕ, ◌<◌, ◌^◌, List, [], ◌∷◌, length, map, None, true, false, refl, sym, ap, ◌∙◌}
 use Rattle.std.proofs.lemmas.Bool.{eq-eqb}
 use Rattle.rio_num.specs.Word.{is_item_text}
 use Rattle.rio_key.specs.{Written.{written_key}, declared.head.KeyHead.{KeyHead}}
@@ -15,7 +15,7 @@ use Rattle.rio_effect.specs.FileRuns.{Change, added, added_length, added_place, 
 use Rattle.rio_effect.specs.{Laws.{IsPutRecord}, ObjectRecord.{data_of_put, key_of_put, object_key, record_of_put, words_of_put}}
 use Rattle.rio_effect.proofs.{FileChanges.{put_bytes, put_length, segments_follow}, KeysOfState.{keys_stand_for_state}, Needs.{need_grows}, PutEffect.{put_takes_effect, puts_have_records}, PutKeys.{put_key_follows}}
 use Rattle.rio_recover.specs.Closable.{is_sized, list_count}
-use Rattle.rio_session.specs.{Kept.{all_done, changes_by, kept_by, place_of_put}, Marks.{command_lengths, mark_of_command, state_need}, Session.{HoldsState, SessionState}, Sound.{IsSoundState}}
+use Rattle.rio_session.specs.{Kept.{kept_by, place_of_put}, Marks.{command_lengths, mark_of_command, state_need}, Session.{HoldsState, SessionState}, Sound.{IsSoundState}}
 use Rattle.rio_session.proofs.{Agreeing.{AgreesWithFile}, FileNeeds.{mark_by, mark_by_file, mark_by_kept, need_in}, Keeps.{all_with}, Needs.{need_by_keys}}
 use Rattle.rio_session.proofs.{PutEffects.{put_classes, put_low}, States.{Known, known}}
 

@@ -1,24 +1,22 @@
 -- The facts that storing an object needs, by the command's judgement and what a session keeps.
-use Rattle.std.proofs.Common.{◌≡◌, ℕ, ◌+◌, ◌^◌, ◌<◌, ◌≤◌, List, [], ◌∷◌, Result, IfOk, Some, None, true, false, refl, sym, ap, subst, ◌∙◌}
+use Rattle.std.proofs.Common.{◌≡◌, ℕ, ◌+◌, ◌^◌, ◌<◌, ◌≤◌, List, [], ◌∷◌, Result, IfOk, Some, true, false, sym, ap, subst, ◌∙◌}
 use Rattle.rio_host.specs.Host.{IsLawful, View}
 use Rattle.rio_key.specs.declared.head.KeyHead.{KeyHead}
 use Rattle.rio_value.specs.declared.value.Value.{Value}
 use Rattle.rio_dir.specs.Table.{head_of, with_head}
 use Rattle.rio_chain.specs.Placing.{file_end, place_of, record_count, with_segment}
-use Rattle.rio_machine.specs.{Limits.{head_length}, declared.command.Command.{Command, TheVariants.{Bad, Class, Put, Delete, Tree, Fill, Save, Get, Scan, Ls}}}
+use Rattle.rio_machine.specs.{Limits.{head_length}, declared.command.Command.{Command, TheVariants.{Put}}}
 use Rattle.rio_machine.specs.{declared.command.Outcome.{Outcome, TheVariants.{Accepted, Refused}}, declared.refusal.Refusal.TheVariants.{Full}}
 use Rattle.rio_chain.specs.declared.record.NewRecord.{NewRecord}
 use Rattle.rio_state.specs.Closing.{close_need, end_limit, is_full, padded_length}
 use Rattle.rio_step.specs.{ReplyText.{text_of}, Step.{object_put, refused}}
 use Rattle.rio_judge.proofs.KeysOfState.{found_key}
-use Rattle.rio_types.specs.declared.class.ClassDef.{ClassDef}
-use Rattle.rio_judge.specs.Judging.{WorkCanBeDone, is_judged}
-use Rattle.rio_judge.specs.declared.work.{NewClass.{NewClass}, StoredObject.{StoredObject}, Work.{Work, TheVariants.{Class as Declaring, Put as Storing, Delete as Deleting, Get as Telling, Ls as Listing}}}
-use Rattle.rio_session.specs.{Causes.{NeverReads}, Doable.{CanBeDone, IsToDo, ReadsNothing, is_done}, Does.{Does}, Sound.{IsSoundState}}
+use Rattle.rio_judge.specs.declared.work.{StoredObject.{StoredObject}, Work.{Work, TheVariants.{Class as Declaring, Put as Storing, Delete as Deleting, Get as Telling, Ls as Listing}}}
+use Rattle.rio_session.specs.{Causes.{NeverReads}, Doable.{CanBeDone, IsToDo, ReadsNothing}, Does.{Does}, Sound.{IsSoundState}}
 use Rattle.rio_recover.specs.Closable.{is_sized, kept_with}
 use Rattle.rio_session.specs.{Changing.{ChangesFile}, Puts.{CanBePut, IsStoredRecord, putting}}
 use Rattle.rio_session.specs.{Says.{SaysReply}, Session.{IsReady, SessionState}, declared.fault.SessionFault.{SessionFault}}
-use Rattle.rio_session.proofs.{CommandDoes.{full_does, is_get, is_put, put_does}, DeleteCalls.{can_delete}, PutFacts.{can_be_put, class_is, name_is, sized_is}, StoredRecords.{is_stored}}
+use Rattle.rio_session.proofs.{ClassCalls.{can_declare}, CommandDoes.{full_does, is_get, is_put, put_does}, DeleteCalls.{can_delete}, PutFacts.{can_be_put, class_is, name_is, sized_is}, StoredRecords.{is_stored}}
 
 -- it can be stored
 pub can_store : (s : SessionState) (c : Command) (o : StoredObject) → IsToDo s c (Storing o) → IsSoundState s → CanBeDone s (Storing o)
@@ -34,37 +32,10 @@ can_tell s c h todo =
     let found : head_of p.0 (Some h.cycle) s.heads ≡ Some h = (subst (λ (x : Command). IsToDo s x (Telling h)) p.2 todo).can in
     subst (λ (n : List ℕ). head_of n (Some h.cycle) s.heads ≡ Some h) (sym (found_key p.0 h.cycle s.heads h found).0) found
 
--- what a session does is judged
-pub done_is_judged : (c : Command) → is_done c ≡ true → is_judged c ≡ true
-done_is_judged (Bad line place) done = refl
-done_is_judged (Class class) done = absurd cc
-done_is_judged (Put name v) done = refl
-done_is_judged (Delete name cycle) done = refl
-done_is_judged (Tree name branches) done = absurd cc
-done_is_judged (Fill name row) done = absurd cc
-done_is_judged (Save name) done = absurd cc
-done_is_judged (Get name cycle None) done = refl
-done_is_judged (Get name cycle (Some version)) done = absurd cc
-done_is_judged (Scan name class) done = absurd cc
-done_is_judged Ls done = refl
-
--- no class is declared yet
-never_declared : (classes : List ClassDef) (heads : List KeyHead) (c : Command) (d : NewClass) → WorkCanBeDone classes heads c (Declaring d) → is_done c ≡ true → ⊥
-never_declared classes heads (Bad line place) d can built = can
-never_declared classes heads (Class class) d can built = absurd cc
-never_declared classes heads (Put name v) d can built = can
-never_declared classes heads (Delete name cycle) d can built = can
-never_declared classes heads (Tree name branches) d can built = can
-never_declared classes heads (Fill name row) d can built = can
-never_declared classes heads (Save name) d can built = can
-never_declared classes heads (Get name cycle version) d can built = can
-never_declared classes heads (Scan name class) d can built = can
-never_declared classes heads Ls d can built = can
-
 pub can_do : (s : SessionState) (c : Command) (work : Work) → IsToDo s c work → IsSoundState s → CanBeDone s work
 can_do s c (Storing o) todo sound = can_store s c o todo sound
 can_do s c (Deleting h) todo sound = can_delete s c h todo
-can_do s c (Declaring d) todo sound = never_declared s.classes s.heads c d todo.can todo.built
+can_do s c (Declaring d) todo sound = can_declare s c d todo sound
 can_do s c (Telling h) todo sound = can_tell s c h todo
 can_do s c Listing todo sound = tt
 

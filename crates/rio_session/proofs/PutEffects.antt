@@ -1,9 +1,9 @@
 -- What the record of a put makes of the state that a session stands for.
-use Rattle.std.proofs.Common.{◌≡◌, inl, ℕ, zero, ◌+◌, ◌<◌, ◌≤◌, ◌^◌, List, [], ◌∷◌, length, map, take, None, true, false, refl, sym, ap, subst, ◌∙◌, arith}
+use Rattle.std.proofs.Common.{◌≡◌, inl, ℕ, ◌+◌, ◌<◌, ◌≤◌, ◌^◌, List, length, map, None, true, false, refl, sym, ap, subst, ◌∙◌, arith}
 use Rattle.rio_num.specs.Word.{is_item_text}
 use Rattle.rio_key.specs.declared.head.KeyHead.{KeyHead}
 use Rattle.rio_value.specs.declared.value.Value.{Value}
-use Rattle.rio_chain.specs.{Adjoining.{AreSegments}, Changes.{with_record}, Placing.{place_of, record_count, with_segment}, Segments.{Link, segment_of}, declared.segment.Segment.{Segment}}
+use Rattle.rio_chain.specs.{Adjoining.{AreSegments}, Changes.{with_record}, Placing.{place_of}, Segments.{Link, segment_of}}
 use Rattle.rio_model.specs.StateClasses.{StateClasses}
 use Rattle.rio_machine.specs.{State.{State}, declared.command.Command.TheVariants.{Put}}
 use Rattle.rio_state.specs.{Closing.{held_of, kept_in}, DirectoryKeys.{AreKeysOf}, KeyedRecords.{info_key, keyed_records}, Left.{info_head}, OneMore.{keyed_bytes}, Reads.{AreRecordsOf}}
@@ -12,7 +12,7 @@ use Rattle.rio_step.specs.{Costs.{cost_of}, Refusing.{refusal_of}, Runs.{saved_o
 use Rattle.rio_effect.specs.{Laws.{IsPutRecord}, More.{KeepsOneMore}, ObjectRecord.{key_of_put, record_of_put}}
 use Rattle.rio_effect.proofs.{FileChanges.{put_length}, Held.{chain_segments, held_grows}, Needs.{need_grows}, PutEffect.{puts_have_records, saved_put_takes_effect}, PutKeys.{put_key_follows}}
 use Rattle.rio_close.proofs.Fitting.{count_with, place_low}
-use Rattle.rio_session.specs.{Effects.{ArePassed, IsKeptAfter, TakesEffect, links_by}, Kept.{all_done, changes_by, kept_by, place_of_put}}
+use Rattle.rio_session.specs.{Effects.{IsKeptAfter, TakesEffect, links_by}, Kept.{kept_by, place_of_put}}
 use Rattle.rio_session.specs.{Session.{HoldsState, SessionState}, Sound.{IsSoundState}}
 use Rattle.rio_session.proofs.States.{Known, known}
 

@@ -10,7 +10,7 @@ use Rattle.rio_chain.specs.{Placing.{file_end, place_of, record_count}, Segments
 use Rattle.rio_chain.proofs.{PutChain.{map_end}, Records.{key_long}}
 use Rattle.rio_model.specs.StateClasses.{StateClasses}
 use Rattle.rio_machine.specs.{Limits.{head_length}, State.{State, next_cycle}, declared.command.Command.TheVariants.{Put}}
-use Rattle.rio_machine.specs.{declared.command.Outcome.TheVariants.{Refused}, declared.refusal.Refusal.{Refusal, TheVariants.{Full}}}
+use Rattle.rio_machine.specs.{declared.command.Outcome.TheVariants.{Refused}, declared.refusal.Refusal.{TheVariants.{Full}}}
 use Rattle.rio_state.specs.Closing.{close_need, closing_lengths, end_limit, free_length, held_of, is_full, kept_count, kept_in, list_length, padded_length}
 use Rattle.rio_state.specs.KeyedRecords.{info_key, keyed_records}
 use Rattle.rio_step.specs.{ItemKeys.{AreKeysOfState, told_by_key}, Refusing.{FullMark, object_class, put_value, refusal_of}}

@@ -1,7 +1,7 @@
 -- What it is to change the records of a file, one write after the other, and to print a text then.
 use Rattle.std.specs.Prelude.{◌≡◌, ◌⊎◌, ◌<◌, ◌≤◌, ℕ, true, List, ◌++◌, length, take, Some, Result, Ok, Err}
 use Rattle.rio_host.specs.Host.{Any, Becomes, Elapses, IsQuiet, Longer, LongerByPart, View}
-use Rattle.rio_chain.specs.{Becoming.{ChainBecomes}, Chains.{HasChain}, Segments.{IsChain, Link}, Stops.{KeepsFront}}
+use Rattle.rio_chain.specs.{Becoming.{ChainBecomes}, Chains.{HasChain}, Segments.{IsChain, Link}, Stops.{KeepsFront}, declared.segment.Segment.{Segment}}
 use Rattle.rio_session.specs.{Causes.{DiskRose, NoCountRose, SayRose}, Kept.{LinksChange, all_done}, Says.{NotDone}, SessionState.{SessionState, with_cost}}
 use Rattle.rio_session.specs.declared.fault.SessionFault.{SessionFault, TheVariants.{HostFault, SayFault, NoMemory}}
 
@@ -38,6 +38,16 @@ ChangesInTime p old new before = (file said : List ℕ) (links : List Link) → 
 -- each change was reached
 abbrev pub ReachesAll : Changing → View → SessionState → Type 0
 ReachesAll p old before = (file : List ℕ) (links : List Link) → old.holds ≡ Some file → HasChain links before.segments file → IsReached p (length p.changes) links
+
+-- The first i changes are done, in these segments, and nothing was printed.
+pub record IsUnderway (p : Changing) (i : ℕ) (old now : View) (before : SessionState) (segments : List Segment) : Type 0 where
+  pub within : i ≤ length p.changes
+  pub time : ChangesInTime p old now before
+  pub reached : (file : List ℕ) (links : List Link) → old.holds ≡ Some file → HasChain links before.segments file → IsReached p i links
+  pub holds : ChainBecomes old now before.segments segments (links_at p i)
+  pub told : Becomes Any old.holds now.holds
+  pub said : now.said ≡ old.said
+  pub faults : NoCountRose old now
 
 -- all is changed and the text printed
 pub record ChangedAndSaid (p : Changing) (old new : View) (before after : SessionState) : Type 0 where

@@ -1,32 +1,23 @@
 -- What a command is to do, as a session does it.
-use Rattle.std.specs.Prelude.{◌≡◌, Bool, Some, None, true, false}
+use Rattle.std.specs.Prelude.{◌≡◌, Some, None, true}
 use Rattle.rio_dir.specs.Table.{head_of}
-use Rattle.rio_machine.specs.declared.command.Command.{Command, TheVariants.{Bad, Put as DoPut, Delete as DoDelete, Get as DoGet, Ls as DoLs}}
+use Rattle.rio_machine.specs.declared.command.Command.{Command}
 use Rattle.rio_step.specs.Statable.{IsStatable}
-use Rattle.rio_judge.specs.{Judging.{IsJudgementOfStates, WorkCanBeDone}, declared.work.Judged.TheVariants.{Accepted}}
+use Rattle.rio_judge.specs.{Judging.{IsJudgementOfStates, WorkCanBeDone, is_judged}, declared.work.Judged.TheVariants.{Accepted}}
 use Rattle.rio_judge.specs.declared.work.Work.{Work, TheVariants.{Class, Put, Delete, Get, Ls}}
-use Rattle.rio_session.specs.{Puts.{IsStored}, Session.{SessionState}}
+use Rattle.rio_session.specs.{Lists.{IsDeclarable}, Puts.{IsStored}, Session.{SessionState}}
 
--- The commands that a session does as of now. (A class isn't declared yet.)
-abbrev pub is_done : Command → Bool
-is_done (Bad line place) = true
-is_done (DoPut name v) = true
-is_done (DoDelete name cycle) = true
-is_done (DoGet name cycle None) = true
-is_done DoLs = true
-is_done other = false
-
--- It can be done by what the session keeps: no limit is passed, and no key has the name and cycle yet; or the key is the session's.
+-- It can be done by what the session keeps: no rule and no limit is broken, and no key has the name and cycle yet; or the key is the session's.
 abbrev pub CanBeDone : SessionState → Work → Type 0
 CanBeDone s (Put o) = IsStored s.classes o × (head_of o.name (Some o.cycle) s.heads ≡ None)
-CanBeDone s (Class d) = ⊥
+CanBeDone s (Class d) = IsDeclarable s.classes d
 CanBeDone s (Delete h) = head_of h.name (Some h.cycle) s.heads ≡ Some h
 CanBeDone s (Get h) = head_of h.name (Some h.cycle) s.heads ≡ Some h
 CanBeDone s Ls = Unit {0}
 
 -- the work is what the command is to do, by the classes and keys that the session keeps
 pub record IsToDo (s : SessionState) (c : Command) (work : Work) : Type 0 where
-  pub built : is_done c ≡ true
+  pub built : is_judged c ≡ true
   pub statable : IsStatable c
   pub can : WorkCanBeDone s.classes s.heads c work
   pub judged : IsJudgementOfStates s.classes s.heads c (Accepted work)

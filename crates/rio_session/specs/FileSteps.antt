@@ -5,7 +5,7 @@ use Rattle.rio_chain.specs.{Chains.{HasChain}, Segments.{Link, segment_of}, Stop
 use Rattle.rio_machine.specs.{State.{State}, declared.command.Command.{Command}}
 use Rattle.rio_step.specs.{Statable.{IsStatable}, Step.{step}}
 use Rattle.rio_effect.specs.FileRuns.{FileStep, file_step}
-use Rattle.rio_session.specs.Doable.{is_done}
+use Rattle.rio_judge.specs.Judging.{is_judged}
 use Rattle.rio_session.specs.{Kept.{all_done, changes_after, kept_after}, Session.{HoldsState, SessionState, next_of}, Sound.{IsSoundState}}
 
 -- The step by the records of the file is the step by what the session keeps: with the same state and reply, the same records after it,
@@ -15,9 +15,9 @@ pub record FollowsFile (s : SessionState) (m : State) (c : Command) (links : Lis
   pub links_are : t.links ≡ all_done (changes_after s m c) links
   pub segments : map segment_of t.links ≡ (kept_after s m c).segments
 
--- Where a session stands for a state on a file, the file's records tell each step of a command that is built.
+-- Where a session stands for a state on a file, the file's records tell each step of a command that is judged.
 abbrev pub StepsFollowFiles : Type 0
-StepsFollowFiles = (s : SessionState) (m : State) (file : List ℕ) (c : Command) (h : HoldsState s m file) → IsSoundState s → s.failed ≡ false → s.datime < 2 ^ 32 → IsStatable c → is_done c ≡ true
+StepsFollowFiles = (s : SessionState) (m : State) (file : List ℕ) (c : Command) (h : HoldsState s m file) → IsSoundState s → s.failed ≡ false → s.datime < 2 ^ 32 → IsStatable c → is_judged c ≡ true
     → (t : FileStep) × (file_step s.datime h.links m c ≡ Some t) × FollowsFile s m c h.links t
 
 -- The records of the file tell the command's step: with their mark it is the one of the session.

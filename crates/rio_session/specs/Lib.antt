@@ -8,6 +8,7 @@ pub mod Effects
 pub mod FileSteps
 pub mod Gets
 pub mod Kept
+pub mod Lists
 pub mod Marks
 pub mod Opening
 pub mod Puts

@@ -1,13 +1,13 @@
 -- How a session begins: what it finds, what it keeps, and what a stop leaves meanwhile.
-use Rattle.std.specs.Prelude.{◌≡◌, ◌⊎◌, ℕ, List, length, Bool, false, MatchBool, Some, None, Result, Ok, Err, if◌then◌else◌}
+use Rattle.std.specs.Prelude.{◌≡◌, ◌⊎◌, ℕ, List, length, false, MatchBool, Some, None, Result, Ok, Err, if◌then◌else◌}
 use Rattle.rio_head.specs.{Head.{IsHeaderKind, fault_at}, declared.fault.HeadFault.{HeadFault}}
-use Rattle.rio_host.specs.{Host.{Leaves, Rose, View}, OnlyReads.{OnlyReads}}
+use Rattle.rio_host.specs.{Host.{Leaves, View}, OnlyReads.{OnlyReads}}
 use Rattle.rio_dir.specs.Unborn.{header_fault, is_unborn}
 use Rattle.rio_chain.specs.{Chains.{HasChain}, Segments.{IsChain, Link}, Stops.{KeepsFront}}
 use Rattle.rio_close.specs.EndWord.{SaysEnd}
 use Rattle.rio_create.specs.{NewFile.{first_links, new_file}, declared.fault.CreateFault.{CreateFault, TheVariants.{NoMemory as NoRoomToMake, HostFault as NotMade}}}
 use Rattle.rio_recover.specs.{Cleaning.{cleaned}, declared.fault.RecoverFault.{RecoverFault, TheVariants.{BadFile as Broken, ReadOnly as Against, NoMemory as NoRoomToRead, HostFault as NotRead}}}
-use Rattle.rio_state.specs.{Closing.{name_in}, KeyedRecords.{keyed_records}, Left.{IsMarkedOpen, open_end}, Reasons.{IsFirstReason, ReasonAt, reason_at}}
+use Rattle.rio_state.specs.{Closing.{name_in}, KeyedRecords.{keyed_records}, Left.{open_end}, Reasons.{IsFirstReason, ReasonAt, reason_at}}
 use Rattle.rio_create.specs.Creation.{IsUnclosed}
 use Rattle.rio_session.specs.{Causes.{DiskRose, NoCountRose}, Session.{SessionState}}
 use Rattle.rio_session.specs.declared.fault.OpenFault.{OpenFault, TheVariants.{BadFile, ReadOnly, NoMemory, HostFault}}

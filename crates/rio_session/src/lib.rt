@@ -11,16 +11,19 @@
 //! find no room. The tests stand in `rio_file_rows`.
 #![tactic(auto)]
 
+mod class;
 mod close;
 mod delete;
 mod fault;
 mod get;
 mod laws;
+mod list;
 mod made_file;
 mod new_file;
 mod open;
 mod place;
 mod put;
+mod replace;
 mod say;
 mod session;
 mod store;

@@ -19,7 +19,7 @@ use rio_write::write_object;
 use std::alloc::Global;
 
 /// The place of the directory that objects are in.
-const DIRECTORY: u64 = 100;
+pub(crate) const DIRECTORY: u64 = 100;
 
 // How long the key of an object's record is.
 pub(crate) fn key_length(class: &[u8], name: &[u8]) -> u64

@@ -32,6 +32,7 @@ impl Model for Session {
     ghost use Rattle.std.specs.Prelude.{◌≡◌, false};
     ghost use Rattle.rio_dir.specs.Table.{heads_size};
     ghost use Rattle.rio_model.specs.StateClasses.{StateClasses};
+    ghost use Rattle.rio_recover.specs.Classes.{HasListCycle};
     ghost use Rattle.rio_recover.specs.Closable.{IsClosable};
     ghost use Rattle.rio_recover.specs.Whole.{HoldsDirectory};
     ghost use Rattle.rio_session.specs.Session.{SessionState};
@@ -51,9 +52,11 @@ impl Model for Session {
       failed = s.failed;
     } };
 
-    // The classes are such as commands declare. The directory record is within the first record.
+    // The classes are such as commands declare, and the cycle of the class list is low enough for one more.
+    // The directory record is within the first record.
     ghost invariant = { λ s. record {
       classes : StateClasses s.registry;
+      listed : HasListCycle s.info s.registry;
       kept : s.failed ≡ false → IsClosable s.chain.segments s.table.heads s.info s.name;
       fresh : s.failed ≡ false → s.chain.spent ≡ false;
       bytes : s.failed ≡ false → s.heads_bytes ≡ heads_size s.table.heads;
@@ -64,7 +67,7 @@ impl Model for Session {
 impl Session {
     ghost use Rattle.std.specs.Prelude.{◌≡◌, ℕ, List, false, IsTrue, OnOk};
     ghost use Rattle.rio_machine.specs.State.{State};
-    ghost use Rattle.rio_session.specs.Doable.{is_done};
+    ghost use Rattle.rio_judge.specs.Judging.{is_judged};
     ghost use Rattle.rio_step.specs.Statable.{IsStatable};
     ghost use Rattle.rio_session.specs.Causes.{NeverReads};
     ghost use Rattle.rio_session.specs.Does.{FileAfter, KeptAfter, TextAfter};
@@ -93,7 +96,7 @@ impl Session {
         command: &Command,
     ) -> Result<Outcome, SessionFault>
         requires fresh { self.old.failed ≡ false }
-        requires built { IsTrue (is_done command.now) }
+        requires built { IsTrue (is_judged command.now) }
         requires statable { IsStatable command.now }
         requires ready { IsReady (H.view host.old) self.old }
         ensures file { FileAfter (H.view host.old) (H.view host.new) self.old self.new command.now

@@ -6,7 +6,7 @@ use rio_machine::{Command, Outcome};
 
 impl Session {
     ghost use Rattle.std.specs.Prelude.{◌≡◌, ◌<◌, ◌^◌, false, IsTrue};
-    ghost use Rattle.rio_session.specs.Doable.{is_done};
+    ghost use Rattle.rio_judge.specs.Judging.{is_judged};
     ghost use Rattle.rio_machine.specs.declared.command.Command.{Command as Line};
     ghost use Rattle.rio_step.specs.Statable.{IsStatable};
     ghost use Rattle.rio_session.specs.Causes.{NeverReads};
@@ -25,8 +25,7 @@ impl Session {
         ensures reads { ReadsNothing work → (H.view host.new).reads ≡ (H.view host.old).reads }
     {
         match work {
-            // Classes are declared here when that is built.
-            Work::Class(_) => unreachable!(),
+            Work::Class(new) => self.class(host, new),
             Work::Put(object) => self.put(host, &object),
             Work::Delete(head) => self.delete(host, &head),
             Work::Get(head) => self.get(host, &head),
@@ -41,7 +40,7 @@ impl Session {
         command: &Command,
     ) -> Result<Outcome, SessionFault>
         requires fresh { self.old.failed ≡ false }
-        requires built { IsTrue (is_done command.now) }
+        requires built { IsTrue (is_judged command.now) }
         requires statable { IsStatable command.now }
         requires ready { IsReady (H.view host.old) self.old }
         ensures does { Does (H.view host.old) (H.view host.new) self.old self.new command.now

@@ -4,6 +4,7 @@ pub mod CallRows
 pub mod Completes
 pub mod Doing
 pub mod Endings
+pub mod Listings
 pub mod Opening
 pub mod OrderedKeys
 pub mod Pieces

@@ -4,6 +4,7 @@ pub mod Complete
 pub mod Headline
 pub mod InARow
 pub mod Input
+pub mod Listings
 pub mod Naming
 pub mod Reading
 pub mod Script

@@ -1,6 +1,7 @@
 //! Laws of runs.
 ghost use Rattle.rootio.specs.Beginnings.{BeginningsExist};
 ghost use Rattle.rootio.specs.InARow.{CallsInARow};
+ghost use Rattle.rootio.specs.Listings.{ClosedFilesList};
 
 /// Each file that isn't made yet or reads as a state has records with which a run begins, and a listing
 /// of their keys. So what is said of a run that begins with such records is said of each of these files.
@@ -13,4 +14,10 @@ pub fn beginnings_exist()
 /// after the other.
 pub fn calls_in_a_row()
     ensures { CallsInARow }
+{}
+
+/// A closed file lists as the keys of the records that it had before its close. So what a recovery prints is
+/// what `ls` prints of the file that it leaves.
+pub fn closed_files_list()
+    ensures { ClosedFilesList }
 {}

@@ -1,5 +1,6 @@
 //! Worked rows: what the program answers for files whose bytes and listings come from the format's rules.
 mod classes;
+mod declared;
 mod deletes;
 mod dump;
 mod entries;
@@ -11,6 +12,7 @@ mod header;
 mod images;
 mod limit;
 mod ls;
+mod many;
 mod parts;
 mod pen;
 mod recover;

@@ -3,7 +3,7 @@ ghost use Rattle.std.specs.Prelude.{◌≡◌, ◌<◌, ◌^◌, length, false, 
 ghost use Rattle.rio_host.specs.MemHost.{view_of};
 ghost use Rattle.rio_step.specs.Statable.{IsStatable};
 ghost use Rattle.rio_session.specs.Session.{IsReady};
-ghost use Rattle.rio_session.specs.Doable.{is_done};
+ghost use Rattle.rio_judge.specs.Judging.{is_judged};
 
 use super::parts::{END, FIRST, FREE, FRONT, KEY_LIST};
 use rio_host::MemHost;
@@ -34,7 +34,7 @@ fn value_of(alloc: Global, text: &[u8]) -> Result<Value, NoMemory>
 pub(super) fn put(alloc: Global, text: &[u8]) -> Result<Command, NoMemory>
     requires { length text.now < 2 ^ 32 }
     ensures stated { IfOk result IsStatable }
-    ensures built { IfOk result (λ c. IsTrue (is_done c)) }
+    ensures built { IfOk result (λ c. IsTrue (is_judged c)) }
 {
     let value = value_of(alloc, text)?;
     let name = Name::from_slice(alloc, b"s")?;
@@ -44,7 +44,7 @@ pub(super) fn put(alloc: Global, text: &[u8]) -> Result<Command, NoMemory>
 // Tells the object `s` of this cycle, or the newest.
 pub(super) fn get(alloc: Global, cycle: Option<u32>) -> Result<Command, NoMemory>
     ensures stated { IfOk result IsStatable }
-    ensures built { IfOk result (λ c. IsTrue (is_done c)) }
+    ensures built { IfOk result (λ c. IsTrue (is_judged c)) }
 {
     let name = Name::from_slice(alloc, b"s")?;
     Ok(Command::Get {
@@ -59,7 +59,7 @@ fn act(session: &mut Session, host: &mut MemHost, command: &Command) -> Result<(
     requires fresh { session.old.failed ≡ false }
     requires ready { IsReady (view_of host.old) session.old }
     requires stated { IsStatable command.now }
-    requires built { IsTrue (is_done command.now) }
+    requires built { IsTrue (is_judged command.now) }
     ensures fresh { OnOk result (session.new.failed ≡ false) }
     ensures ready { OnOk result (IsReady (view_of host.new) session.new) }
 {
@@ -77,9 +77,9 @@ fn act_thrice(
     requires fresh { session.old.failed ≡ false }
     requires ready { IsReady (view_of host.old) session.old }
     requires first { IsStatable first.now }
-    requires first_built { IsTrue (is_done first.now) }
+    requires first_built { IsTrue (is_judged first.now) }
     requires second { IsStatable second.now }
-    requires second_built { IsTrue (is_done second.now) }
+    requires second_built { IsTrue (is_judged second.now) }
     ensures fresh { OnOk result (session.new.failed ≡ false) }
     ensures ready { OnOk result (IsReady (view_of host.new) session.new) }
 {
@@ -105,9 +105,9 @@ fn act_and_close(
     requires fresh { session.failed ≡ false }
     requires ready { IsReady (view_of host.old) session }
     requires first { IsStatable first.now }
-    requires first_built { IsTrue (is_done first.now) }
+    requires first_built { IsTrue (is_judged first.now) }
     requires second { IsStatable second.now }
-    requires second_built { IsTrue (is_done second.now) }
+    requires second_built { IsTrue (is_judged second.now) }
 {
     act_thrice(&mut session, host, first, second)?;
     close(session, host)
@@ -132,9 +132,9 @@ pub(super) fn run(
     second: &Command,
 ) -> Result<(), SessionFault>
     requires first { IsStatable first.now }
-    requires first_built { IsTrue (is_done first.now) }
+    requires first_built { IsTrue (is_judged first.now) }
     requires second { IsStatable second.now }
-    requires second_built { IsTrue (is_done second.now) }
+    requires second_built { IsTrue (is_judged second.now) }
 {
     let session = open(alloc, host)?;
     act_and_close(session, host, first, second)

@@ -90,7 +90,7 @@ struct Row {
     after: Made,
 }
 
-static ROWS: [Row; 18] = [
+static ROWS: [Row; 19] = [
     Row {
         name: "no bytes, no lines",
         datime: None,
@@ -249,6 +249,22 @@ static ROWS: [Row; 18] = [
         status: Status::Done,
         said: "no 3 NoSuchName\nno 4 NoSuchCycle\nno 4 NoSuchCycle\nno 4 NoSuchCycle\nno 1 BadLine 5 8\nok ls 1\ns;1 TObjString\n",
         after: ONE,
+    },
+    // The object's record, and its head in the key list, have the cycle 32,767.
+    Row {
+        name: "a name without a further cycle",
+        datime: None,
+        before: Made {
+            words: &[(224, 0x7FFF_0000)],
+            ..ONE
+        },
+        script: "put s TObjString{TObject{fUniqueID: 0, fBits: 0}, fString: \"x\"}\n",
+        status: Status::Done,
+        said: "no 15 CycleLimit\n",
+        after: Made {
+            words: &[(224, 0x7FFF_0000), (328, 0x7FFF_0000)],
+            ..ONE
+        },
     },
     Row {
         name: "the worked run",

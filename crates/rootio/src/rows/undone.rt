@@ -1,4 +1,4 @@
-//! Runs with `delete` that are cut off at some moment, or of which a call fails: what the file reads as then.
+//! Runs with `delete` and `class` that are cut off at some moment, or of which a call fails: what the file reads as then.
 use super::runs::{host_of, host_of_copy, ran};
 use super::stops::WORDS;
 use crate::status::Status;
@@ -8,11 +8,12 @@ use rio_num::{Bytes, NoMemory};
 use rio_recover::{Recovered, recover};
 use std::alloc::Global;
 
-// A line of a script, its reply, and what is listed of the file after it.
+// A line of a script, its reply, what is listed of the file after it, and which classes are declared then.
 struct Step {
     line: &'static str,
     reply: &'static str,
     listing: &'static str,
+    classes: &'static str,
 }
 
 const HI: &str = "put s TObjString{TObject{fUniqueID: 0, fBits: 0}, fString: \"hi\"}\n";
@@ -31,26 +32,31 @@ static PUT_AGAIN: [Step; 5] = [
         line: HI,
         reply: "ok put s;1\n",
         listing: ONE,
+        classes: "",
     },
     Step {
         line: HO,
         reply: "ok put s;2\n",
         listing: TWO,
+        classes: "",
     },
     Step {
         line: "delete s;2\n",
         reply: "ok delete s;2\n",
         listing: ONE,
+        classes: "",
     },
     Step {
         line: HU,
         reply: "ok put s;2\n",
         listing: TWO,
+        classes: "",
     },
     Step {
         line: "ls\n",
         reply: "ok ls 2\ns;2 TObjString\ns;1 TObjString\n",
         listing: TWO,
+        classes: "",
     },
 ];
 
@@ -60,26 +66,77 @@ static IN_A_GAP: [Step; 5] = [
         line: HI,
         reply: "ok put s;1\n",
         listing: ONE,
+        classes: "",
     },
     Step {
         line: "put t TObjString{TObject{fUniqueID: 0, fBits: 0}, fString: \"123456789012345678901234567890123456789012345678901234567890\"}\n",
         reply: "ok put t;1\n",
         listing: "s;1 TObjString\nt;1 TObjString\n",
+        classes: "",
     },
     Step {
         line: HU,
         reply: "ok put s;2\n",
         listing: "s;2 TObjString\ns;1 TObjString\nt;1 TObjString\n",
+        classes: "",
     },
     Step {
         line: "delete t;1\n",
         reply: "ok delete t;1\n",
         listing: TWO,
+        classes: "",
     },
     Step {
         line: "put u TObjString{TObject{fUniqueID: 0, fBits: 0}, fString: \"\\x00\\x00\\x00<\\x00\\x04\\x00\\x00\\x00\\x14\\x00\\x00\\x00\\x01\\x00(\\x00\\x01\\x00\\x00\\x00\\xd0\\x00\\x00\\x00d\\nTObjString\\x01s\\x00@\\x00\\x00\\x0f\\x00\\x01\\x00\\x01\\x00\\x00\\x00\\x00\\x00\\x00\\x00\\x00\\x02hi\\x00\"}\n",
         reply: "ok put u;1\n",
         listing: "s;2 TObjString\ns;1 TObjString\nu;1 TObjString\n",
+        classes: "",
+    },
+];
+
+// Two declarations, the second of which puts a list in place of the first one, and objects before and after it.
+static DECLARED: [Step; 7] = [
+    Step {
+        line: "class A 1 { x: i32 }\n",
+        reply: "ok class A 1\n",
+        listing: "",
+        classes: "A 1\n",
+    },
+    Step {
+        line: "put a A{x: 1}\n",
+        reply: "ok put a;1\n",
+        listing: "a;1 A\n",
+        classes: "A 1\n",
+    },
+    Step {
+        line: "class B 7 : A { y: A*, z: text }\n",
+        reply: "ok class B 7\n",
+        listing: "a;1 A\n",
+        classes: "A 1\nB 7\n",
+    },
+    Step {
+        line: "put a B{A{x: 1}, y: @0=A{x: 2}, z: \"z\"}\n",
+        reply: "ok put a;2\n",
+        listing: "a;2 B\na;1 A\n",
+        classes: "A 1\nB 7\n",
+    },
+    Step {
+        line: "class A 1 { }\n",
+        reply: "no 9 SameVersion\n",
+        listing: "a;2 B\na;1 A\n",
+        classes: "A 1\nB 7\n",
+    },
+    Step {
+        line: "delete a;1\n",
+        reply: "ok delete a;1\n",
+        listing: "a;2 B\n",
+        classes: "A 1\nB 7\n",
+    },
+    Step {
+        line: "class A 2 { }\n",
+        reply: "ok class A 2\n",
+        listing: "a;2 B\n",
+        classes: "A 1\nB 7\nA 2\n",
     },
 ];
 
@@ -133,11 +190,43 @@ fn listing_of(alloc: Global, heads: &[KeyHead]) -> Result<Bytes, NoMemory> {
     Ok(listing)
 }
 
+// Which classes are declared after so many steps.
+fn classes_after(steps: &[Step], count: usize) -> &str {
+    match count.checked_sub(1) {
+        Some(last) => match steps.get(last) {
+            Some(step) => step.classes,
+            None => "more steps than there are",
+        },
+        None => "",
+    }
+}
+
+fn put_class(classes: &mut Bytes, name: &[u8], version: i32) -> Result<(), NoMemory> {
+    classes.put(name)?;
+    classes.put(b" ")?;
+    classes.put_decimal(u64::try_from(version).unwrap_or(0))?;
+    classes.put(b"\n")
+}
+
+fn classes_of(alloc: Global, found: &Recovered) -> Result<Bytes, NoMemory> {
+    let mut classes = Bytes::new(alloc);
+    for class in found.registry.classes().as_slice() {
+        put_class(&mut classes, class.name.as_slice(), class.version)?;
+    }
+    Ok(classes)
+}
+
 // Whether it reads as the state after so many steps.
 fn is_after(alloc: Global, found: &Recovered, steps: &[Step], count: usize) -> bool {
-    match listing_of(alloc, found.table.as_slice()) {
-        Ok(text) => text.as_slice() == listing_after(steps, count).as_bytes(),
-        Err(_) => false,
+    match (
+        listing_of(alloc, found.table.as_slice()),
+        classes_of(alloc, found),
+    ) {
+        (Ok(listing), Ok(classes)) => {
+            listing.as_slice() == listing_after(steps, count).as_bytes()
+                && classes.as_slice() == classes_after(steps, count).as_bytes()
+        }
+        _ => false,
     }
 }
 
@@ -223,6 +312,11 @@ fn stops(rt: HostRuntime) {
     assert_eq!(rt; no_prefix_of(rt.alloc(), &IN_A_GAP), None);
 }
 
+#[test]
+fn stops_of_declarations(rt: HostRuntime) {
+    assert_eq!(rt; no_prefix_of(rt.alloc(), &DECLARED), None);
+}
+
 // ---- failing calls
 
 // Whether the listing is that of the state after as many steps as were said, or one more.
@@ -231,11 +325,15 @@ fn is_listed(steps: &[Step], said: usize, listing: &[u8]) -> bool {
         || listing == listing_after(steps, said.saturating_add(1)).as_bytes()
 }
 
-// Whether the verb `recover` then lists the objects of a prefix.
+// Whether the verb `recover` then lists the objects of a prefix, and leaves the file as one.
 fn recovers(alloc: Global, image: &[u8], steps: &[Step], said: usize) -> Result<bool, NoMemory> {
     let mut host = host_of_copy(alloc, image, &[])?;
     let status = ran(alloc, &["recover", "a.root"], &mut host, b"")?;
-    Ok(status == Status::Done && is_listed(steps, said, host.said().as_slice()))
+    Ok(
+        status == Status::Done
+            && is_listed(steps, said, host.said().as_slice())
+            && is_prefix_on(alloc, &mut host, steps, said),
+    )
 }
 
 // A run of which this call fails, and whether it is recovered then. None where no call has the number.
@@ -272,4 +370,9 @@ fn fails_badly(alloc: Global, steps: &[Step]) -> Result<(Option<u64>, u64), NoMe
 #[test]
 fn failing_calls(rt: HostRuntime) {
     assert!(rt; matches!(fails_badly(rt.alloc(), &PUT_AGAIN), Ok((None, 30..))));
+}
+
+#[test]
+fn failing_calls_of_declarations(rt: HostRuntime) {
+    assert!(rt; matches!(fails_badly(rt.alloc(), &DECLARED), Ok((None, 50..))));
 }

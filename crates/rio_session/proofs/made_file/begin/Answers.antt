@@ -1,4 +1,8 @@
-use Rattle.std.proofs.Common.{◌≡◌, ◌∙◌, refl, ap}
+use Rattle.std.proofs.Common.{◌∙◌, List, Option, refl, sym, ap, subst}
+use Rattle.rio_types.specs.declared.class.ClassDef.{ClassDef}
+use Rattle.rio_key.specs.declared.head.KeyHead.{KeyHead}
+use Rattle.rio_model.specs.StateClasses.{StateClasses}
+use Rattle.rio_recover.specs.Classes.{HasListCycle}
 use Rattle.rio_dir.specs.Table.{TableRoom}
 use Rattle.rio_session.proofs.OpenMade.{begins_made, holds_marked, marked_chain, records_of, size_low, stands_made, within_header}
 use Rattle.rio_session.proofs.OpenMadeMoments.{cleaned_unclosed, cleaning_time, marked_unclosed, marking_time}
@@ -100,3 +104,16 @@ returns-clause-begins g c name file holds =
       closable = kept.closable;
     })
     name c.args.datime
+
+pub invariant_of-result : goal.invariant_of-result
+invariant_of-result g c =
+    let kept = c.in_ok-clean.ensures.kept in
+    let whole = c.requires.whole in
+    record {
+      classes = subst StateClasses (sym kept.registry) whole.classes;
+      listed = subst (λ (x : Option KeyHead × List ClassDef). HasListCycle x.0 x.1) (λ i. (sym kept.info i, sym kept.registry i)) whole.listed;
+      kept = λ fresh. kept.closable;
+      fresh = λ fresh. kept.fresh;
+      bytes = λ fresh. c.heads_length-heads_bytes.ensures;
+      directory = λ fresh. kept.directory;
+    }

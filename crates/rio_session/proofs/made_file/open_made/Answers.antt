@@ -1,4 +1,4 @@
-use Rattle.std.proofs.{Common.{◌≡◌, sym, ◌∙◌}, lemmas.Result.{err_from_is_err_and}}
+use Rattle.std.proofs.{Common.{sym, ◌∙◌}, lemmas.Result.{err_from_is_err_and}}
 use Rattle.rio_host.proofs.ReadsLaws.{reads_join, reads_one}
 use Rattle.rio_session.proofs.OpenAnswers.{reads_quiet, reads_unclosed, spares_none, tells_why}
 use Rattle.rio_session.proofs.OpenMoments.{then_time}

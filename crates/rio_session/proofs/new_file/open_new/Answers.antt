@@ -15,6 +15,7 @@ returns-in_err-chain-clause-any_moment g c file text m quiet holds said reads =
 pub invariant_of-result : goal.invariant_of-result
 invariant_of-result g c = record {
   classes = subst StateClasses (sym c.new.ensures) tt;
+  listed = tt;
   kept = λ fresh. kept_new c.in_ok-chain.field-0.chain.segments c.new-2.result.heads c.args.name.now c.in_ok-own.own c.requires.short
       (ap (λ (s : ChainState). s.segments) c.in_ok-chain.ensures.chain) c.in_ok-chain.ensures.low (ap (λ (t : TableRoom). t.heads) c.new-2.ensures) c.in_ok-own.ensures;
   fresh = λ fresh. ap (λ (s : ChainState). s.spent) c.in_ok-chain.ensures.chain;

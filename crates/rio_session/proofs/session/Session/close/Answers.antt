@@ -1,4 +1,4 @@
-use Rattle.std.proofs.{Common.{◌≡◌, ◌≤◌, ◌+◌, ◌∙◌, refl, sym, ap, subst, arith}, lemmas.Result.{err_from_is_err_and}}
+use Rattle.std.proofs.{Common.{◌≡◌, ◌∙◌, refl, ap, subst, arith}, lemmas.Result.{err_from_is_err_and}}
 use Rattle.std.specs.Option.{option_copied}
 use Rattle.rio_chain.specs.{Adjoining.{AreSegments}, Chains.{ChainState}, Placing.{file_end}}
 use Rattle.rio_close.specs.{Leaving.{IsReadyToClose}, Written.{OpenFile}}

@@ -1,9 +1,9 @@
-use Rattle.std.proofs.{Common.{◌∙◌, List, ap, subst}}
+use Rattle.std.proofs.{Common.{List, ap, subst}}
 use Rattle.rio_types.specs.declared.class.ClassDef.{ClassDef}
 use Rattle.rio_key.specs.declared.head.KeyHead.{KeyHead}
 use Rattle.rio_judge.specs.{Judging.{IsJudgementOfStates, IsSoundJudgement}, declared.work.Judged.{Judged}}
 use Rattle.rio_session.specs.{Doable.{IsToDo}, Sound.{IsSoundState}, Session.{SessionState}}
-use Rattle.rio_session.proofs.{CommandDoes.{refused_does}, PutCalls.{can_do, done_is_judged, reads_nothing}}
+use Rattle.rio_session.proofs.{CommandDoes.{refused_does}, PutCalls.{can_do, reads_nothing}}
 use Rattle.rio_session.proofs.session.Session.judge_and_do.Goals as goal
 
 pub returns-in-Refused-clause-does : goal.returns-in-Refused-clause-does

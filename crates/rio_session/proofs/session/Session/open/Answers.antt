@@ -1,4 +1,4 @@
-use Rattle.std.proofs.Common.{◌≡◌, inr, ◌∙◌}
+use Rattle.std.proofs.Common.{inr, ◌∙◌}
 use Rattle.rio_session.proofs.OpenAnswers.{reads_quiet, reads_unclosed, spares_then}
 use Rattle.rio_session.proofs.OpenMoments.{then_time}
 use Rattle.rio_session.proofs.session.Session.open.Goals as goal

@@ -22,6 +22,7 @@ invariant_of-self-in-Ok g c =
     let n = c.args.made in
     record {
       classes = c.self.invariant.classes;
+      listed = c.self.invariant.listed;
       kept = λ fresh. kept_put c.args.self.now n c.self.inside.chain.segments _ c.self.inside.table.heads _ c.self.inside.info c.self.inside.name c.requires.can (c.self.invariant.kept fresh)
           (ap (λ (s : SessionState). s.segments) (sym c.self.view_is)) (ap (λ (s : SessionState). s.heads) (sym c.self.view_is)) (ap (λ (s : SessionState). s.name) (sym c.self.view_is))
           (ap (λ (s : ChainState). s.segments) c.in-Ok.ensures.chain ∙ ap (λ (s : ChainState). with_segment n.head.seek (length n.bytes.bytes) s.segments) c.in_ok-reserve.ensures.ok)
@@ -40,6 +41,7 @@ invariant_of-self-in_err-reserve_one g c =
     let table = c.in_err-reserve_one.ensures.err.0 in
     record {
       classes = c.self.invariant.classes;
+      listed = c.self.invariant.listed;
       kept = λ fresh. subst (λ (x : List Segment × List KeyHead). IsClosable x.0 x.1 c.self.inside.info c.self.inside.name)
           (λ i. (ap (λ (s : ChainState). s.segments) (sym chain) i, ap (λ (t : TableRoom). t.heads) (sym table) i)) (c.self.invariant.kept fresh);
       fresh = λ fresh. ap (λ (s : ChainState). s.spent) chain ∙ c.self.invariant.fresh fresh;

@@ -1,5 +1,4 @@
-use Rattle.std.proofs.{Common.{◌≡◌, ◌∙◌, ◌+◌, ◌-◌, ◌≤◌, ◌<◌, ℕ, List, length, Some, refl, sym, ap, subst, arith}, lemmas.Result.{err_from_is_err_and}}
-use Rattle.rio_key.specs.declared.head.KeyHead.{KeyHead}
+use Rattle.std.proofs.{Common.{◌≡◌, ◌∙◌, ℕ, List, Some, refl, sym, ap, subst, arith}, lemmas.Result.{err_from_is_err_and}}
 use Rattle.rio_dir.specs.Table.{TableRoom, head_of, heads_size, without_head}
 use Rattle.rio_chain.specs.{Adjoining.{AreSegments}, Chains.{ChainState, HasChain, HasRecordSegment}, Changes.{without_record}, Releasing.{without_segment}}
 use Rattle.rio_chain.specs.declared.segment.Segment.{Segment}
@@ -49,6 +48,7 @@ invariant_of-self-in-Ok g c =
     ap (λ (t : TableRoom). t.heads) c.remove.ensures.rest ∙ ap (λ (n : List ℕ). without_head n h.cycle c.self.inside.table.heads) c.as_slice.ensures in
     record {
       classes = c.self.invariant.classes;
+      listed = c.self.invariant.listed;
       kept = λ fresh. kept_release h c.self.inside.chain.segments c.release.new.self.segments c.self.inside.table.heads c.remove.new.self.heads c.self.inside.info c.self.inside.name shape
           (c.self.invariant.kept fresh) found segments heads;
       fresh = λ fresh. ap (λ (s : ChainState). s.spent) c.in-Ok.ensures.chain ∙ ap (λ (s : ChainState). s.spent) c.in_ok-reserve.ensures.ok ∙ c.self.invariant.fresh fresh;

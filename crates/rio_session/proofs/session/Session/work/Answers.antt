@@ -3,6 +3,9 @@ use Rattle.rio_session.specs.Doable.{IsToDo}
 use Rattle.rio_session.proofs.CommandDoes.{get_is_done, ls_is_done}
 use Rattle.rio_session.proofs.session.Session.work.Goals as goal
 
+pub returns-in-Class-clause-does : goal.returns-in-Class-clause-does
+returns-in-Class-clause-does g c command todo = c.class.ensures.does command (subst (IsToDo c.args.self.now command) c.in-Class.is todo)
+
 pub returns-in-Put-clause-does : goal.returns-in-Put-clause-does
 returns-in-Put-clause-does g c command todo = c.put.ensures.does command (subst (IsToDo c.args.self.now command) c.in-Put.is todo)
 
