@@ -9,3 +9,4 @@ pub mod SmallLaws
 pub mod Walk
 pub mod Walked
 mod Examples
+pub mod TestLaws

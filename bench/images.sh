@@ -1,0 +1,250 @@
+#!/usr/bin/env bash
+# A random walk of commands over one file in memory, cut off at random moments: of the writes in flight then nothing is left, all,
+# the first bytes, or other bytes in their range, by chance.
+# Usage: [COMMANDS=100000] [RUNS=100] [SEED=1] [SECONDS_ALL=3000] bench/images.sh (proves nothing: it builds a small program over a
+# copy of the crates, with checks). RUNS scripts of put, delete, get, ls and class, many of them refused, go over the file one after
+# the other; each begins on the crash image that the one before left, and every third is cut off at its end. The replies that were
+# printed have to be those of a model in Python, and `recover` has to find what the model has after as many commands, or one more.
+set -eu
+top=$(cd "$(dirname "$0")/.." && pwd)
+folder=$(mktemp -d)
+trap 'rm -rf "$folder"' EXIT
+
+mkdir "$folder/crates"
+(cd "$top" && tar cf - --exclude=out crates crates.txt) | (cd "$folder" && tar xf -)
+[ ! -e "$top/HANDLES" ] || cp "$top/HANDLES" "$folder/"
+echo 'images: rio_num rio_host rio_key rio_types rio_cmd rio_recover rio_registry rio_report rio_dir rio_session anyhow' >> "$folder/crates.txt"
+crate=$folder/crates/images
+mkdir -p "$crate/src"
+cat > "$crate/src/main.rt" <<'RT'
+//! Runs scripts on a file in memory, each cut off, and prints what was printed, what is recovered, and the classes.
+#![tactic(auto)]
+
+use rio_cmd::read_script;
+use rio_host::{Left, MemHost, Remains, Source, StdSource};
+use rio_num::{Bytes, NoMemory, Numbers};
+use rio_recover::{Recovered, is_unborn, recover};
+use rio_report::key_listing;
+use rio_session::Session;
+use std::alloc::Global;
+
+fn input_of<S: Source>(alloc: Global, source: &mut S) -> Result<Bytes, NoMemory> {
+    let mut piece = vec![in alloc; 0u8; 65536]?;
+    let mut taken = Bytes::new(alloc);
+    for _ in 0..4096 {
+        match source.read(&mut piece) {
+            Ok(0) | Err(_) => return Ok(taken),
+            Ok(n) => taken.put(&piece[..n])?,
+        }
+    }
+    Ok(taken)
+}
+
+// Does the script, and closes the file if it is to be closed.
+fn play(alloc: Global, host: &mut MemHost, script: &[u8], closes: bool) -> Result<(), NoMemory> {
+    let commands = read_script(alloc, script)?;
+    let Ok(mut session) = Session::open(alloc, host, b"a.root", 1) else {
+        return Ok(());
+    };
+    for command in commands.as_slice() {
+        if session.apply(host, command).is_err() {
+            return Ok(());
+        }
+    }
+    if closes {
+        let _ = session.close(host);
+    }
+    Ok(())
+}
+
+fn mixed(seed: u64, k: u64) -> u64 {
+    let mut x = seed.wrapping_mul(6364136223846793005).wrapping_add(k.wrapping_mul(1442695040888963407));
+    x ^= x >> 29;
+    x = x.wrapping_mul(0xBF58476D1CE4E5B9);
+    x ^ (x >> 32)
+}
+
+fn remains_of(x: u64) -> Remains {
+    match x % 4 {
+        0 => Remains::Nothing,
+        1 => Remains::All,
+        2 => Remains::Front(x / 4 % 97),
+        _ => Remains::Filled((x / 4 % 256) as u8),
+    }
+}
+
+// The crash image at a moment by chance, and what was printed.
+fn cut(host: &MemHost, seed: u64) -> Result<Left, NoMemory> {
+    let end = host.moment();
+    let moment = if seed % 3 == 0 { end } else { mixed(seed, 0) % (end + 1) };
+    let remains = [remains_of(mixed(seed, 1)), remains_of(mixed(seed, 2)), remains_of(mixed(seed, 3))];
+    host.left(moment, &remains, mixed(seed, 4) % 40)
+}
+
+fn put_found(text: &mut Bytes, alloc: Global, found: &Recovered) -> Result<(), NoMemory> {
+    text.put(key_listing(alloc, found.table.as_slice())?.as_slice())?;
+    text.put(b"#CLASSES\n")?;
+    for class in found.registry.classes().as_slice() {
+        text.put(class.name.as_slice())?;
+        text.put(b" ")?;
+        text.put_decimal(class.version as u64)?;
+        text.put(b"\n")?;
+    }
+    Ok(())
+}
+
+// What is recovered of the image.
+fn put_recovered(text: &mut Bytes, alloc: Global, host: &mut MemHost) -> Result<(), NoMemory> {
+    match is_unborn(host) {
+        Ok(false) => match recover(alloc, host) {
+            Ok(found) => put_found(text, alloc, &found),
+            Err(_) => text.put(b"#REFUSED\n"),
+        },
+        _ => text.put(b"#CLASSES\n"),
+    }
+}
+
+// One run: the bytes of the image that it leaves.
+fn run(alloc: Global, text: &mut Bytes, image: Bytes, seed: u64, script: &[u8]) -> Result<Bytes, NoMemory> {
+    let mut host = MemHost::new(alloc, image, Numbers::new(alloc));
+    play(alloc, &mut host, script, seed % 3 == 0)?;
+    let Left { image, said } = cut(&host, seed)?;
+    text.put(said.as_slice())?;
+    text.put(b"\n#LEFT\n")?;
+    let mut host = MemHost::new(alloc, image, Numbers::new(alloc));
+    put_recovered(text, alloc, &mut host)?;
+    text.put(b"#END\n")?;
+    Bytes::from_slice(alloc, host.image())
+}
+
+// Where the next run begins: behind a line that begins with a `%`.
+fn next_run(script: &[u8]) -> usize {
+    for k in 0..script.len() {
+        if script[k] == b'%' {
+            return k;
+        }
+    }
+    script.len()
+}
+
+fn main(rt: HostRuntime) -> anyhow::Result<()> {
+    let alloc = rt.alloc();
+    let mut source = StdSource::new(&rt);
+    let Ok(input) = input_of(alloc, &mut source) else {
+        return Ok(());
+    };
+    let mut rest = input.as_slice();
+    let mut image = Bytes::new(alloc);
+    for seed in 1..1_000_000u64 {
+        if rest.is_empty() {
+            return Ok(());
+        }
+        let n = next_run(rest);
+        let mut text = Bytes::new(alloc);
+        match run(alloc, &mut text, image, seed, &rest[..n]) {
+            Ok(left) => image = left,
+            Err(_) => return Ok(()),
+        }
+        print!(rt; "{}", String::from_utf8_lossy(alloc, text.as_slice())?)?;
+        rest = if n < rest.len() { &rest[n + 2..] } else { &[] };
+    }
+    Ok(())
+}
+RT
+
+python3 - "$crate" "${COMMANDS:-100000}" "${RUNS:-100}" "${SEED:-1}" "${SECONDS_ALL:-3000}" <<'P'
+import copy, random, subprocess, sys
+crate, commands, runs, seed, seconds = sys.argv[1], *map(int, sys.argv[2:])
+random.seed(seed)
+
+class Model:
+    def __init__(self):
+        self.objects, self.classes = {}, []
+
+    def newest(self, name):
+        return max((v for n, v in self.classes if n == name), default=0)
+
+    def listing(self):
+        return [f"{n};{c} {self.objects[n][c][0]}" for n in sorted(self.objects) for c in sorted(self.objects[n], reverse=True)]
+
+    def do(self, line):
+        """Does a command and returns its reply."""
+        verb, *rest = line.split(" ", 2)
+        if verb == "put":
+            name, value = rest
+            kind = value.split("{")[0]
+            if kind == "TObjString":
+                text = value.split('"')[1]
+                shown = f'TObjString#1{{TObject#1{{fUniqueID: 0, fBits: 0}}, fString: "{text}"}}'
+            elif self.newest(kind):
+                shown = f"{kind}#{self.newest(kind)}{{a: {value.split('a: ')[1].split('}')[0]}}}"
+            else:
+                return "no 8 NoSuchClass"
+            cycles = self.objects.setdefault(name, {})
+            cycle = max(cycles, default=0) + 1
+            cycles[cycle] = (kind, shown)
+            return f"ok put {name};{cycle}"
+        if verb == "class":
+            name, version = rest[0], int(rest[1].split(" ")[0])
+            if (name, version) in self.classes:
+                return "no 9 SameVersion"
+            self.classes.append((name, version))
+            return f"ok class {name} {version}"
+        name, _, cycle = rest[0].partition(";") if rest else ("", "", "")
+        if verb == "ls":
+            lines = self.listing()
+            return "\n".join([f"ok ls {len(lines)}", *lines])
+        if name not in self.objects:
+            return "no 3 NoSuchName"
+        cycle = int(cycle or max(self.objects[name]))
+        if cycle not in self.objects[name]:
+            return "no 4 NoSuchCycle"
+        if verb == "get":
+            return f"ok get {name};{cycle} {self.objects[name][cycle][1]}"
+        del self.objects[name][cycle]
+        if not self.objects[name]:
+            del self.objects[name]
+        return f"ok delete {name};{cycle}"
+
+def command():
+    dice, name = random.random(), f"n{random.randrange(30)}"
+    if dice < 0.40:
+        return f'put {name} TObjString{{TObject{{fUniqueID: 0, fBits: 0}}, fString: "{"x" * random.randrange(120)}"}}'
+    if dice < 0.50:
+        return f"put {name} Q{random.randrange(9)}{{a: {random.randrange(-9, 9)}}}"
+    if dice < 0.52:
+        return f"class Q{random.randrange(9)} {random.randrange(1, 9)} {{ a: i32 }}"
+    if dice < 0.93:
+        return f"delete {name};{random.randrange(1, 6)}"
+    return f"get {name}" if dice < 0.995 else "ls"
+
+scripts = [[command() for _ in range(commands // runs)] for _ in range(runs)]
+with open(f"{crate}/stdin", "w") as file:
+    file.write("%\n".join("".join(line + "\n" for line in script) for script in scripts))
+with open(f"{crate}/stdin") as file:
+    out = subprocess.run(["rt", "try", "--steps", "1", "--seconds", str(seconds)], cwd=crate, stdin=file, capture_output=True, text=True)
+parts = out.stdout.split("#END\n")
+assert len(parts) > runs, (len(parts) - 1, out.stdout[-600:], out.stderr[-600:])
+model, done = Model(), 0
+for k, script in enumerate(scripts):
+    said, left = parts[k].split("\n#LEFT\n", 1)
+    # what the program builds with it may print before the first
+    said = said[max(said.find("ok "), 0) if said.find("ok ") >= 0 and (said.find("no ") < 0 or said.find("ok ") < said.find("no ")) else max(said.find("no "), 0):] if k == 0 else said
+    listing, classes = left.split("#CLASSES\n")
+    there = (listing.splitlines(), [(n, int(v)) for n, v in (line.split() for line in classes.splitlines())])
+    whole, rest = 0, said
+    ahead = copy.deepcopy(model)
+    states, replies = [copy.deepcopy(ahead)], []
+    for line in script:
+        replies.append(ahead.do(line) + "\n")
+        if rest.startswith(replies[-1]):
+            rest, whole = rest[len(replies[-1]):], whole + 1
+        states.append(copy.deepcopy(ahead))
+        if whole < len(replies):
+            break
+    assert (replies[whole] if whole < len(replies) else "").startswith(rest), (k, whole, rest[:100])
+    found = [n for n in (whole, whole + 1) if n < len(states) and there == (states[n].listing(), states[n].classes)]
+    assert found, (k, whole, script[whole : whole + 1])
+    model, done = states[found[0]], done + found[0]
+print(f"images: {runs} runs, each cut off, {done} commands done, {len(model.listing())} objects, {len(model.classes)} classes: as the model says")
+P

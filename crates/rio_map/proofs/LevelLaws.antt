@@ -1,0 +1,29 @@
+-- Zero objects of at most so many levels.
+use Rattle.std.proofs.Common.{◌≡◌, ◌<◌, ℕ, zero, suc, ◌-◌, ℤ, List, Option, Some, None, refl, sym, ap, ◌∙◌, arith}
+use Rattle.std.specs.Prelude.{option_and_then}
+use Rattle.rio_types.specs.declared.class.ClassDef.{ClassDef}
+use Rattle.rio_value.specs.declared.value.Value.{Value}
+use Rattle.rio_model.specs.Resolving.{newest_known}
+use Rattle.rio_step.specs.Mapping.{object_zero, zero_within}
+
+module _ (classes : List ClassDef) (class : List ℕ) where
+  pub no_levels : (n : ℕ) → n ≡ 0 → zero_within n classes class ≡ None
+  unfolding zero_within
+  no_levels zero e = refl
+  no_levels (suc k) e = absurd (omega (arith, e))
+
+  abbrev at_version : ℕ → Option ℤ → Option Value
+  at_version k o = option_and_then (object_zero classes class (zero_within k classes)) o
+
+  pub more_levels : (n : ℕ) (version : ℤ) → 0 < n → newest_known classes class ≡ Some version → zero_within n classes class ≡ object_zero classes class (zero_within (n - 1) classes) version
+  unfolding zero_within
+  more_levels zero version h known = absurd (omega (arith, h))
+  more_levels (suc k) version h known =
+      let less : k ≡ suc k - 1 = omega arith in
+      ap (λ (o : Option ℤ). at_version k o) known
+      ∙ ap (λ (j : ℕ). object_zero classes class (zero_within j classes) version) less
+
+  pub not_known : (n : ℕ) → newest_known classes class ≡ None → zero_within n classes class ≡ None
+  unfolding zero_within
+  not_known zero known = refl
+  not_known (suc k) known = ap (λ (o : Option ℤ). at_version k o) known

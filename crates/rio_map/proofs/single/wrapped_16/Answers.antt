@@ -1,0 +1,12 @@
+use Rattle.std.proofs.{Common.{◌≡◌, ◌∙◌, rules, SFits, w16}, lemmas.Int.{to_z-of_z}}
+use Rattle.std.specs.Int.{cast_signed, w128}
+use Rattle.rio_map.proofs.WrapLaws.{wraps_16}
+use Rattle.rio_map.proofs.single.wrapped_16.Goals as goal
+
+pub returns : goal.returns
+returns c =
+    let fits : SFits w16 c.cast_signed.result = search rules in
+    let is : c.cast_signed.result ≡ cast_signed w16 c.low_16.result = search rules in
+    let range : SFits w128 c.args.number = search rules in
+    let low = simp to_z-of_z at c.low_16.ensures in
+    to_z-of_z w16 c.cast_signed.result fits ∙ is ∙ wraps_16 c.low_16.result c.args.number low

@@ -1,0 +1,17 @@
+//! Single values, lists and texts in another kind, and the zeros of kinds and of classes: what an object of a class in
+//! another version is made of.
+//!
+//! `flat_as` gives a value of one kind in another one, where no object is in it; `stays` tells of objects and pointers
+//! whether both kinds are of one class. `kind_zero` and `zero_of_class` give the value of a member or a base that isn't there.
+//!
+//! The definitions stand in `Mapping` of `rio_step`; `specs/` has how the code cuts them up.
+#![tactic(auto)]
+
+mod convert;
+mod single;
+#[cfg(test)]
+mod tests;
+mod zero;
+
+pub use convert::{flat_as, stays};
+pub use zero::{built_in_version, kind_zero, object_with, zero_of_class};

@@ -1,0 +1,199 @@
+//! Zeros of kinds and of classes.
+ghost use Rattle.std.specs.Prelude.{◌≡◌, ◌+◌, IfOk, length, replicate};
+ghost use Rattle.rio_format.specs.Slots.{fields_of, kinded};
+ghost use Rattle.rio_model.specs.Resolving.{built_in_version, newest_known};
+ghost use Rattle.rio_step.specs.Mapping.{kind_zero, object_zero, parts_zero, single_zero, slot_zero, zero_of_class, zero_within};
+ghost use Rattle.rio_value.specs.declared.value.Value.{Object};
+
+use rio_format::{Fields, Slot, SlotKind, fields_of, headed_version, is_headed, part_with};
+use rio_num::{Name, NoMemory};
+use rio_types::{Classes, Kind, Prim};
+use rio_value::{Parts, Value, Values};
+use std::alloc::Global;
+
+fn single_zero(prim: Prim) -> Value
+    ensures { result ≡ single_zero prim }
+{
+    match prim {
+        Prim::Bool => Value::Bool(false),
+        Prim::F32 => Value::Bits32(0),
+        Prim::F64 => Value::Bits64(0),
+        _ => Value::Int(0),
+    }
+}
+
+fn zeros(alloc: Global, prim: Prim, count: u32) -> Result<Values, NoMemory>
+    ensures { IfOk result (λ zeros. zeros ≡ replicate count (single_zero prim)) }
+{
+    let mut zeros = Values::new(alloc);
+    for _ in 0..count {
+        zeros.push(single_zero(prim))?;
+    }
+    Ok(zeros)
+}
+
+/// The one version of a built-in class.
+pub fn built_in_version(class: &[u8]) -> Option<i32>
+    ensures { result ≡ built_in_version class.now }
+{
+    match headed_version(class) {
+        Some(version) => Some(version),
+        None if is_headed(class) => None,
+        None => Some(1),
+    }
+}
+
+// The newest version in which a class is declared, or else its built-in one.
+fn newest_known(classes: &Classes, class: &[u8]) -> Option<i32>
+    ensures { result ≡ newest_known classes.now class.now }
+{
+    match classes.newest(class) {
+        Some(newest) => Some(newest.version),
+        None => built_in_version(class),
+    }
+}
+
+fn slot_of<'a>(kind: &'a Kind) -> Slot<'a>
+    ensures { result ≡ kinded kind.now }
+{
+    let kind = match kind {
+        Kind::Plain { of } => SlotKind::Plain(*of),
+        Kind::Counter => SlotKind::Counter,
+        Kind::Fixed { of, count } => SlotKind::Fixed(*of, *count),
+        Kind::Counted { of, counter } => SlotKind::Counted(*of, counter.as_slice()),
+        Kind::Text => SlotKind::Text,
+        Kind::Inline { class } => SlotKind::Inline(class.as_slice()),
+        Kind::Pointer { class } => SlotKind::Pointer(class.as_slice()),
+        Kind::Other { code } => SlotKind::Other(*code),
+    };
+    Slot(kind)
+}
+
+// The zero of what may stand in a part, with at most so many objects within one another.
+#[cycle(zero)]
+fn slot_zero(
+    alloc: Global,
+    classes: &Classes,
+    slot: &Slot,
+    levels: u128,
+) -> Result<Option<Value>, NoMemory>
+    ensures { IfOk result (λ o. o ≡ slot_zero (zero_within levels classes.now) slot.now) }
+{
+    match slot.0 {
+        SlotKind::Plain(of) => Ok(Some(single_zero(of))),
+        SlotKind::Counter | SlotKind::Flags => Ok(Some(Value::Int(0))),
+        SlotKind::Fixed(of, count) => Ok(Some(Value::List(zeros(alloc, of, count)?))),
+        SlotKind::Text => Ok(Some(Value::Text(Name::new(alloc)))),
+        SlotKind::Inline(class) | SlotKind::Based(class, _) => {
+            zero_within(alloc, classes, class, levels)
+        }
+        SlotKind::Pointer(_) | SlotKind::AnyPointer => Ok(Some(Value::Null)),
+        SlotKind::Counted(..) | SlotKind::Numbers(_) | SlotKind::Pointers | SlotKind::Links => {
+            Ok(Some(Value::List(Values::new(alloc))))
+        }
+        SlotKind::Other(_) | SlotKind::Link => Ok(None),
+    }
+}
+
+#[cycle(zero)]
+fn parts_zero(
+    alloc: Global,
+    classes: &Classes,
+    fields: &Fields,
+    levels: u128,
+) -> Result<Option<Parts>, NoMemory>
+    ensures { IfOk result (λ o. o ≡ parts_zero (zero_within levels classes.now) fields.now) }
+{
+    let mut parts = Parts::new(alloc);
+    for k in 0..usize::MAX {
+        let Some(field) = fields.get(k) else {
+            return Ok(Some(parts));
+        };
+        let Some(value) = slot_zero(alloc, classes, &field.slot, levels)? else {
+            return Ok(None);
+        };
+        parts.push(part_with(alloc, field.name, value)?)?;
+    }
+    Err(NoMemory)
+}
+
+/// An object of these parts.
+pub fn object_with(
+    alloc: Global,
+    class: &[u8],
+    version: i32,
+    parts: Parts,
+) -> Result<Value, NoMemory>
+    ensures { IfOk result (λ v. v ≡ Object class.now version parts) }
+{
+    let class = Name::from_slice(alloc, class)?;
+    Ok(Value::Object {
+        class,
+        version,
+        parts,
+    })
+}
+
+#[cycle(zero)]
+fn object_zero(
+    alloc: Global,
+    classes: &Classes,
+    class: &[u8],
+    version: i32,
+    levels: u128,
+) -> Result<Option<Value>, NoMemory>
+    ensures { let zero = object_zero classes.now class.now (zero_within levels classes.now) version in
+        IfOk result (λ o. o ≡ zero) }
+{
+    let Some(fields) = fields_of(classes, class, version) else {
+        return Ok(None);
+    };
+    match parts_zero(alloc, classes, &fields, levels)? {
+        Some(parts) => Ok(Some(object_with(alloc, class, version, parts)?)),
+        None => Ok(None),
+    }
+}
+
+// The zero object of the newest version, of at most so many objects within one another.
+#[cycle(zero)]
+fn zero_within(
+    alloc: Global,
+    classes: &Classes,
+    class: &[u8],
+    levels: u128,
+) -> Result<Option<Value>, NoMemory>
+    ensures { IfOk result (λ o. o ≡ zero_within levels classes.now class.now) }
+{
+    if levels == 0 {
+        return Ok(None);
+    }
+    match newest_known(classes, class) {
+        Some(version) => object_zero(alloc, classes, class, version, levels - 1),
+        None => Ok(None),
+    }
+}
+
+// More levels than there are have a class within itself.
+fn most_levels(classes: &Classes) -> u128
+    ensures { result ≡ length classes.now + 2 }
+{
+    classes.len() as u128 + 2
+}
+
+/// The zero object of a class, if it has one.
+pub fn zero_of_class(
+    alloc: Global,
+    classes: &Classes,
+    class: &[u8],
+) -> Result<Option<Value>, NoMemory>
+    ensures { IfOk result (λ o. o ≡ zero_of_class classes.now class.now) }
+{
+    zero_within(alloc, classes, class, most_levels(classes))
+}
+
+/// The zero of a kind, if it has one.
+pub fn kind_zero(alloc: Global, classes: &Classes, kind: &Kind) -> Result<Option<Value>, NoMemory>
+    ensures { IfOk result (λ o. o ≡ kind_zero (zero_of_class classes.now) kind.now) }
+{
+    slot_zero(alloc, classes, &slot_of(kind), most_levels(classes))
+}
