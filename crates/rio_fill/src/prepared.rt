@@ -14,7 +14,7 @@ ghost use Rattle.rio_fill.specs.Parts.{PutsPart, whole_row};
 use crate::branch::OpenBranch;
 use rio_basket::Entries;
 use rio_entry::{EntryFault, Numbers, leaf_counts, note_leaves, write_entry};
-use rio_leaf::{BranchDef, Leaf, Shape};
+use rio_leaf::{BranchDef, Leaf, Shape, leaves_of};
 use rio_num::{Bytes, NoMemory};
 use rio_types::Classes;
 use rio_value::{Value, Values, copy};
@@ -22,15 +22,6 @@ use std::alloc::Global;
 
 /// The bytes of a row, one entry for each branch.
 pub type Prepared = Entries;
-
-fn leaves_of(shape: &Shape) -> &[Leaf]
-    ensures { result.now ≡ leaves_of shape.now }
-{
-    match shape {
-        Shape::Leaves(leaves) => leaves.as_slice(),
-        Shape::Class(_) => &[],
-    }
-}
 
 // How many values of a row belong to the branch.
 fn value_count(shape: &Shape) -> usize

@@ -31,5 +31,5 @@ pub use laws::{
 pub use lists::ClassLists;
 pub use part_list::{PartList, array_object, list_object, part_with, titled_object};
 pub use rio_buffer::{Header, ObjFault, PointerWord};
-pub use slot::{Field, Fields, FieldsKind, Slot, SlotKind, body_fields, fields_of};
+pub use slot::{Field, Fields, FieldsKind, Slot, SlotKind, body_fields, fields_of, slot_of};
 pub use width::width_of;

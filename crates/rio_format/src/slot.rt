@@ -138,7 +138,8 @@ impl<'a> Fields<'a> {
     }
 }
 
-fn slot_of<'a>(kind: &'a Kind) -> Slot<'a>
+/// What may stand in a member of the kind.
+pub fn slot_of<'a>(kind: &'a Kind) -> Slot<'a>
     ensures { result ≡ kinded kind.now }
 {
     let kind = match kind {

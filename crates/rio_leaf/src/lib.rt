@@ -31,4 +31,4 @@ pub use leaf::{Dim, Leaf, Leaves};
 pub use print::{print_leaves, put_dim};
 pub use read::read_leaves;
 pub use rules::is_counted_dim;
-pub use stated::are_stated;
+pub use stated::{are_stated, leaves_of};

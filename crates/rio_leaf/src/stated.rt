@@ -7,7 +7,8 @@ use crate::rules::{has_counting_leaf, has_leaf, is_leaf_count, is_letter_of};
 use crate::{BranchDef, BranchDefs, Dim, Leaf, Shape};
 use rio_num::is_name;
 
-fn leaves_of(shape: &Shape) -> &[Leaf]
+/// The leaves of a branch; a class branch has none.
+pub fn leaves_of(shape: &Shape) -> &[Leaf]
     ensures { result.now ≡ leaves_of shape.now }
 {
     match shape {

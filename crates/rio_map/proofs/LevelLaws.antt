@@ -4,7 +4,7 @@ use Rattle.std.specs.Prelude.{option_and_then}
 use Rattle.rio_types.specs.declared.class.ClassDef.{ClassDef}
 use Rattle.rio_value.specs.declared.value.Value.{Value}
 use Rattle.rio_model.specs.Resolving.{newest_known}
-use Rattle.rio_step.specs.Mapping.{object_zero, zero_within}
+use Rattle.rio_model.specs.Mapping.{object_zero, zero_within}
 
 module _ (classes : List ClassDef) (class : List ℕ) where
   pub no_levels : (n : ℕ) → n ≡ 0 → zero_within n classes class ≡ None

@@ -6,7 +6,7 @@ use Rattle.rio_value.specs.declared.value.Part.{Part}
 use Rattle.rio_value.specs.declared.value.Value.{Value}
 use Rattle.rio_format.specs.{Bodies.{part}, Slots.{Field}}
 use Rattle.rio_format.proofs.FieldLaws.{found_first, none_left}
-use Rattle.rio_step.specs.Mapping.{parts_zero, slot_zero}
+use Rattle.rio_model.specs.Mapping.{parts_zero, slot_zero}
 
 front_joined : {A : Type 0} (front : List A) (x : A) (o : Option (List A)) → option_map (λ xs. front ++ xs) (option_map (λ xs. x ∷ xs) o) ≡ option_map (λ xs. (front ++ x ∷ []) ++ xs) o
 front_joined front x None = refl

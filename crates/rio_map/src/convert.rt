@@ -1,7 +1,7 @@
 //! Values of one kind in another: without the objects in them, and whether the kinds of objects and pointers agree.
 ghost use Rattle.std.specs.Prelude.{◌≡◌, IfOk};
 ghost use Rattle.rio_map.specs.Converting.{counted_in, fixed_in, flat_as, inline_stays, pointer_stays, single_in, stays, text_in};
-ghost use Rattle.rio_step.specs.Mapping.{is_list_of, is_object_value, is_pointer_value};
+ghost use Rattle.rio_model.specs.Mapping.{is_list_of, is_object_value, is_pointer_value};
 ghost use Rattle.rio_types.specs.declared.kind.Kind.TheVariants.{Text as Texts};
 ghost use Rattle.rio_value.specs.declared.value.Value.{out-Value};
 

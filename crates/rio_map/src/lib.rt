@@ -4,7 +4,7 @@
 //! `flat_as` gives a value of one kind in another one, where no object is in it; `stays` tells of objects and pointers
 //! whether both kinds are of one class. `kind_zero` and `zero_of_class` give the value of a member or a base that isn't there.
 //!
-//! The definitions stand in `Mapping` of `rio_step`; `specs/` has how the code cuts them up.
+//! The definitions stand in `Mapping` of `rio_model`; `specs/` has how the code cuts them up.
 #![tactic(auto)]
 
 mod convert;
@@ -14,4 +14,4 @@ mod tests;
 mod zero;
 
 pub use convert::{flat_as, stays};
-pub use zero::{built_in_version, kind_zero, object_with, zero_of_class};
+pub use zero::{kind_zero, zero_of_class};

@@ -1,11 +1,11 @@
 //! Zeros of kinds and of classes.
 ghost use Rattle.std.specs.Prelude.{◌≡◌, ◌+◌, IfOk, length, replicate};
-ghost use Rattle.rio_format.specs.Slots.{fields_of, kinded};
-ghost use Rattle.rio_model.specs.Resolving.{built_in_version, newest_known};
-ghost use Rattle.rio_step.specs.Mapping.{kind_zero, object_zero, parts_zero, single_zero, slot_zero, zero_of_class, zero_within};
+ghost use Rattle.rio_format.specs.Slots.{fields_of};
+ghost use Rattle.rio_model.specs.Mapping.{kind_zero, object_zero, parts_zero, single_zero, slot_zero, zero_of_class, zero_within};
 ghost use Rattle.rio_value.specs.declared.value.Value.{Object};
 
-use rio_format::{Fields, Slot, SlotKind, fields_of, headed_version, is_headed, part_with};
+use rio_format::{Fields, Slot, SlotKind, fields_of, part_with, slot_of};
+use rio_model::newest_known;
 use rio_num::{Name, NoMemory};
 use rio_types::{Classes, Kind, Prim};
 use rio_value::{Parts, Value, Values};
@@ -30,43 +30,6 @@ fn zeros(alloc: Global, prim: Prim, count: u32) -> Result<Values, NoMemory>
         zeros.push(single_zero(prim))?;
     }
     Ok(zeros)
-}
-
-/// The one version of a built-in class.
-pub fn built_in_version(class: &[u8]) -> Option<i32>
-    ensures { result ≡ built_in_version class.now }
-{
-    match headed_version(class) {
-        Some(version) => Some(version),
-        None if is_headed(class) => None,
-        None => Some(1),
-    }
-}
-
-// The newest version in which a class is declared, or else its built-in one.
-fn newest_known(classes: &Classes, class: &[u8]) -> Option<i32>
-    ensures { result ≡ newest_known classes.now class.now }
-{
-    match classes.newest(class) {
-        Some(newest) => Some(newest.version),
-        None => built_in_version(class),
-    }
-}
-
-fn slot_of<'a>(kind: &'a Kind) -> Slot<'a>
-    ensures { result ≡ kinded kind.now }
-{
-    let kind = match kind {
-        Kind::Plain { of } => SlotKind::Plain(*of),
-        Kind::Counter => SlotKind::Counter,
-        Kind::Fixed { of, count } => SlotKind::Fixed(*of, *count),
-        Kind::Counted { of, counter } => SlotKind::Counted(*of, counter.as_slice()),
-        Kind::Text => SlotKind::Text,
-        Kind::Inline { class } => SlotKind::Inline(class.as_slice()),
-        Kind::Pointer { class } => SlotKind::Pointer(class.as_slice()),
-        Kind::Other { code } => SlotKind::Other(*code),
-    };
-    Slot(kind)
 }
 
 // The zero of what may stand in a part, with at most so many objects within one another.
@@ -117,13 +80,8 @@ fn parts_zero(
     Err(NoMemory)
 }
 
-/// An object of these parts.
-pub fn object_with(
-    alloc: Global,
-    class: &[u8],
-    version: i32,
-    parts: Parts,
-) -> Result<Value, NoMemory>
+// An object of these parts.
+fn object_with(alloc: Global, class: &[u8], version: i32, parts: Parts) -> Result<Value, NoMemory>
     ensures { IfOk result (λ v. v ≡ Object class.now version parts) }
 {
     let class = Name::from_slice(alloc, class)?;
@@ -142,8 +100,8 @@ fn object_zero(
     version: i32,
     levels: u128,
 ) -> Result<Option<Value>, NoMemory>
-    ensures { let zero = object_zero classes.now class.now (zero_within levels classes.now) version in
-        IfOk result (λ o. o ≡ zero) }
+    ensures { let within = zero_within levels classes.now in
+        IfOk result (λ o. o ≡ object_zero classes.now class.now within version) }
 {
     let Some(fields) = fields_of(classes, class, version) else {
         return Ok(None);

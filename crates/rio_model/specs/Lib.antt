@@ -5,6 +5,7 @@ pub mod Declaring
 pub mod Described
 pub mod Lexemes
 pub mod Lists
+pub mod Mapping
 pub mod OneLine
 pub mod Readable
 pub mod Resolving

@@ -5,9 +5,10 @@ use Rattle.std.specs.{List.{slice_get}, FinMap.{get}, Prelude.{option_and_then}}
 use Rattle.rio_machine.specs.{RefusalText.{refusal_number}, State.{State}}
 use Rattle.rio_machine.specs.declared.command.Command.{Command, TheVariants.{Bad, Class, Put, Delete, Tree as MakeTree, Fill, Save, Get, Scan, Ls}}
 use Rattle.rio_machine.specs.declared.refusal.Refusal.{Refusal}
-use Rattle.rio_step.specs.{Laws.{LowestIsTold}, Mapping.{Mapped}}
+use Rattle.rio_step.specs.{Laws.{LowestIsTold}}
+use Rattle.rio_model.specs.Mapping.{Mapped}
 use Rattle.rio_step.specs.Refusing.{FullMark, bad_line, change_in, first_of, kind_change, marked_full, meant_object, refusal_of, refusals, refused_if, rows_of_tree, rows_seen_in, seen_in}
-use Rattle.rio_step.specs.declared.fault.MapFault.TheVariants.{KindChanged as Changed, NoVersion, NoMemory}
+use Rattle.rio_model.specs.declared.map_fault.MapFault.TheVariants.{KindChanged as Changed, NoVersion, NoMemory}
 
 -- a test gives no refusal of another number
 HasNumber : ℕ → Option Refusal → Type 0

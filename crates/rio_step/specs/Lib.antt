@@ -3,7 +3,6 @@ pub mod CommandSpelling
 pub mod Costs
 pub mod ItemKeys
 pub mod Laws
-pub mod Mapping
 pub mod Refusing
 pub mod ReplyText
 pub mod Runs

@@ -12,7 +12,7 @@ use Rattle.rio_machine.specs.Limits.{cycle_limit, data_length, has_all_items, ha
 use Rattle.rio_machine.specs.{Rows.{row_fits}, State.{Row, State, Tree, last_cycle, names_item, names_object, names_tree, next_cycle}}
 use Rattle.rio_machine.specs.declared.command.Command.{Command, TheVariants.{Bad, Class, Put, Delete, Tree as MakeTree, Fill, Save, Get, Scan}}
 use Rattle.rio_machine.specs.declared.refusal.Refusal.{Refusal, TheVariants.{BadLine, BadName, NoSuchName, NoSuchCycle, NameIsTree, NotATree, NameInUse, NoSuchClass, SameVersion, HoldsItself, DoesNotFit, BadRow, KindChanged, NoVersion, CycleLimit, TooLarge, TooDeep, TooMany, Full}}
-use Rattle.rio_step.specs.{Mapping.{Mapped, as_version}, declared.fault.MapFault.TheVariants.{KindChanged as Changed}}
+use Rattle.rio_model.specs.{Mapping.{Mapped, as_version}, declared.map_fault.MapFault.TheVariants.{KindChanged as Changed}}
 
 -- ---- what a command is about
 

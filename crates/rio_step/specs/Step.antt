@@ -7,7 +7,7 @@ use Rattle.rio_value.specs.declared.value.Value.{Value, Null}
 use Rattle.rio_machine.specs.State.{NameAndCycle, Row, State, Tree, item_order, names_tree, next_cycle}
 use Rattle.rio_machine.specs.declared.command.Command.{Command, TheVariants.{Bad, Class, Put, Delete, Tree as MakeTree, Fill, Save, Get, Scan, Ls}}
 use Rattle.rio_machine.specs.{declared.command.Outcome.{Outcome, TheVariants.{Accepted, Refused}}, declared.refusal.Refusal.{Refusal, TheVariants.{BadLine}}}
-use Rattle.rio_step.specs.Mapping.{Mapped}
+use Rattle.rio_model.specs.Mapping.{Mapped}
 use Rattle.rio_step.specs.Refusing.{FullMark, meant_cycle, meant_object, object_class, refusal_of, rows_of_tree, rows_seen_in, seen_in, fill_row, put_value, with_class}
 
 -- ---- states

@@ -10,19 +10,10 @@ use crate::written_labels::{LeafLabels, label_behind};
 use crate::written_leaf::leaf_pointers;
 use crate::{Branch, TreeHead};
 use rio_format::{PartList, array_object, titled_object};
-use rio_leaf::{Leaf, Shape, print_leaves};
+use rio_leaf::{Leaf, Shape, leaves_of, print_leaves};
 use rio_num::{Boxed, Bytes, Name, NoMemory};
 use rio_value::{Value, Values};
 use std::alloc::Global;
-
-fn leaves_of(shape: &Shape) -> &[Leaf]
-    ensures { result.now ≡ leaves_of shape.now }
-{
-    match shape {
-        Shape::Leaves(leaves) => leaves.as_slice(),
-        Shape::Class(_) => &[],
-    }
-}
 
 fn branch_title(alloc: Global, shape: &Shape) -> Result<Name, NoMemory>
     ensures { IfOk result (λ title. title ≡ title_of_branch shape.now) }

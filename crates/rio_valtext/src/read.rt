@@ -407,7 +407,8 @@ fn push_part(
     parts: &mut Parts,
     levels: u32,
 ) -> Result<(), TextFault>
-    ensures ok { OnOk result ((p : Parted) × (part_at (enclosed_at levels) tokens.old ≡ Ok (p, tokens.new))
+    ensures ok { OnOk result ((p : Parted)
+        × (part_at (enclosed_at levels) tokens.old ≡ Ok (p, tokens.new))
         × (parts.new ≡ parts.old ++ p ∷ [])) }
     ensures err { let read = part_at (enclosed_at levels) tokens.old in
         IfErr result (λ e. FailsUnless OutOfMemory e read) }

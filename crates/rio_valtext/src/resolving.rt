@@ -5,10 +5,11 @@ ghost use Rattle.std.specs.Option.{option_map};
 ghost use Rattle.rio_value.specs.declared.value.Value.{List as Items, Object, Pointed};
 ghost use Rattle.rio_format.specs.Bodies.{part, t_object_base};
 ghost use Rattle.rio_format.specs.Slots.{body_bases, headed_body};
-ghost use Rattle.rio_model.specs.Resolving.{ResolvedHasVersions, ResolvedStays, base_version, built_in_version, each_resolved, is_known_version, meant_version, newest_known, object_resolved, resolved, resolved_row, resolved_version, resolving_of, resolving_of_part};
+ghost use Rattle.rio_model.specs.Resolving.{ResolvedHasVersions, ResolvedStays, base_version, each_resolved, is_known_version, meant_version, newest_known, object_resolved, resolved, resolved_row, resolved_version, resolving_of, resolving_of_part};
 ghost use Rattle.rio_valtext.specs.Resolves.{Resolves};
 
-use rio_format::{Body, BodyKind, declared_body, headed_version, is_headed};
+use rio_format::{Body, BodyKind, declared_body, is_headed};
+use rio_model::{built_in_version, newest_known};
 use rio_num::{Boxed, Name, NoMemory};
 use rio_types::{Base, Classes};
 use rio_value::{Part, Parts, Value, Values, copy};
@@ -32,26 +33,6 @@ impl From<NoMemory> for ResolveFault {
 
     fn from(_e: NoMemory) -> ResolveFault {
         ResolveFault::NoMemory
-    }
-}
-
-// The one version of a built-in class.
-fn built_in_version(class: &[u8]) -> Option<i32>
-    ensures { result ≡ built_in_version class.now }
-{
-    match headed_version(class) {
-        Some(version) => Some(version),
-        None if is_headed(class) => None,
-        None => Some(1),
-    }
-}
-
-fn newest_known(classes: &Classes, class: &[u8]) -> Option<i32>
-    ensures { result ≡ newest_known classes.now class.now }
-{
-    match classes.newest(class) {
-        Some(newest) => Some(newest.version),
-        None => built_in_version(class),
     }
 }
 

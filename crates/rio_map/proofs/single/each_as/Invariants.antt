@@ -1,6 +1,6 @@
 use Rattle.std.proofs.Common.{◌≡◌, List, ◌++◌, drop}
 use Rattle.std.specs.Option.{option_map}
-use Rattle.rio_step.specs.Mapping.{each_as}
+use Rattle.rio_model.specs.Mapping.{each_as}
 use Rattle.rio_map.proofs.single.each_as.Given as goal
 
 abbrev pub invariant-loop-item : goal.invariant-loop-item

@@ -3,7 +3,7 @@ use Rattle.std.specs.Option.{option_map}
 use Rattle.rio_value.specs.declared.value.Part.{Part}
 use Rattle.rio_format.specs.{Bodies.{part}, Slots.{Field, Slot}}
 use Rattle.rio_model.specs.Resolving.{newest_known}
-use Rattle.rio_step.specs.Mapping.{parts_zero, slot_zero, zero_within}
+use Rattle.rio_model.specs.Mapping.{parts_zero, slot_zero, zero_within}
 use Rattle.rio_map.proofs.LevelLaws.{more_levels, no_levels, not_known}
 use Rattle.rio_map.proofs.StepLaws.{zero_goes_on, zero_lacks, zeros_end}
 use Rattle.rio_map.proofs.zero.+zero.Goals as goal

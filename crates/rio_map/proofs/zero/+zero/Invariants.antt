@@ -1,6 +1,6 @@
 use Rattle.std.proofs.Common.{◌≡◌, ◌++◌, ◌+◌, ◌*◌, drop}
 use Rattle.std.specs.Option.{option_map}
-use Rattle.rio_step.specs.Mapping.{parts_zero, zero_within}
+use Rattle.rio_model.specs.Mapping.{parts_zero, zero_within}
 use Rattle.rio_map.proofs.zero.+zero.Given as goal
 
 abbrev pub invariant-parts_zero-loop-k : goal.invariant-parts_zero-loop-k

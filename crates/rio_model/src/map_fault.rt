@@ -16,7 +16,7 @@ pub enum MapFault {
 
 impl From<NoMemory> for MapFault {
     ghost use Rattle.std.specs.Prelude.{◌≡◌};
-    ghost use Rattle.rio_step.specs.declared.fault.MapFault.TheVariants.{NoMemory as OutOfMemory};
+    ghost use Rattle.rio_model.specs.declared.map_fault.MapFault.TheVariants.{NoMemory as OutOfMemory};
 
     ghost from_gives = { λ _ fault. fault ≡ OutOfMemory };
 

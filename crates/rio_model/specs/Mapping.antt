@@ -12,7 +12,7 @@ use Rattle.rio_value.specs.declared.value.Value as whole
 use Rattle.rio_format.specs.{Bodies.{part}, Prims.{width_of}, Slots.{Slot, kinded, based, flags, any_pointer, link, many, Field, fields_of}}
 use Rattle.rio_format.specs.Written.{width_in_bits}
 use Rattle.rio_model.specs.Resolving.{built_in_version, newest_known}
-use Rattle.rio_step.specs.declared.fault.MapFault.{MapFault, TheVariants.{KindChanged, NoVersion}}
+use Rattle.rio_model.specs.declared.map_fault.MapFault.{MapFault, TheVariants.{KindChanged, NoVersion}}
 
 -- what is had, or the first base or member that can't be
 abbrev pub Mapped : Type 0 → Type 0
