@@ -35,6 +35,13 @@ impl<T> Boxed<T> {
 }
 
 impl<T: Drop> Boxed<T> {
+    /// Puts a value in place of the one that is held.
+    pub fn set(&mut self, value: T)
+        ensures { self.new ≡ value }
+    {
+        *self.inner = value;
+    }
+
     /// The value in a place of its own. Where there is no memory for it, it is dropped.
     pub fn new(alloc: Global, value: T) -> Result<Boxed<T>, NoMemory>
         ensures { IfOk result (λ boxed. boxed ≡ value) }
