@@ -10,6 +10,11 @@ pub record TableRoom : Type 0 where
   pub heads : List KeyHead
   pub spare : ℕ
 
+-- how many boxes there are for further heads
+abbrev pub box_count : Option KeyHead → ℕ
+box_count None = 0
+box_count (Some h) = 1
+
 -- the head of a name, and that of a name and cycle
 abbrev pub is_of_name : List ℕ → KeyHead → Bool
 is_of_name name h = bytes_eq h.name name

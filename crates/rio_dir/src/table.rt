@@ -4,7 +4,7 @@ ghost use Rattle.std.specs.Option.{option_copied, option_map_or};
 ghost use Rattle.rio_dir.specs.Table.{heads_size, if_matching, is_at_cycle, is_before, is_name_before, is_of_name};
 
 use rio_key::{KeyHead, key_length};
-use rio_num::NoMemory;
+use rio_num::{Boxed, Name, NoMemory};
 use std::alloc::Global;
 use std::cmp::Ordering;
 use std::marker::Model;
@@ -12,21 +12,23 @@ use std::marker::Model;
 /// The keys of a file: a map from name and cycle, in the order of the key list, and for how many more there is room.
 #[derive(Debug, Drop)]
 pub struct KeyTable {
-    heads: Vec<KeyHead>,
-    spare: usize,
+    // Boxed, so that few bytes move where a key is inserted before others.
+    heads: Vec<Boxed<KeyHead>>,
+    // The box for the next key. The head in it has no meaning.
+    spare: Option<Boxed<KeyHead>>,
 }
 
 impl Model for KeyTable {
     ghost use Rattle.std.specs.Prelude.{◌+◌, ◌≤◌, vec_len, vec_capacity};
-    ghost use Rattle.rio_dir.specs.Table.{AreOrdered, TableRoom};
+    ghost use Rattle.rio_dir.specs.Table.{AreOrdered, TableRoom, box_count};
 
     ghost Value = { TableRoom };
 
-    ghost view = { λ t. record { heads = t.heads.items; spare = t.spare } };
+    ghost view = { λ t. record { heads = t.heads.items; spare = box_count t.spare } };
 
     ghost invariant = { λ t. record {
       ordered : AreOrdered t.heads.items;
-      room : vec_len t.heads + t.spare ≤ vec_capacity t.heads;
+      room : vec_len t.heads + box_count t.spare ≤ vec_capacity t.heads;
     } };
 }
 
@@ -56,33 +58,38 @@ fn is_name_before(head: &KeyHead, name: &[u8]) -> bool
 }
 
 // Whether the head at `at` has the name and cycle.
-fn is_cycle_at(heads: &[KeyHead], at: usize, name: &[u8], cycle: u16) -> bool
+fn is_cycle_at(heads: &[Boxed<KeyHead>], at: usize, name: &[u8], cycle: u16) -> bool
     ensures { result ≡ option_map_or (is_at_cycle name.now cycle) (slice_get heads.now at) false }
 {
     match heads.get(at) {
-        Some(head) => is_at_cycle(head, name, cycle),
+        Some(head) => is_at_cycle(head.get(), name, cycle),
         None => false,
     }
 }
 
 // The head at `at`, if it has the name and cycle.
-fn at_cycle<'a>(heads: &'a [KeyHead], at: usize, name: &[u8], cycle: u16) -> Option<&'a KeyHead>
+fn at_cycle<'a>(
+    heads: &'a [Boxed<KeyHead>],
+    at: usize,
+    name: &[u8],
+    cycle: u16,
+) -> Option<&'a KeyHead>
     ensures { option_copied result
         ≡ if_matching (is_at_cycle name.now cycle) (slice_get heads.now at) }
 {
     match heads.get(at) {
-        Some(head) if is_at_cycle(head, name, cycle) => Some(head),
+        Some(head) if is_at_cycle(head.get(), name, cycle) => Some(head.get()),
         _ => None,
     }
 }
 
 // The head at `at`, if it has the name.
-fn of_name<'a>(heads: &'a [KeyHead], at: usize, name: &[u8]) -> Option<&'a KeyHead>
+fn of_name<'a>(heads: &'a [Boxed<KeyHead>], at: usize, name: &[u8]) -> Option<&'a KeyHead>
     ensures { option_copied result
         ≡ if_matching (is_of_name name.now) (slice_get heads.now at) }
 {
     match heads.get(at) {
-        Some(head) if head.name.as_slice() == name => Some(head),
+        Some(head) if head.get().name.as_slice() == name => Some(head.get()),
         _ => None,
     }
 }
@@ -94,15 +101,32 @@ fn cycle_after(cycle: u16) -> u32
 }
 
 // How many bytes are written of some heads.
-fn heads_length(heads: &[KeyHead]) -> u64
+fn heads_length(heads: &[Boxed<KeyHead>]) -> u64
     requires { heads_size heads.now < 2 ^ 64 }
     ensures { result ≡ heads_size heads.now }
 {
     let mut length: u64 = 0;
     for head in heads {
-        length += key_length(head);
+        length += key_length(head.get());
     }
     length
+}
+
+// An empty head, for which no memory is allocated.
+fn empty_head(alloc: Global) -> KeyHead {
+    KeyHead {
+        nbytes: 0,
+        version: 0,
+        objlen: 0,
+        datime: 0,
+        keylen: 0,
+        cycle: 0,
+        seek: 0,
+        pdir: 0,
+        class: Name::new(alloc),
+        name: Name::new(alloc),
+        title: Name::new(alloc),
+    }
 }
 
 impl KeyTable {
@@ -117,7 +141,7 @@ impl KeyTable {
     {
         KeyTable {
             heads: Vec::new(alloc),
-            spare: 0,
+            spare: None,
         }
     }
 
@@ -132,11 +156,14 @@ impl KeyTable {
     pub fn head(&self, k: usize) -> Option<&KeyHead>
         ensures { option_copied result ≡ slice_get self.now.heads k }
     {
-        self.heads.get(k)
+        match self.heads.get(k) {
+            Some(head) => Some(head.get()),
+            None => None,
+        }
     }
 
     /// The heads in the order of the key list.
-    pub fn as_slice(&self) -> &[KeyHead]
+    pub fn as_slice(&self) -> &[Boxed<KeyHead>]
         ensures all { result.now ≡ self.now.heads }
         ensures ordered { AreOrdered self.now.heads }
     {
@@ -148,11 +175,12 @@ impl KeyTable {
         ensures ok { OnOk result (self.new ≡ record self.old { spare = max self.old.spare 1 }) }
         ensures err { OnErr result ((self.new ≡ self.old) × (self.old.spare < 1)) }
     {
-        if self.spare > 0 {
+        if self.spare.is_some() {
             return Ok(());
         }
+        let alloc = *self.heads.allocator();
         self.heads.reserve(1)?;
-        self.spare = 1;
+        self.spare = Some(Boxed::new(alloc, empty_head(alloc))?);
         Ok(())
     }
 
@@ -161,7 +189,7 @@ impl KeyTable {
         ensures { result ≡ prefix_len (is_before name.now cycle) self.now.heads }
     {
         self.heads
-            .partition_point(|head| is_before(head, name, cycle))
+            .partition_point(|head| is_before(head.get(), name, cycle))
     }
 
     /// Puts a key in its place, for which there is room. Its name and cycle are new.
@@ -174,8 +202,11 @@ impl KeyTable {
         } }
     {
         let at = self.count_before(head.name.as_slice(), head.cycle);
-        self.spare -= 1;
-        let _ = self.heads.insert(at, head);
+        let Some(mut boxed) = self.spare.take() else {
+            return;
+        };
+        boxed.set(head);
+        let _ = self.heads.insert(at, boxed);
     }
 
     /// Takes a key out. None comes exactly where there is none of the name and cycle.
@@ -187,7 +218,7 @@ impl KeyTable {
     {
         let at = self.count_before(name, cycle);
         if is_cycle_at(&self.heads, at, name, cycle) {
-            Some(self.heads.remove(at))
+            Some(self.heads.remove(at).into_inner())
         } else {
             None
         }
@@ -198,7 +229,7 @@ impl KeyTable {
         ensures { result ≡ prefix_len (is_name_before name.now) self.now.heads }
     {
         self.heads
-            .partition_point(|head| is_name_before(head, name))
+            .partition_point(|head| is_name_before(head.get(), name))
     }
 
     /// The key of the name and cycle, or of the name's greatest cycle. None comes exactly where there is none.

@@ -7,28 +7,28 @@ ghost use Rattle.rio_dir.specs.Table.{heads_size, key_list_bytes};
 
 use crate::KeyTable;
 use rio_key::{KeyHead, key_length, write_key};
-use rio_num::{Bytes, NoMemory};
+use rio_num::{Boxed, Bytes, NoMemory};
 
 // How many bytes are written of some heads, where that is a number of 64 bits.
-fn checked_length(heads: &[KeyHead]) -> Option<u64>
+fn checked_length(heads: &[Boxed<KeyHead>]) -> Option<u64>
     requires { All FitsKey heads.now }
     ensures { IfSome result (λ size. size ≡ heads_size heads.now) }
 {
     let mut size: u64 = 0;
     for head in heads {
-        size = size.checked_add(key_length(head))?;
+        size = size.checked_add(key_length(head.get()))?;
     }
     Some(size)
 }
 
 // Puts heads where there is room for them.
-fn put_heads(heads: &[KeyHead], into: &mut Bytes) -> Result<(), NoMemory>
+fn put_heads(heads: &[Boxed<KeyHead>], into: &mut Bytes) -> Result<(), NoMemory>
     requires fit { All FitsKey heads.now }
     requires room { heads_size heads.now ≤ into.old.spare }
     ensures { Appends into.old into.new (flat_map written_key heads.now) result }
 {
     for head in heads {
-        write_key(head, into)?;
+        write_key(head.get(), into)?;
     }
     Ok(())
 }

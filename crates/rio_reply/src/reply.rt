@@ -12,7 +12,7 @@ use crate::fault::put_stored;
 use crate::item::{put_item, put_listed};
 use rio_key::KeyHead;
 use rio_machine::{Refusal, print_refusal};
-use rio_num::{Bytes, NoMemory};
+use rio_num::{Boxed, Bytes, NoMemory};
 use rio_types::Classes;
 use std::alloc::Global;
 
@@ -104,7 +104,7 @@ pub fn get_reply(
 
 // How many objects there are, and a line for each.
 #[tactic(auto, unfolding(crate::specs::Told::listing_of))]
-fn listed_reply(alloc: Global, heads: &[KeyHead]) -> Result<Bytes, NoMemory>
+fn listed_reply(alloc: Global, heads: &[Boxed<KeyHead>]) -> Result<Bytes, NoMemory>
     ensures { IfOk result (λ text. text.bytes ≡ listing_of heads.now) }
 {
     let mut text = Bytes::new(alloc);
@@ -112,13 +112,13 @@ fn listed_reply(alloc: Global, heads: &[KeyHead]) -> Result<Bytes, NoMemory>
     text.put_numbered(heads.len() as u64)?;
     text.put(b"\n")?;
     for head in heads {
-        put_listed(&mut text, head)?;
+        put_listed(&mut text, head.get())?;
     }
     Ok(text)
 }
 
 /// What is said of all objects, by their keys in the order of the key list: `ok ls COUNT`, and for each `NAME;CYCLE CLASS`.
-pub fn listing_reply(alloc: Global, heads: &[KeyHead]) -> Result<Bytes, NoMemory>
+pub fn listing_reply(alloc: Global, heads: &[Boxed<KeyHead>]) -> Result<Bytes, NoMemory>
     ensures listed { IfOk result (λ text. (m : State) → AreKeysOfState heads.now m
         → text.bytes ≡ text_of (items_listed (items_of m))) }
     ensures text { IfOk result (λ text. text.bytes ≡ listing_of heads.now) }

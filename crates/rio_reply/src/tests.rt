@@ -2,7 +2,7 @@
 use crate::{class_reply, delete_reply, get_reply, listing_reply, put_reply, refusal_reply};
 use rio_key::KeyHead;
 use rio_machine::Refusal;
-use rio_num::Name;
+use rio_num::{Boxed, Name};
 use rio_types::Classes;
 use std::alloc::Global;
 use std::test::Fail;
@@ -39,7 +39,10 @@ fn says_what_was_done_or_refused(rt: HostRuntime) -> Result<(), Fail> {
 
 #[test]
 fn lists_keys(rt: HostRuntime) -> Result<(), Fail> {
-    let heads = [head(rt.alloc(), b"s", 2)?, head(rt.alloc(), b"s", 1)?];
+    let heads = [
+        Boxed::new(rt.alloc(), head(rt.alloc(), b"s", 2)?)?,
+        Boxed::new(rt.alloc(), head(rt.alloc(), b"s", 1)?)?,
+    ];
     let text = listing_reply(rt.alloc(), &heads)?;
     let expected = b"ok ls 2\ns;2 TObjString\ns;1 TObjString\n";
     assert!(rt; text.as_slice() == expected.as_slice());

@@ -7,7 +7,7 @@ ghost use Rattle.rio_report.specs.Lists.{AtOnce, IsDone, Lists, Refuses, SaysFro
 use rio_close::{ReportFault, open_closed};
 use rio_host::Host;
 use rio_key::KeyHead;
-use rio_num::{Bytes, NoMemory};
+use rio_num::{Boxed, Bytes, NoMemory};
 use rio_reply::put_item;
 use std::alloc::Global;
 
@@ -32,9 +32,21 @@ fn put_line(text: &mut Bytes, key: &KeyHead) -> Result<(), NoMemory>
     text.put(b"\n")
 }
 
-/// A line for each key, in order.
+/// A line for each key of a key table, in order.
 #[tactic(auto, unfolding(rio_dir::specs::Listing::key_lines))]
-pub fn key_listing(alloc: Global, keys: &[KeyHead]) -> Result<Bytes, NoMemory>
+pub fn key_listing(alloc: Global, keys: &[Boxed<KeyHead>]) -> Result<Bytes, NoMemory>
+    ensures { IfOk result (λ text. text.bytes ≡ key_lines keys.now) }
+{
+    let mut text = Bytes::new(alloc);
+    for key in keys {
+        put_line(&mut text, key.get())?;
+    }
+    Ok(text)
+}
+
+// A line for each key of a file's key list, in order.
+#[tactic(auto, unfolding(rio_dir::specs::Listing::key_lines))]
+fn file_listing(alloc: Global, keys: &[KeyHead]) -> Result<Bytes, NoMemory>
     ensures { IfOk result (λ text. text.bytes ≡ key_lines keys.now) }
 {
     let mut text = Bytes::new(alloc);
@@ -53,7 +65,7 @@ fn say_listing<H: Host>(alloc: Global, host: &mut H) -> Result<(), ReportFault>
     ensures cause { IsSayCause (H.view host.old) (H.view host.new) result }
 {
     let closed = open_closed(alloc, host)?;
-    let text = key_listing(alloc, closed.keys.as_slice())?;
+    let text = file_listing(alloc, closed.keys.as_slice())?;
     match host.say(text.as_slice()) {
         Ok(()) => Ok(()),
         Err(_) => Err(ReportFault::SayFault),

@@ -60,7 +60,7 @@ impl Session {
         ensures { result ≡ close_need (kept_with self.now.name self.now.heads
             (2 + length self.now.heads)) }
     {
-        let count = 2 + self.table.as_slice().len() as u64;
+        let count = 2 + self.table.count() as u64;
         close_length(self.name.as_slice(), self.heads_bytes, count)
     }
 

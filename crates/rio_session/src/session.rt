@@ -5,7 +5,7 @@ use rio_dir::KeyTable;
 use rio_host::Host;
 use rio_key::KeyHead;
 use rio_machine::{Command, Outcome};
-use rio_num::Name;
+use rio_num::{Boxed, Name};
 use rio_registry::Registry;
 use std::alloc::Global;
 use std::marker::Model;
@@ -82,7 +82,7 @@ impl Session {
     }
 
     /// The keys of objects and trees, in the order of the key list.
-    pub fn keys(&self) -> &[KeyHead]
+    pub fn keys(&self) -> &[Boxed<KeyHead>]
         ensures { result.now ≡ self.now.heads }
     {
         self.table.as_slice()

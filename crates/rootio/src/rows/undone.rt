@@ -4,7 +4,7 @@ use super::stops::WORDS;
 use crate::status::Status;
 use rio_host::{Left, MemHost, Remains};
 use rio_key::KeyHead;
-use rio_num::{Bytes, NoMemory};
+use rio_num::{Boxed, Bytes, NoMemory};
 use rio_recover::{Recovered, recover};
 use std::alloc::Global;
 
@@ -182,10 +182,10 @@ fn put_head(listing: &mut Bytes, head: &KeyHead) -> Result<(), NoMemory> {
     listing.put(b"\n")
 }
 
-fn listing_of(alloc: Global, heads: &[KeyHead]) -> Result<Bytes, NoMemory> {
+fn listing_of(alloc: Global, heads: &[Boxed<KeyHead>]) -> Result<Bytes, NoMemory> {
     let mut listing = Bytes::new(alloc);
     for head in heads {
-        put_head(&mut listing, head)?;
+        put_head(&mut listing, head.get())?;
     }
     Ok(listing)
 }

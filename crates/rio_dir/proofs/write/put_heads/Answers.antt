@@ -1,7 +1,7 @@
-use Rattle.std.proofs.Common.{◌≡◌, ◌-◌, length, ap, arith}
+use Rattle.std.proofs.Common.{◌≡◌, ◌∙◌, ◌-◌, ◌++◌, length, ap, arith}
 use Rattle.std.specs.List.{flat_map}
 use Rattle.rio_num.specs.Room.{Room}
-use Rattle.rio_key.specs.Written.{written_key}
+use Rattle.rio_key.specs.{Written.{written_key}, declared.head.KeyHead.{KeyHead}}
 use Rattle.rio_dir.proofs.TableWritten.{all_written, length-flat, none_left, one_written, size_left}
 use Rattle.rio_dir.proofs.write.put_heads.Goals as goal
 
@@ -10,12 +10,12 @@ loop-head-preserved c =
     let heads = c.args.heads.now in
     let i = c.loop-head.head-index in
     let h = c.head-item.result in
-    let bytes = ap (λ (r : Room). r.bytes) c.in_ok-write_key.ensures in
+    let bytes = ap (λ (r : Room). r.bytes) c.in_ok-write_key.ensures ∙ ap (λ (k : KeyHead). c.loop-head.into.bytes ++ written_key k) c.get.ensures in
     let spare = ap (λ (r : Room). r.spare) c.in_ok-write_key.ensures in
     let left = size_left written_key heads i h c.loop-head-test.true c.head-item.is in
     record {
       written = one_written written_key heads i h c.loop-head.into.bytes c.write_key.new.into.bytes _ c.loop-head-test.true c.head-item.is bytes c.loop-head.invariant.written;
-      spare = omega (arith, spare, left, c.loop-head.invariant.spare, c.requires.room);
+      spare = omega (arith, spare, ap (λ (k : KeyHead). length (written_key k)) c.get.ensures, left, c.loop-head.invariant.spare, c.requires.room);
     }
 
 pub returns : goal.returns

@@ -1,5 +1,6 @@
-use Rattle.std.proofs.Common.{◌≡◌, ◌∙◌, ap, subst, sym, arith}
+use Rattle.std.proofs.Common.{◌≡◌, ◌∙◌, Option, Some, ap, subst, sym, arith}
 use Rattle.std.specs.Set.{remove_key}
+use Rattle.rio_key.specs.declared.head.KeyHead.{KeyHead}
 use Rattle.rio_dir.specs.Table.{AreOrdered, TableRoom, is_at_cycle, is_before}
 use Rattle.rio_dir.proofs.TableLists.{by_cycle, none_there, nothing_removed, ordered_without, removed_there, taken_there}
 use Rattle.rio_dir.proofs.table.KeyTable.remove.Goals as goal
@@ -14,7 +15,8 @@ invariant_of-self c =
 pub returns-then-is_cycle_at-clause-head : goal.returns-then-is_cycle_at-clause-head
 returns-then-is_cycle_at-clause-head c =
     let same = ap (λ (t : TableRoom). t.heads) c.self.view_is in
-    sym (taken_there (is_before c.args.name.now c.args.cycle) (is_at_cycle c.args.name.now c.args.cycle) (by_cycle c.args.name.now c.args.cycle) c.self.inside.heads.items c.args.self.now.heads _ c.count_before-at.result same c.deref.ensures.value c.self.invariant.ordered c.count_before-at.ensures c.is_cycle_at.result c.is_cycle_at.ensures c.if-is_cycle_at.true c.remove.result c.remove.ensures.value)
+    ap (λ (h : KeyHead). let o : Option KeyHead = Some h in o) c.into_inner.ensures
+    ∙ sym (taken_there (is_before c.args.name.now c.args.cycle) (is_at_cycle c.args.name.now c.args.cycle) (by_cycle c.args.name.now c.args.cycle) c.self.inside.heads.items c.args.self.now.heads _ c.count_before-at.result same c.deref.ensures.value c.self.invariant.ordered c.count_before-at.ensures c.is_cycle_at.result c.is_cycle_at.ensures c.if-is_cycle_at.true c.remove.result c.remove.ensures.value)
 
 pub returns-then-is_cycle_at-clause-rest : goal.returns-then-is_cycle_at-clause-rest
 returns-then-is_cycle_at-clause-rest c =
