@@ -1,8 +1,8 @@
-//! Single values, lists and texts in another kind, and the zeros of kinds and of classes: what an object of a class in
-//! another version is made of.
+//! Values in another kind, the zeros of kinds and of classes, and objects of a class in another version.
 //!
 //! `flat_as` gives a value of one kind in another one, where no object is in it; `stays` tells of objects and pointers
 //! whether both kinds are of one class. `kind_zero` and `zero_of_class` give the value of a member or a base that isn't there.
+//! `as_version` gives a value with each object of a class, at any depth, in another version of the class.
 //!
 //! The definitions stand in `Mapping` of `rio_model`; `specs/` has how the code cuts them up.
 #![tactic(auto)]
@@ -11,7 +11,10 @@ mod convert;
 mod single;
 #[cfg(test)]
 mod tests;
+mod version;
 mod zero;
 
 pub use convert::{flat_as, stays};
+pub use rio_model::MapFault;
+pub use version::as_version;
 pub use zero::{kind_zero, zero_of_class};

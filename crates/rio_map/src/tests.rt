@@ -1,5 +1,5 @@
-//! Values of one kind in another, and zeros, by hand from the rules.
-use crate::{flat_as, kind_zero};
+//! Values of one kind in another, zeros, and objects in another version, by hand from the rules.
+use crate::{MapFault, as_version, flat_as, kind_zero};
 use rio_decl::read_class;
 use rio_num::{Bytes, NoMemory};
 use rio_types::{ClassDef, Classes, Kind};
@@ -247,16 +247,16 @@ fn values_are_told_in_other_kinds(rt: HostRuntime) {
     }
 }
 
-fn declared(alloc: Global) -> Result<Classes, TextFault> {
+fn declared(alloc: Global, texts: &[&str]) -> Result<Classes, TextFault> {
     let mut classes = Classes::new(alloc);
-    for text in &CLASSES {
+    for text in texts {
         classes.push(class_in(alloc, text)?)?;
     }
     Ok(classes)
 }
 
 fn has_zero(alloc: Global, row: &(&str, &str)) -> Result<bool, TextFault> {
-    let classes = declared(alloc)?;
+    let classes = declared(alloc, &CLASSES)?;
     let class = class_in(alloc, row.0)?;
     match last_kind(&class) {
         Some(kind) => {
@@ -272,5 +272,205 @@ fn zeros_are_told(rt: HostRuntime) {
     for row in &ZEROS {
         let right = matches!(has_zero(rt.alloc(), row), Ok(true));
         assert!(rt; right, "the zero of {}", row.0);
+    }
+}
+
+static VERSIONS: [&str; 27] = [
+    "class P 1 { a: i64, b: i32, f: f32 }",
+    "class P 2 { a: i16, c: text, f: f32 }",
+    "class P 3 { f: i32 }",
+    "class A 1 { a: i32 }",
+    "class A 2 { a: i64 }",
+    "class B 1 { b: bool }",
+    // Bases that come and go.
+    "class D 1 : A { x: i32 }",
+    "class D 2 : B { x: i32 }",
+    "class D 3 : Odd { x: text }",
+    "class D 4 : B, A { a: i32 }",
+    // Arrays.
+    "class R 1 { n: i32, x: i32[3], y: i64[n] }",
+    "class R 2 { n: i32, y: u8[n], x: u8[3] }",
+    "class R 3 { n: i32, x: i32[4] }",
+    // Members that change places and kinds.
+    "class T 1 { a: bool, b: i32 }",
+    "class T 2 { b: bool, a: i32 }",
+    // Pointers.
+    "class L 1 { k: i64, p: L*, q: L* }",
+    "class L 2 { k: i8, p: L*, q: L* }",
+    "class L 3 { p: P*, k: text }",
+    // Objects of other classes around and within.
+    "class N 1 { p: P, g: i16 }",
+    "class I 1 { n: N, a: i32 }",
+    "class I 2 { n: N, a: i16 }",
+    "class U 1 : P { u: f32 }",
+    "class U 2 : P { u: i32 }",
+    // Several members that can't be had.
+    "class K 1 { a: f32, b: text, c: f64 }",
+    "class K 2 { b: i32, a: i32 }",
+    // A member that has no zero.
+    "class X 1 { n: i32 }",
+    "class X 2 { n: i32, x: X }",
+];
+
+// A class and a version, a value, and what that is with the objects of the class in the version.
+static ROWS_OF_VERSIONS: [(&str, i32, &str, &str); 36] = [
+    (
+        "P",
+        2,
+        "P#1{a: 70000, b: 5, f: 0x3f800000}",
+        "P#2{a: 4464, c: \"\", f: 0x3f800000}",
+    ),
+    ("P", 3, "P#1{a: 70000, b: 5, f: 0x3f800000}", "changed f"),
+    ("P", 9, "P#1{a: 70000, b: 5, f: 0x3f800000}", "no version"),
+    (
+        "P",
+        1,
+        "P#1{a: 70000, b: 5, f: 0x3f800000}",
+        "P#1{a: 70000, b: 5, f: 0x3f800000}",
+    ),
+    (
+        "P",
+        1,
+        "P#2{a: -1, c: \"c\", f: 0x00000001}",
+        "P#1{a: -1, b: 0, f: 0x00000001}",
+    ),
+    // The first part of a name counts. What isn't described counts as absent.
+    (
+        "P",
+        2,
+        "P#1{f: 0x00000001, a: 1, a: 2, c: \"c\"}",
+        "P#2{a: 1, c: \"\", f: 0x00000001}",
+    ),
+    (
+        "P",
+        2,
+        "P#7{a: 1, f: 0x00000001}",
+        "P#2{a: 0, c: \"\", f: 0x00000000}",
+    ),
+    // A value that isn't an object, and objects of other classes.
+    ("P", 2, "\"P\"", "\"P\""),
+    ("P", 2, "A#1{a: 1}", "A#1{a: 1}"),
+    // No version, whatever the value.
+    ("P", 9, "7", "no version"),
+    ("Q", 1, "7", "no version"),
+    // Built-in classes.
+    (
+        "TObject",
+        1,
+        "TObject#1{fUniqueID: 5, fBits: 0}",
+        "TObject#1{fUniqueID: 5, fBits: 0}",
+    ),
+    (
+        "TObject",
+        2,
+        "TObject#1{fUniqueID: 5, fBits: 0}",
+        "no version",
+    ),
+    // Bases: one goes, one comes, one has another place. They keep their own version; one that comes is in the newest.
+    ("D", 2, "D#1{A#1{a: 1}, x: 2}", "D#2{B#1{b: false}, x: 2}"),
+    ("D", 1, "D#2{B#1{b: true}, x: 2}", "D#1{A#2{a: 0}, x: 2}"),
+    (
+        "D",
+        4,
+        "D#1{A#1{a: 1}, x: 2}",
+        "D#4{B#1{b: false}, A#1{a: 1}, a: 0}",
+    ),
+    (
+        "D",
+        1,
+        "D#4{B#1{b: true}, A#1{a: 1}, a: 3}",
+        "D#1{A#1{a: 1}, x: 0}",
+    ),
+    // A base that the object has, but not its class.
+    (
+        "D",
+        2,
+        "D#1{B#1{b: true}, x: 2}",
+        "D#2{B#1{b: false}, x: 2}",
+    ),
+    // Bases come before members.
+    ("D", 3, "D#1{A#1{a: 1}, x: 2}", "changed Odd"),
+    ("A", 2, "D#1{A#1{a: 1}, x: 2}", "D#1{A#2{a: 1}, x: 2}"),
+    (
+        "P",
+        3,
+        "U#1{P#1{a: 1, f: 0x00000001}, u: 0x00000001}",
+        "changed f",
+    ),
+    ("U", 2, "U#1{P#1{a: 1}, u: 0x00000001}", "changed u"),
+    // Arrays.
+    (
+        "R",
+        2,
+        "R#1{n: 2, x: [1, -1, 256], y: [300, 5]}",
+        "R#2{n: 2, y: [44, 5], x: [1, 255, 0]}",
+    ),
+    ("R", 3, "R#1{n: 0, x: [1, 2, 3], y: []}", "changed x"),
+    // Members are paired by their names.
+    ("T", 2, "T#1{a: true, b: 256}", "T#2{b: true, a: 1}"),
+    ("T", 1, "T#2{b: false, a: 256}", "T#1{a: true, b: 0}"),
+    // Pointers keep their labels, and objects behind them are of the version too.
+    (
+        "L",
+        2,
+        "L#1{k: 300, p: @0=L#1{k: 1, p: null, q: @0}, q: @0}",
+        "L#2{k: 44, p: @0=L#2{k: 1, p: null, q: @0}, q: @0}",
+    ),
+    // The kind of a member is looked at before what is within it.
+    ("L", 3, "L#1{k: 1, p: @0=L#1{k: 1}}", "changed p"),
+    // Objects of the class within others, and others within them.
+    (
+        "P",
+        2,
+        "[N#1{p: P#1{a: 65537}, g: 3}, P#1{a: 2}]",
+        "[N#1{p: P#2{a: 1, c: \"\", f: 0x00000000}, g: 3}, P#2{a: 2, c: \"\", f: 0x00000000}]",
+    ),
+    (
+        "I",
+        2,
+        "I#1{n: N#1{p: P#1{a: 1}, g: 3}, a: 65537}",
+        "I#2{n: N#1{p: P#1{a: 1}, g: 3}, a: 1}",
+    ),
+    ("P", 3, "I#1{n: N#1{p: P#1{f: 0x00000001}}}", "changed f"),
+    // The first in the asked order.
+    (
+        "K",
+        2,
+        "K#1{a: 0x00000001, b: \"b\", c: 0x0000000000000001}",
+        "changed b",
+    ),
+    ("K", 2, "K#1{a: 0x00000001}", "changed a"),
+    ("K", 1, "K#2{b: 1, a: 1}", "changed a"),
+    // A member that comes and has no zero.
+    ("X", 2, "X#1{n: 1}", "changed x"),
+    ("X", 1, "X#2{n: 1, x: X#2{n: 2}}", "X#1{n: 1}"),
+];
+
+fn told_version(alloc: Global, found: Result<Value, MapFault>) -> Result<Bytes, NoMemory> {
+    match found {
+        Ok(value) => told(alloc, Some(value)),
+        Err(MapFault::KindChanged { member }) => {
+            let mut text = Bytes::from_slice(alloc, b"changed ")?;
+            text.put(member.as_slice())?;
+            Ok(text)
+        }
+        Err(MapFault::NoVersion) => Bytes::from_slice(alloc, b"no version"),
+        Err(MapFault::NoMemory) => Err(NoMemory),
+    }
+}
+
+fn has_version(alloc: Global, row: &(&str, i32, &str, &str)) -> Result<bool, TextFault> {
+    let classes = declared(alloc, &VERSIONS)?;
+    let value = value_in(alloc, row.2)?;
+    let found = as_version(alloc, &classes, row.0.as_bytes(), row.1, &value);
+    let text = told_version(alloc, found)?;
+    Ok(text.as_slice() == row.3.as_bytes())
+}
+
+#[test]
+fn objects_are_had_in_versions(rt: HostRuntime) {
+    for row in &ROWS_OF_VERSIONS {
+        let right = matches!(has_version(rt.alloc(), row), Ok(true));
+        assert!(rt; right, "{} in version {} of {}", row.2, row.1, row.0);
     }
 }

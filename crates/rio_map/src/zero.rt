@@ -80,8 +80,13 @@ fn parts_zero(
     Err(NoMemory)
 }
 
-// An object of these parts.
-fn object_with(alloc: Global, class: &[u8], version: i32, parts: Parts) -> Result<Value, NoMemory>
+/// An object of these parts.
+pub(crate) fn object_with(
+    alloc: Global,
+    class: &[u8],
+    version: i32,
+    parts: Parts,
+) -> Result<Value, NoMemory>
     ensures { IfOk result (λ v. v ≡ Object class.now version parts) }
 {
     let class = Name::from_slice(alloc, class)?;
