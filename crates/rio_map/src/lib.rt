@@ -9,8 +9,6 @@
 
 mod convert;
 mod single;
-#[cfg(test)]
-mod tests;
 mod version;
 mod zero;
 

@@ -1,6 +1,6 @@
 //! Values of one kind in another, zeros, and objects in another version, by hand from the rules.
-use crate::{MapFault, as_version, flat_as, kind_zero};
 use rio_decl::read_class;
+use rio_map::{MapFault, as_version, flat_as, kind_zero};
 use rio_num::{Bytes, NoMemory};
 use rio_types::{ClassDef, Classes, Kind};
 use rio_valtext::{TextFault, print_value, read_value};
