@@ -123,6 +123,33 @@ status=$?
 [ $status -eq 7 ] || fail "another maker's file: status $status, not 7"
 cmp -s other.root kept.root || fail "another maker's file: it has changed"
 
+# Near the limit (sparse files of 2 GB) a class list that declares no class counts in what a close may need: 132 bytes for two
+# records that are kept, under this name. The third record is of a basket of no tree, and is neither read nor kept. What is
+# closed there has no room for another close. A program that reads the basket whole has no memory for it.
+near() {
+    python3 "$top/bench/tree_file.py" near.root limit "$1" || fail "a file up to $1 isn't made"
+    head -c 400 near.root >kept.near
+}
+run_near() { (ulimit -v 1500000 && exec "$program" run near.root </dev/null >said 2>told); }
+for end in 1999999868 1999999872; do
+    near $end
+    run_near
+    check "a file up to $end" $? 7 "" "rootio: read only at 0: NoRoom"
+    head -c 400 near.root | cmp -s - kept.near || fail "a file up to $end: it has changed"
+    [ "$(wc -c <near.root)" -eq $((end + 4)) ] || fail "a file up to $end: its length has changed"
+done
+near 1999999864
+run_near
+check "a file up to 1999999864" $? 0 "" ""
+[ "$(wc -c <near.root)" -eq 1999999932 ] || fail "a file up to 1999999864: $(wc -c <near.root) bytes after the close"
+"$program" ls near.root </dev/null >said 2>told
+check "ls of a file near the limit" $? 0 "" ""
+"$program" dump near.root </dev/null >said 2>told || fail "dump of a file near the limit: told '$(cat told)'"
+[ "$(grep -c '^class T' said)" -eq 12 ] || fail "dump of a file near the limit: said '$(cat said)'"
+run_near
+check "a file near the limit, once more" $? 7 "" "rootio: read only at 0: NoRoom"
+rm near.root
+
 # An empty script leaves the file of 308 bytes that an empty file is, and one put the stored file, byte for byte.
 mkdir empty && cd empty && "$program" run a.root 1 </dev/null >../said 2>../told
 status=$?

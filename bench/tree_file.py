@@ -11,6 +11,8 @@ tree_file.py FILE pairs COUNT BRANCHES    a tree `G` of one entry with COUNT cou
 tree_file.py FILE small                   a tree `T` with leaves of several kinds, a branch of objects, and a branch
                                           that has a branch of its own; and an object `s`
 tree_file.py FILE large                   the tree `T` in a file of the large form whose baskets stand past 2 GB (sparse)
+tree_file.py FILE limit END               no tree: the first record, a basket that nothing refers to, of which only the key
+                                          is written (sparse), and a class list of the classes of trees, which ends at END
 
 Sources: ROOT's I/O documentation (io/doc/TFile), and the pages of TTree, TBranch, TLeaf, TBasket and TStreamerInfo.
 """
@@ -117,6 +119,11 @@ def array_member(name):
     return element('TStreamerObject', 2, name, 61, 0, 'TObjArray')
 
 
+TREE_SUMS = dict(TTree=2390821405, TBranch=3955859836, TBranchElement=1729852984, TLeaf=2244545638, TLeafB=2112258162,
+                 TLeafS=2844052419, TLeafI=2413585209, TLeafL=2542725372, TLeafF=2284445046, TLeafD=2198351604,
+                 TLeafO=2671865535, TLeafC=2155304883)
+
+
 def tree_classes():
     branch = [base('TNamed', 1), basic('fEntryOffsetLen', 3, 4, 'int'), basic('fWriteBasket', 3, 4, 'int'),
               basic('fMaxBaskets', 6, 4, 'int'), basic('fEntries', 16, 8, 'Long64_t'), array_member('fBranches'),
@@ -154,7 +161,7 @@ def write_element(buffer, e):
 def write_info(buffer, name, version, elements):
     at = buffer.begin(9)
     buffer.named(name)
-    buffer.put(u32(0) + i32(version))
+    buffer.put(u32(TREE_SUMS.get(name, 0)) + i32(version))
     items = [lambda e=e: buffer.pointer(e['kind'], lambda: write_element(buffer, e)) for e in elements]
     buffer.pointer('TObjArray', lambda: buffer.array(items))
     buffer.end(at)
@@ -258,16 +265,23 @@ class File:
     def wide(self, n):
         return struct.pack('>Q' if self.large else '>I', n)
 
+    def key_length(self, tail):
+        return 18 + 2 * len(self.wide(0)) + len(tail)
+
+    def head(self, tail, size, cycle, pdir):
+        """The key of a record with so many bytes of data."""
+        version, length = 1004 if self.large else 4, self.key_length(tail)
+        head = i32(length + size) + u16(version) + u32(size) + u32(1) + u16(length) + u16(cycle)
+        return head + self.wide(self.place) + self.wide(pdir) + tail
+
     def key(self, kind, name, title, data, cycle=1, more=b'', listed=False, pdir=100):
         """A record at the next place; gives its length and place."""
-        version = 1004 if self.large else 4
         tail = text(kind) + text(name) + text(title) + more
-        length = 18 + 2 * len(self.wide(0)) + len(tail)
+        length = self.key_length(tail)
         if callable(data):
             data = data(length)
         data += bytes(-(length + len(data)) % 4)
-        head = i32(length + len(data)) + u16(version) + u32(len(data)) + u32(1) + u16(length) + u16(cycle)
-        head += self.wide(self.place) + self.wide(pdir) + tail
+        head = self.head(tail, len(data), cycle, pdir)
         place = self.place
         self.out.seek(place)
         self.out.write(head + data)
@@ -296,18 +310,25 @@ class File:
                 at += len(entry)
             return got + (u32(len(entries) + 1) + b''.join(map(u32, ends + [at])) if offsets else b'')
         version_to_flag = 19
-        length = 18 + 2 * len(self.wide(0)) + len(text('TBasket') + text(branch.name) + text(tree)) + version_to_flag
+        length = self.key_length(text('TBasket') + text(branch.name) + text(tree)) + version_to_flag
         last = length + sum(map(len, entries))
         size = len(entries) if offsets else len(entries[0])
         more = u16(3) + i32(BASKET_BYTES) + i32(size) + i32(len(entries)) + i32(last) + b'\0'
         got = self.key('TBasket', branch.name, tree, data, cycle=0, more=more)
         branch.baskets.append((got[0], first, got[1]))
 
-    def close(self, classes):
-        info = self.key('TList', 'StreamerInfo', 'Doubly linked list', lambda n: class_list(n, classes))
-        keys = self.key('TFile', self.name, '', u32(len(self.heads)) + b''.join(self.heads))
-        free = self.key('TFile', self.name, '',
-                        u16(1) + u32(0) + u32(2000000000) if not self.large else u16(1001) + bytes(8) + i64(2 ** 62))
+    def basket_key(self, end):
+        """The key alone of a basket that ends there."""
+        tail = text('TBasket') + text('x') + text('T')
+        self.out.seek(self.place)
+        self.out.write(self.head(tail, end - self.place - self.key_length(tail), 0, 100))
+        self.place = end
+
+    def class_list(self, classes):
+        return self.key('TList', 'StreamerInfo', 'Doubly linked list', lambda n: class_list(n, classes))
+
+    def end(self, info, free):
+        """The zero word at END, and the header."""
         end = self.place
         self.out.write(bytes(4))
         fields = b'root' + u32(1060000 if self.large else 60000) + u32(100) + self.wide(end) + self.wide(free[1])
@@ -315,6 +336,13 @@ class File:
         fields += self.wide(info[1]) + u32(info[0]) + u16(1) + bytes(16)
         self.out.seek(0)
         self.out.write(fields + bytes(100 - len(fields)))
+
+    def close(self, classes):
+        info = self.class_list(classes)
+        keys = self.key('TFile', self.name, '', u32(len(self.heads)) + b''.join(self.heads))
+        free = self.key('TFile', self.name, '',
+                        u16(1) + u32(0) + u32(2000000000) if not self.large else u16(1001) + bytes(8) + i64(2 ** 62))
+        self.end(info, free)
         names = text(self.name) + text('')
         self.out.seek(100 + self.name_length)
         self.out.write(self.directory(keys[0], keys[1]))
@@ -432,6 +460,17 @@ def small_file(path, large=False):
     file.close(tree_classes() + [hit_class()])
 
 
+def limit_file(path, end):
+    file = File(path, 'limit.root')
+    place = file.place
+    length, _ = file.class_list(tree_classes())
+    file.out.truncate(place)
+    file.place = place
+    file.basket_key(end - length)
+    file.end(file.class_list(tree_classes()), (0, 0))
+    file.out.close()
+
+
 if __name__ == '__main__':
     words = sys.argv[1:]
     if len(words) == 4 and words[1] == 'wide':
@@ -440,6 +479,8 @@ if __name__ == '__main__':
         counted_file(words[0], int(words[2]), words[3])
     elif len(words) == 4 and words[1] == 'pairs':
         pairs_file(words[0], int(words[2]), int(words[3]))
+    elif len(words) == 3 and words[1] == 'limit':
+        limit_file(words[0], int(words[2]))
     elif len(words) == 2 and words[1] in ('small', 'large'):
         small_file(words[0], words[1] == 'large')
     else:

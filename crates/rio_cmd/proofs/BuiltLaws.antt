@@ -1,17 +1,17 @@
 -- What is built agrees with the whole language.
 use Rattle.std.proofs.Common.{◌≡◌, ℕ, zero, suc, ◌+◌, List, [], ◌∷◌, length, Bool, true, false, Option, Some, None, Ok, Err, refl, sym, ◌∙◌, ap, codes}
 use Rattle.std.proofs.{lemmas.Slice.Eq.{bytes_eq-Decides}, lemmas.Bool.{and_from, and_parts}}
-use Rattle.std.specs.{List.{list_all}, Option.{option_map_or}, Prelude.{if◌then◌else◌, pos, slice_get, ℤ}, Str.{bytes_eq, Lines.{lines}}}
+use Rattle.std.specs.{List.{list_all}, Option.{option_map_or}, Prelude.{if◌then◌else◌, slice_get}, Str.{bytes_eq, Lines.{lines}}}
 use Rattle.rio_num.specs.{At.{At}, Reading.{◌>>=◌}}
 use Rattle.rio_token.specs.{declared.fault.TextFault.TheVariants.{BadText, NoMemory}, declared.token.Token.{Token, TheVariants.{Word}}, Marks.{semicolon}}
-use Rattle.rio_token.specs.Reading.{Read, bad_at, end_at, is_end, is_word, item_at, mark_at, next_word, num_at, some_if, taken_at, version_at}
-use Rattle.rio_token.specs.Tokens.{behind, next_at, standing_in}
+use Rattle.rio_token.specs.Reading.{Read, bad_at, end_at, item_at, mark_at, next_word, num_at}
+use Rattle.rio_token.specs.Tokens.{behind, standing_in}
 use Rattle.rio_model.specs.{ClassGrammar.{class_at}, ValueGrammar.{bracket_limit, enclosed_at, row_at, value_in_text}}
 use Rattle.rio_machine.specs.declared.command.Command.{Command, TheVariants.{Bad, Class, Put, Delete, Tree as MakeTree, Fill, Save, Get, Scan, Ls}}
 use Rattle.rio_step.proofs.{GivenLaws.{Given, one_given, then_any, then_given}, ScriptLaws.{scripts_are_statable}}
 use Rattle.rio_step.specs.Script.{asked_class_at, asked_version_at, class_command_at, command_at, comes_next, commands_from, cycle_at, delete_command_at, ended_at, fill_command_at, get_command_at, is_command_line, line_command, or_bad_line, put_command_at, save_command_at, scan_command_at, tree_command_at}
 use Rattle.rio_step.specs.{Statable.{is_statable}, TreeGrammar.{branches_at}}
-use Rattle.rio_cmd.specs.Built.{built_command_at, built_from, built_get_at, built_line}
+use Rattle.rio_cmd.specs.Built.{built_command_at, built_from, built_line}
 use Rattle.rio_cmd.specs.Laws.{BuiltCommandsAreInTheLanguage, BuiltScriptsAreBuilt, BuiltScriptsAreStatable, BuiltScriptsHaveAllLines, CommandsOfBuiltVerbsAreRead, has_built_verb, is_bad_line, is_built}
 
 -- ---- a verb
@@ -23,15 +23,6 @@ other_word word other s apart comes = by (next_word s) comes
     by : (next : Option (List ℕ)) → option_map_or (λ w. bytes_eq w word) next false ≡ true → option_map_or (λ w. bytes_eq w other) next false ≡ false
     by None e = refl
     by (Some next) e = let same : next ≡ word = (bytes_eq-Decides next word).0 e in rw same apart
-
--- where a word stands, the line doesn't end
-word_is_no_end : (word : List ℕ) (s : At) → comes_next word s ≡ true → end_at s ≡ bad_at s
-unfolding end_at
-word_is_no_end word s comes = by (next_at s).token comes
-  where
-    by : (token : Token) → option_map_or (λ w. bytes_eq w word) (some_if (is_word token) (next_at s).bytes) false ≡ true → taken_at {A = Unit {0}} (some_if (is_end token) tt) s ≡ bad_at s
-    by Word e = refl
-    by other e = absurd cc
 
 class_of_language : (s : At) → comes_next (codes "class") s ≡ true → command_at s ≡ class_command_at s
 unfolding command_at
@@ -73,52 +64,18 @@ one_of_language : (b : Bool) (r t whole : Read Command) → (b ≡ true → IsOf
 one_of_language true r t whole g h = g refl
 one_of_language false r t whole g h = h refl
 
--- what may stand behind a get's cycle, by whether `as` does
-abbrev asked_if : Bool → At → Read (Option ℤ)
-asked_if b s = if b then (version_at (behind s) >>= λ version. Ok (Some (pos version.0), version.1)) else Ok (None, s)
-
-abbrev get_of : List ℕ → Option ℕ → Read (Option ℤ) → Read Command
-get_of name cycle asked = asked >>= λ version. Ok (Get name cycle version.0, version.1)
-
--- the same without a version
-abbrev plain_get : List ℕ → Option ℕ → At → Read Command
-plain_get name cycle s = Ok (Get name cycle None, s)
-
--- a line is bad at `as`
-unasked_of_language : (name : List ℕ) (cycle : Option ℕ) (s : At) → IsOfLanguage (ended_at (plain_get name cycle s)) (ended_at (get_of name cycle (asked_version_at s)))
-unfolding asked_version_at
-unasked_of_language name cycle s = by (comes_next (codes "as") s) refl
-  where
-    by : (b : Bool) → comes_next (codes "as") s ≡ b → IsOfLanguage (ended_at (plain_get name cycle s)) (ended_at (get_of name cycle (asked_if b s)))
-    by true comes = rw (word_is_no_end (codes "as") s comes) tt
-    by false comes = the_same (ended_at (plain_get name cycle s)) (ended_at (plain_get name cycle s)) refl
-
-built_get_of_language : (s : At) → IsOfLanguage (ended_at (built_get_at s)) (ended_at (get_command_at s))
-unfolding built_get_at get_command_at
-built_get_of_language s = by (item_at s)
-  where
-    behind_name : (name : List ℕ) (r : Read (Option ℕ))
-        → IsOfLanguage (ended_at (r >>= λ cycle. Ok (Get name cycle.0 None, cycle.1))) (ended_at (r >>= λ cycle. asked_version_at cycle.1 >>= λ version. Ok (Get name cycle.0 version.0, version.1)))
-    behind_name name (Ok cycle) = unasked_of_language name cycle.0 cycle.1
-    behind_name name (Err e) = tt
-
-    by : (r : Read (List ℕ))
-        → IsOfLanguage (ended_at (r >>= λ name. cycle_at name.1 >>= λ cycle. Ok (Get name.0 cycle.0 None, cycle.1))) (ended_at (r >>= λ name. cycle_at name.1 >>= λ cycle. asked_version_at cycle.1 >>= λ version. Ok (Get name.0 cycle.0 version.0, version.1)))
-    by (Ok name) = behind_name name.0 (cycle_at name.1)
-    by (Err e) = tt
-
 read_of_language : (s : At) → IsOfLanguage (built_command_at s) (command_at s)
 unfolding built_command_at
 read_of_language s =
     let next = behind s in
     let ls = if comes_next (codes "ls") s then ended_at (Ok (Ls, next)) else bad_at s in
-    let get = if comes_next (codes "get") s then ended_at (built_get_at next) else ls in
+    let get = if comes_next (codes "get") s then ended_at (get_command_at next) else ls in
     let delete = if comes_next (codes "delete") s then ended_at (delete_command_at next) else get in
     let put = if comes_next (codes "put") s then ended_at (put_command_at next) else delete in
     one_of_language (comes_next (codes "class") s) (class_command_at s) put (command_at s) (λ comes. the_same _ _ (class_of_language s comes))
     (λ _. one_of_language (comes_next (codes "put") s) (ended_at (put_command_at next)) delete (command_at s) (λ comes. the_same _ _ (put_of_language s comes))
     (λ _. one_of_language (comes_next (codes "delete") s) (ended_at (delete_command_at next)) get (command_at s) (λ comes. the_same _ _ (delete_of_language s comes))
-    (λ _. one_of_language (comes_next (codes "get") s) (ended_at (built_get_at next)) ls (command_at s) (λ comes. rw (get_of_language s comes) (built_get_of_language next))
+    (λ _. one_of_language (comes_next (codes "get") s) (ended_at (get_command_at next)) ls (command_at s) (λ comes. the_same _ _ (get_of_language s comes))
     (λ _. one_of_language (comes_next (codes "ls") s) (ended_at (Ok (Ls, next))) (bad_at s) (command_at s) (λ comes. the_same _ _ (ls_of_language s comes)) (λ _. tt)))))
 
 -- ---- what the whole language reads is read, if its verb is built
@@ -169,35 +126,6 @@ scan_unbuilt s =
     then_any IsUnbuilt (item_at s) (λ name. asked_class_at name.1 >>= λ class. Ok (Scan name.0 class.0, class.1))
     (λ name. then_any IsUnbuilt (asked_class_at name.1) (λ class. Ok (Scan name.0 class.0, class.1)) (λ class. refl))
 
--- a get with a version isn't built
-unasked_read : (name : List ℕ) (cycle : Option ℕ) (s : At) → IsRead (ended_at (get_of name cycle (asked_version_at s))) (ended_at (plain_get name cycle s))
-unfolding asked_version_at
-unasked_read name cycle s = by (comes_next (codes "as") s)
-  where
-    versioned : (r : Read ℕ) → Given IsUnbuilt (get_of name cycle (r >>= λ version. Ok (Some (pos version.0), version.1)))
-    versioned (Ok version) = refl
-    versioned (Err e) = tt
-
-    by : (b : Bool) → IsRead (ended_at (get_of name cycle (asked_if b s))) (ended_at (plain_get name cycle s))
-    by true =
-        unbuilt_read (ended_at (get_of name cycle (asked_if true s))) (ended_at (plain_get name cycle s))
-        (ended_given IsUnbuilt (get_of name cycle (asked_if true s)) (versioned (version_at (behind s))))
-    by false = the_same_read (ended_at (plain_get name cycle s)) (ended_at (plain_get name cycle s)) refl
-
-get_read : (s : At) → IsRead (ended_at (get_command_at s)) (ended_at (built_get_at s))
-unfolding built_get_at get_command_at
-get_read s = by (item_at s)
-  where
-    behind_name : (name : List ℕ) (r : Read (Option ℕ))
-        → IsRead (ended_at (r >>= λ cycle. asked_version_at cycle.1 >>= λ version. Ok (Get name cycle.0 version.0, version.1))) (ended_at (r >>= λ cycle. Ok (Get name cycle.0 None, cycle.1)))
-    behind_name name (Ok cycle) = unasked_read name cycle.0 cycle.1
-    behind_name name (Err e) = tt
-
-    by : (r : Read (List ℕ))
-        → IsRead (ended_at (r >>= λ name. cycle_at name.1 >>= λ cycle. asked_version_at cycle.1 >>= λ version. Ok (Get name.0 cycle.0 version.0, version.1))) (ended_at (r >>= λ name. cycle_at name.1 >>= λ cycle. Ok (Get name.0 cycle.0 None, cycle.1)))
-    by (Ok name) = behind_name name.0 (cycle_at name.1)
-    by (Err e) = tt
-
 -- no verb before these comes next
 module _ (s : At) where
   built_class : comes_next (codes "class") s ≡ true → built_command_at s ≡ class_command_at s
@@ -215,7 +143,7 @@ module _ (s : At) where
       built_delete delete = rw (class, put, delete) refl
 
       module _ (delete : comes_next (codes "delete") s ≡ false) where
-        built_get : comes_next (codes "get") s ≡ true → built_command_at s ≡ ended_at (built_get_at (behind s))
+        built_get : comes_next (codes "get") s ≡ true → built_command_at s ≡ ended_at (get_command_at (behind s))
         unfolding built_command_at
         built_get get = rw (class, put, delete, get) refl
 
@@ -243,7 +171,7 @@ language_read s =
     (λ no_delete. one_read (comes_next (codes "tree") s) (ended_at (tree_command_at next)) fill read (λ _. unbuilt (tree_command_at next) (tree_unbuilt next))
     (λ _. one_read (comes_next (codes "fill") s) (ended_at (fill_command_at next)) save read (λ _. unbuilt (fill_command_at next) (fill_unbuilt next))
     (λ _. one_read (comes_next (codes "save") s) (ended_at (save_command_at next)) get read (λ _. unbuilt (save_command_at next) (save_unbuilt next))
-    (λ _. one_read (comes_next (codes "get") s) (ended_at (get_command_at next)) scan read (λ comes. rw (built_get s no_class no_put no_delete comes) (get_read next))
+    (λ _. one_read (comes_next (codes "get") s) (ended_at (get_command_at next)) scan read (λ comes. the_same_read (ended_at (get_command_at next)) read (built_get s no_class no_put no_delete comes))
     (λ no_get. one_read (comes_next (codes "scan") s) (ended_at (scan_command_at next)) ls read (λ _. unbuilt (scan_command_at next) (scan_unbuilt next))
     (λ _. one_read (comes_next (codes "ls") s) (ended_at (Ok (Ls, next))) (bad_at s) read (λ comes. the_same_read (ended_at (Ok (Ls, next))) read (built_ls s no_class no_put no_delete no_get comes)) (λ _. tt)))))))))
 
@@ -268,24 +196,25 @@ delete_has s =
     (λ name. then_any HasVerb (mark_at semicolon name.1) (λ passed. num_at passed.1 >>= λ cycle. Ok (Delete name.0 cycle.0, cycle.1))
     (λ passed. then_any HasVerb (num_at passed.1) (λ cycle. Ok (Delete name.0 cycle.0, cycle.1)) (λ cycle. refl)))
 
-get_has : (s : At) → Given HasVerb (built_get_at s)
-unfolding built_get_at
+get_has : (s : At) → Given HasVerb (get_command_at s)
+unfolding get_command_at
 get_has s =
-    then_any HasVerb (item_at s) (λ name. cycle_at name.1 >>= λ cycle. Ok (Get name.0 cycle.0 None, cycle.1))
-    (λ name. then_any HasVerb (cycle_at name.1) (λ cycle. Ok (Get name.0 cycle.0 None, cycle.1)) (λ cycle. refl))
+    then_any HasVerb (item_at s) (λ name. cycle_at name.1 >>= λ cycle. asked_version_at cycle.1 >>= λ version. Ok (Get name.0 cycle.0 version.0, version.1))
+    (λ name. then_any HasVerb (cycle_at name.1) (λ cycle. asked_version_at cycle.1 >>= λ version. Ok (Get name.0 cycle.0 version.0, version.1))
+    (λ cycle. then_any HasVerb (asked_version_at cycle.1) (λ version. Ok (Get name.0 cycle.0 version.0, version.1)) (λ version. refl)))
 
 command_has : (s : At) → Given HasVerb (built_command_at s)
 unfolding built_command_at
 command_has s =
     let next = behind s in
     let ls = if comes_next (codes "ls") s then ended_at (Ok (Ls, next)) else bad_at s in
-    let get = if comes_next (codes "get") s then ended_at (built_get_at next) else ls in
+    let get = if comes_next (codes "get") s then ended_at (get_command_at next) else ls in
     let delete = if comes_next (codes "delete") s then ended_at (delete_command_at next) else get in
     let put = if comes_next (codes "put") s then ended_at (put_command_at next) else delete in
     one_given HasVerb (comes_next (codes "class") s) (class_command_at s) put (λ _. class_has s)
     (λ _. one_given HasVerb (comes_next (codes "put") s) (ended_at (put_command_at next)) delete (λ _. ended_given HasVerb (put_command_at next) (put_has next))
     (λ _. one_given HasVerb (comes_next (codes "delete") s) (ended_at (delete_command_at next)) get (λ _. ended_given HasVerb (delete_command_at next) (delete_has next))
-    (λ _. one_given HasVerb (comes_next (codes "get") s) (ended_at (built_get_at next)) ls (λ _. ended_given HasVerb (built_get_at next) (get_has next))
+    (λ _. one_given HasVerb (comes_next (codes "get") s) (ended_at (get_command_at next)) ls (λ _. ended_given HasVerb (get_command_at next) (get_has next))
     (λ _. one_given HasVerb (comes_next (codes "ls") s) (ended_at (Ok (Ls, next))) (bad_at s) (λ _. ended_given HasVerb (Ok (Ls, next)) refl) (λ _. tt)))))
 
 -- ---- lines

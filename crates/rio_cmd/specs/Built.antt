@@ -1,20 +1,12 @@
--- Scripts as they are read as yet: the verbs `class`, `put`, `delete`, `get` without a version, and `ls`. A line is bad at
--- any other verb, and at an `as` after `get`. All else is that of the whole language, which stands in
--- rio_step/specs/Script.antt.
+-- Scripts as they are read as yet: the verbs `class`, `put`, `delete`, `get` and `ls`. A line is bad at any other verb. All
+-- else is that of the whole language, which stands in rio_step/specs/Script.antt.
 --
 -- These definitions go out when all verbs are built: `script_of` then takes the place of `built_script`.
-use Rattle.std.specs.{Prelude.{ℕ, ◌+◌, List, [], ◌∷◌, codes, None, Ok, if◌then◌else◌}, Str.Lines.{lines}}
-use Rattle.rio_num.specs.{At.{At}, Reading.{◌>>=◌}}
-use Rattle.rio_token.specs.{Reading.{Read, bad_at, item_at}, Tokens.{behind, standing_in}}
-use Rattle.rio_machine.specs.declared.command.Command.{Command, TheVariants.{Get, Ls}}
-use Rattle.rio_step.specs.Script.{class_command_at, comes_next, cycle_at, delete_command_at, ended_at, is_command_line, or_bad_line, put_command_at}
-
--- get = "get" ITEM [";" NUM], behind its verb
-unfoldable pub built_get_at : At → Read Command
-built_get_at s = do
-  name ← item_at s
-  cycle ← cycle_at name.1
-  Ok (Get name.0 cycle.0 None, cycle.1)
+use Rattle.std.specs.{Prelude.{ℕ, ◌+◌, List, [], ◌∷◌, codes, Ok, if◌then◌else◌}, Str.Lines.{lines}}
+use Rattle.rio_num.specs.At.{At}
+use Rattle.rio_token.specs.{Reading.{Read, bad_at}, Tokens.{behind, standing_in}}
+use Rattle.rio_machine.specs.declared.command.Command.{Command, TheVariants.{Ls}}
+use Rattle.rio_step.specs.Script.{class_command_at, comes_next, delete_command_at, ended_at, get_command_at, is_command_line, or_bad_line, put_command_at}
 
 -- the command that a line is, by its first word
 unfoldable pub built_command_at : At → Read Command
@@ -22,7 +14,7 @@ built_command_at s =
     if comes_next (codes "class") s then class_command_at s
     else if comes_next (codes "put") s then ended_at (put_command_at (behind s))
     else if comes_next (codes "delete") s then ended_at (delete_command_at (behind s))
-    else if comes_next (codes "get") s then ended_at (built_get_at (behind s))
+    else if comes_next (codes "get") s then ended_at (get_command_at (behind s))
     else if comes_next (codes "ls") s then ended_at (Ok (Ls, behind s))
     else bad_at s
 

@@ -1,5 +1,5 @@
 -- What is built agrees with the whole language. These definitions go out when all verbs are built.
-use Rattle.std.specs.{Prelude.{◌≡◌, ℕ, List, length, slice_get, Some, None, Bool, true, false}, List.{list_all}}
+use Rattle.std.specs.{Prelude.{◌≡◌, ℕ, List, length, slice_get, Some, Bool, true, false}, List.{list_all}}
 use Rattle.rio_machine.specs.declared.command.Command.{Command, TheVariants.{Bad, Class, Put, Delete, Get, Ls}}
 use Rattle.rio_step.specs.{Script.{script_of}, Statable.{is_statable}}
 use Rattle.rio_cmd.specs.Built.{built_script}
@@ -13,7 +13,7 @@ abbrev pub has_built_verb : Command → Bool
 has_built_verb (Class class) = true
 has_built_verb (Put name v) = true
 has_built_verb (Delete name cycle) = true
-has_built_verb (Get name cycle None) = true
+has_built_verb (Get name cycle version) = true
 has_built_verb Ls = true
 has_built_verb other = false
 

@@ -2,8 +2,8 @@
 ghost use Rattle.std.specs.Prelude.{◌≡◌, if◌then◌else◌};
 ghost use Rattle.rio_token.specs.Reading.{Reads};
 ghost use Rattle.rio_token.specs.Tokens.{behind};
-ghost use Rattle.rio_step.specs.Script.{class_command_at, comes_next, cycle_at, delete_command_at, ended_at, put_command_at};
-ghost use Rattle.rio_cmd.specs.Built.{built_command_at, built_get_at};
+ghost use Rattle.rio_step.specs.Script.{asked_version_at, class_command_at, comes_next, cycle_at, delete_command_at, ended_at, get_command_at, put_command_at};
+ghost use Rattle.rio_cmd.specs.Built.{built_command_at};
 
 use rio_decl::take_class;
 use rio_machine::Command;
@@ -19,37 +19,37 @@ use std::alloc::Global;
 pub(crate) fn read_command(alloc: Global, tokens: &mut Tokens) -> Result<Command, TextFault>
     ensures { Reads (λ c. c) result (built_command_at tokens.old) tokens.new }
 {
-    if is_verb_next(tokens, b"class") {
+    if is_keyword_next(tokens, b"class") {
         read_class(alloc, tokens)
-    } else if take_verb(tokens, b"put") {
+    } else if take_keyword(tokens, b"put") {
         read_put(alloc, tokens)
-    } else if take_verb(tokens, b"delete") {
+    } else if take_keyword(tokens, b"delete") {
         read_delete(alloc, tokens)
-    } else if take_verb(tokens, b"get") {
+    } else if take_keyword(tokens, b"get") {
         read_get(alloc, tokens)
-    } else if take_verb(tokens, b"ls") {
+    } else if take_keyword(tokens, b"ls") {
         read_ls(tokens)
     } else {
         Err(tokens.bad())
     }
 }
 
-// Whether this verb comes next.
-fn is_verb_next(tokens: &Tokens, verb: &[u8]) -> bool
-    ensures { result ≡ comes_next verb.now tokens.now }
+// Whether this word comes next.
+fn is_keyword_next(tokens: &Tokens, keyword: &[u8]) -> bool
+    ensures { result ≡ comes_next keyword.now tokens.now }
 {
     match tokens.peek_word() {
-        Some(word) => word == verb,
+        Some(word) => word == keyword,
         None => false,
     }
 }
 
-// Passes over this verb, if it comes next.
-fn take_verb(tokens: &mut Tokens, verb: &[u8]) -> bool
-    ensures value { result ≡ comes_next verb.now tokens.old }
+// Passes over this word, if it comes next.
+fn take_keyword(tokens: &mut Tokens, keyword: &[u8]) -> bool
+    ensures value { result ≡ comes_next keyword.now tokens.old }
     ensures state { tokens.new ≡ (if result then behind tokens.old else tokens.old) }
 {
-    if is_verb_next(tokens, verb) {
+    if is_keyword_next(tokens, keyword) {
         tokens.pass();
         true
     } else {
@@ -98,18 +98,32 @@ fn read_cycle(tokens: &mut Tokens) -> Result<Option<u32>, TextFault>
     }
 }
 
-#[tactic(auto, unfolding(crate::specs::Built::built_get_at))]
+// The version behind `as`, if one is asked.
+#[tactic(auto, unfolding(rio_step::specs::Script::asked_version_at))]
+fn read_asked_version(tokens: &mut Tokens) -> Result<Option<i32>, TextFault>
+    ensures { Reads (λ version. version) result (asked_version_at tokens.old) tokens.new }
+{
+    if take_keyword(tokens, b"as") {
+        let version = tokens.take_num_between(1, 32_767)?;
+        Ok(Some(version as i32))
+    } else {
+        Ok(None)
+    }
+}
+
+#[tactic(auto, unfolding(rio_step::specs::Script::get_command_at))]
 fn read_get(alloc: Global, tokens: &mut Tokens) -> Result<Command, TextFault>
-    ensures { Reads (λ c. c) result (ended_at (built_get_at tokens.old)) tokens.new }
+    ensures { Reads (λ c. c) result (ended_at (get_command_at tokens.old)) tokens.new }
 {
     let name = tokens.take_item()?;
     let cycle = read_cycle(tokens)?;
+    let version = read_asked_version(tokens)?;
     tokens.expect_end()?;
     let name = Name::from_slice(alloc, name)?;
     Ok(Command::Get {
         name,
         cycle,
-        version: None,
+        version,
     })
 }
 

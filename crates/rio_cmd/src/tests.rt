@@ -16,6 +16,11 @@ fn put_cycle(text: &mut Bytes, cycle: u32) -> Result<(), NoMemory> {
     put_number(text, b";", cycle)
 }
 
+fn put_version(text: &mut Bytes, version: i32) -> Result<(), NoMemory> {
+    text.put(b" as ")?;
+    text.put_integer(i128::from(version))
+}
+
 fn put_command(text: &mut Bytes, command: &Command) -> Result<(), NoMemory> {
     match command {
         Command::Bad { line, place } => {
@@ -37,12 +42,15 @@ fn put_command(text: &mut Bytes, command: &Command) -> Result<(), NoMemory> {
         Command::Get {
             name,
             cycle,
-            version: None,
+            version,
         } => {
             text.put(b"get ")?;
             text.put(name.as_slice())?;
-            match cycle {
-                Some(cycle) => put_cycle(text, *cycle),
+            if let Some(cycle) = cycle {
+                put_cycle(text, *cycle)?;
+            }
+            match version {
+                Some(version) => put_version(text, *version),
                 None => Ok(()),
             }
         }
@@ -69,11 +77,23 @@ fn commands_of(alloc: Global, script: &[u8]) -> Result<Bytes, NoMemory> {
 fn reads_scripts(rt: HostRuntime) -> Result<(), Fail> {
     let stored = b"put s TObjString{TObject{fUniqueID: 0, fBits: 0}, fString: \"hi\"}";
     let printed = b"put s TObjString#0{TObject#0{fUniqueID: 0, fBits: 0}, fString: \"hi\"}\n";
-    let table: [(&[u8], &[u8]); 17] = [
+    let table: [(&[u8], &[u8]); 20] = [
         (b"put s TObjString{\n\nfrob x\n", b"bad 1 17\nbad 3 0\n"),
         (stored, printed),
         (b"get s\nget s;2\nls", b"get s\nget s;2\nls\n"),
-        (b"get s as 2\ntree T x=x/I\n", b"bad 1 6\nbad 2 0\n"),
+        (b"get s as 2\ntree T x=x/I\n", b"get s as 2\nbad 2 0\n"),
+        (
+            b"get s;2 as 32767\nget\ts ; 2\tas\t1 \nget as as 1\nget as\n",
+            b"get s;2 as 32767\nget s;2 as 1\nget as as 1\nget as\n",
+        ),
+        (
+            b"get s as 0\nget s as 32768\nget s as -1\nget s as 1 2\nget s as #1\n",
+            b"bad 1 9\nbad 2 9\nbad 3 9\nbad 4 11\nbad 5 9\n",
+        ),
+        (
+            b"get s as\nget s;2 as\nget s As 1\nget s as1\nget s;as 1\nget s as 1 as 1\n",
+            b"bad 1 8\nbad 2 10\nbad 3 6\nbad 4 6\nbad 5 6\nbad 6 11\n",
+        ),
         (b"put s 5 x\nget s;007\n", b"bad 1 8\nbad 2 6\n"),
         (
             b"put 007 5\n get\t.-+ ; 4294967295 \n",

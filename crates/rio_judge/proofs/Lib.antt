@@ -1,6 +1,5 @@
 pub mod ClassLaws
 pub mod ClassTests
-pub mod CostLaws
 pub mod DeclaredAgain
 pub mod DeleteTests
 pub mod GetTests

@@ -1,5 +1,5 @@
 -- What is found of a command: why it is refused, or what it is to do.
-use Rattle.std.specs.{Prelude.{◌≡◌, ◌≤◌, ◌<◌, ℕ, ◌+◌, List, [], ◌∷◌, ◌++◌, length, Bool, true, false, Some, None, IsSome}, FinMap.{get}}
+use Rattle.std.specs.{Prelude.{◌≡◌, ◌≤◌, ◌<◌, ℕ, ◌+◌, List, [], ◌∷◌, ◌++◌, length, Bool, true, false, Option, Some, None, IsSome}, FinMap.{get}}
 use Rattle.rio_key.specs.declared.head.KeyHead.{KeyHead}
 use Rattle.rio_dir.specs.Table.{AreOrdered, greatest_cycle, head_of}
 use Rattle.rio_types.specs.declared.class.ClassDef.{ClassDef}
@@ -7,7 +7,9 @@ use Rattle.rio_value.specs.declared.value.Value.{Value}
 use Rattle.rio_format.specs.{Written.{written_form}, WrittenBytes.{length_limit, written_list}}
 use Rattle.rio_model.specs.{Declaring.{declare_fault, declared}, Resolving.{resolved}}
 use Rattle.rio_machine.specs.{Limits.{cycle_limit, item_limit}, State.{State, next_cycle}, declared.command.Command.{Command, TheVariants.{Bad, Class, Put, Delete, Get, Ls}}}
-use Rattle.rio_step.specs.{ItemKeys.{AreKeysOfState}, Refusing.{is_list_name, meant_cycle, meant_object, object_class, put_value, refusal_of, with_class}}
+use Rattle.rio_machine.specs.declared.refusal.Refusal.{Refusal, TheVariants.{NoVersion}}
+use Rattle.rio_step.specs.ItemKeys.{AreKeysOfState}
+use Rattle.rio_step.specs.Refusing.{first_of, is_list_name, kind_change, lacks_version, meant_cycle, meant_object, object_class, put_value, refusal_of, refused_if, with_class}
 use Rattle.rio_step.specs.{Costs.{info_size}, Storable.{IsStoredObject}}
 use Rattle.rio_judge.specs.declared.work.Judged.{Judged, TheVariants.{Accepted, Refused}}
 use Rattle.rio_judge.specs.declared.work.{NewClass.{NewClass}, StoredObject.{StoredObject}}
@@ -19,7 +21,7 @@ is_judged (Bad line place) = true
 is_judged (Class class) = true
 is_judged (Put name v) = true
 is_judged (Delete name cycle) = true
-is_judged (Get name cycle None) = true
+is_judged (Get name cycle version) = true
 is_judged Ls = true
 is_judged other = false
 
@@ -37,14 +39,22 @@ abbrev pub IsWorkOf : State → Command → Work → Type 0
 IsWorkOf m (Class class) (Declaring d) = (d.class ≡ declared m.classes class) × (d.length ≡ info_size (with_class m.classes class))
 IsWorkOf m (Put name v) (Storing o) = (o.name ≡ name) × IsStep m v o
 IsWorkOf m (Delete name cycle) (Deleting h) = (h.name ≡ name) × (h.cycle ≡ cycle) × IsSome (get m.objects (name, cycle))
-IsWorkOf m (Get name cycle version) (Telling h) = (h.name ≡ name) × (h.cycle ≡ meant_cycle m name cycle) × IsSome (meant_object m name cycle)
+IsWorkOf m (Get name cycle version) (Telling h asked) = (h.name ≡ name) × (h.cycle ≡ meant_cycle m name cycle) × IsSome (meant_object m name cycle) × (asked ≡ version)
 IsWorkOf m Ls Listing = Unit {0}
 IsWorkOf m other work = ⊥
 
--- It tells the state's first refusal, or, where there is none, what the command is to do.
+-- Why a get in a version of the object's class is refused by the object itself: a kind has changed, or there is no such
+-- version. These two are the last refusals of a get. Classes and keys don't tell them; no other command has one.
+abbrev pub refused_by_object : State → Command → Option Refusal
+refused_by_object m (Get name cycle (Some version)) =
+    first_of (kind_change m (Get name cycle (Some version)) ∷ refused_if (lacks_version m (Get name cycle (Some version))) NoVersion ∷ [])
+refused_by_object m other = None
+
+-- It tells the state's first refusal, or what the command is to do. The state then refuses the command for no other reason
+-- than one that the object tells, and but for a get in a version not at all.
 abbrev pub IsJudgement : State → Command → Judged → Type 0
 IsJudgement m c (Refused refusal) = refusal_of m c None ≡ Some refusal
-IsJudgement m c (Accepted work) = (refusal_of m c None ≡ None) × IsWorkOf m c work
+IsJudgement m c (Accepted work) = (refusal_of m c None ≡ refused_by_object m c) × IsWorkOf m c work
 
 -- it is so for each state that has these classes and for whose objects these keys stand
 abbrev pub IsJudgementOfStates : List ClassDef → List KeyHead → Command → Judged → Type 0
@@ -79,7 +89,7 @@ abbrev pub WorkCanBeDone : List ClassDef → List KeyHead → Command → Work �
 WorkCanBeDone classes heads (Class class) (Declaring d) = CanBeDeclared classes class d
 WorkCanBeDone classes heads (Put name v) (Storing o) = (o.name ≡ name) × CanBeStored classes heads v o
 WorkCanBeDone classes heads (Delete name cycle) (Deleting h) = head_of name (Some cycle) heads ≡ Some h
-WorkCanBeDone classes heads (Get name cycle version) (Telling h) = head_of name (Some h.cycle) heads ≡ Some h
+WorkCanBeDone classes heads (Get name cycle version) (Telling h asked) = (asked ≡ version) × (head_of name (Some h.cycle) heads ≡ Some h)
 WorkCanBeDone classes heads Ls Listing = Unit {0}
 WorkCanBeDone classes heads other work = ⊥
 

@@ -4,7 +4,7 @@ use Rattle.rio_machine.specs.{State.{State}, declared.command.Command.{Command},
 use Rattle.rio_model.specs.declared.declare.DeclareFault as declaring
 use Rattle.rio_step.specs.Refusing.{first_of, refusal_of}
 use Rattle.rio_valtext.specs.declared.resolving.ResolveFault.{ResolveFault, TheVariants.{NoSuchClass as Unknown, NoMemory as NoRoom}}
-use Rattle.rio_judge.specs.{Judging.{IsWorkOf}, declared.stop.Stop.{Stop, TheVariants.{Refused, NoMemory}}, declared.work.Work.{Work}}
+use Rattle.rio_judge.specs.{Judging.{IsWorkOf, refused_by_object}, declared.stop.Stop.{Stop, TheVariants.{Refused, NoMemory}}, declared.work.Work.{Work}}
 
 -- a class that isn't known refuses a command
 abbrev pub stop_of : ResolveFault → Stop
@@ -29,7 +29,7 @@ abbrev pub GoesByTests : {A : Type 0} → List (Option Refusal) → Result A Sto
 GoesByTests tests (Ok x) = first_of tests ≡ None
 GoesByTests tests (Err stop) = StopsAt (first_of tests) stop
 
--- it gives what the command is to do where the state doesn't refuse it, and else stops at the refusal
+-- it gives what the command is to do where the state doesn't refuse it, unless by its object, and else stops at the refusal
 abbrev pub GoesByState : State → Command → Result Work Stop → Type 0
-GoesByState m c (Ok work) = (refusal_of m c None ≡ None) × IsWorkOf m c work
+GoesByState m c (Ok work) = (refusal_of m c None ≡ refused_by_object m c) × IsWorkOf m c work
 GoesByState m c (Err stop) = StopsAt (refusal_of m c None) stop

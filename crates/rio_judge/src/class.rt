@@ -12,6 +12,7 @@ ghost use Rattle.rio_types.specs.Classes.{find_in};
 ghost use Rattle.rio_judge.specs.Judging.{WorkCanBeDone};
 ghost use Rattle.rio_judge.specs.Stops.{GoesByState, GoesByTests};
 
+use crate::put::LENGTH_LIMIT;
 use crate::stop::Stop;
 use crate::{NewClass, Work};
 use rio_info::info_length_with;
@@ -19,9 +20,6 @@ use rio_machine::Refusal;
 use rio_registry::{Registry, is_reserved_name};
 use rio_types::{ClassDef, Classes};
 use std::alloc::Global;
-
-/// The most bytes of a class list.
-const LENGTH_LIMIT: u64 = 16_777_216;
 
 /// The most classes of a file.
 const CLASS_LIMIT: usize = 4096;

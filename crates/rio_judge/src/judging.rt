@@ -18,7 +18,8 @@ use rio_registry::Registry;
 use std::alloc::Global;
 
 /// Why the state refuses the command, or what the command is to do. Of several refusals the one of
-/// the lowest number is returned; that of want of room, the last, is left to the caller. The state is
+/// the lowest number is returned. Want of room, the last, is left to the caller, and so is whether an
+/// object can be had in the version that a get asks for: the object stands in the file. The state is
 /// known by its classes and by the keys of its objects, in which names and cycles are searched. A
 /// value is gone over a constant number of times, and for a declaration the class list is made and
 /// measured.
@@ -65,8 +66,8 @@ fn work_of(
         Command::Get {
             name,
             cycle,
-            version: None,
-        } => get_work(table, name.as_slice(), *cycle),
+            version,
+        } => get_work(table, name.as_slice(), *cycle, *version),
         Command::Ls => Ok(Work::Ls),
         // The other commands are judged here when they are built.
         _ => unreachable!(),

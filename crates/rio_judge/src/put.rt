@@ -29,8 +29,8 @@ use std::alloc::Global;
 /// The greatest cycle.
 const CYCLE_LIMIT: u32 = 32_767;
 
-/// The most bytes of an object's data.
-const LENGTH_LIMIT: u64 = 16_777_216;
+/// The most bytes of an object's data, and of a class list.
+pub(crate) const LENGTH_LIMIT: u64 = 16_777_216;
 
 /// The most levels of objects in a value.
 const DEPTH_LIMIT: u32 = 256;

@@ -46,19 +46,27 @@ fn judged(alloc: Global, command: &Command) -> Result<Judged, NoMemory>
     judge(alloc, &Registry::new(alloc), &table, command)
 }
 
-// What is found of a command: the number of its refusal; or in which cycle what is stored, deleted or printed, 0 for none of
-// these, and what it may cost.
+// What is found of a command: the number of its refusal; or in which cycle what is stored, deleted or printed, and how many
+// bytes are written of what is stored or declared, 0 for none of these.
 #[derive(Clone, Copy)]
 pub(crate) enum Found {
     Refused(u8),
-    Accepted { cycle: u16, cost: u64 },
+    Accepted { cycle: u16, length: u32 },
 }
 
 fn cycle_of(work: &Work) -> u16 {
     match work {
         Work::Class(_) | Work::Ls => 0,
         Work::Put(object) => object.cycle,
-        Work::Delete(head) | Work::Get(head) => head.cycle,
+        Work::Delete(head) | Work::Get { head, .. } => head.cycle,
+    }
+}
+
+fn length_of(work: &Work) -> u32 {
+    match work {
+        Work::Class(new) => new.length,
+        Work::Put(object) => object.length,
+        Work::Delete(_) | Work::Get { .. } | Work::Ls => 0,
     }
 }
 
@@ -66,8 +74,8 @@ impl Found {
     pub(crate) fn is_of(&self, judged: &Judged) -> bool {
         match (self, judged) {
             (Found::Refused(number), Judged::Refused(refusal)) => refusal.number() == *number,
-            (Found::Accepted { cycle, cost }, Judged::Accepted(work)) => {
-                cycle_of(work) == *cycle && work.cost() == *cost
+            (Found::Accepted { cycle, length }, Judged::Accepted(work)) => {
+                cycle_of(work) == *cycle && length_of(work) == *length
             }
             _ => false,
         }
@@ -129,7 +137,7 @@ static PUTS: [Put; 10] = [
         value: b"TNamed{TObject{fUniqueID: 0, fBits: 0}, fName: \"\", fTitle: \"\"}",
         found: Found::Accepted {
             cycle: 1,
-            cost: 518,
+            length: 18,
         },
     },
     Put {
@@ -137,7 +145,7 @@ static PUTS: [Put; 10] = [
         value: b"TList{TObject{fUniqueID: 0, fBits: 0}, fName: \"\", items: []}",
         found: Found::Accepted {
             cycle: 1,
-            cost: 521,
+            length: 21,
         },
     },
     // The length of the text has one byte, and before it are 16.
@@ -146,7 +154,7 @@ static PUTS: [Put; 10] = [
         value: EMPTY,
         found: Found::Accepted {
             cycle: 1,
-            cost: 517,
+            length: 17,
         },
     },
     Put {
@@ -154,7 +162,7 @@ static PUTS: [Put; 10] = [
         value: EMPTY,
         found: Found::Accepted {
             cycle: 2,
-            cost: 517,
+            length: 17,
         },
     },
 ];
@@ -201,25 +209,46 @@ fn puts_are_refused_by_the_first_rule_or_get_the_next_cycle(rt: HostRuntime) {
     assert_eq!(rt; count_puts(rt.alloc()), PUTS.len());
 }
 
-fn get_of(alloc: Global, name: &[u8], cycle: Option<u32>) -> Result<Command, NoMemory>
+fn get_of(
+    alloc: Global,
+    name: &[u8],
+    cycle: Option<u32>,
+    version: Option<i32>,
+) -> Result<Command, NoMemory>
     ensures { IfOk result (λ c. IsTrue (is_judged c)) }
 {
     Ok(Command::Get {
         name: Name::from_slice(alloc, name)?,
         cycle,
-        version: None,
+        version,
     })
 }
 
-// Whether this is found of the object of a name that is told.
-fn is_told(alloc: Global, name: &[u8], cycle: Option<u32>, found: Found) -> bool {
-    match get_of(alloc, name, cycle) {
+// Whether this is found of a get in this version.
+fn is_found_in(
+    alloc: Global,
+    name: &[u8],
+    cycle: Option<u32>,
+    version: Option<i32>,
+    found: Found,
+) -> bool {
+    match get_of(alloc, name, cycle, version) {
         Ok(command) => found.is_found(alloc, &command),
         Err(_) => false,
     }
 }
 
-const FIRST: Found = Found::Accepted { cycle: 1, cost: 0 };
+// Whether this is found of a get, with and without a version.
+fn is_told(alloc: Global, name: &[u8], cycle: Option<u32>, found: Found) -> bool {
+    is_found_in(alloc, name, cycle, None, found)
+        && is_found_in(alloc, name, cycle, Some(1), found)
+        && is_found_in(alloc, name, cycle, Some(9), found)
+}
+
+const FIRST: Found = Found::Accepted {
+    cycle: 1,
+    length: 0,
+};
 
 #[test]
 fn gets_are_refused_by_the_first_rule(rt: HostRuntime) {
@@ -230,6 +259,32 @@ fn gets_are_refused_by_the_first_rule(rt: HostRuntime) {
     assert!(rt; is_told(alloc, b"s", Some(65_537), Found::Refused(4)));
     assert!(rt; is_told(alloc, b"s", Some(1), FIRST));
     assert!(rt; is_told(alloc, b"s", None, FIRST));
+}
+
+// The version that work is to print an object in, if it prints one.
+fn asked_by(judged: &Judged) -> Option<i32> {
+    match judged {
+        Judged::Accepted(Work::Get { version, .. }) => *version,
+        _ => None,
+    }
+}
+
+fn keeps_version(alloc: Global, cycle: Option<u32>, version: Option<i32>) -> bool {
+    let Ok(command) = get_of(alloc, b"s", cycle, version) else {
+        return false;
+    };
+    match judged(alloc, &command) {
+        Ok(judged) => asked_by(&judged) == version,
+        Err(_) => false,
+    }
+}
+
+#[test]
+fn work_has_the_version_that_a_get_asks_for(rt: HostRuntime) {
+    let alloc = rt.alloc();
+    assert!(rt; keeps_version(alloc, None, None));
+    assert!(rt; keeps_version(alloc, None, Some(2)));
+    assert!(rt; keeps_version(alloc, Some(1), Some(32_767)));
 }
 
 fn delete_of(alloc: Global, name: &[u8], cycle: u32) -> Result<Command, NoMemory>
@@ -259,7 +314,10 @@ fn deletes_are_refused_by_the_first_rule(rt: HostRuntime) {
     assert!(rt; is_deleted(alloc, b"s", 1, FIRST));
 }
 
-const LISTED: Found = Found::Accepted { cycle: 0, cost: 0 };
+const LISTED: Found = Found::Accepted {
+    cycle: 0,
+    length: 0,
+};
 
 #[test]
 fn bad_lines_and_lists(rt: HostRuntime) {

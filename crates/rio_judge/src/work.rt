@@ -38,8 +38,8 @@ pub enum Work {
     Put(StoredObject),
     /// Deletes the object of this key, which is there.
     Delete(KeyHead),
-    /// Prints the object of this key, which is there.
-    Get(KeyHead),
+    /// Prints the object of this key, which is there: as it is, or in this version of its class.
+    Get { head: KeyHead, version: Option<i32> },
     /// Prints the names of all objects and trees.
     Ls,
 }
@@ -49,30 +49,7 @@ pub enum Work {
 pub enum Judged {
     /// It is refused for this reason, and changes nothing.
     Refused(Refusal),
-    /// It isn't refused, unless room is wanting, and is to do this.
+    /// It is to do this. It isn't refused but for want of room, or where a get asks for a version that the
+    /// object can't be had in.
     Accepted(Work),
-}
-
-impl Work {
-    ghost use Rattle.std.specs.Prelude.{◌≡◌, None};
-    ghost use Rattle.rio_machine.specs.State.{State};
-    ghost use Rattle.rio_machine.specs.declared.command.Command.{Command};
-    ghost use Rattle.rio_step.specs.Costs.{cost_of};
-    ghost use Rattle.rio_step.specs.Refusing.{refusal_of};
-    ghost use Rattle.rio_judge.specs.Judging.{IsWorkOf};
-
-    /// What the command may cost of a file's room, in bytes: for a declaration 100 and the class list,
-    /// for a put 500 and what is written of the object.
-    pub fn cost(&self) -> u64
-        ensures { (m : State) (c : Command) → refusal_of m c None ≡ None → IsWorkOf m c self.now
-            → result ≡ cost_of m c }
-    {
-        match self {
-            Work::Class(new) => 100 + u64::from(new.length),
-            Work::Put(object) => 500 + u64::from(object.length),
-            Work::Delete(_) => 0,
-            Work::Get(_) => 0,
-            Work::Ls => 0,
-        }
-    }
 }

@@ -1,11 +1,12 @@
 -- What is told by a key: a line of a listing, and what its record holds.
-use Rattle.std.specs.{Prelude.{ℕ, List, ◌++◌, codes, length, Result, Ok, Err}, List.{flat_map}}
+use Rattle.std.specs.{Prelude.{ℕ, ℤ, List, ◌++◌, codes, length, Result, Ok, Err}, List.{flat_map}}
+use Rattle.rio_types.specs.declared.class.ClassDef.{ClassDef}
 use Rattle.rio_value.specs.declared.value.Value.{Value}
 use Rattle.rio_buffer.specs.{Texts.{object_fault_text}, declared.fault.ObjFault.{ObjFault}}
 use Rattle.rio_key.specs.declared.head.KeyHead.{KeyHead}
-use Rattle.rio_num.specs.Printed.{item_text, numbered}
-use Rattle.rio_model.specs.ValueText.{text_of_value}
-use Rattle.rio_step.specs.{ItemKeys.{told_by_key}, ReplyText.{listed_text}}
+use Rattle.rio_num.specs.{Printed.{item_text, numbered}, Reading.{◌>>=◌}}
+use Rattle.rio_model.specs.{Mapping.{Mapped, as_version}, ValueText.{text_of_value}}
+use Rattle.rio_step.specs.{ItemKeys.{told_by_key}, ReplyText.{listed_text, text_of}, Step.{object_told}}
 
 -- NAME;CYCLE CLASS
 abbrev pub listed_line : KeyHead → List ℕ
@@ -27,3 +28,14 @@ value_or_fault (Err e) = fault_text e
 -- what a get says of a record: the object that was read, or that it has no reading
 abbrev pub told_of : KeyHead → Result Value ObjFault → List ℕ
 told_of head read = codes "ok get " ++ item_text head.name head.cycle ++ codes " " ++ value_or_fault read ++ codes "\n"
+
+-- ---- in a version of the class
+
+-- what a get says of an object as the class that the key names has it in the version, or why the object can't be had so
+abbrev pub told_as : List ClassDef → KeyHead → ℤ → Value → Mapped (List ℕ)
+told_as classes head version v = as_version classes head.class version v >>= λ w. Ok (text_of (object_told head.name head.cycle w))
+
+-- what it says of a record: of the object that was read, or that it has no reading
+abbrev pub record_told_as : List ClassDef → KeyHead → ℤ → Result Value ObjFault → Mapped (List ℕ)
+record_told_as classes head version (Ok v) = told_as classes head version v
+record_told_as classes head version (Err e) = Ok (told_of head (Err e))

@@ -1,7 +1,7 @@
 //! What is told of a record.
 ghost use Rattle.std.specs.Prelude.{◌≡◌, ◌++◌, ◌<◌, ◌^◌, drop, length, OnOk};
 ghost use Rattle.rio_format.specs.Objects.{value_at};
-ghost use Rattle.rio_reply.specs.Told.{value_or_fault};
+ghost use Rattle.rio_reply.specs.Told.{fault_text, value_or_fault};
 
 use rio_buffer::ObjFault;
 use rio_key::KeyHead;
@@ -10,6 +10,14 @@ use rio_read::read_object;
 use rio_types::Classes;
 use rio_valtext::print_value;
 use std::alloc::Global;
+
+// Puts `fault` at the end, the kind of a fault and its numbers.
+pub(crate) fn put_fault(text: &mut Bytes, fault: &ObjFault) -> Result<(), NoMemory>
+    ensures { OnOk result (text.new.bytes ≡ text.old.bytes ++ fault_text fault.now) }
+{
+    text.put(b"fault ")?;
+    fault.put_text(text)
+}
 
 /// Puts the value at the end that the data of this record spell, or `fault`, the kind of its fault and its numbers.
 pub fn put_stored(
@@ -32,9 +40,6 @@ pub fn put_stored(
     ) {
         Ok(value) => print_value(&value, text),
         Err(ObjFault::NoMemory) => Err(NoMemory),
-        Err(fault) => {
-            text.put(b"fault ")?;
-            fault.put_text(text)
-        }
+        Err(fault) => put_fault(text, &fault),
     }
 }

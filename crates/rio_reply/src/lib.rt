@@ -1,18 +1,21 @@
 //! Replies to commands as they are said. `Bytes` that a call here returns are the text of the machine's reply, which is made
 //! of what a session keeps beside its file: [`refusal_reply`] of a refusal, [`class_reply`] of a class that was declared,
 //! [`put_reply`] of an object that was put, [`delete_reply`] of one that was deleted, [`get_reply`] of an object's record,
-//! and [`listing_reply`] of the keys of all objects. [`put_item`] and [`put_stored`] put the parts that other texts have too.
+//! [`get_reply_as`] of one in a version of its class, and [`listing_reply`] of the keys of all objects. [`put_item`] and
+//! [`put_stored`] put the parts that other texts have too.
 //! What the texts are stands with the machine's steps; `specs/Told.antt` has what is said of a record that may have no
 //! reading.
 #![tactic(auto)]
 
 mod fault;
+mod get;
 mod item;
 mod reply;
 
 pub use fault::put_stored;
+pub use get::{get_reply, get_reply_as};
 pub use item::put_item;
-pub use reply::{class_reply, delete_reply, get_reply, listing_reply, put_reply, refusal_reply};
+pub use reply::{class_reply, delete_reply, listing_reply, put_reply, refusal_reply};
 
 #[cfg(test)]
 mod tests;

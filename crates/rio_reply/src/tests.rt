@@ -1,8 +1,11 @@
 //! Replies as they are said.
-use crate::{class_reply, delete_reply, get_reply, listing_reply, put_reply, refusal_reply};
+use crate::{
+    class_reply, delete_reply, get_reply, get_reply_as, listing_reply, put_reply, refusal_reply,
+};
 use rio_key::KeyHead;
 use rio_machine::Refusal;
-use rio_num::{Boxed, Name};
+use rio_model::MapFault;
+use rio_num::{Boxed, Bytes, Name};
 use rio_types::Classes;
 use std::alloc::Global;
 use std::test::Fail;
@@ -49,20 +52,52 @@ fn lists_keys(rt: HostRuntime) -> Result<(), Fail> {
     Ok(())
 }
 
-// The record of a text, as it is and with a byte count that is one too high.
-#[test]
-fn tells_a_record(rt: HostRuntime) -> Result<(), Fail> {
-    let classes = Classes::new(rt.alloc());
-    let head = head(rt.alloc(), b"s", 1)?;
+// The record of a text.
+fn record() -> [u8; 60] {
     let mut bytes = [0u8; 60];
     bytes[40..59].copy_from_slice(&[
         0x40, 0, 0, 15, 0, 1, 0, 1, 0, 0, 0, 0, 0, 0, 0, 0, 2, b'h', b'i',
     ]);
+    bytes
+}
+
+const HI: &[u8] = b"ok get s;1 TObjString#1{TObject#1{fUniqueID: 0, fBits: 0}, fString: \"hi\"}\n";
+
+const FAULT: &[u8] = b"ok get s;1 fault CountMismatch 40 16 15\n";
+
+// As it is, and with a byte count that is one too high.
+#[test]
+fn tells_a_record(rt: HostRuntime) -> Result<(), Fail> {
+    let classes = Classes::new(rt.alloc());
+    let head = head(rt.alloc(), b"s", 1)?;
+    let mut bytes = record();
     let text = get_reply(rt.alloc(), &classes, &head, &bytes)?;
-    let expected = b"ok get s;1 TObjString#1{TObject#1{fUniqueID: 0, fBits: 0}, fString: \"hi\"}\n";
-    assert!(rt; text.as_slice() == expected.as_slice());
+    assert!(rt; text.as_slice() == HI);
     bytes[43] = 16;
     let text = get_reply(rt.alloc(), &classes, &head, &bytes)?;
-    assert!(rt; text.as_slice() == b"ok get s;1 fault CountMismatch 40 16 15\n".as_slice());
+    assert!(rt; text.as_slice() == FAULT);
+    Ok(())
+}
+
+fn is_text(reply: &Result<Bytes, MapFault>, expected: &[u8]) -> bool {
+    match reply {
+        Ok(text) => text.as_slice() == expected,
+        Err(_) => false,
+    }
+}
+
+// The same in the one version of the class, and in another one.
+#[test]
+fn tells_a_record_in_a_version(rt: HostRuntime) -> Result<(), Fail> {
+    let classes = Classes::new(rt.alloc());
+    let head = head(rt.alloc(), b"s", 1)?;
+    let mut bytes = record();
+    let text = get_reply_as(rt.alloc(), &classes, &head, 1, &bytes);
+    assert!(rt; is_text(&text, HI));
+    let none = get_reply_as(rt.alloc(), &classes, &head, 2, &bytes);
+    assert!(rt; matches!(none, Err(MapFault::NoVersion)));
+    bytes[43] = 16;
+    let text = get_reply_as(rt.alloc(), &classes, &head, 2, &bytes);
+    assert!(rt; is_text(&text, FAULT));
     Ok(())
 }

@@ -168,7 +168,7 @@ module _ (p : Changing) (old new : View) (before after : SessionState) (lawful :
 
     change_goes : (outcome : Outcome) → outcome ≡ Accepted → FollowsStep before after m c outcome
     change_goes outcome same = record {
-      outcome_is = same ∙ sym (accepted m is);
+      outcome_is = λ told. same ∙ sym (accepted m is);
       follows = change_follows;
       behind = subst (λ (x : SessionState × State). IsOfKeys x.0 x.1) (λ i. (sym after_is i, sym (state_is m is) i)) (record { classes = is.stands.classes; keys = is.stands.keys });
     }

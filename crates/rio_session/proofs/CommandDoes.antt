@@ -1,5 +1,5 @@
 -- What each command does, in all clauses.
-use Rattle.std.proofs.Common.{◌≡◌, ℕ, ◌+◌, ◌^◌, ◌<◌, ◌≤◌, List, [], ◌∷◌, Option, Some, None, Result, Ok, Err, IfOk, Bool, true, false, refl, sym, ap, subst, ◌∙◌, arith}
+use Rattle.std.proofs.Common.{◌≡◌, ℕ, ℤ, ◌+◌, ◌^◌, ◌<◌, ◌≤◌, List, [], ◌∷◌, Option, Some, None, Result, Ok, Err, IfOk, Bool, true, false, refl, sym, ap, subst, ◌∙◌, arith}
 use Rattle.rio_host.specs.Host.{IsLawful, View}
 use Rattle.rio_num.specs.Word.{is_item_text}
 use Rattle.rio_types.specs.declared.class.ClassDef.{ClassDef}
@@ -13,21 +13,21 @@ use Rattle.rio_machine.specs.{declared.command.Outcome.{Outcome, TheVariants.{Ac
 use Rattle.rio_chain.specs.declared.record.NewRecord.{NewRecord}
 use Rattle.rio_reply.specs.Told.{listing_of}
 use Rattle.rio_state.specs.Closing.{close_need, is_full, padded_length}
-use Rattle.rio_step.specs.{Costs.{cost_of, value_size}, Refusing.{refusal_of}, ReplyText.{text_of}, Step.{object_put, outcome_of, refused}}
-use Rattle.rio_judge.specs.Judging.{IsJudgementOfStates, IsStep, WorkCanBeDone, is_judged}
+use Rattle.rio_step.specs.{Costs.{cost_of, value_size}, Refusing.{meant_object, refusal_of}, ReplyText.{text_of}, Step.{object_put, outcome_of, refused}}
+use Rattle.rio_judge.specs.Judging.{IsJudgementOfStates, IsStep, WorkCanBeDone}
 use Rattle.rio_judge.specs.declared.work.Judged.TheVariants.{Accepted as Judgement, Refused as RefusalOf}
 use Rattle.rio_judge.specs.declared.work.{StoredObject.{StoredObject}, Work.TheVariants.{Put as Storing, Get as Telling, Ls as Listing}}
 use Rattle.rio_effect.specs.ObjectRecord.{key_of_put}
-use Rattle.rio_judge.proofs.CostLaws.{cost_accepted}
 use Rattle.rio_model.specs.StateClasses.{StateClasses}
 use Rattle.rio_recover.specs.Closable.{IsClosable, is_sized, kept_with}
 use Rattle.rio_session.specs.{Behind.{IsOfKeys}, Changing.{ChangesFile}, Doable.{IsToDo}, Does.{Does}, Causes.{IsSaid}, Effects.{IsChangeOf, TakesEffect}, Gets.{TellsObject}, Sound.{IsSoundState}}
 use Rattle.rio_session.specs.{Puts.{IsStoredRecord, putting}, Says.{SaysReply}}
 use Rattle.rio_session.specs.{Session.{HoldsState, IsReady, LacksRoomIfFull, SessionState, StandsFor, next_of, with_cost}, declared.fault.SessionFault.{SessionFault}}
-use Rattle.rio_session.proofs.OtherSteps.{get_outcome, get_still, get_told, ls_outcome, ls_still, ls_told, refused_lacks, refused_outcome, refused_still, refused_told}
+use Rattle.rio_session.proofs.GetSteps.{IsSaidOf, get_lacks, get_plain, get_said, get_still, some_of}
+use Rattle.rio_session.proofs.OtherSteps.{ls_outcome, ls_still, ls_told, refused_lacks, refused_outcome, refused_still, refused_told}
 use Rattle.rio_session.proofs.{Changed.{does_change}, PutEffects.{put_takes_effect_on}}
 use Rattle.rio_session.proofs.PutSteps.{full_lacks, full_outcome, full_still, full_told, key_class, key_name, key_sized, put_is_change}
-use Rattle.rio_session.proofs.{Replies.{IsStill, does_says}, States.{of_keys}}
+use Rattle.rio_session.proofs.{Refused.{cost_accepted}, Replies.{IsOutcomeOf, IsStill, does_reply, does_says}, States.{of_keys}}
 
 -- ---- which command it is
 
@@ -43,18 +43,17 @@ is_ls classes heads (Get name cycle version) can = absurd can
 is_ls classes heads (Scan name class) can = absurd can
 is_ls classes heads Ls can = refl
 
-pub is_get : (classes : List ClassDef) (heads : List KeyHead) (c : Command) (h : KeyHead) → WorkCanBeDone classes heads c (Telling h) → is_judged c ≡ true → (name : List ℕ) × (asked : Option ℕ) × (c ≡ Get name asked None)
-is_get classes heads (Bad line place) h can built = absurd can
-is_get classes heads (Class class) h can built = absurd can
-is_get classes heads (Put name v) h can built = absurd can
-is_get classes heads (Delete name cycle) h can built = absurd can
-is_get classes heads (Tree name branches) h can built = absurd can
-is_get classes heads (Fill name row) h can built = absurd can
-is_get classes heads (Save name) h can built = absurd can
-is_get classes heads (Get name asked None) h can built = (name, asked, refl)
-is_get classes heads (Get name asked (Some version)) h can built = absurd cc
-is_get classes heads (Scan name class) h can built = absurd can
-is_get classes heads Ls h can built = absurd can
+pub is_get : (classes : List ClassDef) (heads : List KeyHead) (c : Command) (h : KeyHead) (version : Option ℤ) → WorkCanBeDone classes heads c (Telling h version) → (name : List ℕ) × (asked : Option ℕ) × (c ≡ Get name asked version)
+is_get classes heads (Bad line place) h version can = absurd can
+is_get classes heads (Class class) h version can = absurd can
+is_get classes heads (Put name v) h version can = absurd can
+is_get classes heads (Delete name cycle) h version can = absurd can
+is_get classes heads (Tree name branches) h version can = absurd can
+is_get classes heads (Fill name row) h version can = absurd can
+is_get classes heads (Save name) h version can = absurd can
+is_get classes heads (Get name asked own) h version can = (name, asked, ap (λ (o : Option ℤ). Get name asked o) (sym can.0))
+is_get classes heads (Scan name class) h version can = absurd can
+is_get classes heads Ls h version can = absurd can
 
 pub is_put : (classes : List ClassDef) (heads : List KeyHead) (c : Command) (o : StoredObject) → WorkCanBeDone classes heads c (Storing o) → (v : Value) × (c ≡ Put o.name v)
 is_put classes heads (Bad line place) o can = absurd can
@@ -90,7 +89,7 @@ module _ (old new : View) (s s' : SessionState) (law : IsLawful old) (law' : IsL
           let j = judged m keys.classes keys.keys in
           subst (λ (o : Outcome). LacksRoomIfFull (with_cost 0 s) o) (sym (refused_outcome s m c refusal j)) (refused_lacks s m c refusal j (with_cost 0 s))
 
-  -- ---- ls and get
+  -- ---- ls
 
   same_accepted : (c : Command) (a : Result Outcome SessionFault) → ((m : State) → IsOfKeys s m → outcome_of (next_of s m c).reply ≡ Accepted) → IfOk a (λ outcome. outcome ≡ Accepted)
       → IfOk a (λ outcome. (m : State) → IsOfKeys s m → outcome ≡ outcome_of (next_of s m c).reply)
@@ -111,34 +110,46 @@ module _ (old new : View) (s s' : SessionState) (law : IsLawful old) (law' : IsL
       outcome : (m : State) → IsOfKeys s m → outcome_of (next_of s m Ls).reply ≡ Accepted
       outcome m keys = ls_outcome s m keys (sound.kept fresh) (judged m keys.classes keys.keys).0
 
-  pub get_does : (name : List ℕ) (asked : Option ℕ) (h : KeyHead) → IsSoundState s → head_of name (Some h.cycle) s.heads ≡ Some h → IsJudgementOfStates s.classes s.heads (Get name asked None) (Judgement (Telling h))
-      → TellsObject h old new s s' answer → IfOk answer (λ outcome. outcome ≡ Accepted) → Does old new s s' (Get name asked None) answer
-  get_does name asked h sound found judged t is =
-      does_says old new s s' t.text 0 law law' ready (Get name asked None) answer fresh t.says
-      (λ spoken m keys. get_still s m keys (sound.kept fresh) name asked (judged m keys.classes keys.keys).0)
-      told
-      (same_accepted (Get name asked None) answer outcome is) (λ spoken. lacks_accepted (Get name asked None) outcome)
-    where
-      outcome : (m : State) → IsOfKeys s m → outcome_of (next_of s m (Get name asked None)).reply ≡ Accepted
-      outcome m keys = get_outcome s m keys (sound.kept fresh) name asked (judged m keys.classes keys.keys).0
+  -- ---- get
 
-      told : IsSaid answer → (m : State) (said : List ℕ) → StandsFor old s m said → t.text ≡ text_of (next_of s m (Get name asked None)).reply
-      told spoken m said st =
+  its_outcome : (c : Command) (became : Outcome) (a : Result Outcome SessionFault) → (IsSaid a → IsOutcomeOf old s c became) → IfOk a (λ outcome. outcome ≡ became) → IfOk a (IsOutcomeOf old s c)
+  its_outcome c became (Ok outcome) of is = subst (IsOutcomeOf old s c) (sym is) (of tt)
+  its_outcome c became (Err e) of is = tt
+
+  pub get_does : (name : List ℕ) (asked : Option ℕ) (version : Option ℤ) (h : KeyHead) → IsSoundState s → head_of name (Some h.cycle) s.heads ≡ Some h
+      → IsJudgementOfStates s.classes s.heads (Get name asked version) (Judgement (Telling h version)) → TellsObject h version old new s s' answer → Does old new s s' (Get name asked version) answer
+  get_does name asked version h sound found judged t =
+      does_reply old new s s' t.prints.text 0 law law' ready (Get name asked version) answer fresh t.prints.says
+      (λ spoken m keys. get_still s m keys (sound.kept fresh) name asked version)
+      (λ spoken m said st. (said_of spoken m said st).0)
+      (its_outcome (Get name asked version) t.prints.outcome answer becomes t.prints.outcome_is)
+      (λ spoken m said st. get_lacks s m (of_keys s m st.file st.state) (sound.kept fresh) name asked version (with_cost 0 s))
+    where
+      said_of : IsSaid answer → (m : State) (said : List ℕ) → StandsFor old s m said → IsSaidOf s m name asked version t.prints.text t.prints.outcome
+      said_of spoken m said st =
           let keys = of_keys s m st.file st.state in
           let j = judged m keys.classes keys.keys in
-          let r = t.tells spoken st.file st.holds st.state.links st.state.chain in
-          get_told s m st.file st.state (sound.kept fresh) name asked h.cycle h r.0 t.text j.0 j.1.1 j.1.2 found r.1 r.2
+          let x = some_of (meant_object m name asked) j.1.2 in
+          get_said s m st.file st.state (sound.kept fresh) name asked h.cycle h t.bytes j.1.1 found (t.there spoken st.file st.holds st.state.links st.state.chain) x.0 x.1
+          version j.0 t.prints.text t.prints.outcome (t.prints.reply spoken)
+
+      becomes : IsSaid answer → IsOutcomeOf old s (Get name asked version) t.prints.outcome
+      becomes spoken = record {
+        same = λ m said st. (said_of spoken m said st).1;
+        told = λ by_keys m keys. get_plain s m keys (sound.kept fresh) name asked version h t.bytes by_keys t.prints.text t.prints.outcome (t.prints.reply spoken) (judged m keys.classes keys.keys).0;
+        plain = λ m keys accepted. record { changes = refl; kept = refl };
+      }
 
   pub ls_is_done : (c : Command) → IsToDo s c Listing → IsSoundState s → SaysReply (listing_of s.heads) 0 old new s s' answer → IfOk answer (λ outcome. outcome ≡ Accepted) → Does old new s s' c answer
   ls_is_done c todo sound says outcome =
       let is : c ≡ Ls = is_ls s.classes s.heads c todo.can in
       subst (λ (x : Command). Does old new s s' x answer) (sym is) (ls_does sound (subst (λ (x : Command). IsJudgementOfStates s.classes s.heads x (Judgement Listing)) is todo.judged) says outcome)
 
-  pub get_is_done : (c : Command) (h : KeyHead) → IsToDo s c (Telling h) → IsSoundState s → TellsObject h old new s s' answer → IfOk answer (λ outcome. outcome ≡ Accepted) → Does old new s s' c answer
-  get_is_done c h todo sound t outcome =
-      let is = is_get s.classes s.heads c h todo.can todo.built in
-      let to : IsToDo s (Get is.0 is.1 None) (Telling h) = subst (λ (x : Command). IsToDo s x (Telling h)) is.2 todo in
-      subst (λ (x : Command). Does old new s s' x answer) (sym is.2) (get_does is.0 is.1 h sound to.can to.judged t outcome)
+  pub get_is_done : (c : Command) (h : KeyHead) (version : Option ℤ) → IsToDo s c (Telling h version) → IsSoundState s → TellsObject h version old new s s' answer → Does old new s s' c answer
+  get_is_done c h version todo sound t =
+      let is = is_get s.classes s.heads c h version todo.can in
+      let to : IsToDo s (Get is.0 is.1 version) (Telling h version) = subst (λ (x : Command). IsToDo s x (Telling h version)) is.2 todo in
+      subst (λ (x : Command). Does old new s s' x answer) (sym is.2) (get_does is.0 is.1 version h sound to.can.1 to.judged t)
 
   -- ---- put
 

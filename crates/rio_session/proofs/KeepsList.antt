@@ -10,7 +10,7 @@ use Rattle.rio_state.specs.Closing.{close_need, end_limit}
 use Rattle.rio_close.proofs.Fitting.{count_with}
 use Rattle.rio_recover.specs.{Closable.{IsClosable, is_owned, kept_with, list_count}, Whole.{HoldsDirectory}}
 use Rattle.rio_recover.proofs.Released.{record_segment}
-use Rattle.rio_session.specs.{Kept.{released_segment}, Lists.{CanBeReplaced}, SessionState.{SessionState}}
+use Rattle.rio_session.specs.{Kept.{released_segment}, Lists.{CanReplace}, SessionState.{SessionState}}
 use Rattle.rio_session.proofs.{CloseRoom.{directory_left, directory_stays}, Keeps.{all_placed, begins_still, new_begins}}
 use Rattle.rio_session.proofs.KeepsLess.{IsTakenOut, listed_less, low_begins, not_first, not_left, not_listed, owned_less, placed_less, taken_out}
 
@@ -154,7 +154,7 @@ module _ (segments : List Segment) (heads : List KeyHead) (name : List ℕ) (n :
 
 -- ---- with the record that was made
 
-module _ (v : SessionState) (made : NewRecord) (can : CanBeReplaced v made) (shape : AreSegments v.segments) (kept : IsClosable v.segments v.heads v.info v.name) where
+module _ (v : SessionState) (made : NewRecord) (can : CanReplace v made) (shape : AreSegments v.segments) (kept : IsClosable v.segments v.heads v.info v.name) where
   long : 4 ≤ length made.bytes.bytes
   long = whole_long made.head.seek made.bytes.bytes can.whole
 

@@ -17,9 +17,12 @@ pub mod FileNeeds
 pub mod FileRecords
 pub mod FileSteps
 pub mod Follows
+pub mod GetCalls
+pub mod GetSteps
 pub mod Keeps
 pub mod KeepsLess
 pub mod KeepsList
+pub mod KeyClasses
 pub mod KeysBehind
 pub mod KeysWithout
 pub mod Lacking

@@ -13,7 +13,7 @@ use Rattle.rio_judge.specs.declared.work.NewClass.{NewClass}
 use Rattle.rio_state.specs.Closing.{close_need, end_limit}
 use Rattle.rio_effect.specs.ClassRecord.{list_key, next_list_cycle}
 use Rattle.rio_recover.specs.{Classes.{HasListCycle}, Closable.{IsClosable, kept_with}}
-use Rattle.rio_session.specs.{Changing.{Changing, ChangesFile}, Kept.{released_link, released_segment}, Lists.{CanBeListedAt, CanBeReplaced, IsDeclarable, IsListRecord, listing, listing_at, with_new}}
+use Rattle.rio_session.specs.{Changing.{Changing, ChangesFile}, Kept.{released_link, released_segment}, Lists.{CanBeListedAt, CanReplace, IsDeclarable, IsListRecord, listing, listing_at, with_new}}
 use Rattle.rio_session.specs.{Says.{NotDone}, SessionState.{SessionState}}
 use Rattle.rio_session.specs.declared.fault.SessionFault.{SessionFault, TheVariants.{HostFault, SayFault, NoMemory}}
 use Rattle.rio_session.proofs.Needs.{kept_bounds}
@@ -84,8 +84,8 @@ module _ (s : SessionState) (place : ℕ) (made : NewRecord) (r : IsListRecord s
   cycle_is = ap (λ (h : KeyHead). h.cycle) r.head ∙ key_cycle place s.datime (next_list_cycle s.info) s.classes
 
   -- it can take the place of the record before
-  pub can_be_replaced : CanBeListedAt s place → CanBeReplaced s made
-  can_be_replaced at = record {
+  pub can_replace : CanBeListedAt s place → CanReplace s made
+  can_replace at = record {
     whole = subst (λ (p : ℕ). IsRecord p made.bytes.bytes) (sym seek_is) r.whole;
     place = seek_is ∙ at.place_is ∙ ap (place_of s.segments) (sym r.long);
     spare = r.spare;

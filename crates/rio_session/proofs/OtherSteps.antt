@@ -1,32 +1,26 @@
--- Commands that aren't puts, and refused ones, are their steps.
-use Rattle.std.proofs.Common.{◌≡◌, inl, inr, ◌==◌, ◌||◌, ℕ, ◌+◌, ◌-◌, List, [], ◌∷◌, drop, sum, Option, Some, None, Ok, Bool, true, false, refl, sym, ap, subst, ◌∙◌}
-use Rattle.std.proofs.{lemmas.Bool.{and_parts, eqb-true, le-ltb}, lemmas.Slice.Eq.{bytes_eq-Decides}}
-use Rattle.std.specs.{Prelude.{IsSome, if◌then◌else◌, slice_get, unwrap_or}, FinMap.{get}, List.{Contains, list_all, list_any}, Str.{bytes_eq}}
-use Rattle.rio_types.specs.declared.class.ClassDef.{ClassDef}
+-- Refused commands and those that only print are their steps.
+use Rattle.std.proofs.Common.{◌≡◌, inl, inr, ◌==◌, ◌||◌, ℕ, ◌+◌, ◌-◌, List, [], ◌∷◌, sum, Option, Some, None, Bool, true, false, refl, sym, ap, subst, ◌∙◌}
+use Rattle.std.proofs.{lemmas.Bool.{eqb-true, le-ltb}}
+use Rattle.std.specs.{Prelude.{if◌then◌else◌, slice_get}, List.{Contains, list_all, list_any}}
 use Rattle.rio_key.specs.declared.head.KeyHead.{KeyHead}
-use Rattle.rio_value.specs.declared.value.Value.{Value, Null}
-use Rattle.rio_format.specs.Objects.{value_at}
 use Rattle.rio_dir.specs.Table.{head_of, is_at_cycle}
 use Rattle.rio_chain.specs.{Chains.{HasRecordSegment}, Placing.{end_after, file_end, record_count, space_of}}
 use Rattle.rio_chain.specs.{Segments.{HoldsLink, HoldsLinks, Link, RecordAt, link_length}, declared.segment.Segment.{Segment, TheVariants.{Record, Gap}}}
 use Rattle.rio_chain.proofs.OneChain.{link_one}
-use Rattle.rio_machine.specs.{RefusalText.{refusal_number}, State.{State}, declared.command.Command.{Command, TheVariants.{Get, Ls}}}
+use Rattle.rio_machine.specs.{RefusalText.{refusal_number}, State.{State}, declared.command.Command.{Command, TheVariants.{Ls}}}
 use Rattle.rio_machine.specs.{declared.command.Outcome.TheVariants.{Accepted, Refused}, declared.refusal.Refusal.{Refusal, TheVariants.{Full}}}
 use Rattle.rio_reply.specs.Told.{listing_of}
-use Rattle.rio_reply.proofs.Listings.{listing_is, told_is}
+use Rattle.rio_reply.proofs.Listings.{listing_is}
 use Rattle.rio_state.specs.Closing.{close_need, end_limit, is_full, lay_all}
-use Rattle.rio_step.specs.{Costs.{cost_of}, Refusing.{FullMark, meant_cycle, meant_object, refusal_of, refusals}, ReplyText.{text_of}}
-use Rattle.rio_step.specs.Step.{Stepped, object_told, outcome_of, refused, reply_to, state_behind, told_value}
+use Rattle.rio_step.specs.{Costs.{cost_of}, Refusing.{FullMark, refusal_of, refusals}, ReplyText.{text_of}}
+use Rattle.rio_step.specs.Step.{Stepped, outcome_of, refused, reply_to, state_behind}
 use Rattle.rio_step.proofs.LowestLaws.{lowest_is_told}
-use Rattle.rio_effect.proofs.KeyReads.{keys_have_records}
-use Rattle.rio_state.proofs.Members.{Found, In, all_at, contains_in, found, in_contained}
-use Rattle.rio_judge.proofs.CostLaws.{cost_accepted}
+use Rattle.rio_state.proofs.Members.{In, all_at, contains_in, found, in_contained}
 use Rattle.rio_recover.specs.Closable.{IsClosable, begins_at, is_placed, kept_with, list_count}
-use Rattle.rio_session.specs.{Behind.{IsOfKeys}, Gets.{record_text}, Kept.{LinksChange, changes_by, kept_by}}
+use Rattle.rio_session.specs.{Behind.{IsOfKeys}, Kept.{LinksChange, changes_by, kept_by}}
 use Rattle.rio_session.specs.Marks.{command_lengths, lists_after, mark_of_command, state_need}
-use Rattle.rio_session.specs.Session.{HoldsState, LacksRoomIfFull, SessionState, next_of}
-use Rattle.rio_session.proofs.{Needs.{need_by_keys}, Refused.{changes_done, changes_refused, cost_refused, kept_done, kept_refused, refused_anyway, step_accepted, step_refused}, Replies.{IsStill}}
-use Rattle.rio_session.proofs.States.{Known, known, of_keys}
+use Rattle.rio_session.specs.Session.{LacksRoomIfFull, SessionState, next_of}
+use Rattle.rio_session.proofs.{Needs.{need_by_keys}, Refused.{changes_done, changes_refused, cost_accepted, cost_refused, kept_done, kept_refused, refused_anyway, step_accepted, step_refused}, Replies.{IsStill}}
 
 -- ---- records by their keys
 
@@ -153,60 +147,3 @@ module _ (s : SessionState) (m : State) (keys : IsOfKeys s m) (kept : IsClosable
   pub ls_outcome : outcome_of (next_of s m Ls).reply ≡ Accepted
   unfolding command_lengths
   ls_outcome = accepted_outcome s m keys kept Ls free refl refl refl refl
-
--- ---- get
-
-some_of : {A : Type 0} (o : Option A) → IsSome o → (x : A) × (o ≡ Some x)
-some_of None i = absurd cc
-some_of (Some x) i = (x, refl)
-
-module _ (s : SessionState) (m : State) (file : List ℕ) (h : HoldsState s m file) (kept : IsClosable s.segments s.heads s.info s.name)
-    (name : List ℕ) (asked : Option ℕ) (number : ℕ) (head : KeyHead) (bytes text : List ℕ) (free : refusal_of m (Get name asked None) None ≡ None) (number_is : number ≡ meant_cycle m name asked)
-    (there : IsSome (meant_object m name asked)) (key : head_of name (Some number) s.heads ≡ Some head) (among : Contains h.links (RecordAt head.seek bytes)) (is : text ≡ record_text s.classes head bytes) where
-  abbrev v : Value
-  v = (some_of (meant_object m name asked) there).0
-
-  object : meant_object m name asked ≡ Some (some_of (meant_object m name asked) there).0
-  object = (some_of (meant_object m name asked) there).1
-
-  its : Found (is_at_cycle name number) head s.heads
-  its = found (is_at_cycle name number) head s.heads key
-
-  parts : (bytes_eq head.name name ≡ true) × ((head.cycle == number) ≡ true)
-  parts = and_parts (bytes_eq head.name name) (head.cycle == number) its.passes
-
-  name_is : head.name ≡ name
-  name_is = (bytes_eq-Decides head.name name).0 parts.0
-
-  cycle_is : head.cycle ≡ number
-  cycle_is = eqb-true head.cycle number parts.1
-
-  held : get m.objects (head.name, head.cycle) ≡ Some (some_of (meant_object m name asked) there).0
-  held = ap (λ (x : List ℕ × ℕ). get m.objects x) (λ i. (name_is i, (cycle_is ∙ number_is) i)) ∙ object
-
-  read : value_at s.classes head.class head.keylen (drop head.keylen bytes) ≡ Ok (some_of (meant_object m name asked) there).0
-  read =
-      let kn : Known h.links s.heads m = known h.links s.heads m h.records h.keys in
-      let r = keys_have_records file h.links s.heads m head v h.chain.chain h.keys kn.records (contains_in head s.heads its.among) held in
-      let same : bytes ≡ r.bytes = one_record file head.seek bytes r.bytes h.links h.chain.chain.links_are among r.there in
-      ap (λ (x : List ClassDef × List ℕ). value_at x.0 head.class head.keylen (drop head.keylen x.1)) (λ i. (h.classes i, same i)) ∙ r.read
-
-  told : text ≡ text_of (object_told name (meant_cycle m name asked) (told_value m name asked None))
-  told =
-      is
-      ∙ told_is head (value_at s.classes head.class head.keylen (drop head.keylen bytes)) v read
-      ∙ ap (λ (x : List ℕ × (ℕ × Value)). text_of (object_told x.0 x.1.0 x.1.1)) (λ i. (name_is i, ((cycle_is ∙ number_is) i, ap (λ (o : Option Value). unwrap_or o Null) (sym object) i)))
-
-  pub get_told : text ≡ text_of (next_of s m (Get name asked None)).reply
-  unfolding command_lengths
-  get_told = accepted_told s m (of_keys s m file h) kept (Get name asked None) free refl refl refl text told
-
-module _ (s : SessionState) (m : State) (keys : IsOfKeys s m) (kept : IsClosable s.segments s.heads s.info s.name) (name : List ℕ) (asked : Option ℕ)
-    (free : refusal_of m (Get name asked None) None ≡ None) where
-  pub get_still : IsStill s m (Get name asked None) 0
-  unfolding command_lengths
-  get_still = accepted_still s m keys kept (Get name asked None) free refl refl refl refl refl (cost_accepted m (Get name asked None) free)
-
-  pub get_outcome : outcome_of (next_of s m (Get name asked None)).reply ≡ Accepted
-  unfolding command_lengths
-  get_outcome = accepted_outcome s m keys kept (Get name asked None) free refl refl refl refl

@@ -1,5 +1,5 @@
 -- The facts that storing an object needs, by the command's judgement and what a session keeps.
-use Rattle.std.proofs.Common.{◌≡◌, ℕ, ◌+◌, ◌^◌, ◌<◌, ◌≤◌, List, [], ◌∷◌, Result, IfOk, Some, true, false, sym, ap, subst, ◌∙◌}
+use Rattle.std.proofs.Common.{◌≡◌, ℕ, ℤ, ◌+◌, ◌^◌, ◌<◌, ◌≤◌, List, [], ◌∷◌, Option, Result, IfOk, Some, true, false, sym, ap, subst, ◌∙◌}
 use Rattle.rio_host.specs.Host.{IsLawful, View}
 use Rattle.rio_key.specs.declared.head.KeyHead.{KeyHead}
 use Rattle.rio_value.specs.declared.value.Value.{Value}
@@ -26,17 +26,17 @@ can_store s c o todo sound =
     (is_stored s.classes s.heads p.0 o to.can.1 sound.classes to.statable, to.can.1.new)
 
 -- it can be printed
-pub can_tell : (s : SessionState) (c : Command) (h : KeyHead) → IsToDo s c (Telling h) → CanBeDone s (Telling h)
-can_tell s c h todo =
-    let p = is_get s.classes s.heads c h todo.can todo.built in
-    let found : head_of p.0 (Some h.cycle) s.heads ≡ Some h = (subst (λ (x : Command). IsToDo s x (Telling h)) p.2 todo).can in
+pub can_tell : (s : SessionState) (c : Command) (h : KeyHead) (version : Option ℤ) → IsToDo s c (Telling h version) → CanBeDone s (Telling h version)
+can_tell s c h version todo =
+    let p = is_get s.classes s.heads c h version todo.can in
+    let found : head_of p.0 (Some h.cycle) s.heads ≡ Some h = (subst (λ (x : Command). IsToDo s x (Telling h version)) p.2 todo).can.1 in
     subst (λ (n : List ℕ). head_of n (Some h.cycle) s.heads ≡ Some h) (sym (found_key p.0 h.cycle s.heads h found).0) found
 
 pub can_do : (s : SessionState) (c : Command) (work : Work) → IsToDo s c work → IsSoundState s → CanBeDone s work
 can_do s c (Storing o) todo sound = can_store s c o todo sound
 can_do s c (Deleting h) todo sound = can_delete s c h todo
 can_do s c (Declaring d) todo sound = can_declare s c d todo sound
-can_do s c (Telling h) todo sound = can_tell s c h todo
+can_do s c (Telling h version) todo sound = can_tell s c h version todo
 can_do s c Listing todo sound = tt
 
 -- a command that doesn't read the file has work that doesn't
@@ -44,7 +44,7 @@ pub reads_nothing : (s : SessionState) (c : Command) (work : Work) → IsToDo s 
 reads_nothing s c (Declaring d) todo never = tt
 reads_nothing s c (Storing o) todo never = tt
 reads_nothing s c (Deleting h) todo never = tt
-reads_nothing s c (Telling h) todo never = let p = is_get s.classes s.heads c h todo.can todo.built in subst NeverReads p.2 never
+reads_nothing s c (Telling h version) todo never = let p = is_get s.classes s.heads c h version todo.can in subst NeverReads p.2 never
 reads_nothing s c Listing todo never = tt
 
 module _ (s : SessionState) (o : StoredObject) (can : CanBeDone s (Storing o)) (sound : IsSoundState s) (n need : ℕ) (n_is : n ≡ padded_length (head_length o.class o.name + o.length))

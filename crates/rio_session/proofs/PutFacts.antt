@@ -17,8 +17,8 @@ use Rattle.rio_step.specs.{Costs.{cost_of}, Refusing.{object_class, put_value, r
 use Rattle.rio_effect.specs.ObjectRecord.{key_of_put, object_data, object_key, object_record, object_words, record_of_put}
 use Rattle.rio_effect.proofs.FileChanges.{put_length}
 use Rattle.rio_judge.specs.{Judging.{IsStep}, declared.work.StoredObject.{StoredObject}}
-use Rattle.rio_judge.proofs.CostLaws.{cost_accepted}
 use Rattle.rio_recover.specs.Closable.{is_fit_key, is_sized, kept_with}
+use Rattle.rio_session.proofs.Refused.{cost_accepted}
 use Rattle.rio_session.specs.{Kept.{LinksChange, changes_by, kept_by, place_of_put}, Puts.{CanBePut, IsStoredRecord, putting, stored_words}, Session.{SessionState}}
 
 module _ (s : SessionState) (place : ℕ) (o : StoredObject) (made : NewRecord) (r : IsStoredRecord s place o made) where

@@ -51,6 +51,10 @@ pub step_accepted : (m : State) (c : Command) (mark : Option FullMark) → refus
 unfolding step
 step_accepted m c mark is = ap (by_refusal m c) is
 
+pub cost_accepted : (m : State) (c : Command) → refusal_of m c None ≡ None → cost_of m c ≡ accepted_cost m c
+unfolding cost_of
+cost_accepted m c none = ap (λ (o : Option Refusal). cond (is_some o) 0 (accepted_cost m c)) none
+
 pub cost_refused : (m : State) (c : Command) (refusal : Refusal) → refusal_of m c None ≡ Some refusal → cost_of m c ≡ 0
 unfolding cost_of
 cost_refused m c refusal is = ap (λ (o : Option Refusal). cond (is_some o) 0 (accepted_cost m c)) is

@@ -2,14 +2,14 @@
 use Rattle.std.proofs.Common.{◌≡◌, inl, inr, ⊎_elim, ℕ, ◌+◌, ◌*◌, ◌-◌, ◌^◌, ◌<◌, ◌≤◌, min, false, List, [], ◌++◌, take, Option, Some, None, Result, Ok, Err, IfOk, refl, sym, ap, subst, ◌∙◌, arith}
 use Rattle.std.proofs.lemmas.List.{append-nil}
 use Rattle.rio_host.specs.{Host.{Any, Becomes, Elapses, IsLawful, Leaves, Longer, LongerByPart, Rose, Speaking, Unwritten, View}, OnlyReads.{OnlyReads}}
-use Rattle.rio_host.proofs.{Images.{becomes_some}, Moments.{elapses_as, elapses_join, leaves_back, says_quiet}, ReadsLaws.{reads_none, said_grows}}
+use Rattle.rio_host.proofs.{Images.{becomes_some}, Moments.{elapses_as, elapses_join, leaves_back, says_quiet}, ReadsLaws.{reads_join, reads_none, said_grows}}
 use Rattle.rio_chain.specs.{Chains.{HasChain}, Segments.{Link}, declared.segment.Segment.{Segment}}
 use Rattle.rio_machine.specs.{State.{State}, declared.command.Command.{Command}}
 use Rattle.rio_machine.specs.declared.command.Outcome.{Outcome, TheVariants.{Accepted, Refused}}
 use Rattle.rio_state.specs.Closing.{held_of}
 use Rattle.rio_step.specs.{Costs.{cost_of}, ReplyText.{text_of}, Step.{Stepped, outcome_of}}
-use Rattle.rio_session.specs.{Behind.{FollowsStep, HasChanged, IsOfKeys}, Causes.{IsSaid, StaysIfRefused}, Does.{Does}}
-use Rattle.rio_session.specs.{Kept.{LinksChange, all_done, changes_after, changes_by, kept_after}, Says.{NotSaid, Said, SaysReply}}
+use Rattle.rio_session.specs.{Behind.{FollowsStep, HasChanged, IsOfKeys, IsToldByKeys}, Causes.{IsSaid, StaysIfRefused}, Does.{Does}}
+use Rattle.rio_session.specs.{Kept.{LinksChange, all_done, changes_after, changes_by, kept_after, kept_by}, Says.{NotSaid, Said, SaysReply}}
 use Rattle.rio_session.specs.Session.{FollowsCommand, HoldsState, IsOpenAs, IsReady, LacksRoomIfFull, LeavesOpenAs, SessionState, StandsFor, Steps, Went, next_of, with_cost}
 use Rattle.rio_session.specs.declared.fault.SessionFault.{SessionFault, TheVariants.{HostFault, SayFault, NoMemory}}
 use Rattle.rio_session.proofs.{Opened.{keeps_own, reads_open}, Refused.{changes_done, kept_done, unrefused}, Spoken.{front_none, front_part, front_whole, grows_none, grows_whole, reads_stay, speaking_stays}}
@@ -33,6 +33,18 @@ pub record IsStill (s : SessionState) (m : State) (c : Command) (cost : ℕ) : T
   pub kept : kept_after s m c ≡ s
   pub changes : changes_after s m c ≡ []
   pub cost_is : cost ≡ cost_of m c
+
+-- it does so if it isn't refused
+pub record HasNoChanges (s : SessionState) (m : State) (c : Command) : Type 0 where
+  pub changes : changes_by s m c ≡ []
+  pub kept : kept_by s m c ≡ s
+
+-- What becomes of it is what its step says, of each state that host and session stand for, and of each that the kept keys stand for as far as
+-- they tell.
+pub record IsOutcomeOf (v : View) (s : SessionState) (c : Command) (outcome : Outcome) : Type 0 where
+  pub same : (m : State) (said : List ℕ) → StandsFor v s m said → outcome ≡ outcome_of (next_of s m c).reply
+  pub told : IsToldByKeys c → (m : State) → IsOfKeys s m → outcome ≡ outcome_of (next_of s m c).reply
+  pub plain : (m : State) → IsOfKeys s m → outcome ≡ Accepted → HasNoChanges s m c
 
 -- and this is its reply
 pub record IsReply (s : SessionState) (m : State) (c : Command) (text : List ℕ) (cost : ℕ) : Type 0 where
@@ -97,23 +109,24 @@ module _ (old new : View) (before after : SessionState) (text : List ℕ) (cost 
   said_follows m c is still = is.kept ∙ (λ i. with_cost (still.cost_is i) (sym still.kept i))
 
   -- an accepted command that does no more has no changes
-  said_changed : (m : State) (c : Command) (outcome : Outcome) → Said text cost old new before after → IsStill before m c cost → outcome ≡ outcome_of (next_of before m c).reply → outcome ≡ Accepted
-      → HasChanged old new before after m c
-  said_changed m c outcome is still same accepted =
+  unchanged : (m : State) (c : Command) (outcome : Outcome) → IsStill before m c cost → outcome ≡ outcome_of (next_of before m c).reply → outcome ≡ Accepted → HasNoChanges before m c
+  unchanged m c outcome still same accepted =
       let free = unrefused before m c (sym same ∙ accepted) in
-      let none : changes_by before m c ≡ [] = sym (changes_done before m c free) ∙ still.changes in
-      record {
-        kept = said_follows m c is still ∙ ap (with_cost (cost_of m c)) (kept_done before m c free);
-        file = λ file links holds chain. (
-          file,
-          is.holds ∙ holds,
-          subst (λ (x : List LinksChange × List Segment). HasChain (all_done x.0 links) x.1 file) (λ i. (sym none i, ap (λ (a : SessionState). a.segments) (sym is.kept) i)) chain,
-          keeps_own file,
-        );
-      }
+      record { changes = sym (changes_done before m c free) ∙ still.changes; kept = sym (kept_done before m c free) ∙ still.kept }
 
-  said_goes : (m : State) (c : Command) (outcome : Outcome) → Said text cost old new before after → IsOfKeys before m → IsStill before m c cost → outcome ≡ outcome_of (next_of before m c).reply
-      → FollowsStep before after m c outcome
+  said_changed : (m : State) (c : Command) → Said text cost old new before after → IsStill before m c cost → HasNoChanges before m c → HasChanged old new before after m c
+  said_changed m c is still none = record {
+    kept = is.kept ∙ (λ i. with_cost (still.cost_is i) (sym none.kept i));
+    file = λ file links holds chain. (
+      file,
+      is.holds ∙ holds,
+      subst (λ (x : List LinksChange × List Segment). HasChain (all_done x.0 links) x.1 file) (λ i. (sym none.changes i, ap (λ (a : SessionState). a.segments) (sym is.kept) i)) chain,
+      keeps_own file,
+    );
+  }
+
+  said_goes : (m : State) (c : Command) (outcome : Outcome) → Said text cost old new before after → IsOfKeys before m → IsStill before m c cost
+      → (IsToldByKeys c → outcome ≡ outcome_of (next_of before m c).reply) → FollowsStep before after m c outcome
   said_goes m c outcome is keys still same = record {
     outcome_is = same;
     follows = said_follows m c is still;
@@ -167,19 +180,19 @@ module _ (old new : View) (before after : SessionState) (text : List ℕ) (cost 
     after_so outcome is m same full =
         subst (λ (a : SessionState). LacksRoomIfFull a outcome) (sym is.kept) (subst (λ (o : Outcome). LacksRoomIfFull (with_cost cost before) o) (sym same) full)
 
-  pub does_says : (c : Command) (answer : Result Outcome SessionFault) → before.failed ≡ false → SaysReply text cost old new before after answer
+  pub does_reply : (c : Command) (answer : Result Outcome SessionFault) → before.failed ≡ false → SaysReply text cost old new before after answer
       → (IsSaid answer → (m : State) → IsOfKeys before m → IsStill before m c cost)
       → (IsSaid answer → (m : State) (said : List ℕ) → StandsFor old before m said → text ≡ text_of (next_of before m c).reply)
-      → IfOk answer (λ outcome. (m : State) → IsOfKeys before m → outcome ≡ outcome_of (next_of before m c).reply)
+      → IfOk answer (IsOutcomeOf old before c)
       → (IsSaid answer → (m : State) (said : List ℕ) → StandsFor old before m said → LacksRoomIfFull (with_cost cost before) (outcome_of (next_of before m c).reply))
       → Does old new before after c answer
-  does_says c (Ok outcome) fresh is still told same full = record {
+  does_reply c (Ok outcome) fresh is still told became full = record {
     file = record {
       any_moment = tt;
       told = told_same old.holds new.holds is.holds;
       refused = said_stays outcome is;
       unwritten = λ m keys none. speaking_stays text old new is.holds is.time;
-      changed = λ m keys accepted. said_changed m c outcome is (still tt m keys) (same m keys) accepted;
+      changed = λ m keys accepted. said_changed m c is (still tt m keys) (became.plain m keys accepted);
       unsaid = λ e. absurd cc;
     };
     text = record {
@@ -190,16 +203,16 @@ module _ (old new : View) (before after : SessionState) (text : List ℕ) (cost 
     };
     kept = record {
       done = λ m said s.
-          said_went m c said outcome is (reply c (Ok outcome) still told tt m said s) (same m (of_keys before m s.file s.state))
-          (after_so c (Ok outcome) still told outcome is m (same m (of_keys before m s.file s.state)) (full tt m said s)) s;
-      goes = λ m keys. said_goes m c outcome is keys (still tt m keys) (same m keys);
+          said_went m c said outcome is (reply c (Ok outcome) still told tt m said s) (became.same m said s)
+          (after_so c (Ok outcome) still told outcome is m (became.same m said s) (full tt m said s)) s;
+      goes = λ m keys. said_goes m c outcome is keys (still tt m keys) (λ by_keys. became.told by_keys m keys);
       ready = said_ready is;
       failed = ap (λ (a : SessionState). a.failed) is.kept ∙ fresh;
       no_memory = λ e. absurd cc;
       cause = is.faults;
     };
   }
-  does_says c (Err HostFault) fresh is still told same full = record {
+  does_reply c (Err HostFault) fresh is still told became full = record {
     file = record {
       any_moment = λ m said s. read_steps m c said is.calls s;
       told = told_same old.holds new.holds is.calls.holds;
@@ -223,7 +236,7 @@ module _ (old new : View) (before after : SessionState) (text : List ℕ) (cost 
       cause = is.faults;
     };
   }
-  does_says c (Err SayFault) fresh is still told same full = record {
+  does_reply c (Err SayFault) fresh is still told became full = record {
     file = record {
       any_moment = λ m said s. speaks m c said is.time (reply c (Err SayFault) still told tt m said s) s;
       told = told_same old.holds new.holds is.holds;
@@ -247,7 +260,7 @@ module _ (old new : View) (before after : SessionState) (text : List ℕ) (cost 
       cause = is.faults;
     };
   }
-  does_says c (Err NoMemory) fresh is still told same full = record {
+  does_reply c (Err NoMemory) fresh is still told became full = record {
     file = record {
       any_moment = λ m said s. read_steps m c said is.calls s;
       told = told_same old.holds new.holds is.calls.holds;
@@ -272,6 +285,24 @@ module _ (old new : View) (before after : SessionState) (text : List ℕ) (cost 
     };
   }
 
+  -- where the kept keys tell what becomes of the command
+  outcome_by_keys : (c : Command) (answer : Result Outcome SessionFault) → (IsSaid answer → (m : State) → IsOfKeys before m → IsStill before m c cost)
+      → IfOk answer (λ outcome. (m : State) → IsOfKeys before m → outcome ≡ outcome_of (next_of before m c).reply) → IfOk answer (IsOutcomeOf old before c)
+  outcome_by_keys c (Ok outcome) still same = record {
+    same = λ m said s. same m (of_keys before m s.file s.state);
+    told = λ by_keys. same;
+    plain = λ m keys accepted. unchanged m c outcome (still tt m keys) (same m keys) accepted;
+  }
+  outcome_by_keys c (Err e) still same = tt
+
+  pub does_says : (c : Command) (answer : Result Outcome SessionFault) → before.failed ≡ false → SaysReply text cost old new before after answer
+      → (IsSaid answer → (m : State) → IsOfKeys before m → IsStill before m c cost)
+      → (IsSaid answer → (m : State) (said : List ℕ) → StandsFor old before m said → text ≡ text_of (next_of before m c).reply)
+      → IfOk answer (λ outcome. (m : State) → IsOfKeys before m → outcome ≡ outcome_of (next_of before m c).reply)
+      → (IsSaid answer → (m : State) (said : List ℕ) → StandsFor old before m said → LacksRoomIfFull (with_cost cost before) (outcome_of (next_of before m c).reply))
+      → Does old new before after c answer
+  does_says c answer fresh is still told same full = does_reply c answer fresh is still told (outcome_by_keys c answer still same) full
+
 -- ---- calls that read, and then a reply
 
 module _ (text : List ℕ) (old mid new : View) (law : IsLawful mid) (calls : OnlyReads old mid) (disk : mid.disk_faults ≡ old.disk_faults) where
@@ -284,7 +315,7 @@ module _ (text : List ℕ) (old mid new : View) (law : IsLawful mid) (calls : On
   time_before : Elapses mid new (Speaking text mid) → Elapses old new (Speaking text old)
   time_before time = elapses_join (Speaking text mid) (elapses_as (Speaking text old) (Leaves old) calls.time spoken_before) time (λ i t spoken. (spoken.0, left_before i spoken.0 spoken.1, spoken.2))
 
-  pub reads_then_said : (cost : ℕ) (before after : SessionState) → Said text cost mid new before after → Said text cost old new before after
+  reads_then_said : (cost : ℕ) (before after : SessionState) → Said text cost mid new before after → Said text cost old new before after
   reads_then_said cost before after is = record {
     time = time_before is.time;
     holds = is.holds ∙ calls.holds;
@@ -293,13 +324,27 @@ module _ (text : List ℕ) (old mid new : View) (law : IsLawful mid) (calls : On
     kept = is.kept;
   }
 
-  pub reads_not_said : (after : SessionState) → NotSaid text mid new after → NotSaid text old new after
+  reads_not_said : (after : SessionState) → NotSaid text mid new after → NotSaid text old new after
   reads_not_said after is = record {
     time = time_before is.time;
     holds = is.holds ∙ calls.holds;
     says = subst (λ (o : Option (List ℕ)). Becomes (LongerByPart text) o new.said) calls.said is.says;
     faults = (is.faults.0 ∙ disk, subst (λ (n : ℕ). Rose n new.say_faults) calls.say_faults is.faults.1);
     failed = is.failed;
+  }
+
+  pub reads_then_says : {X : Type 0} (cost : ℕ) (before after : SessionState) (answer : Result X SessionFault) → SaysReply text cost mid new before after answer → SaysReply text cost old new before after answer
+  reads_then_says cost before after (Ok x) is = reads_then_said cost before after is
+  reads_then_says cost before after (Err HostFault) is = record {
+    calls = reads_join law calls is.calls;
+    faults = (subst (λ (n : ℕ). Rose n new.disk_faults) disk is.faults.0, is.faults.1 ∙ calls.say_faults);
+    failed = is.failed;
+  }
+  reads_then_says cost before after (Err SayFault) is = reads_not_said after is
+  reads_then_says cost before after (Err NoMemory) is = record {
+    calls = reads_join law calls is.calls;
+    faults = (is.faults.0 ∙ disk, is.faults.1 ∙ calls.say_faults);
+    kept = is.kept;
   }
 
 -- ---- nothing done

@@ -14,9 +14,15 @@ pub record IsOfKeys (s : SessionState) (m : State) : Type 0 where
   pub classes : m.classes ≡ s.classes
   pub keys : AreKeysOfState s.heads m
 
--- What becomes of the command is what the state's step says, and what the session keeps follows it.
+-- Classes and keys tell what becomes of the command. They don't tell whether an object can be had in the version that a get asks for: it
+-- stands in the file.
+abbrev pub IsToldByKeys : Command → Type 0
+IsToldByKeys (Get name cycle (Some version)) = ⊥
+IsToldByKeys other = Unit {0}
+
+-- What becomes of the command is what the state's step says, as far as classes and keys tell, and what the session keeps follows it.
 pub record FollowsStep (before after : SessionState) (m : State) (c : Command) (outcome : Outcome) : Type 0 where
-  pub outcome_is : outcome ≡ outcome_of (next_of before m c).reply
+  pub outcome_is : IsToldByKeys c → outcome ≡ outcome_of (next_of before m c).reply
   pub follows : FollowsCommand before after m c
   pub behind : IsOfKeys after (next_of before m c).state
 

@@ -12,7 +12,7 @@ abbrev pub CanBeDone : SessionState → Work → Type 0
 CanBeDone s (Put o) = IsStored s.classes o × (head_of o.name (Some o.cycle) s.heads ≡ None)
 CanBeDone s (Class d) = IsDeclarable s.classes d
 CanBeDone s (Delete h) = head_of h.name (Some h.cycle) s.heads ≡ Some h
-CanBeDone s (Get h) = head_of h.name (Some h.cycle) s.heads ≡ Some h
+CanBeDone s (Get h version) = head_of h.name (Some h.cycle) s.heads ≡ Some h
 CanBeDone s Ls = Unit {0}
 
 -- the work is what the command is to do, by the classes and keys that the session keeps
@@ -27,5 +27,5 @@ abbrev pub ReadsNothing : Work → Type 0
 ReadsNothing (Class d) = Unit {0}
 ReadsNothing (Put o) = Unit {0}
 ReadsNothing (Delete h) = Unit {0}
-ReadsNothing (Get h) = ⊥
+ReadsNothing (Get h version) = ⊥
 ReadsNothing Ls = Unit {0}

@@ -26,7 +26,8 @@ pub record TextAfter (old new : View) (before after : SessionState) (c : Command
   pub part : (m : State) (text : List ℕ) → StandsFor old before m text → SaysPart new text (text_of (next_of before m c).reply)
   pub lacks : IsSaid answer → (m : State) (text : List ℕ) → StandsFor old before m text → LacksRoomIfFull (with_cost (cost_of m c) before) (outcome_of (next_of before m c).reply)
 
--- What becomes of what is kept, and what is answered: the state's step is done, or why not.
+-- What becomes of what is kept, and what is returned: the state's step is done, or why not. By the classes and keys alone, whatever the host
+-- holds, what is kept follows the step, and so does the outcome but of a get in a version of the object's class.
 pub record KeptAfter (old new : View) (before after : SessionState) (c : Command) (answer : Result Outcome SessionFault) : Type 0 where
   pub done : IfOk answer (λ outcome. (m : State) (text : List ℕ) → StandsFor old before m text → Went old new before after m c text outcome)
   pub goes : IfOk answer (λ outcome. (m : State) → IsOfKeys before m → FollowsStep before after m c outcome)

@@ -13,7 +13,7 @@ use Rattle.rio_session.specs.{Marks.{is_refused}, SessionState.{SessionState}}
 
 -- ---- records
 
--- what one write makes of the links of a file
+-- what one change, the put or the release of a record, makes of the links of a file
 abbrev pub LinksChange : Type 0
 LinksChange = List Link → List Link
 

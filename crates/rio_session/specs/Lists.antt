@@ -45,7 +45,7 @@ pub record IsListRecord (s : SessionState) (place : ℕ) (made : NewRecord) : Ty
   pub long : length made.bytes.bytes ≡ padded_length (list_key_size + info_size s.classes)
 
 -- It is a whole record for the place of the rule, it leaves room for a close, and its cycle is low enough for one more.
-pub record CanBeReplaced (s : SessionState) (made : NewRecord) : Type 0 where
+pub record CanReplace (s : SessionState) (made : NewRecord) : Type 0 where
   pub whole : IsRecord made.head.seek made.bytes.bytes
   pub place : made.head.seek ≡ place_of s.segments (length made.bytes.bytes)
   pub spare : 4 ≤ made.bytes.spare

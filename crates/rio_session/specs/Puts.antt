@@ -1,4 +1,4 @@
--- Records that can be put: when there is room, and what of an object or a class list is stored.
+-- Records that can be put: when there is room, and what of an object is stored.
 use Rattle.std.specs.{Prelude.{◌≡◌, ◌≤◌, ℕ, ◌+◌, true, List, [], ◌∷◌, length, Some, None}, List.{find}}
 use Rattle.rio_dir.specs.Table.{is_at_cycle, with_head}
 use Rattle.rio_chain.specs.{Changes.{with_record}, Placing.{file_end, place_of, record_count, with_segment}, Segments.{IsRecord}}

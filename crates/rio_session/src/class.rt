@@ -39,6 +39,7 @@ impl Session {
         ensures outcome { IfOk result (λ outcome. outcome ≡ BecameOf.Accepted) }
         ensures reads { (H.view host.new).reads ≡ (H.view host.old).reads }
     {
+        // No rule is broken, so only memory can be wanting.
         if self.registry.declare(new.class).is_err() {
             return Err(SessionFault::NoMemory);
         }

@@ -3,57 +3,75 @@ use crate::{Session, SessionFault};
 use rio_chain::ReadFault;
 use rio_host::Host;
 use rio_key::KeyHead;
-use rio_machine::Outcome;
-use rio_num::{Bytes, NoMemory};
-use rio_reply::get_reply;
+use rio_machine::{Outcome, Refusal};
+use rio_model::MapFault;
+use rio_num::Bytes;
+use rio_reply::{get_reply, get_reply_as};
 
 impl Session {
-    ghost use Rattle.std.specs.Prelude.{◌≡◌, Some, false, IfOk, Contains};
-    ghost use Rattle.rio_host.specs.OnlyReads.{OnlyReads};
+    ghost use Rattle.std.specs.Prelude.{◌≡◌, ◌<◌, ◌^◌, Some, false, length};
+    ghost use Rattle.rio_num.specs.Answers.{GivesUnless};
     ghost use Rattle.rio_chain.specs.Chains.{HoldsChain};
-    ghost use Rattle.rio_host.specs.Reading.{IsReadCause};
     ghost use Rattle.rio_dir.specs.Table.{head_of};
-    ghost use Rattle.rio_machine.specs.declared.command.Outcome.{Outcome as BecameOf};
-    ghost use Rattle.rio_session.specs.Gets.{TellsObject, TellsRecord};
+    ghost use Rattle.rio_model.specs.declared.map_fault.MapFault.TheVariants.{NoMemory as OutOfMemory};
+    ghost use Rattle.rio_session.specs.Gets.{PrintsTold, TellsObject, record_told};
     ghost use Rattle.rio_session.specs.Sound.{IsSoundState};
 
-    // The reply that prints the object of a key.
-    fn told<H: Host>(&self, host: &mut H, head: &KeyHead) -> Result<Bytes, ReadFault>
-        requires fresh { self.now.failed ≡ false }
-        requires among { Contains self.now.heads head.now }
-        requires holds { HoldsChain (H.view host.old) self.now.segments }
-        ensures text { IfOk result (λ text. TellsRecord (H.view host.old) self.now.segments
-            self.now.classes head.now text.bytes) }
-        ensures calls { OnlyReads (H.view host.old) (H.view host.new) }
-        ensures cause { IsReadCause (H.view host.old) (H.view host.new) result }
+    // The reply that prints the object whose record has these bytes, as it is or in a version of its class.
+    fn told(&self, head: &KeyHead, version: Option<i32>, bytes: &[u8]) -> Result<Bytes, MapFault>
+        requires { length bytes.now < 2 ^ 32 }
+        ensures { GivesUnless OutOfMemory (λ text. text.bytes) result
+            (record_told self.now.classes head.now version bytes.now) }
     {
-        let bytes = self.chain.read_record(host, head.seek)?;
-        match get_reply(self.alloc, self.registry.classes(), head, bytes.as_slice()) {
-            Ok(text) => Ok(text),
-            Err(NoMemory) => Err(ReadFault::NoMemory),
+        let classes = self.registry.classes();
+        match version {
+            None => Ok(get_reply(self.alloc, classes, head, bytes)?),
+            Some(version) => get_reply_as(self.alloc, classes, head, version, bytes),
         }
     }
 
-    // Prints the object of a key.
+    // Prints the object whose record has these bytes, or why it can't be had in the version.
+    fn print<H: Host>(
+        &mut self,
+        host: &mut H,
+        head: &KeyHead,
+        version: Option<i32>,
+        bytes: &[u8],
+    ) -> Result<Outcome, SessionFault>
+        requires { length bytes.now < 2 ^ 32 }
+        ensures { PrintsTold (record_told self.old.classes head.now version bytes.now)
+            (H.view host.old) (H.view host.new) self.old self.new result }
+    {
+        match self.told(head, version, bytes) {
+            Ok(text) => {
+                self.answer(host, text.as_slice(), 0)?;
+                Ok(Outcome::Accepted)
+            }
+            Err(MapFault::KindChanged { member }) => {
+                self.refuse(host, Refusal::KindChanged { member }, 0)
+            }
+            Err(MapFault::NoVersion) => self.refuse(host, Refusal::NoVersion, 0),
+            Err(MapFault::NoMemory) => Err(SessionFault::NoMemory),
+        }
+    }
+
+    // Reads the object of a key, and prints it as it is or in a version of its class.
     pub(crate) fn get<H: Host>(
         &mut self,
         host: &mut H,
         head: &KeyHead,
+        version: Option<i32>,
     ) -> Result<Outcome, SessionFault>
         requires fresh { self.old.failed ≡ false }
         requires there { head_of head.now.name (Some head.now.cycle) self.old.heads
             ≡ Some head.now }
         requires holds { HoldsChain (H.view host.old) self.old.segments }
-        ensures tells { TellsObject head.now (H.view host.old) (H.view host.new)
+        ensures tells { TellsObject head.now version (H.view host.old) (H.view host.new)
             self.old self.new result }
-        ensures outcome { IfOk result (λ outcome. outcome ≡ BecameOf.Accepted) }
         ensures sound { IsSoundState self.old }
     {
-        match self.told(host, head) {
-            Ok(text) => {
-                self.answer(host, text.as_slice(), 0)?;
-                Ok(Outcome::Accepted)
-            }
+        match self.chain.read_record(host, head.seek) {
+            Ok(bytes) => self.print(host, head, version, bytes.as_slice()),
             Err(ReadFault::NoMemory) => Err(SessionFault::NoMemory),
             Err(ReadFault::HostFault) => {
                 self.failed = true;

@@ -2,9 +2,10 @@
 //! the file. Each crash image while a command is done reads as the state from before it or after it. What is kept beside
 //! the file stands for the state, so no command but `get` reads the file again.
 //!
-//! A command changes the records of the file by a list of writes, one after the other: a put adds a record, a delete
-//! releases one, and a class command adds the longer class list and then releases the one before. One write of each list
-//! takes effect, so no crash image reads as anything between. Commands that only print, and refused ones, write nothing.
+//! A command changes the records of the file by a list of changes, one after the other, each the put or the release of a
+//! record: a put adds a record, a delete releases one, and a class command adds the longer class list and then releases the
+//! one before. One change of each list takes effect, so no crash image reads as anything between. Commands that only print,
+//! and refused ones, write nothing.
 //!
 //! `specs/Session.antt` says what a session stands for, `specs/Kept.antt` what each command changes, `specs/Changing.antt`
 //! which crash images there are meanwhile, `specs/Effects.antt` what they read as, and `specs/Marks.antt` which commands

@@ -1,6 +1,6 @@
 //! The class list of a session is written.
 use crate::place::DIRECTORY;
-use crate::replace::put_in_place_of;
+use crate::replace::put_and_release;
 use crate::{Session, SessionFault};
 use rio_chain::{KeyWords, NewRecord, new_record};
 use rio_host::Host;
@@ -50,7 +50,7 @@ impl Session {
     ghost use Rattle.rio_recover.specs.Closable.{kept_with};
     ghost use Rattle.rio_state.specs.Closing.{close_need};
     ghost use Rattle.rio_session.specs.Changing.{ChangesFile};
-    ghost use Rattle.rio_session.specs.Lists.{CanBeListedAt, CanBeReplaced, IsListRecord, listing};
+    ghost use Rattle.rio_session.specs.Lists.{CanBeListedAt, CanReplace, IsListRecord, listing};
     ghost use Rattle.rio_session.specs.Lists.{listing_at};
     ghost use Rattle.rio_session.specs.Session.{IsReady};
 
@@ -95,7 +95,7 @@ impl Session {
     ) -> Result<Outcome, SessionFault>
         requires fresh { self.old.failed ≡ false }
         requires ready { IsReady (H.view host.old) self.old }
-        requires can { CanBeReplaced self.old made }
+        requires can { CanReplace self.old made }
         ensures changes { ChangesFile (listing self.old made text.now cost) (H.view host.old)
             (H.view host.new) self.old self.new result }
         ensures outcome { IfOk result (λ outcome. outcome ≡ BecameOf.Accepted) }
@@ -103,7 +103,7 @@ impl Session {
     {
         self.chain.reserve(2)?;
         let NewRecord { head, mut bytes } = made;
-        match put_in_place_of(&mut self.chain, host, head.seek, &mut bytes, &self.info) {
+        match put_and_release(&mut self.chain, host, head.seek, &mut bytes, &self.info) {
             Ok(()) => {
                 self.info = Some(head);
                 self.answer(host, text, cost)?;

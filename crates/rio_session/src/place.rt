@@ -1,4 +1,4 @@
-//! Where an object's record goes, and the record.
+//! Where a record goes, and the record of an object.
 ghost use Rattle.std.specs.Prelude.{◌≡◌, ◌+◌, ◌%◌, ◌≤◌, ◌<◌, ◌^◌, ◌∷◌, [], length, false, IfOk, IfErr, OnOk};
 ghost use Rattle.rio_chain.specs.Placing.{file_end, place_of, with_segment};
 ghost use Rattle.rio_chain.specs.Segments.{IsRecord};

@@ -1,4 +1,4 @@
-//! A record takes the place of another one.
+//! A record is put, and another one released.
 ghost use Rattle.std.specs.Prelude.{◌≡◌, ◌≤◌, ◌<◌, ◌∷◌, length, false, IfSome, OnOk, OnErr};
 ghost use Rattle.rio_host.specs.Host.{IsDiskCause, IsQuiet, OnlyWrites};
 ghost use Rattle.rio_chain.specs.Chains.{HasRecordSegment, HoldsChain};
@@ -16,7 +16,7 @@ use rio_num::Bytes;
 
 // Puts a record at the place of the rule, and then releases the record of another key, if there is one. HostFault comes
 // only where a call on the file failed.
-pub(crate) fn put_in_place_of<H: Host>(
+pub(crate) fn put_and_release<H: Host>(
     chain: &mut Chain,
     host: &mut H,
     place: u64,

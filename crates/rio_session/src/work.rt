@@ -28,7 +28,7 @@ impl Session {
             Work::Class(new) => self.class(host, new),
             Work::Put(object) => self.put(host, &object),
             Work::Delete(head) => self.delete(host, &head),
-            Work::Get(head) => self.get(host, &head),
+            Work::Get { head, version } => self.get(host, &head, version),
             Work::Ls => self.list(host),
         }
     }

@@ -1,5 +1,5 @@
 -- The commands of a script are built and can be stated.
-use Rattle.std.proofs.{Common.{◌≡◌, ◌<◌, ℕ, Bool, true, false, List, [], ◌∷◌, length, get_or, None, Some, refl, ap, ◌∙◌}, lemmas.{Bool.{and_from, and_parts}, List.Folds.{list_all_at}}}
+use Rattle.std.proofs.{Common.{◌≡◌, ◌<◌, ℕ, Bool, true, false, List, [], ◌∷◌, length, get_or, refl, ap, ◌∙◌}, lemmas.{Bool.{and_from, and_parts}, List.Folds.{list_all_at}}}
 use Rattle.std.specs.List.{list_all}
 use Rattle.rio_machine.specs.declared.command.Command.{Command, TheVariants.{Bad, Class, Put, Delete, Tree, Fill, Save, Get, Scan, Ls}}
 use Rattle.rio_step.specs.Statable.{IsStatable, is_statable}
@@ -22,8 +22,7 @@ built_is (Delete name cycle) e = refl
 built_is (Tree name branches) e = absurd cc
 built_is (Fill name row) e = absurd cc
 built_is (Save name) e = absurd cc
-built_is (Get name cycle None) e = refl
-built_is (Get name cycle (Some version)) e = absurd cc
+built_is (Get name cycle version) e = refl
 built_is (Scan name class) e = absurd cc
 built_is Ls e = refl
 

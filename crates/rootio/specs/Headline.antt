@@ -1,7 +1,7 @@
 -- The headline: wherever a run of a script is stopped, between or within writes, the file that is left reads, by the walk over
--- its keys, as the objects and saved entries after a prefix of the script's commands and closing saves, one that holds every
--- put, delete and save whose reply had been said; a run that ends well says exactly the model's replies and leaves the whole
--- script's state.
+-- its keys, as the classes, objects and saved entries after a prefix of the script's commands and closing saves, one that holds
+-- every declaration, put, delete and save whose reply had been said; a run that ends well says exactly the model's replies and
+-- leaves the whole script's state.
 use Rattle.std.specs.Prelude.{◌≡◌, ◌<◌, ◌≤◌, ℕ, ◌+◌, List, ◌++◌, length, take, drop, slice_get, Some}
 use Rattle.rio_host.specs.Host.{IsQuiet, Leaves, View}
 use Rattle.rio_machine.specs.{State.{State}, declared.command.Command.{Command}, declared.refusal.Refusal.TheVariants.{Full}}

@@ -23,3 +23,4 @@ mod scan;
 mod stops;
 mod undone;
 mod usage;
+mod versions;

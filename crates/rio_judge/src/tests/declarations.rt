@@ -159,28 +159,28 @@ static ROWS: [Row; 15] = [
         (b"D", 1, &[]),
         Found::Accepted {
             cycle: 0,
-            cost: 4479,
+            length: 4379,
         },
     ),
     (
         (b"Ta", 1, &[]),
         Found::Accepted {
             cycle: 0,
-            cost: 4480,
+            length: 4380,
         },
     ),
     (
         (b"P", 2, &[]),
         Found::Accepted {
             cycle: 0,
-            cost: 4479,
+            length: 4379,
         },
     ),
     (
         (b"D", 1, &[Part::Base(b"P")]),
         Found::Accepted {
             cycle: 0,
-            cost: 4563,
+            length: 4463,
         },
     ),
 ];
@@ -207,20 +207,20 @@ static NODES: [Row; 2] = [
         ),
         Found::Accepted {
             cycle: 0,
-            cost: 4352,
+            length: 4252,
         },
     ),
     (
         (b"Node", 2, &[Part::Base(b"TObject")]),
         Found::Accepted {
             cycle: 0,
-            cost: 4494,
+            length: 4394,
         },
     ),
 ];
 
 #[test]
-fn declarations_cost_the_class_list(rt: HostRuntime) {
+fn declarations_have_the_length_of_the_class_list(rt: HostRuntime) {
     assert_eq!(rt; count_found(rt.alloc(), &[], &NODES[..1]), 1);
     assert_eq!(rt; count_found(rt.alloc(), &NODE, &NODES[1..]), 1);
 }

@@ -32,8 +32,8 @@ fn long_in_itself(alloc: Global, count: usize) -> Result<ClassDef, NoMemory> {
     Ok(class)
 }
 
-fn accepted(cost: u64) -> Found {
-    Found::Accepted { cycle: 0, cost }
+fn accepted(length: u32) -> Found {
+    Found::Accepted { cycle: 0, length }
 }
 
 // The list without declared classes has 3,983 bytes. A takes 75, and its member 82 and its name.
@@ -60,7 +60,7 @@ fn class_lists_have_a_greatest_length(rt: HostRuntime) {
             alloc,
             &none,
             long_class(alloc, LONGEST),
-            accepted(16_777_316)
+            accepted(16_777_216)
         )
     );
     assert!(rt;
@@ -107,7 +107,7 @@ fn finds_after(alloc: Global, count: u32, number: u32, found: Found) -> bool {
 // Each of the classes takes 79 bytes.
 #[test]
 fn as_many_classes_as_the_limit_are_declared(rt: HostRuntime) {
-    assert!(rt; finds_after(rt.alloc(), 4095, 5095, accepted(327_667)));
+    assert!(rt; finds_after(rt.alloc(), 4095, 5095, accepted(327_567)));
 }
 
 #[test]

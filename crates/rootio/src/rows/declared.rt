@@ -323,8 +323,8 @@ fn host_of_both(alloc: Global, first: &[Line], then: &[Line]) -> Result<Option<M
     Ok(host_after(alloc, script.as_slice(), said.as_slice()))
 }
 
-// Whether the other lines leave the file as the first ones do.
-fn change_nothing(alloc: Global, first: &[Line], then: &[Line]) -> bool {
+/// Whether the other lines leave the file as the first ones do.
+pub(super) fn change_nothing(alloc: Global, first: &[Line], then: &[Line]) -> bool {
     match (
         host_of_lines(alloc, first),
         host_of_both(alloc, first, then),

@@ -94,7 +94,8 @@ static IN_A_GAP: [Step; 5] = [
     },
 ];
 
-// Two declarations, the second of which puts a list in place of the first one, and objects before and after it.
+// Three declarations, each of which but the first puts a list in place of the one before, one that is refused, and objects
+// between them.
 static DECLARED: [Step; 7] = [
     Step {
         line: "class A 1 { x: i32 }\n",

@@ -23,8 +23,8 @@ returns-in-Delete-clause-sound c =
     let sound = c.delete_work.ensures.sound c.args.registry.now in
     search rules
 
-pub returns-in-Get-default-default-None-clause-sound : goal.returns-in-Get-default-default-None-clause-sound
-returns-in-Get-default-default-None-clause-sound c =
+pub returns-in-Get-clause-sound : goal.returns-in-Get-clause-sound
+returns-in-Get-clause-sound c =
     let sound = c.get_work.ensures.sound c.args.registry.now in
     search rules
 

@@ -1,11 +1,11 @@
 use Rattle.std.proofs.Common.{subst}
 use Rattle.rio_machine.specs.declared.command.Outcome.{Outcome}
 use Rattle.rio_session.specs.Changing.{Changing, ChangesFile}
-use Rattle.rio_session.proofs.ListCalls.{can_be_replaced, same_listing}
+use Rattle.rio_session.proofs.ListCalls.{can_replace, same_listing}
 use Rattle.rio_session.proofs.session.Session.write_list.Goals as goal
 
 pub replace_list-requires-clause-can : goal.replace_list-requires-clause-can
-replace_list-requires-clause-can g c = can_be_replaced c.args.self.now c.args.place c.in_ok-made.made c.in_ok-made.ensures c.requires.at
+replace_list-requires-clause-can g c = can_replace c.args.self.now c.args.place c.in_ok-made.made c.in_ok-made.ensures c.requires.at
 
 pub returns-clause-changes : goal.returns-clause-changes
 returns-clause-changes g c =

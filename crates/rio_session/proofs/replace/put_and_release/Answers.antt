@@ -3,7 +3,7 @@ use Rattle.rio_key.specs.declared.head.KeyHead.{KeyHead}
 use Rattle.rio_chain.specs.{Chains.{ChainState, HasRecordSegment}, declared.segment.Segment.{Segment}}
 use Rattle.rio_session.specs.Kept.{released_link}
 use Rattle.rio_session.proofs.ReplaceMoments.{all_is_done, both_are_done, both_in_time, put_in_time, record_stays}
-use Rattle.rio_session.proofs.replace.put_in_place_of.Goals as goal
+use Rattle.rio_session.proofs.replace.put_and_release.Goals as goal
 
 pub returns-in_err-put_record-clause-any_moment : goal.returns-in_err-put_record-clause-any_moment
 returns-in_err-put_record-clause-any_moment g c p s own changes =

@@ -1,0 +1,19 @@
+use Rattle.std.proofs.Common.{refl}
+use Rattle.rio_machine.specs.declared.refusal.Refusal.TheVariants.{KindChanged, NoVersion}
+use Rattle.rio_model.specs.declared.map_fault.MapFault.TheVariants.{KindChanged as Changed, NoVersion as Missing}
+use Rattle.rio_session.specs.Gets.{record_told}
+use Rattle.rio_session.proofs.GetCalls.{prints_refusal}
+use Rattle.rio_session.proofs.session.Session.print.Goals as goal
+
+pub returns-in-Err-KindChanged : goal.returns-in-Err-KindChanged
+returns-in-Err-KindChanged g c =
+    let told = rw c.in-Err-KindChanged.field-0-is at c.in-Err-KindChanged.ensures in
+    prints_refusal (record_told c.args.self.now.classes c.args.head.now c.args.version c.args.bytes.now) (g.H.Host.view c.args.host.now) (g.H.Host.view c.refuse.new.host) c.args.self.now c.refuse.new.self c.refuse.result
+    (Changed c.in-Err-KindChanged.member) (KindChanged c.in-Err-KindChanged.member) (told (λ e. cc)) (refl, refl) c.refuse.ensures.says c.refuse.ensures.outcome
+
+pub returns-in-Err-NoVersion : goal.returns-in-Err-NoVersion
+returns-in-Err-NoVersion g c =
+    let told = rw c.in-Err-NoVersion.field-0-is at c.in-Err-NoVersion.ensures in
+    let call = c.refuse-in-Err-NoVersion in
+    prints_refusal (record_told c.args.self.now.classes c.args.head.now c.args.version c.args.bytes.now) (g.H.Host.view c.args.host.now) (g.H.Host.view call.new.host) c.args.self.now call.new.self call.result
+    Missing NoVersion (told (λ e. cc)) (refl, refl) call.ensures.says call.ensures.outcome
