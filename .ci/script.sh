@@ -48,7 +48,11 @@ check "scan of an object" $? 0 'no 6 NotATree' ""
 "$program" scan a.root t </dev/null >said 2>told
 check "scan of what isn't there" $? 0 'no 3 NoSuchName' ""
 "$program" scan a.root t P#1 </dev/null >said 2>told
-check "scan as a class" $? 1 "" "rootio: usage: rootio VERB FILE ARG..."
+check "scan as a class of what isn't there" $? 0 'no 3 NoSuchName' ""
+"$program" scan a.root t P </dev/null >said 2>told
+check "scan as a class without a version" $? 1 "" "rootio: usage: rootio VERB FILE ARG..."
+"$program" export a.root s </dev/null >said 2>told
+check "export of an object" $? 0 'no 6 NotATree' ""
 
 # The file is opened again: an object more, and what was there is as it was. Without a command it stays, byte for byte.
 printf '%s\n' "get s;1" "put t $value \"new\"}" "ls" >more
@@ -97,7 +101,7 @@ check "ls after a delete" $? 0 "$keys" ""
 
 # A class is declared, and then a version more: each object stays as it was put.
 printf '%s\n' "class N 1 { v: i32, next: N* }" "put n N{v: 1, next: @0=N{v: 2, next: @0}}" "class N 1 { v: i32 }" "class N 2 { v: i32 }" \
-    "put n N{v: 4}" "get n;1" "get n" >classes
+    "put n N{v: 4}" "get n;1" "get n" "get n;1 as 2" "get n as 1" "get n as 3" >classes
 "$program" run less.root <classes >said 2>told
 check "classes" $? 0 'ok class N 1
 ok put n;1
@@ -105,7 +109,10 @@ no 9 SameVersion
 ok class N 2
 ok put n;2
 ok get n;1 N#1{v: 1, next: @0=N#1{v: 2, next: @0}}
-ok get n;2 N#2{v: 4}' ""
+ok get n;2 N#2{v: 4}
+ok get n;1 N#2{v: 1}
+ok get n;2 N#1{v: 4, next: null}
+no 14 NoVersion' ""
 "$program" dump less.root 'n;1' </dev/null >said 2>told
 check "dump of an object of a class" $? 0 'n;1 N#1{v: 1, next: @0=N#1{v: 2, next: @0}}' ""
 "$program" dump less.root </dev/null >said 2>told
@@ -211,12 +218,27 @@ ok scan T 3
 0 [-5, \"a\\\"b\", 0, [], [1, 65535], false, Hit#1{id: 7, charge: 0x3f800000}, []]
 1 [6, \"\", 2, [0x3f800000, 0x40000000], [2, 3], true, Hit#1{id: 8, charge: 0x00000000}, [1, -1]]
 2 [2147483647, \"$long\", 1, [0x40400000], [0, 0], true, Hit#1{id: -9, charge: 0x00000001}, [2]]"
+hits=$(printf "%s\n" "$rows" | sed 's/Hit#1{id: \([-0-9]*\), charge: \(0x[0-9a-f]*\)}/Hit#2{charge: \2, id: \1, adc: [0, 0]}/')
+fields="branch nested refused SubBranches
+-5,\"a\"\"b\",0,[],\"[1, 65535]\",false,\"Hit#1{id: 7, charge: 0x3f800000}\",[]
+6,,2,\"[0x3f800000, 0x40000000]\",\"[2, 3]\",true,\"Hit#1{id: 8, charge: 0x00000000}\",\"[1, -1]\"
+2147483647,$long,1,[0x40400000],\"[0, 0]\",true,\"Hit#1{id: -9, charge: 0x00000001}\",[2]"
 for form in small large; do
     python3 "$top/bench/tree_file.py" f.root $form || fail "a $form file isn't made"
     "$program" scan f.root T </dev/null >said 2>told
     check "scan of a $form file" $? 0 "$rows" ""
+    "$program" scan f.root T Hit#2 </dev/null >said 2>told
+    check "scan of a $form file in another version" $? 0 "$hits" ""
+    "$program" export f.root T </dev/null >said 2>told
+    check "export of a $form file" $? 0 "$fields" ""
     "$program" dump f.root T </dev/null >said 2>told
     check "a tree of a $form file" $? 0 "T;1 TTree 3" ""
+done
+refused='branch nested refused SubBranches'
+for asked in 'Q#1 no 8 NoSuchClass' 'TNamed#1 no 8 NoSuchClass' 'Hit#3 no 13 KindChanged charge' 'Hit#4 no 14 NoVersion'; do
+    "$program" scan f.root T "${asked%% *}" </dev/null >said 2>told
+    check "scan as ${asked%% *}" $? 0 "$refused
+${asked#* }" ""
 done
 "$program" scan f.root s </dev/null >said 2>told
 check "scan of an object" $? 0 "no 6 NotATree" ""
@@ -228,4 +250,4 @@ mkdir c.root
 "$program" run c.root <script >said 2>told
 check "a folder" $? 3 "" "rootio: disk fault"
 
-echo "script: a real file is made, listed and dumped, and trees are scanned"
+echo "script: a real file is made, listed and dumped, and trees are scanned and exported"

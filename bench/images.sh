@@ -152,73 +152,13 @@ fn main(rt: HostRuntime) -> anyhow::Result<()> {
 }
 RT
 
-python3 - "$crate" "${COMMANDS:-100000}" "${RUNS:-100}" "${SEED:-1}" "${SECONDS_ALL:-3000}" <<'P'
-import copy, random, subprocess, sys
+PYTHONPATH=$top/bench PYTHONDONTWRITEBYTECODE=1 python3 - "$crate" "${COMMANDS:-100000}" "${RUNS:-100}" "${SEED:-1}" "${SECONDS_ALL:-3000}" <<'P'
+import random, subprocess, sys
+from model import Model, random_line, states_of, whole_replies
 crate, commands, runs, seed, seconds = sys.argv[1], *map(int, sys.argv[2:])
 random.seed(seed)
 
-class Model:
-    def __init__(self):
-        self.objects, self.classes = {}, []
-
-    def newest(self, name):
-        return max((v for n, v in self.classes if n == name), default=0)
-
-    def listing(self):
-        return [f"{n};{c} {self.objects[n][c][0]}" for n in sorted(self.objects) for c in sorted(self.objects[n], reverse=True)]
-
-    def do(self, line):
-        """Does a command and returns its reply."""
-        verb, *rest = line.split(" ", 2)
-        if verb == "put":
-            name, value = rest
-            kind = value.split("{")[0]
-            if kind == "TObjString":
-                text = value.split('"')[1]
-                shown = f'TObjString#1{{TObject#1{{fUniqueID: 0, fBits: 0}}, fString: "{text}"}}'
-            elif self.newest(kind):
-                shown = f"{kind}#{self.newest(kind)}{{a: {value.split('a: ')[1].split('}')[0]}}}"
-            else:
-                return "no 8 NoSuchClass"
-            cycles = self.objects.setdefault(name, {})
-            cycle = max(cycles, default=0) + 1
-            cycles[cycle] = (kind, shown)
-            return f"ok put {name};{cycle}"
-        if verb == "class":
-            name, version = rest[0], int(rest[1].split(" ")[0])
-            if (name, version) in self.classes:
-                return "no 9 SameVersion"
-            self.classes.append((name, version))
-            return f"ok class {name} {version}"
-        name, _, cycle = rest[0].partition(";") if rest else ("", "", "")
-        if verb == "ls":
-            lines = self.listing()
-            return "\n".join([f"ok ls {len(lines)}", *lines])
-        if name not in self.objects:
-            return "no 3 NoSuchName"
-        cycle = int(cycle or max(self.objects[name]))
-        if cycle not in self.objects[name]:
-            return "no 4 NoSuchCycle"
-        if verb == "get":
-            return f"ok get {name};{cycle} {self.objects[name][cycle][1]}"
-        del self.objects[name][cycle]
-        if not self.objects[name]:
-            del self.objects[name]
-        return f"ok delete {name};{cycle}"
-
-def command():
-    dice, name = random.random(), f"n{random.randrange(30)}"
-    if dice < 0.40:
-        return f'put {name} TObjString{{TObject{{fUniqueID: 0, fBits: 0}}, fString: "{"x" * random.randrange(120)}"}}'
-    if dice < 0.50:
-        return f"put {name} Q{random.randrange(9)}{{a: {random.randrange(-9, 9)}}}"
-    if dice < 0.52:
-        return f"class Q{random.randrange(9)} {random.randrange(1, 9)} {{ a: i32 }}"
-    if dice < 0.93:
-        return f"delete {name};{random.randrange(1, 6)}"
-    return f"get {name}" if dice < 0.995 else "ls"
-
-scripts = [[command() for _ in range(commands // runs)] for _ in range(runs)]
+scripts = [[random_line(None, 30, 9) for _ in range(commands // runs)] for _ in range(runs)]
 with open(f"{crate}/stdin", "w") as file:
     file.write("%\n".join("".join(line + "\n" for line in script) for script in scripts))
 with open(f"{crate}/stdin") as file:
@@ -232,17 +172,9 @@ for k, script in enumerate(scripts):
     said = said[max(said.find("ok "), 0) if said.find("ok ") >= 0 and (said.find("no ") < 0 or said.find("ok ") < said.find("no ")) else max(said.find("no "), 0):] if k == 0 else said
     listing, classes = left.split("#CLASSES\n")
     there = (listing.splitlines(), [(n, int(v)) for n, v in (line.split() for line in classes.splitlines())])
-    whole, rest = 0, said
-    ahead = copy.deepcopy(model)
-    states, replies = [copy.deepcopy(ahead)], []
-    for line in script:
-        replies.append(ahead.do(line) + "\n")
-        if rest.startswith(replies[-1]):
-            rest, whole = rest[len(replies[-1]):], whole + 1
-        states.append(copy.deepcopy(ahead))
-        if whole < len(replies):
-            break
-    assert (replies[whole] if whole < len(replies) else "").startswith(rest), (k, whole, rest[:100])
+    replies, states = states_of(model, script)
+    whole = whole_replies(replies, said)
+    assert whole is not None, (k, said[-100:])
     found = [n for n in (whole, whole + 1) if n < len(states) and there == (states[n].listing(), states[n].classes)]
     assert found, (k, whole, script[whole : whole + 1])
     model, done = states[found[0]], done + found[0]

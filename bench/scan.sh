@@ -1,141 +1,113 @@
 #!/usr/bin/env bash
-# What a scan costs, against printing the same lines from numbers in memory by a C program, both into a file.
-# Usage: [ENTRIES=1000000] [BRANCHES=20] bench/scan.sh [PROGRAM]: a tree of branches of one integer each;
-#        [ENTRIES=200000] bench/scan.sh counted [PROGRAM]: a tree of a counter, of a branch that counts an array of its
-#        own, and of 8 branches of arrays that the first branch counts; what is said must be what the file's maker says.
-# Without PROGRAM it is the one that ./rootio runs. Prints the processor's seconds of both, how many times as long a scan
-# takes, and the peak memory of the scan and of one over a tenth of the entries. It needs python3, which makes the files,
-# and gcc.
+# What a scan and an export cost, against printing the same lines from numbers in memory by a C program (rows.c), all into files.
+# Usage: [ENTRIES=1000000] [BRANCHES=20] bench/scan.sh [PROGRAM]: a tree of branches of one integer each; the same rows are also
+#            had as CSV from SQLite (`sqlite3 -csv`) and from HDF5 (h5py, a data set for each branch, in blocks of 8,000), if
+#            these are there;
+#        [ENTRIES=200000] bench/scan.sh counted [PROGRAM]: a tree of a counter, of a branch that counts an array of its own, and
+#            of 8 branches of arrays that the first branch counts; a scan must print what the file's maker says;
+#        [ENTRIES=1000000] bench/scan.sh objects [PROGRAM]: a tree of a number and an object at each entry; the objects are
+#            scanned in another version of their class too.
+# Without PROGRAM it is the one that ./rootio runs. Prints of each the processor's seconds, how many times as long it takes as
+# printing its lines, and the peak memory, for a scan also over a tenth of the entries. What is printed must be the lines of
+# rows.c, byte for byte. It needs python3, which makes the files (tree_file.py), and gcc.
 set -eu
 top=$(cd "$(dirname "$0")/.." && pwd)
 tree=wide
-entries=${ENTRIES:-1000000}
-if [ "${1-}" = counted ]; then
-    tree=counted
-    entries=${ENTRIES:-200000}
-    shift
-fi
+case ${1-} in counted | objects) tree=$1 && shift ;; esac
 program=${1:-$top/rootio}
 branches=${BRANCHES:-20}
-[ "$tree" = wide ] || branches=10
+entries=1000000
+[ "$tree" != counted ] || entries=200000
+entries=${ENTRIES:-$entries}
+[ "$tree" = wide ] || branches=0
 folder=$(mktemp -d)
 trap 'rm -rf "$folder"' EXIT
+gcc -O2 -o "$folder/rows" "$top/bench/rows.c"
+gcc -O2 -o "$folder/measure" "$top/bench/measure.c"
 
-cat >"$folder/wide.c" <<'C'
-#include <stdio.h>
-#include <stdlib.h>
-
-int main(int words, char **word) {
-    long entries = words > 2 ? atol(word[1]) : 0, branches = words > 2 ? atol(word[2]) : 0;
-    int *numbers = malloc(sizeof(int) * entries * branches);
-    if (!numbers) return 1;
-    for (long k = 0; k < entries * branches; k++) numbers[k] = (int)k;
-    printf("ok scan G %ld\n", entries);
-    for (long e = 0; e < entries; e++) {
-        printf("%ld [", e);
-        for (long j = 0; j < branches; j++) printf(j ? ", %d" : "%d", numbers[e * branches + j]);
-        puts("]");
-    }
-    return 0;
-}
-C
-
-# The numbers of the tree `counted` of tree_file.py, by the same rule, and each kind of them in the order of the lines.
-cat >"$folder/counted.c" <<'C'
-#include <stdio.h>
-#include <stdlib.h>
-#include <string.h>
-
-static void print_list(const char *numbers, int count, int width, const char *form) {
-    printf(", [");
-    for (int i = 0; i < count; i++) {
-        unsigned long bits = 0;
-        memcpy(&bits, numbers + i * width, width);
-        if (i) printf(", ");
-        printf(form, bits);
-    }
-    printf("]");
-}
-
-int main(int words, char **word) {
-    long entries = words > 1 ? atol(word[1]) : 0, floats = 0, ints = 0, doubles = 0;
-    int *n = malloc(sizeof(int) * entries), *k = malloc(sizeof(int) * entries);
-    float *x = malloc(sizeof(float) * entries * 5);
-    int *whole = malloc(sizeof(int) * entries * 36);
-    double *real = malloc(sizeof(double) * entries * 36);
-    if (!n || !k || !x || !whole || !real) return 1;
-    for (long e = 0; e < entries; e++) {
-        n[e] = e * 7 % 10;
-        k[e] = e * 3 % 6;
-        for (int i = 0; i < k[e]; i++) x[floats++] = (e % 1000) / 4.0f - i;
-        for (int j = 0; j < 8; j++)
-            for (int i = 0; i < n[e]; i++)
-                if (j % 2 == 0) whole[ints++] = (e * 8 + j) * 10 + i;
-                else real[doubles++] = ((e * 8 + j) * 10 + i) / 8.0 - 1000;
-    }
-    floats = ints = doubles = 0;
-    printf("ok scan G %ld\n", entries);
-    for (long e = 0; e < entries; e++) {
-        printf("%ld [%d, %d", e, n[e], k[e]);
-        print_list((char *)(x + floats), k[e], 4, "0x%08lx");
-        floats += k[e];
-        for (int j = 0; j < 8; j++)
-            if (j % 2 == 0) print_list((char *)(whole + ints), n[e], 4, "%ld"), ints += n[e];
-            else print_list((char *)(real + doubles), n[e], 8, "0x%016lx"), doubles += n[e];
-        puts("]");
-    }
-    return 0;
-}
-C
-
-# The seconds of the processor and the peak memory, in MiB, of a command whose output goes into a file. A parent of many
-# MiB, as Python is, would be taken for the command's own peak.
-cat >"$folder/measure.c" <<'C'
-#include <stdio.h>
-#include <sys/resource.h>
-#include <sys/wait.h>
-#include <unistd.h>
-
-int main(int words, char **word) {
-    struct rusage used;
-    int status = 0;
-    pid_t child = words > 2 ? fork() : -1;
-    if (child == 0) {
-        if (freopen(word[1], "w", stdout) && freopen("/dev/null", "w", stderr)) execvp(word[2], word + 2);
-        _exit(127);
-    }
-    if (child < 0 || wait4(child, &status, 0, &used) < 0 || status) {
-        int told = WIFEXITED(status) ? WEXITSTATUS(status) : 128 + WTERMSIG(status);
-        fprintf(stderr, "%s isn't run, or ended with status %d\n", words > 2 ? word[2] : "it", told);
-        return 1;
-    }
-    double seconds = used.ru_utime.tv_sec + used.ru_stime.tv_sec;
-    seconds += (used.ru_utime.tv_usec + used.ru_stime.tv_usec) / 1e6;
-    printf("%.3f %.1f\n", seconds, used.ru_maxrss / 1024.0);
-    return 0;
-}
-C
-gcc -O2 -o "$folder/print" "$folder/$tree.c"
-gcc -O2 -o "$folder/measure" "$folder/measure.c"
-
-# A file with so many entries, and of the tree `counted` the lines that a scan of it is to say.
+# A file with so many entries, and of the tree `counted` the lines that a scan of it is to print.
 make_file() {
-    local more=$branches
-    [ "$tree" = wide ] || more=$folder/$1.lines
-    python3 "$top/bench/tree_file.py" "$folder/$1.root" "$tree" "$2" "$more"
+    case $tree in
+    wide) python3 "$top/bench/tree_file.py" "$folder/$1.root" wide "$2" "$branches" ;;
+    counted) python3 "$top/bench/tree_file.py" "$folder/$1.root" counted "$2" "$folder/$1.lines" ;;
+    objects) python3 "$top/bench/tree_file.py" "$folder/$1.root" objects "$2" ;;
+    esac
+}
+
+ratio() { python3 -c "print(f'{$1 / max($2, 0.001):.1f}')"; }
+
+# The lines of this form, printed by rows.c: the first word is what they are called below.
+print_rows() { read -r printing _ < <("$folder/measure" "$folder/printed" "$folder/rows" "$tree" "$1" "$entries" "$branches"); }
+
+# One command over the whole file, whose lines must be those of rows.c.
+compare() {
+    local name=$1 seconds peak
+    shift
+    read -r seconds peak < <("$folder/measure" "$folder/made" "$@")
+    cmp "$folder/printed" "$folder/made"
+    echo "  $name ${seconds} s, printing ${printing} s, ratio $(ratio "$seconds" "$printing"), peak ${peak} MiB"
 }
 
 make_file whole "$entries"
 make_file tenth $((entries / 10))
 "$program" ls "$folder/whole.root" >/dev/null
-read -r printing _ < <("$folder/measure" "$folder/printed" "$folder/print" "$entries" "$branches")
-read -r scanning peak < <("$folder/measure" "$folder/scanned" "$program" scan "$folder/whole.root" G)
-read -r _ tenth < <("$folder/measure" "$folder/scanned.tenth" "$program" scan "$folder/tenth.root" G)
-cmp "$folder/printed" "$folder/scanned"
-if [ "$tree" = counted ]; then
-    cmp "$folder/whole.lines" "$folder/scanned"
-    cmp "$folder/tenth.lines" "$folder/scanned.tenth"
+echo "$tree: $entries entries, $(du -m "$folder/whole.root" | cut -f1) MB"
+print_rows scan
+compare scan "$program" scan "$folder/whole.root" G
+if [ "$tree" = counted ]; then cmp "$folder/whole.lines" "$folder/made"; fi
+read -r _ tenth < <("$folder/measure" "$folder/made.tenth" "$program" scan "$folder/tenth.root" G)
+if [ "$tree" = counted ]; then cmp "$folder/tenth.lines" "$folder/made.tenth"; fi
+echo "  peak of a scan over a tenth ${tenth} MiB"
+if [ "$tree" = objects ]; then
+    print_rows as
+    compare "scan in another version" "$program" scan "$folder/whole.root" G P#2
 fi
-echo "$entries entries of $branches branches ($tree), $(du -m "$folder/whole.root" | cut -f1) MB: scan ${scanning} s," \
-    "printing ${printing} s, ratio $(python3 -c "print(f'{$scanning / max($printing, 0.001):.1f}')")," \
-    "peak ${peak} MiB, of a tenth ${tenth} MiB"
+print_rows export
+compare export "$program" export "$folder/whole.root" G
+[ "$tree" = wide ] || exit 0
+
+# The same numbers in a table of SQLite.
+if command -v sqlite3 >/dev/null; then
+    python3 - "$folder/rows.db" "$entries" "$branches" <<'P'
+import sqlite3
+import sys
+path, entries, branches = sys.argv[1], int(sys.argv[2]), int(sys.argv[3])
+table = sqlite3.connect(path)
+table.execute('create table G (' + ', '.join(f'b{j:02} integer' for j in range(branches)) + ')')
+rows = (tuple(range(e * branches, (e + 1) * branches)) for e in range(entries))
+table.executemany('insert into G values (' + ', '.join('?' * branches) + ')', rows)
+table.commit()
+P
+    compare "sqlite3 -csv" sqlite3 -csv -newline $'\n' "$folder/rows.db" 'select * from G'
+else
+    echo "  no sqlite3 here"
+fi
+
+# The same numbers in an HDF5 file.
+cat >"$folder/columns.py" <<'P'
+import sys
+import h5py
+verb, path = sys.argv[1], sys.argv[2]
+BLOCK = 8000
+if verb == 'make':
+    import numpy
+    entries, branches = int(sys.argv[3]), int(sys.argv[4])
+    with h5py.File(path, 'w') as file:
+        for j in range(branches):
+            numbers = numpy.arange(entries, dtype='int32') * branches + j
+            file.create_dataset(f'b{j:02}', data=numbers, chunks=(min(BLOCK, entries),))
+else:
+    with h5py.File(path, 'r') as file:
+        columns = [file[name] for name in sorted(file)]
+        for at in range(0, len(columns[0]), BLOCK):
+            rows = zip(*(map(str, column[at:at + BLOCK].tolist()) for column in columns))
+            sys.stdout.writelines(','.join(row) + '\n' for row in rows)
+P
+for python in python3 /usr/bin/python3; do
+    if "$python" -c 'import h5py' 2>/dev/null; then
+        "$python" "$folder/columns.py" make "$folder/rows.h5" "$entries" "$branches"
+        compare "h5py" "$python" "$folder/columns.py" read "$folder/rows.h5"
+        exit 0
+    fi
+done
+echo "  no h5py here"

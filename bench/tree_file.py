@@ -6,10 +6,13 @@ tree_file.py FILE wide ENTRIES BRANCHES   a tree `G` with branches `b00`, `b01` 
 tree_file.py FILE counted ENTRIES LINES   a tree `G` with a counter `n`, a branch of a counter and the array that it
                                           counts, and 8 branches of arrays that `n` counts; and into the file LINES what
                                           a scan of it is to say
+tree_file.py FILE objects ENTRIES         a tree `G` with a number and an object of `P#1` at each entry; P is described in two
+                                          versions
 tree_file.py FILE pairs COUNT BRANCHES    a tree `G` of one entry with COUNT counters and as many arrays, each counted by its
                                           own, in 1 branch or in 2, of which the first has the counters
 tree_file.py FILE small                   a tree `T` with leaves of several kinds, a branch of objects, and a branch
-                                          that has a branch of its own; and an object `s`
+                                          that has a branch of its own; an object `s`; and three versions of the
+                                          class `Hit` of the objects
 tree_file.py FILE large                   the tree `T` in a file of the large form whose baskets stand past 2 GB (sparse)
 tree_file.py FILE limit END               no tree: the first record, a basket that nothing refers to, of which only the key
                                           is written (sparse), and a class list of the classes of trees, which ends at END
@@ -97,8 +100,8 @@ class Buffer:
 
 # ---- class descriptions
 
-def element(kind, version, name, code, size, type_name, more=b'', base=None):
-    return dict(kind=kind, version=version, name=name, code=code, size=size, type_name=type_name, more=more)
+def element(kind, version, name, code, size, type_name, more=b'', count=0):
+    return dict(kind=kind, version=version, name=name, code=code, size=size, type_name=type_name, more=more, count=count)
 
 
 def base(name, version):
@@ -144,15 +147,25 @@ def tree_classes():
     return classes + [('TLeaf' + k, 101, [base('TLeaf', 102)]) for k in 'BSILFDOC']
 
 
-def hit_class():
-    return ('Hit', 1, [basic('id', 3, 4, 'int'), basic('charge', 5, 4, 'float')])
+def fixed(name, code, size, type_name, count):
+    return element('TStreamerBasicType', 2, name, code + 20, size * count, type_name, count=count)
+
+
+def hit_classes():
+    """Objects are of the first version; in the third, `charge` is of another kind."""
+    number, charge = basic('id', 2, 2, 'short'), basic('charge', 5, 4, 'float')
+    return [('Hit', 1, [basic('id', 3, 4, 'int'), charge]),
+            ('Hit', 2, [charge, number, fixed('adc', 12, 2, 'unsigned short', 2)]),
+            ('Hit', 3, [number, basic('charge', 3, 4, 'int')])]
 
 
 def write_element(buffer, e):
     outer = buffer.begin(e['version'])
     inner = buffer.begin(4)
     buffer.named(e['name'])
-    buffer.put(i32(e['code']) + i32(e['size']) + i32(0) + i32(0) + i32(0) * 5 + text(e['type_name']))
+    count = e['count']
+    buffer.put(i32(e['code']) + i32(e['size']) + i32(count) + i32(1 if count else 0) + i32(count) + i32(0) * 4)
+    buffer.put(text(e['type_name']))
     buffer.end(inner)
     buffer.put(e['more'])
     buffer.end(outer)
@@ -409,6 +422,26 @@ def counted_file(path, entries, lines):
     file.close(tree_classes())
 
 
+def p_classes():
+    f = basic('f', 5, 4, 'float')
+    return [('P', 1, [basic('a', 16, 8, 'Long64_t'), basic('b', 3, 4, 'int'), f]),
+            ('P', 2, [f, basic('a', 2, 2, 'short'), fixed('c', 12, 2, 'unsigned short', 2)])]
+
+
+def objects_file(path, entries):
+    """Entry e has the number e and P{a: 1000003 e, b: -e, f: e / 4}."""
+    file = File(path, 'objects.root')
+    number, objects = Branch('id', [('id', 'I', None)]), Branch('p', class_name='P')
+    header = u32(0x40000000 | 18) + u16(1)
+    for branch, size, entry in ((number, 4, i32), (objects, 22, lambda e: header + struct.pack('>qif', 1000003 * e, -e, e / 4))):
+        for first in range(0, entries, BASKET_BYTES // size):
+            upto = min(entries, first + BASKET_BYTES // size)
+            file.basket('G', branch, [entry(e) for e in range(first, upto)], first)
+        branch.entries = entries
+    file.key('TTree', 'G', '', lambda n: tree_header(n, 'G', entries, [number, objects]), listed=True)
+    file.close(tree_classes() + p_classes())
+
+
 def pairs_file(path, count, branches):
     file = File(path, 'pairs.root')
     counters = [(f'n{i}', 'I', None) for i in range(count)]
@@ -457,7 +490,7 @@ def small_file(path, large=False):
     if large:
         file.place = 3 * 2 ** 30
     small_tree(file)
-    file.close(tree_classes() + [hit_class()])
+    file.close(tree_classes() + hit_classes())
 
 
 def limit_file(path, end):
@@ -477,6 +510,8 @@ if __name__ == '__main__':
         wide_file(words[0], int(words[2]), int(words[3]))
     elif len(words) == 4 and words[1] == 'counted':
         counted_file(words[0], int(words[2]), words[3])
+    elif len(words) == 3 and words[1] == 'objects':
+        objects_file(words[0], int(words[2]))
     elif len(words) == 4 and words[1] == 'pairs':
         pairs_file(words[0], int(words[2]), int(words[3]))
     elif len(words) == 3 and words[1] == 'limit':

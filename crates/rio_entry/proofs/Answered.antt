@@ -7,7 +7,7 @@ use Rattle.rio_format.specs.WrittenBytes.{length_limit}
 use Rattle.rio_types.specs.declared.class.ClassDef.{ClassDef}
 use Rattle.rio_value.specs.declared.value.Value.{Value}
 use Rattle.rio_entry.specs.Entries.{branch_entry_bytes, entry_fits, entry_written, within_limit}
-use Rattle.rio_entry.specs.declared.fault.EntryFault.{EntryFault, TheVariants.{BadRow, TooLarge}}
+use Rattle.rio_machine.specs.declared.entry_fault.EntryFault.{EntryFault, TheVariants.{BadRow, TooLarge}}
 
 abbrev Written : Type 0
 Written = Result (List ℕ) EntryFault

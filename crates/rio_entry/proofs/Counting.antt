@@ -6,7 +6,7 @@ use Rattle.rio_leaf.specs.declared.{leaf.Dim.{Dim, TheVariants.{One, Fixed, Coun
 use Rattle.rio_format.specs.Bodies.{Counters}
 use Rattle.rio_value.specs.{Accessors.{number_in}, declared.value.Value.{Value, out-Value}}
 use Rattle.rio_entry.specs.Counting.{Places, counter_among, counter_at, counters_from, places_after}
-use Rattle.rio_entry.specs.Entries.{given_count, said_count}
+use Rattle.rio_machine.specs.Entries.{given_count, said_count}
 use Rattle.rio_entry.specs.Leaves.{numbers_after, numbers_with}
 
 pub same_name : (name : List ℕ) → bytes_eq name name ≡ true

@@ -10,8 +10,9 @@ use Rattle.rio_buffer.specs.{Frames.{Step}, ReaderState.{WordsMet, no_words, sta
 use Rattle.rio_format.specs.{Bodies.{Counters}, Objects.{depth_limit, object_of}}
 use Rattle.rio_format.proofs.ValueCases.{Each}
 use Rattle.rio_machine.specs.Rows.{Column, leaf_column, object_column, leaf_kind, leaf_numbers_behind, shape_columns}
-use Rattle.rio_entry.specs.{Entries.{counters_for, given_count}, Reading.{SpellsEntry, column_value, columns_values, entry_in, entry_values, only_values}}
-use Rattle.rio_entry.specs.declared.fault.EntryFault.{EntryFault, TheVariants.{BadEntry}}
+use Rattle.rio_entry.specs.Reading.{SpellsEntry}
+use Rattle.rio_machine.specs.Entries.{counters_for, given_count, column_value, columns_values, entry_in, entry_values, only_values}
+use Rattle.rio_machine.specs.declared.entry_fault.EntryFault.{EntryFault, TheVariants.{BadEntry}}
 use Rattle.rio_format.specs.Growth.{PicksStay, is_all_read}
 use Rattle.rio_format.proofs.{AllRead.{AllRead}, ObjectStays.{kind_stays, object_stays}, Stays.{Stays, behind_gives, behind_stays, done_gives, made_stays, same_stays}}
 use Rattle.rio_entry.specs.Growth.{EntryStays, SpelledEntryStays}

@@ -12,10 +12,12 @@ use Rattle.rio_format.specs.WrittenBytes.{length_limit}
 use Rattle.rio_format.proofs.{ObjectLaws.{not_both}, WrittenValues.{written_is_spelled}}
 use Rattle.rio_types.specs.declared.class.ClassDef.{ClassDef}
 use Rattle.rio_value.specs.{Depth.{depth_of}, declared.value.Value.{Value}}
-use Rattle.rio_entry.specs.{Entries.{branch_entry_bytes, entry_fits}, Faults.{entry_fault}}
+use Rattle.rio_entry.specs.Entries.{branch_entry_bytes, entry_fits}
+use Rattle.rio_machine.specs.Entries.{entry_fault}
 use Rattle.rio_entry.specs.{Laws.{EntriesHaveOneAnswer, WrittenEntriesAreRead, can_be_read_back}, Leaves.{leaves_bytes, leaves_fit}}
-use Rattle.rio_entry.specs.Reading.{BreaksEntry, HasMore, SpellsEntry, columns_values, entry_in, entry_values, only_values}
-use Rattle.rio_entry.specs.declared.fault.EntryFault.{EntryFault, TheVariants.{NoMemory, BadEntry}}
+use Rattle.rio_entry.specs.Reading.{BreaksEntry, HasMore, SpellsEntry}
+use Rattle.rio_machine.specs.Entries.{columns_values, entry_in, entry_values, only_values}
+use Rattle.rio_machine.specs.declared.entry_fault.EntryFault.{EntryFault, TheVariants.{NoMemory, BadEntry}}
 use Rattle.rio_entry.proofs.{Answered.{what_is_written}, ClassBytes.{object_bytes}, LeafBytes.{bytes_is, fits_is}, LeafSpells.{leaves_spelled}}
 
 module _ (classes : List ClassDef) (shape : Shape) (counts : List Value) (bytes : List ℕ) where

@@ -10,8 +10,9 @@ use Rattle.rio_read.specs.Passing.{pass_of}
 use Rattle.rio_read.proofs.Steps.{step_as, step_as-err, step_as-ok, step_as-twice}
 use Rattle.rio_types.specs.declared.class.ClassDef.{ClassDef}
 use Rattle.rio_value.specs.declared.value.Value.{Value, Int}
-use Rattle.rio_entry.specs.{Leaves.{number_alone, numbers_of_values}, Reading.{BreaksEntry, SpellsEntry, columns_values, entry_in, entry_values, only_values}}
-use Rattle.rio_entry.specs.declared.fault.EntryFault.{EntryFault, TheVariants.{BadEntry, NoMemory}}
+use Rattle.rio_entry.specs.{Leaves.{number_alone, numbers_of_values}, Reading.{BreaksEntry, SpellsEntry}}
+use Rattle.rio_machine.specs.Entries.{columns_values, entry_in, entry_values, only_values}
+use Rattle.rio_machine.specs.declared.entry_fault.EntryFault.{EntryFault, TheVariants.{BadEntry, NoMemory}}
 use Rattle.rio_entry.proofs.{EntryLaws.{broken_is_fault, read_is_spelled}, ObjectNumbers.{object_is_no_number}}
 
 -- ---- the one object of a branch of a class

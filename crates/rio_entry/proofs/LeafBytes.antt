@@ -7,7 +7,8 @@ use Rattle.rio_format.specs.{Bodies.{Counters}, Slots.{kinded}, Written.{writing
 use Rattle.rio_machine.specs.Rows.{leaf_column, letter_kind}
 use Rattle.rio_types.specs.declared.class.ClassDef.{ClassDef}
 use Rattle.rio_value.specs.declared.value.Value.{Value}
-use Rattle.rio_entry.specs.Entries.{counter_saying, given_count, said_count, values_bytes, values_fit}
+use Rattle.rio_entry.specs.Entries.{values_bytes, values_fit}
+use Rattle.rio_machine.specs.Entries.{counter_saying, given_count, said_count}
 use Rattle.rio_entry.specs.Leaves.{entry_kind, kind_fits, leaves_bytes, leaves_fit, numbers_after, numbers_with, value_bytes}
 use Rattle.rio_entry.proofs.{Counting.{left_begins, numbers_more}, LeafKinds.{kind_leafy}, Singles.{leaf_written, stands_is}}
 

@@ -5,7 +5,8 @@ use Rattle.rio_leaf.specs.{declared.leaf.Dim.{Dim, TheVariants.{One, Fixed as Se
 use Rattle.rio_format.specs.Bodies.{Counters}
 use Rattle.rio_machine.specs.Rows.{counted_leaf_kind, kind_of_nothing, leaf_kind, letter_kind, sized_kind}
 use Rattle.rio_types.specs.{declared.kind.Kind.{Kind, TheVariants.{Plain, Fixed, Text as Texted, Other}}, declared.kind.Primitive.{Primitive}}
-use Rattle.rio_entry.specs.{Entries.{counter_saying}, Leaves.{without_number}}
+use Rattle.rio_entry.specs.Leaves.{without_number}
+use Rattle.rio_machine.specs.Entries.{counter_saying}
 use Rattle.rio_entry.proofs.Counting.{same_name}
 
 -- ---- which kinds a leaf may have

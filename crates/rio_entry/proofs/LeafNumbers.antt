@@ -13,7 +13,7 @@ use Rattle.rio_types.specs.{declared.class.ClassDef.{ClassDef}, declared.kind.Ki
 use Rattle.rio_value.specs.{Accessors.{number_in}, declared.value.Value.{Value, Int, out-Value, out-roll-Value, TheVariants.{rolls-Int}}}
 use Rattle.rio_value.specs.declared.value.Value.TheOpen as layer
 use Rattle.rio_entry.specs.Leaves.{entry_kind, kind_layout, number_alone, numbers_after, numbers_with, said_by, number_of_value, numbers_of_values}
-use Rattle.rio_entry.specs.Reading.{columns_values}
+use Rattle.rio_machine.specs.Entries.{columns_values}
 use Rattle.rio_entry.proofs.{Counting.{left_begins, numbers_more}, LeafBytes.{drop_next}, LeafReads.{leaf_alone}}
 
 -- an integer says itself

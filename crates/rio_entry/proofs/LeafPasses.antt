@@ -13,8 +13,10 @@ use Rattle.rio_read.specs.Passing.{pass_of}
 use Rattle.rio_read.proofs.Steps.{step_as-err, step_as-ok, step_as-twice, unkept}
 use Rattle.rio_types.specs.{declared.class.ClassDef.{ClassDef}, declared.kind.Kind.{Kind}, declared.kind.Primitive.{Primitive}}
 use Rattle.rio_value.specs.declared.value.Value.TheOpen as layer
-use Rattle.rio_entry.specs.{Bounds.{most_values}, Entries.{counter_saying}}
-use Rattle.rio_entry.specs.{Leaves.{entry_kind, is_any_counted, kind_layout, said_by, number_of_value}, Reading.{columns_values}}
+use Rattle.rio_entry.specs.Bounds.{most_values}
+use Rattle.rio_machine.specs.Entries.{counter_saying}
+use Rattle.rio_entry.specs.Leaves.{entry_kind, is_any_counted, kind_layout, said_by, number_of_value}
+use Rattle.rio_machine.specs.Entries.{columns_values}
 use Rattle.rio_entry.proofs.{Counting.{left_begins}, LeafBytes.{drop_next}, LeafReads.{leaf_alone}, Totals.{list_fails, list_is_read}}
 
 -- ---- leaves that aren't counted

@@ -10,8 +10,9 @@ use Rattle.rio_types.specs.{declared.class.ClassDef.{ClassDef}, declared.kind.Ki
 use Rattle.rio_value.specs.declared.value.Value.{Value}
 use Rattle.rio_read.specs.Lists.{with_front}
 use Rattle.rio_read.proofs.Each.{with_front-more}
-use Rattle.rio_entry.specs.{Entries.{counter_saying, given_count, said_count}, Leaves.{entry_kind, kind_layout, numbers_after, numbers_with}}
-use Rattle.rio_entry.specs.Reading.{columns_values}
+use Rattle.rio_entry.specs.Leaves.{entry_kind, kind_layout, numbers_after, numbers_with}
+use Rattle.rio_machine.specs.Entries.{counter_saying, given_count, said_count}
+use Rattle.rio_machine.specs.Entries.{columns_values}
 use Rattle.rio_entry.proofs.{Counting.{left_begins, numbers_more}, LeafBytes.{drop_next}, LeafKinds.{IsLeafy, kind_leafy}}
 
 -- what stands there for a leaf is read alike whatever the objects are

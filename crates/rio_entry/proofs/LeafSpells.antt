@@ -17,9 +17,9 @@ use Rattle.rio_types.specs.declared.kind.Primitive.{Primitive, TheVariants.{Bool
 use Rattle.rio_value.specs.declared.value.Part.{Part}
 use Rattle.rio_value.specs.declared.value.Value.{Value, Int, Bits32, Bits64, Bool as Truth, Text, List as Items, Object, Pointed, Null, Back, Opaque, out-Value, out-roll-Value, TheOpen.{Value-F}, TheVariants.{rolls-Int, rolls-Bits32, rolls-Bits64, rolls-Bool, rolls-Text, rolls-List, rolls-Object, rolls-Pointed, rolls-Null, rolls-Back, rolls-Opaque}}
 use Rattle.rio_value.specs.declared.value.Value.TheOpen as layer
-use Rattle.rio_entry.specs.Entries.{counter_saying, given_count, said_count}
+use Rattle.rio_machine.specs.Entries.{counter_saying, given_count, said_count}
 use Rattle.rio_entry.specs.Leaves.{entry_kind, kind_fits, layer_bytes, layer_fits_kind, layer_value_bytes, leaves_bytes, leaves_fit, numbers_with, single_bytes, single_fits, value_bytes}
-use Rattle.rio_entry.specs.Reading.{columns_values}
+use Rattle.rio_machine.specs.Entries.{columns_values}
 use Rattle.rio_entry.proofs.LeafKinds.{kind_none, kind_some}
 
 -- ---- numbers and texts

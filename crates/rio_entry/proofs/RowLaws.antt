@@ -8,7 +8,8 @@ use Rattle.rio_format.proofs.CounterLaws.{lookup_behind}
 use Rattle.rio_machine.specs.Rows.{Column, leaf_column, object_column, column_slot, columns_bytes, columns_fit, counted_leaf_kind, leaf_kind, leaf_numbers_behind, letter_kind, sized_kind, stands_in}
 use Rattle.rio_types.specs.{declared.class.ClassDef.{ClassDef}, declared.kind.Primitive.{Primitive}}
 use Rattle.rio_value.specs.declared.value.Value.{Value}
-use Rattle.rio_entry.specs.Entries.{counter_saying, entry_slot, given_count, said_count, values_bytes, values_fit}
+use Rattle.rio_entry.specs.Entries.{entry_slot, values_bytes, values_fit}
+use Rattle.rio_machine.specs.Entries.{counter_saying, given_count, said_count}
 use Rattle.rio_entry.specs.Laws.{AreCounts, EntryIsPartOfRow, IsCount, IsCountFor}
 use Rattle.rio_entry.proofs.LeafKinds.{kind_none, kind_some, sized_counted}
 

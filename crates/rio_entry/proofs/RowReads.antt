@@ -8,8 +8,9 @@ use Rattle.rio_format.specs.Bodies.{Counters}
 use Rattle.rio_machine.specs.Rows.{leaf_column, leaf_numbers_after}
 use Rattle.rio_types.specs.declared.class.ClassDef.{ClassDef}
 use Rattle.rio_value.specs.declared.value.Value.{Value}
-use Rattle.rio_entry.specs.{Leaves.{numbers_after, numbers_with}, Rows.{branch_values, broken_from, first_broken, numbers_behind, row_from}}
-use Rattle.rio_entry.specs.declared.fault.EntryFault.{EntryFault}
+use Rattle.rio_entry.specs.{Leaves.{numbers_after, numbers_with}, Rows.{broken_from, first_broken}}
+use Rattle.rio_machine.specs.RowEntries.{branch_values, numbers_behind, row_from}
+use Rattle.rio_machine.specs.declared.entry_fault.EntryFault.{EntryFault}
 use Rattle.rio_entry.proofs.Counting.{left_begins}
 
 -- ---- the numbers of leaves

@@ -12,9 +12,11 @@ use Rattle.rio_machine.specs.Limits.{is_too_long}
 use Rattle.rio_machine.specs.Rows.{Column, leaf_column, object_column, column_slot, columns_bytes, columns_fit, columns_of, counted_leaf_kind, entries_from, leaf_kind, leaf_numbers_after, leaf_numbers_behind, letter_kind, shape_columns, sized_kind, stands_in, kind_of_nothing}
 use Rattle.rio_types.specs.{declared.class.ClassDef.{ClassDef}, declared.kind.Kind.{Kind}, declared.kind.Primitive.{Primitive}}
 use Rattle.rio_value.specs.declared.value.Value.TheOpen as layer
-use Rattle.rio_entry.specs.{Entries.{branch_entry_bytes, entry_fits, given_count}, Laws.{AreCounts, IsCount, IsCountFor, can_be_read_back}, Reading.{entry_in}}
-use Rattle.rio_entry.specs.Rows.{BrokenRowsHaveABranch, WrittenRowsAreRead, branch_values, broken_from, column_count, count_before, counts_before, first_broken, numbers_behind, row_from}
-use Rattle.rio_entry.specs.declared.fault.EntryFault.{EntryFault}
+use Rattle.rio_entry.specs.{Entries.{branch_entry_bytes, entry_fits}, Laws.{AreCounts, IsCount, IsCountFor, can_be_read_back}}
+use Rattle.rio_machine.specs.Entries.{given_count, entry_in}
+use Rattle.rio_entry.specs.Rows.{BrokenRowsHaveABranch, WrittenRowsAreRead, broken_from, first_broken}
+use Rattle.rio_machine.specs.RowEntries.{branch_values, column_count, count_before, counts_before, numbers_behind, row_from}
+use Rattle.rio_machine.specs.declared.entry_fault.EntryFault.{EntryFault}
 use Rattle.rio_entry.proofs.{EntryLaws.{spelled_is_read, written_spelled}, LeafKinds.{kind_some}, RowLaws.{behind_is, entry_is_part_of_row}}
 use Rattle.rio_entry.proofs.Singles.{stands_is}
 

@@ -1,39 +1,16 @@
 -- The entry of a branch: which values fit it, and the bytes that are written for them. The values of leaves stand one
 -- behind the other; a branch of a class has one object.
-use Rattle.std.specs.Prelude.{ℕ, ℤ, pos, List, [], ◌∷◌, ◌++◌, drop, length, nat_lt, Bool, true, false, ◌&&◌, Result, Ok, Err, unwrap_or, if◌then◌else◌}
-use Rattle.std.specs.{Map.{lookup}, Str.{bytes_eq}}
-use Rattle.rio_leaf.specs.{declared.branch.Shape.{Shape}, declared.leaf.Dim.{Dim, TheVariants.{Counted}}}
+use Rattle.std.specs.Prelude.{ℕ, List, [], ◌∷◌, ◌++◌, drop, length, nat_lt, Bool, true, false, ◌&&◌, Result, Ok, Err, if◌then◌else◌}
+use Rattle.rio_leaf.specs.declared.branch.Shape.{Shape}
 use Rattle.rio_buffer.specs.ReaderState.{no_words}
 use Rattle.rio_format.specs.{Bodies.{Counters}, Slots.{Slot}, Written.{writing_of}, WrittenBytes.{length_limit}}
-use Rattle.rio_value.specs.{Accessors.{number_in}, declared.value.Value.{Value, out-Value}}
-use Rattle.rio_machine.specs.Rows.{Column, leaf_column, object_column, column_slot, leaf_numbers_behind, shape_columns, stands_in}
+use Rattle.rio_value.specs.declared.value.Value.{Value}
+use Rattle.rio_machine.specs.Entries.{counters_for, given_count}
+use Rattle.rio_machine.specs.Rows.{Column, column_slot, leaf_numbers_behind, shape_columns, stands_in}
 use Rattle.rio_types.specs.declared.class.ClassDef.{ClassDef}
-use Rattle.rio_entry.specs.declared.fault.EntryFault.{EntryFault, TheVariants.{BadRow, TooLarge}}
+use Rattle.rio_machine.specs.declared.entry_fault.EntryFault.{EntryFault, TheVariants.{BadRow, TooLarge}}
 
--- ---- counts
-
--- Beside an entry a count is given for each leaf of its branch: what the leaf's counter says where that stands in an
--- earlier branch. This is the first of them, and 0 where none is given.
-abbrev pub given_count : List Value → ℤ
-given_count [] = pos 0
-given_count (v ∷ vs) = number_in (out-Value v)
-
--- what a leaf is counted by: the nearest leaf of the counter's name before it in the branch, or else the given count
-abbrev pub said_count : Dim → ℤ → Counters → ℤ
-said_count (Counted counter times) given own = unwrap_or (lookup (bytes_eq counter) own) given
-said_count other given own = given
-
--- the counter of a leaf, which says this number
-abbrev pub counter_saying : Dim → ℤ → Counters
-counter_saying (Counted counter times) n = (counter, n) ∷ []
-counter_saying other n = []
-
--- the counter of a column, behind these leaves of its branch, the nearest first
-abbrev pub counters_for : Column → ℤ → Counters → Counters
-counters_for (leaf_column leaf) given own = counter_saying leaf.dim (said_count leaf.dim given own)
-counters_for (object_column class) given own = []
-
--- what may stand in a column
+-- what may stand in a column, where its counter is given or is a leaf before it
 abbrev pub entry_slot : Column → List Value → Counters → Slot
 entry_slot c counts own = column_slot (counters_for c (given_count counts) own) c
 

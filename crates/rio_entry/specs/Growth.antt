@@ -4,7 +4,9 @@ use Rattle.rio_leaf.specs.{declared.branch.BranchDef.{BranchDef}, declared.branc
 use Rattle.rio_types.specs.declared.class.ClassDef.{ClassDef}
 use Rattle.rio_value.specs.declared.value.Value.{Value}
 use Rattle.rio_machine.specs.Rows.{row_fits}
-use Rattle.rio_entry.specs.{Reading.{SpellsEntry, entry_in}, Rows.{row_in}}
+use Rattle.rio_entry.specs.Reading.{SpellsEntry}
+use Rattle.rio_machine.specs.Entries.{entry_in}
+use Rattle.rio_machine.specs.RowEntries.{row_in}
 use Rattle.rio_format.specs.Growth.{PicksStay, is_all_read}
 
 -- What is read of an entry, if all of its values are, is the same wherever the same classes are picked.

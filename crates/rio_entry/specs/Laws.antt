@@ -7,8 +7,9 @@ use Rattle.rio_format.specs.{Bodies.{Counters}, Laws.{has_versions}, Objects.{de
 use Rattle.rio_machine.specs.Rows.{Column, leaf_column, object_column, columns_bytes, columns_fit, leaf_numbers_behind, letter_kind, shape_columns}
 use Rattle.rio_types.specs.declared.class.ClassDef.{ClassDef}
 use Rattle.rio_value.specs.{Depth.{depth_of}, declared.value.Value.{Value}}
-use Rattle.rio_entry.specs.{Entries.{branch_entry_bytes, entry_fits, entry_written, given_count}, Reading.{BreaksEntry, SpellsEntry, entry_in}}
-use Rattle.rio_entry.specs.declared.fault.EntryFault.{EntryFault}
+use Rattle.rio_entry.specs.{Entries.{branch_entry_bytes, entry_fits, entry_written}, Reading.{BreaksEntry, SpellsEntry}}
+use Rattle.rio_machine.specs.Entries.{given_count, entry_in}
+use Rattle.rio_machine.specs.declared.entry_fault.EntryFault.{EntryFault}
 
 -- ---- one answer
 

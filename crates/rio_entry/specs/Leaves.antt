@@ -11,7 +11,7 @@ use Rattle.rio_value.specs.{Accessors.{number_in}, declared.value.Part.{Part}}
 use Rattle.rio_value.specs.declared.value.Value.{Value, out-Value, Int as Integer, TheOpen.{Value-F, Int, Bits32, Bits64, Bool as Truth, Text, List as Items}}
 use Rattle.rio_machine.specs.Rows.{kind_of_nothing, leaf_kind, letter_kind}
 use Rattle.rio_types.specs.{declared.kind.Kind.{Kind, TheVariants.{Plain, Fixed, Text as Texted}}, declared.kind.Primitive.{Primitive}}
-use Rattle.rio_entry.specs.Entries.{counter_saying, given_count, said_count}
+use Rattle.rio_machine.specs.Entries.{counter_saying, given_count, said_count}
 
 -- ---- single values
 

@@ -8,10 +8,11 @@ ghost use Rattle.rio_buffer.specs.ReaderState.{no_words, standing};
 ghost use Rattle.rio_leaf.specs.declared.branch.Shape.TheVariants.{Class as Classed};
 ghost use Rattle.rio_read.specs.Passing.{pass_of};
 ghost use Rattle.rio_value.specs.declared.value.Value.{Value as Given};
-ghost use Rattle.rio_entry.specs.declared.fault.EntryFault.TheVariants.{NoMemory as OutOfMemory};
-ghost use Rattle.rio_entry.specs.declared.fault.EntryFault.{EntryFault as Fault};
+ghost use Rattle.rio_machine.specs.declared.entry_fault.EntryFault.TheVariants.{NoMemory as OutOfMemory};
+ghost use Rattle.rio_machine.specs.declared.entry_fault.EntryFault.{EntryFault as Fault};
 ghost use Rattle.rio_entry.specs.Counting.{counters_within};
-ghost use Rattle.rio_entry.specs.Reading.{BreaksEntry, SpellsEntry, entry_checked, entry_values, only_values};
+ghost use Rattle.rio_entry.specs.Reading.{BreaksEntry, SpellsEntry, entry_checked};
+ghost use Rattle.rio_machine.specs.Entries.{entry_values, only_values};
 
 use crate::EntryFault;
 use crate::check_leaves::check_leaves;

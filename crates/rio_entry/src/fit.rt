@@ -7,7 +7,7 @@ ghost use Rattle.rio_machine.specs.Rows.{counted_leaf_kind, leaf_kind, sized_kin
 ghost use Rattle.rio_types.specs.declared.kind.Kind.TheVariants.{Fixed, Plain};
 ghost use Rattle.rio_entry.specs.Bounds.{most_values};
 ghost use Rattle.rio_entry.specs.Counting.{counters_from};
-ghost use Rattle.rio_entry.specs.Entries.{counter_saying};
+ghost use Rattle.rio_machine.specs.Entries.{counter_saying};
 ghost use Rattle.rio_entry.specs.Leaves.{kind_fits, leaves_fit, single_fits};
 
 use crate::counter::LeafCounters;

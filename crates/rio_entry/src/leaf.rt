@@ -4,7 +4,7 @@ ghost use Rattle.rio_leaf.specs.declared.leaf.Dim.{Dim as Dimension};
 ghost use Rattle.rio_leaf.specs.declared.leaf.Leaf.{Leaf as Leafed};
 ghost use Rattle.rio_machine.specs.Rows.{letter_kind};
 ghost use Rattle.rio_entry.specs.Counting.{counter_among, places_after};
-ghost use Rattle.rio_entry.specs.Entries.{given_count, said_count};
+ghost use Rattle.rio_machine.specs.Entries.{given_count, said_count};
 ghost use Rattle.rio_entry.specs.Leaves.{numbers_after};
 
 use rio_types::Prim;

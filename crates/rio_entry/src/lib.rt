@@ -1,4 +1,4 @@
-//! Entries: the bytes of one row in one branch of a tree.
+//! Entries: the bytes of one row in one branch of a tree, and the walk over the rows of a tree in a file.
 //!
 //! A branch has leaves, whose values stand one behind the other, or one object of a class. [`write_entry`] writes the
 //! values of a row that belong to the branch, or tells that they don't fit or are too long; [`read_entry`] reads them, or
@@ -10,16 +10,30 @@
 //! entry costs a time linear in its leaves.
 //! [`read_row`] reads a whole row of one entry for each branch, and [`broken_branch`] tells the first branch whose entry
 //! breaks; what is written for a row is read ([`written_rows_are_read`]).
-//! `specs/Entries.antt` has what fits and the bytes, `specs/Reading.antt` what stands in the bytes, `specs/Rows.antt` rows,
-//! `specs/Faults.antt` the refusals, `specs/Laws.antt` the laws of entries. `specs/Leaves.antt`, `specs/Counting.antt`
+//! A tree in a file is a [`FileTree`]. [`find_refusals`] goes over its baskets and then over its entries to find the
+//! branches that can't be read, where it makes no values but numbers, one for each leaf: of branches that count leaves of
+//! others, which it keeps up to the end of the row, and of a branch with counted leaves while its entry is checked.
+//! [`read_tree_row`] reads a row, whose baskets it takes from [`Lane`]s: at most one basket of each branch is held, and one
+//! that goes on in a branch comes from basket to basket by [`basket_from`]. Both are over any host, and only read.
+//! `specs/TreeRecords.antt` has which tree a header's record represents, `specs/StoredEntries.antt` what baskets in a file
+//! hold, `specs/BranchRows.antt` the rows, `specs/Refusals.antt` which branches are refused and why, `specs/Counters.antt`
+//! and `specs/Counted.antt` what earlier branches count, `specs/Index.antt` which basket holds an entry. `specs/Sweeps.antt`,
+//! `specs/Checked.antt`, `specs/Lanes.antt`, `specs/RowFaults.antt` and `specs/TreeCounters.antt` speak of the walk.
+//!
+//! What stands in the bytes of an entry, and the row that one entry of each branch is, stand in `rio_machine`.
+//! `specs/Entries.antt` has what fits and the bytes, `specs/Reading.antt` what is read as relations, `specs/Rows.antt` the
+//! branch that breaks, `specs/Laws.antt` the laws of entries. `specs/Leaves.antt`, `specs/Counting.antt`
 //! and `specs/Bounds.antt` say of leaves alone what the code does. Its tests stand in `rio_rows`.
 #![tactic(auto)]
 
 mod check;
 mod check_leaves;
+mod checked;
 mod counter;
-mod fault;
+mod counts;
 mod fit;
+mod index;
+mod lane;
 mod laws;
 mod leaf;
 mod numbers;
@@ -27,13 +41,20 @@ mod part;
 mod put;
 mod read;
 mod read_leaves;
+mod refusals;
 mod row;
+mod row_reader;
 mod said_numbers;
+mod stored;
+mod tree_counters;
+mod tree_row;
 mod write;
 
 pub use check::{check_entry, check_entry_with};
+pub use checked::Made;
 pub use counter::LeafCounters;
-pub use fault::EntryFault;
+pub use index::basket_from;
+pub use lane::{Lane, RowFault};
 pub use laws::{
     broken_rows_have_a_branch, entries_have_one_answer, entry_is_part_of_row, rows_stay_read,
     written_entries_are_read, written_rows_are_read,
@@ -41,6 +62,12 @@ pub use laws::{
 pub use numbers::{Numbers, leaf_counts, note_leaves};
 pub use part::RowPart;
 pub use read::{read_entry, read_entry_with};
+pub use refusals::{empty_lanes, find_refusals};
+pub use rio_machine::EntryFault;
 pub use row::{broken_branch, read_row};
+pub use row_reader::{FileTree, read_tree_row};
 pub use said_numbers::{entry_numbers, entry_numbers_with};
+pub use stored::FoundBasket;
+pub use tree_counters::TreeCounters;
+pub use tree_row::{BranchRefusals, BranchRows, TreeRow};
 pub use write::write_entry;

@@ -5,7 +5,7 @@ ghost use Rattle.rio_format.specs.Bodies.{Counters};
 ghost use Rattle.rio_format.specs.Counts.{SaysAsFirst, number_by_name};
 ghost use Rattle.rio_machine.specs.Rows.{leaf_column, leaf_numbers_after, shape_columns};
 ghost use Rattle.rio_entry.specs.Leaves.{numbers_after};
-ghost use Rattle.rio_entry.specs.Rows.{count_before, counts_before};
+ghost use Rattle.rio_machine.specs.RowEntries.{count_before, counts_before};
 
 use rio_leaf::{Dim, Leaf, Shape};
 use rio_num::NoMemory;

@@ -6,10 +6,11 @@ ghost use Rattle.rio_buffer.specs.Frames.{ReadsAs};
 ghost use Rattle.rio_leaf.specs.declared.branch.Shape.TheVariants.{Class as Classed};
 ghost use Rattle.rio_value.specs.declared.value.Value.{Value as Given};
 ghost use Rattle.rio_num.specs.Answers.{GivesUnless};
-ghost use Rattle.rio_entry.specs.declared.fault.EntryFault.TheVariants.{NoMemory as OutOfMemory};
-ghost use Rattle.rio_entry.specs.declared.fault.EntryFault.{EntryFault as Fault};
+ghost use Rattle.rio_machine.specs.declared.entry_fault.EntryFault.TheVariants.{NoMemory as OutOfMemory};
+ghost use Rattle.rio_machine.specs.declared.entry_fault.EntryFault.{EntryFault as Fault};
 ghost use Rattle.rio_entry.specs.Counting.{counters_within};
-ghost use Rattle.rio_entry.specs.Reading.{BreaksEntry, SpellsEntry, entry_in, entry_values, only_values};
+ghost use Rattle.rio_entry.specs.Reading.{BreaksEntry, SpellsEntry};
+ghost use Rattle.rio_machine.specs.Entries.{entry_in, entry_values, only_values};
 
 use crate::EntryFault;
 use crate::counter::LeafCounters;
@@ -35,7 +36,7 @@ pub(crate) fn check_end(reader: &ObjReader) -> Result<(), EntryFault>
 }
 
 // The one object of a branch of a class.
-#[tactic(auto, unfolding(crate::specs::Reading::columns_values))]
+#[tactic(auto, unfolding(rio_machine::specs::Entries::columns_values))]
 fn read_one(
     alloc: Global,
     classes: &Classes,

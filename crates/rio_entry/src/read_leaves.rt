@@ -9,9 +9,9 @@ ghost use Rattle.rio_machine.specs.Rows.{counted_leaf_kind, leaf_kind, sized_kin
 ghost use Rattle.rio_types.specs.declared.class.ClassDef.{ClassDef as Class};
 ghost use Rattle.rio_entry.specs.Bounds.{most_values};
 ghost use Rattle.rio_entry.specs.Counting.{counters_from};
-ghost use Rattle.rio_entry.specs.Entries.{counter_saying};
+ghost use Rattle.rio_machine.specs.Entries.{counter_saying};
 ghost use Rattle.rio_entry.specs.Leaves.{kind_layout, without_number};
-ghost use Rattle.rio_entry.specs.Reading.{entry_values};
+ghost use Rattle.rio_machine.specs.Entries.{entry_values};
 
 use crate::counter::LeafCounters;
 use crate::leaf::{given_count, letter_kind, said_count};

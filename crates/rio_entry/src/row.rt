@@ -3,8 +3,9 @@ ghost use Rattle.std.specs.Prelude.{◌≡◌, ◌++◌, map, IfOk, OnOk};
 ghost use Rattle.rio_format.specs.Bodies.{Counters};
 ghost use Rattle.rio_format.specs.Counts.{SaysAsFirst};
 ghost use Rattle.rio_num.specs.Answers.{GivesUnless};
-ghost use Rattle.rio_entry.specs.declared.fault.EntryFault.TheVariants.{NoMemory as OutOfMemory};
-ghost use Rattle.rio_entry.specs.Rows.{branch_values, broken_branch, row_in};
+ghost use Rattle.rio_machine.specs.declared.entry_fault.EntryFault.TheVariants.{NoMemory as OutOfMemory};
+ghost use Rattle.rio_entry.specs.Rows.{broken_branch};
+ghost use Rattle.rio_machine.specs.RowEntries.{branch_values, row_in};
 
 use crate::EntryFault;
 use crate::numbers::{Numbers, counts_beside, note_values};

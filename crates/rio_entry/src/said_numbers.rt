@@ -7,11 +7,12 @@ ghost use Rattle.rio_buffer.specs.Frames.{ReadsAs};
 ghost use Rattle.rio_buffer.specs.ReaderState.{no_words, standing};
 ghost use Rattle.rio_leaf.specs.declared.branch.Shape.TheVariants.{Class as Classed};
 ghost use Rattle.rio_value.specs.declared.value.Value.{Value as Given};
-ghost use Rattle.rio_entry.specs.declared.fault.EntryFault.TheVariants.{NoMemory as OutOfMemory};
-ghost use Rattle.rio_entry.specs.declared.fault.EntryFault.{EntryFault as Fault};
+ghost use Rattle.rio_machine.specs.declared.entry_fault.EntryFault.TheVariants.{NoMemory as OutOfMemory};
+ghost use Rattle.rio_machine.specs.declared.entry_fault.EntryFault.{EntryFault as Fault};
 ghost use Rattle.rio_entry.specs.Counting.{counters_within};
 ghost use Rattle.rio_entry.specs.Leaves.{number_alone, numbers_of_values};
-ghost use Rattle.rio_entry.specs.Reading.{BreaksEntry, SpellsEntry, entry_values, numbers_of_entry, only_values};
+ghost use Rattle.rio_entry.specs.Reading.{BreaksEntry, SpellsEntry, numbers_of_entry};
+ghost use Rattle.rio_machine.specs.Entries.{entry_values, only_values};
 
 use crate::EntryFault;
 use crate::check_leaves::pass_counting;

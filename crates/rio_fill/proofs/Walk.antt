@@ -15,8 +15,10 @@ use Rattle.rio_machine.specs.Rows.{Column, leaf_column, column_slot, columns_byt
 use Rattle.rio_types.specs.declared.class.ClassDef.{ClassDef}
 use Rattle.rio_value.specs.{Accessors.{number_in}, declared.value.Value.{Value, Int, out-Value, out-roll-Value, TheVariants.{rolls-Int}}}
 use Rattle.rio_value.specs.declared.value.Value.TheOpen as layer
-use Rattle.rio_entry.specs.{Entries.{branch_entry_bytes, entry_written, given_count, within_limit}, Laws.{AreCounts, IsCount, IsCountFor}, Rows.{count_before, counts_before}}
-use Rattle.rio_entry.specs.declared.fault.EntryFault.{EntryFault, TheVariants.{BadRow, TooLarge}}
+use Rattle.rio_entry.specs.{Entries.{branch_entry_bytes, entry_written, within_limit}, Laws.{AreCounts, IsCount, IsCountFor}}
+use Rattle.rio_machine.specs.Entries.{given_count}
+use Rattle.rio_machine.specs.RowEntries.{count_before, counts_before}
+use Rattle.rio_machine.specs.declared.entry_fault.EntryFault.{EntryFault, TheVariants.{BadRow, TooLarge}}
 use Rattle.rio_entry.proofs.RowLaws.{entry_is_part_of_row}
 use Rattle.rio_fill.specs.{Parts.{with_part}, Prepare.{HaveNumbers, part_written}, declared.prepared.Parts.{Parts}}
 

@@ -10,7 +10,7 @@ use Rattle.rio_machine.specs.Limits.{has_long_entry, is_too_long}
 use Rattle.rio_machine.specs.Rows.{Column, columns_bytes, columns_fit, columns_of, entries_from, entries_of, leaf_numbers_after, row_fits, shape_columns}
 use Rattle.rio_types.specs.declared.class.ClassDef.{ClassDef}
 use Rattle.rio_value.specs.declared.value.Value.{Value}
-use Rattle.rio_entry.specs.declared.fault.EntryFault.{EntryFault, TheVariants.{BadRow, TooLarge, NoMemory as OutOfMemory}}
+use Rattle.rio_machine.specs.declared.entry_fault.EntryFault.{EntryFault, TheVariants.{BadRow, TooLarge, NoMemory as OutOfMemory}}
 use Rattle.rio_num.specs.Answers.{GivesUnless}
 use Rattle.rio_entry.specs.Leaves.{numbers_after}
 use Rattle.rio_entry.proofs.RowReads.{numbers_as_columns}

@@ -5,7 +5,7 @@ use Rattle.rio_leaf.specs.declared.branch.Shape.{Shape}
 use Rattle.rio_machine.specs.{Limits.{is_too_long}, Rows.{columns_bytes, columns_fit, shape_columns}}
 use Rattle.rio_types.specs.declared.class.ClassDef.{ClassDef}
 use Rattle.rio_value.specs.declared.value.Value.{Value}
-use Rattle.rio_entry.specs.declared.fault.EntryFault.{EntryFault, TheVariants.{BadRow, TooLarge, NoMemory as OutOfMemory}}
+use Rattle.rio_machine.specs.declared.entry_fault.EntryFault.{EntryFault, TheVariants.{BadRow, TooLarge, NoMemory as OutOfMemory}}
 use Rattle.rio_fill.specs.declared.prepared.Parts.{Parts}
 
 -- with one entry more, which isn't kept where it is too long

@@ -8,7 +8,8 @@ use Rattle.rio_machine.specs.{Limits.{has_long_entry}, Rows.{columns_bytes, colu
 use Rattle.rio_types.specs.{declared.class.ClassDef.{ClassDef}, declared.kind.Primitive.{Primitive}}
 use Rattle.rio_value.specs.declared.value.Value.{Value}
 use Rattle.rio_tree.specs.Header.{has_offsets}
-use Rattle.rio_entry.specs.{Entries.{within_limit}, declared.fault.EntryFault.{EntryFault, TheVariants.{BadRow, TooLarge}}}
+use Rattle.rio_entry.specs.Entries.{within_limit}
+use Rattle.rio_machine.specs.declared.entry_fault.EntryFault.{EntryFault, TheVariants.{BadRow, TooLarge}}
 
 -- ---- the entries
 

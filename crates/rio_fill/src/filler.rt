@@ -138,7 +138,7 @@ impl Filler {
     ghost use Rattle.std.specs.Prelude.{◌≡◌, ◌+◌, ◌-◌, ◌<◌, ◌^◌, IfOk, IsTrue, OnOk, slice_get};
     ghost use Rattle.std.specs.Option.{option_copied, option_map};
     ghost use Rattle.rio_num.specs.Answers.{GivesUnless};
-    ghost use Rattle.rio_entry.specs.declared.fault.EntryFault.TheVariants.{NoMemory as OutOfMemory};
+    ghost use Rattle.rio_machine.specs.declared.entry_fault.EntryFault.TheVariants.{NoMemory as OutOfMemory};
     ghost use Rattle.rio_fill.specs.Fill.{all_saved, basket_of, basket_put, count_before, defs_of, entry_count, fill_of, full_flags, may_put, nothing_is_open, row_added};
     ghost use Rattle.rio_fill.specs.Heads.{CanBeFilled, are_places, saved_head};
     ghost use Rattle.rio_fill.specs.Prepare.{are_sized, row_prepared};

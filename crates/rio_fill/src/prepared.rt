@@ -6,7 +6,7 @@ ghost use Rattle.rio_format.specs.Bodies.{Counters};
 ghost use Rattle.rio_format.specs.Counts.{SaysAsFirst};
 ghost use Rattle.rio_machine.specs.Rows.{shape_columns};
 ghost use Rattle.rio_num.specs.Answers.{GivesUnless};
-ghost use Rattle.rio_entry.specs.declared.fault.EntryFault.TheVariants.{NoMemory as OutOfMemory};
+ghost use Rattle.rio_machine.specs.declared.entry_fault.EntryFault.TheVariants.{NoMemory as OutOfMemory};
 ghost use Rattle.rio_fill.specs.Fill.{defs_of};
 ghost use Rattle.rio_fill.specs.Prepare.{HaveNumbers, part_written, row_prepared};
 ghost use Rattle.rio_fill.specs.Parts.{PutsPart, whole_row};

@@ -4,7 +4,7 @@ use Rattle.std.proofs.{lemmas.Bool.{le-leb, lt-ltb, ltb-true, ltb-false}, lemmas
 use Rattle.std.specs.{Option.{option_map}, Prelude.{is_none, slice_get, slice_set, not, option_and_then, unwrap_or}}
 use Rattle.rio_tree.specs.{Index.{IsIndex, RisesFrom, basket_counts, counts_from}, declared.basket_at.BasketAt.{BasketAt}, declared.head.Branch.{Branch}}
 use Rattle.rio_tree.specs.declared.refusal.BranchRefusal.{BranchRefusal}
-use Rattle.rio_index.specs.Index.{basket_holding, holder}
+use Rattle.rio_entry.specs.Index.{basket_holding, holder}
 use Rattle.rio_index.specs.Scan.{CanGoOn, CanHold, IsWanted, RowScan, baskets_at, first_behind, entry_count, first_entry, first_wanted, has_entry, holding, holds_entry, lane_at, one_wanted, wanted_by, wanted_from, wanting, wanting_from}
 use Rattle.rio_index.specs.{declared.lane.Held.{Held}, declared.lane.Lane.{Lane}}
 use Rattle.rio_index.proofs.ScanLaws.{goes_on, index_at}

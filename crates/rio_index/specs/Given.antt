@@ -2,7 +2,7 @@
 use Rattle.std.specs.Prelude.{◌≡◌, ◌≤◌, List, Option, Some, None, Result, Ok, Err}
 use Rattle.rio_types.specs.declared.class.ClassDef.{ClassDef}
 use Rattle.rio_value.specs.declared.value.Value.{Value}
-use Rattle.rio_entry.specs.declared.fault.EntryFault.{EntryFault, TheVariants.{NoMemory}}
+use Rattle.rio_machine.specs.declared.entry_fault.EntryFault.{EntryFault, TheVariants.{NoMemory}}
 use Rattle.rio_index.specs.Scan.{HasNext, RowScan, behind_next, next_row}
 
 -- The next row or its fault was returned, and the scan stands behind it; past the last row nothing was returned. Where

@@ -1,4 +1,2 @@
-pub mod Counters
 pub mod Given
-pub mod Index
 pub mod Scan

@@ -4,10 +4,13 @@ use Rattle.std.specs.Option.{option_map}
 use Rattle.rio_leaf.specs.declared.branch.BranchDef.{BranchDef}
 use Rattle.rio_types.specs.declared.class.ClassDef.{ClassDef}
 use Rattle.rio_value.specs.declared.value.Value.{Value}
-use Rattle.rio_entry.specs.{Rows.{broken_branch, row_in}, declared.fault.EntryFault.{EntryFault}}
+use Rattle.rio_entry.specs.Rows.{broken_branch}
+use Rattle.rio_machine.specs.declared.entry_fault.EntryFault.{EntryFault}
+use Rattle.rio_machine.specs.RowEntries.{row_in}
 use Rattle.rio_tree.specs.{Index.{IsIndex, basket_counts}, declared.basket_at.BasketAt.{BasketAt}, declared.head.Branch.{Branch}}
 use Rattle.rio_tree.specs.{declared.head.TreeHead.{TreeHead}, declared.refusal.BranchRefusal.{BranchRefusal}}
-use Rattle.rio_index.specs.{Index.{basket_holding}, declared.lane.Held.{Held}, declared.lane.Lane.{Lane}}
+use Rattle.rio_entry.specs.Index.{basket_holding}
+use Rattle.rio_index.specs.{declared.lane.Held.{Held}, declared.lane.Lane.{Lane}}
 
 -- A scan: the header of the tree, what the scan has of each of its branches, and the number of the next row.
 pub record RowScan : Type 0 where

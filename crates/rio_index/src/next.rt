@@ -1,14 +1,13 @@
 //! The next row of a scan.
 ghost use Rattle.std.specs.Prelude.{◌≡◌, ◌<◌, ◌^◌, IfOk, IsTrue, length, map, slice_get, Err, ◌↔◌};
 ghost use Rattle.rio_num.specs.Answers.{GivesUnless};
-ghost use Rattle.rio_entry.specs.declared.fault.EntryFault.TheVariants.{NoMemory as OutOfMemory};
-ghost use Rattle.rio_entry.specs.Rows.{row_in};
-ghost use Rattle.rio_index.specs.Counters.{tree_counters};
+ghost use Rattle.rio_machine.specs.declared.entry_fault.EntryFault.TheVariants.{NoMemory as OutOfMemory};
+ghost use Rattle.rio_machine.specs.RowEntries.{row_in};
+ghost use Rattle.rio_entry.specs.TreeCounters.{tree_counters};
 ghost use Rattle.rio_index.specs.Scan.{broken_at, entry_among, held_entry, read_branches, read_entries, read_numbers};
 
-use crate::counter::TreeCounters;
 use crate::lane::{Held, Lane};
-use rio_entry::{EntryFault, RowPart, broken_branch, read_row};
+use rio_entry::{EntryFault, RowPart, TreeCounters, broken_branch, read_row};
 use rio_num::NoMemory;
 use rio_tree::Branch;
 use rio_types::Classes;

@@ -2,12 +2,11 @@
 ghost use Rattle.std.specs.Prelude.{◌≡◌, ◌<◌, length, map, slice_set, IfOk, Some};
 ghost use Rattle.rio_index.specs.Scan.{empty_lane, lane_at};
 
-use crate::counter::TreeCounters;
 use crate::lane::{Held, Lane};
 use crate::next::{check_next, is_memory, read_next};
 use crate::search::{entry_count, first_entry, first_wanted};
 use rio_basket::StoredBasket;
-use rio_entry::EntryFault;
+use rio_entry::{EntryFault, TreeCounters};
 use rio_num::NoMemory;
 use rio_tree::{Branch, BranchRefusal, TreeHead};
 use rio_types::Classes;
@@ -52,7 +51,7 @@ pub struct Scanner {
 
 impl Model for Scanner {
     ghost use Rattle.std.specs.Prelude.{◌≡◌};
-    ghost use Rattle.rio_index.specs.Counters.{tree_counters};
+    ghost use Rattle.rio_entry.specs.TreeCounters.{tree_counters};
     ghost use Rattle.rio_index.specs.Scan.{CanGoOn, RowScan};
 
     ghost Value = { RowScan };

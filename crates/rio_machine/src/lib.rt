@@ -4,15 +4,18 @@
 //!
 //! A `Command` ends in an `Outcome`: accepted, or refused for a `Refusal`, which `print_refusal` says with its `number` and
 //! `name`. `specs/State.antt` has the state (law: `orders_are_total`), `Rows.antt` which rows fit a tree, `Limits.antt`
-//! what is too large, too deep or too many. Its tests stand in `rio_rows`.
+//! what is too large, too deep or too many, `Entries.antt` the row that one entry of each branch of a tree is; an
+//! `EntryFault` says why there is none. Its tests stand in `rio_rows`.
 #![tactic(auto)]
 
 mod command;
+mod entry_fault;
 mod laws;
 mod print;
 mod refusal;
 
 pub use command::{Command, Commands, Outcome};
+pub use entry_fault::EntryFault;
 pub use laws::orders_are_total;
 pub use print::print_refusal;
 pub use refusal::Refusal;

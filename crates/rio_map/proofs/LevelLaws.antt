@@ -1,10 +1,9 @@
 -- Zero objects of at most so many levels.
-use Rattle.std.proofs.Common.{◌≡◌, ◌<◌, ℕ, zero, suc, ◌-◌, ℤ, List, Option, Some, None, refl, sym, ap, ◌∙◌, arith}
+use Rattle.std.proofs.Common.{◌≡◌, ◌<◌, ℕ, zero, suc, ◌-◌, ℤ, List, Option, Some, None, refl, ap, ◌∙◌, arith}
 use Rattle.std.specs.Prelude.{option_and_then}
 use Rattle.rio_types.specs.declared.class.ClassDef.{ClassDef}
 use Rattle.rio_value.specs.declared.value.Value.{Value}
-use Rattle.rio_model.specs.Resolving.{newest_known}
-use Rattle.rio_model.specs.Mapping.{object_zero, zero_within}
+use Rattle.rio_model.specs.Mapping.{object_zero, zero_version, zero_within}
 
 module _ (classes : List ClassDef) (class : List ℕ) where
   pub no_levels : (n : ℕ) → n ≡ 0 → zero_within n classes class ≡ None
@@ -15,7 +14,7 @@ module _ (classes : List ClassDef) (class : List ℕ) where
   abbrev at_version : ℕ → Option ℤ → Option Value
   at_version k o = option_and_then (object_zero classes class (zero_within k classes)) o
 
-  pub more_levels : (n : ℕ) (version : ℤ) → 0 < n → newest_known classes class ≡ Some version → zero_within n classes class ≡ object_zero classes class (zero_within (n - 1) classes) version
+  pub more_levels : (n : ℕ) (version : ℤ) → 0 < n → zero_version classes class ≡ Some version → zero_within n classes class ≡ object_zero classes class (zero_within (n - 1) classes) version
   unfolding zero_within
   more_levels zero version h known = absurd (omega (arith, h))
   more_levels (suc k) version h known =
@@ -23,7 +22,7 @@ module _ (classes : List ClassDef) (class : List ℕ) where
       ap (λ (o : Option ℤ). at_version k o) known
       ∙ ap (λ (j : ℕ). object_zero classes class (zero_within j classes) version) less
 
-  pub not_known : (n : ℕ) → newest_known classes class ≡ None → zero_within n classes class ≡ None
+  pub not_known : (n : ℕ) → zero_version classes class ≡ None → zero_within n classes class ≡ None
   unfolding zero_within
   not_known zero known = refl
   not_known (suc k) known = ap (λ (o : Option ℤ). at_version k o) known

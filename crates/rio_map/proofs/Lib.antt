@@ -1,6 +1,10 @@
 pub mod ConvertLaws
 pub mod LevelLaws
 pub mod MappingLaws
+pub mod PairedLaws
+pub mod SameLaws
+pub mod SingleLaws
+pub mod StatedLaws
 pub mod StepLaws
 pub mod VersionLaws
 pub mod WrapLaws

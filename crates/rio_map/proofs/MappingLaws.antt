@@ -1,17 +1,17 @@
 -- What is had of a value, one layer at a time, and of the base or member of a name.
-use Rattle.std.proofs.Common.{◌≡◌, ◌==◌, ◌&&◌, ℕ, ℤ, List, [], ◌∷◌, length, map, Bool, true, false, cond, Option, Some, None, Result, Ok, Err, if◌then◌else◌, refl, sym, ap, ◌∙◌}
-use Rattle.std.specs.{Prelude.{find}, List.{list_any}, Option.{option_and_then, option_map}, Str.{bytes_eq}}
+use Rattle.std.proofs.Common.{◌≡◌, ◌==◌, ◌&&◌, ℕ, ℤ, List, [], ◌∷◌, length, map, Bool, true, false, cond, Option, Some, None, Ok, Err, if◌then◌else◌, refl, ap, ◌∙◌}
+use Rattle.std.specs.{Prelude.{find}, Option.{option_and_then, option_map}, Str.{bytes_eq}}
 use Rattle.rio_num.specs.Reading.{◌>>=◌}
 use Rattle.rio_types.specs.declared.class.{Base.{Base}, ClassDef.{ClassDef}, Member.{Member}}
 use Rattle.rio_types.specs.declared.kind.Kind.{Kind}
 use Rattle.rio_value.specs.declared.value.Part.{Part, Part-F}
-use Rattle.rio_value.specs.declared.value.Value.{Value, Int, Bits32, Bits64, Bool as Truth, Text, List as Items, Object, Pointed, Null, Back, Opaque, out-Value, TheOpen.{Value-F}, TheFolds.{fold-Part, fold_out-Part}}
+use Rattle.rio_value.specs.declared.value.Value.{Value, List as Items, Object, Pointed, out-Value, TheOpen.{Value-F}, TheFolds.{fold-Part, fold_out-Part}}
 use Rattle.rio_format.specs.Bodies.{part}
 use Rattle.rio_format.proofs.ValueCases.{Each, by_cases, fold_Int, fold_Bits32, fold_Bits64, fold_Bool, fold_Text, fold_List, fold_Object, fold_Pointed, fold_Null, fold_Back, fold_Opaque}
 use Rattle.rio_model.specs.Mapping.{Mapped, Mapping, PartMapping, base_mapped, base_part_of, class_named, convert, flat_mapped, items_mapped, kind_zero, mapping_step, member_mapped, member_part_of, object_as, or_changed, part_mapping, whole_part, zero_of_class}
 use Rattle.rio_map.specs.Converting.{flat_as, stays}
-use Rattle.rio_map.specs.Versions.{asked_in, base_found, converted, found_of_kind, has_base, if_there, is_base_part, kind_in, mapped_in, mapping_in, mapping_of_part, member_found, or_else, part_found}
-use Rattle.rio_map.proofs.ConvertLaws.{by_code, convert_is}
+use Rattle.rio_map.specs.Versions.{asked_in, base_found, converted, found_of_kind, has_base, if_there, is_base_part, mapped_in, mapping_in, mapping_of_part, member_found, or_else}
+use Rattle.rio_map.proofs.ConvertLaws.{convert_is}
 
 -- ---- options and results
 

@@ -1,7 +1,7 @@
 -- Objects of a class in another version, cut up as the code does it: over the parts themselves, given what is had of each
 -- value within.
-use Rattle.std.specs.Prelude.{ℕ, List, [], ◌++◌, length, map, Bool, ◌==◌, ◌&&◌, Option, Some, None, Result, Ok, Err, find, if◌then◌else◌}
-use Rattle.std.specs.{List.{list_any}, Option.{option_map}, Str.{bytes_eq}}
+use Rattle.std.specs.Prelude.{ℕ, List, [], ◌++◌, length, slice_get, Bool, false, ◌==◌, ◌&&◌, Option, Some, None, Result, Ok, find, if◌then◌else◌}
+use Rattle.std.specs.{List.{list_any}, Option.{option_map, option_map_or}, Str.{bytes_eq}}
 use Rattle.rio_num.specs.{Answers.{GivesUnless}, Reading.{◌>>=◌}}
 use Rattle.rio_types.specs.declared.class.{Base.{Base}, ClassDef.{ClassDef}, Member.{Member}}
 use Rattle.rio_types.specs.declared.kind.Kind.{Kind}
@@ -51,6 +51,10 @@ members_as classes members asked parts = each_mapped (λ m. m.name) (λ m. membe
 -- the part is an object of the class, as a base
 abbrev pub is_base_part : List ℕ → Part → Bool
 is_base_part class p = (length p.name == 0) && bytes_eq (class_named (out-Value p.value)) class
+
+-- there is a part at this place, and it has no name
+abbrev pub is_nameless : List Part → ℕ → Bool
+is_nameless parts k = option_map_or (λ p. length p.name == 0) (slice_get parts k) false
 
 -- what is had of a part, if it is there
 abbrev pub if_there : {A B : Type 0} → (A → Mapped B) → Option A → Mapped (Option B)

@@ -2,17 +2,20 @@
 //!
 //! `flat_as` gives a value of one kind in another one, where no object is in it; `stays` tells of objects and pointers
 //! whether both kinds are of one class. `kind_zero` and `zero_of_class` give the value of a member or a base that isn't there.
-//! `as_version` gives a value with each object of a class, at any depth, in another version of the class.
+//! `as_version` gives a value with each object of a class, at any depth, in another version of the class; where each is in
+//! that version already, nothing changes (`same_version_stays`).
 //!
 //! The definitions stand in `Mapping` of `rio_model`; `specs/` has how the code cuts them up.
 #![tactic(auto)]
 
 mod convert;
+mod laws;
 mod single;
 mod version;
 mod zero;
 
 pub use convert::{flat_as, stays};
+pub use laws::same_version_stays;
 pub use rio_model::MapFault;
 pub use version::as_version;
 pub use zero::{kind_zero, zero_of_class};

@@ -1,16 +1,16 @@
 //! Values with the objects of a class in another version. The calls go as deep as the value, so those within one another
 //! keep little: what is made of a value is made in calls of their own.
-ghost use Rattle.std.specs.Prelude.{◌≡◌, false, map, Ok};
+ghost use Rattle.std.specs.Prelude.{◌≡◌, drop, false, map, Ok};
 ghost use Rattle.std.specs.Option.{option_copied, option_map_or};
 ghost use Rattle.std.specs.Ordering.{int_eq};
 ghost use Rattle.rio_num.specs.Answers.{GivesUnless};
-ghost use Rattle.rio_model.specs.Mapping.{as_version, base_mapped, base_part_of, class_named, described_bases, described_members, each_mapped, items_mapped, kind_zero, member_mapped, member_part_of, object_as, object_mapped, or_changed, zero_of_class};
+ghost use Rattle.rio_model.specs.Mapping.{after_bases, as_version, base_mapped, base_part_of, class_named, described_bases, described_members, each_mapped, items_mapped, kind_zero, member_mapped, member_part_of, object_as, object_mapped, or_changed, zero_of_class};
 ghost use Rattle.rio_model.specs.Resolving.{built_in_version};
 ghost use Rattle.rio_model.specs.declared.map_fault.MapFault.TheVariants.{NoMemory as OutOfMemory};
 ghost use Rattle.rio_value.specs.declared.value.Value.{List as Items, Object, Pointed, out-Value};
 ghost use Rattle.rio_format.specs.Bodies.{part};
 ghost use Rattle.rio_map.specs.Converting.{flat_as};
-ghost use Rattle.rio_map.specs.Versions.{Maps, asked_in, base_found, bases_as, behind, converted, has_base, is_base_part, kind_in, made_of, mapped_in, mapping_in, mapping_of_part, member_found, members_as, part_found};
+ghost use Rattle.rio_map.specs.Versions.{Maps, asked_in, base_found, bases_as, behind, converted, has_base, is_base_part, is_nameless, kind_in, made_of, mapped_in, mapping_in, mapping_of_part, member_found, members_as, part_found};
 
 use crate::convert::{flat_as, stays};
 use crate::zero::{kind_zero, object_with, zero_of_class};
@@ -61,6 +61,28 @@ fn kind_in<'a>(members: &'a [Member], name: &[u8]) -> Option<&'a Kind>
         }
     }
     None
+}
+
+// Whether there is a part at `k`, and it has no name.
+fn is_nameless(parts: &[Part], k: usize) -> bool
+    ensures { result ≡ is_nameless parts.now k }
+{
+    match parts.get(k) {
+        Some(part) => part.name.len() == 0,
+        None => false,
+    }
+}
+
+// How many parts at the front are those of these bases: parts without a name.
+fn base_parts(bases: &[Base], parts: &[Part]) -> usize
+    ensures { drop result parts.now ≡ after_bases (λ p. p.name) bases.now parts.now }
+{
+    for k in 0..bases.len() {
+        if !is_nameless(parts, k) {
+            return k;
+        }
+    }
+    bases.len()
 }
 
 // The class of an object.
@@ -117,7 +139,8 @@ fn flat_converted(
     member: &Member,
     value: &Value,
 ) -> Result<Value, MapFault>
-    ensures { Maps result (or_changed member.now.name (flat_as from.now member.now.kind value.now)) }
+    ensures { let flat = flat_as from.now member.now.kind value.now in
+        Maps result (or_changed member.now.name flat) }
 {
     let found = flat_as(alloc, from, &member.kind, value)?;
     or_changed(alloc, member.name.as_slice(), found)
@@ -311,8 +334,13 @@ fn object_mapped(
     ensures { let within = map (mapping_of_part classes.now asked.now) parts.now in
         Maps result (object_mapped classes.now (option_copied old.entry) asked.now within) }
 {
-    match bases_mapped(alloc, classes, asked, described_bases(old), parts) {
-        Ok(front) => members_after(alloc, classes, asked, described_members(old), parts, front),
+    let bases = described_bases(old);
+    match bases_mapped(alloc, classes, asked, bases, parts) {
+        Ok(front) => {
+            let members = described_members(old);
+            let skipped = base_parts(bases, parts);
+            members_after(alloc, classes, asked, members, skipped, parts, front)
+        }
         Err(fault) => Err(fault),
     }
 }
@@ -336,23 +364,24 @@ fn bases_mapped(
     Ok(done)
 }
 
-// The members, after the parts that are there.
+// The members, after the parts that are there. Those of the object come after so many parts, which are its bases.
 #[cycle(mapped)]
 fn members_after(
     alloc: Global,
     classes: &Classes,
     asked: &ClassDef,
     members: &[Member],
+    bases: usize,
     parts: &[Part],
     front: Parts,
 ) -> Result<Parts, MapFault>
-    ensures { let within = map (mapping_of_part classes.now asked.now) parts.now in
+    ensures { let within = map (mapping_of_part classes.now asked.now) (drop bases parts.now) in
         let found = members_as classes.now members.now asked.now within in
         Maps result (behind front found) }
 {
     let mut done = front;
     for member in asked.members.as_slice() {
-        let value = member_mapped(alloc, classes, asked, members, parts, member)?;
+        let value = member_mapped(alloc, classes, asked, members, bases, parts, member)?;
         done.push(part_with(alloc, member.name.as_slice(), value)?)?;
     }
     Ok(done)
@@ -386,14 +415,15 @@ fn member_mapped(
     classes: &Classes,
     asked: &ClassDef,
     members: &[Member],
+    bases: usize,
     parts: &[Part],
     member: &Member,
 ) -> Result<Value, MapFault>
-    ensures { let within = map (mapping_of_part classes.now asked.now) parts.now in
+    ensures { let within = map (mapping_of_part classes.now asked.now) (drop bases parts.now) in
         let part = member_part_of members.now within member.now.name in
         Maps result (member_mapped classes.now member.now part) }
 {
-    match member_found(alloc, classes, asked, members, parts, member) {
+    match member_found(alloc, classes, asked, members, bases, parts, member) {
         Ok(Some(value)) => Ok(value),
         Ok(None) => member_zero(alloc, classes, member),
         Err(fault) => Err(fault),
@@ -431,32 +461,35 @@ fn member_found(
     classes: &Classes,
     asked: &ClassDef,
     members: &[Member],
+    bases: usize,
     parts: &[Part],
     member: &Member,
 ) -> Result<Option<Value>, MapFault>
     ensures { let had = mapped_in classes.now asked.now in
-        Maps result (member_found had members.now parts.now member.now) }
+        Maps result (member_found had members.now (drop bases parts.now) member.now) }
 {
     match kind_in(members, member.name.as_slice()) {
-        Some(from) => part_found(alloc, classes, asked, parts, member, from),
+        Some(from) => part_found(alloc, classes, asked, bases, parts, member, from),
         None => Ok(None),
     }
 }
 
-// The part of the member's name, which is of this kind, in the kind of the member.
+// The part of the member's name after the bases, which is of this kind, in the kind of the member.
 #[cycle(mapped)]
 fn part_found(
     alloc: Global,
     classes: &Classes,
     asked: &ClassDef,
+    bases: usize,
     parts: &[Part],
     member: &Member,
     from: &Kind,
 ) -> Result<Option<Value>, MapFault>
     ensures { let had = mapped_in classes.now asked.now in
-        Maps result (part_found had member.now parts.now from.now) }
+        Maps result (part_found had member.now (drop bases parts.now) from.now) }
 {
-    for part in parts {
+    for k in bases..parts.len() {
+        let part = &parts[k];
         if part.name.as_slice() == member.name.as_slice() {
             return Ok(Some(converted(alloc, classes, asked, from, member, &part.value)?));
         }

@@ -1,11 +1,11 @@
 //! Zeros of kinds and of classes.
 ghost use Rattle.std.specs.Prelude.{◌≡◌, ◌+◌, IfOk, length, replicate};
 ghost use Rattle.rio_format.specs.Slots.{fields_of};
-ghost use Rattle.rio_model.specs.Mapping.{kind_zero, object_zero, parts_zero, single_zero, slot_zero, zero_of_class, zero_within};
+ghost use Rattle.rio_model.specs.Mapping.{kind_zero, object_zero, parts_zero, single_zero, slot_zero, zero_of_class, zero_version, zero_within};
 ghost use Rattle.rio_value.specs.declared.value.Value.{Object};
 
-use rio_format::{Fields, Slot, SlotKind, fields_of, part_with, slot_of};
-use rio_model::newest_known;
+use rio_format::{Fields, Slot, SlotKind, fields_of, is_headed, part_with, slot_of};
+use rio_model::{built_in_version, newest_known};
 use rio_num::{Name, NoMemory};
 use rio_types::{Classes, Kind, Prim};
 use rio_value::{Parts, Value, Values};
@@ -117,7 +117,18 @@ fn object_zero(
     }
 }
 
-// The zero object of the newest version, of at most so many objects within one another.
+// The version of a zero object of the class: an object without a header has the built-in one.
+fn zero_version(classes: &Classes, class: &[u8]) -> Option<i32>
+    ensures { result ≡ zero_version classes.now class.now }
+{
+    if is_headed(class) {
+        newest_known(classes, class)
+    } else {
+        built_in_version(class)
+    }
+}
+
+// The zero object of the class, of at most so many objects within one another.
 #[cycle(zero)]
 fn zero_within(
     alloc: Global,
@@ -130,7 +141,7 @@ fn zero_within(
     if levels == 0 {
         return Ok(None);
     }
-    match newest_known(classes, class) {
+    match zero_version(classes, class) {
         Some(version) => object_zero(alloc, classes, class, version, levels - 1),
         None => Ok(None),
     }

@@ -1,10 +1,10 @@
 //! Values of one kind in another, zeros, and objects in another version, by hand from the rules.
 use rio_decl::read_class;
 use rio_map::{MapFault, as_version, flat_as, kind_zero};
-use rio_num::{Bytes, NoMemory};
-use rio_types::{ClassDef, Classes, Kind};
+use rio_num::{Bytes, Name, NoMemory};
+use rio_types::{ClassDef, Classes, Kind, Member, Prim};
 use rio_valtext::{TextFault, print_value, read_value};
-use rio_value::Value;
+use rio_value::{Part, Parts, Value};
 use std::alloc::Global;
 
 // The kind of the last member of a class before and after, a value, and what becomes of it.
@@ -313,7 +313,7 @@ static VERSIONS: [&str; 27] = [
 ];
 
 // A class and a version, a value, and what that is with the objects of the class in the version.
-static ROWS_OF_VERSIONS: [(&str, i32, &str, &str); 36] = [
+static ROWS_OF_VERSIONS: [(&str, i32, &str, &str); 38] = [
     (
         "P",
         2,
@@ -388,6 +388,9 @@ static ROWS_OF_VERSIONS: [(&str, i32, &str, &str); 36] = [
         "D#1{B#1{b: true}, x: 2}",
         "D#2{B#1{b: false}, x: 2}",
     ),
+    // An object that was read by another description of its version, which has no base.
+    ("D", 2, "D#1{x: 2}", "D#2{B#1{b: false}, x: 2}"),
+    ("D", 1, "D#1{x: 2}", "D#1{A#2{a: 0}, x: 2}"),
     // Bases come before members.
     ("D", 3, "D#1{A#1{a: 1}, x: 2}", "changed Odd"),
     ("A", 2, "D#1{A#1{a: 1}, x: 2}", "D#1{A#2{a: 1}, x: 2}"),
@@ -473,4 +476,47 @@ fn objects_are_had_in_versions(rt: HostRuntime) {
         let right = matches!(has_version(rt.alloc(), row), Ok(true));
         assert!(rt; right, "{} in version {} of {}", row.2, row.1, row.0);
     }
+}
+
+// A class of another writer, with a base and a member that has no name.
+fn with_nameless(alloc: Global, text: &str, of: Prim) -> Result<ClassDef, TextFault> {
+    let mut class = class_in(alloc, text)?;
+    class.members.push(Member {
+        name: Name::new(alloc),
+        title: Name::new(alloc),
+        kind: Kind::Plain { of },
+    })?;
+    Ok(class)
+}
+
+fn nameless_part(alloc: Global, value: Value) -> Part {
+    Part {
+        name: Name::new(alloc),
+        value,
+    }
+}
+
+// A base and then a member, neither with a name, in another version of their class.
+fn nameless_as(alloc: Global) -> Result<Bytes, TextFault> {
+    let mut classes = declared(alloc, &["class A 1 { a: i32 }"])?;
+    classes.push(with_nameless(alloc, "class V 1 : A { }", Prim::I32)?)?;
+    classes.push(with_nameless(alloc, "class V 2 : A { }", Prim::U8)?)?;
+    let mut parts = Parts::new(alloc);
+    parts.push(nameless_part(alloc, value_in(alloc, "A#1{a: 1}")?))?;
+    parts.push(nameless_part(alloc, Value::Int(258)))?;
+    let value = Value::Object {
+        class: Name::from_slice(alloc, b"V")?,
+        version: 1,
+        parts,
+    };
+    Ok(told_version(alloc, as_version(alloc, &classes, b"V", 2, &value))?)
+}
+
+#[test]
+fn members_without_a_name_come_after_bases(rt: HostRuntime) {
+    let right = match nameless_as(rt.alloc()) {
+        Ok(text) => text.as_slice() == b"V#2{A#1{a: 1}, \"\": 2}".as_slice(),
+        Err(_) => false,
+    };
+    assert!(rt; right);
 }

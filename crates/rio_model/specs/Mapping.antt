@@ -9,7 +9,7 @@ use Rattle.rio_types.specs.declared.kind.Primitive.{Primitive, TheVariants.{I8, 
 use Rattle.rio_value.specs.declared.value.Part.{Part}
 use Rattle.rio_value.specs.declared.value.Value.{Value, out-Value, TheOpen.{Value-F, Int, Bits32, Bits64, Bool as Boolean, Text as Chars, List as Items, Object, Pointed, Null, Back, Opaque}, TheFolds.{fold-Value}}
 use Rattle.rio_value.specs.declared.value.Value as whole
-use Rattle.rio_format.specs.{Bodies.{part}, Prims.{width_of}, Slots.{Slot, kinded, based, flags, any_pointer, link, many, Field, fields_of}}
+use Rattle.rio_format.specs.{Bodies.{form_of, part}, Prims.{width_of}, Slots.{Slot, kinded, based, flags, any_pointer, link, many, Field, fields_of, is_headed}}
 use Rattle.rio_format.specs.Written.{width_in_bits}
 use Rattle.rio_model.specs.Resolving.{built_in_version, newest_known}
 use Rattle.rio_model.specs.declared.map_fault.MapFault.{MapFault, TheVariants.{KindChanged, NoVersion}}
@@ -147,11 +147,15 @@ abbrev pub object_zero : List ClassDef → List ℕ → (List ℕ → Option Val
 object_zero classes class object version =
     option_map (whole.Object class version) (option_and_then (parts_zero object) (fields_of classes class version))
 
--- the zero object of the newest version, of at most so many objects within one another
+-- the version of a zero object: the newest one, and of a class whose objects have no header the built-in one
+abbrev pub zero_version : List ClassDef → List ℕ → Option ℤ
+zero_version classes class = if is_headed (form_of class) then newest_known classes class else built_in_version class
+
+-- the zero object of a class, of at most so many objects within one another
 unfoldable pub zero_within : ℕ → List ClassDef → List ℕ → Option Value
 zero_within zero classes class = None
 zero_within (suc levels) classes class =
-    option_and_then (object_zero classes class (zero_within levels classes)) (newest_known classes class)
+    option_and_then (object_zero classes class (zero_within levels classes)) (zero_version classes class)
 
 -- The zero object of a class. There is none where a class is neither declared nor built in, has a member that isn't read, or
 -- stands within itself: without that no more classes stand within one another than are declared, and two built-in ones.
@@ -221,11 +225,18 @@ abbrev pub each_mapped : {A : Type 0} → (A → List ℕ) → (A → Mapped Val
 each_mapped name value [] = Ok []
 each_mapped name value (x ∷ xs) = value x >>= λ v. each_mapped name value xs >>= λ ps. Ok (part (name x) v ∷ ps)
 
--- the parts of an object in the asked version: its bases and then its members, in order
+-- The parts of an object after those of its bases, which have no names. The object may have been read by another description of
+-- its version than the one that has these bases: so no part with a name is passed.
+abbrev pub after_bases : {A : Type 0} → (A → List ℕ) → List Base → List A → List A
+after_bases name [] parts = parts
+after_bases name (b ∷ bs) [] = []
+after_bases name (b ∷ bs) (p ∷ ps) = if length (name p) == 0 then after_bases name bs ps else p ∷ ps
+
+-- The parts of an object in the asked version: its bases and then its members, in order.
 abbrev pub object_mapped : List ClassDef → Option ClassDef → ClassDef → List PartMapping → Mapped (List Part)
 object_mapped classes old new parts = do
   bases ← each_mapped (λ b. []) (λ b. base_mapped classes b (base_part_of (described_bases old) parts b.name)) new.bases
-  members ← each_mapped (λ m. m.name) (λ m. member_mapped classes m (member_part_of (described_members old) parts m.name)) new.members
+  members ← each_mapped (λ m. m.name) (λ m. member_mapped classes m (member_part_of (described_members old) (after_bases (λ p. p.name) (described_bases old) parts) m.name)) new.members
   Ok (bases ++ members)
 
 -- ---- values

@@ -9,7 +9,7 @@ use Rattle.rio_value.specs.declared.value.Part.{Part, Part-F}
 use Rattle.rio_value.specs.declared.value.Value.{Value, Int, Bits32, Bits64, Bool as Truth, Text as Chars, List as Items, Object, Pointed, Null, Back, Opaque, out-Value, TheFolds.{fold-Part, fold_out-Part}}
 use Rattle.rio_format.specs.Bodies.{part}
 use Rattle.rio_format.proofs.ValueCases.{Each, by_cases, fold_Int, fold_Bits32, fold_Bits64, fold_Bool, fold_Text, fold_List, fold_Object, fold_Pointed, fold_Null, fold_Back, fold_Opaque}
-use Rattle.rio_model.specs.Mapping.{Asked, Mapped, Mapping, PartMapping, as_version, base_mapped, base_part_of, class_named, convert, described_bases, described_members, each_mapped, flat_mapped, in_description, is_list_of, is_object_value, is_pointer_value, is_text_value, items_mapped, kind_zero, list_as, mapping_of, mapping_step, member_mapped, member_part_of, object_as, object_mapped, or_changed, part_mapping, single_as, zero_of_class}
+use Rattle.rio_model.specs.Mapping.{Asked, Mapped, Mapping, PartMapping, after_bases, as_version, base_mapped, base_part_of, class_named, convert, described_bases, described_members, each_mapped, flat_mapped, in_description, is_list_of, is_object_value, is_pointer_value, is_text_value, items_mapped, kind_zero, list_as, mapping_of, mapping_step, member_mapped, member_part_of, object_as, object_mapped, or_changed, part_mapping, single_as, zero_of_class}
 use Rattle.rio_model.specs.{Resolving.{built_in_version, is_known_version}, declared.map_fault.MapFault.{MapFault, TheVariants.{KindChanged, NoVersion, NoMemory}}}
 
 -- ---- what is had, or a changed kind
@@ -131,12 +131,26 @@ base_as classes old parts b = base_mapped classes b (base_part_of (described_bas
 abbrev member_as : List ClassDef → Option ClassDef → List PartMapping → Member → Mapped Value
 member_as classes old parts m = member_mapped classes m (member_part_of (described_members old) parts m.name)
 
+after_had : (bases : List Base) (parts : List PartMapping) → AreHad parts → AreHad (after_bases (λ p. p.name) bases parts)
+after_had [] parts had = had
+after_had (b ∷ bs) [] had = tt
+after_had (b ∷ bs) (p ∷ ps) had = by (length p.name == 0) (after_had bs ps had.1)
+  where
+    by : (c : Bool) → AreHad (after_bases (λ q. q.name) bs ps) → AreHad (cond c (after_bases (λ q. q.name) bs ps) (p ∷ ps))
+    by true later = later
+    by false later = had
+
+abbrev own_parts : Option ClassDef → List PartMapping → List PartMapping
+own_parts old parts = after_bases (λ p. p.name) (described_bases old) parts
+
 object_had : (classes : List ClassDef) (old : Option ClassDef) (new : ClassDef) (parts : List PartMapping) → AreHad parts → IsHad (object_mapped classes old new parts)
 object_had classes old new parts had =
-    then_had (each_mapped (λ b. []) (base_as classes old parts) new.bases) (λ bases. each_mapped (λ m. m.name) (member_as classes old parts) new.members >>= λ members. Ok (bases ++ members))
+    let own = own_parts old parts in
+    let own_had : AreHad own = after_had (described_bases old) parts had in
+    then_had (each_mapped (λ b. []) (base_as classes old parts) new.bases) (λ bases. each_mapped (λ m. m.name) (member_as classes old own) new.members >>= λ members. Ok (bases ++ members))
     (each_had (λ b. []) (base_as classes old parts) (λ b. base_had classes b (base_part_of (described_bases old) parts b.name) (base_there (described_bases old) parts b.name had)) new.bases)
-    (λ bases. then_had (each_mapped (λ m. m.name) (member_as classes old parts) new.members) (λ members. Ok (bases ++ members))
-    (each_had (λ m. m.name) (member_as classes old parts) (λ m. member_had classes m (member_part_of (described_members old) parts m.name) (member_there (described_members old) parts m.name had)) new.members)
+    (λ bases. then_had (each_mapped (λ m. m.name) (member_as classes old own) new.members) (λ members. Ok (bases ++ members))
+    (each_had (λ m. m.name) (member_as classes old own) (λ m. member_had classes m (member_part_of (described_members old) own m.name) (member_there (described_members old) own m.name own_had)) new.members)
     (λ members. tt))
 
 parts_had : (parts : List PartMapping) → AreHad parts → IsHad (each_mapped (λ p. p.name) (λ p. p.value.mapped) parts)

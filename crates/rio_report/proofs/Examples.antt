@@ -6,8 +6,8 @@ use Rattle.rio_leaf.specs.declared.branch.Shape.TheVariants.{Class}
 use Rattle.rio_num.specs.Printed.{name_text}
 use Rattle.rio_tree.specs.{Index.{basket_number}, declared.basket_at.BasketAt.{BasketAt}, declared.head.Branch.{Branch}}
 use Rattle.rio_tree.specs.declared.refusal.BranchRefusal.TheVariants.{BadBasket, BadEntry, Compressed, EntryCount, NoCounter, SubBranches}
-use Rattle.rio_report.specs.{Counters.{counters_are_read}, Refusals.{refused_first}, Dump.{item_line}, Scan.{refused_lines, scan_lines, scanned_count}}
-use Rattle.rio_report.specs.{StoredEntries.{is_filled, refusal_by}}
+use Rattle.rio_entry.specs.{Counters.{counters_are_read}, Refusals.{refused_first}, StoredEntries.{is_filled, refusal_by}}
+use Rattle.rio_report.specs.{Dump.{item_line}, RowForms.{row_form}, Scan.{refused_lines, scan_lines, scanned_count}}
 
 -- two baskets: of entries 0 to 4, and from 5 on
 abbrev first_basket : BasketAt
@@ -73,11 +73,11 @@ count_line : scanned_count (codes "T") 12 ≡ codes "ok scan T 12\n"
 unfolding name_text digits
 count_line = refl
 
-no_tree : scan_lines [] [] (Err NotATree) ≡ codes "no 6 NotATree\n"
+no_tree : scan_lines (row_form None false) [] [] (Err NotATree) ≡ codes "no 6 NotATree\n"
 unfolding digits
 no_tree = refl
 
-no_name : scan_lines [] [] (Err NoSuchName) ≡ codes "no 3 NoSuchName\n"
+no_name : scan_lines (row_form None true) [] [] (Err NoSuchName) ≡ codes "no 3 NoSuchName\n"
 unfolding digits
 no_name = refl
 

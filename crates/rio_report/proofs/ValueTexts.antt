@@ -5,9 +5,10 @@ use Rattle.std.specs.List.{flat_map}
 use Rattle.rio_model.specs.{Lists.{separated}, ValueText.{text_of_value}}
 use Rattle.rio_tree.specs.{declared.head.Branch.{Branch}, declared.refusal.BranchRefusal.{BranchRefusal}}
 use Rattle.rio_value.specs.declared.value.Value.{Value}
-use Rattle.rio_report.specs.{Rows.{read_values}, Scan.{refused_line, refused_lines}}
-use Rattle.rio_report.specs.Lanes.{first_after, values_behind, values_unrefused}
-use Rattle.rio_report.proofs.Left.{any_default, left}
+use Rattle.rio_entry.specs.BranchRows.{read_values}
+use Rattle.rio_report.specs.Scan.{refused_line, refused_lines}
+use Rattle.rio_report.specs.RowTexts.{first_after, values_behind, values_unrefused}
+use Rattle.rio_entry.proofs.Left.{any_default, left}
 
 abbrev Separated : List Value → List ℕ
 Separated vs = flat_map (λ v. codes ", " ++ text_of_value v) vs
@@ -37,6 +38,12 @@ behind_append first (v ∷ vs) ws =
 values_one : (r : Option BranchRefusal) (rs : List (Option BranchRefusal)) (vs : List Value) (row : List (List Value)) → read_values (r ∷ rs) (vs ∷ row) ≡ values_unrefused r vs ++ read_values rs row
 values_one None rs vs row = refl
 values_one (Some x) rs vs row = refl
+
+pub read_more : (rs : List (Option BranchRefusal)) (row : List (List Value)) (k : ℕ) (d : Option BranchRefusal) (vs : List Value) → k < length rs → k < length row → vs ≡ get_or row k vs
+    → read_values (drop k rs) (drop k row) ≡ values_unrefused (get_or rs k d) vs ++ read_values (drop (k + 1) rs) (drop (k + 1) row)
+read_more rs row k d vs lt low are =
+    rw (left rs k (get_or rs k d) lt (any_default rs k d (get_or rs k d) lt), left row k vs low are)
+    (values_one (get_or rs k d) (drop (k + 1) rs) vs (drop (k + 1) row))
 
 pub values_more : (rs : List (Option BranchRefusal)) (row : List (List Value)) (k : ℕ) (r : Option BranchRefusal) (vs : List Value) → k < length rs → r ≡ get_or rs k r → k < length row → vs ≡ get_or row k vs
     → (first : Bool) → values_behind first (read_values (drop k rs) (drop k row)) ≡ values_behind first (values_unrefused r vs) ++ values_behind (first_after first (values_unrefused r vs)) (read_values (drop (k + 1) rs) (drop (k + 1) row))

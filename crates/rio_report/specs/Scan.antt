@@ -1,18 +1,18 @@
--- What the verb scan says of a file.
-use Rattle.std.specs.Prelude.{ℕ, ◌++◌, List, [], ◌∷◌, codes, Option, Some, None, Result, Ok, Err, Bool, if◌then◌else◌}
+-- What the verbs scan and export say of a file: export says the rows as CSV.
+use Rattle.std.specs.Prelude.{◌≡◌, ℕ, ◌++◌, List, [], ◌∷◌, codes, Option, Some, None, Result, Ok, Err, Bool, if◌then◌else◌}
 use Rattle.std.specs.{List.{filter, flat_map, list_any, range_with_len}, Fmt.{decimal}}
 use Rattle.rio_num.specs.{Printed.{item_text, name_text}, Reading.{◌>>=◌}}
 use Rattle.rio_types.specs.declared.class.ClassDef.{ClassDef}
-use Rattle.rio_value.specs.declared.value.Value.{Value, List as Items}
 use Rattle.rio_key.specs.{declared.head.KeyHead.{KeyHead}, Key.{is_compressed}}
 use Rattle.rio_head.specs.declared.fault.HeadFault.{HeadFault}
 use Rattle.rio_machine.specs.{RefusalText.{refusal_text}, declared.refusal.Refusal.{Refusal, TheVariants.{NoSuchName, NotATree}}}
-use Rattle.rio_model.specs.ValueText.{text_of_value}
+use Rattle.rio_step.specs.Refusing.{row_seen_in}
 use Rattle.rio_tree.specs.{declared.head.Branch.{Branch}, declared.head.TreeHead.{TreeHead}}
 use Rattle.rio_tree.specs.{Texts.{branch_refusal_name}, declared.refusal.BranchRefusal.{BranchRefusal}}
 use Rattle.rio_report.specs.{declared.described.Described.{Described}, Described.{described_file}, Dump.{is_tree, stored_tree}, Item.{with_greatest_cycle}}
 use Rattle.rio_dir.specs.Table.{is_of_name}
-use Rattle.rio_report.specs.{Refusals.{refusals_of}, Rows.{read_values, values_at_entry}}
+use Rattle.rio_entry.specs.{BranchRows.{row_at, rows_of}, Refusals.{refusals_of}}
+use Rattle.rio_report.specs.RowForms.{RowForm, refused_by, row_had, row_text, rows_refusal}
 
 -- ---- the key
 
@@ -43,17 +43,17 @@ refused_lines (b ∷ bs) (r ∷ rs) = refused_line b r ++ refused_lines bs rs
 
 -- ---- the rows
 
--- NUMBER ROW
-abbrev pub numbered_row : ℕ → List Value → List ℕ
-numbered_row n row = decimal n ++ codes " " ++ text_of_value (Items row) ++ codes "\n"
+-- the line of the row at an entry
+abbrev pub row_line : RowForm → List ℕ → List ClassDef → List Branch → List (Option BranchRefusal) → ℕ → List ℕ
+row_line form file classes branches refused e = row_text form.csv e (row_had classes form.class (row_at file classes branches refused e))
 
--- the values at an entry of the branches that aren't refused
-abbrev pub row_line : List ℕ → List ClassDef → List Branch → List (Option BranchRefusal) → ℕ → List ℕ
-row_line file classes branches refused e = numbered_row e (read_values refused (values_at_entry file classes e branches))
+-- the row at an entry can be had in the form
+abbrev pub IsHad : RowForm → List ℕ → List ClassDef → List Branch → List (Option BranchRefusal) → ℕ → Type 0
+IsHad form file classes branches refused e = refused_by (row_seen_in classes form.class (row_at file classes branches refused e)) ≡ None
 
 -- a line for each of so many entries
-abbrev pub numbered_rows : List ℕ → List ClassDef → List Branch → List (Option BranchRefusal) → ℕ → List ℕ
-numbered_rows file classes branches refused entries = flat_map (row_line file classes branches refused) (range_with_len 0 entries)
+abbrev pub row_lines : RowForm → List ℕ → List ClassDef → List Branch → List (Option BranchRefusal) → ℕ → List ℕ
+row_lines form file classes branches refused entries = flat_map (row_line form file classes branches refused) (range_with_len 0 entries)
 
 -- ---- the tree
 
@@ -61,39 +61,50 @@ numbered_rows file classes branches refused entries = flat_map (row_line file cl
 abbrev pub scanned_count : List ℕ → ℕ → List ℕ
 scanned_count name entries = codes "ok scan " ++ name_text name ++ codes " " ++ decimal entries ++ codes "\n"
 
--- the refused branches, how many entries there are, and each of them
-abbrev pub lines_refusing : List (Option BranchRefusal) → List ℕ → List ClassDef → List ℕ → TreeHead → List ℕ
-lines_refusing refused file classes name head =
-    refused_lines head.branches refused ++ scanned_count name head.entries ++ numbered_rows file classes head.branches refused head.entries
+-- CSV has no such line
+abbrev pub count_line : Bool → List ℕ → ℕ → List ℕ
+count_line csv name entries = if csv then [] else scanned_count name entries
 
-unfoldable pub tree_lines : List ℕ → List ClassDef → List ℕ → TreeHead → List ℕ
-tree_lines file classes name head = lines_refusing (refusals_of file classes head.entries head.branches) file classes name head
+-- why it is refused, or else this
+abbrev pub refused_or : Option Refusal → List ℕ → List ℕ
+refused_or (Some refusal) text = refusal_text refusal
+refused_or None text = text
+
+-- the refused branches, and then why the rows can't be had, or how many there are and each of them
+abbrev pub lines_refusing : RowForm → List (Option BranchRefusal) → List ℕ → List ClassDef → List ℕ → TreeHead → List ℕ
+lines_refusing form refused file classes name head =
+    refused_lines head.branches refused
+    ++ refused_or (rows_refusal classes form.class (rows_of file classes head.branches refused head.entries))
+    (count_line form.csv name head.entries ++ row_lines form file classes head.branches refused head.entries)
+
+unfoldable pub tree_lines : RowForm → List ℕ → List ClassDef → List ℕ → TreeHead → List ℕ
+tree_lines form file classes name head = lines_refusing form (refusals_of file classes head.entries head.branches) file classes name head
 
 -- NAME;CYCLE and what is said in place of a tree that isn't read
 abbrev pub unread_line : KeyHead → List ℕ → List ℕ
 unread_line key text = item_text key.name key.cycle ++ codes " " ++ text ++ codes "\n"
 
-abbrev pub lines_or_unread : List ℕ → List ClassDef → KeyHead → Result TreeHead (List ℕ) → List ℕ
-lines_or_unread file classes key (Ok head) = tree_lines file classes key.name head
-lines_or_unread file classes key (Err text) = unread_line key text
+abbrev pub lines_or_unread : RowForm → List ℕ → List ClassDef → KeyHead → Result TreeHead (List ℕ) → List ℕ
+lines_or_unread form file classes key (Ok head) = tree_lines form file classes key.name head
+lines_or_unread form file classes key (Err text) = unread_line key text
 
 -- what is said of a key of a tree
-abbrev pub key_scan : List ℕ → List ClassDef → KeyHead → List ℕ
-key_scan file classes key =
+abbrev pub key_scan : RowForm → List ℕ → List ClassDef → KeyHead → List ℕ
+key_scan form file classes key =
     if is_compressed key then unread_line key (codes "compressed")
-    else lines_or_unread file classes key (stored_tree file classes key)
+    else lines_or_unread form file classes key (stored_tree file classes key)
 
-abbrev pub scan_lines : List ℕ → List ClassDef → Result KeyHead Refusal → List ℕ
-scan_lines file classes (Ok key) = key_scan file classes key
-scan_lines file classes (Err refusal) = refusal_text refusal
+abbrev pub scan_lines : RowForm → List ℕ → List ClassDef → Result KeyHead Refusal → List ℕ
+scan_lines form file classes (Ok key) = key_scan form file classes key
+scan_lines form file classes (Err refusal) = refusal_text refusal
 
 -- ---- the file
 
-abbrev pub scan_text : List ℕ → List ℕ → Described → List ℕ
-scan_text file name described = scan_lines file described.classes (found_tree name described.closed.keys)
+abbrev pub scan_text : RowForm → List ℕ → List ℕ → Described → List ℕ
+scan_text form file name described = scan_lines form file described.classes (found_tree name described.closed.keys)
 
 -- what is said of the tree of a name in a file, or the first rule that the file breaks
-unfoldable pub scanned_file : List ℕ → List ℕ → Result (List ℕ) HeadFault
-scanned_file name file = do
+unfoldable pub scanned_file : RowForm → List ℕ → List ℕ → Result (List ℕ) HeadFault
+scanned_file form name file = do
   described ← described_file file
-  Ok (scan_text file name described)
+  Ok (scan_text form file name described)

@@ -1,19 +1,29 @@
 //! The lines that are said of a tree.
-ghost use Rattle.std.specs.Prelude.{◌≡◌, ◌++◌, codes, length, IfOk, OnOk};
-ghost use Rattle.rio_report.specs.Rows.{read_values};
-ghost use Rattle.rio_report.specs.Scan.{numbered_row, refused_line, refused_lines, scanned_count};
+ghost use Rattle.std.specs.Prelude.{◌≡◌, ◌++◌, codes, false, length, Err, IfOk, OnOk};
+ghost use Rattle.rio_num.specs.Printed.{name_text};
+ghost use Rattle.rio_entry.specs.BranchRows.{read_values};
+ghost use Rattle.rio_entry.specs.RowFaults.{fault_of_lanes};
+ghost use Rattle.rio_report.specs.RowForms.{numbered_row, row_text};
+ghost use Rattle.rio_report.specs.RowTexts.{first_after, values_behind, values_unrefused};
+ghost use Rattle.rio_report.specs.RowTexts.{had_line, map_fault_text, row_fault_line, row_fault_text};
+ghost use Rattle.rio_report.specs.Scan.{count_line, refused_line, refused_lines};
 ghost use Rattle.rio_model.specs.Lists.{separated};
 ghost use Rattle.rio_model.specs.ValueText.{text_of_value};
-ghost use Rattle.rio_report.specs.Lanes.{first_after, values_behind, values_unrefused};
-ghost use Rattle.rio_report.specs.RowFaults.{fault_of_lanes, row_fault_line, row_fault_text};
+ghost use Rattle.rio_step.specs.Refusing.{row_seen_in};
 ghost use Rattle.rio_value.specs.declared.value.Value.{List as Listed};
 
-use crate::lane::{Lane, RowFault};
+use crate::row_form::RowForm;
+use crate::versions::seen_row;
 use rio_basket::BasketFault;
+use rio_csv::print_row;
+use rio_entry::{Lane, RowFault};
+use rio_map::MapFault;
 use rio_num::{Bytes, NoMemory};
 use rio_tree::{Branch, BranchRefusal};
+use rio_types::Classes;
 use rio_valtext::print_value;
 use rio_value::{Value, Values};
+use std::alloc::Global;
 
 // Puts the line of a branch at the end, if it isn't read.
 fn put_refused_line(
@@ -49,10 +59,19 @@ pub(crate) fn put_refused_lines(
     Ok(())
 }
 
-/// Puts the tree's name and the number of its entries at the end.
-pub(crate) fn put_count(text: &mut Bytes, name: &[u8], entries: u64) -> Result<(), NoMemory>
-    ensures { OnOk result (text.new.bytes ≡ text.old.bytes ++ scanned_count name.now entries) }
+/// Puts the tree's name and the number of its entries at the end, but not of CSV.
+pub(crate) fn put_count(
+    text: &mut Bytes,
+    form: &RowForm,
+    name: &[u8],
+    entries: u64,
+) -> Result<(), NoMemory>
+    ensures { OnOk result
+        (text.new.bytes ≡ text.old.bytes ++ count_line form.now.csv name.now entries) }
 {
+    if form.csv {
+        return Ok(());
+    }
     text.put(b"ok scan ")?;
     text.put_name(name)?;
     text.put(b" ")?;
@@ -139,8 +158,8 @@ fn put_list(
     put_brackets(text, refusals, values)
 }
 
-/// Puts the line of a row at the end.
-pub(crate) fn put_row(
+// Puts the line of a row at the end, with all as it is.
+fn put_plain_row(
     text: &mut Bytes,
     entry: u64,
     refusals: &[Option<BranchRefusal>],
@@ -154,6 +173,75 @@ pub(crate) fn put_row(
     text.put(b" ")?;
     put_list(text, refusals, values)?;
     text.put(b"\n")
+}
+
+// Puts the line of a row at the end that was made for it.
+fn put_own_row(text: &mut Bytes, csv: bool, entry: u64, row: Values) -> Result<(), NoMemory>
+    ensures { OnOk result (text.new.bytes ≡ text.old.bytes ++ row_text csv entry row) }
+{
+    if csv {
+        return print_row(&row, text);
+    }
+    text.put_decimal(entry)?;
+    text.put(b" ")?;
+    print_value(&Value::List(row), text)?;
+    text.put(b"\n")
+}
+
+fn put_changed(text: &mut Bytes, member: &[u8]) -> Result<(), NoMemory>
+    ensures { OnOk result
+        (text.new.bytes ≡ text.old.bytes ++ (codes "KindChanged " ++ name_text member.now)) }
+{
+    text.put(b"KindChanged ")?;
+    text.put_name(member)
+}
+
+fn put_map_fault(text: &mut Bytes, fault: &MapFault) -> Result<(), NoMemory>
+    ensures { OnOk result (text.new.bytes ≡ text.old.bytes ++ map_fault_text fault.now) }
+{
+    match fault {
+        MapFault::KindChanged { member } => put_changed(text, member.as_slice()),
+        MapFault::NoVersion => text.put(b"NoVersion"),
+        MapFault::NoMemory => Err(NoMemory),
+    }
+}
+
+// Puts the line of a row at the end that can't be had: its number and why.
+fn put_unseen_row(text: &mut Bytes, entry: u64, fault: &MapFault) -> Result<(), NoMemory>
+    ensures { OnOk result
+        (text.new.bytes ≡ text.old.bytes ++ had_line false entry (Err fault.now)) }
+{
+    text.put_decimal(entry)?;
+    text.put(b" fault ")?;
+    put_map_fault(text, fault)?;
+    text.put(b"\n")
+}
+
+/// Puts the line of a row at the end in its form.
+pub(crate) fn put_row(
+    alloc: Global,
+    classes: &Classes,
+    form: &RowForm,
+    entry: u64,
+    refusals: &[Option<BranchRefusal>],
+    values: &[Values],
+    text: &mut Bytes,
+) -> Result<(), NoMemory>
+    requires { length values.now ≡ length refusals.now }
+    ensures { OnOk result (text.new.bytes ≡ text.old.bytes ++ had_line form.now.csv entry
+        (row_seen_in classes.now form.now.class (read_values refusals.now values.now))) }
+{
+    if form.class.is_none() && !form.csv {
+        return put_plain_row(text, entry, refusals, values);
+    }
+    match seen_row(alloc, classes, form, refusals, values) {
+        Ok(row) => put_own_row(text, form.csv, entry, row),
+        Err(MapFault::KindChanged { member }) => {
+            put_unseen_row(text, entry, &MapFault::KindChanged { member })
+        }
+        Err(MapFault::NoVersion) => put_unseen_row(text, entry, &MapFault::NoVersion),
+        Err(MapFault::NoMemory) => Err(NoMemory),
+    }
 }
 
 fn put_fault(text: &mut Bytes, fault: RowFault) -> Result<(), NoMemory>

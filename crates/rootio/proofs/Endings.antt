@@ -1,16 +1,16 @@
 -- How a run ends that says a listing.
-use Rattle.std.proofs.Common.{◌≡◌, ℕ, List, Option, Some, Result, Ok, Err, refl, sym, ap, ◌∙◌}
+use Rattle.std.proofs.Common.{◌≡◌, ℕ, List, true, false, Option, Some, None, Result, Ok, Err, refl, sym, ap, ◌∙◌}
 use Rattle.rio_num.specs.Reading.{◌>>=◌}
 use Rattle.rio_head.specs.{declared.fault.FileFault.{FileFault}, declared.fault.HeadFault.{HeadFault}, Head.{fault_at}}
 use Rattle.rio_host.specs.{Host.{View}, Source.{Input}}
 use Rattle.rio_dir.specs.{Closed.{closed_file, fault_of}, Listing.{key_lines, listed_file}}
 use Rattle.rio_report.specs.{declared.item.Item.{Item}, Described.{described_file}, Dump.{dump_text, dumped_file}}
-use Rattle.rio_report.specs.Scan.{scan_text, scanned_file}
+use Rattle.rio_report.specs.{RowForms.{RowForm, row_form}, Scan.{scan_text, scanned_file}}
 use Rattle.rio_close.specs.Causes.{AnyKind, IsSayCauseOf, IsTested}
 use Rattle.rio_close.specs.declared.fault.ReportFault.TheVariants.{BadFile as FileBad, NoMemory as OutOfMemory, HostFault, SayFault as NotSaid}
 use Rattle.rio_report.specs.{Lists.{AnswersOf, ListingAnswer}, PiecesCause.{IsPiecesCauseOf}}
 use Rattle.rootio.specs.{declared.status.Status.{Status, TheVariants.{BadFile}}, declared.words.Form.TheVariants.{Reads}}
-use Rattle.rootio.specs.{declared.words.Listing.{Listing, TheVariants.{Ls, Dump, Scan}}, Complete.{CanBeDone, IsComplete, IsDoneOrNoMemory, NoneRose}}
+use Rattle.rootio.specs.{declared.words.Listing.{Listing, TheVariants.{Ls, Dump, Scan, Export}}, Complete.{CanBeDone, IsComplete, IsDoneOrNoMemory, NoneRose}}
 use Rattle.rootio.specs.{Reading.{EndsListing, RefusesBroken, TellsFirstFault, TellsUnlessCut, rules_of}, Status.{status_of}}
 
 -- ---- the first fault of a file is that of its listing
@@ -27,9 +27,9 @@ dumped_first : (item : Option Item) (file : List ℕ) → fault_of (dumped_file 
 unfolding dumped_file
 dumped_first item file = fault_kept (described_file file) (λ d. dump_text file item d)
 
-scanned_first : (tree : List ℕ) (file : List ℕ) → fault_of (scanned_file tree file) ≡ fault_of (described_file file)
+scanned_first : (form : RowForm) (tree : List ℕ) (file : List ℕ) → fault_of (scanned_file form tree file) ≡ fault_of (described_file file)
 unfolding scanned_file
-scanned_first tree file = fault_kept (described_file file) (λ d. scan_text file tree d)
+scanned_first form tree file = fault_kept (described_file file) (λ d. scan_text form file tree d)
 
 -- ---- and it is told
 
@@ -59,16 +59,20 @@ module _ (old new : View) (status : Status) where
       sym (listed_first file) ∙ tells (listed_file file) ends.0 (ends.2.refused file here) place kind (sym ends.1 ∙ e)
   ends_tells (Dump item) ends place kind e file here =
       sym (dumped_first item file) ∙ tells (dumped_file item file) ends.0 (ends.2.refused file here) place kind (sym ends.1 ∙ e)
-  ends_tells (Scan tree) ends place kind e file here =
-      sym (scanned_first tree file) ∙ tells (scanned_file tree file) ends.0 (ends.2.refused file here) place kind (sym ends.1 ∙ e)
+  ends_tells (Scan tree class) ends place kind e file here =
+      sym (scanned_first (row_form class false) tree file) ∙ tells (scanned_file (row_form class false) tree file) ends.0 (ends.2.refused file here) place kind (sym ends.1 ∙ e)
+  ends_tells (Export tree) ends place kind e file here =
+      sym (scanned_first (row_form None true) tree file) ∙ tells (scanned_file (row_form None true) tree file) ends.0 (ends.2.refused file here) place kind (sym ends.1 ∙ e)
 
   pub ends_refused : (list : Listing) → EndsListing list old new status → RefusesBroken (rules_of (Reads list)) old status
   ends_refused Ls ends fault file here e =
       rw ends.1 (yields (listed_file file) ends.0 fault (ends.2.refused file here) (listed_first file ∙ e))
   ends_refused (Dump item) ends fault file here e =
       rw ends.1 (yields (dumped_file item file) ends.0 fault (ends.2.refused file here) (dumped_first item file ∙ e))
-  ends_refused (Scan tree) ends fault file here e =
-      rw ends.1 (yields (scanned_file tree file) ends.0 fault (ends.2.refused file here) (scanned_first tree file ∙ e))
+  ends_refused (Scan tree class) ends fault file here e =
+      rw ends.1 (yields (scanned_file (row_form class false) tree file) ends.0 fault (ends.2.refused file here) (scanned_first (row_form class false) tree file ∙ e))
+  ends_refused (Export tree) ends fault file here e =
+      rw ends.1 (yields (scanned_file (row_form None true) tree file) ends.0 fault (ends.2.refused file here) (scanned_first (row_form None true) tree file ∙ e))
 
 -- ---- where nothing fails
 
@@ -99,4 +103,5 @@ module _ (old new : View) (status : Status) (before : Input) where
   pub ends_complete : (list : Listing) → EndsListing list old new status → IsComplete (Reads list) old new before before status
   ends_complete Ls ends can none = rw ends.1 (ends_by IsTested Ls can ends ends.0 ends.1 ends.2.cause none)
   ends_complete (Dump item) ends can none = rw ends.1 (ends_by_pieces (Dump item) can ends ends.0 ends.1 ends.2.cause none)
-  ends_complete (Scan tree) ends can none = rw ends.1 (ends_by_pieces (Scan tree) can ends ends.0 ends.1 ends.2.cause none)
+  ends_complete (Scan tree class) ends can none = rw ends.1 (ends_by_pieces (Scan tree class) can ends ends.0 ends.1 ends.2.cause none)
+  ends_complete (Export tree) ends can none = rw ends.1 (ends_by_pieces (Export tree) can ends ends.0 ends.1 ends.2.cause none)

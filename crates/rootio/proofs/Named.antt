@@ -1,13 +1,13 @@
 -- A verb that writes has a file's name of at most 200 bytes.
-use Rattle.std.proofs.Common.{if◌then◌else◌, ◌≡◌, ◌⊎◌, inl, inr, ⊎_elim, ℕ, ◌≤◌, ◌&&◌, Bool, true, false, List, [], ◌∷◌, length, Option, Some, None, option_map, sym, refl, ap, ◌∙◌, subst, rules}
+use Rattle.std.proofs.Common.{if◌then◌else◌, ◌≡◌, ◌⊎◌, inl, inr, ⊎_elim, ℕ, ◌≤◌, ◌&&◌, Bool, true, false, List, [], ◌∷◌, length, Option, Some, None, option_map, option_and_then, sym, refl, ap, ◌∙◌, subst, rules}
 use Rattle.std.proofs.lemmas.{Bool.{and_parts}, Option.{same_Some}}
 use Rattle.rio_report.specs.declared.item.Item.{Item}
 use Rattle.rio_token.specs.Words.{num_of}
-use Rattle.rio_num.specs.Word.{is_item_text}
+use Rattle.rio_types.specs.declared.class.Base.{Base}
 use Rattle.std.specs.{Prelude.{codes}, List.{list_all}, Str.{bytes_eq}}
-use Rattle.rootio.specs.{declared.words.Form.{Form, TheVariants.{Reads, Writes}}, declared.words.Listing.TheVariants.{Dump, Scan}}
+use Rattle.rootio.specs.{declared.words.Form.{Form, TheVariants.{Reads, Writes}}, declared.words.Listing.TheVariants.{Dump, Scan, Export}}
 use Rattle.rootio.specs.declared.words.Work.{Work, TheVariants.{Run, Recover}}
-use Rattle.rootio.specs.{Words.{asked_by, dump_of, form_of_words, is_file, is_no_flag, item_of, ls_of, recover_of, run_of, scan_of_words, target_by}, Target.{TargetFile}, Writing.{target_of}}
+use Rattle.rootio.specs.{Words.{asked_by, class_of, dump_of, export_of, form_of_words, is_file, is_no_flag, item_of, ls_of, recover_of, run_of, scan_of_words, target_by, tree_of}, Target.{TargetFile}, Writing.{target_of}}
 
 -- ---- choices
 
@@ -49,14 +49,29 @@ module _ (work : Work) where
   dump_reads (item ∷ []) e = item_reads (item_of item) e
   dump_reads (item ∷ word ∷ words) e = cc
 
-  tree_reads : (b : Bool) (name : List ℕ) → (if b then Some (Reads (Scan name)) else None) ≡ Some (Writes work) → ⊥
-  tree_reads true name e = cc
-  tree_reads false name e = cc
+  tree_reads : (o : Option (List ℕ)) → option_map (λ t. Reads (Scan t None)) o ≡ Some (Writes work) → ⊥
+  tree_reads None e = cc
+  tree_reads (Some t) e = cc
+
+  version_reads : (o : Option (List ℕ)) (c : Option Base) → option_and_then (λ t. option_map (λ b. Reads (Scan t (Some b))) c) o ≡ Some (Writes work) → ⊥
+  version_reads None c e = cc
+  version_reads (Some t) None e = cc
+  version_reads (Some t) (Some b) e = cc
 
   scan_reads : (args : List (List ℕ)) → scan_of_words args ≡ Some (Writes work) → ⊥
   scan_reads [] e = cc
-  scan_reads (tree ∷ []) e = tree_reads (is_item_text tree) tree e
-  scan_reads (tree ∷ word ∷ words) e = cc
+  scan_reads (tree ∷ []) e = tree_reads (tree_of tree) e
+  scan_reads (tree ∷ class ∷ []) e = version_reads (tree_of tree) (class_of class) e
+  scan_reads (tree ∷ class ∷ word ∷ words) e = cc
+
+  tree_exports : (o : Option (List ℕ)) → option_map (λ t. Reads (Export t)) o ≡ Some (Writes work) → ⊥
+  tree_exports None e = cc
+  tree_exports (Some t) e = cc
+
+  export_reads : (args : List (List ℕ)) → export_of args ≡ Some (Writes work) → ⊥
+  export_reads [] e = cc
+  export_reads (tree ∷ []) e = tree_exports (tree_of tree) e
+  export_reads (tree ∷ word ∷ words) e = cc
 
   -- ---- those that write
 
@@ -77,13 +92,15 @@ module _ (work : Work) where
   asked_named : (verb file : List ℕ) (args : List (List ℕ)) → asked_by verb file args ≡ Some (Writes work) → (target_of work).name ≡ file
   asked_named verb file args e =
       ⊎_elim (λ is. absurd (ls_reads args is))
-      (λ behind. ⊎_elim (λ is. absurd (dump_reads args is))
-      (λ further. ⊎_elim (λ is. absurd (scan_reads args is))
-      (λ later. ⊎_elim (λ is. run_named file (target_by file args) (target_named file args) is)
+      (λ second. ⊎_elim (λ is. absurd (dump_reads args is))
+      (λ third. ⊎_elim (λ is. absurd (scan_reads args is))
+      (λ fourth. ⊎_elim (λ is. absurd (export_reads args is))
+      (λ fifth. ⊎_elim (λ is. run_named file (target_by file args) (target_named file args) is)
       (λ last. recover_named file (target_by file args) (target_named file args) (guarded (bytes_eq verb (codes "recover")) (recover_of file args) (Writes work) last).1)
-      (chosen (bytes_eq verb (codes "run")) (run_of file args) _ (Writes work) later))
-      (chosen (bytes_eq verb (codes "scan")) (scan_of_words args) _ (Writes work) further))
-      (chosen (bytes_eq verb (codes "dump")) (dump_of args) _ (Writes work) behind))
+      (chosen (bytes_eq verb (codes "run")) (run_of file args) _ (Writes work) fifth))
+      (chosen (bytes_eq verb (codes "export")) (export_of args) _ (Writes work) fourth))
+      (chosen (bytes_eq verb (codes "scan")) (scan_of_words args) _ (Writes work) third))
+      (chosen (bytes_eq verb (codes "dump")) (dump_of args) _ (Writes work) second))
       (chosen (bytes_eq verb (codes "ls")) (ls_of args) _ (Writes work) e)
 
 short_name : (word : List ℕ) → is_file word ≡ true → length word ≤ 200

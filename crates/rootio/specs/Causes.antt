@@ -4,7 +4,7 @@ use Rattle.rio_host.specs.{Host.{Rose, View}, Source.{Input}}
 use Rattle.rio_close.specs.Causes.{NoDiskFault, NoSayFault}
 use Rattle.rootio.specs.Reading.{reads_input, tested_by, writes_of}
 use Rattle.rootio.specs.declared.status.Status.{Status, TheVariants.{Done, Usage, BadFile, DiskFault, InputFault, NoMemory, InputTooLong, ReadOnly, SayFault}}
-use Rattle.rootio.specs.{declared.words.Form.{Form, TheVariants.{Reads, Writes}}, declared.words.Listing.TheVariants.{Ls, Dump, Scan}}
+use Rattle.rootio.specs.{declared.words.Form.{Form, TheVariants.{Reads, Writes}}, declared.words.Listing.TheVariants.{Ls, Dump, Scan, Export}}
 
 -- no read of the input failed
 abbrev pub NoInputFault : Input → Input → Type 0
@@ -20,7 +20,8 @@ abbrev pub NoSayFaultAfter : Option Form → View → View → Type 0
 NoSayFaultAfter None old new = NoSayFault old new
 NoSayFaultAfter (Some (Reads Ls)) old new = NoSayFault old new
 NoSayFaultAfter (Some (Reads (Dump item))) old new = Unit {0}
-NoSayFaultAfter (Some (Reads (Scan tree))) old new = Unit {0}
+NoSayFaultAfter (Some (Reads (Scan tree class))) old new = Unit {0}
+NoSayFaultAfter (Some (Reads (Export tree))) old new = Unit {0}
 NoSayFaultAfter (Some (Writes work)) old new = NoSayFault old new
 
 -- Why a run of this form ended so: the counts of faults rose where it says so, and only there; and no other answer comes than

@@ -4,12 +4,12 @@ use Rattle.rio_head.specs.{declared.fault.FileFault.{FileFault}, declared.fault.
 use Rattle.rio_host.specs.Host.{View}
 use Rattle.rio_dir.specs.Listing.{listed_file}
 use Rattle.rio_report.specs.{Dump.{dumped_file}, FirstFault.{HeaderAlone, Tests, ToClassList, ToKeyList, first_fault}}
-use Rattle.rio_report.specs.Scan.{scanned_file}
+use Rattle.rio_report.specs.{RowForms.{row_form}, Scan.{scanned_file}}
 use Rattle.rio_close.specs.Causes.{AnyKind, IsTested, NoKind}
 use Rattle.rio_report.specs.Lists.{AtOnce, InPieces, ListingAnswer, Lists}
 use Rattle.rootio.specs.Status.{status_of}
 use Rattle.rootio.specs.declared.status.Status.{Status, TheVariants.{Done, Usage, BadFile, DiskFault, InputFault, NoMemory, InputTooLong, ReadOnly, SayFault}}
-use Rattle.rootio.specs.{declared.words.Form.{Form, TheVariants.{Reads, Writes}}, declared.words.Listing.{Listing, TheVariants.{Ls, Dump, Scan}}}
+use Rattle.rootio.specs.{declared.words.Form.{Form, TheVariants.{Reads, Writes}}, declared.words.Listing.{Listing, TheVariants.{Ls, Dump, Scan, Export}}}
 use Rattle.rootio.specs.declared.words.Work.{Work, TheVariants.{Run, Recover}}
 
 -- ---- what the words ask for
@@ -48,7 +48,8 @@ reads_input (Some (Writes work)) = takes_script work
 abbrev pub rules_of : Form → Tests
 rules_of (Reads Ls) = ToKeyList
 rules_of (Reads (Dump item)) = ToClassList
-rules_of (Reads (Scan tree)) = ToClassList
+rules_of (Reads (Scan tree class)) = ToClassList
+rules_of (Reads (Export tree)) = ToClassList
 rules_of (Writes work) = HeaderAlone
 
 abbrev pub kinds_of : Tests → FileFault → Type 0
@@ -89,7 +90,8 @@ RefusesBroken tests old status =
 abbrev pub ListsFor : Listing → View → View → ListingAnswer → Type 0
 ListsFor Ls old new told = Lists AtOnce IsTested listed_file old new told
 ListsFor (Dump item) old new told = Lists InPieces AnyKind (dumped_file item) old new told
-ListsFor (Scan tree) old new told = Lists InPieces AnyKind (scanned_file tree) old new told
+ListsFor (Scan tree class) old new told = Lists InPieces AnyKind (scanned_file (row_form class false) tree) old new told
+ListsFor (Export tree) old new told = Lists InPieces AnyKind (scanned_file (row_form None true) tree) old new told
 
 -- with the status of a call that said the listing
 abbrev pub EndsListing : Listing → View → View → Status → Type 0

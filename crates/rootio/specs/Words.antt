@@ -1,10 +1,11 @@
 -- The form of the words of the command line.
-use Rattle.std.specs.Prelude.{ℕ, ◌+◌, List, [], ◌∷◌, length, take, drop, codes, Option, Some, None, option_map, Bool, true, not, nat_le, position, ◌==◌, ◌&&◌, if◌then◌else◌}
+use Rattle.std.specs.Prelude.{ℕ, ◌+◌, ℤ, pos, List, [], ◌∷◌, length, take, drop, codes, Option, Some, None, option_map, option_and_then, Bool, true, not, nat_le, position, ◌==◌, ◌&&◌, if◌then◌else◌}
 use Rattle.std.specs.{List.{list_all}, Str.{bytes_eq}}
-use Rattle.rio_num.specs.Word.{is_item_text}
-use Rattle.rio_token.specs.Words.{num_of}
+use Rattle.rio_num.specs.Word.{is_item_text, is_name_text}
+use Rattle.rio_token.specs.Words.{num_between_of, num_of}
+use Rattle.rio_types.specs.declared.class.Base.{Base}
 use Rattle.rio_report.specs.declared.item.Item.{Item}
-use Rattle.rootio.specs.{declared.words.Form.{Form, TheVariants.{Reads, Writes}}, declared.words.Listing.TheVariants.{Ls, Dump, Scan}}
+use Rattle.rootio.specs.{declared.words.Form.{Form, TheVariants.{Reads, Writes}}, declared.words.Listing.TheVariants.{Ls, Dump, Scan, Export}}
 use Rattle.rootio.specs.{declared.words.Work.TheVariants.{Run, Recover}, Target.{TargetFile}}
 
 -- a word that doesn't begin with -
@@ -32,6 +33,22 @@ item_by word (Some semicolon) = cycle_item (take semicolon word) (drop (semicolo
 abbrev pub item_of : List ℕ → Option Item
 item_of word = item_by word (position (λ b. b == 59) word)
 
+-- a class version: 1 to 32,767
+abbrev pub version_of : List ℕ → Option ℤ
+version_of word = option_map pos (num_between_of 1 32767 word)
+
+-- a class of this name in this version
+abbrev pub class_in_version : List ℕ → List ℕ → Option Base
+class_in_version name version = if is_name_text name then option_map (λ v. record { name = name; version = v }) (version_of version) else None
+
+-- the name of a class, and its version behind a number sign
+abbrev pub class_by : List ℕ → Option ℕ → Option Base
+class_by word None = None
+class_by word (Some sign) = class_in_version (take sign word) (drop (sign + 1) word)
+
+abbrev pub class_of : List ℕ → Option Base
+class_of word = class_by word (position (λ b. b == 35) word)
+
 -- ls FILE
 abbrev pub ls_of : List (List ℕ) → Option Form
 ls_of [] = Some (Reads Ls)
@@ -43,15 +60,28 @@ dump_of [] = Some (Reads (Dump None))
 dump_of (item ∷ []) = option_map (λ i. Reads (Dump (Some i))) (item_of item)
 dump_of (item ∷ word ∷ words) = None
 
--- the entries of the tree of this name, where a tree can be called so
-abbrev pub scan_of_tree : List ℕ → Option Form
-scan_of_tree name = if is_item_text name then Some (Reads (Scan name)) else None
+-- the name of a tree
+abbrev pub tree_of : List ℕ → Option (List ℕ)
+tree_of name = if is_item_text name then Some name else None
 
--- scan FILE TREE
+-- scan FILE TREE, scan FILE TREE CLASS#VERSION
+abbrev pub scan_of : List ℕ → Option Form
+scan_of tree = option_map (λ t. Reads (Scan t None)) (tree_of tree)
+
+abbrev pub scan_in_version : List ℕ → List ℕ → Option Form
+scan_in_version tree class = option_and_then (λ t. option_map (λ c. Reads (Scan t (Some c))) (class_of class)) (tree_of tree)
+
 abbrev pub scan_of_words : List (List ℕ) → Option Form
 scan_of_words [] = None
-scan_of_words (tree ∷ []) = scan_of_tree tree
-scan_of_words (tree ∷ word ∷ words) = None
+scan_of_words (tree ∷ []) = scan_of tree
+scan_of_words (tree ∷ class ∷ []) = scan_in_version tree class
+scan_of_words (tree ∷ class ∷ word ∷ words) = None
+
+-- export FILE TREE
+abbrev pub export_of : List (List ℕ) → Option Form
+export_of [] = None
+export_of (tree ∷ []) = option_map (λ t. Reads (Export t)) (tree_of tree)
+export_of (tree ∷ word ∷ words) = None
 
 -- FILE, FILE DATIME
 abbrev pub target_by : List ℕ → List (List ℕ) → Option TargetFile
@@ -73,6 +103,7 @@ asked_by verb file args =
     if bytes_eq verb (codes "ls") then ls_of args
     else if bytes_eq verb (codes "dump") then dump_of args
     else if bytes_eq verb (codes "scan") then scan_of_words args
+    else if bytes_eq verb (codes "export") then export_of args
     else if bytes_eq verb (codes "run") then run_of file args
     else if bytes_eq verb (codes "recover") then recover_of file args
     else None

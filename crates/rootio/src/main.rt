@@ -11,6 +11,7 @@
 //! where nothing fails; the other files say what verbs and scripts return.
 #![tactic(auto)]
 
+mod class_word;
 mod input;
 mod item_word;
 mod laws;

@@ -11,6 +11,7 @@ ghost use Rattle.rootio.specs.Status.{status_of};
 ghost use Rattle.rootio.specs.Words.{form_of_words};
 ghost use Rattle.rootio.specs.Writing.{EndsWriting, RefusesReadOnly, TellsFirstReason, target_of};
 
+use crate::class_word::ClassWord;
 use crate::input::{InputError, read_input};
 use crate::item_word::ItemWord;
 use crate::recovery::recover_file;
@@ -33,6 +34,8 @@ use std::alloc::Global;
 /// | `dump FILE` | a line for each class that the file describes is said, and one with the value of each key |
 /// | `dump FILE NAME;CYCLE` | the line of that key is said; without `;CYCLE` that of the greatest cycle |
 /// | `scan FILE TREE` | a line for each branch of the tree that can't be read is said, and one with the values of each entry |
+/// | `scan FILE TREE CLASS#VERSION` | the same, with each object of the class as it is in that version |
+/// | `export FILE TREE` | the same as CSV: a line of fields for each entry |
 /// | `run FILE [DATIME]` | the commands of the script, which is the input, are done on the file, and it is closed |
 /// | `recover FILE [DATIME]` | the file is opened and closed, and a line for each of its keys is said |
 ///
@@ -100,7 +103,12 @@ fn say_file<H: Host>(alloc: Global, host: &mut H, list: &Listing) -> Status
         Listing::Ls => ls(alloc, host),
         Listing::Dump { item: None } => dump(alloc, host),
         Listing::Dump { item: Some(item) } => dump_item(alloc, host, item),
-        Listing::Scan { tree } => scan(alloc, host, tree),
+        Listing::Scan { tree, class: None } => scan(alloc, host, tree),
+        Listing::Scan {
+            tree,
+            class: Some(class),
+        } => scan_in_version(alloc, host, tree, class),
+        Listing::Export { tree } => export(alloc, host, tree),
     }
 }
 
@@ -127,9 +135,30 @@ fn dump_item<H: Host>(alloc: Global, host: &mut H, word: &ItemWord) -> Status
 }
 
 fn scan<H: Host>(alloc: Global, host: &mut H, tree: &TreeWord) -> Status
-    ensures { EndsListing (Listing.Scan tree.now) (H.view host.old) (H.view host.new) result }
+    ensures { EndsListing (Listing.Scan tree.now None) (H.view host.old) (H.view host.new) result }
 {
-    status_of(say_scan(alloc, host, tree.name))
+    status_of(say_scan(alloc, host, tree.name, None, false))
+}
+
+fn scan_in_version<H: Host>(
+    alloc: Global,
+    host: &mut H,
+    tree: &TreeWord,
+    class: &ClassWord,
+) -> Status
+    ensures { EndsListing (Listing.Scan tree.now (Some class.now))
+        (H.view host.old) (H.view host.new) result }
+{
+    match class.to_base(alloc) {
+        Ok(class) => status_of(say_scan(alloc, host, tree.name, Some(&class), false)),
+        Err(NoMemory) => Status::NoMemory,
+    }
+}
+
+fn export<H: Host>(alloc: Global, host: &mut H, tree: &TreeWord) -> Status
+    ensures { EndsListing (Listing.Export tree.now) (H.view host.old) (H.view host.new) result }
+{
+    status_of(say_scan(alloc, host, tree.name, None, true))
 }
 
 // How a run ends whose input could not be read whole.

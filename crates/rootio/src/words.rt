@@ -3,13 +3,14 @@ ghost use Rattle.std.specs.Prelude.{◌≡◌, ◌==◌, nat_le, position};
 ghost use Rattle.std.specs.Str.{bytes_eq};
 ghost use Rattle.std.specs.List.{list_all};
 ghost use Rattle.rootio.specs.Reading.{writes_of};
-ghost use Rattle.rootio.specs.Words.{asked_by, cycle_item, dump_of, form_of_words, is_file, is_no_flag, item_of, ls_of, newest_item, recover_of, run_of, scan_of_words, scan_of_tree, target_by};
+ghost use Rattle.rootio.specs.Words.{asked_by, class_in_version, class_of, cycle_item, dump_of, export_of, form_of_words, is_file, is_no_flag, item_of, ls_of, newest_item, recover_of, run_of, scan_in_version, scan_of, scan_of_words, target_by, tree_of, version_of};
 
+use crate::class_word::ClassWord;
 use crate::item_word::ItemWord;
 use crate::target::Target;
 use crate::tree_word::TreeWord;
-use rio_num::{Name, Words, is_item};
-use rio_token::parse_num;
+use rio_num::{Name, Words, is_item, is_name};
+use rio_token::{parse_num, parse_num_between};
 
 /// What the words ask for, where they have a form.
 #[derive(Drop)]
@@ -26,9 +27,19 @@ pub enum Listing<'a> {
     /// `ls FILE`: a line for each key of the key list.
     Ls,
     /// `dump FILE` and `dump FILE ITEM`: the classes and the values of all keys, or the value of one.
-    Dump { item: Option<ItemWord<'a>> },
-    /// `scan FILE TREE`: the entries of a tree.
-    Scan { tree: TreeWord<'a> },
+    Dump {
+        item: Option<ItemWord<'a>>,
+    },
+    /// `scan FILE TREE` and `scan FILE TREE CLASS#VERSION`: the entries of a tree, or the entries with the objects of a
+    /// class in another version.
+    Scan {
+        tree: TreeWord<'a>,
+        class: Option<ClassWord<'a>>,
+    },
+    /// `export FILE TREE`: the entries of a tree as CSV.
+    Export {
+        tree: TreeWord<'a>,
+    },
 }
 
 /// What is done to a file.
@@ -100,6 +111,44 @@ fn item_of(word: &[u8]) -> Option<ItemWord<'_>>
     }
 }
 
+// A class version: 1 to 32,767.
+fn version_of(word: &[u8]) -> Option<i32>
+    ensures { result ≡ version_of word.now }
+{
+    match parse_num_between(word, 1, 32767) {
+        Some(version) => Some(version as i32),
+        None => None,
+    }
+}
+
+fn class_in_version<'a>(name: &'a [u8], version: &[u8]) -> Option<ClassWord<'a>>
+    ensures { result ≡ class_in_version name.now version.now }
+{
+    if !is_name(name) {
+        return None;
+    }
+    match version_of(version) {
+        Some(version) => Some(ClassWord { name, version }),
+        None => None,
+    }
+}
+
+fn number_sign_in(word: &[u8]) -> Option<usize>
+    ensures { result ≡ position (λ b. b == 35) word.now }
+{
+    word.iter().position(|byte| *byte == b'#')
+}
+
+// The class in a version that a word names: its name, a number sign and the version.
+fn class_of(word: &[u8]) -> Option<ClassWord<'_>>
+    ensures { result ≡ class_of word.now }
+{
+    match number_sign_in(word) {
+        None => None,
+        Some(sign) => class_in_version(&word[..sign], &word[sign + 1..]),
+    }
+}
+
 fn is_verb(word: &[u8], verb: &[u8]) -> bool
     ensures { result ≡ bytes_eq word.now verb.now }
 {
@@ -128,20 +177,52 @@ fn dump_of(args: &[Name]) -> Option<Form<'_>>
     }
 }
 
-// What is asked for by `scan` of this tree, where a tree can be called so.
-fn scan_of_tree(name: &[u8]) -> Option<Form<'_>>
-    ensures { result ≡ scan_of_tree name.now }
+// A tree, where one can be called so.
+fn tree_of(name: &[u8]) -> Option<TreeWord<'_>>
+    ensures { result ≡ tree_of name.now }
 {
-    is_item(name).then_some(Form::Reads(Listing::Scan {
-        tree: TreeWord { name },
-    }))
+    is_item(name).then_some(TreeWord { name })
+}
+
+fn scan_of(tree: &[u8]) -> Option<Form<'_>>
+    ensures { result ≡ scan_of tree.now }
+{
+    match tree_of(tree) {
+        Some(tree) => Some(Form::Reads(Listing::Scan { tree, class: None })),
+        None => None,
+    }
+}
+
+fn scan_in_version<'a>(tree: &'a [u8], class: &'a [u8]) -> Option<Form<'a>>
+    ensures { result ≡ scan_in_version tree.now class.now }
+{
+    match (tree_of(tree), class_of(class)) {
+        (Some(tree), Some(class)) => Some(Form::Reads(Listing::Scan {
+            tree,
+            class: Some(class),
+        })),
+        _ => None,
+    }
 }
 
 fn scan_of_words(args: &[Name]) -> Option<Form<'_>>
     ensures { result ≡ scan_of_words args.now }
 {
     match args {
-        [tree] => scan_of_tree(tree.as_slice()),
+        [tree] => scan_of(tree.as_slice()),
+        [tree, class] => scan_in_version(tree.as_slice(), class.as_slice()),
+        _ => None,
+    }
+}
+
+fn export_of(args: &[Name]) -> Option<Form<'_>>
+    ensures { result ≡ export_of args.now }
+{
+    match args {
+        [tree] => match tree_of(tree.as_slice()) {
+            Some(tree) => Some(Form::Reads(Listing::Export { tree })),
+            None => None,
+        },
         _ => None,
     }
 }
@@ -191,6 +272,8 @@ fn asked_by<'a>(verb: &[u8], file: &'a [u8], args: &'a [Name]) -> Option<Form<'a
         dump_of(args)
     } else if is_verb(verb, b"scan") {
         scan_of_words(args)
+    } else if is_verb(verb, b"export") {
+        export_of(args)
     } else if is_verb(verb, b"run") {
         run_of(file, args)
     } else if is_verb(verb, b"recover") {

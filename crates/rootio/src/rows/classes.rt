@@ -66,9 +66,13 @@ const BRANCH_OF_OBJECTS: &[Element] = &[
     Basic("fClassVersion", 3, "int"),
 ];
 
-/// The classes of trees, with a few more: a class `P` of objects, classes that can't be of a tree's parts, and some
-/// versions in which a member is lacking.
-static CLASSES: [Class; 22] = [
+const WIDE: Element = Basic("a", 16, "Long64_t");
+
+const FLOAT: Element = Basic("f", 5, "float");
+
+/// The classes of trees, with a few more: a class `P` of objects, one `Q` in six versions, classes that can't be of a tree's
+/// parts, and some versions in which a member is lacking.
+static CLASSES: [Class; 28] = [
     Class {
         name: "TTree",
         version: 120,
@@ -146,6 +150,36 @@ static CLASSES: [Class; 22] = [
         name: "P",
         version: 1,
         elements: &[&[Basic("a", 3, "int")]],
+    },
+    Class {
+        name: "Q",
+        version: 1,
+        elements: &[&[WIDE, Basic("b", 3, "int"), FLOAT]],
+    },
+    Class {
+        name: "Q",
+        version: 2,
+        elements: &[&[Basic("a", 2, "short"), Text("c"), FLOAT]],
+    },
+    Class {
+        name: "Q",
+        version: 3,
+        elements: &[&[Basic("f", 3, "int")]],
+    },
+    Class {
+        name: "Q",
+        version: 4,
+        elements: &[&[Basic("c", 3, "int"), FLOAT]],
+    },
+    Class {
+        name: "Q",
+        version: 5,
+        elements: &[&[Base("P", 0, 1), Basic("b", 18, "bool")]],
+    },
+    Class {
+        name: "Q",
+        version: 6,
+        elements: &[&[FLOAT]],
     },
     // A leaf of no letter.
     Class {

@@ -147,203 +147,206 @@ pub(super) static ENTRIES_OF_OBJECTS: [Row; 1] = [
     },
 ];
 
+// A tree with a leaf of each letter.
+pub(super) const LETTERS: Forest = Forest {
+    trees: &[Tree {
+        branches: &[Branch {
+            leaves: &[
+                Leaf {
+                    class: "TLeafB",
+                    name: "a",
+                    ..INTEGER
+                },
+                Leaf {
+                    class: "TLeafB",
+                    name: "b",
+                    unsigned: true,
+                    ..INTEGER
+                },
+                Leaf { name: "c", ..SHORT },
+                Leaf {
+                    name: "d",
+                    unsigned: true,
+                    ..SHORT
+                },
+                Leaf {
+                    name: "e",
+                    ..INTEGER
+                },
+                Leaf {
+                    name: "f",
+                    unsigned: true,
+                    ..INTEGER
+                },
+                Leaf {
+                    class: "TLeafL",
+                    name: "g",
+                    ..INTEGER
+                },
+                Leaf {
+                    class: "TLeafL",
+                    name: "h",
+                    unsigned: true,
+                    ..INTEGER
+                },
+                Leaf {
+                    unsigned: true,
+                    ..FLOAT
+                },
+                Leaf {
+                    class: "TLeafD",
+                    name: "j",
+                    ..INTEGER
+                },
+                Leaf {
+                    class: "TLeafO",
+                    name: "k",
+                    ..INTEGER
+                },
+                Leaf { name: "l", ..TEXT },
+            ],
+            baskets: &[Basket {
+                entries: 1,
+                size: 1,
+                data: b"\xff\xff\xff\xfe\xff\xfe\
+                        \xff\xff\xff\xfd\xff\xff\xff\xfd\
+                        \xff\xff\xff\xff\xff\xff\xff\xfc\
+                        \xff\xff\xff\xff\xff\xff\xff\xfc\
+                        \x3f\x80\0\0\x3f\xf0\0\0\0\0\0\0\x02\x02h\x22\
+                        \0\0\0\x02\0\0\0\x39\0\0\0\x67",
+                used: 46,
+                ..FIVE
+            }],
+            ..GOOD
+        }],
+        ..TREE
+    }],
+    ..FILE
+};
+
 pub(super) static ENTRIES_OF_LETTERS: [Row; 1] = [Row {
     name: "a leaf of each letter",
-    forest: Forest {
-        trees: &[Tree {
-            branches: &[Branch {
-                leaves: &[
-                    Leaf {
-                        class: "TLeafB",
-                        name: "a",
-                        ..INTEGER
-                    },
-                    Leaf {
-                        class: "TLeafB",
-                        name: "b",
-                        unsigned: true,
-                        ..INTEGER
-                    },
-                    Leaf { name: "c", ..SHORT },
-                    Leaf {
-                        name: "d",
-                        unsigned: true,
-                        ..SHORT
-                    },
-                    Leaf {
-                        name: "e",
-                        ..INTEGER
-                    },
-                    Leaf {
-                        name: "f",
-                        unsigned: true,
-                        ..INTEGER
-                    },
-                    Leaf {
-                        class: "TLeafL",
-                        name: "g",
-                        ..INTEGER
-                    },
-                    Leaf {
-                        class: "TLeafL",
-                        name: "h",
-                        unsigned: true,
-                        ..INTEGER
-                    },
-                    Leaf {
-                        unsigned: true,
-                        ..FLOAT
-                    },
-                    Leaf {
-                        class: "TLeafD",
-                        name: "j",
-                        ..INTEGER
-                    },
-                    Leaf {
-                        class: "TLeafO",
-                        name: "k",
-                        ..INTEGER
-                    },
-                    Leaf { name: "l", ..TEXT },
-                ],
-                baskets: &[Basket {
-                    entries: 1,
-                    size: 1,
-                    data: b"\xff\xff\xff\xfe\xff\xfe\
-                            \xff\xff\xff\xfd\xff\xff\xff\xfd\
-                            \xff\xff\xff\xff\xff\xff\xff\xfc\
-                            \xff\xff\xff\xff\xff\xff\xff\xfc\
-                            \x3f\x80\0\0\x3f\xf0\0\0\0\0\0\0\x02\x02h\x22\
-                            \0\0\0\x02\0\0\0\x39\0\0\0\x67",
-                    used: 46,
-                    ..FIVE
-                }],
-                ..GOOD
-            }],
-            ..TREE
-        }],
-        ..FILE
-    },
+    forest: LETTERS,
     said: "ok scan T 1\n\
             0 [-1, 255, -2, 65534, -3, 4294967293, -4, 18446744073709551612, 0x3f800000, 0x3ff0000000000000, true, \"h\\\"\"]\n",
 }];
 
-pub(super) static ENTRIES_OF_LISTS: [Row; 1] = [
-    // Counted in an earlier branch, of three numbers, and a text that has no dimension whatever its leaf says.
-    Row {
-        name: "lists",
-        forest: Forest {
-            trees: &[Tree {
-                branches: &[
-                    Branch {
-                        name: "n",
-                        leaves: &[Leaf {
-                            name: "n",
-                            ..INTEGER
-                        }],
-                        baskets: &[Basket {
-                            entries: 2,
-                            size: 4,
-                            data: b"\0\0\0\x02\0\0\0\0",
-                            used: 8,
-                            ..FIVE
-                        }],
-                        ..TWO
-                    },
-                    Branch {
-                        name: "v",
-                        leaves: &[Leaf {
-                            counter: Some(0),
-                            ..FLOATS
-                        }],
-                        baskets: &[Basket {
-                            entries: 2,
-                            size: 2,
-                            data: b"\x3f\x80\0\0\x40\0\0\0\0\0\0\x03\0\0\0\x39\0\0\0\x41\0\0\0\x41",
-                            used: 8,
-                            ..FIVE
-                        }],
-                        ..TWO
-                    },
-                    Branch {
-                        name: "w",
-                        leaves: &[Leaf {
-                            name: "w",
-                            length: 2,
-                            counter: Some(0),
-                            ..SHORT
-                        }],
-                        baskets: &[Basket {
-                            entries: 2,
-                            size: 2,
-                            data: b"\0\x01\0\x02\0\x03\0\x04\0\0\0\x02\0\0\0\x39\0\0\0\x41",
-                            used: 8,
-                            ..FIVE
-                        }],
-                        ..TWO
-                    },
-                    Branch {
-                        name: "d",
-                        leaves: &[Leaf {
-                            name: "d",
-                            length: 3,
-                            ..SHORT
-                        }],
-                        baskets: &[Basket {
-                            entries: 2,
-                            size: 6,
-                            data: b"\0\x01\0\x02\xff\xfd\0\0\0\0\0\0",
-                            used: 12,
-                            ..FIVE
-                        }],
-                        ..TWO
-                    },
-                    Branch {
-                        name: "t",
-                        leaves: &[Leaf {
-                            name: "t",
-                            length: 5,
-                            counter: Some(0),
-                            ..TEXT
-                        }],
-                        baskets: &[Basket {
-                            entries: 2,
-                            size: 2,
-                            data: b"\x02hi\0\0\0\0\x03\0\0\0\x39\0\0\0\x3c\0\0\0\x3d",
-                            used: 4,
-                            ..FIVE
-                        }],
-                        ..TWO
-                    },
-                    Branch {
-                        name: "z",
-                        leaves: &[Leaf {
-                            class: "TLeafB",
-                            name: "z",
-                            length: 0,
-                            counter: Some(0),
-                            ..INTEGER
-                        }],
-                        baskets: &[Basket {
-                            entries: 2,
-                            size: 2,
-                            data: b"\x01\x02\0\0\0\x03\0\0\0\x39\0\0\0\x3b\0\0\0\x3b",
-                            used: 2,
-                            ..FIVE
-                        }],
-                        ..TWO
-                    },
-                ],
-                entries: 2,
-                ..TREE
-            }],
-            ..FILE
-        },
-        said: "ok scan T 2\n\
+// A tree with lists: counted in an earlier branch, of three numbers, and a text that has no dimension whatever its leaf says.
+pub(super) const LISTS: Forest = Forest {
+    trees: &[Tree {
+        branches: &[
+            Branch {
+                name: "n",
+                leaves: &[Leaf {
+                    name: "n",
+                    ..INTEGER
+                }],
+                baskets: &[Basket {
+                    entries: 2,
+                    size: 4,
+                    data: b"\0\0\0\x02\0\0\0\0",
+                    used: 8,
+                    ..FIVE
+                }],
+                ..TWO
+            },
+            Branch {
+                name: "v",
+                leaves: &[Leaf {
+                    counter: Some(0),
+                    ..FLOATS
+                }],
+                baskets: &[Basket {
+                    entries: 2,
+                    size: 2,
+                    data: b"\x3f\x80\0\0\x40\0\0\0\0\0\0\x03\0\0\0\x39\0\0\0\x41\0\0\0\x41",
+                    used: 8,
+                    ..FIVE
+                }],
+                ..TWO
+            },
+            Branch {
+                name: "w",
+                leaves: &[Leaf {
+                    name: "w",
+                    length: 2,
+                    counter: Some(0),
+                    ..SHORT
+                }],
+                baskets: &[Basket {
+                    entries: 2,
+                    size: 2,
+                    data: b"\0\x01\0\x02\0\x03\0\x04\0\0\0\x02\0\0\0\x39\0\0\0\x41",
+                    used: 8,
+                    ..FIVE
+                }],
+                ..TWO
+            },
+            Branch {
+                name: "d",
+                leaves: &[Leaf {
+                    name: "d",
+                    length: 3,
+                    ..SHORT
+                }],
+                baskets: &[Basket {
+                    entries: 2,
+                    size: 6,
+                    data: b"\0\x01\0\x02\xff\xfd\0\0\0\0\0\0",
+                    used: 12,
+                    ..FIVE
+                }],
+                ..TWO
+            },
+            Branch {
+                name: "t",
+                leaves: &[Leaf {
+                    name: "t",
+                    length: 5,
+                    counter: Some(0),
+                    ..TEXT
+                }],
+                baskets: &[Basket {
+                    entries: 2,
+                    size: 2,
+                    data: b"\x02hi\0\0\0\0\x03\0\0\0\x39\0\0\0\x3c\0\0\0\x3d",
+                    used: 4,
+                    ..FIVE
+                }],
+                ..TWO
+            },
+            Branch {
+                name: "z",
+                leaves: &[Leaf {
+                    class: "TLeafB",
+                    name: "z",
+                    length: 0,
+                    counter: Some(0),
+                    ..INTEGER
+                }],
+                baskets: &[Basket {
+                    entries: 2,
+                    size: 2,
+                    data: b"\x01\x02\0\0\0\x03\0\0\0\x39\0\0\0\x3b\0\0\0\x3b",
+                    used: 2,
+                    ..FIVE
+                }],
+                ..TWO
+            },
+        ],
+        entries: 2,
+        ..TREE
+    }],
+    ..FILE
+};
+
+pub(super) static ENTRIES_OF_LISTS: [Row; 1] = [Row {
+    name: "lists",
+    forest: LISTS,
+    said: "ok scan T 2\n\
             0 [2, [0x3f800000, 0x40000000], [1, 2, 3, 4], [1, 2, -3], \"hi\", [1, 2]]\n\
             1 [0, [], [], [0, 0, 0], \"\", []]\n",
-    },
-];
+}];
 
 pub(super) static ENTRIES_IN_BASKETS: [Row; 5] = [
     Row {

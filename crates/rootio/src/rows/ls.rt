@@ -367,15 +367,20 @@ fn rows(rt: HostRuntime) {
 }
 
 // Whether a file of two objects that is cut there, before its END, is refused by its header alone.
-fn is_cut_refused(alloc: Global, length: usize) -> bool {
+fn is_cut_refused_by(alloc: Global, words: &[&str], length: usize) -> bool {
     let closed = Status::BadFile {
         place: 12,
         kind: FileFault::NotClosed,
     };
     match File::Two.image(alloc, length, &[]) {
-        Ok(image) => says(alloc, &WORDS, image, (closed, b"")),
+        Ok(image) => says(alloc, words, image, (closed, b"")),
         Err(_) => false,
     }
+}
+
+fn is_cut_refused(alloc: Global, length: usize) -> bool {
+    is_cut_refused_by(alloc, &WORDS, length)
+        && is_cut_refused_by(alloc, &["dump", "a.root"], length)
 }
 
 #[test]

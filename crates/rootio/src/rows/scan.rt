@@ -319,20 +319,19 @@ fn lines(rt: HostRuntime) {
 }
 
 // Whether it ends so over the host, and says nothing unless it is done.
-fn ends_by(alloc: Global, host: &mut MemHost, status: Status) -> bool {
-    ran(alloc, &["scan", "b.root", "s"], host, b"") == Ok(status)
-        && (host.said().is_empty() || status == Status::Done)
+fn ends_by(alloc: Global, words: &[&str], host: &mut MemHost, status: Status) -> bool {
+    ran(alloc, words, host, b"") == Ok(status) && (host.said().is_empty() || status == Status::Done)
 }
 
-fn ends_as_dump(alloc: Global, row: &dump::Row) -> Result<bool, NoMemory> {
+fn ends_as_dump(alloc: Global, words: &[&str], row: &dump::Row) -> Result<bool, NoMemory> {
     let mut host = host_of(alloc, row.image(alloc)?, &[])?;
-    Ok(ends_by(alloc, &mut host, row.status))
+    Ok(ends_by(alloc, words, &mut host, row.status))
 }
 
 // The first file of which it is told otherwise.
-fn bad_file_otherwise(alloc: Global) -> Option<&'static str> {
+fn bad_file_otherwise(alloc: Global, words: &[&str]) -> Option<&'static str> {
     for row in &dump::ROWS {
-        if ends_as_dump(alloc, row) != Ok(true) {
+        if ends_as_dump(alloc, words, row) != Ok(true) {
             return Some(row.name);
         }
     }
@@ -342,7 +341,18 @@ fn bad_file_otherwise(alloc: Global) -> Option<&'static str> {
 // A file with a fault is told as by `dump`, and no tree is in one without.
 #[test]
 fn bad_files(rt: HostRuntime) {
-    assert_eq!(rt; bad_file_otherwise(rt.alloc()), None);
+    assert_eq!(rt;
+        bad_file_otherwise(rt.alloc(), &["scan", "b.root", "s"]),
+        None
+    );
+    assert_eq!(rt;
+        bad_file_otherwise(rt.alloc(), &["scan", "b.root", "s", "A#1"]),
+        None
+    );
+    assert_eq!(rt;
+        bad_file_otherwise(rt.alloc(), &["export", "b.root", "s"]),
+        None
+    );
 }
 
 // A tree of nine entries, in a small file and in a large one.

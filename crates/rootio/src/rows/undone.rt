@@ -149,18 +149,22 @@ fn script_of(alloc: Global, steps: &[Step]) -> Result<Bytes, NoMemory> {
     Ok(script)
 }
 
-// How many replies a text holds whole.
-fn whole_replies(steps: &[Step], said: &[u8]) -> usize {
+// How many replies a text holds whole, and what stands behind them.
+fn split_replies<'a>(steps: &[Step], said: &'a [u8]) -> (usize, &'a [u8]) {
     let mut rest = said;
     let mut count: usize = 0;
     for step in steps {
         match rest.strip_prefix(step.reply.as_bytes()) {
             Some(behind) => rest = behind,
-            None => return count,
+            None => return (count, rest),
         }
         count = count.saturating_add(1);
     }
-    count
+    (count, rest)
+}
+
+fn whole_replies(steps: &[Step], said: &[u8]) -> usize {
+    split_replies(steps, said).0
 }
 
 // What is listed of the file after so many steps.
@@ -337,6 +341,19 @@ fn recovers(alloc: Global, image: &[u8], steps: &[Step], said: usize) -> Result<
     )
 }
 
+// Whether a run that ends so has failed at what it says: of a reply that fails a half is said, and then its command is done.
+fn is_told(status: Status, steps: &[Step], said: &[u8]) -> bool {
+    let (count, rest) = split_replies(steps, said);
+    match status {
+        Status::DiskFault => rest.is_empty(),
+        Status::SayFault => match steps.get(count) {
+            Some(step) => step.reply.as_bytes().get(..step.reply.len() / 2) == Some(rest),
+            None => false,
+        },
+        _ => false,
+    }
+}
+
 // A run of which this call fails, and whether it is recovered then. None where no call has the number.
 fn fails_well(
     alloc: Global,
@@ -347,11 +364,13 @@ fn fails_well(
     let mut host = host_of_copy(alloc, b"", &[call])?;
     match ran(alloc, &WORDS, &mut host, script)? {
         Status::Done => Ok(None),
-        Status::DiskFault | Status::SayFault => {
+        status => {
             let said = whole_replies(steps, host.said().as_slice());
-            Ok(Some(recovers(alloc, host.image(), steps, said)?))
+            Ok(Some(
+                is_told(status, steps, host.said().as_slice())
+                    && recovers(alloc, host.image(), steps, said)?,
+            ))
         }
-        _ => Ok(Some(false)),
     }
 }
 

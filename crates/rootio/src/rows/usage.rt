@@ -8,7 +8,7 @@ use std::alloc::Global;
 
 type Texts = &'static [&'static str];
 
-static NO_FORMS: [Texts; 43] = [
+static NO_FORMS: [Texts; 58] = [
     &[],
     &["ls"],
     &["ls", "-x"],
@@ -46,12 +46,27 @@ static NO_FORMS: [Texts; 43] = [
     &["scan", "a.root", "-T"],
     &["scan", "a.root", "a b"],
     &["scan", "a.root", "T;1"],
-    &["scan", "a.root", "T", "P#1"],
+    &["scan", "a.root", "T", "P"],
+    &["scan", "a.root", "T", "P#"],
+    &["scan", "a.root", "T", "#1"],
+    &["scan", "a.root", "T", "P#0"],
+    &["scan", "a.root", "T", "P#01"],
+    &["scan", "a.root", "T", "P#32768"],
+    &["scan", "a.root", "T", "P#1#1"],
+    &["scan", "a.root", "T", "P #1"],
+    &["scan", "a.root", "T", "P.Q#1"],
+    &["scan", "a.root", "T", "7P#1"],
+    &["scan", "a.root", "T", "-P#1"],
+    &["scan", "a.root", "T;1", "P#1"],
     &["scan", "a.root", "T", ""],
     &["scan", "-x", "T"],
     &["scan", "", "T"],
     &["SCAN", "a.root", "T"],
     &["scan", "a.root", "T", "P#1", "x"],
+    &["export", "a.root"],
+    &["export", "a.root", "T;1"],
+    &["export", "a.root", "T", "P#1"],
+    &["EXPORT", "a.root", "T"],
 ];
 
 fn one_object(alloc: Global, failing: &[u64]) -> Result<MemHost, NoMemory> {
@@ -107,4 +122,5 @@ fn long_names(rt: HostRuntime) {
     assert!(rt; has_at_most(rt.alloc(), &["ls"], 200));
     assert!(rt; has_at_most(rt.alloc(), &["dump", "a.root"], 100));
     assert!(rt; has_at_most(rt.alloc(), &["scan", "a.root"], 100));
+    assert!(rt; has_at_most(rt.alloc(), &["export", "a.root"], 100));
 }

@@ -1,7 +1,7 @@
 use Rattle.std.proofs.lemmas.Result.{err_from_is_err_and}
 use Rattle.rio_num.specs.Meanings.{read}
 use Rattle.rio_leaf.specs.declared.branch.Shape.TheVariants.{Leaves}
-use Rattle.rio_entry.specs.Reading.{entry_values}
+use Rattle.rio_machine.specs.Entries.{entry_values}
 use Rattle.rio_entry.proofs.LeafNumbers.{numbers_broke}
 use Rattle.rio_entry.proofs.check_leaves.check_leaves.Goals as goal
 

@@ -5,7 +5,8 @@ use Rattle.rio_num.specs.Meanings.{read}
 use Rattle.rio_buffer.specs.Frames.{Step}
 use Rattle.rio_machine.specs.Rows.{leaf_kind}
 use Rattle.rio_value.specs.declared.value.Value.{Value, Int}
-use Rattle.rio_entry.specs.{Counting.{counter_at}, Entries.{counter_saying, given_count, said_count}, Leaves.{kind_layout, numbers_after, number_of_value}}
+use Rattle.rio_entry.specs.{Counting.{counter_at}, Leaves.{kind_layout, numbers_after, number_of_value}}
+use Rattle.rio_machine.specs.Entries.{counter_saying, given_count, said_count}
 use Rattle.rio_entry.proofs.Counting.{counter_there}
 use Rattle.rio_entry.proofs.LeafNumbers.{numbers_done, numbers_fail, numbers_go_on}
 use Rattle.rio_entry.proofs.check_leaves.pass_counting.Goals as goal

@@ -3,7 +3,8 @@ use Rattle.std.specs.Prelude.{pos}
 use Rattle.rio_num.specs.Meanings.{read}
 use Rattle.rio_format.specs.Bodies.{Counters}
 use Rattle.rio_machine.specs.Rows.{leaf_kind}
-use Rattle.rio_entry.specs.{Entries.{given_count, said_count}, Leaves.{kind_layout, said_by, number_of_value}}
+use Rattle.rio_entry.specs.Leaves.{kind_layout, said_by, number_of_value}
+use Rattle.rio_machine.specs.Entries.{given_count, said_count}
 use Rattle.rio_entry.proofs.LeafPasses.{none_counted, passes_done, passes_fail, passes_on, same_counter}
 use Rattle.rio_entry.proofs.check_leaves.pass_leaves.Goals as goal
 

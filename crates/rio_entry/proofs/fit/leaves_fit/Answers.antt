@@ -1,7 +1,8 @@
 use Rattle.std.proofs.{Common.{◌≡◌, ℕ, ℤ, List, Option, length, [], drop, take, true, false, rules, ◌∙◌, sym, ap, arith}, lemmas.Int.{to_z-of_z}, lemmas.List.{length-take}}
 use Rattle.std.specs.Int.{w128}
 use Rattle.rio_machine.specs.Rows.{leaf_kind}
-use Rattle.rio_entry.specs.{Counting.{counter_at}, Entries.{counter_saying, said_count}, Leaves.{entry_kind, kind_fits, numbers_after}}
+use Rattle.rio_entry.specs.{Counting.{counter_at}, Leaves.{entry_kind, kind_fits, numbers_after}}
+use Rattle.rio_machine.specs.Entries.{counter_saying, said_count}
 use Rattle.rio_entry.proofs.Counting.{counter_there}
 use Rattle.rio_entry.proofs.LeafBytes.{fits_fail, fits_go_on, too_few}
 use Rattle.rio_entry.proofs.fit.leaves_fit.Goals as goal

@@ -1,7 +1,7 @@
 use Rattle.std.proofs.Common.{◌≡◌, ◌++◌, drop, map}
 use Rattle.rio_format.specs.{Bodies.{Counters}, Counts.{SaysAsFirst}}
 use Rattle.rio_machine.specs.Rows.{leaf_column}
-use Rattle.rio_entry.specs.Rows.{counts_before}
+use Rattle.rio_machine.specs.RowEntries.{counts_before}
 use Rattle.rio_entry.proofs.numbers.leaf_counts.Given as goal
 
 abbrev pub invariant-loop-leaf : goal.invariant-loop-leaf

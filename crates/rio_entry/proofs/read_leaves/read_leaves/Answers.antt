@@ -4,7 +4,8 @@ use Rattle.std.specs.Int.{w128}
 use Rattle.rio_num.specs.Meanings.{read}
 use Rattle.rio_machine.specs.Rows.{leaf_kind}
 use Rattle.rio_value.specs.declared.value.Value.{Value}
-use Rattle.rio_entry.specs.{Counting.{counter_at}, Entries.{counter_saying, given_count, said_count}, Leaves.{kind_layout, numbers_after}}
+use Rattle.rio_entry.specs.{Counting.{counter_at}, Leaves.{kind_layout, numbers_after}}
+use Rattle.rio_machine.specs.Entries.{counter_saying, given_count, said_count}
 use Rattle.rio_entry.proofs.Counting.{counter_there}
 use Rattle.rio_entry.proofs.LeafReads.{leaves_done, leaves_fail, leaves_go_on}
 use Rattle.rio_entry.proofs.read_leaves.read_leaves.Goals as goal

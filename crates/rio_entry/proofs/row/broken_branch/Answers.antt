@@ -1,7 +1,8 @@
 use Rattle.std.proofs.Common.{List, subst, arith}
 use Rattle.rio_format.specs.Counts.{SaysAsFirst}
 use Rattle.rio_value.specs.declared.value.Value.{Value}
-use Rattle.rio_entry.specs.{Rows.{numbers_behind}, declared.part.RowPart.{RowPart}}
+use Rattle.rio_entry.specs.declared.part.RowPart.{RowPart}
+use Rattle.rio_machine.specs.RowEntries.{numbers_behind}
 use Rattle.rio_entry.proofs.RowReads.{broken_goes_on}
 use Rattle.rio_entry.proofs.row.broken_branch.Goals as goal
 

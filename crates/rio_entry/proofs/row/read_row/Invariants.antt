@@ -1,6 +1,6 @@
 use Rattle.std.proofs.Common.{◌≡◌, drop, map}
 use Rattle.rio_format.specs.{Bodies.{Counters}, Counts.{SaysAsFirst}}
-use Rattle.rio_entry.specs.Rows.{row_from, row_in}
+use Rattle.rio_machine.specs.RowEntries.{row_from, row_in}
 use Rattle.rio_entry.proofs.RowReads.{with_front}
 use Rattle.rio_entry.proofs.row.read_row.Given as goal
 

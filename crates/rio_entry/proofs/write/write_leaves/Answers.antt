@@ -1,7 +1,8 @@
 use Rattle.std.proofs.Common.{◌≡◌, ℕ, List, [], true, Result, Ok, ◌∙◌, sym, ap, arith}
 use Rattle.rio_num.specs.Room.{Room}
 use Rattle.rio_leaf.specs.declared.branch.Shape.TheVariants.{Leaves}
-use Rattle.rio_entry.specs.{Leaves.{leaves_bytes, leaves_fit}, declared.fault.EntryFault.{EntryFault}}
+use Rattle.rio_entry.specs.Leaves.{leaves_bytes, leaves_fit}
+use Rattle.rio_machine.specs.declared.entry_fault.EntryFault.{EntryFault}
 use Rattle.rio_entry.proofs.{Answered.{too_long, unfit, written}, LeafBytes.{bytes_is, fits_is, other_length}}
 use Rattle.rio_entry.proofs.write.write_leaves.Goals as goal
 

@@ -3,7 +3,7 @@ use Rattle.rio_num.specs.Room.{Room}
 use Rattle.rio_leaf.specs.declared.branch.Shape.TheVariants.{Class}
 use Rattle.rio_format.specs.{Fits.{fits}, Written.{written_form}}
 use Rattle.rio_entry.proofs.{Answered.{too_long, written}, ClassBytes.{object_bytes, object_fits}}
-use Rattle.rio_entry.specs.declared.fault.EntryFault.{EntryFault}
+use Rattle.rio_machine.specs.declared.entry_fault.EntryFault.{EntryFault}
 use Rattle.rio_entry.proofs.write.write_value.Goals as goal
 
 pub returns-then-branch-gt-LIMIT : goal.returns-then-branch-gt-LIMIT

@@ -3,7 +3,9 @@ use Rattle.rio_leaf.specs.{Stated.{leaves_of}, declared.leaf.Leaf.{Leaf}}
 use Rattle.rio_num.specs.Answers.{GivesUnless}
 use Rattle.rio_machine.specs.Rows.{leaf_column}
 use Rattle.rio_value.specs.declared.value.Value.{Value}
-use Rattle.rio_entry.specs.{Entries.{entry_written}, Rows.{counts_before}, declared.fault.EntryFault.{EntryFault, TheVariants.{NoMemory as OutOfMemory}}}
+use Rattle.rio_entry.specs.Entries.{entry_written}
+use Rattle.rio_machine.specs.declared.entry_fault.EntryFault.{EntryFault, TheVariants.{NoMemory as OutOfMemory}}
+use Rattle.rio_machine.specs.RowEntries.{counts_before}
 use Rattle.rio_fill.proofs.Walk.{part_is}
 use Rattle.rio_fill.proofs.prepared.write_part.Goals as goal
 

@@ -1,5 +1,5 @@
 use Rattle.std.proofs.Common.{arith}
-use Rattle.rio_index.proofs.CounterLaws.{counters_for_all, counters_there}
+use Rattle.rio_entry.proofs.CounterLaws.{counters_for_all, counters_there}
 use Rattle.rio_index.proofs.next.row_parts.Goals as goal
 
 pub at-requires : goal.at-requires

@@ -1,6 +1,6 @@
 use Rattle.std.proofs.{Common.{rules, ◌∙◌, ℕ, ◌-◌, Option, Some, leb, sym, ap, arith}, lemmas.List.Sorted.{IsPartitionPoint-from_clause, IsPartitionedBy-leb}}
 use Rattle.rio_tree.specs.declared.basket_at.BasketAt.{BasketAt}
-use Rattle.rio_index.proofs.IndexLaws.{firsts_rise, holds, none_holds, one_passed, search_ends}
+use Rattle.rio_entry.proofs.IndexLaws.{firsts_rise, holds, none_holds, one_passed, search_ends}
 use Rattle.rio_index.proofs.search.basket_among.Goals as goal
 
 pub returns-then-entry-entries-clause-exact : goal.returns-then-entry-entries-clause-exact

@@ -1,7 +1,8 @@
-use Rattle.std.proofs.{Common.{rules, w32, SFits, map, Some, None, Ok, Err}, lemmas.Int.{to_z-of_z}}
+use Rattle.std.proofs.{Common.{rules, w32, SFits, drop, map, Some, None, Ok, Err}, lemmas.Int.{to_z-of_z}}
 use Rattle.std.specs.Option.{option_copied}
+use Rattle.rio_model.specs.Mapping.{described_bases}
 use Rattle.rio_map.specs.Versions.{mapping_of_part}
-use Rattle.rio_map.proofs.{MappingLaws.{base_by_found, mapped-Object, member_by_found}, VersionLaws.{object_by_bases}}
+use Rattle.rio_map.proofs.{MappingLaws.{base_by_found, mapped-Object, member_by_found}, VersionLaws.{after_bases_mapped, object_by_bases}}
 use Rattle.rio_map.proofs.version.+mapped.Goals as goal
 
 pub mapped-returns-in-Object : goal.mapped-returns-in-Object
@@ -23,17 +24,19 @@ base_mapped-returns-in-Err t c =
 
 pub member_mapped-returns-in-Ok-Some : goal.member_mapped-returns-in-Ok-Some
 member_mapped-returns-in-Ok-Some t c =
-    member_by_found c.args.classes.now c.args.asked.now c.args.member.now c.args.members.now c.args.parts.now (Ok (Some c.in-Ok-Some.value)) (rw c.in-Ok-Some.field-0-is at c.in-Ok-Some.ensures)
+    member_by_found c.args.classes.now c.args.asked.now c.args.member.now c.args.members.now (drop c.args.bases c.args.parts.now) (Ok (Some c.in-Ok-Some.value)) (rw c.in-Ok-Some.field-0-is at c.in-Ok-Some.ensures)
 
 pub member_mapped-returns-in-Ok-None : goal.member_mapped-returns-in-Ok-None
 member_mapped-returns-in-Ok-None t c =
-    rw (member_by_found c.args.classes.now c.args.asked.now c.args.member.now c.args.members.now c.args.parts.now (Ok None) (rw c.in-Ok-None.field-0-is at c.in-Ok-None.ensures)) c.member_zero.ensures
+    rw (member_by_found c.args.classes.now c.args.asked.now c.args.member.now c.args.members.now (drop c.args.bases c.args.parts.now) (Ok None) (rw c.in-Ok-None.field-0-is at c.in-Ok-None.ensures)) c.member_zero.ensures
 
 pub member_mapped-returns-in-Err : goal.member_mapped-returns-in-Err
 member_mapped-returns-in-Err t c =
-    λ lacks. member_by_found c.args.classes.now c.args.asked.now c.args.member.now c.args.members.now c.args.parts.now (Err c.in-Err.fault) (c.in-Err.ensures lacks)
+    λ lacks. member_by_found c.args.classes.now c.args.asked.now c.args.member.now c.args.members.now (drop c.args.bases c.args.parts.now) (Err c.in-Err.fault) (c.in-Err.ensures lacks)
 
 pub object_mapped-returns-in-Ok : goal.object_mapped-returns-in-Ok
 object_mapped-returns-in-Ok t c =
     let within = map (mapping_of_part c.args.classes.now c.args.asked.now) c.args.parts.now in
-    rw (object_by_bases c.args.classes.now (option_copied c.args.old) c.args.asked.now within c.in-Ok.front (rw c.described_bases.ensures at c.in-Ok.ensures)) (rw c.described_members.ensures at c.members_after.ensures)
+    let own = after_bases_mapped c.args.classes.now c.args.asked.now (described_bases (option_copied c.args.old)) c.args.parts.now in
+    rw (object_by_bases c.args.classes.now (option_copied c.args.old) c.args.asked.now within c.in-Ok.front (rw c.described_bases-bases.ensures at c.in-Ok.ensures), own)
+    (rw (c.described_members-members.ensures, c.base_parts-skipped.ensures, c.described_bases-bases.ensures) at c.members_after.ensures)

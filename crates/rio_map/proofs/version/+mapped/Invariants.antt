@@ -19,10 +19,11 @@ invariant-bases_mapped-loop-base l =
 
 abbrev pub invariant-members_after-loop-member : goal.invariant-members_after-loop-member
 invariant-members_after-loop-member l =
-    behind l.done (members_as l.classes l.members (record l.asked { members = drop l.member-index l.asked.members }) (map (mapping_of_part l.classes l.asked) l.parts)) ≡ behind l.fn.front (members_as l.classes l.members l.asked (map (mapping_of_part l.classes l.asked) l.parts))
+    let within = map (mapping_of_part l.classes l.asked) (drop l.bases l.parts) in
+    behind l.done (members_as l.classes l.members (record l.asked { members = drop l.member-index l.asked.members }) within) ≡ behind l.fn.front (members_as l.classes l.members l.asked within)
 
 abbrev pub invariant-base_found-loop-part : goal.invariant-base_found-loop-part
 invariant-base_found-loop-part l = find (is_base_part l.base.name) (drop l.part-index l.parts) ≡ find (is_base_part l.base.name) l.parts
 
-abbrev pub invariant-part_found-loop-part : goal.invariant-part_found-loop-part
-invariant-part_found-loop-part l = find (λ p. bytes_eq p.name l.member.name) (drop l.part-index l.parts) ≡ find (λ p. bytes_eq p.name l.member.name) l.parts
+abbrev pub invariant-part_found-loop-k : goal.invariant-part_found-loop-k
+invariant-part_found-loop-k l = find (λ p. bytes_eq p.name l.member.name) (drop l.k l.parts) ≡ find (λ p. bytes_eq p.name l.member.name) (drop l.bases l.parts)

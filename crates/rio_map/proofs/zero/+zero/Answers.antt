@@ -2,8 +2,7 @@ use Rattle.std.proofs.{Common.{◌≡◌, ◌<◌, ◌+◌, ℕ, List, [], ◌�
 use Rattle.std.specs.Option.{option_map}
 use Rattle.rio_value.specs.declared.value.Part.{Part}
 use Rattle.rio_format.specs.{Bodies.{part}, Slots.{Field, Slot}}
-use Rattle.rio_model.specs.Resolving.{newest_known}
-use Rattle.rio_model.specs.Mapping.{parts_zero, slot_zero, zero_within}
+use Rattle.rio_model.specs.Mapping.{parts_zero, slot_zero, zero_version, zero_within}
 use Rattle.rio_map.proofs.LevelLaws.{more_levels, no_levels, not_known}
 use Rattle.rio_map.proofs.StepLaws.{zero_goes_on, zero_lacks, zeros_end}
 use Rattle.rio_map.proofs.zero.+zero.Goals as goal
@@ -39,10 +38,10 @@ pub zero_within-returns-in-Some : goal.zero_within-returns-in-Some
 zero_within-returns-in-Some t c =
     let fits : SFits w32 c.in-Some.version = search rules in
     let some : 0 < c.args.levels = omega (arith, c.if-levels-eq0.false) in
-    let known : newest_known c.args.classes.now c.args.class.now ≡ Some c.in-Some.version = sym c.newest_known.ensures ∙ c.in-Some.is in
+    let known : zero_version c.args.classes.now c.args.class.now ≡ Some c.in-Some.version = sym c.zero_version.ensures ∙ c.in-Some.is in
     rw (more_levels c.args.classes.now c.args.class.now c.args.levels c.in-Some.version some known) (simp to_z-of_z at c.object_zero.ensures)
 
 pub zero_within-returns-in-None : goal.zero_within-returns-in-None
 zero_within-returns-in-None t c =
-    let none : newest_known c.args.classes.now c.args.class.now ≡ None = sym c.newest_known.ensures ∙ c.in-None.is in
+    let none : zero_version c.args.classes.now c.args.class.now ≡ None = sym c.zero_version.ensures ∙ c.in-None.is in
     sym (not_known c.args.classes.now c.args.class.now c.args.levels none)

@@ -1,5 +1,5 @@
 use Rattle.rio_model.proofs.ValueTextLaws.{text_of-List}
-use Rattle.rio_report.specs.Rows.{read_values}
+use Rattle.rio_entry.specs.BranchRows.{read_values}
 use Rattle.rio_report.proofs.scan_text.put_list.Goals as goal
 
 pub returns : goal.returns

@@ -1,6 +1,6 @@
 use Rattle.std.proofs.{Common.{◌++◌, ℕ, List, Bool, None, drop, get_or, ◌+◌, sym, ap, ◌∙◌, append_assoc, arith}, lemmas.List.{append-nil}}
-use Rattle.rio_report.specs.Rows.{read_values}
-use Rattle.rio_report.specs.Lanes.{first_after, values_behind, values_unrefused}
+use Rattle.rio_entry.specs.BranchRows.{read_values}
+use Rattle.rio_report.specs.RowTexts.{first_after, values_behind, values_unrefused}
 use Rattle.rio_report.proofs.ValueTexts.{first_is, values_end, values_more_at}
 use Rattle.rio_report.proofs.scan_text.put_read_values.Goals as goal
 

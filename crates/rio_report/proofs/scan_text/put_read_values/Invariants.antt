@@ -1,6 +1,6 @@
 use Rattle.std.proofs.Common.{◌≡◌, ◌++◌, true, drop}
-use Rattle.rio_report.specs.Rows.{read_values}
-use Rattle.rio_report.specs.Lanes.{values_behind}
+use Rattle.rio_entry.specs.BranchRows.{read_values}
+use Rattle.rio_report.specs.RowTexts.{values_behind}
 use Rattle.rio_report.proofs.scan_text.put_read_values.Given as goal
 
 abbrev pub invariant-loop-k : goal.invariant-loop-k

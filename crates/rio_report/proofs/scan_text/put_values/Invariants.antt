@@ -1,5 +1,5 @@
 use Rattle.std.proofs.Common.{◌≡◌, ◌++◌, drop}
-use Rattle.rio_report.specs.Lanes.{values_behind}
+use Rattle.rio_report.specs.RowTexts.{values_behind}
 use Rattle.rio_report.proofs.scan_text.put_values.Given as goal
 
 abbrev pub invariant-loop-value : goal.invariant-loop-value

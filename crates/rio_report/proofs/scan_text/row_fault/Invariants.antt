@@ -1,5 +1,5 @@
 use Rattle.std.proofs.Common.{◌≡◌, drop}
-use Rattle.rio_report.specs.RowFaults.{fault_of_lanes}
+use Rattle.rio_entry.specs.RowFaults.{fault_of_lanes}
 use Rattle.rio_report.proofs.scan_text.row_fault.Given as goal
 
 abbrev pub invariant-loop-lane : goal.invariant-loop-lane

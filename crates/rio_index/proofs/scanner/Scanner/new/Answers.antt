@@ -1,6 +1,7 @@
 use Rattle.std.proofs.Common.{◌∙◌, List, map, subst, sym, ap}
 use Rattle.rio_tree.specs.declared.head.Branch.{Branch}
-use Rattle.rio_index.specs.{Counters.{tree_counters}, Scan.{CanGoOn, empty_lane}, declared.lane.Lane.{Lane}}
+use Rattle.rio_entry.specs.TreeCounters.{tree_counters}
+use Rattle.rio_index.specs.{Scan.{CanGoOn, empty_lane}, declared.lane.Lane.{Lane}}
 use Rattle.rio_index.proofs.ScanLaws.{starts}
 use Rattle.rio_index.proofs.scanner.Scanner.new.Goals as goal
 

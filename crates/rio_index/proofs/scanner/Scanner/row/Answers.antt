@@ -1,6 +1,7 @@
 use Rattle.std.proofs.Common.{◌∙◌, List, length, ap, sym, arith}
 use Rattle.rio_tree.specs.declared.head.Branch.{Branch}
-use Rattle.rio_index.specs.{Counters.{tree_counters}, declared.lane.Lane.{Lane}}
+use Rattle.rio_entry.specs.TreeCounters.{tree_counters}
+use Rattle.rio_index.specs.declared.lane.Lane.{Lane}
 use Rattle.rio_index.proofs.ScanLaws.{same_length}
 use Rattle.rio_index.proofs.scanner.Scanner.row.Goals as goal
 

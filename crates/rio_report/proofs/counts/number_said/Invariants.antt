@@ -1,6 +1,0 @@
-use Rattle.std.proofs.Common.{◌≡◌, None, drop}
-use Rattle.rio_report.specs.Counters.{number_said}
-use Rattle.rio_report.proofs.counts.number_said.Given as goal
-
-abbrev pub invariant-loop-k : goal.invariant-loop-k
-invariant-loop-k l = number_said l.name l.branches l.row (drop l.k-index l.counters) l.found ≡ number_said l.name l.branches l.row l.counters None
