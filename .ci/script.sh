@@ -240,6 +240,17 @@ for asked in 'Q#1 no 8 NoSuchClass' 'TNamed#1 no 8 NoSuchClass' 'Hit#3 no 13 Kin
     check "scan as ${asked%% *}" $? 0 "$refused
 ${asked#* }" ""
 done
+# Of two descriptions of one version the first says what there is, whichever an object was read by.
+python3 "$top/bench/tree_file.py" two.root layouts || fail "a file with two layouts of a class isn't made"
+"$program" scan two.root T </dev/null >said 2>told
+check "scan of two layouts" $? 0 "ok scan T 2
+0 [P#1{Base#1{y: 1}, x: 2}]
+1 [P#1{x: 3, y: 4}]" ""
+"$program" scan two.root T P#2 </dev/null >said 2>told
+check "scan of two layouts in another version" $? 0 "ok scan T 2
+0 [P#2{y: 0, x: 2}]
+1 [P#2{y: 0, x: 3}]" ""
+
 "$program" scan f.root s </dev/null >said 2>told
 check "scan of an object" $? 0 "no 6 NotATree" ""
 "$program" scan f.root U </dev/null >said 2>told

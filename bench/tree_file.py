@@ -14,6 +14,8 @@ tree_file.py FILE small                   a tree `T` with leaves of several kind
                                           that has a branch of its own; an object `s`; and three versions of the
                                           class `Hit` of the objects
 tree_file.py FILE large                   the tree `T` in a file of the large form whose baskets stand past 2 GB (sparse)
+tree_file.py FILE layouts                 a tree `T` with two objects of a class that is described twice in one version, each read by
+                                          the description that its checksum names
 tree_file.py FILE limit END               no tree: the first record, a basket that nothing refers to, of which only the key
                                           is written (sparse), and a class list of the classes of trees, which ends at END
 
@@ -171,10 +173,10 @@ def write_element(buffer, e):
     buffer.end(outer)
 
 
-def write_info(buffer, name, version, elements):
+def write_info(buffer, name, version, elements, checksum=0):
     at = buffer.begin(9)
     buffer.named(name)
-    buffer.put(u32(TREE_SUMS.get(name, 0)) + i32(version))
+    buffer.put(u32(TREE_SUMS.get(name, checksum)) + i32(version))
     items = [lambda e=e: buffer.pointer(e['kind'], lambda: write_element(buffer, e)) for e in elements]
     buffer.pointer('TObjArray', lambda: buffer.array(items))
     buffer.end(at)
@@ -185,8 +187,8 @@ def class_list(start, classes):
     at = buffer.begin(5)
     buffer.object()
     buffer.put(text('') + i32(len(classes)))
-    for name, version, elements in classes:
-        buffer.pointer('TStreamerInfo', lambda: write_info(buffer, name, version, elements))
+    for words in classes:
+        buffer.pointer('TStreamerInfo', lambda: write_info(buffer, *words))
         buffer.put(text(''))
     buffer.end(at)
     return bytes(buffer.data)
@@ -493,6 +495,25 @@ def small_file(path, large=False):
     file.close(tree_classes() + hit_classes())
 
 
+def layouts_file(path):
+    """A class of two layouts under one version, as headers with a checksum pick them: P{Base{y: 1}, x: 2} and P{x: 3, y: 4}."""
+    file = File(path, 'layouts.root')
+    x, y = basic('x', 3, 4, 'int'), basic('y', 3, 4, 'int')
+    classes = [('Base', 1, [y], 5), ('P', 1, [base('Base', 1), x], 11), ('P', 1, [x, y], 22), ('P', 2, [y, x], 33)]
+
+    def by_checksum(checksum, body):
+        data = u16(0) + u32(checksum) + body
+        return u32(0x40000000 | len(data)) + data
+
+    branch = Branch('p', class_name='P')
+    first = u32(0x40000000 | 6) + u16(1) + i32(1)
+    entries = [by_checksum(11, first + i32(2)), by_checksum(22, i32(3) + i32(4))]
+    file.basket('T', branch, entries, 0)
+    branch.entries = len(entries)
+    file.key('TTree', 'T', '', lambda n: tree_header(n, 'T', len(entries), [branch]), listed=True)
+    file.close(tree_classes() + classes)
+
+
 def limit_file(path, end):
     file = File(path, 'limit.root')
     place = file.place
@@ -516,6 +537,8 @@ if __name__ == '__main__':
         pairs_file(words[0], int(words[2]), int(words[3]))
     elif len(words) == 3 and words[1] == 'limit':
         limit_file(words[0], int(words[2]))
+    elif len(words) == 2 and words[1] == 'layouts':
+        layouts_file(words[0])
     elif len(words) == 2 and words[1] in ('small', 'large'):
         small_file(words[0], words[1] == 'large')
     else:
